@@ -1,0 +1,4 @@
+-- The definitions that the contracts of all crates share, one file a subject.
+pub mod BitSet
+pub mod Fields
+pub mod Place

@@ -1,0 +1,35 @@
+-- A set of bit positions as the ascending list of its members, and the octets that stand for it (RFC 8296, 2.1.2).
+use Rattle.std.specs.Prelude.{◌*◌, ℕ, suc, zero, ◌<◌, ◌≤◌, Bool, false, ◌||◌, List, [], ◌∷◌, ◌++◌, ◌==◌, nat_lt, length, if◌then◌else◌, Option, Some, None, ◌-◌, ◌/◌, ◌%◌, ◌^◌, filter, slice_index}
+
+-- whether a position is in the set
+abbrev pub has_member : ℕ → List ℕ → Bool
+has_member p [] = false
+has_member p (x ∷ xs) = (p == x) || has_member p xs
+
+-- the set with that position too
+abbrev pub with_member : ℕ → List ℕ → List ℕ
+with_member p [] = p ∷ []
+with_member p (x ∷ xs) = if nat_lt p x then p ∷ x ∷ xs else if p == x then x ∷ xs else x ∷ with_member p xs
+
+-- the least position
+abbrev pub first_member : List ℕ → Option ℕ
+first_member [] = None
+first_member (x ∷ xs) = Some x
+
+-- in ascending order, above low and up to high
+abbrev pub IsWithin : ℕ → ℕ → List ℕ → Type 0
+IsWithin low high [] = Unit {0}
+IsWithin low high (x ∷ xs) = (low < x) × (x ≤ high) × IsWithin x high xs
+
+-- the numbers from 1 on
+abbrev pub up_to : ℕ → List ℕ
+up_to zero = []
+up_to (suc n) = up_to n ++ suc n ∷ []
+
+-- whether the octets have the bit of a position: position 1 is the least bit of the last octet
+abbrev pub has_bit : List ℕ → ℕ → Bool
+has_bit octets p = (slice_index octets (length octets - 1 - (p - 1) / 8) / 2 ^ ((p - 1) % 8)) % 2 == 1
+
+-- the set that octets stand for
+unfoldable pub set_of : List ℕ → List ℕ
+set_of octets = filter (has_bit octets) (up_to (8 * length octets))

@@ -1,0 +1,265 @@
+//! Sources and sinks in memory.
+ghost use Rattle.std.specs.Prelude.{◌≡◌, ◌<◌, ◌≤◌, ◌+◌, ◌-◌, ◌^◌, ◌++◌, ℕ, [], false, min, length, take, drop, Some, IfOk, vec_len, vec_capacity};
+
+use crate::lists::{Octets, Rows};
+use crate::memory::M;
+use crate::outside::{Failed, Sink, Source};
+use std::alloc::Global;
+
+/// Copies as many octets as both have, and answers how many.
+fn copy_front(from: &[u8], into: &mut [u8]) -> usize
+    ensures count { result ≡ min (length from.now) (length into.old) }
+    ensures copied { into.new ≡ take result from.now ++ drop result into.old }
+{
+    let count = from.len().min(into.len());
+    into[..count].copy_from_slice(&from[..count]);
+    count
+}
+
+/// What a source in memory still has to give.
+#[derive(Drop)]
+struct Unread {
+    octets: Octets,
+    at: usize,
+    ghost within: { at ≤ length octets },
+}
+
+impl Unread {
+    /// Gives as many octets as the buffer has room for.
+    #[tactic(auto, using(crate::proofs::Unread::gives_all))]
+    fn give(&mut self, into: &mut [u8]) -> usize
+        ensures bound { result ≤ length into.new }
+        ensures front { drop self.old.at self.old.octets ≡ take result into.new ++ drop self.new.at self.new.octets }
+        ensures end { result ≡ 0 → 0 < length into.new → drop self.new.at self.new.octets ≡ [] }
+    {
+        let count = copy_front(&self.octets.as_slice()[self.at..], into);
+        self.at += count;
+        count
+    }
+}
+
+/// A source in memory, whose calls with these numbers, from 1, fail.
+#[derive(Drop)]
+pub struct BytesSource {
+    unread: Unread,
+    fails: Rows<u32>,
+    calls: u32,
+    faults: u64,
+}
+
+impl BytesSource {
+    pub fn new(octets: Octets, fails: Rows<u32>) -> BytesSource
+        ensures left { ⟦<BytesSource as Source>⟧.left result ≡ Some octets }
+        ensures faults { ⟦<BytesSource as Source>⟧.faults result ≡ 0 }
+    {
+        BytesSource {
+            unread: Unread { octets, at: 0 },
+            fails,
+            calls: 0,
+            faults: 0,
+        }
+    }
+}
+
+impl Source for BytesSource {
+    ghost left = { λ s. Some (drop s.unread.at s.unread.octets) };
+
+    ghost faults = { λ s. s.faults };
+
+    fn read(&mut self, into: &mut [u8]) -> Result<usize, Failed> {
+        self.calls = self.calls.saturating_add(1);
+        if self.fails.as_slice().contains(&self.calls) {
+            self.faults = self.faults.saturating_add(1);
+            return Err(Failed);
+        }
+        Ok(self.unread.give(into))
+    }
+}
+
+/// A source in memory that never fails.
+#[derive(Drop)]
+pub struct QuietSource {
+    unread: Unread,
+}
+
+impl QuietSource {
+    pub fn new(octets: Octets) -> QuietSource
+        ensures left { ⟦<QuietSource as Source>⟧.left result ≡ Some octets }
+        ensures faults { ⟦<QuietSource as Source>⟧.faults result ≡ 0 }
+    {
+        QuietSource {
+            unread: Unread { octets, at: 0 },
+        }
+    }
+}
+
+impl Source for QuietSource {
+    ghost left = { λ s. Some (drop s.unread.at s.unread.octets) };
+
+    ghost faults = { λ _. 0 };
+
+    fn read(&mut self, into: &mut [u8]) -> Result<usize, Failed> {
+        Ok(self.unread.give(into))
+    }
+}
+
+/// What a sink in memory holds, and room for more.
+#[derive(Drop)]
+struct Room {
+    bytes: Vec<u8>,
+    room: usize,
+    ghost reserved: { room ≤ vec_capacity bytes },
+    ghost within: { vec_len bytes ≤ room },
+}
+
+impl Room {
+    fn new(alloc: Global, room: usize) -> M<Room>
+        ensures { IfOk result (λ r. (r.bytes.items ≡ []) × (r.room ≡ room)) }
+    {
+        Ok(Room {
+            bytes: Vec::with_capacity(alloc, room)?,
+            room,
+        })
+    }
+
+    /// Takes as many octets of the piece as still fit.
+    fn take(&mut self, piece: &[u8]) -> usize
+        ensures count { result ≡ min (length piece.now) (self.old.room - vec_len self.old.bytes) }
+        ensures bytes { self.new.bytes.items ≡ self.old.bytes.items ++ take result piece.now }
+        ensures room { self.new.room ≡ self.old.room }
+    {
+        let count = piece.len().min(self.room - self.bytes.len());
+        self.bytes.extend_from_slice(&piece[..count]).unwrap();
+        count
+    }
+}
+
+/// A sink in memory, whose calls with these numbers, from 1, fail.
+#[derive(Drop)]
+pub struct BytesSink {
+    taken: Room,
+    fails: Rows<u32>,
+    calls: u32,
+    faults: u64,
+    zeros: u64,
+    unfinished: bool,
+}
+
+impl BytesSink {
+    pub fn new(alloc: Global, room: usize, fails: Rows<u32>) -> M<BytesSink>
+        ensures written { IfOk result (λ s. ⟦<BytesSink as Sink>⟧.written s ≡ Some []) }
+        ensures faults { IfOk result (λ s. ⟦<BytesSink as Sink>⟧.faults s ≡ 0) }
+        ensures zeros { IfOk result (λ s. ⟦<BytesSink as Sink>⟧.zeros s ≡ 0) }
+        ensures unfinished { IfOk result (λ s. ⟦<BytesSink as Sink>⟧.unfinished s ≡ false) }
+    {
+        Ok(BytesSink {
+            taken: Room::new(alloc, room)?,
+            fails,
+            calls: 0,
+            faults: 0,
+            zeros: 0,
+            unfinished: false,
+        })
+    }
+
+    pub fn as_slice(&self) -> &[u8]
+        ensures { ⟦<BytesSink as Sink>⟧.written self.now ≡ Some result.now }
+    {
+        self.taken.bytes.as_slice()
+    }
+
+    /// Counts a call, and says whether it is to fail.
+    fn fails_now(&mut self) -> bool
+        ensures { self.new ≡ record self.old { calls = min (self.old.calls + 1) (2 ^ 32 - 1) } }
+    {
+        self.calls = self.calls.saturating_add(1);
+        self.fails.as_slice().contains(&self.calls)
+    }
+}
+
+impl Sink for BytesSink {
+    ghost written = { λ s. Some s.taken.bytes.items };
+
+    ghost faults = { λ s. s.faults };
+
+    ghost zeros = { λ s. s.zeros };
+
+    ghost unfinished = { λ s. s.unfinished };
+
+    fn write(&mut self, piece: &[u8]) -> Result<usize, Failed> {
+        if self.fails_now() {
+            self.faults = self.faults.saturating_add(1);
+            return Err(Failed);
+        }
+        let count = self.taken.take(piece);
+        if count > 0 {
+            self.unfinished = true;
+        } else if !piece.is_empty() {
+            self.zeros = self.zeros.saturating_add(1);
+        }
+        Ok(count)
+    }
+
+    fn finish(&mut self) -> Result<(), Failed> {
+        if self.fails_now() {
+            self.faults = self.faults.saturating_add(1);
+            return Err(Failed);
+        }
+        self.unfinished = false;
+        Ok(())
+    }
+}
+
+/// A sink in memory that never fails.
+#[derive(Drop)]
+pub struct QuietSink {
+    taken: Room,
+    zeros: u64,
+    unfinished: bool,
+}
+
+impl QuietSink {
+    pub fn new(alloc: Global, room: usize) -> M<QuietSink>
+        ensures written { IfOk result (λ s. ⟦<QuietSink as Sink>⟧.written s ≡ Some []) }
+        ensures faults { IfOk result (λ s. ⟦<QuietSink as Sink>⟧.faults s ≡ 0) }
+        ensures zeros { IfOk result (λ s. ⟦<QuietSink as Sink>⟧.zeros s ≡ 0) }
+        ensures unfinished { IfOk result (λ s. ⟦<QuietSink as Sink>⟧.unfinished s ≡ false) }
+    {
+        Ok(QuietSink {
+            taken: Room::new(alloc, room)?,
+            zeros: 0,
+            unfinished: false,
+        })
+    }
+
+    pub fn as_slice(&self) -> &[u8]
+        ensures { ⟦<QuietSink as Sink>⟧.written self.now ≡ Some result.now }
+    {
+        self.taken.bytes.as_slice()
+    }
+}
+
+impl Sink for QuietSink {
+    ghost written = { λ s. Some s.taken.bytes.items };
+
+    ghost faults = { λ _. 0 };
+
+    ghost zeros = { λ s. s.zeros };
+
+    ghost unfinished = { λ s. s.unfinished };
+
+    fn write(&mut self, piece: &[u8]) -> Result<usize, Failed> {
+        let count = self.taken.take(piece);
+        if count > 0 {
+            self.unfinished = true;
+        } else if !piece.is_empty() {
+            self.zeros = self.zeros.saturating_add(1);
+        }
+        Ok(count)
+    }
+
+    fn finish(&mut self) -> Result<(), Failed> {
+        self.unfinished = false;
+        Ok(())
+    }
+}

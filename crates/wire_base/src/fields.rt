@@ -1,0 +1,83 @@
+//! Fields at the front of octets: each reader gives a value and the octets after it, or the fault that it was given.
+ghost use Rattle.std.specs.Prelude.{◌≡◌, ◌≤◌, ◌+◌, length, take, drop};
+ghost use Rattle.byteorder.specs.Endian.{big_bytes, big_number};
+ghost use Rattle.wire_base.specs.model.Fields.{Gives, octet_at, octets_at, number_at, counted_at};
+
+use byteorder::{BigEndian, ByteOrder};
+
+/// So many octets.
+pub fn octets_of<E: Copy>(fault: E, n: usize, bytes: &[u8]) -> Result<(&[u8], &[u8]), E>
+    ensures { Gives (λ x. (x.0.now, x.1.now)) result (octets_at fault n bytes.now) }
+{
+    if bytes.len() < n {
+        return Err(fault);
+    }
+    Ok(bytes.split_at(n))
+}
+
+/// One octet.
+pub fn octet_of<E: Copy>(fault: E, bytes: &[u8]) -> Result<(u8, &[u8]), E>
+    ensures { Gives (λ x. (x.0, x.1.now)) result (octet_at fault bytes.now) }
+{
+    match bytes {
+        [] => Err(fault),
+        [octet, rest @ ..] => Ok((*octet, rest)),
+    }
+}
+
+/// A number of two octets, the highest first.
+pub fn two_of<E: Copy>(fault: E, bytes: &[u8]) -> Result<(u16, &[u8]), E>
+    ensures { Gives (λ x. (x.0, x.1.now)) result (number_at fault 2 bytes.now) }
+{
+    if bytes.len() < 2 {
+        return Err(fault);
+    }
+    Ok((BigEndian::read_u16(bytes), &bytes[2..]))
+}
+
+/// A number of three octets, the highest first.
+pub fn three_of<E: Copy>(fault: E, bytes: &[u8]) -> Result<(u32, &[u8]), E>
+    ensures { Gives (λ x. (x.0, x.1.now)) result (number_at fault 3 bytes.now) }
+{
+    if bytes.len() < 3 {
+        return Err(fault);
+    }
+    Ok((BigEndian::read_u24(bytes), &bytes[3..]))
+}
+
+/// A number of four octets, the highest first.
+pub fn four_of<E: Copy>(fault: E, bytes: &[u8]) -> Result<(u32, &[u8]), E>
+    ensures { Gives (λ x. (x.0, x.1.now)) result (number_at fault 4 bytes.now) }
+{
+    if bytes.len() < 4 {
+        return Err(fault);
+    }
+    Ok((BigEndian::read_u32(bytes), &bytes[4..]))
+}
+
+/// Six octets, as an address.
+pub fn six_of<E: Copy>(fault: E, bytes: &[u8]) -> Result<([u8; 6], &[u8]), E>
+    ensures { Gives (λ x. (x.0, x.1.now)) result (octets_at fault 6 bytes.now) }
+{
+    let (front, rest) = octets_of(fault, 6, bytes)?;
+    let mut six = [0; 6];
+    six.copy_from_slice(front);
+    Ok((six, rest))
+}
+
+/// One octet with a count, and so many octets.
+pub fn counted_of<E: Copy>(fault: E, bytes: &[u8]) -> Result<(&[u8], &[u8]), E>
+    ensures { Gives (λ x. (x.0.now, x.1.now)) result (counted_at fault bytes.now) }
+{
+    let (n, rest) = octet_of(fault, bytes)?;
+    octets_of(fault, usize::from(n), rest)
+}
+
+/// The number of four octets at a place, the highest first.
+pub fn word_at(bytes: &[u8], at: usize) -> u32
+    requires { at + 4 ≤ length bytes.now }
+    ensures octets { take 4 (drop at bytes.now) ≡ big_bytes 4 result }
+    ensures value { result ≡ big_number 4 (drop at bytes.now) }
+{
+    BigEndian::read_u32(&bytes[at..])
+}

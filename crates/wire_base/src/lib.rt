@@ -1,0 +1,32 @@
+//! What every other crate stands on: small list types, the identifiers and the configuration of a BIER domain,
+//! the faults of the readers, fields at the front of octets, and the outside as traits.
+//!
+//! The definitions that contracts cite stand in `specs/model`, one file a subject.
+#![tactic(auto)]
+
+mod addresses;
+mod bsl;
+mod bytes;
+mod conf;
+mod faults;
+pub mod fields;
+mod lists;
+mod memory;
+mod outside;
+mod status;
+mod steps;
+mod triple;
+
+pub use addresses::{Ipv4, LspId, Mac, SystemId};
+pub use bsl::Bsl;
+pub use bytes::{BytesSink, BytesSource, QuietSink, QuietSource};
+pub use conf::{End, Kind, LabelRange, Level, OwnSub, RouterConf, SubKind, TableRow};
+pub use faults::{
+    CaptureFault, FrameFault, HeadFault, InfoFault, IpFault, PduFault, StackFault, TlvFault,
+};
+pub use lists::{Name, Octets, Rows};
+pub use memory::{M, Memory};
+pub use outside::{Failed, Sink, Source};
+pub use status::Status;
+pub use steps::Steps;
+pub use triple::{Summary, Triple};

@@ -1,0 +1,225 @@
+ghost use Rattle.std.specs.Prelude.{◌≡◌, ◌++◌, ◌∷◌, [], length, take, OnOk, OnErr, IfOk};
+ghost use Rattle.std.specs.Fmt.{decimal};
+
+use crate::memory::{M, Memory};
+use std::alloc::Global;
+use std::marker::Model;
+
+/// A list of octets, which contracts see as a list of numbers below 256.
+#[derive(Drop)]
+pub struct Octets {
+    items: Vec<u8>,
+}
+
+impl Model for Octets {
+    ghost use Rattle.std.specs.Prelude.{List, ℕ};
+
+    ghost Value = { List ℕ };
+
+    ghost view = { λ o. o.items.items };
+}
+
+impl Octets {
+    /// No octets.
+    pub fn new(alloc: Global) -> Self
+        ensures { result ≡ [] }
+    {
+        Octets {
+            items: Vec::new(alloc),
+        }
+    }
+
+    /// No octets, and room for that many.
+    pub fn with_room(alloc: Global, room: usize) -> M<Self>
+        ensures { IfOk result (λ octets. octets ≡ []) }
+    {
+        Ok(Octets {
+            items: Vec::with_capacity(alloc, room)?,
+        })
+    }
+
+    /// The same octets.
+    pub fn from_slice(alloc: Global, octets: &[u8]) -> M<Self>
+        ensures { IfOk result (λ copied. copied ≡ octets.now) }
+    {
+        Ok(Octets {
+            items: Vec::from_slice(alloc, octets)?,
+        })
+    }
+
+    /// An equal list.
+    pub fn copy(&self) -> M<Self>
+        ensures { IfOk result (λ copied. copied ≡ self.now) }
+    {
+        Octets::from_slice(*self.items.allocator(), self.as_slice())
+    }
+
+    /// The octets as a slice.
+    pub fn as_slice(&self) -> &[u8]
+        ensures { result.now ≡ self.now }
+    {
+        self.items.as_slice()
+    }
+
+    /// How many octets there are.
+    pub fn len(&self) -> usize
+        ensures { result ≡ length self.now }
+    {
+        self.items.len()
+    }
+
+    /// Appends one octet.
+    pub fn push(&mut self, octet: u8) -> M<()>
+        ensures ok { OnOk result (self.new ≡ self.old ++ octet ∷ []) }
+        ensures err { OnErr result (self.new ≡ self.old) }
+    {
+        self.items.push(octet)?;
+        Ok(())
+    }
+
+    /// Appends those octets.
+    pub fn append(&mut self, octets: &[u8]) -> M<()>
+        ensures ok { OnOk result (self.new ≡ self.old ++ octets.now) }
+        ensures err { OnErr result (self.new ≡ self.old) }
+    {
+        self.items.extend_from_slice(octets)?;
+        Ok(())
+    }
+
+    /// Appends both, or neither.
+    pub fn append_two(&mut self, first: &[u8], second: &[u8]) -> M<()>
+        ensures ok { OnOk result (self.new ≡ self.old ++ (first.now ++ second.now)) }
+        ensures err { OnErr result (self.new ≡ self.old) }
+    {
+        let before = self.len();
+        self.append(first)?;
+        let done = self.append(second);
+        if done.is_err() {
+            self.truncate(before);
+        }
+        done
+    }
+
+    /// Appends the decimal digits of a number.
+    pub fn append_number(&mut self, number: u64) -> M<()>
+        ensures ok { OnOk result (self.new ≡ self.old ++ decimal number) }
+        ensures err { OnErr result (self.new ≡ self.old) }
+    {
+        let text = number.to_string(*self.items.allocator())?;
+        self.append(text.as_bytes())
+    }
+
+    /// Keeps the first octets.
+    pub fn truncate(&mut self, len: usize)
+        ensures { self.new ≡ take len self.old }
+    {
+        self.items.truncate(len);
+    }
+}
+
+/// A name in ASCII, which contracts see as the list of its octets.
+#[derive(Drop)]
+pub struct Name {
+    text: Vec<u8>,
+}
+
+impl Model for Name {
+    ghost use Rattle.std.specs.Prelude.{List, ℕ};
+
+    ghost Value = { List ℕ };
+
+    ghost view = { λ n. n.text.items };
+}
+
+impl Name {
+    /// The name that those bytes spell.
+    pub fn from_slice(alloc: Global, text: &[u8]) -> M<Self>
+        ensures { IfOk result (λ name. name ≡ text.now) }
+    {
+        Ok(Name {
+            text: Vec::from_slice(alloc, text)?,
+        })
+    }
+
+    /// An equal name.
+    pub fn copy(&self) -> M<Self>
+        ensures { IfOk result (λ copied. copied ≡ self.now) }
+    {
+        Name::from_slice(*self.text.allocator(), self.as_slice())
+    }
+
+    /// The name's octets.
+    pub fn as_slice(&self) -> &[u8]
+        ensures { result.now ≡ self.now }
+    {
+        self.text.as_slice()
+    }
+}
+
+/// A list of values, which contracts see as one.
+#[derive(Drop)]
+pub struct Rows<T> {
+    items: Vec<T>,
+}
+
+impl<T> Model for Rows<T> {
+    ghost use Rattle.std.specs.Prelude.{List};
+
+    ghost Value = { List T };
+
+    ghost view = { λ r. r.items.items };
+}
+
+impl<T> Rows<T> {
+    /// No values.
+    pub fn new(alloc: Global) -> Self
+        ensures { result ≡ [] }
+    {
+        Rows {
+            items: Vec::new(alloc),
+        }
+    }
+
+    /// The values as a slice.
+    pub fn as_slice(&self) -> &[T]
+        ensures { result.now ≡ self.now }
+    {
+        self.items.as_slice()
+    }
+
+    /// How many values there are.
+    pub fn len(&self) -> usize
+        ensures { result ≡ length self.now }
+    {
+        self.items.len()
+    }
+}
+
+impl<T: Copy> Rows<T> {
+    /// The same values.
+    pub fn from_slice(alloc: Global, values: &[T]) -> M<Self>
+        ensures { IfOk result (λ copied. copied ≡ values.now) }
+    {
+        Ok(Rows {
+            items: Vec::from_slice(alloc, values)?,
+        })
+    }
+
+    /// An equal list.
+    pub fn copy(&self) -> M<Self>
+        ensures { IfOk result (λ copied. copied ≡ self.now) }
+    {
+        Rows::from_slice(*self.items.allocator(), self.as_slice())
+    }
+}
+
+impl<T: Drop> Rows<T> {
+    /// Appends one value; where memory is refused, the value is dropped.
+    pub fn push(&mut self, item: T) -> M<()>
+        ensures ok { OnOk result (self.new ≡ self.old ++ item ∷ []) }
+        ensures err { OnErr result (self.new ≡ self.old) }
+    {
+        self.items.push(item)?;
+        Ok(())
+    }
+}

@@ -1,0 +1,54 @@
+ghost use Rattle.std.specs.Prelude.{◌≡◌};
+ghost use Rattle.wire_base.specs.Status.{number_of};
+
+use crate::memory::Memory;
+
+/// How a run of the program ended.
+#[derive(Clone, Copy, Debug, PartialEq, Eq)]
+pub enum Status {
+    /// The input was read to its end, and every line or record was done.
+    Done,
+    /// The words are no form of the command.
+    Usage,
+    /// The domain file breaks a rule.
+    ConfRefused,
+    /// A line of the input isn't in the grammar or not allowed, or the input is too long.
+    InputRefused,
+    /// A source failed.
+    ReadFault,
+    /// A sink failed, or took nothing.
+    WriteFault,
+    /// Memory ran out.
+    Memory,
+    /// The capture breaks its grammar, or is too long.
+    CaptureRefused,
+}
+
+impl From<Memory> for Status {
+    ghost use Rattle.std.specs.Prelude.{◌≡◌};
+    ghost use Rattle.wire_base.specs.declared.status.Status.TheVariants as statuses;
+
+    ghost from_gives = { λ _ e. e ≡ statuses.Memory };
+
+    fn from(_: Memory) -> Self {
+        Status::Memory
+    }
+}
+
+impl Status {
+    /// The exit status of the program.
+    pub fn number(self) -> u8
+        ensures { result ≡ number_of self }
+    {
+        match self {
+            Status::Done => 0,
+            Status::Usage => 2,
+            Status::ConfRefused => 3,
+            Status::InputRefused => 4,
+            Status::ReadFault => 5,
+            Status::WriteFault => 6,
+            Status::Memory => 7,
+            Status::CaptureRefused => 8,
+        }
+    }
+}

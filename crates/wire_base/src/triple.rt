@@ -1,0 +1,36 @@
+ghost use Rattle.std.specs.Prelude.{◌≡◌};
+ghost use Rattle.wire_base.specs.model.Place.{position_in};
+
+use crate::addresses::LspId;
+use crate::bsl::Bsl;
+
+/// What a BIFT-id stands for: a subdomain, a length of bit strings and a set identifier (RFC 8279, 6.4).
+#[derive(Clone, Copy, Debug, Default, PartialEq, Eq)]
+pub struct Triple {
+    pub sd: u8,
+    pub bsl: Bsl,
+    pub si: u8,
+}
+
+impl Triple {
+    /// The bit position, from 1, of a BFR-id in packets of this triple (RFC 8279, 3). None exactly where the id is 0
+    /// or lies in another set.
+    pub fn place(self, k: u16) -> Option<u16>
+        ensures { result ≡ position_in self k }
+    {
+        match self.bsl.place(k) {
+            Some((si, position)) if si == u16::from(self.si) => Some(position),
+            _ => None,
+        }
+    }
+}
+
+/// What a sequence number PDU says of a link state PDU: the seconds that it still has to live, 0 where it is
+/// dead, its identifier, its sequence number and its checksum (ISO/IEC 10589, 9.10).
+#[derive(Clone, Copy, Debug, Default, PartialEq, Eq)]
+pub struct Summary {
+    pub life: u16,
+    pub id: LspId,
+    pub seq: u32,
+    pub sum: u16,
+}
