@@ -16,6 +16,7 @@ mod outside;
 mod status;
 mod steps;
 mod triple;
+mod view;
 
 pub use addresses::{Ipv4, LspId, Mac, SystemId};
 pub use bsl::Bsl;
@@ -30,3 +31,4 @@ pub use outside::{Failed, Sink, Source};
 pub use status::Status;
 pub use steps::Steps;
 pub use triple::{Summary, Triple};
+pub use view::{First, RowSet, View, ViewEdge, ViewNode, ViewSub};
