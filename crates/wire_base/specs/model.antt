@@ -2,9 +2,16 @@
 pub mod BierInfo
 pub mod BitSet
 pub mod Checksum
+pub mod Choice
 pub mod Configuration
 pub mod Fields
+pub mod Graph
+pub mod Hop
+pub mod HopCount
 pub mod Lists
 pub mod Pdu
 pub mod Place
+pub mod Supporting
+pub mod Tight
 pub mod Tlv
+pub mod Walk

@@ -20,6 +20,7 @@ mod router_conf;
 mod status;
 mod steps;
 mod triple;
+mod view;
 
 pub use addresses::{Ipv4, LspId, Mac, SystemId};
 pub use bsl::Bsl;
@@ -38,3 +39,4 @@ pub use router_conf::kind_of;
 pub use status::Status;
 pub use steps::Steps;
 pub use triple::{Summary, Triple};
+pub use view::{First, RowSet, View, ViewEdge, ViewNode, ViewSub};
