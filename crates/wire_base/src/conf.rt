@@ -61,6 +61,13 @@ pub struct End {
     pub metric: u32,
 }
 
+/// A link, by the places in the domain of the two routers that it joins.
+#[derive(Clone, Copy, Debug, PartialEq, Eq)]
+pub struct LinkConf {
+    pub a: u16,
+    pub b: u16,
+}
+
 /// The configuration of a router.
 #[derive(Drop)]
 pub struct RouterConf {

@@ -7,26 +7,36 @@
 mod addresses;
 mod bsl;
 mod bytes;
+mod cause;
 mod conf;
+mod domain;
+mod entry;
 mod faults;
 pub mod fields;
 mod lists;
 mod memory;
 mod outside;
+mod router_conf;
 mod status;
 mod steps;
 mod triple;
+mod view;
 
 pub use addresses::{Ipv4, LspId, Mac, SystemId};
 pub use bsl::Bsl;
 pub use bytes::{BytesSink, BytesSource, QuietSink, QuietSource};
-pub use conf::{End, Kind, LabelRange, Level, OwnSub, RouterConf, SubKind, TableRow};
+pub use cause::Cause;
+pub use conf::{End, Kind, LabelRange, Level, LinkConf, OwnSub, RouterConf, SubKind, TableRow};
+pub use domain::Domain;
+pub use entry::{Age, Entry};
 pub use faults::{
     CaptureFault, FrameFault, HeadFault, InfoFault, IpFault, PduFault, StackFault, TlvFault,
 };
 pub use lists::{Name, Octets, Rows};
 pub use memory::{M, Memory};
 pub use outside::{Failed, Sink, Source};
+pub use router_conf::kind_of;
 pub use status::Status;
 pub use steps::Steps;
 pub use triple::{Summary, Triple};
+pub use view::{First, RowSet, View, ViewEdge, ViewNode, ViewSub};

@@ -187,6 +187,11 @@ impl<T> Rows<T> {
         self.items.as_slice()
     }
 
+    /// The allocator that the list keeps.
+    pub fn allocator(&self) -> Global {
+        *self.items.allocator()
+    }
+
     /// How many values there are.
     pub fn len(&self) -> usize
         ensures { result ≡ length self.now }

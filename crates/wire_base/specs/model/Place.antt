@@ -1,8 +1,17 @@
--- Where a BFR-id stands in a packet: its set and its bit position (RFC 8279, 3).
-use Rattle.std.specs.Prelude.{ℕ, Option, Some, None, ◌==◌, ◌+◌, ◌-◌, ◌*◌, ◌/◌, ◌%◌, if◌then◌else◌}
+-- Where a BFR-id stands in a packet: its set and its bit position (RFC 8279, 3). And what a BIFT-id stands for at a
+-- router (RFC 8279, 6.4; RFC 8296, 2.1.1 and 2.2.1; RFC 8401, 6.2).
+use Rattle.std.specs.Prelude.{◌≡◌, ℕ, Bool, true, false, List, [], ◌∷◌, Option, Some, None, ◌==◌, ◌&&◌, nat_le, is_some, option_map, ◌+◌, ◌-◌, ◌*◌, ◌/◌, ◌%◌, if◌then◌else◌}
 use Rattle.wire_base.specs.declared.bsl.Bsl.{Bsl}
 use Rattle.wire_base.specs.declared.bsl.Bsl.TheVariants.{B64, B128, B256, B512, B1024, B2048, B4096}
 use Rattle.wire_base.specs.declared.triple.Triple.{Triple}
+use Rattle.wire_base.specs.declared.conf.Kind.{Kind}
+use Rattle.wire_base.specs.declared.conf.Kind.TheVariants.{Mpls, Configured}
+use Rattle.wire_base.specs.declared.conf.LabelRange.{LabelRange}
+use Rattle.wire_base.specs.declared.conf.OwnSub.{OwnSub}
+use Rattle.wire_base.specs.declared.conf.SubKind.{SubKind}
+use Rattle.wire_base.specs.declared.conf.TableRow.{TableRow}
+use Rattle.wire_base.specs.declared.conf.RouterConf.{RouterConf}
+use Rattle.wire_base.specs.model.Lists.{or_else}
 
 -- how many bits a string of a length has (RFC 8296, 2.1.2)
 abbrev pub bits_of : Bsl → ℕ
@@ -67,3 +76,105 @@ position_in t k = if k == 0 then None else if set_identifier (bits_of t.bsl) k =
 -- the BFR-id at a position of a triple: the number may be above 65,535, and is then no BFR-id
 abbrev pub id_at : Triple → ℕ → ℕ
 id_at t p = t.si * bits_of t.bsl + p
+
+-- whether two triples are one
+abbrev pub same_triple : Triple → Triple → Bool
+same_triple a b = (a.sd == b.sd) && ((code_of a.bsl == code_of b.bsl) && (a.si == b.si))
+
+-- how a subdomain gives its BIFT-ids
+abbrev pub kind_of : List SubKind → ℕ → Option Kind
+kind_of [] sd = None
+kind_of (k ∷ kinds) sd = if k.sd == sd then Some k.kind else kind_of kinds sd
+
+-- what a router says of itself in a subdomain, where it is in it
+abbrev pub sub_in : List OwnSub → ℕ → Option OwnSub
+sub_in [] sd = None
+sub_in (s ∷ subs) sd = if s.sd == sd then Some s else sub_in subs sd
+
+-- its label ranges there
+abbrev pub ranges_in : List OwnSub → ℕ → Option (List LabelRange)
+ranges_in subs sd = option_map (λ s. s.ranges) (sub_in subs sd)
+
+-- the label of a set in the range of its length
+abbrev pub label_in : List LabelRange → Triple → Option ℕ
+label_in [] t = None
+label_in (x ∷ xs) t = if code_of x.bsl == code_of t.bsl then (if nat_le t.si x.max_si then Some (x.label + t.si) else None) else label_in xs t
+
+-- the BIFT-id of a triple in the written table
+abbrev pub row_in : List TableRow → Triple → Option ℕ
+row_in [] t = None
+row_in (row ∷ rows) t = if same_triple row.triple t then Some row.bift else row_in rows t
+
+-- in a subdomain of that kind, at a router with those ranges in it
+abbrev pub bift_by : Option Kind → List TableRow → List LabelRange → Triple → Option ℕ
+bift_by None table ranges t = None
+bift_by (Some Mpls) table ranges t = label_in ranges t
+bift_by (Some Configured) table ranges t = row_in table t
+
+-- The BIFT-id of a triple at a router: in an MPLS subdomain the label of its set, in a configured one that of the
+-- written table. The kinds and the table are the domain's; the ranges are the router's in the triple's subdomain,
+-- none where it isn't in it. Where there is no BIFT-id the router doesn't cover the triple.
+abbrev pub bift_of : List SubKind → List TableRow → Option (List LabelRange) → Triple → Option ℕ
+bift_of kinds table None t = None
+bift_of kinds table (Some ranges) t = bift_by (kind_of kinds t.sd) table ranges t
+
+-- whether a router with those ranges in the triple's subdomain covers the triple
+abbrev pub covers : List SubKind → List TableRow → Option (List LabelRange) → Triple → Bool
+covers kinds table ranges t = is_some (bift_of kinds table ranges t)
+
+-- the BIFT-id of a triple at a router, by its configuration
+abbrev pub own_bift : RouterConf → Triple → Option ℕ
+own_bift r t = bift_of r.kinds r.table (ranges_in r.subs t.sd) t
+
+-- that a BIFT-id of that kind stands for the triple at the router
+pub record IsMeaning (r : RouterConf) (kind : Kind) (bift : ℕ) (t : Triple) : Type 0 where
+  pub kind_is : kind_of r.kinds t.sd ≡ Some kind
+  pub bift_is : own_bift r t ≡ Some bift
+
+-- whether a number is among the labels of a range
+abbrev pub is_label_of : ℕ → LabelRange → Bool
+is_label_of label x = nat_le x.label label && nat_le label (x.label + x.max_si)
+
+-- the triple of a label of those ranges
+abbrev pub meaning_in : ℕ → List LabelRange → ℕ → Option Triple
+meaning_in sd [] label = None
+meaning_in sd (x ∷ xs) label = if is_label_of label x then Some (record { sd = sd; bsl = x.bsl; si = label - x.label }) else meaning_in sd xs label
+
+-- whether a subdomain is of that kind
+abbrev pub is_mpls : Option Kind → Bool
+is_mpls None = false
+is_mpls (Some Mpls) = true
+is_mpls (Some Configured) = false
+
+abbrev pub is_configured : Option Kind → Bool
+is_configured None = false
+is_configured (Some Mpls) = false
+is_configured (Some Configured) = true
+
+-- the triple of a label of a router that is in those subdomains
+abbrev pub labelled : List SubKind → List OwnSub → ℕ → Option Triple
+labelled kinds [] label = None
+labelled kinds (s ∷ subs) label = or_else (if is_mpls (kind_of kinds s.sd) then meaning_in s.sd s.ranges label else None) (labelled kinds subs label)
+
+-- whether a row of the written table says what that BIFT-id stands for at a router that is in those subdomains
+abbrev pub tells : List SubKind → List OwnSub → ℕ → TableRow → Bool
+tells kinds subs bift row = (row.bift == bift) && (is_configured (kind_of kinds row.triple.sd) && is_some (sub_in subs row.triple.sd))
+
+-- the triple of a BIFT-id of the written table
+abbrev pub written : List SubKind → List OwnSub → List TableRow → ℕ → Option Triple
+written kinds subs [] bift = None
+written kinds subs (row ∷ rows) bift = if tells kinds subs bift row then Some row.triple else written kinds subs rows bift
+
+-- What a BIFT-id of that kind stands for at a router. At a sound one it is the one triple that has it.
+unfoldable pub means : RouterConf → Kind → ℕ → Option Triple
+means r Mpls bift = labelled r.kinds r.subs bift
+means r Configured bift = written r.kinds r.subs r.table bift
+
+-- the BFR-id of a router that is in those subdomains; the id 0 is none (RFC 8279, 2)
+abbrev pub id_of : Option OwnSub → Option ℕ
+id_of None = None
+id_of (Some s) = if s.id == 0 then None else Some s.id
+
+-- a router's own BFR-id in a subdomain
+abbrev pub own_id : RouterConf → ℕ → Option ℕ
+own_id r sd = id_of (sub_in r.subs sd)

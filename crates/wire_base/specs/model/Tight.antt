@@ -1,0 +1,35 @@
+-- Steps on shortest walks.
+use Rattle.std.specs.Prelude.{◌≡◌, ℕ, ◌+◌, ◌⊎◌, Bool, false, ◌==◌, ◌&&◌, map, filter, List, Contains, Option, Some, None}
+use Rattle.wire_base.specs.declared.view.ViewEdge.{ViewEdge}
+use Rattle.wire_base.specs.declared.view.ViewNode.{ViewNode}
+use Rattle.wire_base.specs.model.Graph.{edges_of, is_overloaded}
+use Rattle.wire_base.specs.model.Walk.{dist, may_enter}
+
+-- a step from u to v is tight toward d where the metric of the edge and the distance from v make up the distance from u,
+-- and v is d or isn't overloaded: it begins a shortest walk to d
+pub record IsTight (g : List ViewNode) (d u v : ℕ) : Type 0 where
+  pub edge : ViewEdge
+  pub leaves : Contains (edges_of g u) edge
+  pub enters : edge.to ≡ v
+  pub passes : (v ≡ d) ⊎ (is_overloaded g v ≡ false)
+  pub rest : ℕ
+  pub from_there : dist g v d ≡ Some rest
+  pub whole : dist g u d ≡ Some (edge.metric + rest)
+
+-- The same as a list, where f has the distances to d.
+
+-- whether a metric and what is left make up the whole
+abbrev pub makes_up : ℕ → Option ℕ → Option ℕ → Bool
+makes_up m (Some rest) (Some whole) = m + rest == whole
+makes_up m (Some rest) None = false
+makes_up m None whole = false
+
+abbrev pub is_tight : List ViewNode → ℕ → (ℕ → Option ℕ) → ℕ → ViewEdge → Bool
+is_tight g d f u e = may_enter g d e.to && makes_up e.metric (f e.to) (f u)
+
+abbrev pub tight_list : List ViewNode → ℕ → (ℕ → Option ℕ) → ℕ → List ViewEdge → List ℕ
+tight_list g d f u es = map (λ e. e.to) (filter (is_tight g d f u) es)
+
+-- where the tight steps from u toward d lead, in the order of the nodes
+unfoldable pub tight_from : List ViewNode → ℕ → ℕ → List ℕ
+tight_from g d u = tight_list g d (λ x. dist g x d) u (edges_of g u)

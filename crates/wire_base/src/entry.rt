@@ -1,0 +1,32 @@
+//! What a router's database holds of each link state PDU, and how new a received one is.
+use crate::addresses::LspId;
+use crate::lists::Octets;
+
+/// An entry of the database. A live one has `life` seconds to live and a `hold` of 0. A dead one, a purge, has a
+/// `life` of 0 and stays for `hold` seconds more; it has no content (ISO/IEC 10589, 7.3.16).
+#[derive(Drop)]
+pub struct Entry {
+    pub id: LspId,
+    pub seq: u32,
+    pub life: u16,
+    pub hold: u16,
+    pub sum: u16,
+    pub flags: u8,
+    /// The octets of its TLVs.
+    pub content: Octets,
+}
+
+/// How new a link state PDU is beside the entry of its identifier (ISO/IEC 10589, 7.3.16.2).
+#[derive(Clone, Copy, Debug, PartialEq, Eq)]
+pub enum Age {
+    /// There is no such entry.
+    Unknown,
+    /// It is newer than the entry.
+    Newer,
+    /// It is the entry.
+    Equal,
+    /// It is older than the entry.
+    Older,
+    /// Both live and have one sequence number, but their checksums differ.
+    Confused,
+}

@@ -1,0 +1,145 @@
+//! The view of the domain that a router has: the routers that it knows of, the links between them and what each says of
+//! BIER; and the rows of a forwarding table.
+ghost use Rattle.std.specs.Prelude.{◌≡◌, ◌==◌, ◌&&◌};
+ghost use Rattle.std.specs.List.{list_any};
+ghost use Rattle.wire_base.specs.model.Graph.{covers, kind_of, sub_covers, is_range_for, is_row_for};
+
+use crate::addresses::{Ipv4, SystemId};
+use crate::conf::{Kind, LabelRange, SubKind, TableRow};
+use crate::lists::Rows;
+use crate::triple::Triple;
+use std::marker::Model;
+
+/// An edge of a view: the place of the node that it leads to, and its metric (RFC 5305, 3).
+#[derive(Clone, Copy, Debug, PartialEq, Eq)]
+pub struct ViewEdge {
+    pub to: u16,
+    pub metric: u32,
+}
+
+/// What a router says of its place in a subdomain: its BFR-id, 0 for none, its BFR-prefix and its label ranges
+/// (RFC 8401, 6.1 and 6.2).
+#[derive(Drop)]
+pub struct ViewSub {
+    pub sd: u8,
+    pub id: u16,
+    pub prefix: Ipv4,
+    pub ranges: Rows<LabelRange>,
+}
+
+/// A router of a view.
+#[derive(Drop)]
+pub struct ViewNode {
+    pub system: SystemId,
+    pub overload: bool,
+    pub edges: Rows<ViewEdge>,
+    pub subs: Rows<ViewSub>,
+}
+
+/// The routers that a router knows of, in the order of their systems. Its type keeps that no system comes twice, that the
+/// edges of a node stand in the order of the nodes that they lead to, none twice, and that each names a node and has a
+/// metric above 0; that the subdomains of a node differ, and the lengths of the ranges of one; that no two nodes share a
+/// BFR-prefix; and that there are at most 65,536 nodes.
+#[derive(Drop)]
+pub struct View {
+    pub nodes: Rows<ViewNode>,
+}
+
+impl Model for View {
+    ghost use Rattle.wire_base.specs.model.Graph.{Graph, IsGraph};
+
+    ghost Value = { Graph };
+
+    ghost view = { λ v. record { nodes = v.nodes } };
+
+    ghost invariant = { λ v. IsGraph v.nodes };
+}
+
+/// A router to which a bit may be sent: its system, and the place of the end where it is reached directly, or None where
+/// a tunnel leads to it.
+#[derive(Clone, Copy, Debug, PartialEq, Eq)]
+pub struct First {
+    pub system: SystemId,
+    pub direct: Option<u16>,
+}
+
+/// For each bit position the routers to which its bit may be sent: `bits[i]` belongs to position i + 1.
+#[derive(Drop)]
+pub struct RowSet {
+    pub bits: Rows<Rows<First>>,
+}
+
+impl ViewNode {
+    /// Whether the node forwards packets of a triple: in a subdomain with labels it has a range of that length up to the
+    /// set identifier; in one with a written table it is in the subdomain and the table has the triple's row
+    /// (RFC 8279, 6.9; RFC 8401, 6.2).
+    #[tactic(auto, unfolding(crate::specs::model::Graph::covers))]
+    pub fn covers(&self, kinds: &Rows<SubKind>, table: &Rows<TableRow>, t: Triple) -> bool
+        ensures { result ≡ covers kinds.now table.now t self.now }
+    {
+        let kind = kind_of(kinds.as_slice(), t.sd);
+        any_covers(self.subs.as_slice(), kind, table.as_slice(), t)
+    }
+}
+
+fn any_covers(subs: &[ViewSub], kind: Option<Kind>, table: &[TableRow], t: Triple) -> bool
+    ensures { result ≡ list_any (λ s. (s.sd == t.sd) && sub_covers kind table.now t s) subs.now }
+{
+    for sub in subs {
+        if covers_here(kind, table, t, sub) {
+            return true;
+        }
+    }
+    false
+}
+
+fn covers_here(kind: Option<Kind>, table: &[TableRow], t: Triple, sub: &ViewSub) -> bool
+    ensures { result ≡ ((sub.now.sd == t.sd) && sub_covers kind table.now t sub.now) }
+{
+    sub.sd == t.sd && sub_covers(kind, table, t, sub)
+}
+
+fn kind_of(kinds: &[SubKind], sd: u8) -> Option<Kind>
+    ensures { result ≡ kind_of kinds.now sd }
+{
+    for entry in kinds {
+        if entry.sd == sd {
+            return Some(entry.kind);
+        }
+    }
+    None
+}
+
+fn sub_covers(kind: Option<Kind>, table: &[TableRow], t: Triple, sub: &ViewSub) -> bool
+    ensures { result ≡ sub_covers kind table.now t sub.now }
+{
+    match kind {
+        None => false,
+        Some(Kind::Mpls) => has_range(sub.ranges.as_slice(), t),
+        Some(Kind::Configured) => has_row(table, t),
+    }
+}
+
+fn has_range(ranges: &[LabelRange], t: Triple) -> bool
+    ensures { result ≡ list_any (is_range_for t) ranges.now }
+{
+    ranges.iter().any(|range| is_range_for(*range, t))
+}
+
+fn is_range_for(range: LabelRange, t: Triple) -> bool
+    ensures { result ≡ is_range_for t range }
+{
+    range.bsl.bits() == t.bsl.bits() && t.si <= range.max_si
+}
+
+fn has_row(table: &[TableRow], t: Triple) -> bool
+    ensures { result ≡ list_any (is_row_for t) table.now }
+{
+    table.iter().any(|row| is_row_for(*row, t))
+}
+
+fn is_row_for(row: TableRow, t: Triple) -> bool
+    ensures { result ≡ is_row_for t row }
+{
+    row.triple.sd == t.sd && row.triple.bsl.bits() == t.bsl.bits() && row.triple.si == t.si
+}
