@@ -1,5 +1,6 @@
 -- The definitions that the contracts of all crates share, one file a subject.
 pub mod BierInfo
+pub mod BierHeader
 pub mod BitSet
 pub mod Checksum
 pub mod Choice
