@@ -11,6 +11,9 @@ pub mod Hop
 pub mod HopCount
 pub mod Lists
 pub mod Pdu
+pub mod Ethernet
+pub mod Fields
+pub mod Labels
 pub mod Place
 pub mod Supporting
 pub mod Tight
