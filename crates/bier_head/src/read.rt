@@ -22,10 +22,8 @@ pub fn read_header(kind: Kind, bsl: Bsl, bytes: &[u8]) -> Result<Header, HeadFau
     ensures exact { Gives header_of result (header_at kind bsl bytes.now) }
     ensures found { IfOk result (λ h. IsHeader (header_of h) × (take (header_length bsl) bytes.now ≡ header_octets (header_of h))) }
     ensures length { IfOk result (λ h. bsl_of h.bits ≡ bsl) }
-    ensures only {
-        (h : BierHeader) (rest : List ℕ) → IsHeader h → h.bsl ≡ bsl → (kind ≡ kinds.Mpls → h.nibble ≡ 5)
-        → bytes.now ≡ header_octets h ++ rest → Gives header_of result (Ok h)
-    }
+    ensures only { (h : BierHeader) (rest : List ℕ) → IsHeader h → h.bsl ≡ bsl → (kind ≡ kinds.Mpls → h.nibble ≡ 5)
+        → bytes.now ≡ header_octets h ++ rest → Gives header_of result (Ok h) }
 {
     header_with(kind, bsl, bytes)
 }
@@ -42,10 +40,8 @@ pub fn read_by_field(kind: Kind, bytes: &[u8]) -> Result<Header, HeadFault>
     ensures exact { Gives header_of result (coded_header_at kind bytes.now) }
     ensures found { IfOk result (λ h. IsHeader (header_of h) × (take (header_length (bsl_of h.bits)) bytes.now ≡ header_octets (header_of h))) }
     ensures code { IfOk result (λ h. code_of (bsl_of h.bits) ≡ h.bsl_code) }
-    ensures only {
-        (h : BierHeader) (rest : List ℕ) → IsHeader h → code_of h.bsl ≡ h.bsl_code → (kind ≡ kinds.Mpls → h.nibble ≡ 5)
-        → bytes.now ≡ header_octets h ++ rest → Gives header_of result (Ok h)
-    }
+    ensures only { (h : BierHeader) (rest : List ℕ) → IsHeader h → code_of h.bsl ≡ h.bsl_code → (kind ≡ kinds.Mpls → h.nibble ≡ 5)
+        → bytes.now ≡ header_octets h ++ rest → Gives header_of result (Ok h) }
 {
     header_by_field(kind, bytes)
 }
