@@ -4,11 +4,14 @@ pub mod BitSet
 pub mod Checksum
 pub mod Choice
 pub mod Configuration
+pub mod Control
 pub mod Fields
+pub mod Flooding
 pub mod Graph
 pub mod Hop
 pub mod HopCount
 pub mod Lists
+pub mod OwnLsp
 pub mod Pdu
 pub mod Place
 pub mod Supporting
