@@ -17,4 +17,5 @@ pub mod Place
 pub mod Supporting
 pub mod Tight
 pub mod Tlv
+pub mod View
 pub mod Walk
