@@ -2,7 +2,7 @@
 -- 7.2.8; RFC 5305, 3 and 4; RFC 8401, 4 and 5).
 --
 -- First stands what each system claims, then which of it counts beside what the others claim.
-use Rattle.std.specs.Prelude.{ℕ, ◌+◌, ◌/◌, ◌%◌, ◌==◌, ◌&&◌, not, nat_lt, min, max, Bool, true, false, List, [], ◌∷◌, ◌++◌, map, filter, is_some, option_map, option_to_list, option_and_then, Option, Some, None, Result, Ok, Err, if◌then◌else◌}
+use Rattle.std.specs.Prelude.{ℕ, ◌+◌, ◌/◌, ◌%◌, ◌==◌, ◌&&◌, not, nat_lt, min, max, Bool, List, [], ◌∷◌, ◌++◌, map, filter, is_some, option_map, option_to_list, Option, Some, None, Result, Ok, Err, if◌then◌else◌}
 use Rattle.std.specs.List.{flat_map, filter_map, list_any}
 use Rattle.std.specs.Ordering.{is_lt}
 use Rattle.std.specs.Str.{bytes_eq}
@@ -10,7 +10,6 @@ use Rattle.wire_base.specs.declared.addresses.SystemId.{SystemId}
 use Rattle.wire_base.specs.declared.addresses.Ipv4.{Ipv4}
 use Rattle.wire_base.specs.declared.conf.End.{End}
 use Rattle.wire_base.specs.declared.conf.LabelRange.{LabelRange}
-use Rattle.wire_base.specs.declared.conf.OwnSub.{OwnSub}
 use Rattle.wire_base.specs.declared.conf.SubKind.{SubKind}
 use Rattle.wire_base.specs.declared.conf.RouterConf.{RouterConf}
 use Rattle.wire_base.specs.declared.entry.Entry.{Entry}
@@ -86,7 +85,8 @@ is_overload_flag flags = flags / 4 % 2 == 1
 abbrev pub claim_of : List Entry → Entry → Claim
 claim_of entries e =
     record {
-      system = e.id.system; overload = is_overload_flag e.flags;
+      system = e.id.system;
+      overload = is_overload_flag e.flags;
       links = flat_map links_in (tlvs_of entries e.id.system);
       subs = flat_map subs_in (tlvs_of entries e.id.system);
     }
@@ -102,7 +102,8 @@ end_link e = record { neighbour = e.peer; metric = e.metric }
 abbrev pub own_claim : RouterConf → List Bool → Claim
 own_claim r up =
     record {
-      system = r.system; overload = r.overload;
+      system = r.system;
+      overload = r.overload;
       links = map end_link (picked up r.ends);
       subs = map (λ s. sub_of r.prefix.0 (info_of r.kinds s)) r.subs;
     }
