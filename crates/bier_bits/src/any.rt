@@ -1,12 +1,15 @@
-ghost use Rattle.std.specs.Prelude.{◌≡◌, ◌≤◌, ◌==◌, length, []};
+ghost use Rattle.std.specs.Prelude.{◌≡◌, ◌≤◌, ◌*◌, ◌/◌, ◌==◌, length, []};
 ghost use Rattle.wire_base.specs.model.Place.{bits_of};
-ghost use Rattle.wire_base.specs.model.BitSet.{has_member, first_member, with_member, IsWithin};
-ghost use Rattle.bier_bits.specs.Any.{bsl_of, positions_of};
+ghost use Rattle.wire_base.specs.model.BitSet.{has_member, first_member, with_member, IsWithin, intersection, difference, union, set_of, octets_of};
+ghost use Rattle.bier_bits.specs.Any.{bsl_of, positions_of, any_of};
 
 use crate::bit_string::BitString;
 use wire_base::Bsl;
 
-/// A bit string of some length.
+/// A BitString of one of the seven lengths that a header can carry (RFC 8296, 2.1.2), seen as that length and the set of
+/// its bit positions.
+///
+/// Contracts speak of the length, `bsl_of`, and of the ascending list of positions, `positions_of`.
 #[derive(Drop)]
 pub enum AnyBits {
     B64(BitString<1>),
@@ -19,10 +22,43 @@ pub enum AnyBits {
 }
 
 impl AnyBits {
-    /// The length; the set has positions from 1 to its bits.
+    /// The empty set of a length.
+    pub fn zero(bsl: Bsl) -> Self
+        ensures positions { positions_of result ≡ [] }
+        ensures bsl { bsl_of result ≡ bsl }
+    {
+        match bsl {
+            Bsl::B64 => AnyBits::B64(BitString::zero()),
+            Bsl::B128 => AnyBits::B128(BitString::zero()),
+            Bsl::B256 => AnyBits::B256(BitString::zero()),
+            Bsl::B512 => AnyBits::B512(BitString::zero()),
+            Bsl::B1024 => AnyBits::B1024(BitString::zero()),
+            Bsl::B2048 => AnyBits::B2048(BitString::zero()),
+            Bsl::B4096 => AnyBits::B4096(BitString::zero()),
+        }
+    }
+
+    /// An equal set of the same length.
+    pub fn copy(&self) -> Self
+        ensures { result ≡ self.now }
+    {
+        match self {
+            AnyBits::B64(bits) => AnyBits::B64(bits.copy()),
+            AnyBits::B128(bits) => AnyBits::B128(bits.copy()),
+            AnyBits::B256(bits) => AnyBits::B256(bits.copy()),
+            AnyBits::B512(bits) => AnyBits::B512(bits.copy()),
+            AnyBits::B1024(bits) => AnyBits::B1024(bits.copy()),
+            AnyBits::B2048(bits) => AnyBits::B2048(bits.copy()),
+            AnyBits::B4096(bits) => AnyBits::B4096(bits.copy()),
+        }
+    }
+
+    /// The length. The set is an ascending list of positions from 1 to the length's bits, and the length and the set
+    /// together are the whole value.
     pub fn bsl(&self) -> Bsl
         ensures value { result ≡ bsl_of self.now }
         ensures ordered { IsWithin 0 (bits_of (bsl_of self.now)) (positions_of self.now) }
+        ensures whole { any_of (bsl_of self.now) (positions_of self.now) ≡ self.now }
     {
         match self {
             AnyBits::B64(bits) => {
@@ -56,23 +92,7 @@ impl AnyBits {
         }
     }
 
-    /// The empty set of that length.
-    pub fn zero(bsl: Bsl) -> Self
-        ensures positions { positions_of result ≡ [] }
-        ensures bsl { bsl_of result ≡ bsl }
-    {
-        match bsl {
-            Bsl::B64 => AnyBits::B64(BitString::zero()),
-            Bsl::B128 => AnyBits::B128(BitString::zero()),
-            Bsl::B256 => AnyBits::B256(BitString::zero()),
-            Bsl::B512 => AnyBits::B512(BitString::zero()),
-            Bsl::B1024 => AnyBits::B1024(BitString::zero()),
-            Bsl::B2048 => AnyBits::B2048(BitString::zero()),
-            Bsl::B4096 => AnyBits::B4096(BitString::zero()),
-        }
-    }
-
-    /// Adds a position.
+    /// Adds a position, from 1 to the length's bits.
     pub fn set(&mut self, bp: u16)
         requires low { 1 ≤ bp }
         requires high { bp ≤ bits_of (bsl_of self.old) }
@@ -90,7 +110,7 @@ impl AnyBits {
         }
     }
 
-    /// Whether a position is in the set.
+    /// Whether a position, from 1 to the length's bits, is in the set.
     pub fn has(&self, bp: u16) -> bool
         requires low { 1 ≤ bp }
         requires high { bp ≤ bits_of (bsl_of self.now) }
@@ -107,7 +127,61 @@ impl AnyBits {
         }
     }
 
-    /// Whether no position is in the set.
+    /// The positions that both sets have, where the two are of one length.
+    pub fn and(&self, other: &Self) -> Self
+        requires { bsl_of other.now ≡ bsl_of self.now }
+        ensures positions { positions_of result ≡ intersection (positions_of self.now) (positions_of other.now) }
+        ensures bsl { bsl_of result ≡ bsl_of self.now }
+    {
+        match (self, other) {
+            (AnyBits::B64(a), AnyBits::B64(b)) => AnyBits::B64(a.and(b)),
+            (AnyBits::B128(a), AnyBits::B128(b)) => AnyBits::B128(a.and(b)),
+            (AnyBits::B256(a), AnyBits::B256(b)) => AnyBits::B256(a.and(b)),
+            (AnyBits::B512(a), AnyBits::B512(b)) => AnyBits::B512(a.and(b)),
+            (AnyBits::B1024(a), AnyBits::B1024(b)) => AnyBits::B1024(a.and(b)),
+            (AnyBits::B2048(a), AnyBits::B2048(b)) => AnyBits::B2048(a.and(b)),
+            (AnyBits::B4096(a), AnyBits::B4096(b)) => AnyBits::B4096(a.and(b)),
+            _ => unreachable!(),
+        }
+    }
+
+    /// The positions of this set that the other hasn't, where the two are of one length.
+    pub fn and_not(&self, other: &Self) -> Self
+        requires { bsl_of other.now ≡ bsl_of self.now }
+        ensures positions { positions_of result ≡ difference (positions_of self.now) (positions_of other.now) }
+        ensures bsl { bsl_of result ≡ bsl_of self.now }
+    {
+        match (self, other) {
+            (AnyBits::B64(a), AnyBits::B64(b)) => AnyBits::B64(a.and_not(b)),
+            (AnyBits::B128(a), AnyBits::B128(b)) => AnyBits::B128(a.and_not(b)),
+            (AnyBits::B256(a), AnyBits::B256(b)) => AnyBits::B256(a.and_not(b)),
+            (AnyBits::B512(a), AnyBits::B512(b)) => AnyBits::B512(a.and_not(b)),
+            (AnyBits::B1024(a), AnyBits::B1024(b)) => AnyBits::B1024(a.and_not(b)),
+            (AnyBits::B2048(a), AnyBits::B2048(b)) => AnyBits::B2048(a.and_not(b)),
+            (AnyBits::B4096(a), AnyBits::B4096(b)) => AnyBits::B4096(a.and_not(b)),
+            _ => unreachable!(),
+        }
+    }
+
+    /// The positions of this set and those of the other, where the two are of one length.
+    pub fn or(&self, other: &Self) -> Self
+        requires { bsl_of other.now ≡ bsl_of self.now }
+        ensures positions { positions_of result ≡ union (positions_of self.now) (positions_of other.now) }
+        ensures bsl { bsl_of result ≡ bsl_of self.now }
+    {
+        match (self, other) {
+            (AnyBits::B64(a), AnyBits::B64(b)) => AnyBits::B64(a.or(b)),
+            (AnyBits::B128(a), AnyBits::B128(b)) => AnyBits::B128(a.or(b)),
+            (AnyBits::B256(a), AnyBits::B256(b)) => AnyBits::B256(a.or(b)),
+            (AnyBits::B512(a), AnyBits::B512(b)) => AnyBits::B512(a.or(b)),
+            (AnyBits::B1024(a), AnyBits::B1024(b)) => AnyBits::B1024(a.or(b)),
+            (AnyBits::B2048(a), AnyBits::B2048(b)) => AnyBits::B2048(a.or(b)),
+            (AnyBits::B4096(a), AnyBits::B4096(b)) => AnyBits::B4096(a.or(b)),
+            _ => unreachable!(),
+        }
+    }
+
+    /// Whether the set has no position.
     pub fn is_empty(&self) -> bool
         ensures { result ≡ (length (positions_of self.now) == 0) }
     {
@@ -122,7 +196,22 @@ impl AnyBits {
         }
     }
 
-    /// The least position.
+    /// How many positions the set has.
+    pub fn count(&self) -> u16
+        ensures { result ≡ length (positions_of self.now) }
+    {
+        match self {
+            AnyBits::B64(bits) => bits.count(),
+            AnyBits::B128(bits) => bits.count(),
+            AnyBits::B256(bits) => bits.count(),
+            AnyBits::B512(bits) => bits.count(),
+            AnyBits::B1024(bits) => bits.count(),
+            AnyBits::B2048(bits) => bits.count(),
+            AnyBits::B4096(bits) => bits.count(),
+        }
+    }
+
+    /// The least position of the set. None exactly where the set is empty.
     pub fn first(&self) -> Option<u16>
         ensures { result ≡ first_member (positions_of self.now) }
     {
@@ -134,6 +223,43 @@ impl AnyBits {
             AnyBits::B1024(bits) => bits.first(),
             AnyBits::B2048(bits) => bits.first(),
             AnyBits::B4096(bits) => bits.first(),
+        }
+    }
+
+    /// Writes the set as an eighth of the length's bits in octets, the highest position first: position 1 is the least
+    /// significant bit of the last octet (RFC 8296, 2.1.2). What was written stands for the set.
+    pub fn to_be_bytes(&self, out: &mut [u8])
+        requires { 8 * length out.old ≡ bits_of (bsl_of self.now) }
+        ensures octets { out.new ≡ octets_of (bits_of (bsl_of self.now) / 8) (positions_of self.now) }
+        ensures again { set_of out.new ≡ positions_of self.now }
+    {
+        match self {
+            AnyBits::B64(bits) => bits.to_be_bytes(out),
+            AnyBits::B128(bits) => bits.to_be_bytes(out),
+            AnyBits::B256(bits) => bits.to_be_bytes(out),
+            AnyBits::B512(bits) => bits.to_be_bytes(out),
+            AnyBits::B1024(bits) => bits.to_be_bytes(out),
+            AnyBits::B2048(bits) => bits.to_be_bytes(out),
+            AnyBits::B4096(bits) => bits.to_be_bytes(out),
+        }
+    }
+
+    /// The set of a length that octets stand for, an eighth of its bits in number, the highest position first. The octets
+    /// are those that the set is written as.
+    pub fn read(bsl: Bsl, bytes: &[u8]) -> Self
+        requires { 8 * length bytes.now ≡ bits_of bsl }
+        ensures positions { positions_of result ≡ set_of bytes.now }
+        ensures bsl { bsl_of result ≡ bsl }
+        ensures again { octets_of (bits_of bsl / 8) (positions_of result) ≡ bytes.now }
+    {
+        match bsl {
+            Bsl::B64 => AnyBits::B64(BitString::read(bytes)),
+            Bsl::B128 => AnyBits::B128(BitString::read(bytes)),
+            Bsl::B256 => AnyBits::B256(BitString::read(bytes)),
+            Bsl::B512 => AnyBits::B512(BitString::read(bytes)),
+            Bsl::B1024 => AnyBits::B1024(BitString::read(bytes)),
+            Bsl::B2048 => AnyBits::B2048(BitString::read(bytes)),
+            Bsl::B4096 => AnyBits::B4096(BitString::read(bytes)),
         }
     }
 }

@@ -1,15 +1,18 @@
 -- The definitions that the contracts of all crates share, one file a subject.
+pub mod BierHeader
 pub mod BierInfo
 pub mod BitSet
 pub mod Checksum
 pub mod Choice
 pub mod Configuration
 pub mod Control
+pub mod Ethernet
 pub mod Fields
 pub mod Flooding
 pub mod Graph
 pub mod Hop
 pub mod HopCount
+pub mod Labels
 pub mod Lists
 pub mod OwnLsp
 pub mod Pdu

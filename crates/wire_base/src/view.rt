@@ -2,7 +2,7 @@
 //! BIER; and the rows of a forwarding table.
 ghost use Rattle.std.specs.Prelude.{◌≡◌, is_some, option_map};
 ghost use Rattle.wire_base.specs.model.Place.{bift_by, label_in, row_in, same_triple};
-ghost use Rattle.wire_base.specs.model.Graph.{covers, place_in};
+ghost use Rattle.wire_base.specs.model.Graph.{IsGraph, covers, place_in};
 
 use crate::addresses::{Ipv4, SystemId};
 use crate::conf::{Kind, LabelRange, SubKind, TableRow};
@@ -54,6 +54,16 @@ impl Model for View {
     ghost view = { λ v. record { nodes = v.nodes } };
 
     ghost invariant = { λ v. IsGraph v.nodes };
+}
+
+impl View {
+    /// The nodes, in the order of their systems.
+    pub fn as_slice(&self) -> &[ViewNode]
+        ensures nodes { result.now ≡ self.now.nodes }
+        ensures graph { IsGraph result.now }
+    {
+        self.nodes.as_slice()
+    }
 }
 
 /// A router to which a bit may be sent: its system, and the place of the end where it is reached directly, or None where

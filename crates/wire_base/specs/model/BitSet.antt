@@ -1,5 +1,6 @@
 -- A set of bit positions as the ascending list of its members, and the octets that stand for it (RFC 8296, 2.1.2).
-use Rattle.std.specs.Prelude.{◌*◌, ℕ, suc, zero, ◌<◌, ◌≤◌, Bool, false, ◌||◌, List, [], ◌∷◌, ◌++◌, ◌==◌, nat_lt, length, if◌then◌else◌, Option, Some, None, ◌-◌, ◌/◌, ◌%◌, ◌^◌, filter, slice_index}
+-- The highest position is sent first: of n octets the last has the positions 1 to 8, position 1 as its least bit.
+use Rattle.std.specs.Prelude.{◌+◌, ◌*◌, ℕ, suc, zero, ◌<◌, ◌≤◌, Bool, false, not, ◌||◌, List, [], ◌∷◌, ◌++◌, ◌==◌, nat_lt, length, if◌then◌else◌, Option, Some, None, ◌-◌, ◌/◌, ◌%◌, ◌^◌, filter, slice_index}
 
 -- whether a position is in the set
 abbrev pub has_member : ℕ → List ℕ → Bool
@@ -21,15 +22,38 @@ abbrev pub IsWithin : ℕ → ℕ → List ℕ → Type 0
 IsWithin low high [] = Unit {0}
 IsWithin low high (x ∷ xs) = (low < x) × (x ≤ high) × IsWithin x high xs
 
+-- the positions that two sets share
+abbrev pub intersection : List ℕ → List ℕ → List ℕ
+intersection xs ys = filter (λ p. has_member p ys) xs
+
+-- the positions of the first set that the second hasn't
+abbrev pub difference : List ℕ → List ℕ → List ℕ
+difference xs ys = filter (λ p. not (has_member p ys)) xs
+
+-- the positions that are in one set or the other
+abbrev pub union : List ℕ → List ℕ → List ℕ
+union [] ys = ys
+union (x ∷ xs) ys = with_member x (union xs ys)
+
 -- the numbers from 1 on
 abbrev pub up_to : ℕ → List ℕ
 up_to zero = []
 up_to (suc n) = up_to n ++ suc n ∷ []
 
--- whether the octets have the bit of a position: position 1 is the least bit of the last octet
+-- whether the octets have the bit of a position
 abbrev pub has_bit : List ℕ → ℕ → Bool
 has_bit octets p = (slice_index octets (length octets - 1 - (p - 1) / 8) / 2 ^ ((p - 1) % 8)) % 2 == 1
 
 -- the set that octets stand for
 unfoldable pub set_of : List ℕ → List ℕ
 set_of octets = filter (has_bit octets) (up_to (8 * length octets))
+
+-- the number whose bits, from the least on, are so many positions of a set from p on
+abbrev pub number_from : ℕ → ℕ → List ℕ → ℕ
+number_from zero p xs = 0
+number_from (suc n) p xs = (if has_member p xs then 1 else 0) + 2 * number_from n (p + 1) xs
+
+-- that many octets, which stand for a set
+unfoldable pub octets_of : ℕ → List ℕ → List ℕ
+octets_of zero xs = []
+octets_of (suc n) xs = number_from 8 (8 * n + 1) xs ∷ octets_of n xs

@@ -1,10 +1,11 @@
--- How many routers a bit passes until the router that owns it.
-use Rattle.std.specs.Prelude.{◌≡◌, ℕ, zero, suc, ◌+◌, ◌≤◌, Bool, List, length, Option, Some, None, option_map, option_and_then, if◌then◌else◌}
+-- How many routers a bit passes until the router that owns it, and how many links a tunnel has.
+use Rattle.std.specs.Prelude.{◌≡◌, ℕ, zero, suc, ◌+◌, ◌≤◌, ◌==◌, Bool, List, length, Option, Some, None, option_map, option_and_then, if◌then◌else◌}
 use Rattle.wire_base.specs.declared.conf.SubKind.{SubKind}
 use Rattle.wire_base.specs.declared.conf.TableRow.{TableRow}
 use Rattle.wire_base.specs.declared.triple.Triple.{Triple}
 use Rattle.wire_base.specs.declared.view.ViewNode.{ViewNode}
 use Rattle.wire_base.specs.model.Graph.{has_id_at}
+use Rattle.wire_base.specs.model.Tight.{next_step}
 use Rattle.wire_base.specs.model.Choice.{choose}
 
 -- how often next is followed from u until a node that passes the test, at most k times
@@ -21,3 +22,7 @@ pub record CoversPath (g : List ViewNode) (kinds : List SubKind) (table : List T
   pub count : ℕ
   pub is : hops g kinds table t class k u ≡ Some count
   pub enough : count ≤ ttl
+
+-- how many tight steps of least system lead from u to x
+unfoldable pub tunnel_links : List ViewNode → ℕ → ℕ → Option ℕ
+tunnel_links g x u = follow (next_step g x) (λ z. z == x) (length g) u

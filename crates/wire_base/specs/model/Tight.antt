@@ -1,5 +1,5 @@
 -- Steps on shortest walks.
-use Rattle.std.specs.Prelude.{◌≡◌, ℕ, ◌+◌, ◌⊎◌, Bool, false, ◌==◌, ◌&&◌, map, filter, List, Contains, Option, Some, None}
+use Rattle.std.specs.Prelude.{◌≡◌, ℕ, ◌+◌, ◌⊎◌, Bool, false, ◌==◌, ◌&&◌, map, filter, List, [], ◌∷◌, Contains, Option, Some, None}
 use Rattle.wire_base.specs.declared.view.ViewEdge.{ViewEdge}
 use Rattle.wire_base.specs.declared.view.ViewNode.{ViewNode}
 use Rattle.wire_base.specs.model.Graph.{edges_of, is_overloaded}
@@ -33,3 +33,11 @@ tight_list g d f u es = map (λ e. e.to) (filter (is_tight g d f u) es)
 -- where the tight steps from u toward d lead, in the order of the nodes
 unfoldable pub tight_from : List ViewNode → ℕ → ℕ → List ℕ
 tight_from g d u = tight_list g d (λ x. dist g x d) u (edges_of g u)
+
+-- the tight step from u toward d whose node has the least system: it stands first
+abbrev pub head : List ℕ → Option ℕ
+head [] = None
+head (x ∷ xs) = Some x
+
+unfoldable pub next_step : List ViewNode → ℕ → ℕ → Option ℕ
+next_step g d u = head (tight_from g d u)

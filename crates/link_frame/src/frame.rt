@@ -1,0 +1,128 @@
+//! Ethernet frames (IEEE 802.3, 3.1.1 and 3.2.6).
+ghost use Rattle.std.specs.Prelude.{◌≡◌, ◌≤◌, ◌+◌, ◌++◌, List, ℕ, Ok, IfOk, IsTrue, length, drop};
+ghost use Rattle.arrayvec.specs.ArrayVec.{array_vec_len};
+ghost use Rattle.wire_base.specs.model.Fields.{Gives};
+ghost use Rattle.wire_base.specs.model.Ethernet.{Carried, IsFrame, IsCarried, ethernet, frame_at, begins_isis, source_at};
+ghost use Rattle.link_frame.specs.Frames.{carried, HasPlaces};
+
+use arrayvec::ArrayVec;
+use byteorder::{BigEndian, ByteOrder};
+use wire_base::{FrameFault, Mac};
+
+/// The octets before what a frame carries: destination, source, and a length or a type.
+const HEAD: usize = 14;
+
+/// The header of the logical link control before a PDU of IS-IS (ISO/IEC 8802-2, 5).
+const ISIS_HEAD: usize = 3;
+
+/// The largest number in octets 13 and 14 that is a length (IEEE 802.3, 3.2.6).
+const MOST_LENGTH: u16 = 1500;
+
+/// What a frame carries, and where: octets `from` up to before `to`, counted from 0, or from `from` to the end.
+#[derive(Clone, Copy, Debug, PartialEq, Eq)]
+pub enum Class {
+    /// A PDU of IS-IS (ISO/IEC 10589, 9).
+    Isis { from: usize, to: usize },
+    /// A packet behind MPLS labels (RFC 3032, 3.3).
+    Mpls { from: usize },
+    /// A BIER packet without MPLS (RFC 8296, 3).
+    Bier { from: usize },
+    /// An IPv4 packet.
+    Ip { from: usize },
+    /// Anything else.
+    Other,
+}
+
+/// The class of a frame. Destinations aren't tested, and octets behind those that a length counts are padding.
+///
+/// Refuses, in this order: 1 Short, fewer than 14 octets; 2 Length, a length above the octets that follow it.
+pub fn classify(frame: &[u8]) -> Result<Class, FrameFault>
+    ensures exact { Gives (carried frame.now) result (frame_at frame.now) }
+    ensures places { IfOk result (HasPlaces (length frame.now)) }
+    ensures found { IfOk result (λ class. IsFrame frame.now (carried frame.now class)) }
+    ensures only { (c : Carried) → IsFrame frame.now c → Gives (carried frame.now) result (Ok c) }
+{
+    class_of(frame)
+}
+
+/// The class of a frame, by the same rules.
+#[tactic(auto, unfolding(wire_base::specs::model::Ethernet::frame_at))]
+fn class_of(frame: &[u8]) -> Result<Class, FrameFault>
+    ensures exact { Gives (carried frame.now) result (frame_at frame.now) }
+    ensures places { IfOk result (HasPlaces (length frame.now)) }
+{
+    if frame.len() < HEAD {
+        return Err(FrameFault::Short);
+    }
+    let number = BigEndian::read_u16(&frame[12..]);
+    if number > MOST_LENGTH {
+        return Ok(match number {
+            0x8847 => Class::Mpls { from: HEAD },
+            0xab37 => Class::Bier { from: HEAD },
+            0x0800 => Class::Ip { from: HEAD },
+            _ => Class::Other,
+        });
+    }
+    let counted = usize::from(number);
+    if frame.len() - HEAD < counted {
+        return Err(FrameFault::Length);
+    }
+    if is_isis(&frame[HEAD..HEAD + counted]) {
+        return Ok(Class::Isis {
+            from: HEAD + ISIS_HEAD,
+            to: HEAD + counted,
+        });
+    }
+    Ok(Class::Other)
+}
+
+/// Whether octets begin as IS-IS does.
+fn is_isis(octets: &[u8]) -> bool
+    ensures value { result ≡ begins_isis octets.now }
+    ensures long { IsTrue result → 3 ≤ length octets.now }
+{
+    octets.len() >= ISIS_HEAD && octets[0] == 0xfe && octets[1] == 0xfe && octets[2] == 3
+}
+
+/// The source address of a frame of at least 12 octets.
+pub fn source_of(frame: &[u8]) -> Mac
+    requires { 12 ≤ length frame.now }
+    ensures { result.0 ≡ source_at frame.now }
+{
+    let mut source = [0; 6];
+    source.copy_from_slice(&frame[6..12]);
+    Mac(source)
+}
+
+/// Writes the first 14 octets of a frame: the addresses, and a length or a type.
+pub fn write_eth(out: &mut [u8], to: Mac, from: Mac, number: u16)
+    requires { 14 ≤ length out.old }
+    ensures written { out.new ≡ ethernet to.0 from.0 number ++ drop 14 out.old }
+    ensures source { source_at out.new ≡ from.0 }
+    ensures again { (c : Carried) → IsCarried number (drop 14 out.old) c → frame_at out.new ≡ Ok c }
+{
+    out[..HEAD].copy_from_slice(head(to, from, number).as_slice());
+}
+
+/// The first 14 octets of a frame.
+fn head(to: Mac, from: Mac, number: u16) -> ArrayVec<u8, 14>
+    ensures items { result.items ≡ ethernet to.0 from.0 number }
+    ensures len { length result.items ≡ 14 }
+    ensures six_to { length to.0 ≡ 6 }
+    ensures six_from { length from.0 ≡ 6 }
+{
+    let mut octets = ArrayVec::new();
+    put(&mut octets, &to.0);
+    put(&mut octets, &from.0);
+    put(&mut octets, &number.to_be_bytes());
+    octets
+}
+
+/// Appends octets for which there is room.
+fn put<const N: usize>(octets: &mut ArrayVec<u8, N>, more: &[u8])
+    requires { array_vec_len octets.old + length more.now ≤ N }
+    ensures items { octets.new.items ≡ octets.old.items ++ more.now }
+    ensures len { array_vec_len octets.new ≡ array_vec_len octets.old + length more.now }
+{
+    octets.try_extend_from_slice(more).unwrap()
+}

@@ -1,0 +1,5 @@
+pub mod Reading
+pub mod Pieces
+pub mod Tokens
+pub mod Ids
+pub mod Hop

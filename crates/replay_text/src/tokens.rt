@@ -1,0 +1,48 @@
+//! Single words: numbers and names.
+ghost use Rattle.std.specs.Prelude.{◌≡◌};
+ghost use Rattle.std.specs.List.{list_all};
+ghost use Rattle.replay_text.specs.Tokens.{number_of, is_name};
+ghost use Rattle.replay_text.specs.Tokens as name_chars;
+
+/// The number that 1 to 10 decimal digits write. None for any other text.
+#[tactic(auto, unfolding(crate::specs::Tokens::number_of))]
+pub fn number(text: &[u8]) -> Option<u64>
+    ensures { result ≡ number_of text.now }
+{
+    if text.is_empty() || text.len() > 10 {
+        return None;
+    }
+    let mut value = 0u64;
+    for (i, octet) in text.iter().enumerate() {
+        if !octet.is_ascii_digit() {
+            return None;
+        }
+        value = value * 10 + u64::from(*octet - b'0');
+    }
+    Some(value)
+}
+
+fn is_name_char(octet: u8) -> bool
+    ensures { result ≡ name_chars.is_name_char octet }
+{
+    octet.is_ascii_alphanumeric() || octet == b'_' || octet == b'-'
+}
+
+fn all_name_chars(text: &[u8]) -> bool
+    ensures { result ≡ list_all name_chars.is_name_char text.now }
+{
+    text.iter().all(|octet| is_name_char(*octet))
+}
+
+/// Whether the text is a router's name: a letter, and then at most 31 letters, digits, `_` and `-`.
+#[tactic(auto, unfolding(crate::specs::Tokens::is_name))]
+pub fn is_router_name(text: &[u8]) -> bool
+    ensures { result ≡ is_name text.now }
+{
+    match text {
+        [] => false,
+        [first, rest @ ..] => {
+            first.is_ascii_alphabetic() && rest.len() <= 31 && all_name_chars(rest)
+        }
+    }
+}

@@ -1,0 +1,9 @@
+pub mod WalkLemmas
+pub mod ShortenLemmas
+pub mod DescentLemmas
+pub mod TightLemmas
+pub mod ChoiceLemmas
+pub mod OwnerLemmas
+pub mod HopCountLemmas
+pub mod RouteLemmas
+pub mod HopLemmas

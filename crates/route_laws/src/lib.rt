@@ -1,0 +1,16 @@
+//! Laws of the routes of a view, as functions that compute nothing: what each ensures is proved of the definitions of
+//! `wire_base`. The crates above cite the lemmas behind them.
+#![tactic(auto)]
+
+mod choices;
+mod distances;
+mod examples;
+mod outcomes;
+
+pub use choices::{descent, firsts_are_listed, tunnels_arrive};
+pub use distances::{distance_is_least, tight_steps_exist, walks_bound};
+pub use examples::{
+    edges_lead_one_way, equal_lengths_tie, fork_needs_a_tunnel, line_is_not_passed,
+    outcomes_in_order, ring_has_two_ways,
+};
+pub use outcomes::each_id_once;
