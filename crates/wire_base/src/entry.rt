@@ -30,3 +30,16 @@ pub enum Age {
     /// Both live and have one sequence number, but their checksums differ.
     Confused,
 }
+
+/// What a second does to an entry (ISO/IEC 10589, 7.3.16.3 and 7.3.16.4).
+#[derive(Clone, Copy, Debug, PartialEq, Eq)]
+pub enum Aged {
+    /// It has lost a second of its life.
+    Live,
+    /// Its life has ended: it is a purge now.
+    Expired,
+    /// A dead one has lost a second of its hold.
+    Held,
+    /// It is gone.
+    Removed,
+}

@@ -13,6 +13,7 @@ mod domain;
 mod entry;
 mod faults;
 pub mod fields;
+mod flood_out;
 mod lists;
 mod memory;
 mod outside;
@@ -28,10 +29,11 @@ pub use bytes::{BytesSink, BytesSource, QuietSink, QuietSource};
 pub use cause::Cause;
 pub use conf::{End, Kind, LabelRange, Level, LinkConf, OwnSub, RouterConf, SubKind, TableRow};
 pub use domain::Domain;
-pub use entry::{Age, Entry};
+pub use entry::{Age, Aged, Entry};
 pub use faults::{
     CaptureFault, FrameFault, HeadFault, InfoFault, IpFault, PduFault, StackFault, TlvFault,
 };
+pub use flood_out::{FloodOut, SnpOut};
 pub use lists::{Name, Octets, Rows};
 pub use memory::{M, Memory};
 pub use outside::{Failed, Sink, Source};

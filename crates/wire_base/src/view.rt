@@ -1,12 +1,13 @@
 //! The view of the domain that a router has: the routers that it knows of, the links between them and what each says of
 //! BIER; and the rows of a forwarding table.
-ghost use Rattle.std.specs.Prelude.{◌≡◌, ◌==◌, ◌&&◌};
-ghost use Rattle.std.specs.List.{list_any};
-ghost use Rattle.wire_base.specs.model.Graph.{covers, kind_of, sub_covers, is_range_for, is_row_for};
+ghost use Rattle.std.specs.Prelude.{◌≡◌, is_some, option_map};
+ghost use Rattle.wire_base.specs.model.Place.{bift_by, label_in, row_in, same_triple};
+ghost use Rattle.wire_base.specs.model.Graph.{IsGraph, covers, place_in};
 
 use crate::addresses::{Ipv4, SystemId};
 use crate::conf::{Kind, LabelRange, SubKind, TableRow};
 use crate::lists::Rows;
+use crate::router_conf::kind_of;
 use crate::triple::Triple;
 use std::marker::Model;
 
@@ -55,6 +56,16 @@ impl Model for View {
     ghost invariant = { λ v. IsGraph v.nodes };
 }
 
+impl View {
+    /// The nodes, in the order of their systems.
+    pub fn as_slice(&self) -> &[ViewNode]
+        ensures nodes { result.now ≡ self.now.nodes }
+        ensures graph { IsGraph result.now }
+    {
+        self.nodes.as_slice()
+    }
+}
+
 /// A router to which a bit may be sent: its system, and the place of the end where it is reached directly, or None where
 /// a tunnel leads to it.
 #[derive(Clone, Copy, Debug, PartialEq, Eq)]
@@ -78,68 +89,58 @@ impl ViewNode {
         ensures { result ≡ covers kinds.now table.now t self.now }
     {
         let kind = kind_of(kinds.as_slice(), t.sd);
-        any_covers(self.subs.as_slice(), kind, table.as_slice(), t)
+        match place_in(self.subs.as_slice(), t.sd) {
+            Some(sub) => has_bift(kind, table.as_slice(), sub, t),
+            None => false,
+        }
     }
 }
 
-fn any_covers(subs: &[ViewSub], kind: Option<Kind>, table: &[TableRow], t: Triple) -> bool
-    ensures { result ≡ list_any (λ s. (s.sd == t.sd) && sub_covers kind table.now t s) subs.now }
+fn place_in(subs: &[ViewSub], sd: u8) -> Option<&ViewSub>
+    ensures { option_map (λ s. s.now) result ≡ place_in subs.now sd }
 {
     for sub in subs {
-        if covers_here(kind, table, t, sub) {
+        if sub.sd == sd {
+            return Some(sub);
+        }
+    }
+    None
+}
+
+fn has_bift(kind: Option<Kind>, table: &[TableRow], sub: &ViewSub, t: Triple) -> bool
+    ensures { result ≡ is_some (bift_by kind table.now sub.now.ranges t) }
+{
+    match kind {
+        None => false,
+        Some(Kind::Mpls) => has_label(sub.ranges.as_slice(), t),
+        Some(Kind::Configured) => has_row(table, t),
+    }
+}
+
+fn has_label(ranges: &[LabelRange], t: Triple) -> bool
+    ensures { result ≡ is_some (label_in ranges.now t) }
+{
+    for range in ranges {
+        if range.bsl.code() == t.bsl.code() {
+            return t.si <= range.max_si;
+        }
+    }
+    false
+}
+
+fn has_row(table: &[TableRow], t: Triple) -> bool
+    ensures { result ≡ is_some (row_in table.now t) }
+{
+    for row in table {
+        if is_row_for(row.triple, t) {
             return true;
         }
     }
     false
 }
 
-fn covers_here(kind: Option<Kind>, table: &[TableRow], t: Triple, sub: &ViewSub) -> bool
-    ensures { result ≡ ((sub.now.sd == t.sd) && sub_covers kind table.now t sub.now) }
+fn is_row_for(triple: Triple, t: Triple) -> bool
+    ensures { result ≡ same_triple triple t }
 {
-    sub.sd == t.sd && sub_covers(kind, table, t, sub)
-}
-
-fn kind_of(kinds: &[SubKind], sd: u8) -> Option<Kind>
-    ensures { result ≡ kind_of kinds.now sd }
-{
-    for entry in kinds {
-        if entry.sd == sd {
-            return Some(entry.kind);
-        }
-    }
-    None
-}
-
-fn sub_covers(kind: Option<Kind>, table: &[TableRow], t: Triple, sub: &ViewSub) -> bool
-    ensures { result ≡ sub_covers kind table.now t sub.now }
-{
-    match kind {
-        None => false,
-        Some(Kind::Mpls) => has_range(sub.ranges.as_slice(), t),
-        Some(Kind::Configured) => has_row(table, t),
-    }
-}
-
-fn has_range(ranges: &[LabelRange], t: Triple) -> bool
-    ensures { result ≡ list_any (is_range_for t) ranges.now }
-{
-    ranges.iter().any(|range| is_range_for(*range, t))
-}
-
-fn is_range_for(range: LabelRange, t: Triple) -> bool
-    ensures { result ≡ is_range_for t range }
-{
-    range.bsl.bits() == t.bsl.bits() && t.si <= range.max_si
-}
-
-fn has_row(table: &[TableRow], t: Triple) -> bool
-    ensures { result ≡ list_any (is_row_for t) table.now }
-{
-    table.iter().any(|row| is_row_for(*row, t))
-}
-
-fn is_row_for(row: TableRow, t: Triple) -> bool
-    ensures { result ≡ is_row_for t row }
-{
-    row.triple.sd == t.sd && row.triple.bsl.bits() == t.bsl.bits() && row.triple.si == t.si
+    triple.sd == t.sd && triple.bsl.code() == t.bsl.code() && triple.si == t.si
 }

@@ -1,17 +1,14 @@
 -- The routers that one router knows of and the links between them, as a graph. A node is named by its place in the list.
-use Rattle.std.specs.Prelude.{◌≡◌, ℕ, ◌≤◌, ◌<◌, ◌^◌, ◌==◌, ◌&&◌, ◌||◌, nat_lt, nat_le, Bool, true, false, List, [], ◌∷◌, length, slice_get, All, AllPairs, Option, Some, None, filter, if◌then◌else◌}
+use Rattle.std.specs.Prelude.{◌≡◌, ℕ, ◌≤◌, ◌<◌, ◌^◌, ◌==◌, ◌&&◌, ◌||◌, nat_lt, Bool, true, false, List, [], ◌∷◌, length, slice_get, All, AllPairs, Option, Some, None, is_some, option_map, filter, if◌then◌else◌}
 use Rattle.std.specs.List.{list_any, range_with_len}
 use Rattle.wire_base.specs.declared.addresses.SystemId.{SystemId}
-use Rattle.wire_base.specs.declared.conf.Kind.{Kind}
-use Rattle.wire_base.specs.declared.conf.Kind.TheVariants.{Mpls, Configured}
-use Rattle.wire_base.specs.declared.conf.LabelRange.{LabelRange}
 use Rattle.wire_base.specs.declared.conf.SubKind.{SubKind}
 use Rattle.wire_base.specs.declared.conf.TableRow.{TableRow}
 use Rattle.wire_base.specs.declared.triple.Triple.{Triple}
 use Rattle.wire_base.specs.declared.view.ViewEdge.{ViewEdge}
 use Rattle.wire_base.specs.declared.view.ViewNode.{ViewNode}
 use Rattle.wire_base.specs.declared.view.ViewSub.{ViewSub}
-use Rattle.wire_base.specs.model.Place.{bits_of}
+use Rattle.wire_base.specs.model.Place.{bift_of}
 
 -- what contracts see of a view
 pub record Graph : Type 0 where
@@ -66,28 +63,18 @@ pub record IsGraph (g : List ViewNode) : Type 0 where
   pub nodes : All (λ n. IsNode (length g) n) g
   pub prefixes_differ : AllPairs ShareNoPrefix g
 
--- how a subdomain gives its BIFT-ids
-abbrev pub kind_of : List SubKind → ℕ → Option Kind
-kind_of [] sd = None
-kind_of (k ∷ ks) sd = if k.sd == sd then Some k.kind else kind_of ks sd
+-- what a node says of itself in a subdomain
+abbrev pub place_in : List ViewSub → ℕ → Option ViewSub
+place_in [] sd = None
+place_in (s ∷ subs) sd = if s.sd == sd then Some s else place_in subs sd
 
--- whether a range has a label for the set of a triple
-abbrev pub is_range_for : Triple → LabelRange → Bool
-is_range_for t r = (bits_of r.bsl == bits_of t.bsl) && nat_le t.si r.max_si
-
-abbrev pub is_row_for : Triple → TableRow → Bool
-is_row_for t row = (row.triple.sd == t.sd) && (bits_of row.triple.bsl == bits_of t.bsl) && (row.triple.si == t.si)
-
--- whether what a node says of a subdomain lets it forward packets of a triple (RFC 8279, 6.9; RFC 8401, 6.2): with labels
--- it has a range for it; without, the table that all routers have has a row for it
-abbrev pub sub_covers : Option Kind → List TableRow → Triple → ViewSub → Bool
-sub_covers None table t s = false
-sub_covers (Some Mpls) table t s = list_any (is_range_for t) s.ranges
-sub_covers (Some Configured) table t s = list_any (is_row_for t) table
+-- the BIFT-id that a node gives a triple (RFC 8279, 6.9; RFC 8401, 6.2)
+unfoldable pub node_bift : List SubKind → List TableRow → Triple → ViewNode → Option ℕ
+node_bift kinds table t n = bift_of kinds table (option_map (λ s. s.ranges) (place_in n.subs t.sd)) t
 
 -- whether a node supports a triple
 unfoldable pub covers : List SubKind → List TableRow → Triple → ViewNode → Bool
-covers kinds table t n = list_any (λ s. (s.sd == t.sd) && sub_covers (kind_of kinds t.sd) table t s) n.subs
+covers kinds table t n = is_some (bift_of kinds table (option_map (λ s. s.ranges) (place_in n.subs t.sd)) t)
 
 abbrev pub node_covers : List SubKind → List TableRow → Triple → Option ViewNode → Bool
 node_covers kinds table t None = false

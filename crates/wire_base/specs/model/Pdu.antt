@@ -216,8 +216,8 @@ lsp_at octets = do
   check ← number_at faults.PduLength 2 seq.1
   flags ← octet_at faults.PduLength check.1
   if nat_lt 0 life.0 && not (is_right life.1) then Err faults.Checksum
-    else if tlvs_pass false flags.1 then Ok (LspPdu (record { life = life.0; id = id.0; seq = seq.0; sum = check.0; flags = flags.0 }) flags.1)
-    else Err faults.Tlv
+      else if tlvs_pass false flags.1 then Ok (LspPdu (record { life = life.0; id = id.0; seq = seq.0; sum = check.0; flags = flags.0 }) flags.1)
+      else Err faults.Tlv
 
 unfoldable pub csnp_at : List ℕ → Result Pdu PduFault
 csnp_at octets = do

@@ -1,0 +1,5 @@
+pub mod Domains
+pub mod Entries
+pub mod Floods
+pub mod Vectors
+pub mod Views

@@ -1,0 +1,34 @@
+-- The octets of PDUs and frames of the small domains, as they stand on the wire.
+use Rattle.std.specs.Prelude.{ℕ, List, [], ◌∷◌}
+
+-- the TLVs of A's LSP in the pair, where its link is up: area, protocols, name, the link to B, and its prefix with
+-- the BIER Info of subdomain 0
+abbrev pub pair_a_content : List ℕ
+pair_a_content =
+    1 ∷ 4 ∷ 3 ∷ 73 ∷ 0 ∷ 1
+    ∷ 129 ∷ 1 ∷ 204
+    ∷ 137 ∷ 1 ∷ 65
+    ∷ 22 ∷ 11 ∷ 0 ∷ 0 ∷ 0 ∷ 0 ∷ 0 ∷ 2 ∷ 0 ∷ 0 ∷ 0 ∷ 10 ∷ 0
+    ∷ 135 ∷ 23 ∷ 0 ∷ 0 ∷ 0 ∷ 0 ∷ 96 ∷ 10 ∷ 0 ∷ 0 ∷ 1 ∷ 13 ∷ 32 ∷ 11 ∷ 0 ∷ 0 ∷ 0 ∷ 0 ∷ 1 ∷ 1 ∷ 4 ∷ 0 ∷ 16 ∷ 0 ∷ 100
+    ∷ []
+
+-- A's first LSP, of level 2: 77 octets, a life of 1200, sequence number 1, checksum 55 4e, not overloaded
+abbrev pub pair_a_lsp : List ℕ
+pair_a_lsp =
+    131 ∷ 27 ∷ 1 ∷ 0 ∷ 20 ∷ 1 ∷ 0 ∷ 0
+    ∷ 0 ∷ 77 ∷ 4 ∷ 176
+    ∷ 0 ∷ 0 ∷ 0 ∷ 0 ∷ 0 ∷ 1 ∷ 0 ∷ 0
+    ∷ 0 ∷ 0 ∷ 0 ∷ 1
+    ∷ 85 ∷ 78 ∷ 3
+    ∷ pair_a_content
+
+-- A's first CSNP: it covers all identifiers and lists that LSP
+abbrev pub pair_a_csnp : List ℕ
+pair_a_csnp =
+    131 ∷ 33 ∷ 1 ∷ 0 ∷ 25 ∷ 1 ∷ 0 ∷ 0
+    ∷ 0 ∷ 51
+    ∷ 0 ∷ 0 ∷ 0 ∷ 0 ∷ 0 ∷ 1 ∷ 0
+    ∷ 0 ∷ 0 ∷ 0 ∷ 0 ∷ 0 ∷ 0 ∷ 0 ∷ 0
+    ∷ 255 ∷ 255 ∷ 255 ∷ 255 ∷ 255 ∷ 255 ∷ 255 ∷ 255
+    ∷ 9 ∷ 16 ∷ 4 ∷ 176 ∷ 0 ∷ 0 ∷ 0 ∷ 0 ∷ 0 ∷ 1 ∷ 0 ∷ 0 ∷ 0 ∷ 0 ∷ 0 ∷ 1 ∷ 85 ∷ 78
+    ∷ []

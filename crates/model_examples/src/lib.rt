@@ -1,0 +1,26 @@
+//! The shared definitions tried on small domains: each function computes nothing, and what it ensures is proved by
+//! computing the definition.
+#![tactic(auto)]
+
+mod configurations;
+mod databases;
+mod floods;
+mod own_lsps;
+mod views;
+
+pub use configurations::{
+    labels_that_touch, metric_0_is_unsound, pair_is_valid, ring_is_valid, what_labels_mean,
+};
+pub use databases::{
+    ages, entries_age_by_seconds, equal_sequence_unequal_sums_is_confused, rows_of_flags,
+};
+pub use floods::{
+    a_csnp_is_bounded, a_full_database_takes_no_unknown_lsp, a_restarted_router_passes_its_old_lsp,
+    the_identifier_after, the_last_sequence_number_is_purged, what_an_lsp_asks,
+    what_listed_entries_do, which_flags_an_lsp_sets,
+};
+pub use own_lsps::{pair_first_csnp, pair_first_lsp, pair_first_lsp_content, plain_router_lsp};
+pub use views::{
+    line_settled_view, links_count_where_both_list_them, pair_settles, ring_settled_view,
+    which_links_are_read, which_places_count,
+};
