@@ -255,3 +255,10 @@ row_there octets fits len = (sixteen octets, row_whole octets (sixteen octets) _
 -- entries of TLV 9 that are spelled alike are one
 pub row_once : (a b : Summary) → SummaryFits a → SummaryFits b → row a ≡ row b → a ≡ b
 row_once a b fa fb e = spelled_once row_at (row a) (row b) a b (row_again a [] fa) (row_again b [] fb) e
+
+-- ---- what was appended
+
+pub tlv_pushed : (old new : List ℕ) (t : Tlv) → new ≡ old ++ tlv t → (rest : List ℕ) → tlv_at (drop (length old) new ++ rest) ≡ Ok (Some (t, rest))
+tlv_pushed old new t e rest =
+    let added : drop (length old) new ≡ tlv t = ap (λ (l : List ℕ). drop (length old) l) e ∙ drop_at old (tlv t) (length old) refl in
+    ap (λ (l : List ℕ). tlv_at (l ++ rest)) added ∙ tlv_again t rest

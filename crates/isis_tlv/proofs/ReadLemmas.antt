@@ -1,6 +1,5 @@
 -- What is read is an entry, and an entry is read.
 use Rattle.std.proofs.Common.{◌≡◌, ℕ, ◌-◌, ◌<◌, ◌≤◌, List, [], ◌∷◌, ◌++◌, length, take, drop, Option, Some, None, ◌↔◌, Result, Ok, Err, refl, sym, ap, subst, ◌∙◌, arith}
-use Rattle.std.proofs.lemmas.List.{drop_at}
 use Rattle.std.specs.Prelude.{IfOk, IfErr, IfSome, IsOkAnd, IsSomeAnd, IsErr, OnOk}
 use Rattle.wire_base.specs.declared.faults.TlvFault.{TlvFault}
 use Rattle.wire_base.specs.declared.faults.TlvFault.TheVariants.{Overrun}
@@ -73,10 +72,3 @@ pub step_fault : (old : List ℕ) (r : Result (Option Tlv) TlvFault) (new : List
 step_fault old (Ok (Some x)) new h = tt
 step_fault old (Ok None) new h = tt
 step_fault old (Err f) new h = only_overrun old f h.0
-
--- ---- what was appended
-
-pub tlv_pushed : (old new : List ℕ) (t : Item) → new ≡ old ++ tlv t → (rest : List ℕ) → tlv_at (drop (length old) new ++ rest) ≡ Ok (Some (t, rest))
-tlv_pushed old new t e rest =
-    let added : drop (length old) new ≡ tlv t = ap (λ (l : List ℕ). drop (length old) l) e ∙ drop_at old (tlv t) (length old) refl in
-    ap (λ (l : List ℕ). tlv_at (l ++ rest)) added ∙ tlv_again t rest
