@@ -1,0 +1,4 @@
+pub mod Below
+pub mod Written
+pub mod Steps
+pub mod Partition
