@@ -11,7 +11,7 @@ ghost use Rattle.replay_run.specs.Outside.{Held, Gave, AppendsFront};
 mod forward;
 mod lines;
 
-use crate::whole::{LIMIT, deliver, read_within};
+use crate::whole::{LIMIT, deliver, front, read_within};
 use lines::do_lines;
 use std::alloc::Global;
 use wire_base::{Octets, Sink, Source, Status};
@@ -35,9 +35,8 @@ fn answer_to<S: Source>(alloc: Global, input: &mut S) -> Result<Answer, Status>
 {
     let octets = read_within(alloc, input)?;
     let short = octets.len() <= LIMIT;
-    let text = &octets.as_slice()[..octets.len().min(LIMIT)];
     let mut report = Octets::new(alloc);
-    let status = do_lines(alloc, &mut report, text, short)?;
+    let status = do_lines(alloc, &mut report, front(&octets), short)?;
     Ok(Answer { status, report })
 }
 

@@ -1,5 +1,5 @@
 //! Inputs read whole, and texts written whole.
-ghost use Rattle.std.specs.Prelude.{◌≡◌, ◌⊎◌, ◌≤◌, ◌<◌, false, length, IfOk, IfErr, OnOk, OnErr};
+ghost use Rattle.std.specs.Prelude.{◌≡◌, ◌⊎◌, ◌≤◌, ◌<◌, false, length, take, IfOk, IfErr, OnOk, OnErr};
 ghost use Rattle.std.specs.Io.KnownBytes.{Appends, Consumes, IsAtEnd};
 ghost use Rattle.wire_base.specs.Causes.{last_count};
 ghost use Rattle.wire_base.specs.declared.status.Status.TheVariants as statuses;
@@ -42,6 +42,17 @@ pub fn read_within<S: Source>(alloc: Global, input: &mut S) -> Result<Octets, St
         octets.append(&buffer[..count])?;
     }
     Ok(octets)
+}
+
+/// The octets within the limit.
+pub fn front(octets: &Octets) -> &[u8]
+    ensures { result.now ≡ take 65536 octets.now }
+{
+    if octets.len() <= LIMIT {
+        octets.as_slice()
+    } else {
+        &octets.as_slice()[..LIMIT]
+    }
 }
 
 /// Writes a text whole. A sink that takes nothing of what is left fails it.
