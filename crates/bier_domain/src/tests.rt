@@ -15,7 +15,7 @@ fn a_file_written_and_read_back(rt: HostRuntime) -> Result<(), Fail> {
     assert_eq!(rt; sink.finish(), Ok(()));
     let mut source = FileSource::new(&rt, path);
     assert_eq!(rt; source.read(&mut into), Ok(7));
-    assert_eq!(rt; into[..7], b"bsl 64\n".as_slice());
+    assert_eq!(rt; &into[..7], b"bsl 64\n".as_slice());
     assert_eq!(rt; source.read(&mut into), Ok(0));
     fs::remove_file(&rt, path)?;
     Ok(())
