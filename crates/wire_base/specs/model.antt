@@ -5,6 +5,7 @@ pub mod BitSet
 pub mod Checksum
 pub mod Choice
 pub mod Configuration
+pub mod Capture
 pub mod Ethernet
 pub mod Fields
 pub mod Graph
