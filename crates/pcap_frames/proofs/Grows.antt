@@ -46,3 +46,64 @@ header_grows octets more = elim (cases_lt (length octets) 4) [
     let later : ltb (length (octets ++ more)) 4 ≡ false = le-ltb (length (octets ++ more)) 4 (omega (arith, length-append octets more)) in
     rw (le-ltb (length octets) 4 le, later, big_from-append 4 octets more le) (formed_grows (form_of (big_number 4 octets)) octets more)
 ]
+
+record_same : (form : CaptureForm) (captured : ℕ) (octets more : List ℕ) → 16 ≤ length octets → captured ≤ length octets - 16
+    → record_of form (number_in form 4 (octets ++ more)) (number_in form 4 (drop 4 (octets ++ more))) (number_in form 4 (drop 12 (octets ++ more))) (take captured (drop 16 (octets ++ more)))
+    ≡ record_of form (number_in form 4 octets) (number_in form 4 (drop 4 octets)) (number_in form 4 (drop 12 octets)) (take captured (drop 16 octets))
+record_same form captured octets more head within =
+    let frame : take captured (drop 16 (octets ++ more)) ≡ take captured (drop 16 octets) = ap (λ (l : List ℕ). take captured l) (drop-append-le 16 octets more head) ∙ take-append-le captured (drop 16 octets) more (omega (arith, length-drop 16 octets)) in
+    rw (number_same form 4 0 octets more (omega arith), number_same form 4 4 octets more (omega arith), number_same form 4 12 octets more (omega arith), frame) refl
+
+frame_grows : (form : CaptureForm) (captured : ℕ) (octets more : List ℕ) → 16 ≤ length octets → Grows more (Ok (frame_at form captured octets)) (Ok (frame_at form captured (octets ++ more)))
+frame_grows form captured octets more head = elim (cases_lt (length octets - 16) captured) [
+  | inl lt ↦ rw (lt-ltb (length octets - 16) captured lt) tt
+  | inr le ↦
+    let later : ltb (length (octets ++ more) - 16) captured ≡ false = le-ltb (length (octets ++ more) - 16) captured (omega (arith, length-append octets more)) in
+    rw (le-ltb (length octets - 16) captured le, later, record_same form captured octets more head le, drop-append-le (16 + captured) octets more (omega arith)) refl
+]
+
+pub record_grows : (form : CaptureForm) (octets more : List ℕ) → Grows more (record_at form octets) (record_at form (octets ++ more))
+unfolding record_at
+record_grows form octets more = elim (cases_lt (length octets) 16) [
+  | inl lt ↦ rw (lt-ltb (length octets) 16 lt) tt
+  | inr le ↦
+    let later : ltb (length (octets ++ more)) 16 ≡ false = le-ltb (length (octets ++ more)) 16 (omega (arith, length-append octets more)) in
+    let captured = number_in form 4 (drop 8 octets) in
+    let same : number_in form 4 (drop 8 (octets ++ more)) ≡ captured = number_same form 4 8 octets more (omega arith) in
+    elim (cases_lt most_captured captured) [
+      | inl long ↦ rw (le-ltb (length octets) 16 le, later, same, lt-ltb most_captured captured long) refl
+      | inr short ↦ rw (le-ltb (length octets) 16 le, later, same, le-ltb most_captured captured short) (frame_grows form captured octets more le)
+    ]
+]
+
+-- What a reader answers stays when it is fed more first; where it had no record, it goes on from where it stands.
+abbrev pub NextGrows : List ℕ → Result (Option CaptureRecord) CaptureFault × Reading → Result (Option CaptureRecord) CaptureFault × Reading → Type 0
+NextGrows more (Ok None, after) later = later ≡ next_of (fed after more)
+NextGrows more (Ok (Some read), after) later = later ≡ (Ok (Some read), fed after more)
+NextGrows more (Err fault, after) later = later ≡ next_of (fed after more)
+
+by_record_grows : (form : CaptureForm) (octets more : List ℕ) (read later : Result (Option (CaptureRecord × List ℕ)) CaptureFault) → later ≡ record_at form (octets ++ more) → Grows more read later
+    → NextGrows more (by_record form octets read) (by_record form (octets ++ more) later)
+unfolding next_of
+by_record_grows form octets more (Ok None) later is grows = ap (by_record form (octets ++ more)) is
+by_record_grows form octets more (Ok (Some read)) later is grows = ap (by_record form (octets ++ more)) grows
+by_record_grows form octets more (Err fault) later is grows = ap (by_record form (octets ++ more)) grows
+
+by_header_grows : (octets more : List ℕ) (read later : Result (Option (CaptureForm × List ℕ)) CaptureFault) → later ≡ header_at (octets ++ more) → Grows more read later
+    → NextGrows more (by_header octets read) (by_header (octets ++ more) later)
+unfolding next_of
+by_header_grows octets more (Ok None) later is grows = ap (by_header (octets ++ more)) is
+by_header_grows octets more (Ok (Some read)) later is grows =
+    subst (NextGrows more (by_record read.0 read.1 (record_at read.0 read.1))) (sym (ap (by_header (octets ++ more)) grows))
+      (by_record_grows read.0 read.1 more (record_at read.0 read.1) (record_at read.0 (read.1 ++ more)) refl (record_grows read.0 read.1 more))
+by_header_grows octets more (Err fault) later is grows = ap (by_header (octets ++ more)) grows
+
+next_in_grows : (stage : Stage) (octets more : List ℕ) → NextGrows more (next_in stage octets) (next_in stage (octets ++ more))
+unfolding next_of
+next_in_grows HeaderToCome octets more = by_header_grows octets more (header_at octets) (header_at (octets ++ more)) refl (header_grows octets more)
+next_in_grows (HeaderRead form) octets more = by_record_grows form octets more (record_at form octets) (record_at form (octets ++ more)) refl (record_grows form octets more)
+next_in_grows (Refused fault) octets more = refl
+
+pub next_grows : (reading : Reading) (more : List ℕ) → NextGrows more (next_of reading) (next_of (fed reading more))
+unfolding next_of
+next_grows reading more = next_in_grows reading.stage reading.octets more

@@ -1,6 +1,7 @@
 //! A reader of a capture file whose octets come in pieces.
-ghost use Rattle.std.specs.Prelude.{◌≡◌, ◌≤◌, length, drop, OnOk, OnErr, Ok, None, option_map};
-ghost use Rattle.wire_base.specs.model.Capture.{Reading, unread, fed, next_of, by_header, by_record, header_at, record_at, end_of, HeaderToCome};
+ghost use Rattle.std.specs.Prelude.{◌≡◌, ◌≤◌, ℕ, List, length, drop, OnOk, OnErr, Ok, None, option_map};
+ghost use Rattle.std.specs.List.{concat};
+ghost use Rattle.wire_base.specs.model.Capture.{Reading, unread, fed, drained, read_pieces, next_of, by_header, by_record, header_at, record_at, end_of, HeaderToCome};
 ghost use Rattle.pcap_frames.specs.Seen.{form_seen, record_seen, Answers, after_answer, fault_in, opened_end, cut_end};
 
 use crate::header::{Form, HEADER, read_header};
@@ -39,9 +40,10 @@ impl Model for Reader {
 }
 
 impl Reader {
-    /// A reader that was fed nothing.
+    /// A reader that was fed nothing. The records are those of all octets that it is fed, however they are cut.
     pub fn new(alloc: Global) -> Reader
-        ensures { result ≡ unread }
+        ensures empty { result ≡ unread }
+        ensures pieces { (pieces : List (List ℕ)) → read_pieces result pieces ≡ drained (fed result (concat pieces)) }
     {
         Reader {
             step: Step::Header,
