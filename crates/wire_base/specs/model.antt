@@ -6,6 +6,7 @@ pub mod Checksum
 pub mod Choice
 pub mod Configuration
 pub mod Control
+pub mod Capture
 pub mod Ethernet
 pub mod Fields
 pub mod Flooding
