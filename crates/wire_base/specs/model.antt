@@ -2,11 +2,11 @@
 pub mod BierHeader
 pub mod BierInfo
 pub mod BitSet
+pub mod Capture
 pub mod Checksum
 pub mod Choice
 pub mod Configuration
 pub mod Control
-pub mod Capture
 pub mod Ethernet
 pub mod Fields
 pub mod Flooding
