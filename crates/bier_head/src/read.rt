@@ -20,7 +20,8 @@ use wire_base::{Bsl, HeadFault, Kind};
 /// the packet stands behind a label and its nibble isn't 5, and `Version` where the version isn't 0.
 pub fn read_header(kind: Kind, bsl: Bsl, bytes: &[u8]) -> Result<Header, HeadFault>
     ensures exact { Gives header_of result (header_at kind bsl bytes.now) }
-    ensures found { IfOk result (λ h. IsHeader (header_of h) × (take (header_length bsl) bytes.now ≡ header_octets (header_of h))) }
+    ensures found { IfOk result (λ h. IsHeader (header_of h)
+        × (take (header_length bsl) bytes.now ≡ header_octets (header_of h))) }
     ensures length { IfOk result (λ h. bsl_of h.bits ≡ bsl) }
     ensures only { (h : BierHeader) (rest : List ℕ) → IsHeader h → h.bsl ≡ bsl → (kind ≡ kinds.Mpls → h.nibble ≡ 5)
         → bytes.now ≡ header_octets h ++ rest → Gives header_of result (Ok h) }
@@ -38,16 +39,17 @@ pub fn read_header(kind: Kind, bsl: Bsl, bytes: &[u8]) -> Result<Header, HeadFau
 /// `Short` where the octets end before the BitString does.
 pub fn read_by_field(kind: Kind, bytes: &[u8]) -> Result<Header, HeadFault>
     ensures exact { Gives header_of result (coded_header_at kind bytes.now) }
-    ensures found { IfOk result (λ h. IsHeader (header_of h) × (take (header_length (bsl_of h.bits)) bytes.now ≡ header_octets (header_of h))) }
+    ensures found { IfOk result (λ h. IsHeader (header_of h)
+        × (take (header_length (bsl_of h.bits)) bytes.now ≡ header_octets (header_of h))) }
     ensures code { IfOk result (λ h. code_of (bsl_of h.bits) ≡ h.bsl_code) }
-    ensures only { (h : BierHeader) (rest : List ℕ) → IsHeader h → code_of h.bsl ≡ h.bsl_code → (kind ≡ kinds.Mpls → h.nibble ≡ 5)
-        → bytes.now ≡ header_octets h ++ rest → Gives header_of result (Ok h) }
+    ensures only { (h : BierHeader) (rest : List ℕ) → IsHeader h → code_of h.bsl ≡ h.bsl_code
+        → (kind ≡ kinds.Mpls → h.nibble ≡ 5) → bytes.now ≡ header_octets h ++ rest → Gives header_of result (Ok h) }
 {
     header_by_field(kind, bytes)
 }
 
 // How many octets a header with a BitString of that length has.
-pub(crate) fn octets_with(bsl: Bsl) -> usize
+fn octets_with(bsl: Bsl) -> usize
     ensures { result ≡ header_length bsl }
 {
     12 + usize::from(bsl.bits() / 8)

@@ -18,7 +18,8 @@ pub fn write_header(h: &Header, out: &mut [u8])
     ensures octets { out.new ≡ header_octets (header_of h.now) }
     ensures again { (kind : Kind) (rest : List ℕ) → (kind ≡ kinds.Mpls → h.now.nibble ≡ 5)
         → header_at kind (bsl_of h.now.bits) (out.new ++ rest) ≡ Ok (header_of h.now) }
-    ensures again_by_field { (kind : Kind) (rest : List ℕ) → (kind ≡ kinds.Mpls → h.now.nibble ≡ 5) → code_of (bsl_of h.now.bits) ≡ h.now.bsl_code
+    ensures again_by_field { (kind : Kind) (rest : List ℕ) → (kind ≡ kinds.Mpls → h.now.nibble ≡ 5)
+        → code_of (bsl_of h.now.bits) ≡ h.now.bsl_code
         → coded_header_at kind (out.new ++ rest) ≡ Ok (header_of h.now) }
     ensures only { (other : BierHeader) → IsHeader other → out.new ≡ header_octets other → other ≡ header_of h.now }
 {
