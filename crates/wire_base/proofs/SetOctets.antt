@@ -37,7 +37,7 @@ pub number-is : (n p o : ℕ) (xs : List ℕ) → o < 2 ^ n → ((j q : ℕ) →
 number-is zero p o xs small bits = omega arith
 number-is (suc n) p o xs small bits =
     let rest : number_from n (p + 1) xs ≡ o / 2 = number-is n (p + 1) (o / 2) xs (omega (arith, pow-succ' 2 n))
-        (λ j q lt e. bits (suc j) q (omega arith) (omega arith) ∙ rw (pow-succ' 2 j, div-div-eq-div-mul o 2 (2 ^ j)) refl) in
+    (λ j q lt e. bits (suc j) q (omega arith) (omega arith) ∙ rw (pow-succ' 2 j, div-div-eq-div-mul o 2 (2 ^ j)) refl) in
     elim (eqb_tells (o / 1 % 2) 1) [
       | inl odd ↦ rw (bits 0 p (omega arith) (omega arith), odd.0, rest) (omega (arith, odd.1))
       | inr even ↦ rw (bits 0 p (omega arith) (omega arith), even.0, rest) (omega (arith, even.1))
@@ -73,12 +73,12 @@ octets_of-is [] xs small bits = refl
 octets_of-is (o ∷ os) xs small bits =
     let n = length os in
     let head : number_from 8 (8 * n + 1) xs ≡ o = number-is 8 (8 * n + 1) o xs (small 0) (λ j q lt e.
-        let first : suc n - 1 - (q - 1) / 8 ≡ 0 = omega arith in
-        let bit : (q - 1) % 8 ≡ j = omega arith in
-        bits q (omega arith) (omega arith) ∙ rw (first, bit) refl) in
+    let first : suc n - 1 - (q - 1) / 8 ≡ 0 = omega arith in
+    let bit : (q - 1) % 8 ≡ j = omega arith in
+    bits q (omega arith) (omega arith) ∙ rw (first, bit) refl) in
     let tail : octets_of n xs ≡ os = octets_of-is os xs (λ i. small (suc i)) (λ p low high.
-        let later : suc n - 1 - (p - 1) / 8 ≡ suc (n - 1 - (p - 1) / 8) = omega arith in
-        bits p low (omega arith) ∙ rw later refl) in
+    let later : suc n - 1 - (p - 1) / 8 ≡ suc (n - 1 - (p - 1) / 8) = omega arith in
+    bits p low (omega arith) ∙ rw later refl) in
     rw (head, tail) refl
 
 pub octets_of-set_of : (octets : List ℕ) → ((i : ℕ) → get_or octets i 0 < 256) → octets_of (length octets) (set_of octets) ≡ octets

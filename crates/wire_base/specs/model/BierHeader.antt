@@ -84,21 +84,21 @@ version_of octets = word_of octets 4 / 2 ^ 24 % 2 ^ 4
 -- the fields of the octets at the front, with a BitString of that length
 abbrev pub fields_of : Bsl → List ℕ → BierHeader
 fields_of bsl octets = record {
-    bift = word_of octets 0 / 2 ^ 12;
-    tc = word_of octets 0 / 2 ^ 9 % 2 ^ 3;
-    s = word_of octets 0 / 2 ^ 8 % 2 == 1;
-    ttl = word_of octets 0 % 2 ^ 8;
-    nibble = word_of octets 4 / 2 ^ 28;
-    bsl_code = word_of octets 4 / 2 ^ 20 % 2 ^ 4;
-    entropy = word_of octets 4 % 2 ^ 20;
-    oam = word_of octets 8 / 2 ^ 30;
-    rsv = word_of octets 8 / 2 ^ 28 % 2 ^ 2;
-    dscp = word_of octets 8 / 2 ^ 22 % 2 ^ 6;
-    proto = word_of octets 8 / 2 ^ 16 % 2 ^ 6;
-    bfir = word_of octets 8 % 2 ^ 16;
-    bsl = bsl;
-    positions = set_of (take (bits_of bsl / 8) (drop 12 octets))
-  }
+  bift = word_of octets 0 / 2 ^ 12;
+  tc = word_of octets 0 / 2 ^ 9 % 2 ^ 3;
+  s = word_of octets 0 / 2 ^ 8 % 2 == 1;
+  ttl = word_of octets 0 % 2 ^ 8;
+  nibble = word_of octets 4 / 2 ^ 28;
+  bsl_code = word_of octets 4 / 2 ^ 20 % 2 ^ 4;
+  entropy = word_of octets 4 % 2 ^ 20;
+  oam = word_of octets 8 / 2 ^ 30;
+  rsv = word_of octets 8 / 2 ^ 28 % 2 ^ 2;
+  dscp = word_of octets 8 / 2 ^ 22 % 2 ^ 6;
+  proto = word_of octets 8 / 2 ^ 16 % 2 ^ 6;
+  bfir = word_of octets 8 % 2 ^ 16;
+  bsl = bsl;
+  positions = set_of (take (bits_of bsl / 8) (drop 12 octets));
+}
 
 -- The header at the front, with a BitString of that length, or the first rule that the octets break.
 unfoldable pub header_at : Kind → Bsl → List ℕ → Result BierHeader HeadFault

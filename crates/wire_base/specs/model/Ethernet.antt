@@ -1,6 +1,6 @@
 -- Ethernet frames and what they carry (IEEE 802.3, 3.1.1 and 3.2.6; RFC 3032, 3.3; RFC 8296, 3; RFC 894). A PDU of
 -- IS-IS stands behind the header FE FE 03 of the logical link control (ISO/IEC 8802-2, 5; ISO/IEC 10589, 8.4).
-use Rattle.std.specs.Prelude.{◌≡◌, ℕ, ◌+◌, ◌<◌, ◌≤◌, ◌⊎◌, Bool, ◌&&◌, List, [], ◌∷◌, ◌++◌, length, take, drop, slice_index, Result, Ok, Err, nat_lt, nat_le, ◌==◌, if◌then◌else◌}
+use Rattle.std.specs.Prelude.{◌≡◌, ℕ, ◌<◌, ◌≤◌, ◌⊎◌, Bool, ◌&&◌, List, ◌∷◌, ◌++◌, length, take, drop, slice_index, Result, Ok, Err, nat_lt, nat_le, ◌==◌, if◌then◌else◌}
 use Rattle.byteorder.specs.Endian.{big_bytes, big_number}
 use Rattle.wire_base.specs.declared.faults.FrameFault.{FrameFault}
 use Rattle.wire_base.specs.declared.faults.FrameFault.TheVariants as faults
