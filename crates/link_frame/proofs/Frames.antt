@@ -1,7 +1,7 @@
 -- What a frame is read as, and how it is spelled.
-use Rattle.std.proofs.Common.{◌≡◌, ℕ, ◌+◌, ◌-◌, ◌*◌, ◌/◌, ◌%◌, ◌^◌, ◌<◌, ◌≤◌, ◌⊎◌, ◌&&◌, ◌==◌, Bool, true, false, ltb, leb, eqb, cond, List, [], ◌∷◌, ◌++◌, length, take, drop, slice_index, Result, Ok, Err, is_ok, IfOk, refl, sym, ap, ap₂, ◌∙◌, subst, append_assoc, take-append-drop, arith, inl, inr}
-use Rattle.std.proofs.lemmas.Bool.{cases_lt, cases_eq, cases_Bool, lt-ltb, le-ltb, le-leb, eq-eqb, ne_eqb, eqb-true, and_parts, false≢true, true≢false}
-use Rattle.std.proofs.lemmas.List.{take_at, drop_at, drop_all, drop-take, drop-drop, length-append, length-drop, length-take, get_or-drop}
+use Rattle.std.proofs.Common.{◌≡◌, ℕ, ◌+◌, ◌*◌, ◌/◌, ◌%◌, ◌<◌, ◌≤◌, ◌&&◌, ◌==◌, true, leb, List, [], ◌∷◌, ◌++◌, length, take, drop, Result, Ok, Err, is_ok, IfOk, refl, sym, ap, ap₂, ◌∙◌, subst, append_assoc, take-append-drop, arith, inl, inr}
+use Rattle.std.proofs.lemmas.Bool.{cases_lt, cases_eq, cases_Bool, lt-ltb, le-ltb, le-leb, eq-eqb, ne_eqb, eqb-true, and_parts, false≢true}
+use Rattle.std.proofs.lemmas.List.{take_at, drop_at, drop-drop, length-append, length-drop, length-take, get_or-drop}
 use Rattle.byteorder.specs.Endian.{big_bytes, big_number}
 use Rattle.byteorder.specs.Numbers.{big_number-reads_back, big_from-lt}
 use Rattle.wire_base.specs.declared.faults.FrameFault.{FrameFault}
@@ -34,8 +34,8 @@ spelled_as frame small long =
     let n : big_bytes 2 (big_number 2 (drop 12 frame)) ≡ take 2 (drop 12 frame) = two_again (drop 12 frame) (drop_octets 12 frame small) (omega (arith, length-drop 12 frame)) in
     let d : big_bytes 2 (big_number 2 (drop 12 frame)) ++ drop 14 frame ≡ drop 12 frame = ap₂ (λ (k l : List ℕ). k ++ l) n (sym (drop-drop 2 12 frame)) ∙ take-append-drop 2 (drop 12 frame) in
     sym (append_assoc (take 6 frame) (take 6 (drop 6 frame) ++ big_bytes 2 (big_number 2 (drop 12 frame))) (drop 14 frame)
-      ∙ ap (λ (l : List ℕ). take 6 frame ++ l) (append_assoc (take 6 (drop 6 frame)) (big_bytes 2 (big_number 2 (drop 12 frame))) (drop 14 frame) ∙ ap (λ (l : List ℕ). take 6 (drop 6 frame) ++ l) d ∙ b)
-      ∙ a)
+    ∙ ap (λ (l : List ℕ). take 6 frame ++ l) (append_assoc (take 6 (drop 6 frame)) (big_bytes 2 (big_number 2 (drop 12 frame))) (drop 14 frame) ∙ ap (λ (l : List ℕ). take 6 (drop 6 frame) ++ l) d ∙ b)
+    ∙ a)
 
 is_frame : (frame : List ℕ) (c : Carried) → AreOctets frame → 14 ≤ length frame → IsCarried (big_number 2 (drop 12 frame)) (drop 14 frame) c → IsFrame frame c
 is_frame frame c small long carries = record {

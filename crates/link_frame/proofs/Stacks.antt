@@ -1,5 +1,5 @@
 -- A stack read entry by entry.
-use Rattle.std.proofs.Common.{◌≡◌, ℕ, zero, suc, ◌+◌, ◌*◌, ◌/◌, ◌%◌, ◌-◌, ◌<◌, ◌≤◌, eqb, List, [], ◌∷◌, ◌++◌, map, length, take, drop, slice_index, Result, Ok, Err, is_ok, inl, inr, refl, sym, ap, ap₂, IfOk, ◌∙◌, subst, append_assoc, take-append-drop, arith}
+use Rattle.std.proofs.Common.{◌≡◌, ℕ, zero, suc, ◌+◌, ◌*◌, ◌/◌, ◌%◌, ◌-◌, ◌<◌, ◌≤◌, List, [], ◌∷◌, ◌++◌, length, take, drop, Result, Ok, Err, is_ok, inl, inr, refl, sym, ap, ap₂, IfOk, ◌∙◌, subst, append_assoc, take-append-drop, arith}
 use Rattle.std.proofs.lemmas.Bool.{cases_lt, cases_eq, lt-ltb, le-ltb, eq-eqb, ne_eqb, false≢true}
 use Rattle.std.proofs.lemmas.List.{drop-drop, length-append, length-map, map-append, get_or-drop}
 use Rattle.arrayvec.specs.declared.array_vec.ArrayVec.{ArrayVec}
@@ -58,7 +58,7 @@ more made new label word rest after octets room so_far read is new-is not_last =
     let n : 8 - length made ≡ suc (7 - length made) = omega arith in
     let m : 8 - length new ≡ 7 - length made = omega (arith, ap length new-is, length-append made (label ∷ [])) in
     let read_all = sym so_far ∙ ap (λ (k : ℕ). below (entries made) (stack_at k rest)) n ∙ ap (below (entries made)) (at_more (7 - length made) word rest after read not_last)
-      ∙ below_below (entries made) (entry_of word ∷ []) (stack_at (7 - length made) after) in
+    ∙ below_below (entries made) (entry_of word ∷ []) (stack_at (7 - length made) after) in
     ap (λ (k : ℕ). below (entries new) (stack_at k after)) m ∙ ap (λ (l : List LabelEntry). below l (stack_at (7 - length made) after)) (one_more made new label word is new-is) ∙ sym read_all
 
 pub full : (made : List Label) (rest octets : List ℕ) → 8 ≤ length made → below (entries made) (stack_at (8 - length made) rest) ≡ stack_at 8 octets → stack_at 8 octets ≡ Err faults.Deep
@@ -176,16 +176,16 @@ stack_spells zero octets small = subst (Spelled zero octets) (sym (none_at octet
 stack_spells (suc most) octets small = elim (cases_lt (length octets) 4) [
   | inl lt ↦ subst (Spelled (suc most) octets) (sym (at_end most octets faults.NoBottom (short_of octets lt))) tt
   | inr le ↦
-    let word = big_number 4 octets in
-    let after = drop 4 octets in
-    let low : word < 4294967296 = big_from-lt 0 4 octets small in
-    let is : octets ≡ big_bytes 4 word ++ after = sym (ap (λ (l : List ℕ). l ++ after) (four_again octets small le) ∙ take-append-drop 4 octets) in
-    elim (cases_eq (is_bottom word) 1) [
-      | inl last ↦ subst (Spelled (suc most) octets) (sym (at_bottom most word octets after (word_of octets le) last))
-        ((omega arith, entry_fits word low), is ∙ ap (λ (l : List ℕ). l ++ after) (ap (big_bytes 4) (sym (word_back word 1 last))))
-      | inr not_last ↦ subst (Spelled (suc most) octets) (sym (at_more most word octets after (word_of octets le) not_last))
-        (below_read most word octets after (stack_at most after) low (omega (arith, not_last)) is (stack_spells most after (λ i. omega (arith, get_or-drop 4 octets i 0, small (4 + i)))))
-    ]
+      let word = big_number 4 octets in
+      let after = drop 4 octets in
+      let low : word < 4294967296 = big_from-lt 0 4 octets small in
+      let is : octets ≡ big_bytes 4 word ++ after = sym (ap (λ (l : List ℕ). l ++ after) (four_again octets small le) ∙ take-append-drop 4 octets) in
+      elim (cases_eq (is_bottom word) 1) [
+        | inl last ↦ subst (Spelled (suc most) octets) (sym (at_bottom most word octets after (word_of octets le) last))
+            ((omega arith, entry_fits word low), is ∙ ap (λ (l : List ℕ). l ++ after) (ap (big_bytes 4) (sym (word_back word 1 last))))
+        | inr not_last ↦ subst (Spelled (suc most) octets) (sym (at_more most word octets after (word_of octets le) not_last))
+            (below_read most word octets after (stack_at most after) low (omega (arith, not_last)) is (stack_spells most after (λ i. omega (arith, get_or-drop 4 octets i 0, small (4 + i)))))
+      ]
 ]
 
 pub found_from : (bytes : List ℕ) (result : Result (ArrayVec Label 8 (Unit {0})) StackFault) → AreOctets bytes → Gives (read_entries bytes) result (stack_at 8 bytes)

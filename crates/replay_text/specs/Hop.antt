@@ -4,7 +4,8 @@ use Rattle.std.specs.List.{list_any}
 use Rattle.std.specs.Str.{bytes_eq}
 use Rattle.wire_base.specs.declared.bsl.Bsl.{Bsl}
 use Rattle.wire_base.specs.model.Place.{bits_of, bsl_with}
-use Rattle.bier_bits.specs.Any.{any_of}
+use Rattle.wire_base.specs.model.BitSet.{IsWithin}
+use Rattle.bier_bits.specs.Any.{any_of, bsl_of, positions_of}
 use Rattle.replay_text.specs.declared.fault.TextFault.{TextFault}
 use Rattle.replay_text.specs.declared.fault.TextFault.TheVariants.{Word, Number, Name, LineLong}
 use Rattle.replay_text.specs.declared.hop.HopRow.{HopRow}
@@ -91,3 +92,11 @@ hop_line text state =
   if nat_lt 16384 (length text) then Err LineLong else
   if is_comment text then Ok line.Empty else
   line_of_words state (words_of text)
+
+-- A packet's ids ascend from 1 to the length of its bit string.
+abbrev pub IsOrdered : HopLine → Type 0
+IsOrdered line.Empty = Unit {0}
+IsOrdered (line.Length bsl) = Unit {0}
+IsOrdered (line.Own own) = Unit {0}
+IsOrdered (line.Row row) = Unit {0}
+IsOrdered (line.Packet bits) = IsWithin 0 (bits_of (bsl_of bits)) (positions_of bits)

@@ -153,6 +153,7 @@ fn is_comment(line: &[u8]) -> bool
 #[tactic(auto, unfolding(crate::specs::Hop::hop_line))]
 pub fn read_hop_line(alloc: Global, line: &[u8], state: &HopState) -> Result<HopLine, TextFault>
     ensures value { Gives (λ x. x) result (hop.hop_line line.now state.now) }
+    ensures ordered { IfOk result hop.IsOrdered }
 {
     if line.len() > LINE_LIMIT {
         return Err(TextFault::LineLong);

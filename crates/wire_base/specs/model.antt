@@ -2,6 +2,7 @@
 pub mod BierHeader
 pub mod BierInfo
 pub mod BitSet
+pub mod Capture
 pub mod Checksum
 pub mod Choice
 pub mod Configuration

@@ -73,13 +73,17 @@ header_octets h = big_bytes 4 (first_word h) ++ (big_bytes 4 (second_word h) ++ 
 abbrev pub word_of : List ℕ → ℕ → ℕ
 word_of octets at = big_number 4 (drop at octets)
 
--- whether the nibble is wrong: behind a label it is 5 (RFC 8296, 2.1.2), and without MPLS it isn't looked at
-abbrev pub has_wrong_nibble : Kind → List ℕ → Bool
-has_wrong_nibble Mpls octets = not (word_of octets 4 / 2 ^ 28 == 5)
-has_wrong_nibble Configured octets = false
+-- whether the second number has a wrong nibble: behind a label it is 5 (RFC 8296, 2.1.2), and without MPLS it isn't looked at
+abbrev pub has_wrong_nibble : Kind → ℕ → Bool
+has_wrong_nibble Mpls word = not (word / 2 ^ 28 == 5)
+has_wrong_nibble Configured word = false
 
-abbrev pub version_of : List ℕ → ℕ
-version_of octets = word_of octets 4 / 2 ^ 24 % 2 ^ 4
+-- the version and the code in the second number
+abbrev pub version_of : ℕ → ℕ
+version_of word = word / 2 ^ 24 % 2 ^ 4
+
+abbrev pub bsl_code_of : ℕ → ℕ
+bsl_code_of word = word / 2 ^ 20 % 2 ^ 4
 
 -- the fields of the octets at the front, with a BitString of that length
 abbrev pub fields_of : Bsl → List ℕ → BierHeader
@@ -89,7 +93,7 @@ fields_of bsl octets = record {
   s = word_of octets 0 / 2 ^ 8 % 2 == 1;
   ttl = word_of octets 0 % 2 ^ 8;
   nibble = word_of octets 4 / 2 ^ 28;
-  bsl_code = word_of octets 4 / 2 ^ 20 % 2 ^ 4;
+  bsl_code = bsl_code_of (word_of octets 4);
   entropy = word_of octets 4 % 2 ^ 20;
   oam = word_of octets 8 / 2 ^ 30;
   rsv = word_of octets 8 / 2 ^ 28 % 2 ^ 2;
@@ -104,8 +108,8 @@ fields_of bsl octets = record {
 unfoldable pub header_at : Kind → Bsl → List ℕ → Result BierHeader HeadFault
 header_at kind bsl octets =
     if nat_lt (length octets) (header_length bsl) then Err Short else
-    if has_wrong_nibble kind octets then Err Nibble else
-    if not (version_of octets == 0) then Err Version else
+    if has_wrong_nibble kind (word_of octets 4) then Err Nibble else
+    if not (version_of (word_of octets 4) == 0) then Err Version else
     Ok (fields_of bsl octets)
 
 -- the same where the length is the one with that code
@@ -117,6 +121,6 @@ coded_at (Some bsl) octets = if nat_lt (length octets) (header_length bsl) then 
 unfoldable pub coded_header_at : Kind → List ℕ → Result BierHeader HeadFault
 coded_header_at kind octets =
     if nat_lt (length octets) 12 then Err Short else
-    if has_wrong_nibble kind octets then Err Nibble else
-    if not (version_of octets == 0) then Err Version else
-    coded_at (bsl_coded (word_of octets 4 / 2 ^ 20 % 2 ^ 4)) octets
+    if has_wrong_nibble kind (word_of octets 4) then Err Nibble else
+    if not (version_of (word_of octets 4) == 0) then Err Version else
+    coded_at (bsl_coded (bsl_code_of (word_of octets 4))) octets

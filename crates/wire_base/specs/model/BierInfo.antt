@@ -1,5 +1,5 @@
 -- BIER Info, the value of a sub-TLV 32 of an entry of TLV 135 (RFC 8401, 6.1 and 6.2).
-use Rattle.std.specs.Prelude.{◌≡◌, ℕ, zero, suc, ◌+◌, ◌-◌, ◌*◌, ◌/◌, ◌%◌, ◌^◌, ◌<◌, ◌≤◌, Bool, true, false, not, ◌&&◌, ◌||◌, List, [], ◌∷◌, ◌++◌, length, drop, replicate, slice_index, get_or, set, Option, Some, None, Result, Ok, Err, nat_lt, nat_le, ◌==◌, slice_get, IsSomeAnd, if◌then◌else◌}
+use Rattle.std.specs.Prelude.{◌≡◌, ℕ, zero, suc, ◌+◌, ◌-◌, ◌*◌, ◌/◌, ◌%◌, ◌^◌, ◌<◌, ◌≤◌, Bool, true, false, not, ◌&&◌, ◌||◌, List, [], ◌∷◌, ◌++◌, length, map, drop, replicate, slice_index, get_or, set, Option, Some, None, Result, Ok, Err, nat_lt, nat_le, ◌==◌, slice_get, IsSomeAnd, if◌then◌else◌}
 use Rattle.std.specs.List.{flat_map, filter_map, list_any, AllByRecursion}
 use Rattle.byteorder.specs.Endian.{big_bytes, big_number}
 use Rattle.wire_base.specs.declared.faults.TlvFault.{TlvFault}
@@ -41,25 +41,17 @@ pub record RangeFits (r : LabelRange) : Type 0 where
   pub max_si : r.max_si < 256
   pub last : r.label + r.max_si ≤ 1048575
 
--- The lengths of ranges differ from one another, and from those that have come.
-abbrev pub AreNew : List Bool → List LabelRange → Type 0
-AreNew seen [] = Unit {0}
-AreNew seen (r ∷ rs) = (get_or seen (code_of r.bsl - 1) false ≡ false) × AreNew (set seen (code_of r.bsl - 1) true) rs
-
--- which of the seven lengths have come, and the ranges that count
-pub record Parts : Type 0 where
-  pub seen : List Bool
-  pub ranges : List LabelRange
-
-abbrev pub no_parts : Parts
-no_parts = record { seen = replicate 7 false; ranges = [] }
+-- no two of the lengths are the same
+abbrev pub AreApart : List Bsl → Type 0
+AreApart [] = Unit {0}
+AreApart (b ∷ bs) = AllByRecursion (λ c. c ≡ b → ⊥) bs × AreApart bs
 
 pub record InfoFits (i : Info) : Type 0 where
   pub sd : i.sd < 256
   pub id : i.id < 256 ^ 2
   pub few : length i.ranges ≤ 7
   pub each : AllByRecursion RangeFits i.ranges
-  pub apart : AreNew no_parts.seen i.ranges
+  pub apart : AreApart (map (λ r. r.bsl) i.ranges)
 
 -- ---- the grammar: what a reader lets stand beside the spelling is other sub-sub-TLVs
 
@@ -82,11 +74,6 @@ length_named t = if is_range t then word_bsl (big_number 4 t.value) else None
 abbrev pub range_given : Tlv → Option LabelRange
 range_given t = if is_range t then range_with (word_bsl (big_number 4 t.value)) (big_number 4 t.value) else None
 
--- no two of the lengths are the same
-abbrev pub AreApart : List Bsl → Type 0
-AreApart [] = Unit {0}
-AreApart (b ∷ bs) = AllByRecursion (λ c. c ≡ b → ⊥) bs × AreApart bs
-
 abbrev pub IsFour : Tlv → Type 0
 IsFour t = is_range t ≡ true → length t.value ≡ 4
 
@@ -101,6 +88,14 @@ pub record IsInfo (value : List ℕ) (i : Info) : Type 0 where
   pub ranges : i.ranges ≡ filter_map range_given parts
 
 -- ---- reading
+
+-- which of the seven lengths have come, and the ranges that count
+pub record Parts : Type 0 where
+  pub seen : List Bool
+  pub ranges : List LabelRange
+
+abbrev pub no_parts : Parts
+no_parts = record { seen = replicate 7 false; ranges = [] }
 
 abbrev pub take_known : Parts → Bsl → ℕ → Result Parts InfoFault
 take_known p bsl word =

@@ -1,4 +1,4 @@
-use Rattle.std.proofs.Common.{◌≡◌, ◌++◌, ap, ◌∙◌, List, ℕ, drop, length, arith}
+use Rattle.std.proofs.Common.{◌++◌, ap, ◌∙◌, List, ℕ, drop, arith}
 use Rattle.link_frame.proofs.Frames.{head_again, head_source}
 use Rattle.link_frame.proofs.frame.write_eth.Goals as goal
 

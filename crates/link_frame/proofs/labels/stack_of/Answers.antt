@@ -1,6 +1,5 @@
-use Rattle.std.proofs.Common.{◌≡◌, ◌∙◌, ◌-◌, ◌+◌, Ok, sym, ap, arith}
+use Rattle.std.proofs.Common.{◌∙◌, Ok, ap, arith}
 use Rattle.std.proofs.lemmas.Result.{err_from_is_err_and}
-use Rattle.wire_base.specs.model.Labels.{stack_at}
 use Rattle.link_frame.proofs.Stacks.{ends, bottom, more, full, rest_after}
 use Rattle.link_frame.specs.Stacks.{entries}
 use Rattle.link_frame.proofs.labels.stack_of.Goals as goal
@@ -13,8 +12,10 @@ returns-in_err-word c =
 pub returns-then-word-eq1 : goal.returns-then-word-eq1
 returns-then-word-eq1 c =
     let rest = rest_after c.args.bytes.now c.entry.rest.now c.in_ok-word.after.now c.entry.labels.items c.push.new.self.items c.label_from.result c.in_ok-word.word c.entry.invariant.rest c.in_ok-word.ensures c.push.ensures.items in
-    record { exact = bottom c.entry.labels.items c.push.new.self.items c.label_from.result c.in_ok-word.word c.entry.rest.now c.in_ok-word.after.now c.args.bytes.now (omega (arith, c.entry-test.true, c.len.ensures)) c.entry.invariant.read c.in_ok-word.ensures c.label_from.ensures c.push.ensures.items c.if-word-eq1.true
-      ∙ ap (λ l. Ok (entries c.push.new.self.items, l)) rest }
+    record {
+      exact = bottom c.entry.labels.items c.push.new.self.items c.label_from.result c.in_ok-word.word c.entry.rest.now c.in_ok-word.after.now c.args.bytes.now (omega (arith, c.entry-test.true, c.len.ensures)) c.entry.invariant.read c.in_ok-word.ensures c.label_from.ensures c.push.ensures.items c.if-word-eq1.true
+          ∙ ap (λ l. Ok (entries c.push.new.self.items, l)) rest;
+    }
 
 pub entry-preserved : goal.entry-preserved
 entry-preserved c = record {

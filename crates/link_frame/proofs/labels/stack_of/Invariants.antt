@@ -1,4 +1,4 @@
-use Rattle.std.proofs.Common.{◌≡◌, ◌≤◌, ◌*◌, ◌-◌, length, drop}
+use Rattle.std.proofs.Common.{◌≡◌, ◌*◌, ◌-◌, length, drop}
 use Rattle.wire_base.specs.model.Labels.{below, stack_at}
 use Rattle.link_frame.specs.Stacks.{entries}
 use Rattle.link_frame.proofs.labels.stack_of.Given as goal

@@ -1,0 +1,129 @@
+ghost use Rattle.std.specs.Prelude.{◌≡◌, ◌≤◌, ◌++◌, ℕ, List, length, take, Ok, IfOk};
+ghost use Rattle.wire_base.specs.declared.conf.Kind.TheVariants as kinds;
+ghost use Rattle.wire_base.specs.model.Fields.{Gives};
+ghost use Rattle.wire_base.specs.model.Place.{code_of};
+ghost use Rattle.wire_base.specs.model.BierHeader.{BierHeader, IsHeader, header_length, header_octets, header_at, coded_header_at, fields_of, has_wrong_nibble};
+ghost use Rattle.bier_bits.specs.Any.{bsl_of};
+ghost use Rattle.bier_head.specs.Views.{header_of};
+
+use crate::header::Header;
+use bier_bits::AnyBits;
+use wire_base::fields::word_at;
+use wire_base::{Bsl, HeadFault, Kind};
+
+/// The header at the front of octets, of a packet of that kind whose BIFT-id gives the length of BitStrings (RFC 8296,
+/// 2.1 and 2.2). What follows the header isn't read, and the header's own code of a length isn't tested.
+///
+/// # Errors
+///
+/// The first of these that holds: `Short` where there are fewer octets than the 12 and the BitString's, `Nibble` where
+/// the packet stands behind a label and its nibble isn't 5, and `Version` where the version isn't 0.
+pub fn read_header(kind: Kind, bsl: Bsl, bytes: &[u8]) -> Result<Header, HeadFault>
+    ensures exact { Gives header_of result (header_at kind bsl bytes.now) }
+    ensures found { IfOk result (λ h. IsHeader (header_of h) × (take (header_length bsl) bytes.now ≡ header_octets (header_of h))) }
+    ensures length { IfOk result (λ h. bsl_of h.bits ≡ bsl) }
+    ensures only { (h : BierHeader) (rest : List ℕ) → IsHeader h → h.bsl ≡ bsl → (kind ≡ kinds.Mpls → h.nibble ≡ 5)
+        → bytes.now ≡ header_octets h ++ rest → Gives header_of result (Ok h) }
+{
+    header_with(kind, bsl, bytes)
+}
+
+/// The header at the front of octets, of a packet of that kind, whose own code gives the length of its BitString: for a
+/// reader that has no table of BIFT-ids (RFC 8296, 2.1.2).
+///
+/// # Errors
+///
+/// The first of these that holds: `Short` where there are fewer than 12 octets, `Nibble` where the packet stands behind a
+/// label and its nibble isn't 5, `Version` where the version isn't 0, `BslCode` where the code is that of no length, and
+/// `Short` where the octets end before the BitString does.
+pub fn read_by_field(kind: Kind, bytes: &[u8]) -> Result<Header, HeadFault>
+    ensures exact { Gives header_of result (coded_header_at kind bytes.now) }
+    ensures found { IfOk result (λ h. IsHeader (header_of h) × (take (header_length (bsl_of h.bits)) bytes.now ≡ header_octets (header_of h))) }
+    ensures code { IfOk result (λ h. code_of (bsl_of h.bits) ≡ h.bsl_code) }
+    ensures only { (h : BierHeader) (rest : List ℕ) → IsHeader h → code_of h.bsl ≡ h.bsl_code → (kind ≡ kinds.Mpls → h.nibble ≡ 5)
+        → bytes.now ≡ header_octets h ++ rest → Gives header_of result (Ok h) }
+{
+    header_by_field(kind, bytes)
+}
+
+// How many octets a header with a BitString of that length has.
+pub(crate) fn octets_with(bsl: Bsl) -> usize
+    ensures { result ≡ header_length bsl }
+{
+    12 + usize::from(bsl.bits() / 8)
+}
+
+// Whether the second number has a nibble that a header of this kind can't have.
+fn wrong_nibble(kind: Kind, second: u32) -> bool
+    ensures { result ≡ has_wrong_nibble kind second }
+{
+    match kind {
+        Kind::Mpls => second / 0x1000_0000 != 5,
+        Kind::Configured => false,
+    }
+}
+
+#[tactic(auto, unfolding(wire_base::specs::model::BierHeader::header_at))]
+fn header_with(kind: Kind, bsl: Bsl, bytes: &[u8]) -> Result<Header, HeadFault>
+    ensures { Gives header_of result (header_at kind bsl bytes.now) }
+{
+    if bytes.len() < octets_with(bsl) {
+        return Err(HeadFault::Short);
+    }
+    let second = word_at(bytes, 4);
+    if wrong_nibble(kind, second) {
+        return Err(HeadFault::Nibble);
+    }
+    if second / 0x100_0000 % 16 != 0 {
+        return Err(HeadFault::Version);
+    }
+    Ok(fields(bsl, bytes))
+}
+
+#[tactic(auto, unfolding(wire_base::specs::model::BierHeader::coded_header_at))]
+fn header_by_field(kind: Kind, bytes: &[u8]) -> Result<Header, HeadFault>
+    ensures { Gives header_of result (coded_header_at kind bytes.now) }
+{
+    if bytes.len() < 12 {
+        return Err(HeadFault::Short);
+    }
+    let second = word_at(bytes, 4);
+    if wrong_nibble(kind, second) {
+        return Err(HeadFault::Nibble);
+    }
+    if second / 0x100_0000 % 16 != 0 {
+        return Err(HeadFault::Version);
+    }
+    let Some(bsl) = Bsl::from_code((second / 0x10_0000 % 16) as u8) else {
+        return Err(HeadFault::BslCode);
+    };
+    if bytes.len() < octets_with(bsl) {
+        return Err(HeadFault::Short);
+    }
+    Ok(fields(bsl, bytes))
+}
+
+// The header at the front, no rule being tested.
+fn fields(bsl: Bsl, bytes: &[u8]) -> Header
+    requires { header_length bsl ≤ length bytes.now }
+    ensures { header_of result ≡ fields_of bsl bytes.now }
+{
+    let first = word_at(bytes, 0);
+    let second = word_at(bytes, 4);
+    let third = word_at(bytes, 8);
+    Header {
+        bift: first / 0x1000,
+        tc: (first / 0x200 % 8) as u8,
+        s: first / 0x100 % 2 == 1,
+        ttl: (first % 0x100) as u8,
+        nibble: (second / 0x1000_0000) as u8,
+        entropy: second % 0x10_0000,
+        oam: (third / 0x4000_0000) as u8,
+        rsv: (third / 0x1000_0000 % 4) as u8,
+        dscp: (third / 0x40_0000 % 64) as u8,
+        proto: (third / 0x1_0000 % 64) as u8,
+        bfir: (third % 0x1_0000) as u16,
+        bsl_code: (second / 0x10_0000 % 16) as u8,
+        bits: AnyBits::read(bsl, &bytes[12..octets_with(bsl)]),
+    }
+}

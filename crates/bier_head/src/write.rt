@@ -1,0 +1,67 @@
+ghost use Rattle.std.specs.Prelude.{◌≡◌, ◌≤◌, ◌++◌, ℕ, List, length, Ok};
+ghost use Rattle.wire_base.specs.declared.conf.Kind.{Kind};
+ghost use Rattle.wire_base.specs.declared.conf.Kind.TheVariants as kinds;
+ghost use Rattle.wire_base.specs.model.Place.{code_of};
+ghost use Rattle.wire_base.specs.model.BierHeader.{BierHeader, FieldsFit, IsHeader, header_length, header_octets, header_at, coded_header_at, first_word, second_word, third_word};
+ghost use Rattle.bier_bits.specs.Any.{bsl_of};
+ghost use Rattle.bier_head.specs.Views.{header_of};
+
+use crate::header::Header;
+use byteorder::{BigEndian, ByteOrder};
+
+/// Writes a header (RFC 8296, 2.1 and 2.2) over all of `out`, which has as many octets as the header: 12 and those of the
+/// BitString. Each number fits its field. What is written is read again, whatever follows it, and no other header is
+/// written so.
+pub fn write_header(h: &Header, out: &mut [u8])
+    requires room { length out.old ≡ header_length (bsl_of h.now.bits) }
+    requires fits { FieldsFit (header_of h.now) }
+    ensures octets { out.new ≡ header_octets (header_of h.now) }
+    ensures again { (kind : Kind) (rest : List ℕ) → (kind ≡ kinds.Mpls → h.now.nibble ≡ 5)
+        → header_at kind (bsl_of h.now.bits) (out.new ++ rest) ≡ Ok (header_of h.now) }
+    ensures again_by_field { (kind : Kind) (rest : List ℕ) → (kind ≡ kinds.Mpls → h.now.nibble ≡ 5) → code_of (bsl_of h.now.bits) ≡ h.now.bsl_code
+        → coded_header_at kind (out.new ++ rest) ≡ Ok (header_of h.now) }
+    ensures only { (other : BierHeader) → IsHeader other → out.new ≡ header_octets other → other ≡ header_of h.now }
+{
+    let _bsl = h.bits.bsl();
+    write_words(h, out);
+}
+
+// Writes the three numbers and the BitString.
+fn write_words(h: &Header, out: &mut [u8])
+    requires room { length out.old ≡ header_length (bsl_of h.now.bits) }
+    requires fits { FieldsFit (header_of h.now) }
+    ensures { out.new ≡ header_octets (header_of h.now) }
+{
+    BigEndian::write_u32(out, first_number(h));
+    BigEndian::write_u32(&mut out[4..], second_number(h));
+    BigEndian::write_u32(&mut out[8..], third_number(h));
+    h.bits.to_be_bytes(&mut out[12..]);
+}
+
+// BIFT-id, traffic class, S and TTL.
+fn first_number(h: &Header) -> u32
+    requires { FieldsFit (header_of h.now) }
+    ensures { result ≡ first_word (header_of h.now) }
+{
+    h.bift * 0x1000 + u32::from(h.tc) * 0x200 + u32::from(h.s) * 0x100 + u32::from(h.ttl)
+}
+
+// Nibble, version 0, the code of a length, and entropy.
+fn second_number(h: &Header) -> u32
+    requires { FieldsFit (header_of h.now) }
+    ensures { result ≡ second_word (header_of h.now) }
+{
+    u32::from(h.nibble) * 0x1000_0000 + u32::from(h.bsl_code) * 0x10_0000 + h.entropy
+}
+
+// OAM, reserved bits, DSCP, protocol and BFIR-id.
+fn third_number(h: &Header) -> u32
+    requires { FieldsFit (header_of h.now) }
+    ensures { result ≡ third_word (header_of h.now) }
+{
+    u32::from(h.oam) * 0x4000_0000
+        + u32::from(h.rsv) * 0x1000_0000
+        + u32::from(h.dscp) * 0x40_0000
+        + u32::from(h.proto) * 0x1_0000
+        + u32::from(h.bfir)
+}

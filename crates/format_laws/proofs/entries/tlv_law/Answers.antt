@@ -1,0 +1,13 @@
+use Rattle.std.proofs.Common.{[], ℕ, List, ap, sym, ◌∙◌, ◌++◌, ◌≡◌}
+use Rattle.wire_base.specs.model.Tlv.{Tlv, tlv, tlv_at}
+use Rattle.format_laws.proofs.TlvLaws.{tlv_again, tlv_parts, tlv_once}
+use Rattle.format_laws.proofs.entries.tlv_law.Goals as goal
+
+pub returns-clause-again : goal.returns-clause-again
+returns-clause-again c = tlv_again
+
+pub returns-clause-read : goal.returns-clause-read
+returns-clause-read c = tlv_parts
+
+pub returns-clause-one : goal.returns-clause-one
+returns-clause-one c = tlv_once

@@ -1,0 +1,36 @@
+//! TLVs and the entries of the TLVs 22, 135 and 9.
+ghost use Rattle.std.specs.Prelude.{◌≡◌, ◌++◌, ℕ, List, Ok, Some};
+ghost use Rattle.wire_base.specs.model.Fields.{AreOctets};
+ghost use Rattle.wire_base.specs.model.Tlv.{Tlv, TlvFits, tlv, tlv_at, Reach, ReachFits, reach, reach_at, Prefix, PrefixFits, prefix, prefix_at, SummaryFits, row, row_at};
+ghost use Rattle.wire_base.specs.declared.triple.Summary.{Summary};
+
+/// TLVs (ISO/IEC 10589, 9.8).
+pub fn tlv_law()
+    // What is spelled so is read again, whatever follows it.
+    ensures again { (t : Tlv) (rest : List ℕ) → tlv_at (tlv t ++ rest) ≡ Ok (Some (t, rest)) }
+    // What is read is spelled so.
+    ensures read { (octets : List ℕ) (t : Tlv) (rest : List ℕ) → tlv_at octets ≡ Ok (Some (t, rest)) → octets ≡ tlv t ++ rest }
+    // TLVs that are spelled alike are one.
+    ensures one { (a b : Tlv) → tlv a ≡ tlv b → a ≡ b }
+{}
+
+/// Entries of TLV 22 (RFC 5305, 3).
+pub fn reach_law()
+    ensures again { (r : Reach) (rest : List ℕ) → ReachFits r → reach_at (reach r ++ rest) ≡ Ok (r, rest) }
+    ensures read { (octets : List ℕ) (r : Reach) (rest : List ℕ) → AreOctets octets → reach_at octets ≡ Ok (r, rest) → ReachFits r × (octets ≡ reach r ++ rest) }
+    ensures one { (a b : Reach) → ReachFits a → ReachFits b → reach a ≡ reach b → a ≡ b }
+{}
+
+/// Entries of TLV 135 (RFC 5305, 4).
+pub fn prefix_law()
+    ensures again { (p : Prefix) (rest : List ℕ) → PrefixFits p → prefix_at (prefix p ++ rest) ≡ Ok (p, rest) }
+    ensures read { (octets : List ℕ) (p : Prefix) (rest : List ℕ) → AreOctets octets → prefix_at octets ≡ Ok (p, rest) → PrefixFits p × (octets ≡ prefix p ++ rest) }
+    ensures one { (a b : Prefix) → PrefixFits a → PrefixFits b → prefix a ≡ prefix b → a ≡ b }
+{}
+
+/// Entries of TLV 9 (ISO/IEC 10589, 9.10).
+pub fn row_law()
+    ensures again { (s : Summary) (rest : List ℕ) → SummaryFits s → row_at (row s ++ rest) ≡ Ok (s, rest) }
+    ensures read { (octets : List ℕ) (s : Summary) (rest : List ℕ) → AreOctets octets → row_at octets ≡ Ok (s, rest) → SummaryFits s × (octets ≡ row s ++ rest) }
+    ensures one { (a b : Summary) → SummaryFits a → SummaryFits b → row a ≡ row b → a ≡ b }
+{}

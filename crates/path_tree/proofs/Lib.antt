@@ -1,0 +1,4 @@
+mod QueueLemmas
+mod RelaxLemmas
+mod SettleLemmas
+mod SkipLemmas

@@ -1,0 +1,8 @@
+-- The order in which a search takes nodes: the one with the least length first.
+use Rattle.std.specs.Prelude.{ℕ, List, map}
+use Rattle.std.specs.declared.cmp.Ordering.{Ordering}
+use Rattle.std.specs.Ordering.{nat_cmp, ordering_then}
+use Rattle.std.specs.declared.cmp.Reverse.{Reverse}
+
+abbrev pub entry_cmp : Reverse (ℕ × ℕ) → Reverse (ℕ × ℕ) → Ordering
+entry_cmp a b = ordering_then (nat_cmp b.0.0 a.0.0) (nat_cmp b.0.1 a.0.1)

@@ -1,0 +1,53 @@
+//! The nodes that wait in a search.
+ghost use Rattle.std.specs.Prelude.{◌≡◌, ◌≤◌, ◌∷◌, [], All, IfSome, IfNone, OnOk};
+ghost use Rattle.std.specs.List.Sorted.{IsPermutation};
+
+use std::alloc::Global;
+use std::cmp::Reverse;
+use std::collections::BinaryHeap;
+use std::marker::Model;
+use wire_base::M;
+
+/// Entries of a length and a node, of which the one with the least length comes first.
+#[derive(Drop)]
+pub(crate) struct Queue {
+    heap: BinaryHeap<Reverse<(u64, u16)>>,
+}
+
+impl Model for Queue {
+    ghost use Rattle.std.specs.Prelude.{List, ℕ, map};
+    ghost use Rattle.std.specs.BinaryHeap.{heap_items, IsHeap};
+    ghost use Rattle.path_tree.specs.Queue.{entry_cmp};
+
+    ghost Value = { List (ℕ × ℕ) };
+
+    ghost view = { λ q. map (λ r. r.0) (heap_items q.heap) };
+
+    ghost invariant = { λ q. IsHeap entry_cmp (heap_items q.heap) };
+}
+
+impl Queue {
+    pub(crate) fn new(alloc: Global) -> Self
+        ensures { result ≡ [] }
+    {
+        Queue {
+            heap: BinaryHeap::new(alloc),
+        }
+    }
+
+    pub(crate) fn push(&mut self, length: u64, node: u16) -> M<()>
+        ensures { OnOk result (IsPermutation ((length, node) ∷ self.old) self.new) }
+    {
+        self.heap.push(Reverse((length, node)))?;
+        Ok(())
+    }
+
+    pub(crate) fn pop(&mut self) -> Option<(u64, u16)>
+        ensures some { IfSome result (λ e. IsPermutation self.old (e ∷ self.new)) }
+        ensures least { IfSome result (λ e. All (λ other. e.0 ≤ other.0) self.new) }
+        ensures none { IfNone result (self.old ≡ []) }
+    {
+        let entry = self.heap.pop()?;
+        Some(entry.0)
+    }
+}

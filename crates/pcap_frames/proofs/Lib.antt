@@ -1,0 +1,3 @@
+pub mod Drained
+pub mod Ends
+pub mod Grows

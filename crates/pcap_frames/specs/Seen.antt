@@ -1,0 +1,86 @@
+-- How contracts see a reader and its records.
+use Rattle.std.specs.Prelude.{◌≡◌, ◌≤◌, ◌-◌, nat_lt, if◌then◌else◌, ℕ, Bool, List, length, drop, Result, Ok, Err, Option, Some, None, ◌⊎◌, option_map}
+use Rattle.wire_base.specs.declared.faults.CaptureFault.{CaptureFault}
+use Rattle.wire_base.specs.declared.faults.CaptureFault.TheVariants as faults
+use Rattle.wire_base.specs.model.Capture.{CaptureForm, CaptureRecord, Stage, HeaderToCome, HeaderRead, Refused, Reading}
+use Rattle.pcap_frames.specs.declared.header.Form.{Form}
+use Rattle.pcap_frames.specs.declared.record.CapRecord.{CapRecord}
+use Rattle.pcap_frames.specs.declared.reader.Step.{Step}
+use Rattle.pcap_frames.specs.declared.reader.Step.TheVariants as steps
+
+abbrev pub form_seen : Form → CaptureForm
+form_seen form = record { low_first = form.low_first; nanoseconds = form.nanoseconds }
+
+abbrev pub record_seen : CapRecord → CaptureRecord
+record_seen read = record { sec = read.sec; usec = read.usec; whole = read.whole; octets = read.octets }
+
+abbrev pub stage_seen : Step → Stage
+stage_seen steps.Header = HeaderToCome
+stage_seen (steps.Records form) = HeaderRead (form_seen form)
+stage_seen (steps.Refused fault) = Refused fault
+
+-- What a call that takes memory returned, seen by view, is what reading gives; want of memory may come in its place.
+abbrev pub Answers : {X Y : Type 0} → (X → Y) → Result X CaptureFault → Result Y CaptureFault → Type 0
+Answers view (Ok x) read = read ≡ Ok (view x)
+Answers view (Err faults.Memory) read = Unit {0}
+Answers view (Err faults.Magic) read = read ≡ Err faults.Magic
+Answers view (Err faults.Version) read = read ≡ Err faults.Version
+Answers view (Err faults.LinkType) read = read ≡ Err faults.LinkType
+Answers view (Err faults.CutHeader) read = read ≡ Err faults.CutHeader
+Answers view (Err faults.CutRecord) read = read ≡ Err faults.CutRecord
+Answers view (Err faults.LongRecord) read = read ≡ Err faults.LongRecord
+
+-- what stands after an answer: after want of memory all is as before
+abbrev pub after_answer : {X Y : Type 0} → Result X CaptureFault → Y → Y → Y
+after_answer (Ok x) before now = now
+after_answer (Err faults.Memory) before now = before
+after_answer (Err faults.Magic) before now = now
+after_answer (Err faults.Version) before now = now
+after_answer (Err faults.LinkType) before now = now
+after_answer (Err faults.CutHeader) before now = now
+after_answer (Err faults.CutRecord) before now = now
+after_answer (Err faults.LongRecord) before now = now
+
+-- a fault that stays, once a reader has met it
+abbrev pub IsLasting : CaptureFault → Type 0
+IsLasting fault = (fault ≡ faults.Memory) → ⊥
+
+-- the form, and the octets after the header
+abbrev pub opened : List ℕ → Option Form → Option (CaptureForm × List ℕ)
+opened octets = option_map (λ form. (form_seen form, drop 24 octets))
+
+-- the record, and the octets after it
+abbrev pub taken : List ℕ → Option (CapRecord × ℕ) → Option (CaptureRecord × List ℕ)
+taken octets = option_map (λ read. (record_seen read.0, drop read.1 octets))
+
+-- a header that was read is there
+abbrev pub HasHeader : ℕ → Option Form → Type 0
+HasHeader n (Some form) = 24 ≤ n
+HasHeader n None = Unit {0}
+
+-- a record that was read lies in so many octets
+abbrev pub IsWithin : ℕ → Option (CapRecord × ℕ) → Type 0
+IsWithin n (Some (read, size)) = size ≤ n
+IsWithin n None = Unit {0}
+
+-- a reader's fault stays
+abbrev pub IsKept : Step → Type 0
+IsKept steps.Header = Unit {0}
+IsKept (steps.Records form) = Unit {0}
+IsKept (steps.Refused fault) = IsLasting fault
+
+-- and its place lies in its octets
+abbrev pub IsSound : Step → ℕ → List ℕ → Type 0
+IsSound step at octets = (at ≤ length octets) × IsKept step
+
+-- the fault of an answer
+abbrev pub fault_in : Result (Unit {0}) CaptureFault → Option CaptureFault
+fault_in (Ok u) = None
+fault_in (Err fault) = Some fault
+
+-- what the end makes of so many octets after the last record, and of so many before which nothing was read
+abbrev pub cut_end : ℕ → Option CaptureFault
+cut_end held = if nat_lt 0 held then Some faults.CutRecord else None
+
+abbrev pub opened_end : ℕ → Option CaptureFault
+opened_end held = if nat_lt held 24 then Some faults.CutHeader else cut_end (held - 24)

@@ -1,0 +1,11 @@
+//! Capture files of the libpcap format: records out of octets that come in any pieces, and records as octets.
+#![tactic(auto)]
+
+mod header;
+mod reader;
+mod record;
+mod write;
+
+pub use reader::Reader;
+pub use record::CapRecord;
+pub use write::{write_cap_header, write_cap_record};

@@ -1,0 +1,175 @@
+//! A reader of a capture file whose octets come in pieces.
+ghost use Rattle.std.specs.Prelude.{◌≡◌, ◌≤◌, ℕ, List, length, drop, OnOk, OnErr, Ok, None, option_map};
+ghost use Rattle.std.specs.List.{concat};
+ghost use Rattle.wire_base.specs.model.Capture.{Reading, unread, fed, drained, read_pieces, next_of, by_header, by_record, header_at, record_at, end_of, HeaderToCome};
+ghost use Rattle.pcap_frames.specs.Seen.{form_seen, record_seen, Answers, after_answer, fault_in, opened_end, cut_end};
+
+use crate::header::{Form, HEADER, read_header};
+use crate::record::{CapRecord, read_record};
+use std::alloc::Global;
+use std::marker::Model;
+use wire_base::{CaptureFault, M};
+
+/// Where a reader stands: before the header, at a record, or at a fault, which stays.
+#[derive(Clone, Copy, Debug, PartialEq, Eq)]
+enum Step {
+    Header,
+    Records(Form),
+    Refused(CaptureFault),
+}
+
+/// A reader of a capture file. It is fed the file in any pieces, and gives each record as soon as it is whole. It holds
+/// what it was fed and has not yet given out, and at most as many octets more.
+#[derive(Drop)]
+pub struct Reader {
+    step: Step,
+    bytes: Vec<u8>,
+    at: usize,
+}
+
+impl Model for Reader {
+    ghost use Rattle.std.specs.Prelude.{◌≤◌, length, drop};
+    ghost use Rattle.wire_base.specs.model.Capture.{Reading};
+    ghost use Rattle.pcap_frames.specs.Seen.{stage_seen, IsSound};
+
+    ghost Value = { Reading };
+
+    ghost view = { λ r. record { stage = stage_seen r.step; octets = drop r.at r.bytes.items } };
+
+    ghost invariant = { λ r. IsSound r.step r.at r.bytes.items };
+}
+
+impl Reader {
+    /// A reader that was fed nothing. The records are those of all octets that it is fed, however they are cut.
+    pub fn new(alloc: Global) -> Reader
+        ensures empty { result ≡ unread }
+        ensures pieces { (pieces : List (List ℕ)) → read_pieces result pieces ≡ drained (fed result (concat pieces)) }
+    {
+        Reader {
+            step: Step::Header,
+            bytes: Vec::new(alloc),
+            at: 0,
+        }
+    }
+
+    /// Appends the next octets of the file.
+    pub fn feed(&mut self, piece: &[u8]) -> M<()>
+        ensures ok { OnOk result (self.new ≡ fed self.old piece.now) }
+        ensures err { OnErr result (self.new ≡ self.old) }
+    {
+        if self.bytes.len() - self.at <= self.at {
+            self.shift();
+        }
+        self.bytes.extend_from_slice(piece)?;
+        Ok(())
+    }
+
+    /// Moves what is left to the front. What was given out is as long at least, so that all moves together take no more
+    /// time than all octets that were fed.
+    fn shift(&mut self)
+        ensures { self.new ≡ self.old }
+    {
+        let left = self.bytes.len() - self.at;
+        self.bytes.copy_within(self.at.., 0);
+        self.bytes.truncate(left);
+        self.at = 0;
+    }
+
+    /// The next record. None exactly where what was fed has neither a further whole record nor one of these faults.
+    ///
+    /// Refuses: 1 Magic, the first four octets aren't A1B2C3D4 or A1B23C4D in either order; 2 Version, it isn't 2.4;
+    /// 3 LinkType, the low 16 bits aren't 1, for Ethernet; 6 LongRecord, a frame of more than 262,144 octets; or
+    /// Memory. After Memory the same record is still to come; any other fault is answered from then on.
+    #[tactic(auto, unfolding(wire_base::specs::model::Capture::next_of))]
+    pub fn next(&mut self) -> Result<Option<CapRecord>, CaptureFault>
+        ensures exact { Answers (option_map record_seen) result (next_of self.old).0 }
+        ensures after { self.new ≡ after_answer result self.old (next_of self.old).1 }
+    {
+        match self.step {
+            Step::Header => self.open(),
+            Step::Records(form) => self.take_record(form, 0),
+            Step::Refused(fault) => Err(fault),
+        }
+    }
+
+    /// Takes the header, which is to come, and then a record.
+    fn open(&mut self) -> Result<Option<CapRecord>, CaptureFault>
+        requires { self.old.stage ≡ HeaderToCome }
+        ensures exact { Answers (option_map record_seen) result (by_header self.old.octets (header_at self.old.octets)).0 }
+        ensures after { self.new ≡ after_answer result self.old (by_header self.old.octets (header_at self.old.octets)).1 }
+    {
+        let read = read_header(&self.bytes.as_slice()[self.at..]);
+        match read {
+            Ok(Some(form)) => self.take_record(form, HEADER),
+            Ok(None) => Ok(None),
+            Err(fault) => {
+                self.step = Step::Refused(fault);
+                Err(fault)
+            }
+        }
+    }
+
+    /// Takes a record, after octets that go first.
+    fn take_record(&mut self, form: Form, skip: usize) -> Result<Option<CapRecord>, CaptureFault>
+        requires { skip ≤ length self.old.octets }
+        ensures exact { Answers (option_map record_seen) result (by_record (form_seen form) (drop skip self.old.octets) (record_at (form_seen form) (drop skip self.old.octets))).0 }
+        ensures after { self.new ≡ after_answer result self.old (by_record (form_seen form) (drop skip self.old.octets) (record_at (form_seen form) (drop skip self.old.octets))).1 }
+    {
+        let alloc = *self.bytes.allocator();
+        let at = self.at + skip;
+        let read = read_record(alloc, form, &self.bytes.as_slice()[at..]);
+        match read {
+            Ok(Some((record, size))) => {
+                self.step = Step::Records(form);
+                self.at = at + size;
+                Ok(Some(record))
+            }
+            Ok(None) => {
+                self.step = Step::Records(form);
+                self.at = at;
+                Ok(None)
+            }
+            Err(CaptureFault::Memory) => Err(CaptureFault::Memory),
+            Err(fault) => {
+                self.step = Step::Refused(fault);
+                self.at = at;
+                Err(fault)
+            }
+        }
+    }
+
+    /// What the end of the file makes of a reader that has no further record.
+    ///
+    /// Refuses: 4 CutHeader, fewer than 24 octets were fed; 5 CutRecord, octets of a record that isn't whole are left.
+    pub fn finish(self) -> Result<(), CaptureFault>
+        requires { (next_of self).0 ≡ Ok None }
+        ensures { fault_in result ≡ end_of (next_of self).1 }
+    {
+        let held = self.bytes.len() - self.at;
+        match self.step {
+            Step::Header => end_of_header(held),
+            Step::Records(_) => end_of_records(held),
+            Step::Refused(fault) => Err(fault),
+        }
+    }
+}
+
+/// What the end makes of so many octets before which nothing was read.
+fn end_of_header(held: usize) -> Result<(), CaptureFault>
+    ensures { fault_in result ≡ opened_end held }
+{
+    if held < HEADER {
+        return Err(CaptureFault::CutHeader);
+    }
+    end_of_records(held - HEADER)
+}
+
+/// What the end makes of so many octets after the last record.
+fn end_of_records(held: usize) -> Result<(), CaptureFault>
+    ensures { fault_in result ≡ cut_end held }
+{
+    if held > 0 {
+        return Err(CaptureFault::CutRecord);
+    }
+    Ok(())
+}

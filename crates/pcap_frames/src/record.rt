@@ -1,0 +1,65 @@
+//! A record of a capture file.
+ghost use Rattle.std.specs.Prelude.{◌≡◌, ◌≤◌, ◌+◌, length, drop, take, IfOk};
+ghost use Rattle.wire_base.specs.model.Capture.{record_at, frame_at, most_captured, microseconds};
+ghost use Rattle.pcap_frames.specs.Seen.{form_seen, record_seen, taken, Answers, IsWithin};
+
+use crate::header::Form;
+use std::alloc::Global;
+use wire_base::{CaptureFault, Octets};
+
+/// The octets of a record's header.
+pub const RECORD: usize = 16;
+
+/// The most octets of a record's frame.
+const MOST_CAPTURED: u32 = 262_144;
+
+/// A frame, and when it was taken: the second and the microsecond, and whether all of the frame is there.
+#[derive(Drop)]
+pub struct CapRecord {
+    pub sec: u32,
+    pub usec: u32,
+    pub whole: bool,
+    pub octets: Octets,
+}
+
+/// The record at the front, and how many octets it takes; None where it isn't whole yet.
+#[tactic(auto, unfolding(wire_base::specs::model::Capture::record_at))]
+pub fn read_record(
+    alloc: Global,
+    form: Form,
+    bytes: &[u8],
+) -> Result<Option<(CapRecord, usize)>, CaptureFault>
+    ensures exact { Answers (taken bytes.now) result (record_at (form_seen form) bytes.now) }
+    ensures within { IfOk result (IsWithin (length bytes.now)) }
+{
+    if bytes.len() < RECORD {
+        return Ok(None);
+    }
+    let captured = form.four_at(bytes, 8);
+    if captured > MOST_CAPTURED {
+        return Err(CaptureFault::LongRecord);
+    }
+    let size = RECORD + captured as usize;
+    if bytes.len() < size {
+        return Ok(None);
+    }
+    let fraction = form.four_at(bytes, 4);
+    let record = CapRecord {
+        sec: form.four_at(bytes, 0),
+        usec: microseconds_of(form, fraction),
+        whole: captured == form.four_at(bytes, 12),
+        octets: Octets::from_slice(alloc, &bytes[RECORD..size])?,
+    };
+    Ok(Some((record, size)))
+}
+
+/// The microseconds of a fraction of a second.
+fn microseconds_of(form: Form, fraction: u32) -> u32
+    ensures { result ≡ microseconds (form_seen form) fraction }
+{
+    if form.nanoseconds {
+        fraction / 1000
+    } else {
+        fraction
+    }
+}

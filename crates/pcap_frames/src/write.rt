@@ -1,0 +1,42 @@
+//! Capture files as they are written: microseconds, the lowest octet first, version 2.4, at most 65,535 octets of a
+//! frame, Ethernet.
+ghost use Rattle.std.specs.Prelude.{◌≡◌, ◌≤◌, ◌++◌, length, OnOk, OnErr};
+ghost use Rattle.wire_base.specs.model.Capture.{written_header, written_record, octets_in, written_form};
+
+use byteorder::{ByteOrder, LittleEndian};
+use wire_base::{M, Octets};
+
+/// The header of each capture that is written.
+const WRITTEN_HEADER: [u8; 24] = [
+    0xd4, 0xc3, 0xb2, 0xa1, 0x02, 0x00, 0x04, 0x00, 0x00, 0x00, 0x00, 0x00, 0x00, 0x00, 0x00, 0x00,
+    0xff, 0xff, 0x00, 0x00, 0x01, 0x00, 0x00, 0x00,
+];
+
+/// Appends the header of a capture file.
+pub fn write_cap_header(out: &mut Octets) -> M<()>
+    ensures ok { OnOk result (out.new ≡ out.old ++ written_header) }
+    ensures err { OnErr result (out.new ≡ out.old) }
+{
+    out.append(&WRITTEN_HEADER)
+}
+
+/// Appends a record of a whole frame of at most 65,535 octets, and the second and the microsecond at which it was sent.
+pub fn write_cap_record(out: &mut Octets, sec: u32, usec: u32, frame: &[u8]) -> M<()>
+    requires { length frame.now ≤ 65535 }
+    ensures ok { OnOk result (out.new ≡ out.old ++ written_record sec usec frame.now) }
+    ensures err { OnErr result (out.new ≡ out.old) }
+{
+    out.append_two(&record_head(sec, usec, frame.len() as u32), frame)
+}
+
+/// The 16 octets before a frame of so many octets.
+fn record_head(sec: u32, usec: u32, captured: u32) -> [u8; 16]
+    ensures { result ≡ octets_in written_form 4 sec ++ (octets_in written_form 4 usec ++ (octets_in written_form 4 captured ++ octets_in written_form 4 captured)) }
+{
+    let mut head = [0; 16];
+    LittleEndian::write_u32(&mut head[0..], sec);
+    LittleEndian::write_u32(&mut head[4..], usec);
+    LittleEndian::write_u32(&mut head[8..], captured);
+    LittleEndian::write_u32(&mut head[12..], captured);
+    head
+}

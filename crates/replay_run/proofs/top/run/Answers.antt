@@ -1,0 +1,21 @@
+use Rattle.std.proofs.Common.{sym, ◌∙◌}
+use Rattle.replay_run.proofs.Owed.{told, hop_meets, hop_done, hop_reports, usage_meets}
+use Rattle.replay_run.proofs.top.run.Goals as goal
+
+pub returns-in-Hop-clause-some_input : goal.returns-in-Hop-clause-some_input
+returns-in-Hop-clause-some_input g c decided = hop_meets _ (g.D.Source.left c.args.conf.now) (g.S.Source.left c.args.input.now) (g.R.Sink.written c.args.report.now) (g.R.Sink.written c.hop.new.report) (g.C.Sink.written c.args.frames.now) c.hop.result (sym c.form_of.ensures ∙ c.in-Hop.is) (c.hop.ensures.answer decided)
+
+pub returns-in-Hop-clause-verdict : goal.returns-in-Hop-clause-verdict
+returns-in-Hop-clause-verdict g c decided = told _ (g.D.Source.left c.args.conf.now) (g.S.Source.left c.args.input.now) _ (hop_meets _ (g.D.Source.left c.args.conf.now) (g.S.Source.left c.args.input.now) (g.R.Sink.written c.args.report.now) (g.R.Sink.written c.hop.new.report) (g.C.Sink.written c.args.frames.now) c.hop.result (sym c.form_of.ensures ∙ c.in-Hop.is) (c.hop.ensures.answer decided))
+
+pub returns-in-Hop-clause-hop_complete : goal.returns-in-Hop-clause-hop_complete
+returns-in-Hop-clause-hop_complete g c is = hop_done c.hop.result (g.S.Source.left c.args.input.now) (g.R.Sink.written c.args.report.now) (g.R.Sink.written c.hop.new.report) _ _ _ _ _ _ c.hop.ensures.statuses c.hop.ensures.answer c.hop.ensures.read c.hop.ensures.write
+
+pub returns-in-Hop-clause-hop_parts : goal.returns-in-Hop-clause-hop_parts
+returns-in-Hop-clause-hop_parts g c is decided = hop_reports (g.S.Source.left c.args.input.now) (g.R.Sink.written c.args.report.now) (g.R.Sink.written c.hop.new.report) c.hop.result (c.hop.ensures.answer decided)
+
+pub returns-in-Unknown-clause-some_input : goal.returns-in-Unknown-clause-some_input
+returns-in-Unknown-clause-some_input g c decided = usage_meets _ (g.D.Source.left c.args.conf.now) (g.S.Source.left c.args.input.now) (g.R.Sink.written c.args.report.now) (g.R.Sink.written c.deliver.new.report) (g.C.Sink.written c.args.frames.now) c.deliver.result (sym c.form_of.ensures ∙ c.in-Unknown.is) decided c.deliver.ensures.status (c.deliver.ensures.written decided)
+
+pub returns-in-Unknown-clause-verdict : goal.returns-in-Unknown-clause-verdict
+returns-in-Unknown-clause-verdict g c decided = told _ (g.D.Source.left c.args.conf.now) (g.S.Source.left c.args.input.now) _ (usage_meets _ (g.D.Source.left c.args.conf.now) (g.S.Source.left c.args.input.now) (g.R.Sink.written c.args.report.now) (g.R.Sink.written c.deliver.new.report) (g.C.Sink.written c.args.frames.now) c.deliver.result (sym c.form_of.ensures ∙ c.in-Unknown.is) decided c.deliver.ensures.status (c.deliver.ensures.written decided))

@@ -1,0 +1,16 @@
+-- The forms of the program's words.
+use Rattle.std.specs.Prelude.{ℕ, List, [], ◌∷◌, codes, if◌then◌else◌}
+use Rattle.std.specs.Str.{bytes_eq}
+use Rattle.replay_run.specs.declared.words.Form.{Form}
+use Rattle.replay_run.specs.declared.words.Form.TheVariants.{Hop, Unknown}
+
+-- `hop INPUT` is a form, whatever the word INPUT
+unfoldable pub form_of : List (List ℕ) → Form
+form_of [] = Unknown
+form_of (word ∷ []) = Unknown
+form_of (word ∷ input ∷ []) = if bytes_eq word (codes "hop") then Hop else Unknown
+form_of (word ∷ input ∷ more ∷ rest) = Unknown
+
+-- the line on words of no form
+abbrev pub usage_text : List ℕ
+usage_text = codes "usage: bier_domain replay CONF SCHEDULE FRAMES | node CONF ROUTER CAPTURE FRAMES | hop INPUT | headers CAPTURE | grow N\n"

@@ -1,0 +1,15 @@
+//! The program, over whatever sources and sinks it is handed: its words name a command, and each command is a module
+//! with a definition of what it owes.
+#![tactic(auto)]
+
+mod hop;
+mod law;
+mod top;
+mod whole;
+mod words;
+
+pub use law::packets_are_parted;
+pub use top::run;
+
+#[cfg(test)]
+mod tests;

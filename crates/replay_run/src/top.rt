@@ -1,0 +1,90 @@
+//! The top call.
+ghost use Rattle.std.specs.Prelude.{◌≡◌, ◌⊎◌, ◌<◌, ◌≢◌, ◌↔◌, ℕ, List, Some, false, map, IfSome};
+ghost use Rattle.std.specs.Io.KnownBytes.{IsAtEnd};
+ghost use Rattle.wire_base.specs.Causes.{last_count};
+ghost use Rattle.wire_base.specs.declared.status.Status.TheVariants as status;
+ghost use Rattle.replay_run.specs.declared.words.Form.TheVariants as form;
+ghost use Rattle.replay_run.specs.HopText.{IsAllowed};
+ghost use Rattle.replay_run.specs.Partition.{Reports};
+ghost use Rattle.replay_run.specs.Verdict.{IsDecided, verdict};
+ghost use Rattle.replay_run.specs.Outside.{Held, Meets};
+ghost use Rattle.replay_run.specs.Words as words_are;
+
+use crate::hop::hop;
+use crate::law::packets_are_parted;
+use crate::whole::deliver;
+use crate::words::{Form, USAGE, form_of};
+use std::alloc::Global;
+use wire_base::{Sink, Source, Status};
+
+/// All that the program does: it takes its words, which name a command, and the objects that it reads and writes:
+/// the domain file, the schedule, capture or other input, the frames that it sends, and its report. It answers its
+/// exit status.
+///
+/// The words are `hop INPUT`; on any other words the report is the usage line.
+pub fn run<D: Source, S: Source, C: Sink, R: Sink>(
+    alloc: Global,
+    words: &[&str],
+    conf: &mut D,
+    input: &mut S,
+    frames: &mut C,
+    report: &mut R,
+) -> Status
+    // Each count may still rise.
+    requires conf_faults { D.faults conf.old < last_count }
+    requires input_faults { S.faults input.old < last_count }
+    requires frames_faults { C.faults frames.old < last_count }
+    requires frames_zeros { C.zeros frames.old < last_count }
+    requires report_faults { R.faults report.old < last_count }
+    requires report_zeros { R.zeros report.old < last_count }
+
+    // The verdict on the sources that tell what they hold. Where one tells nothing, there are octets that it may have
+    // held of which this is the verdict.
+    ensures verdict { IsDecided result → IfSome (verdict (words_are.form_of (map (λ word. word.now) words.now)) (D.left conf.old) (S.left input.old))
+        (λ owed. Meets owed result (R.written report.old) (R.written report.new) (C.written frames.old) (C.written frames.new)) }
+    ensures some_input { IsDecided result → (octets : List ℕ) × Held (S.left input.old) octets × IfSome (verdict (words_are.form_of (map (λ word. word.now) words.now)) (D.left conf.old) (Some octets))
+        (λ owed. Meets owed result (R.written report.old) (R.written report.new) (C.written frames.old) (C.written frames.new)) }
+
+    // When each status comes.
+    ensures done { result ≡ status.Done → words_are.form_of (map (λ word. word.now) words.now) ≡ form.Hop }
+    ensures done_whole { result ≡ status.Done → IsAtEnd (S.left input.new) }
+    ensures usage { IsDecided result → ((result ≡ status.Usage) ↔ (words_are.form_of (map (λ word. word.now) words.now) ≡ form.Unknown)) }
+    ensures input_refused { result ≡ status.InputRefused → words_are.form_of (map (λ word. word.now) words.now) ≡ form.Hop }
+    ensures no_conf_refused { result ≢ status.ConfRefused }
+    ensures no_capture_refused { result ≢ status.CaptureRefused }
+    ensures read_fault { result ≡ status.ReadFault → (D.faults conf.old < D.faults conf.new) ⊎ (S.faults input.old < S.faults input.new) }
+    ensures write_fault { result ≡ status.WriteFault → (C.faults frames.old < C.faults frames.new) ⊎ ((C.zeros frames.old < C.zeros frames.new) ⊎ ((R.faults report.old < R.faults report.new) ⊎ (R.zeros report.old < R.zeros report.new))) }
+
+    // Where a sink fails, whatever failed before, the answer is `WriteFault`; where only a source does, `ReadFault`.
+    // So no count rises in any other answer.
+    ensures conf_quiet { result ≢ status.ReadFault → result ≢ status.WriteFault → D.faults conf.new ≡ D.faults conf.old }
+    ensures input_quiet { result ≢ status.ReadFault → result ≢ status.WriteFault → S.faults input.new ≡ S.faults input.old }
+    ensures frames_quiet { result ≢ status.WriteFault → C.faults frames.new ≡ C.faults frames.old }
+    ensures frames_take { result ≢ status.WriteFault → C.zeros frames.new ≡ C.zeros frames.old }
+    ensures report_quiet { result ≢ status.WriteFault → R.faults report.new ≡ R.faults report.old }
+    ensures report_takes { result ≢ status.WriteFault → R.zeros report.new ≡ R.zeros report.old }
+
+    // `hop` is done wherever its input is in the grammar, each line may stand where it stands, and no count rose.
+    ensures hop_complete { words_are.form_of (map (λ word. word.now) words.now) ≡ form.Hop → IfSome (S.left input.old) (λ octets. IsAllowed octets
+        → S.faults input.new ≡ S.faults input.old → R.faults report.new ≡ R.faults report.old → R.zeros report.new ≡ R.zeros report.old
+        → (result ≡ status.Done) ⊎ (result ≡ status.Memory)) }
+
+    // Each id of each packet of the input stands in exactly one of the lines that are reported of that packet.
+    ensures hop_parts { words_are.form_of (map (λ word. word.now) words.now) ≡ form.Hop → IsDecided result → IfSome (S.left input.old)
+        (λ octets. Reports octets (R.written report.old) (R.written report.new)) }
+
+    // What was written is finished.
+    ensures finished { IsDecided result → R.unfinished report.new ≡ false }
+    ensures unwritten { (result ≡ status.ReadFault) ⊎ (result ≡ status.Memory) → report.new ≡ report.old }
+
+    // What the words don't name is as before. No command reads a domain file or sends frames yet.
+    ensures conf { conf.new ≡ conf.old }
+    ensures frames { frames.new ≡ frames.old }
+    ensures unread { words_are.form_of (map (λ word. word.now) words.now) ≡ form.Unknown → input.new ≡ input.old }
+{
+    packets_are_parted();
+    match form_of(words) {
+        Form::Hop => hop(alloc, input, report),
+        Form::Unknown => deliver(report, Status::Usage, USAGE),
+    }
+}

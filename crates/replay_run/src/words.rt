@@ -1,0 +1,27 @@
+//! The words of the program.
+ghost use Rattle.std.specs.Prelude.{◌≡◌, map};
+ghost use Rattle.replay_run.specs.Words as words;
+
+/// The forms of words.
+#[derive(Clone, Copy, Debug, PartialEq, Eq)]
+pub enum Form {
+    /// `hop INPUT`
+    Hop,
+    /// Words of no form.
+    Unknown,
+}
+
+/// The line that is reported on words of no form.
+pub const USAGE: &[u8] =
+    b"usage: bier_domain replay CONF SCHEDULE FRAMES | node CONF ROUTER CAPTURE FRAMES | hop INPUT | headers CAPTURE | grow N\n";
+
+/// The form that the words have. Each is compared exactly; there are no options.
+#[tactic(auto, unfolding(crate::specs::Words::form_of))]
+pub fn form_of(given: &[&str]) -> Form
+    ensures { result ≡ words.form_of (map (λ word. word.now) given.now) }
+{
+    match given {
+        [word, _] if *word == "hop" => Form::Hop,
+        _ => Form::Unknown,
+    }
+}
