@@ -1,11 +1,10 @@
 -- Flood states and PDUs on which flooding is tried. Router 9 has two links, both up, and no flag.
-use Rattle.std.specs.Prelude.{ℕ, ◌+◌, Bool, true, false, List, [], ◌∷◌, map, fold, Option, Some, None}
+use Rattle.std.specs.Prelude.{ℕ, Bool, true, false, List, [], ◌∷◌, fold}
 use Rattle.wire_base.specs.declared.entry.Entry.{Entry}
 use Rattle.wire_base.specs.declared.triple.Summary.{Summary}
 use Rattle.wire_base.specs.model.Pdu.{Head, Pdu, row_tlvs}
-use Rattle.wire_base.specs.model.Control.{Flood, FlagRow, Control, purge}
-use Rattle.wire_base.specs.model.OwnLsp.{own_lsp}
-use Rattle.wire_base.specs.model.Flooding.{LspAnswer, on_lsp, SnpAnswer, on_csnp, on_psnp, on_pdu, send, first_control, mark_all, lsp_of}
+use Rattle.wire_base.specs.model.Control.{Flood, FlagRow, Control}
+use Rattle.wire_base.specs.model.Flooding.{LspAnswer, on_lsp, SnpAnswer, on_csnp, on_psnp, on_pdu, send, first_control}
 use Rattle.model_examples.specs.Domains.{lsp, system, pair_a, pair_b}
 
 abbrev pub no_flag : Flood

@@ -1,5 +1,6 @@
 pub mod Domains
 pub mod Entries
 pub mod Floods
+pub mod Frames
 pub mod Vectors
 pub mod Views

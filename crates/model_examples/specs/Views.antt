@@ -1,9 +1,9 @@
 -- Views of the small domains, and databases on which single rules of the view are tried.
-use Rattle.std.specs.Prelude.{ℕ, ◌+◌, ◌*◌, Bool, true, false, List, [], ◌∷◌, ◌++◌, length, map}
+use Rattle.std.specs.Prelude.{ℕ, Bool, true, false, List, [], ◌∷◌}
 use Rattle.std.specs.List.{flat_map}
 use Rattle.wire_base.specs.declared.conf.LabelRange.{LabelRange}
 use Rattle.wire_base.specs.declared.conf.RouterConf.{RouterConf}
-use Rattle.wire_base.specs.declared.bsl.Bsl.TheVariants.{B64, B128}
+use Rattle.wire_base.specs.declared.bsl.Bsl.TheVariants.{B64}
 use Rattle.wire_base.specs.declared.entry.Entry.{Entry}
 use Rattle.wire_base.specs.declared.view.ViewEdge.{ViewEdge}
 use Rattle.wire_base.specs.declared.view.ViewNode.{ViewNode}
@@ -12,7 +12,7 @@ use Rattle.wire_base.specs.model.Tlv.{Tlv, tlv, Reach, reach, Prefix, prefix}
 use Rattle.wire_base.specs.model.BierInfo.{Info, info_tlv}
 use Rattle.wire_base.specs.model.OwnLsp.{own_lsp}
 use Rattle.wire_base.specs.model.View.{view_of}
-use Rattle.model_examples.specs.Domains.{system, address, lsp, pair_a, pair_b, ring_a, ring_b, ring_c, ring_d, line_a, line_b, line_c, fork_a, fork_p}
+use Rattle.model_examples.specs.Domains.{system, address, lsp, pair_a, ring_a, ring_b, ring_c, ring_d}
 
 abbrev pub edge : ℕ → ViewEdge
 edge to = record { to = to; metric = 10 }

@@ -24,8 +24,7 @@ pub fn what_an_lsp_asks()
     ensures confused { (heard (entry 1 7 1200 500 ∷ []) false (head 1 7 900 501)).entries ≡ purge (lsp 1) 7 ∷ [] }
     ensures newer_dead { (heard (entry 1 7 1200 500 ∷ []) false (head 1 8 0 0)).entries ≡ purge (lsp 1) 8 ∷ [] }
     ensures equal_stays { (heard (entry 1 7 1200 500 ∷ []) false (head 1 7 30 500)).entries ≡ entry 1 7 1200 500 ∷ [] }
-{
-}
+{}
 
 /// Which flags an LSP on the first of two links sets.
 #[tactic(auto, unfolding(wire_base::specs::model::Flooding::on_lsp, wire_base::specs::model::Flooding::mark_all))]
@@ -34,15 +33,13 @@ pub fn which_flags_an_lsp_sets()
     ensures confused { (heard (entry 1 7 1200 500 ∷ []) false (head 1 7 900 501)).flood.rows ≡ flags 1 (true ∷ true ∷ []) (false ∷ false ∷ []) ∷ [] }
     ensures equal { (heard (entry 1 7 1200 500 ∷ []) false (head 1 7 30 500)).flood.rows ≡ flags 1 (false ∷ false ∷ []) (true ∷ false ∷ []) ∷ [] }
     ensures older { (heard (entry 1 7 1200 500 ∷ []) false (head 1 6 30 500)).flood.rows ≡ flags 1 (true ∷ false ∷ []) (false ∷ false ∷ []) ∷ [] }
-{
-}
+{}
 
 /// In a full database an unknown LSP finds no room, and is not acknowledged.
 #[tactic(auto, unfolding(wire_base::specs::model::Flooding::on_lsp))]
 pub fn a_full_database_takes_no_unknown_lsp()
     ensures { (entries : List Entry) → entry_in entries (lsp 1) ≡ None → is_full entries ≡ true → on_lsp no_flag entries 0 (head 1 7 1200 500) content false ≡ record { flood = no_flag; entries = entries; answer = out.Full } }
-{
-}
+{}
 
 /// What the entries of a PSNP on the first link do.
 #[tactic(auto, unfolding(wire_base::specs::model::Flooding::on_psnp, wire_base::specs::model::Flooding::on_list, wire_base::specs::model::Flooding::on_listed, wire_base::specs::model::Flooding::mark_all, wire_base::specs::model::Pdu::row_tlvs, wire_base::specs::model::Pdu::blocks_within, wire_base::specs::model::Tlv::entries_of, wire_base::specs::model::Tlv::entries_within, wire_base::specs::model::Tlv::row_at))]
@@ -54,8 +51,7 @@ pub fn what_listed_entries_do()
     ensures unknown_dead { (told_by [] (summary 1 7 0 500 ∷ [])).entries ≡ [] }
     ensures own_confused { (told_by (entry 9 7 1200 500 ∷ []) (summary 9 7 1200 501 ∷ [])).answer.reissue ≡ Some 7 }
     ensures own_stays { (told_by (entry 9 7 1200 500 ∷ []) (summary 9 7 1200 501 ∷ [])).entries ≡ entry 9 7 1200 500 ∷ [] }
-{
-}
+{}
 
 /// A CSNP asks for what it lacks within its bounds, and an entry outside of them is taken like any other.
 #[tactic(auto, unfolding(wire_base::specs::model::Flooding::on_csnp, wire_base::specs::model::Flooding::on_list, wire_base::specs::model::Flooding::on_listed, wire_base::specs::model::Pdu::row_tlvs, wire_base::specs::model::Pdu::blocks_within, wire_base::specs::model::Tlv::entries_of, wire_base::specs::model::Tlv::entries_within, wire_base::specs::model::Tlv::row_at))]
@@ -63,16 +59,14 @@ pub fn a_csnp_is_bounded()
     ensures lacking { (told_whole (entry 1 7 9 5 ∷ entry 2 7 9 5 ∷ entry 3 7 9 5 ∷ []) 2 2 []).flood.rows ≡ flags 2 (true ∷ false ∷ []) (false ∷ false ∷ []) ∷ [] }
     ensures outside { (told_whole (entry 1 7 9 5 ∷ []) 2 2 (summary 1 8 9 5 ∷ [])).flood.rows ≡ flags 1 (false ∷ false ∷ []) (true ∷ false ∷ []) ∷ [] }
     ensures dead { (told_whole (purge (lsp 2) 7 ∷ []) 2 2 []).flood.rows ≡ [] }
-{
-}
+{}
 
 /// Identifiers follow one another over all eight octets.
 #[tactic(auto, unfolding(wire_base::specs::model::Flooding::id_after))]
 pub fn the_identifier_after()
     ensures fragment { id_after (lsp 1) ≡ record (lsp 1) { fragment = 1 } }
     ensures carry { id_after (record { system = system 1; pseudonode = 255; fragment = 255 }) ≡ lsp 2 }
-{
-}
+{}
 
 /// Past the last sequence number the own LSP is purged, and the router is spent; it issues nothing until it restarts.
 #[tactic(auto, unfolding(wire_base::specs::model::Flooding::reissue, wire_base::specs::model::Flooding::mark_all, wire_base::specs::model::Flooding::first_control, wire_base::specs::model::Flooding::started, wire_base::specs::model::Flooding::new_flood, wire_base::specs::model::Flooding::end_down, wire_base::specs::model::Flooding::reissue_unless_spent, wire_base::specs::model::Flooding::link_down, wire_base::specs::model::Flooding::restart, wire_base::specs::model::OwnLsp::own_lsp))]
@@ -82,12 +76,10 @@ pub fn the_last_sequence_number_is_purged()
     ensures stays { (end_down (reissue (first_control pair_a) 4294967295) 0).control.entries ≡ purge (lsp 1) 4294967295 ∷ [] }
     ensures restarts { (restart (reissue (first_control pair_a) 4294967295)).control ≡ first_control pair_a }
     ensures before { (reissue (first_control pair_a) 4294967294).entries ≡ own_lsp pair_a (true ∷ []) 4294967295 ∷ [] }
-{
-}
+{}
 
 /// A router that restarted hears its own LSP of sequence number 7, and issues it with 8.
 #[tactic(auto, unfolding(wire_base::specs::model::Flooding::reissue, wire_base::specs::model::Flooding::on_pdu, wire_base::specs::model::Flooding::on_lsp, wire_base::specs::model::Flooding::mark_all, wire_base::specs::model::Flooding::first_control, wire_base::specs::model::Flooding::started, wire_base::specs::model::Flooding::new_flood, wire_base::specs::model::OwnLsp::own_lsp))]
 pub fn a_restarted_router_passes_its_old_lsp()
     ensures { own_entry_in (on_pdu (first_control pair_a) 0 (lsp_of (own_lsp pair_a (true ∷ []) 7))).control ≡ Some (own_lsp pair_a (true ∷ []) 8) }
-{
-}
+{}

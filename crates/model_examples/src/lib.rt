@@ -5,6 +5,8 @@
 mod configurations;
 mod databases;
 mod floods;
+mod frames;
+mod ingresses;
 mod own_lsps;
 mod views;
 
@@ -19,6 +21,11 @@ pub use floods::{
     the_identifier_after, the_last_sequence_number_is_purged, what_an_lsp_asks,
     what_listed_entries_do, which_flags_an_lsp_sets,
 };
+pub use frames::{
+    fork_sends_a_tunnel_on, frames_of_items, pair_takes_an_lsp, ring_delivers, the_ttl_ends,
+    what_is_dropped,
+};
+pub use ingresses::{one_packet_for_each_set, packets_enter, why_nothing_enters};
 pub use own_lsps::{pair_first_csnp, pair_first_lsp, pair_first_lsp_content, plain_router_lsp};
 pub use views::{
     line_settled_view, links_count_where_both_list_them, pair_settles, ring_settled_view,

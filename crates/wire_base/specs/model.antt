@@ -13,13 +13,17 @@ pub mod Flooding
 pub mod Graph
 pub mod Hop
 pub mod HopCount
+pub mod Ingress
+pub mod Item
 pub mod Labels
 pub mod Lists
+pub mod OnFrame
 pub mod OwnLsp
 pub mod Pdu
 pub mod Place
 pub mod Supporting
 pub mod Tight
 pub mod Tlv
+pub mod Tunnel
 pub mod View
 pub mod Walk

@@ -130,3 +130,49 @@ pub enum PduFault {
     /// A TLV passes the end, or the entries of a sequence number PDU aren't whole.
     Tlv,
 }
+
+/// Why a database doesn't take an entry.
+#[derive(Clone, Copy, Debug, PartialEq, Eq)]
+pub enum PutFault {
+    /// Its identifier is new, and so many entries are there already, which is the most.
+    Full(usize),
+    /// Memory ran out.
+    Memory,
+}
+
+impl From<Memory> for PutFault {
+    ghost use Rattle.wire_base.specs.declared.faults.PutFault.TheVariants as puts;
+
+    ghost from_gives = { λ _ e. e ≡ puts.Memory };
+
+    fn from(_: Memory) -> Self {
+        PutFault::Memory
+    }
+}
+
+/// Why a router sends no packet to a list of BFR-ids.
+#[derive(Clone, Copy, Debug, PartialEq, Eq)]
+pub enum EdgeFault {
+    /// The list is empty.
+    NoEgress,
+    /// The id 0 stands in it.
+    IdZero,
+    /// The set identifier of this one, the first such in the list, is above 255.
+    SiLarge(u16),
+    /// The router has no BFR-id in the subdomain.
+    NotBfr,
+    /// The router supports no triple of the subdomain and the length.
+    BslUnknown,
+    /// Memory ran out.
+    Memory,
+}
+
+impl From<Memory> for EdgeFault {
+    ghost use Rattle.wire_base.specs.declared.faults.EdgeFault.TheVariants as edges;
+
+    ghost from_gives = { λ _ e. e ≡ edges.Memory };
+
+    fn from(_: Memory) -> Self {
+        EdgeFault::Memory
+    }
+}

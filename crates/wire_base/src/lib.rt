@@ -10,6 +10,7 @@ mod bytes;
 mod cause;
 mod conf;
 mod domain;
+mod effects;
 mod entry;
 mod faults;
 pub mod fields;
@@ -29,9 +30,11 @@ pub use bytes::{BytesSink, BytesSource, QuietSink, QuietSource};
 pub use cause::Cause;
 pub use conf::{End, Kind, LabelRange, Level, LinkConf, OwnSub, RouterConf, SubKind, TableRow};
 pub use domain::Domain;
+pub use effects::{Got, Sent};
 pub use entry::{Age, Aged, Entry};
 pub use faults::{
-    CaptureFault, FrameFault, HeadFault, InfoFault, IpFault, PduFault, StackFault, TlvFault,
+    CaptureFault, EdgeFault, FrameFault, HeadFault, InfoFault, IpFault, PduFault, PutFault,
+    StackFault, TlvFault,
 };
 pub use flood_out::{FloodOut, SnpOut};
 pub use lists::{Name, Octets, Rows};
