@@ -165,3 +165,9 @@ check_from octets at plain heavy first p h f =
     let one : first ≡ check_first octets at = f ∙ ap (λ (n : ℕ). 255 - (n + (255 - plain) * (length octets - at - 1)) % 255) h ∙ ap (λ (n : ℕ). 255 - (weighted octets % 255 + (255 - n) * (length octets - at - 1)) % 255) p ∙ first_is octets at in
     let two : 255 - (plain + first) % 255 ≡ 255 - (sum octets + first) % 255 = ap (λ (n : ℕ). 255 - (n + first) % 255) p ∙ second_is (sum octets) first in
     ap (λ (n : ℕ). first * 256 + n) two ∙ ap (λ (n : ℕ). n * 256 + (255 - (sum octets + n) % 255)) one ∙ sym (check_sum_is octets at)
+
+-- any pair that makes the octets right is that number
+pub check_one : (octets : List ℕ) (at : ℕ) (pair : ℕ × ℕ) → at + 2 ≤ length octets → get_or octets at 0 ≡ 0 → get_or octets (at + 1) 0 ≡ 0 → IsCheck octets at pair → check_sum octets at ≡ pair.0 * 256 + pair.1
+check_one octets at pair within z0 z1 is =
+    let o = check_only octets at pair within z0 z1 is in
+    check_sum_is octets at ∙ ap (λ (n : ℕ). n * 256 + check_second octets at) (sym o.0) ∙ ap (λ (n : ℕ). pair.0 * 256 + n) (sym o.1)

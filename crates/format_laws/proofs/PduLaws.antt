@@ -1,7 +1,7 @@
 -- IS-IS PDUs: what is in the grammar is read, and what is read is in the grammar.
-use Rattle.std.proofs.Common.{◌≡◌, ℕ, zero, suc, ◌+◌, ◌-◌, ◌*◌, ◌/◌, ◌%◌, ◌^◌, ◌<◌, ◌≤◌, ◌⊎◌, Bool, true, false, not, ◌&&◌, ◌||◌, cond, ltb, leb, eqb, eq-eqb, List, [], ◌∷◌, ◌++◌, length, take, drop, Result, Ok, Err, refl, sym, ap, subst, ◌∙◌, append_assoc, arith, inl, inr}
+use Rattle.std.proofs.Common.{◌≡◌, ℕ, zero, suc, ◌+◌, ◌-◌, ◌*◌, ◌/◌, ◌%◌, ◌^◌, ◌<◌, ◌≤◌, ◌⊎◌, Bool, true, false, not, ◌&&◌, ◌||◌, cond, ltb, leb, eqb, eq-eqb, List, [], ◌∷◌, ◌++◌, length, get_or, take, drop, Result, Ok, Err, refl, sym, ap, subst, ◌∙◌, append_assoc, arith, inl, inr}
 use Rattle.std.proofs.lemmas.Bool.{ltb-false, le-ltb, lt-ltb, leb-true, eqb-true}
-use Rattle.std.proofs.lemmas.List.{append-nil, length-append}
+use Rattle.std.proofs.lemmas.List.{take_at, drop_at, drop-drop, get_or-drop, length-append}
 use Rattle.byteorder.specs.Endian.{big_bytes, big_number}
 use Rattle.wire_base.specs.declared.addresses.SystemId.{SystemId}
 use Rattle.wire_base.specs.declared.addresses.LspId.{LspId}
@@ -11,12 +11,12 @@ use Rattle.wire_base.specs.declared.conf.Level.{Level}
 use Rattle.wire_base.specs.declared.conf.Level.TheVariants.{One, Two}
 use Rattle.wire_base.specs.model.Fields.{◌>>=◌, AreOctets, octet_at, octets_at, number_at}
 use Rattle.wire_base.specs.model.Tlv.{LspIdFits, lsp_id, lsp_id_at}
-use Rattle.wire_base.specs.model.Checksum.{IsRight, is_right}
-use Rattle.wire_base.specs.model.Pdu.{Head, Pdu, LspPdu, CsnpPdu, PsnpPdu, HelloPdu, OtherPdu, AreTlvs, tlvs_pass, lsp_type, csnp_type, psnp_type, lsp_covered, lsp_body, csnp_body, psnp_body, lsp, csnp, psnp, HeadFits, LspFits, CsnpFits, PsnpFits, is_hello, IsOther, Free, shaped, IsPdu, sized_at, lsp_at, csnp_at, psnp_at, body_at, pdu_at}
+use Rattle.wire_base.specs.model.Checksum.{IsRight, is_right, with_pair, check_first, check_second, check_sum}
+use Rattle.wire_base.specs.model.Pdu.{Head, Pdu, LspPdu, CsnpPdu, PsnpPdu, HelloPdu, OtherPdu, AreTlvs, tlvs_pass, lsp_type, csnp_type, psnp_type, lsp_covered, lsp_body, csnp_body, psnp_body, lsp, csnp, psnp, lsp_sum, HeadFits, LspFits, CsnpFits, PsnpFits, is_hello, IsOther, Free, shaped, IsPdu, sized_at, lsp_at, csnp_at, psnp_at, body_at, pdu_at}
 use Rattle.format_laws.proofs.FieldLaws.{bind_ok, ok_is, guarded, guarded_else, Takes-then, octet_takes, octets_takes, octets_again, number_takes, number_again, wide2, wide4, AreOctets-front}
 use Rattle.format_laws.proofs.TlvLaws.{lsp_id_takes, lsp_id_again, length_lsp_id}
 use Rattle.format_laws.proofs.TlvListLaws.{passes_are, are_passes}
-use Rattle.format_laws.proofs.ChecksumLaws.{and_true, right_from, right_test}
+use Rattle.format_laws.proofs.ChecksumLaws.{and_true, right_from, right_test, check_found, check_sum_is}
 
 -- ---- truth values
 
@@ -462,3 +462,65 @@ csnp_read level source start last tlvs rest fits = pdu_only level (csnp level so
 
 pub psnp_read : (level : Level) (source : SystemId) (tlvs rest : List ℕ) → PsnpFits source tlvs → pdu_at level (psnp level source tlvs ++ rest) ≡ Ok (PsnpPdu source tlvs)
 psnp_read level source tlvs rest fits = pdu_only level (psnp level source tlvs ++ rest) (PsnpPdu source tlvs) (psnp_is level source tlvs rest fits)
+
+-- ---- one PDU for a spelling
+
+pub pdu_once : (level : Level) (octets : List ℕ) (p q : Pdu) → IsPdu level octets p → IsPdu level octets q → p ≡ q
+pdu_once level octets p q ip iq = ok_is {E = PduFault} p q (sym (pdu_only level octets p ip) ∙ pdu_only level octets q iq)
+
+pub lsp_once : (level : Level) (a b : Head) (s t : List ℕ) → LspFits a s → LspFits b t → lsp level a s ≡ lsp level b t → LspPdu a s ≡ LspPdu b t
+lsp_once level a b s t fa fb e = ok_is {E = PduFault} (LspPdu a s) (LspPdu b t) (sym (lsp_read level a s [] fa) ∙ ap (λ (l : List ℕ). pdu_at level (l ++ [])) e ∙ lsp_read level b t [] fb)
+
+-- ---- the checksum of a link state PDU
+
+get_or_at : (front back : List ℕ) (n i : ℕ) → length front ≡ n → get_or (front ++ back) (n + i) 0 ≡ get_or back i 0
+get_or_at front back n i len = sym (get_or-drop n (front ++ back) i 0) ∙ ap (λ (l : List ℕ). get_or l i 0) (drop_at front back n len)
+
+drop_after : (front : List ℕ) (a b : ℕ) (back : List ℕ) → length front ≡ 12 → drop 14 (front ++ (a ∷ b ∷ back)) ≡ back
+drop_after front a b back len = sym (drop-drop 2 12 (front ++ (a ∷ b ∷ back))) ∙ ap (drop 2) (drop_at front (a ∷ b ∷ back) 12 len)
+
+without_sum : Head → List ℕ → List ℕ
+without_sum head tlvs = lsp_covered (record head { sum = 0 }) tlvs
+
+twelve : Head → List ℕ
+twelve head = lsp_id head.id ++ big_bytes 4 head.seq
+
+length_twelve : (head : Head) → LspIdFits head.id → length (twelve head) ≡ 12
+unfolding twelve
+length_twelve head fits = omega (arith, length_lsp_id head.id fits, length-append (lsp_id head.id) (big_bytes 4 head.seq))
+
+covered_split : (head : Head) (tlvs : List ℕ) → lsp_covered head tlvs ≡ twelve head ++ (head.sum / 256 % 256 ∷ head.sum % 256 ∷ head.flags ∷ tlvs)
+unfolding twelve
+covered_split head tlvs = sym (append_assoc (lsp_id head.id) (big_bytes 4 head.seq) (head.sum / 256 % 256 ∷ head.sum % 256 ∷ head.flags ∷ tlvs))
+
+sum_octets : (n : ℕ) (a b : ℕ) → a < 256 → b < 256 → n ≡ a * 256 + b → (n / 256 % 256 ≡ a) × (n % 256 ≡ b)
+sum_octets n a b ha hb e = (omega arith, omega arith)
+
+pub lsp_sum_right : (head : Head) (tlvs : List ℕ) → LspIdFits head.id → IsRight (lsp_covered (record head { sum = lsp_sum head tlvs }) tlvs)
+unfolding twelve without_sum
+lsp_sum_right head tlvs fits =
+    let octets = without_sum head tlvs in
+    let front = twelve head in
+    let back = head.flags ∷ tlvs in
+    let len = length_twelve head fits in
+    let split : octets ≡ front ++ (0 ∷ 0 ∷ back) = covered_split (record head { sum = 0 }) tlvs in
+    let long : 12 + 2 ≤ length octets = let l = ap length split in omega (arith, l, len, length-append front (0 ∷ 0 ∷ back)) in
+    let first : get_or octets 12 0 ≡ 0 = ap (λ (l : List ℕ). get_or l 12 0) split ∙ get_or_at front (0 ∷ 0 ∷ back) 12 0 len in
+    let second : get_or octets 13 0 ≡ 0 = ap (λ (l : List ℕ). get_or l 13 0) split ∙ get_or_at front (0 ∷ 0 ∷ back) 12 1 len in
+    let is = check_found octets 12 long first second in
+    let a = check_first octets 12 in
+    let b = check_second octets 12 in
+    let a-high = is.first.in_octet in
+    let b-high = is.second.in_octet in
+    let both = sum_octets (check_sum octets 12) a b (omega arith) (omega arith) (check_sum_is octets 12) in
+    let taken : take 12 octets ≡ front = ap (take 12) split ∙ take_at front (0 ∷ 0 ∷ back) 12 len in
+    let dropped : drop 14 octets ≡ back = ap (drop 14) split ∙ drop_after front 0 0 back len in
+    let pair : with_pair octets 12 (a, b) ≡ front ++ (a ∷ b ∷ back) = ap (λ (l : List ℕ). l ++ (a ∷ b ∷ drop 14 octets)) taken ∙ ap (λ (l : List ℕ). front ++ (a ∷ b ∷ l)) dropped in
+    let whole : lsp_covered (record head { sum = lsp_sum head tlvs }) tlvs ≡ front ++ (a ∷ b ∷ back) = covered_split (record head { sum = lsp_sum head tlvs }) tlvs ∙ ap (λ (n : ℕ). front ++ (n ∷ lsp_sum head tlvs % 256 ∷ back)) both.0 ∙ ap (λ (n : ℕ). front ++ (a ∷ n ∷ back)) both.1 in
+    subst IsRight (pair ∙ sym whole) is.right
+
+pub lsp_sum_fits : (head : Head) (tlvs : List ℕ) → lsp_sum head tlvs < 256 ^ 2
+lsp_sum_fits head tlvs = let e = check_sum_is (lsp_covered (record head { sum = 0 }) tlvs) 12 in omega (arith, e)
+
+pub lsp_sum_some : (head : Head) (tlvs : List ℕ) → 257 ≤ lsp_sum head tlvs
+lsp_sum_some head tlvs = let e = check_sum_is (lsp_covered (record head { sum = 0 }) tlvs) 12 in omega (arith, e)
