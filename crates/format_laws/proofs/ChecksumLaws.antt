@@ -1,5 +1,5 @@
 -- The two sums of joined lists, and the one pair that makes both 0.
-use Rattle.std.proofs.Common.{◌≡◌, ℕ, zero, suc, ◌+◌, ◌-◌, ◌*◌, ◌%◌, ◌<◌, ◌≤◌, Bool, true, false, ◌&&◌, eqb, eq-eqb, List, [], ◌∷◌, ◌++◌, length, sum, get_or, take, drop, refl, sym, ap, ◌∙◌, arith, add-one, length-append}
+use Rattle.std.proofs.Common.{◌≡◌, ℕ, zero, suc, ◌+◌, ◌-◌, ◌*◌, ◌/◌, ◌%◌, ◌<◌, ◌≤◌, Bool, true, false, ◌&&◌, eqb, eq-eqb, List, [], ◌∷◌, ◌++◌, length, sum, get_or, take, drop, refl, sym, ap, subst, ◌∙◌, arith, add-one, length-append}
 use Rattle.std.proofs.Math.Nat.{mul-suc, mul-add, add-mul, mod-add-mod}
 use Rattle.std.proofs.lemmas.List.{drop_more, take_more, take_all, take-append-drop, length-drop, length-take}
 use Rattle.std.proofs.lemmas.List.Sums.{sum_by-append, sum_by-cons}
@@ -146,3 +146,28 @@ right_from octets e = let b = and_true _ _ e in record { plain = eqb-true _ _ b.
 
 pub right_test : (octets : List ℕ) → IsRight octets → is_right octets ≡ true
 right_test octets right = let a : eqb (sum octets % 255) 0 ≡ true = eq-eqb _ _ right.plain in let b : eqb (weighted octets % 255) 0 ≡ true = eq-eqb _ _ right.heavy in rw (a, b) refl
+
+two_octets : (n a b : ℕ) → b < 256 → n ≡ a * 256 + b → (n / 256 ≡ a) × (n % 256 ≡ b)
+two_octets n a b small e = (omega arith, omega arith)
+
+-- the octets of that number are the pair
+pub check_octets : (octets : List ℕ) (at n : ℕ) → n ≡ check_sum octets at → IsCheck octets at (check_first octets at, check_second octets at) → IsCheck octets at (n / 256, n % 256)
+check_octets octets at n e is =
+    let high = is.second.in_octet in
+    let both = two_octets n (check_first octets at) (check_second octets at) (omega arith) (e ∙ check_sum_is octets at) in
+    subst (λ (a : ℕ). IsCheck octets at (a, n % 256)) (sym both.0) (subst (λ (b : ℕ). IsCheck octets at (check_first octets at, b)) (sym both.1) is)
+
+-- what `checksum_at` computes from the two sums modulo 255
+pub check_from : (octets : List ℕ) (at plain heavy first : ℕ) → plain ≡ sum octets % 255 → heavy ≡ weighted octets % 255 → first ≡ 255 - (heavy + (255 - plain) * (length octets - at - 1)) % 255
+    → first * 256 + (255 - (plain + first) % 255) ≡ check_sum octets at
+unfolding first_of
+check_from octets at plain heavy first p h f =
+    let one : first ≡ check_first octets at = f ∙ ap (λ (n : ℕ). 255 - (n + (255 - plain) * (length octets - at - 1)) % 255) h ∙ ap (λ (n : ℕ). 255 - (weighted octets % 255 + (255 - n) * (length octets - at - 1)) % 255) p ∙ first_is octets at in
+    let two : 255 - (plain + first) % 255 ≡ 255 - (sum octets + first) % 255 = ap (λ (n : ℕ). 255 - (n + first) % 255) p ∙ second_is (sum octets) first in
+    ap (λ (n : ℕ). first * 256 + n) two ∙ ap (λ (n : ℕ). n * 256 + (255 - (sum octets + n) % 255)) one ∙ sym (check_sum_is octets at)
+
+-- any pair that makes the octets right is that number
+pub check_one : (octets : List ℕ) (at : ℕ) (pair : ℕ × ℕ) → at + 2 ≤ length octets → get_or octets at 0 ≡ 0 → get_or octets (at + 1) 0 ≡ 0 → IsCheck octets at pair → check_sum octets at ≡ pair.0 * 256 + pair.1
+check_one octets at pair within z0 z1 is =
+    let o = check_only octets at pair within z0 z1 is in
+    check_sum_is octets at ∙ ap (λ (n : ℕ). n * 256 + check_second octets at) (sym o.0) ∙ ap (λ (n : ℕ). pair.0 * 256 + n) (sym o.1)

@@ -627,3 +627,7 @@ overlap_at (r ∷ rs) (suc first) (suc second) label h one two = let e = overlap
 
 pub overlap_test : (rs : List LabelRange) → Overlap rs → any_overlap rs ≡ true
 overlap_test rs o = overlap_at rs o.first o.second o.label o.places o.in_first o.in_second
+
+-- those that are spelled alike are one
+pub info_once : (a b : Info) → InfoFits a → InfoFits b → info a ≡ info b → a ≡ b
+info_once a b fa fb e = ok_is {E = InfoFault} a b (sym (info_again a fa) ∙ ap info_at e ∙ info_again b fb)

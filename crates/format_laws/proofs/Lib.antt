@@ -1,5 +1,6 @@
 pub mod ChecksumLaws
 pub mod FieldLaws
 pub mod InfoLaws
+pub mod PduLaws
 pub mod TlvLaws
 pub mod TlvListLaws

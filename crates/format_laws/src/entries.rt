@@ -1,7 +1,9 @@
 //! TLVs and the entries of the TLVs 22, 135 and 9.
-ghost use Rattle.std.specs.Prelude.{◌≡◌, ◌++◌, ℕ, List, Ok, Some};
+ghost use Rattle.std.specs.Prelude.{◌≡◌, ◌≤◌, ◌*◌, ◌++◌, ℕ, Bool, true, List, length, Ok, Some};
+ghost use Rattle.std.specs.List.{flat_map, AllByRecursion};
 ghost use Rattle.wire_base.specs.model.Fields.{AreOctets};
-ghost use Rattle.wire_base.specs.model.Tlv.{Tlv, TlvFits, tlv, tlv_at, Reach, ReachFits, reach, reach_at, Prefix, PrefixFits, prefix, prefix_at, SummaryFits, row, row_at};
+ghost use Rattle.wire_base.specs.model.Tlv.{Tlv, tlv, tlv_at, tlvs_of, tlvs_before, entries_of, rows_of, Reach, ReachFits, reach, reach_at, Prefix, PrefixFits, prefix, prefix_at, SummaryFits, row, row_at};
+ghost use Rattle.wire_base.specs.model.Pdu.{AreTlvs, tlvs_pass, row_tlvs};
 ghost use Rattle.wire_base.specs.declared.triple.Summary.{Summary};
 
 /// TLVs (ISO/IEC 10589, 9.8).
@@ -33,4 +35,33 @@ pub fn row_law()
     ensures again { (s : Summary) (rest : List ℕ) → SummaryFits s → row_at (row s ++ rest) ≡ Ok (s, rest) }
     ensures read { (octets : List ℕ) (s : Summary) (rest : List ℕ) → AreOctets octets → row_at octets ≡ Ok (s, rest) → SummaryFits s × (octets ≡ row s ++ rest) }
     ensures one { (a b : Summary) → SummaryFits a → SummaryFits b → row a ≡ row b → a ≡ b }
+{}
+
+/// Lists of TLVs.
+pub fn tlvs_law()
+    // TLVs that are written one after the other are walked as those TLVs.
+    ensures again { (ts : List Tlv) → tlvs_of (flat_map tlv ts) ≡ Ok ts }
+    // What is walked to its end is spelled so.
+    ensures read { (octets : List ℕ) (ts : List Tlv) → tlvs_of octets ≡ Ok ts → octets ≡ flat_map tlv ts }
+    // What stands before an overrun is all where there is none.
+    ensures before { (octets : List ℕ) (ts : List Tlv) → tlvs_of octets ≡ Ok ts → tlvs_before octets ≡ ts }
+    // The test of a whole list finds these lists alone.
+    ensures pass { (rows : Bool) (octets : List ℕ) → tlvs_pass rows octets ≡ true → AreTlvs rows octets }
+    ensures all { (rows : Bool) (octets : List ℕ) → AreTlvs rows octets → tlvs_pass rows octets ≡ true }
+{}
+
+/// Entries that are written one after the other are read as those entries.
+pub fn entries_law()
+    ensures reaches { (rs : List Reach) → AllByRecursion ReachFits rs → entries_of reach_at (flat_map reach rs) ≡ rs }
+    ensures prefixes { (ps : List Prefix) → AllByRecursion PrefixFits ps → entries_of prefix_at (flat_map prefix ps) ≡ ps }
+    ensures rows { (rows : List Summary) → AllByRecursion SummaryFits rows → entries_of row_at (flat_map row rows) ≡ rows }
+{}
+
+/// Entries in TLVs 9 of at most 15.
+pub fn rows_law()
+    // They are read as those entries.
+    ensures again { (rows : List Summary) → AllByRecursion SummaryFits rows → rows_of (row_tlvs rows) ≡ rows }
+    // They are TLVs, and each TLV 9 is whole entries.
+    ensures pass { (rows : List Summary) → AllByRecursion SummaryFits rows → tlvs_pass true (row_tlvs rows) ≡ true }
+    ensures short { (rows : List Summary) → AllByRecursion SummaryFits rows → length (row_tlvs rows) ≤ 18 * length rows }
 {}

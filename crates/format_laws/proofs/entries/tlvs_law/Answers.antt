@@ -1,0 +1,17 @@
+use Rattle.format_laws.proofs.TlvListLaws.{tlvs_again, tlvs_parts, before_all, passes_are, are_passes}
+use Rattle.format_laws.proofs.entries.tlvs_law.Goals as goal
+
+pub returns-clause-again : goal.returns-clause-again
+returns-clause-again c = tlvs_again
+
+pub returns-clause-read : goal.returns-clause-read
+returns-clause-read c = tlvs_parts
+
+pub returns-clause-before : goal.returns-clause-before
+returns-clause-before c = before_all
+
+pub returns-clause-pass : goal.returns-clause-pass
+returns-clause-pass c = passes_are
+
+pub returns-clause-all : goal.returns-clause-all
+returns-clause-all c = are_passes

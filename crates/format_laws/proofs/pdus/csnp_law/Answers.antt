@@ -1,0 +1,8 @@
+use Rattle.format_laws.proofs.PduLaws.{csnp_is, csnp_read}
+use Rattle.format_laws.proofs.pdus.csnp_law.Goals as goal
+
+pub returns-clause-spelled : goal.returns-clause-spelled
+returns-clause-spelled c = csnp_is
+
+pub returns-clause-again : goal.returns-clause-again
+returns-clause-again c = csnp_read

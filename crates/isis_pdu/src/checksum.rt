@@ -1,0 +1,53 @@
+ghost use Rattle.std.specs.Prelude.{◌≡◌, ◌↔◌, ℕ, ◌+◌, ◌*◌, ◌/◌, ◌%◌, ◌<◌, ◌≤◌, length, sum, slice_index, IsTrue};
+ghost use Rattle.wire_base.specs.model.Checksum.{weighted, is_right, IsRight, IsCheck, check_sum};
+
+/// The plain and the weighted sum of the octets, modulo 255. In the weighted sum the last octet counts once.
+fn sums(bytes: &[u8]) -> (u32, u32)
+    ensures plain { result.0 ≡ sum bytes.now % 255 }
+    ensures heavy { result.1 ≡ weighted bytes.now % 255 }
+{
+    let mut plain = 0u32;
+    let mut heavy = 0u32;
+    for byte in bytes {
+        plain = (plain + u32::from(*byte)) % 255;
+        heavy = (heavy + plain) % 255;
+    }
+    (plain, heavy)
+}
+
+/// Whether both sums are 0 modulo 255 (ISO/IEC 10589, 7.3.11).
+pub fn right_sum(bytes: &[u8]) -> bool
+    ensures right { IsTrue result ↔ IsRight bytes.now }
+    ensures value { result ≡ is_right bytes.now }
+{
+    let (plain, heavy) = sums(bytes);
+    plain == 0 && heavy == 0
+}
+
+fn pair_at(bytes: &[u8], at: usize) -> u16
+    requires within { at + 2 ≤ length bytes.now }
+    requires short { length bytes.now ≤ 65535 }
+    ensures { result ≡ check_sum bytes.now at }
+{
+    let (plain, heavy) = sums(bytes);
+    let after = (bytes.len() - at - 1) as u32;
+    let first = 255 - (heavy + (255 - plain) * after) % 255;
+    let second = 255 - (plain + first) % 255;
+    (first * 256 + second) as u16
+}
+
+/// The two octets that make the sums right when written at that place, the first one in the high octet. Each is from
+/// 1 to 255, since 0 would say that there is no checksum (ISO/IEC 10589, 7.3.11).
+pub fn checksum_at(bytes: &[u8], at: usize) -> u16
+    requires within { at + 2 ≤ length bytes.now }
+    requires short { length bytes.now ≤ 65535 }
+    requires first_zero { slice_index bytes.now at ≡ 0 }
+    requires second_zero { slice_index bytes.now (at + 1) ≡ 0 }
+    // The pair makes the octets right.
+    ensures check { IsCheck bytes.now at (result / 256, result % 256) }
+    // No other pair does.
+    ensures only { (pair : ℕ × ℕ) → IsCheck bytes.now at pair → result ≡ pair.0 * 256 + pair.1 }
+    ensures value { result ≡ check_sum bytes.now at }
+{
+    pair_at(bytes, at)
+}

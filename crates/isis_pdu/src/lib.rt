@@ -1,0 +1,16 @@
+//! IS-IS PDUs, read and written, and the checksum of link state PDUs (ISO/IEC 10589, 7.3.11 and 9.8 to 9.13).
+#![tactic(auto)]
+
+mod checksum;
+mod kinds;
+mod reader;
+mod writer;
+
+pub use checksum::{checksum_at, right_sum};
+pub use kinds::{LspHead, Pdu};
+pub use reader::read_pdu;
+pub use wire_base::PduFault;
+pub use writer::{write_csnp, write_lsp, write_psnp};
+
+#[cfg(test)]
+mod tests;

@@ -1,0 +1,206 @@
+ghost use Rattle.std.specs.Prelude.{◌≡◌, ◌<◌, Ok, IfOk, length, slice_index, drop};
+ghost use Rattle.wire_base.specs.model.Fields.{Gives};
+ghost use Rattle.wire_base.specs.model.Pdu.{lsp_type, csnp_type, psnp_type, passes, tlvs_pass, sized_at, lsp_at, csnp_at, psnp_at, body_at, pdu_at, IsPdu};
+ghost use Rattle.wire_base.specs.model.Pdu.{Pdu as PduItem};
+ghost use Rattle.isis_tlv.specs.Views.{item};
+ghost use Rattle.isis_pdu.specs.Views.{pdu_of};
+
+use crate::checksum::right_sum;
+use crate::kinds::{LspHead, Pdu};
+use isis_tlv::{Tlv, TlvWalk, lsp_id_of};
+use wire_base::fields::{four_of, octet_of, octets_of, six_of, two_of};
+use wire_base::{Level, PduFault, SystemId};
+
+/// The type of a level's link state PDUs (ISO/IEC 10589, 9.8 and 9.9).
+pub fn lsp_number(level: Level) -> u8
+    ensures { result ≡ lsp_type level }
+{
+    match level {
+        Level::One => 18,
+        Level::Two => 20,
+    }
+}
+
+/// The type of a level's complete sequence numbers PDUs (ISO/IEC 10589, 9.10 and 9.11).
+pub fn csnp_number(level: Level) -> u8
+    ensures { result ≡ csnp_type level }
+{
+    match level {
+        Level::One => 24,
+        Level::Two => 25,
+    }
+}
+
+/// The type of a level's partial sequence numbers PDUs (ISO/IEC 10589, 9.12 and 9.13).
+pub fn psnp_number(level: Level) -> u8
+    ensures { result ≡ psnp_type level }
+{
+    match level {
+        Level::One => 26,
+        Level::Two => 27,
+    }
+}
+
+fn tlv_passes(rows: bool, tlv: Tlv<'_>) -> bool
+    ensures { result ≡ passes rows (item tlv.entry) }
+{
+    !rows || tlv.code != 9 || tlv.value.len() % 16 == 0
+}
+
+/// Whether the TLVs end where the octets end and, where entries are listed, each TLV 9 is whole entries.
+fn tlvs_are_whole(rows: bool, bytes: &[u8]) -> bool
+    ensures { result ≡ tlvs_pass rows bytes.now }
+{
+    let mut walk = TlvWalk::new(bytes);
+    'tlvs: loop {
+        match walk.next() {
+            Err(_) => return false,
+            Ok(None) => return true,
+            Ok(Some(tlv)) => {
+                if !tlv_passes(rows, tlv) {
+                    return false;
+                }
+            }
+        }
+    }
+}
+
+/// The octets of a PDU after its length, which counts from the first octet of the PDU.
+#[tactic(auto, unfolding(wire_base::specs::model::Pdu::sized_at))]
+fn sized(size: u16, bytes: &[u8]) -> Result<(&[u8], &[u8]), PduFault>
+    requires { 10 < size }
+    ensures { Gives (λ x. (x.0.now, x.1.now)) result (sized_at size bytes.now) }
+{
+    let (n, rest) = two_of(PduFault::PduLength, bytes)?;
+    if n < size {
+        return Err(PduFault::PduLength);
+    }
+    octets_of(PduFault::PduLength, usize::from(n - 10), rest)
+}
+
+#[tactic(auto, unfolding(wire_base::specs::model::Pdu::lsp_at))]
+fn read_lsp(bytes: &[u8]) -> Result<Pdu<'_>, PduFault>
+    ensures { Gives pdu_of result (lsp_at bytes.now) }
+{
+    let (body, _) = sized(27, bytes)?;
+    let (life, covered) = two_of(PduFault::PduLength, body)?;
+    let (id, rest) = lsp_id_of(PduFault::PduLength, covered)?;
+    let (seq, rest) = four_of(PduFault::PduLength, rest)?;
+    let (sum, rest) = two_of(PduFault::PduLength, rest)?;
+    let (flags, tlvs) = octet_of(PduFault::PduLength, rest)?;
+    if life > 0 && !right_sum(covered) {
+        return Err(PduFault::Checksum);
+    }
+    if !tlvs_are_whole(false, tlvs) {
+        return Err(PduFault::Tlv);
+    }
+    Ok(Pdu::Lsp {
+        head: LspHead {
+            life,
+            id,
+            seq,
+            sum,
+            flags,
+        },
+        tlvs,
+    })
+}
+
+#[tactic(auto, unfolding(wire_base::specs::model::Pdu::csnp_at))]
+fn read_csnp(bytes: &[u8]) -> Result<Pdu<'_>, PduFault>
+    ensures { Gives pdu_of result (csnp_at bytes.now) }
+{
+    let (body, _) = sized(33, bytes)?;
+    let (source, rest) = six_of(PduFault::PduLength, body)?;
+    let (_circuit, rest) = octet_of(PduFault::PduLength, rest)?;
+    let (start, rest) = lsp_id_of(PduFault::PduLength, rest)?;
+    let (last, tlvs) = lsp_id_of(PduFault::PduLength, rest)?;
+    if !tlvs_are_whole(true, tlvs) {
+        return Err(PduFault::Tlv);
+    }
+    Ok(Pdu::Csnp {
+        source: SystemId(source),
+        start,
+        last,
+        tlvs,
+    })
+}
+
+#[tactic(auto, unfolding(wire_base::specs::model::Pdu::psnp_at))]
+fn read_psnp(bytes: &[u8]) -> Result<Pdu<'_>, PduFault>
+    ensures { Gives pdu_of result (psnp_at bytes.now) }
+{
+    let (body, _) = sized(17, bytes)?;
+    let (source, rest) = six_of(PduFault::PduLength, body)?;
+    let (_circuit, tlvs) = octet_of(PduFault::PduLength, rest)?;
+    if !tlvs_are_whole(true, tlvs) {
+        return Err(PduFault::Tlv);
+    }
+    Ok(Pdu::Psnp {
+        source: SystemId(source),
+        tlvs,
+    })
+}
+
+/// The PDU whose header has that length and that type, from its ninth octet on.
+#[tactic(auto, unfolding(wire_base::specs::model::Pdu::body_at))]
+fn read_body(level: Level, size: u8, number: u8, bytes: &[u8]) -> Result<Pdu<'_>, PduFault>
+    ensures { Gives pdu_of result (body_at level size number bytes.now) }
+{
+    if number == lsp_number(level) {
+        if size != 27 {
+            return Err(PduFault::HeaderLength);
+        }
+        return read_lsp(bytes);
+    }
+    if number == csnp_number(level) {
+        if size != 33 {
+            return Err(PduFault::HeaderLength);
+        }
+        return read_csnp(bytes);
+    }
+    if number == psnp_number(level) {
+        if size != 17 {
+            return Err(PduFault::HeaderLength);
+        }
+        return read_psnp(bytes);
+    }
+    if 15 <= number && number <= 17 {
+        return Ok(Pdu::Hello);
+    }
+    Ok(Pdu::Other(number))
+}
+
+#[tactic(auto, unfolding(wire_base::specs::model::Pdu::pdu_at))]
+fn read_front(level: Level, bytes: &[u8]) -> Result<Pdu<'_>, PduFault>
+    ensures { Gives pdu_of result (pdu_at level bytes.now) }
+{
+    if bytes.len() < 8 {
+        return Err(PduFault::Short);
+    }
+    if bytes[0] != 0x83 {
+        return Err(PduFault::Discriminator);
+    }
+    if bytes[2] != 1 || bytes[5] != 1 {
+        return Err(PduFault::Version);
+    }
+    if bytes[3] != 0 && bytes[3] != 6 {
+        return Err(PduFault::IdLength);
+    }
+    read_body(level, bytes[1], bytes[4] % 32, &bytes[8..])
+}
+
+/// The PDU at the front of the octets, or the first rule that they break, in the order of [`PduFault`]
+/// (ISO/IEC 10589, 9.5 to 9.13). Hellos and types that aren't link state or sequence numbers PDUs of the level are
+/// answered after the fourth rule. Octets past the PDU's length are ignored, and octets 6 and 7, the high three bits of
+/// the type and the last octet of a source aren't tested.
+pub fn read_pdu(level: Level, bytes: &[u8]) -> Result<Pdu<'_>, PduFault>
+    // What is read is a PDU of the grammar.
+    ensures found { IfOk result (λ p. IsPdu level bytes.now (pdu_of p)) }
+    // What is in the grammar is read, whatever follows it.
+    ensures only { (p : PduItem) → IsPdu level bytes.now p → Gives pdu_of result (Ok p) }
+    // Which of these it is.
+    ensures exact { Gives pdu_of result (pdu_at level bytes.now) }
+{
+    read_front(level, bytes)
+}
