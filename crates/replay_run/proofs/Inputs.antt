@@ -58,6 +58,7 @@ same_front got rest left is whole = elim (cases_lt 65536 (length got)) [
       let front : take 65536 got ≡ take 65536 left = sym (take-append-le 65536 got rest (omega (arith, gt))) ∙ ap (take 65536) (sym is) in
       ap (λ (b : Bool). answer_on b (take 65536 got)) (long ∙ sym longer) ∙ ap (answer_on (is_short left)) front
 ]
+
 pub answer_is : (before now : Option (List ℕ)) (got report front : List ℕ) (status : Status) → Consumes before now got → (length got ≤ 65536 → IsAtEnd now) → front ≡ []
     → ◌≡◌ {A = Status × List ℕ} (status, report) (behind front (answer_on (is_short got) (take 65536 got))) → (octets : List ℕ) × Held before octets × (◌≡◌ {A = Status × List ℕ} (status, report) (hop_answer octets))
 unfolding hop_answer
@@ -79,7 +80,7 @@ allowed_done input is =
     let short : is_short input ≡ true = le-leb (length input) 65536 is.short in
     let all : take 65536 input ≡ input = take_all 65536 input is.short in
     let none : refusal_from fresh 0 (lines_in (is_short input) (take 65536 input)) ≡ None =
-        ap (λ (b : Bool). refusal_from fresh 0 (lines_in b (take 65536 input))) short ∙ ap (λ (l : List ℕ). refusal_from fresh 0 (lines_in true l)) all ∙ none_refused fresh 0 (lines_in true input) is.lines in
+    ap (λ (b : Bool). refusal_from fresh 0 (lines_in b (take 65536 input))) short ∙ ap (λ (l : List ℕ). refusal_from fresh 0 (lines_in true l)) all ∙ none_refused fresh 0 (lines_in true input) is.lines in
     ap (λ (o : Option (ℕ × TextFault)). (ending (is_short input) (length (lines_in (is_short input) (take 65536 input))) (length (packets_from fresh 0 (lines_in (is_short input) (take 65536 input)))) o).0) none
     ∙ ap (λ (b : Bool). (ending b (length (lines_in (is_short input) (take 65536 input))) (length (packets_from fresh 0 (lines_in (is_short input) (take 65536 input)))) None).0) short
 

@@ -109,8 +109,8 @@ behind front answer = (answer.0, front ++ answer.1)
 -- and a last line.
 unfoldable pub answer_on : Bool → List ℕ → Status × List ℕ
 answer_on short text =
-  behind (flat_map packet_text (packets_from fresh 0 (lines_in short text)))
-  (ending short (length (lines_in short text)) (length (packets_from fresh 0 (lines_in short text))) (refusal_from fresh 0 (lines_in short text)))
+    behind (flat_map packet_text (packets_from fresh 0 (lines_in short text)))
+    (ending short (length (lines_in short text)) (length (packets_from fresh 0 (lines_in short text))) (refusal_from fresh 0 (lines_in short text)))
 
 -- those of an input
 unfoldable pub hop_answer : List ℕ → Status × List ℕ

@@ -7,7 +7,7 @@ ghost use Rattle.replay_run.specs.declared.words.Form.TheVariants as form;
 ghost use Rattle.replay_run.specs.HopText.{IsAllowed};
 ghost use Rattle.replay_run.specs.Partition.{Reports};
 ghost use Rattle.replay_run.specs.Verdict.{IsDecided, verdict};
-ghost use Rattle.replay_run.specs.Outside.{Held, Meets};
+ghost use Rattle.replay_run.specs.Outside.{Held, Meets, AppendsFront};
 ghost use Rattle.replay_run.specs.Words as words_are;
 
 use crate::hop::hop;
@@ -45,10 +45,15 @@ pub fn run<D: Source, S: Source, C: Sink, R: Sink>(
     ensures some_input { IsDecided result → (octets : List ℕ) × Held (S.left input.old) octets × IfSome (verdict (words_are.form_of (map (λ word. word.now) words.now)) (D.left conf.old) (Some octets))
         (λ owed. Meets owed result (R.written report.old) (R.written report.new) (C.written frames.old) (C.written frames.new)) }
 
-    // When each status comes.
+    // Where no count rose, the answer is the verdict's or want of memory.
+    ensures decided { D.faults conf.new ≡ D.faults conf.old → S.faults input.new ≡ S.faults input.old → C.faults frames.new ≡ C.faults frames.old → C.zeros frames.new ≡ C.zeros frames.old
+        → R.faults report.new ≡ R.faults report.old → R.zeros report.new ≡ R.zeros report.old → IsDecided result ⊎ (result ≡ status.Memory) }
+
+    // When each status comes. No command reads a domain file or a capture yet.
     ensures done { result ≡ status.Done → words_are.form_of (map (λ word. word.now) words.now) ≡ form.Hop }
     ensures done_whole { result ≡ status.Done → IsAtEnd (S.left input.new) }
     ensures usage { IsDecided result → ((result ≡ status.Usage) ↔ (words_are.form_of (map (λ word. word.now) words.now) ≡ form.Unknown)) }
+    ensures usage_or_fault { words_are.form_of (map (λ word. word.now) words.now) ≡ form.Unknown → (result ≡ status.Usage) ⊎ (result ≡ status.WriteFault) }
     ensures input_refused { result ≡ status.InputRefused → words_are.form_of (map (λ word. word.now) words.now) ≡ form.Hop }
     ensures no_conf_refused { result ≢ status.ConfRefused }
     ensures no_capture_refused { result ≢ status.CaptureRefused }
@@ -73,11 +78,14 @@ pub fn run<D: Source, S: Source, C: Sink, R: Sink>(
     ensures hop_parts { words_are.form_of (map (λ word. word.now) words.now) ≡ form.Hop → IsDecided result → IfSome (S.left input.old)
         (λ octets. Reports octets (R.written report.old) (R.written report.new)) }
 
-    // What was written is finished.
+    // What a stop leaves: what was written is finished; a fault of a source and want of memory come before anything is
+    // written; and at a fault of a sink a front of the report is written.
     ensures finished { IsDecided result → R.unfinished report.new ≡ false }
     ensures unwritten { (result ≡ status.ReadFault) ⊎ (result ≡ status.Memory) → report.new ≡ report.old }
+    ensures front { result ≡ status.WriteFault → (octets : List ℕ) × Held (S.left input.old) octets × IfSome (verdict (words_are.form_of (map (λ word. word.now) words.now)) (D.left conf.old) (Some octets))
+        (λ owed. AppendsFront (R.written report.old) (R.written report.new) owed.report) }
 
-    // What the words don't name is as before. No command reads a domain file or sends frames yet.
+    // What the words don't name is as before. No command reads a domain file or sends frames.
     ensures conf { conf.new ≡ conf.old }
     ensures frames { frames.new ≡ frames.old }
     ensures unread { words_are.form_of (map (λ word. word.now) words.now) ≡ form.Unknown → input.new ≡ input.old }
