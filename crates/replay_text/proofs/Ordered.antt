@@ -115,7 +115,7 @@ packet_ordered state args =
     read bsl None is = tt
     read bsl (Some ids) is = any_ordered bsl ids is
 
-pub words_ordered : (state : HopState) (word : List ℕ) (args : List (List ℕ)) → IfOk (words_line state word args) IsOrdered
+words_ordered : (state : HopState) (word : List ℕ) (args : List (List ℕ)) → IfOk (words_line state word args) IsOrdered
 unfolding words_line
 words_ordered state word args =
     ok_if IsOrdered (bytes_eq word (codes "bsl")) _ _ (length_ordered state args)
@@ -124,7 +124,7 @@ words_ordered state word args =
     (ok_if IsOrdered (bytes_eq word (codes "packet")) _ _ (packet_ordered state args) tt)))
 
 -- what a call answered, unless memory ran out, is what reading gives
-pub gives_ok : {X : Type 0} (P : X → Type 0) (result read : Result X TextFault) → Gives (λ x. x) result read → IfOk read P → IfOk result P
+gives_ok : {X : Type 0} (P : X → Type 0) (result read : Result X TextFault) → Gives (λ x. x) result read → IfOk read P → IfOk result P
 gives_ok P (Ok x) read gives holds = subst (λ (r : Result _ TextFault). IfOk r P) gives holds
 gives_ok P (Err e) read gives holds = tt
 
@@ -135,3 +135,6 @@ line_ordered text state = ok_if IsOrdered (ltb 16384 (length text)) _ _ tt (ok_i
     words : (ws : List (List ℕ)) → IfOk (line_of_words state ws) IsOrdered
     words [] = tt
     words (word ∷ args) = words_ordered state word args
+
+pub ordered : (result : Result HopLine TextFault) (text : List ℕ) (state : HopState) → Gives (λ x. x) result (hop_line text state) → IfOk result IsOrdered
+ordered result text state gives = gives_ok IsOrdered result (hop_line text state) gives (line_ordered text state)
