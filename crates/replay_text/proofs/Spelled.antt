@@ -1,5 +1,5 @@
 -- What is read of a line is what the grammar says, and the other way round.
-use Rattle.std.proofs.Common.{◌≡◌, ℕ, ◌≤◌, ◌⊎◌, Bool, true, false, cond, ltb, eqb, ◌||◌, List, [], ◌∷◌, length, Option, Some, None, Result, Ok, Err, refl, sym, ap, subst, ◌∙◌, arith, inl, inr}
+use Rattle.std.proofs.Common.{◌≡◌, ℕ, ◌≤◌, Bool, true, false, cond, ltb, List, [], ◌∷◌, length, Option, Some, None, Result, Ok, Err, refl, sym, ap, subst, ◌∙◌, arith, inl, inr}
 use Rattle.std.specs.Prelude.{IfOk, is_some, codes, option_and_then}
 use Rattle.std.specs.Str.{bytes_eq}
 use Rattle.std.proofs.lemmas.Bool.{cases_Bool, cases_eq, eq-eqb, ne_eqb, le-ltb, ltb-false}
@@ -21,7 +21,7 @@ use Rattle.replay_text.specs.Pieces.{words_of, only_word, two_words}
 use Rattle.replay_text.specs.Tokens.{number_of, is_name}
 use Rattle.replay_text.specs.Ids.{id_of, in_range, ids_of}
 use Rattle.replay_text.specs.Hop.{hop_line, line_of_words, words_line, length_line, length_of, length_said, own_line, own_in, row_line, packet_line, for_own, for_rows, has_row, is_comment}
-use Rattle.replay_text.specs.Grammar.{IsLength, IsOwn, IsRow, IsPacket, IsSaid, IsLine}
+use Rattle.replay_text.specs.Grammar.{IsPacket, IsSaid, IsLine}
 
 -- ---- steps
 
@@ -263,7 +263,7 @@ own_back state text bsl own number after within once =
     ∙ ap (λ (o : Option ℕ). or_fault Number o >>= (λ n. own_in (bits_of bsl) n)) number
     ∙ ap (λ (b : Bool). cond b (Err Number) (Ok (says.Own own))) (le-ltb (bits_of bsl) own within)
 
-id_back : (bound : ℕ) (text : List ℕ) (id : ℕ) → number_of text ≡ Some id → 1 ≤ id → id ≤ bound → id_of bound text ≡ Some id
+pub id_back : (bound : ℕ) (text : List ℕ) (id : ℕ) → number_of text ≡ Some id → 1 ≤ id → id ≤ bound → id_of bound text ≡ Some id
 unfolding id_of
 id_back bound text id number above within =
     ap (option_and_then (in_range bound)) number ∙ rw (ne_eqb id 0 (λ e. omega arith), le-ltb bound id within) refl

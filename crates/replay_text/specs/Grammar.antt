@@ -1,5 +1,5 @@
 -- The grammar of a hop text's lines: what a line spells, and where it may stand.
-use Rattle.std.specs.Prelude.{ℕ, ◌≡◌, ◌≤◌, ◌⊎◌, Bool, true, false, List, [], ◌∷◌, length, Option, Some, None, is_some, codes}
+use Rattle.std.specs.Prelude.{ℕ, ◌≡◌, ◌≤◌, ◌⊎◌, true, false, List, [], ◌∷◌, length, Some, None, is_some, codes}
 use Rattle.wire_base.specs.declared.bsl.Bsl.{Bsl}
 use Rattle.wire_base.specs.model.Place.{bits_of}
 use Rattle.bier_bits.specs.Any.{bsl_of, positions_of}
