@@ -12,6 +12,7 @@ use Rattle.replay_text.specs.declared.hop.HopState.{HopState}
 use Rattle.replay_text.specs.declared.hop.HopLine.{HopLine}
 use Rattle.replay_text.specs.Pieces.{lines_in}
 use Rattle.replay_text.specs.Hop.{hop_line}
+use Rattle.replay_text.proofs.Spelled.{line_back}
 use Rattle.replay_run.specs.HopText.{hop_answer, answer_on, is_short, ending, behind, packets_from, packets_of, packet_text, refusal_from, fresh, after, AreAllowed, IsAllowed}
 use Rattle.replay_run.specs.Outside.{Held}
 
@@ -72,7 +73,7 @@ answer_is (Some left) (Some rest) got report front status consumed whole none is
 none_refused : (state : HopState) (n : ℕ) (lines : List (List ℕ)) → AreAllowed state lines → refusal_from state n lines ≡ None
 unfolding refusal_from AreAllowed
 none_refused state n [] are = refl
-none_refused state n (text ∷ more) are = rw (are.1, refusal_from) (none_refused (after state are.0) (n + 1) more are.2)
+none_refused state n (text ∷ more) are = rw (line_back text state are.0 are.1, refusal_from) (none_refused (after state are.0) (n + 1) more are.2)
 
 pub allowed_done : (input : List ℕ) → IsAllowed input → (hop_answer input).0 ≡ Done
 unfolding hop_answer answer_on

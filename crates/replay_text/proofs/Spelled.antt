@@ -299,7 +299,7 @@ said_back state words (says.Row row) is = ap (line_of_words state) is.words_are 
 said_back state words (says.Packet bits) is =
     ap (line_of_words state) is.words_are ∙ packet_back state is.text (bsl_of bits) (positions_of bits) is.after is.own_known is.spelled ∙ ap (λ (b : AnyBits). Ok (says.Packet b)) (any_itself bits)
 
-line_back : (text : List ℕ) (state : HopState) (said : HopLine) → IsLine state text said → hop_line text state ≡ Ok said
+pub line_back : (text : List ℕ) (state : HopState) (said : HopLine) → IsLine state text said → hop_line text state ≡ Ok said
 unfolding hop_line
 line_back text state said is =
     ap (λ (b : Bool). cond b (Err LineLong) (cond (is_comment text) (Ok says.Empty) (line_of_words state (words_of text)))) (le-ltb 16384 (length text) is.short)
