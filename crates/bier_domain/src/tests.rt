@@ -8,7 +8,11 @@ use wire_base::{Sink, Source};
 fn a_file_written_and_read_back(rt: HostRuntime) -> Result<(), Fail> {
     let path = "bier_domain.test";
     let mut into = [0; 8];
-    assert!(rt; FileSource::new(&rt, "no/such/file").read(&mut into).is_err());
+    assert!(rt;
+        FileSource::new(&rt, "no/such/file")
+            .read(&mut into)
+            .is_err()
+    );
     fs::write(&rt, path, "what stood there before")?;
     let mut sink = FileSink::new(&rt, path);
     assert_eq!(rt; sink.write(b"bsl 64\n"), Ok(7));

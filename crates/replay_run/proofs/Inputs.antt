@@ -12,6 +12,7 @@ use Rattle.replay_text.specs.declared.hop.HopState.{HopState}
 use Rattle.replay_text.specs.declared.hop.HopLine.{HopLine}
 use Rattle.replay_text.specs.Pieces.{lines_in}
 use Rattle.replay_text.specs.Hop.{hop_line}
+use Rattle.replay_text.proofs.Spelled.{line_back}
 use Rattle.replay_run.specs.HopText.{hop_answer, answer_on, is_short, ending, behind, packets_from, packets_of, packet_text, refusal_from, fresh, after, AreAllowed, IsAllowed}
 use Rattle.replay_run.specs.Outside.{Held}
 
@@ -58,6 +59,7 @@ same_front got rest left is whole = elim (cases_lt 65536 (length got)) [
       let front : take 65536 got ≡ take 65536 left = sym (take-append-le 65536 got rest (omega (arith, gt))) ∙ ap (take 65536) (sym is) in
       ap (λ (b : Bool). answer_on b (take 65536 got)) (long ∙ sym longer) ∙ ap (answer_on (is_short left)) front
 ]
+
 pub answer_is : (before now : Option (List ℕ)) (got report front : List ℕ) (status : Status) → Consumes before now got → (length got ≤ 65536 → IsAtEnd now) → front ≡ []
     → ◌≡◌ {A = Status × List ℕ} (status, report) (behind front (answer_on (is_short got) (take 65536 got))) → (octets : List ℕ) × Held before octets × (◌≡◌ {A = Status × List ℕ} (status, report) (hop_answer octets))
 unfolding hop_answer
@@ -71,7 +73,7 @@ answer_is (Some left) (Some rest) got report front status consumed whole none is
 none_refused : (state : HopState) (n : ℕ) (lines : List (List ℕ)) → AreAllowed state lines → refusal_from state n lines ≡ None
 unfolding refusal_from AreAllowed
 none_refused state n [] are = refl
-none_refused state n (text ∷ more) are = rw (are.1, refusal_from) (none_refused (after state are.0) (n + 1) more are.2)
+none_refused state n (text ∷ more) are = rw (line_back text state are.0 are.1, refusal_from) (none_refused (after state are.0) (n + 1) more are.2)
 
 pub allowed_done : (input : List ℕ) → IsAllowed input → (hop_answer input).0 ≡ Done
 unfolding hop_answer answer_on
@@ -79,7 +81,7 @@ allowed_done input is =
     let short : is_short input ≡ true = le-leb (length input) 65536 is.short in
     let all : take 65536 input ≡ input = take_all 65536 input is.short in
     let none : refusal_from fresh 0 (lines_in (is_short input) (take 65536 input)) ≡ None =
-        ap (λ (b : Bool). refusal_from fresh 0 (lines_in b (take 65536 input))) short ∙ ap (λ (l : List ℕ). refusal_from fresh 0 (lines_in true l)) all ∙ none_refused fresh 0 (lines_in true input) is.lines in
+    ap (λ (b : Bool). refusal_from fresh 0 (lines_in b (take 65536 input))) short ∙ ap (λ (l : List ℕ). refusal_from fresh 0 (lines_in true l)) all ∙ none_refused fresh 0 (lines_in true input) is.lines in
     ap (λ (o : Option (ℕ × TextFault)). (ending (is_short input) (length (lines_in (is_short input) (take 65536 input))) (length (packets_from fresh 0 (lines_in (is_short input) (take 65536 input)))) o).0) none
     ∙ ap (λ (b : Bool). (ending b (length (lines_in (is_short input) (take 65536 input))) (length (packets_from fresh 0 (lines_in (is_short input) (take 65536 input)))) None).0) short
 

@@ -10,7 +10,7 @@ use Rattle.replay_run.specs.Words.{usage_text}
 use Rattle.replay_run.specs.HopText.{hop_answer, answer_on, packets_of, IsAllowed}
 use Rattle.replay_run.specs.Partition.{Reports}
 use Rattle.replay_run.specs.Verdict.{Verdict, verdict, IsDecided}
-use Rattle.replay_run.specs.Outside.{Held, Gave, Meets}
+use Rattle.replay_run.specs.Outside.{Held, Gave, Meets, AppendsFront}
 use Rattle.replay_run.proofs.Packets.{all_parted}
 use Rattle.replay_run.proofs.Inputs.{allowed_done}
 
@@ -25,6 +25,22 @@ told form conf (Some held) P some = subst (λ (octets : List ℕ). IfSome (verdi
 told Hop conf None P some = tt
 told Unknown conf None P some = some.2
 
+-- without a count that rose there is no fault
+pub no_fault : (result : Status) (reads reads_now writes writes_now takes takes_now : ℕ)
+    → (result ≡ ReadFault → reads < reads_now) → (result ≡ WriteFault → (writes < writes_now) ⊎ (takes < takes_now))
+    → reads_now ≡ reads → writes_now ≡ writes → takes_now ≡ takes → IsDecided result ⊎ (result ≡ Memory)
+no_fault Done reads reads_now writes writes_now takes takes_now read write r w t = inl tt
+no_fault Usage reads reads_now writes writes_now takes takes_now read write r w t = inl tt
+no_fault ConfRefused reads reads_now writes writes_now takes takes_now read write r w t = inl tt
+no_fault InputRefused reads reads_now writes writes_now takes takes_now read write r w t = inl tt
+no_fault CaptureRefused reads reads_now writes writes_now takes takes_now read write r w t = inl tt
+no_fault Memory reads reads_now writes writes_now takes takes_now read write r w t = inr refl
+no_fault ReadFault reads reads_now writes writes_now takes takes_now read write r w t = absurd (omega (arith, read refl, r))
+no_fault WriteFault reads reads_now writes writes_now takes takes_now read write r w t = elim (write refl) [
+  | inl rose ↦ absurd (omega (arith, rose, w))
+  | inr rose ↦ absurd (omega (arith, rose, t))
+]
+
 -- ---- `hop`
 
 pub hop_meets : (form : Form) (conf left before now frames : Option (List ℕ)) (result : Status) → form ≡ Hop → ((octets : List ℕ) × Held left octets × Gave (hop_answer octets) result before now)
@@ -32,6 +48,11 @@ pub hop_meets : (form : Form) (conf left before now frames : Option (List ℕ)) 
 unfolding verdict
 hop_meets form conf left before now frames result is gave =
     (gave.0, gave.1, rw is (record { status = gave.2.status; report = gave.2.report; frames = nothing_more frames }))
+
+pub hop_front : (form : Form) (conf left before now : Option (List ℕ)) → form ≡ Hop → ((octets : List ℕ) × Held left octets × AppendsFront before now (hop_answer octets).1)
+    → (octets : List ℕ) × Held left octets × IfSome (verdict form conf (Some octets)) (λ owed. AppendsFront before now owed.report)
+unfolding verdict
+hop_front form conf left before now is front = (front.0, front.1, rw is front.2)
 
 pub hop_done : (result : Status) (left before now : Option (List ℕ)) (reads reads_now writes writes_now takes takes_now : ℕ)
     → (IsDecided result → (result ≡ Done) ⊎ (result ≡ InputRefused))
@@ -79,6 +100,13 @@ hop_reports (Some octets) before now result gave = subst (λ (o : List ℕ). Rep
 held_some : (left : Option (List ℕ)) → (octets : List ℕ) × Held left octets
 held_some None = ([], tt)
 held_some (Some octets) = (octets, refl)
+
+pub usage_front : (form : Form) (conf left before now : Option (List ℕ)) → form ≡ Unknown → AppendsFront before now usage_text
+    → (octets : List ℕ) × Held left octets × IfSome (verdict form conf (Some octets)) (λ owed. AppendsFront before now owed.report)
+unfolding verdict
+usage_front form conf left before now is front =
+    let some = held_some left in
+    (some.0, some.1, rw is front)
 
 pub usage_meets : (form : Form) (conf left before now frames : Option (List ℕ)) (result : Status) → form ≡ Unknown → IsDecided result → (result ≡ Usage) ⊎ (result ≡ WriteFault) → Appends before now usage_text
     → (octets : List ℕ) × Held left octets × IfSome (verdict form conf (Some octets)) (λ owed. Meets owed result before now frames frames)

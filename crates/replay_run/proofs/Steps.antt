@@ -20,8 +20,8 @@ use Rattle.replay_run.specs.HopText.{behind, ending, fresh, after, Packet, packe
 -- The status and the report of lines that follow n others, with k packets, in a state.
 abbrev pub answer_from : Bool → HopState → ℕ → ℕ → List (List ℕ) → Status × List ℕ
 answer_from short state n k lines =
-  behind (flat_map packet_text (packets_from state n lines))
-  (ending short (n + length lines) (k + length (packets_from state n lines)) (refusal_from state n lines))
+    behind (flat_map packet_text (packets_from state n lines))
+    (ending short (n + length lines) (k + length (packets_from state n lines)) (refusal_from state n lines))
 
 behind-behind : (a b : List ℕ) (end : Status × List ℕ) → behind (a ++ b) end ≡ behind a (behind b end)
 behind-behind a b end = ap (λ (l : List ℕ). (end.0, l)) (append_assoc a b end.1)

@@ -1,5 +1,5 @@
 -- A hop text: the packets that are reached, and the report of them.
-use Rattle.std.specs.Prelude.{ℕ, ◌+◌, ◌≡◌, ◌≤◌, Bool, true, false, nat_le, List, [], ◌∷◌, ◌++◌, length, take, Option, Some, None, unwrap_or, Ok, Err, codes}
+use Rattle.std.specs.Prelude.{ℕ, ◌+◌, ◌≤◌, Bool, true, false, nat_le, List, [], ◌∷◌, ◌++◌, length, take, Option, Some, None, unwrap_or, Ok, Err, codes}
 use Rattle.std.specs.List.{flat_map}
 use Rattle.std.specs.Fmt.{decimal}
 use Rattle.wire_base.specs.declared.status.Status.{Status}
@@ -13,6 +13,7 @@ use Rattle.replay_text.specs.declared.hop.HopLine.{HopLine}
 use Rattle.replay_text.specs.declared.hop.HopLine.TheVariants as line
 use Rattle.replay_text.specs.Pieces.{lines_in}
 use Rattle.replay_text.specs.Hop.{hop_line}
+use Rattle.replay_text.specs.Grammar.{IsLine}
 use Rattle.replay_run.specs.Forward.{Outcome, outcomes, outcomes_text}
 
 -- ---- lines and what they say
@@ -109,8 +110,8 @@ behind front answer = (answer.0, front ++ answer.1)
 -- and a last line.
 unfoldable pub answer_on : Bool → List ℕ → Status × List ℕ
 answer_on short text =
-  behind (flat_map packet_text (packets_from fresh 0 (lines_in short text)))
-  (ending short (length (lines_in short text)) (length (packets_from fresh 0 (lines_in short text))) (refusal_from fresh 0 (lines_in short text)))
+    behind (flat_map packet_text (packets_from fresh 0 (lines_in short text)))
+    (ending short (length (lines_in short text)) (length (packets_from fresh 0 (lines_in short text))) (refusal_from fresh 0 (lines_in short text)))
 
 -- those of an input
 unfoldable pub hop_answer : List ℕ → Status × List ℕ
@@ -118,10 +119,10 @@ hop_answer input = answer_on (is_short input) (take 65536 input)
 
 -- ---- inputs that are done to their end
 
--- each line is one that may stand there
+-- each line is in the grammar, and may stand after the lines before it
 unfoldable pub AreAllowed : HopState → List (List ℕ) → Type 0
 AreAllowed state [] = Unit {0}
-AreAllowed state (text ∷ more) = (said : HopLine) × (hop_line text state ≡ Ok said) × AreAllowed (after state said) more
+AreAllowed state (text ∷ more) = (said : HopLine) × IsLine state text said × AreAllowed (after state said) more
 
 -- an input that isn't too long, each line of which is allowed
 pub record IsAllowed (input : List ℕ) : Type 0 where

@@ -5,6 +5,7 @@ use wire_base::{BytesSink, BytesSource, M, Octets, QuietSink, QuietSource, Rows,
 
 /// One packet on written rows, and its report.
 const ROWS: &[u8] = b"bsl 64\nself 1\nrow 2 B\nrow 3 B\nrow 4 D\npacket 1,2,3,4\n";
+
 const LINES: &[u8] = b"6 local 1\n6 copy B 2,3\n6 copy D 4\n";
 
 /// Runs `hop` over objects whose calls with these numbers fail.

@@ -7,8 +7,8 @@ ghost use Rattle.replay_run.specs.declared.words.Form.TheVariants as form;
 ghost use Rattle.replay_run.specs.HopText.{IsAllowed};
 ghost use Rattle.replay_run.specs.Partition.{Reports};
 ghost use Rattle.replay_run.specs.Verdict.{IsDecided, verdict};
-ghost use Rattle.replay_run.specs.Outside.{Held, Meets};
-ghost use Rattle.replay_run.specs.Words as words_are;
+ghost use Rattle.replay_run.specs.Outside.{Held, Meets, AppendsFront};
+ghost use Rattle.replay_run.specs.Words as forms;
 
 use crate::hop::hop;
 use crate::law::packets_are_parted;
@@ -40,16 +40,21 @@ pub fn run<D: Source, S: Source, C: Sink, R: Sink>(
 
     // The verdict on the sources that tell what they hold. Where one tells nothing, there are octets that it may have
     // held of which this is the verdict.
-    ensures verdict { IsDecided result → IfSome (verdict (words_are.form_of (map (λ word. word.now) words.now)) (D.left conf.old) (S.left input.old))
+    ensures verdict { IsDecided result → IfSome (verdict (forms.form_of (map (λ word. word.now) words.now)) (D.left conf.old) (S.left input.old))
         (λ owed. Meets owed result (R.written report.old) (R.written report.new) (C.written frames.old) (C.written frames.new)) }
-    ensures some_input { IsDecided result → (octets : List ℕ) × Held (S.left input.old) octets × IfSome (verdict (words_are.form_of (map (λ word. word.now) words.now)) (D.left conf.old) (Some octets))
+    ensures some_input { IsDecided result → (octets : List ℕ) × Held (S.left input.old) octets × IfSome (verdict (forms.form_of (map (λ word. word.now) words.now)) (D.left conf.old) (Some octets))
         (λ owed. Meets owed result (R.written report.old) (R.written report.new) (C.written frames.old) (C.written frames.new)) }
 
-    // When each status comes.
-    ensures done { result ≡ status.Done → words_are.form_of (map (λ word. word.now) words.now) ≡ form.Hop }
+    // Where no count rose, the answer is the verdict's or want of memory.
+    ensures decided { D.faults conf.new ≡ D.faults conf.old → S.faults input.new ≡ S.faults input.old → C.faults frames.new ≡ C.faults frames.old → C.zeros frames.new ≡ C.zeros frames.old
+        → R.faults report.new ≡ R.faults report.old → R.zeros report.new ≡ R.zeros report.old → IsDecided result ⊎ (result ≡ status.Memory) }
+
+    // When each status comes. No command reads a domain file or a capture yet.
+    ensures done { result ≡ status.Done → forms.form_of (map (λ word. word.now) words.now) ≡ form.Hop }
     ensures done_whole { result ≡ status.Done → IsAtEnd (S.left input.new) }
-    ensures usage { IsDecided result → ((result ≡ status.Usage) ↔ (words_are.form_of (map (λ word. word.now) words.now) ≡ form.Unknown)) }
-    ensures input_refused { result ≡ status.InputRefused → words_are.form_of (map (λ word. word.now) words.now) ≡ form.Hop }
+    ensures usage { IsDecided result → ((result ≡ status.Usage) ↔ (forms.form_of (map (λ word. word.now) words.now) ≡ form.Unknown)) }
+    ensures usage_or_fault { forms.form_of (map (λ word. word.now) words.now) ≡ form.Unknown → (result ≡ status.Usage) ⊎ (result ≡ status.WriteFault) }
+    ensures input_refused { result ≡ status.InputRefused → forms.form_of (map (λ word. word.now) words.now) ≡ form.Hop }
     ensures no_conf_refused { result ≢ status.ConfRefused }
     ensures no_capture_refused { result ≢ status.CaptureRefused }
     ensures read_fault { result ≡ status.ReadFault → (D.faults conf.old < D.faults conf.new) ⊎ (S.faults input.old < S.faults input.new) }
@@ -65,22 +70,25 @@ pub fn run<D: Source, S: Source, C: Sink, R: Sink>(
     ensures report_takes { result ≢ status.WriteFault → R.zeros report.new ≡ R.zeros report.old }
 
     // `hop` is done wherever its input is in the grammar, each line may stand where it stands, and no count rose.
-    ensures hop_complete { words_are.form_of (map (λ word. word.now) words.now) ≡ form.Hop → IfSome (S.left input.old) (λ octets. IsAllowed octets
+    ensures hop_complete { forms.form_of (map (λ word. word.now) words.now) ≡ form.Hop → IfSome (S.left input.old) (λ octets. IsAllowed octets
         → S.faults input.new ≡ S.faults input.old → R.faults report.new ≡ R.faults report.old → R.zeros report.new ≡ R.zeros report.old
         → (result ≡ status.Done) ⊎ (result ≡ status.Memory)) }
 
     // Each id of each packet of the input stands in exactly one of the lines that are reported of that packet.
-    ensures hop_parts { words_are.form_of (map (λ word. word.now) words.now) ≡ form.Hop → IsDecided result → IfSome (S.left input.old)
+    ensures hop_parts { forms.form_of (map (λ word. word.now) words.now) ≡ form.Hop → IsDecided result → IfSome (S.left input.old)
         (λ octets. Reports octets (R.written report.old) (R.written report.new)) }
 
-    // What was written is finished.
+    // What a stop leaves: what was written is finished; a fault of a source and want of memory come before anything is
+    // written; and at a fault of a sink a front of the report is written.
     ensures finished { IsDecided result → R.unfinished report.new ≡ false }
     ensures unwritten { (result ≡ status.ReadFault) ⊎ (result ≡ status.Memory) → report.new ≡ report.old }
+    ensures front { result ≡ status.WriteFault → (octets : List ℕ) × Held (S.left input.old) octets × IfSome (verdict (forms.form_of (map (λ word. word.now) words.now)) (D.left conf.old) (Some octets))
+        (λ owed. AppendsFront (R.written report.old) (R.written report.new) owed.report) }
 
-    // What the words don't name is as before. No command reads a domain file or sends frames yet.
+    // What the words don't name is as before. No command reads a domain file or sends frames.
     ensures conf { conf.new ≡ conf.old }
     ensures frames { frames.new ≡ frames.old }
-    ensures unread { words_are.form_of (map (λ word. word.now) words.now) ≡ form.Unknown → input.new ≡ input.old }
+    ensures unread { forms.form_of (map (λ word. word.now) words.now) ≡ form.Unknown → input.new ≡ input.old }
 {
     packets_are_parted();
     match form_of(words) {

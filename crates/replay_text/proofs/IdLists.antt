@@ -19,7 +19,7 @@ ids_step bound id set new text piece more total changed is good so_far =
     let one : ids_after bound set (piece ∷ more) ≡ ids_after bound (with_member id set) more = rw good refl in
     ap (λ (s : List ℕ). ids_after bound s more) changed ∙ sym (ap (ids_after bound set) is ∙ one) ∙ so_far
 
-any_itself : (bits : AnyBits) → any_of (bsl_of bits) (positions_of bits) ≡ bits
+pub any_itself : (bits : AnyBits) → any_of (bsl_of bits) (positions_of bits) ≡ bits
 any_itself (B64 set) = refl
 any_itself (B128 set) = refl
 any_itself (B256 set) = refl

@@ -1,8 +1,8 @@
 -- The ids of a packet line ascend from 1 to the length.
-use Rattle.std.proofs.Common.{◌≡◌, ℕ, zero, suc, ◌<◌, ◌≤◌, Bool, true, false, cond, eqb, ltb, ◌||◌, List, [], ◌∷◌, length, Option, Some, None, Result, Ok, Err, refl, sym, ap, subst, ◌∙◌, arith, inl, inr}
+use Rattle.std.proofs.Common.{◌≡◌, ℕ, zero, suc, ◌<◌, ◌≤◌, Bool, true, false, cond, ltb, List, [], ◌∷◌, length, Option, Some, None, Result, Ok, Err, refl, subst, arith, inl, inr}
 use Rattle.std.specs.Prelude.{IfSome, IfOk, is_some, codes, option_and_then}
 use Rattle.std.specs.Str.{bytes_eq}
-use Rattle.std.proofs.lemmas.Bool.{cases_eq, cases_order, cases_Bool, eq-eqb, ne_eqb, lt-ltb, le-ltb, eqb-false, ltb-false}
+use Rattle.std.proofs.lemmas.Bool.{cases_eq, cases_order, cases_Bool, eq-eqb, ne_eqb, lt-ltb, le-ltb, ltb-false}
 use Rattle.wire_base.specs.declared.bsl.Bsl.{Bsl}
 use Rattle.wire_base.specs.declared.bsl.Bsl.TheVariants as lengths
 use Rattle.wire_base.specs.model.BitSet.{with_member, IsWithin}
@@ -10,7 +10,7 @@ use Rattle.wire_base.specs.model.Place.{bits_of, bsl_with}
 use Rattle.wire_base.specs.model.Fields.{◌>>=◌}
 use Rattle.bier_bits.specs.Any.{any_of, bsl_of, positions_of}
 use Rattle.replay_text.specs.declared.fault.TextFault.{TextFault}
-use Rattle.replay_text.specs.declared.fault.TextFault.TheVariants.{Word, Number, Name, LineLong}
+use Rattle.replay_text.specs.declared.fault.TextFault.TheVariants.{Word, Number}
 use Rattle.replay_text.specs.declared.hop.HopState.{HopState}
 use Rattle.replay_text.specs.declared.hop.HopLine.{HopLine}
 use Rattle.replay_text.specs.declared.hop.HopLine.TheVariants as says
@@ -18,7 +18,7 @@ use Rattle.replay_text.specs.Reading.{or_fault, Gives}
 use Rattle.replay_text.specs.Pieces.{pieces, words_of, only_word, two_words}
 use Rattle.replay_text.specs.Tokens.{number_of, is_name}
 use Rattle.replay_text.specs.Ids.{id_of, in_range, ids_of, ids_after}
-use Rattle.replay_text.specs.Hop.{IsOrdered, hop_line, line_of_words, words_line, length_line, length_of, own_line, own_in, row_line, packet_line, for_own, for_rows, has_row, is_comment, length_said}
+use Rattle.replay_text.specs.Hop.{IsOrdered, hop_line, line_of_words, words_line, length_line, length_of, own_line, row_line, packet_line, for_own, for_rows, has_row, is_comment, length_said}
 
 within_with : (low high p : ℕ) (xs : List ℕ) → low < p → p ≤ high → IsWithin low high xs → IsWithin low high (with_member p xs)
 within_with low high p [] above below is = (above, below, tt)
@@ -115,7 +115,7 @@ packet_ordered state args =
     read bsl None is = tt
     read bsl (Some ids) is = any_ordered bsl ids is
 
-pub words_ordered : (state : HopState) (word : List ℕ) (args : List (List ℕ)) → IfOk (words_line state word args) IsOrdered
+words_ordered : (state : HopState) (word : List ℕ) (args : List (List ℕ)) → IfOk (words_line state word args) IsOrdered
 unfolding words_line
 words_ordered state word args =
     ok_if IsOrdered (bytes_eq word (codes "bsl")) _ _ (length_ordered state args)
@@ -124,7 +124,7 @@ words_ordered state word args =
     (ok_if IsOrdered (bytes_eq word (codes "packet")) _ _ (packet_ordered state args) tt)))
 
 -- what a call answered, unless memory ran out, is what reading gives
-pub gives_ok : {X : Type 0} (P : X → Type 0) (result read : Result X TextFault) → Gives (λ x. x) result read → IfOk read P → IfOk result P
+gives_ok : {X : Type 0} (P : X → Type 0) (result read : Result X TextFault) → Gives (λ x. x) result read → IfOk read P → IfOk result P
 gives_ok P (Ok x) read gives holds = subst (λ (r : Result _ TextFault). IfOk r P) gives holds
 gives_ok P (Err e) read gives holds = tt
 
@@ -135,3 +135,6 @@ line_ordered text state = ok_if IsOrdered (ltb 16384 (length text)) _ _ tt (ok_i
     words : (ws : List (List ℕ)) → IfOk (line_of_words state ws) IsOrdered
     words [] = tt
     words (word ∷ args) = words_ordered state word args
+
+pub ordered : (result : Result HopLine TextFault) (text : List ℕ) (state : HopState) → Gives (λ x. x) result (hop_line text state) → IfOk result IsOrdered
+ordered result text state gives = gives_ok IsOrdered result (hop_line text state) gives (line_ordered text state)

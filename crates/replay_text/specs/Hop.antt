@@ -89,9 +89,9 @@ is_comment (c ∷ text) = c == 35
 -- a line of at most 16,384 octets, that is no comment, by its words
 unfoldable pub hop_line : List ℕ → HopState → Result HopLine TextFault
 hop_line text state =
-  if nat_lt 16384 (length text) then Err LineLong else
-  if is_comment text then Ok line.Empty else
-  line_of_words state (words_of text)
+    if nat_lt 16384 (length text) then Err LineLong else
+    if is_comment text then Ok line.Empty else
+    line_of_words state (words_of text)
 
 -- A packet's ids ascend from 1 to the length of its bit string.
 abbrev pub IsOrdered : HopLine → Type 0

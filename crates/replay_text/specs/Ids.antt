@@ -1,9 +1,9 @@
 -- Lists of ids, and their text.
-use Rattle.std.specs.Prelude.{ℕ, List, [], ◌∷◌, ◌++◌, ◌==◌, ◌||◌, nat_lt, Option, Some, None, option_and_then, if◌then◌else◌}
+use Rattle.std.specs.Prelude.{ℕ, ◌≡◌, ◌<◌, ◌^◌, List, [], ◌∷◌, ◌++◌, ◌==◌, ◌||◌, nat_lt, Option, Some, None, option_and_then, if◌then◌else◌}
 use Rattle.std.specs.List.{flat_map}
 use Rattle.std.specs.Str.{bytes_eq}
 use Rattle.std.specs.Fmt.{decimal}
-use Rattle.wire_base.specs.model.BitSet.{with_member}
+use Rattle.wire_base.specs.model.BitSet.{with_member, IsWithin}
 use Rattle.replay_text.specs.Pieces.{pieces}
 use Rattle.replay_text.specs.Tokens.{number_of}
 
@@ -27,3 +27,7 @@ ids_of bound text = if bytes_eq text (45 ∷ []) then Some [] else ids_after bou
 abbrev pub ids_text : List ℕ → List ℕ
 ids_text [] = 45 ∷ []
 ids_text (id ∷ ids) = decimal id ++ flat_map (λ next. 44 ∷ decimal next) ids
+
+-- Where ids ascend from 1 to a bound of 16 bits, their text is read as them.
+abbrev pub AreReadAgain : List ℕ → Type 0
+AreReadAgain ids = (bound : ℕ) → bound < 2 ^ 16 → IsWithin 0 bound ids → ids_of bound (ids_text ids) ≡ Some ids

@@ -3,3 +3,4 @@ pub mod Pieces
 pub mod Tokens
 pub mod Ids
 pub mod Hop
+pub mod Grammar

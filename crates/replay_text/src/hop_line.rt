@@ -1,9 +1,10 @@
 //! One line of a hop text.
-ghost use Rattle.std.specs.Prelude.{◌≡◌, IfOk};
+ghost use Rattle.std.specs.Prelude.{◌≡◌, IfOk, Ok};
 ghost use Rattle.wire_base.specs.model.Place.{bsl_with};
 ghost use Rattle.replay_text.specs.Reading.{Gives};
 ghost use Rattle.replay_text.specs.Pieces.{words_of};
 ghost use Rattle.replay_text.specs.Hop as hop;
+ghost use Rattle.replay_text.specs.Grammar.{IsLine};
 
 use crate::fault::TextFault;
 use crate::hop::{HopLine, HopRow, HopState};
@@ -144,16 +145,10 @@ fn is_comment(line: &[u8]) -> bool
     }
 }
 
-/// What a line of a hop text says after the lines before it. The line comes without its line end.
-///
-/// Refused, in this order, as `LineLong` where the line has more than 16,384 octets; as `Word` where its first word
-/// is unknown, has the wrong count of words after it, or may not stand here: `bsl L` comes first, `self K` second,
-/// then `row K NAME` lines, then `packet IDS` lines; then its arguments from left to right, as `Number` or `Name`.
-/// `Memory` may come in place of any answer.
+/// The same, as the first fault or what is said.
 #[tactic(auto, unfolding(crate::specs::Hop::hop_line))]
-pub fn read_hop_line(alloc: Global, line: &[u8], state: &HopState) -> Result<HopLine, TextFault>
+fn line_of(alloc: Global, line: &[u8], state: &HopState) -> Result<HopLine, TextFault>
     ensures value { Gives (λ x. x) result (hop.hop_line line.now state.now) }
-    ensures ordered { IfOk result hop.IsOrdered }
 {
     if line.len() > LINE_LIMIT {
         return Err(TextFault::LineLong);
@@ -165,4 +160,20 @@ pub fn read_hop_line(alloc: Global, line: &[u8], state: &HopState) -> Result<Hop
         None => Ok(HopLine::Empty),
         Some((word, args)) => words_line(alloc, state, word, args),
     }
+}
+
+/// What a line of a hop text says after the lines before it. The line comes without its line end.
+///
+/// Refused, in this order, as `LineLong` where the line has more than 16,384 octets; as `Word` where its first word
+/// is unknown, has the wrong count of words after it, or may not stand here: `bsl L` comes first, `self K` second,
+/// then `row K NAME` lines, then `packet IDS` lines; then its arguments from left to right, as `Number` or `Name`.
+/// `Memory` may come in place of any answer.
+#[tactic(auto, using(crate::proofs::Spelled::found, crate::proofs::Spelled::only, crate::proofs::Ordered::ordered))]
+pub fn read_hop_line(alloc: Global, line: &[u8], state: &HopState) -> Result<HopLine, TextFault>
+    ensures value { Gives (λ x. x) result (hop.hop_line line.now state.now) }
+    ensures found { IfOk result (IsLine state.now line.now) }
+    ensures only { (said : HopLine) → IsLine state.now line.now said → Gives (λ x. x) result (Ok said) }
+    ensures ordered { IfOk result hop.IsOrdered }
+{
+    line_of(alloc, line, state)
 }

@@ -4,7 +4,7 @@ ghost use Rattle.std.specs.Fmt.{decimal};
 ghost use Rattle.std.specs.List.{flat_map};
 ghost use Rattle.wire_base.specs.model.Place.{bits_of};
 ghost use Rattle.bier_bits.specs.Any.{any_of};
-ghost use Rattle.replay_text.specs.Ids.{ids_text, id_of, ids_of, ids_after};
+ghost use Rattle.replay_text.specs.Ids.{ids_text, id_of, ids_of, ids_after, AreReadAgain};
 ghost use Rattle.replay_text.specs.Pieces.{pieces};
 
 use crate::pieces::cut;
@@ -54,9 +54,11 @@ fn read_pieces(text: &[u8], bsl: Bsl) -> Option<AnyBits>
 
 /// Appends the ids with commas between them, or `-` for none. Ascending ids from 1 on are read again as what they
 /// are. Where memory is refused, nothing is appended.
+#[tactic(auto, using(crate::proofs::Again::are_read_again))]
 pub fn push_ids(out: &mut Octets, ids: &[u16]) -> M<()>
     ensures ok { OnOk result (out.new ≡ out.old ++ ids_text ids.now) }
     ensures err { OnErr result (out.new ≡ out.old) }
+    ensures again { AreReadAgain ids.now }
 {
     let len = out.len();
     let pushed = push_each(out, ids);

@@ -78,33 +78,33 @@ fn ways<'a>(alloc: Global, rows: &'a [HopRow], ids: &[u16]) -> M<Vec<Way<'a>>>
 fn group_of(alloc: Global, along: &[Way<'_>], name: &[u8]) -> M<Vec<u16>>
     ensures { IfOk result (λ group. group.items ≡ forward.group_of name.now along.now) }
 {
-    Ok(along
-        .iter()
-        .filter(|way| way.leads_to(name))
-        .map(|way| way.id)
-        .collect(alloc)?)
+    Ok(
+        along
+            .iter()
+            .filter(|way| way.leads_to(name))
+            .map(|way| way.id)
+            .collect(alloc)?,
+    )
 }
 
 /// The ids but for the own one.
 fn others(alloc: Global, own: u16, ids: &[u16]) -> M<Vec<u16>>
     ensures { IfOk result (λ rest. rest.items ≡ forward.others own ids.now) }
 {
-    Ok(ids
-        .iter()
-        .copied()
-        .filter(|id| *id != own)
-        .collect(alloc)?)
+    Ok(ids.iter().copied().filter(|id| *id != own).collect(alloc)?)
 }
 
 /// The ids without a row.
 fn unrouted(alloc: Global, along: &[Way<'_>]) -> M<Vec<u16>>
     ensures { IfOk result (λ rest. rest.items ≡ forward.unrouted along.now) }
 {
-    Ok(along
-        .iter()
-        .filter(|way| way.name.is_none())
-        .map(|way| way.id)
-        .collect(alloc)?)
+    Ok(
+        along
+            .iter()
+            .filter(|way| way.name.is_none())
+            .map(|way| way.id)
+            .collect(alloc)?,
+    )
 }
 
 /// The number of a packet's line, and what follows it.

@@ -1,5 +1,5 @@
 use Rattle.std.proofs.Common.{sym, ◌∙◌}
-use Rattle.replay_run.proofs.Owed.{told, hop_meets, hop_done, hop_reports, usage_meets}
+use Rattle.replay_run.proofs.Owed.{told, no_fault, hop_meets, hop_front, hop_done, hop_reports, usage_meets, usage_front}
 use Rattle.replay_run.proofs.top.run.Goals as goal
 
 pub returns-in-Hop-clause-some_input : goal.returns-in-Hop-clause-some_input
@@ -19,3 +19,12 @@ returns-in-Unknown-clause-some_input g c decided = usage_meets _ (g.D.Source.lef
 
 pub returns-in-Unknown-clause-verdict : goal.returns-in-Unknown-clause-verdict
 returns-in-Unknown-clause-verdict g c decided = told _ (g.D.Source.left c.args.conf.now) (g.S.Source.left c.args.input.now) _ (usage_meets _ (g.D.Source.left c.args.conf.now) (g.S.Source.left c.args.input.now) (g.R.Sink.written c.args.report.now) (g.R.Sink.written c.deliver.new.report) (g.C.Sink.written c.args.frames.now) c.deliver.result (sym c.form_of.ensures ∙ c.in-Unknown.is) decided c.deliver.ensures.status (c.deliver.ensures.written decided))
+
+pub returns-in-Hop-clause-decided : goal.returns-in-Hop-clause-decided
+returns-in-Hop-clause-decided g c conf input frames_faults frames_zeros faults zeros = no_fault c.hop.result _ _ _ _ _ _ c.hop.ensures.read c.hop.ensures.write input faults zeros
+
+pub returns-in-Hop-clause-front : goal.returns-in-Hop-clause-front
+returns-in-Hop-clause-front g c failed = hop_front _ (g.D.Source.left c.args.conf.now) (g.S.Source.left c.args.input.now) (g.R.Sink.written c.args.report.now) (g.R.Sink.written c.hop.new.report) (sym c.form_of.ensures ∙ c.in-Hop.is) (c.hop.ensures.front failed)
+
+pub returns-in-Unknown-clause-front : goal.returns-in-Unknown-clause-front
+returns-in-Unknown-clause-front g c failed = usage_front _ (g.D.Source.left c.args.conf.now) (g.S.Source.left c.args.input.now) (g.R.Sink.written c.args.report.now) (g.R.Sink.written c.deliver.new.report) (sym c.form_of.ensures ∙ c.in-Unknown.is) (c.deliver.ensures.front failed)

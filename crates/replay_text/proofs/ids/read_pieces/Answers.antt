@@ -27,8 +27,7 @@ returns-in-None c =
 pub pieces-preserved : goal.pieces-preserved
 pieces-preserved c =
     let good : id_of (bits_of c.args.bsl) c.cut.result.0.now ≡ Some c.in_ok-id.field-0 = ap (λ (n : ℕ). id_of n c.cut.result.0.now) (sym c.bits.ensures) ∙ sym c.in_ok-id.ensures.value in
-    let more = rw c.in-Some.is at c.cut.ensures.pieces in
-    (
+    let more = rw c.in-Some.is at c.cut.ensures.pieces in (
       c.set.ensures.bsl ∙ c.pieces.invariant.0,
       ids_step (bits_of c.args.bsl) c.in_ok-id.field-0 (positions_of c.pieces.ids) (positions_of c.set.new.self) c.pieces.rest.now c.cut.result.0.now _ _ c.set.ensures.positions more good c.pieces.invariant.1,
     )
