@@ -129,7 +129,7 @@ twice_goes : (n : ℕ) (reading : Reading) → length reading.octets < n → dra
 twice_goes zero reading enough = absurd (omega (arith, enough))
 twice_goes (suc n) reading enough =
     subst (λ (done : List CaptureRecord × Reading). drained done.1 ≡ ([], done.1)) (sym (drained_next reading))
-      (twice_on n (length reading.octets) (next_of reading) (omega (arith, enough)) (next_shrinks reading) (spent reading) (λ r. twice_goes n r))
+    (twice_on n (length reading.octets) (next_of reading) (omega (arith, enough)) (next_shrinks reading) (spent reading) (λ r. twice_goes n r))
 
 -- after all records there is none
 pub drained_twice : (reading : Reading) → drained (drained reading).1 ≡ ([], (drained reading).1)

@@ -26,16 +26,16 @@ formed_grows None octets more = refl
 formed_grows (Some form) octets more = elim (cases_lt (length octets) 24) [
   | inl lt ↦ rw (lt-ltb (length octets) 24 lt) tt
   | inr le ↦
-    let later : ltb (length (octets ++ more)) 24 ≡ false = le-ltb (length (octets ++ more)) 24 (omega (arith, length-append octets more)) in
-    let version : is_version form (octets ++ more) ≡ is_version form octets = rw (number_same form 2 4 octets more (omega arith), number_same form 2 6 octets more (omega arith)) refl in
-    let link : is_ethernet form (octets ++ more) ≡ is_ethernet form octets = rw (number_same form 4 20 octets more (omega arith)) refl in
-    elim (cases_Bool (is_version form octets)) [
-      | inr not_so ↦ rw (le-ltb (length octets) 24 le, later, version, not_so) refl
-      | inl is ↦ elim (cases_Bool (is_ethernet form octets)) [
-        | inr not_so ↦ rw (le-ltb (length octets) 24 le, later, version, is, link, not_so) refl
-        | inl is_link ↦ rw (le-ltb (length octets) 24 le, later, version, is, link, is_link, drop-append-le 24 octets more le) refl
+      let later : ltb (length (octets ++ more)) 24 ≡ false = le-ltb (length (octets ++ more)) 24 (omega (arith, length-append octets more)) in
+      let version : is_version form (octets ++ more) ≡ is_version form octets = rw (number_same form 2 4 octets more (omega arith), number_same form 2 6 octets more (omega arith)) refl in
+      let link : is_ethernet form (octets ++ more) ≡ is_ethernet form octets = rw (number_same form 4 20 octets more (omega arith)) refl in
+      elim (cases_Bool (is_version form octets)) [
+        | inr not_so ↦ rw (le-ltb (length octets) 24 le, later, version, not_so) refl
+        | inl is ↦ elim (cases_Bool (is_ethernet form octets)) [
+          | inr not_so ↦ rw (le-ltb (length octets) 24 le, later, version, is, link, not_so) refl
+          | inl is_link ↦ rw (le-ltb (length octets) 24 le, later, version, is, link, is_link, drop-append-le 24 octets more le) refl
+        ]
       ]
-    ]
 ]
 
 pub header_grows : (octets more : List ℕ) → Grows more (header_at octets) (header_at (octets ++ more))
@@ -43,8 +43,8 @@ unfolding header_at
 header_grows octets more = elim (cases_lt (length octets) 4) [
   | inl lt ↦ rw (lt-ltb (length octets) 4 lt) tt
   | inr le ↦
-    let later : ltb (length (octets ++ more)) 4 ≡ false = le-ltb (length (octets ++ more)) 4 (omega (arith, length-append octets more)) in
-    rw (le-ltb (length octets) 4 le, later, big_from-append 4 octets more le) (formed_grows (form_of (big_number 4 octets)) octets more)
+      let later : ltb (length (octets ++ more)) 4 ≡ false = le-ltb (length (octets ++ more)) 4 (omega (arith, length-append octets more)) in
+      rw (le-ltb (length octets) 4 le, later, big_from-append 4 octets more le) (formed_grows (form_of (big_number 4 octets)) octets more)
 ]
 
 record_same : (form : CaptureForm) (captured : ℕ) (octets more : List ℕ) → 16 ≤ length octets → captured ≤ length octets - 16
@@ -58,8 +58,8 @@ frame_grows : (form : CaptureForm) (captured : ℕ) (octets more : List ℕ) →
 frame_grows form captured octets more head = elim (cases_lt (length octets - 16) captured) [
   | inl lt ↦ rw (lt-ltb (length octets - 16) captured lt) tt
   | inr le ↦
-    let later : ltb (length (octets ++ more) - 16) captured ≡ false = le-ltb (length (octets ++ more) - 16) captured (omega (arith, length-append octets more)) in
-    rw (le-ltb (length octets - 16) captured le, later, record_same form captured octets more head le, drop-append-le (16 + captured) octets more (omega arith)) refl
+      let later : ltb (length (octets ++ more) - 16) captured ≡ false = le-ltb (length (octets ++ more) - 16) captured (omega (arith, length-append octets more)) in
+      rw (le-ltb (length octets - 16) captured le, later, record_same form captured octets more head le, drop-append-le (16 + captured) octets more (omega arith)) refl
 ]
 
 pub record_grows : (form : CaptureForm) (octets more : List ℕ) → Grows more (record_at form octets) (record_at form (octets ++ more))
@@ -67,13 +67,13 @@ unfolding record_at
 record_grows form octets more = elim (cases_lt (length octets) 16) [
   | inl lt ↦ rw (lt-ltb (length octets) 16 lt) tt
   | inr le ↦
-    let later : ltb (length (octets ++ more)) 16 ≡ false = le-ltb (length (octets ++ more)) 16 (omega (arith, length-append octets more)) in
-    let captured = number_in form 4 (drop 8 octets) in
-    let same : number_in form 4 (drop 8 (octets ++ more)) ≡ captured = number_same form 4 8 octets more (omega arith) in
-    elim (cases_lt most_captured captured) [
-      | inl long ↦ rw (le-ltb (length octets) 16 le, later, same, lt-ltb most_captured captured long) refl
-      | inr short ↦ rw (le-ltb (length octets) 16 le, later, same, le-ltb most_captured captured short) (frame_grows form captured octets more le)
-    ]
+      let later : ltb (length (octets ++ more)) 16 ≡ false = le-ltb (length (octets ++ more)) 16 (omega (arith, length-append octets more)) in
+      let captured = number_in form 4 (drop 8 octets) in
+      let same : number_in form 4 (drop 8 (octets ++ more)) ≡ captured = number_same form 4 8 octets more (omega arith) in
+      elim (cases_lt most_captured captured) [
+        | inl long ↦ rw (le-ltb (length octets) 16 le, later, same, lt-ltb most_captured captured long) refl
+        | inr short ↦ rw (le-ltb (length octets) 16 le, later, same, le-ltb most_captured captured short) (frame_grows form captured octets more le)
+      ]
 ]
 
 -- What a reader answers stays when it is fed more first; where it had no record, it goes on from where it stands.
@@ -95,7 +95,7 @@ unfolding next_of
 by_header_grows octets more (Ok None) later is grows = ap (by_header (octets ++ more)) is
 by_header_grows octets more (Ok (Some read)) later is grows =
     subst (NextGrows more (by_record read.0 read.1 (record_at read.0 read.1))) (sym (ap (by_header (octets ++ more)) grows))
-      (by_record_grows read.0 read.1 more (record_at read.0 read.1) (record_at read.0 (read.1 ++ more)) refl (record_grows read.0 read.1 more))
+    (by_record_grows read.0 read.1 more (record_at read.0 read.1) (record_at read.0 (read.1 ++ more)) refl (record_grows read.0 read.1 more))
 by_header_grows octets more (Err fault) later is grows = ap (by_header (octets ++ more)) grows
 
 next_in_grows : (stage : Stage) (octets more : List ℕ) → NextGrows more (next_in stage octets) (next_in stage (octets ++ more))

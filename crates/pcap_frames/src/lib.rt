@@ -4,6 +4,8 @@
 mod header;
 mod reader;
 mod record;
+#[cfg(test)]
+mod tests;
 mod write;
 
 pub use reader::Reader;

@@ -1,7 +1,8 @@
 //! A reader of a capture file whose octets come in pieces.
-ghost use Rattle.std.specs.Prelude.{◌≡◌, ◌≤◌, ℕ, List, length, drop, OnOk, OnErr, Ok, None, option_map};
+ghost use Rattle.std.specs.Prelude.{◌≡◌, ◌≤◌, ◌↔◌, ℕ, List, length, drop, OnOk, OnErr, Ok, None, option_map};
 ghost use Rattle.std.specs.List.{concat};
-ghost use Rattle.wire_base.specs.model.Capture.{Reading, unread, fed, drained, read_pieces, next_of, by_header, by_record, header_at, record_at, end_of, HeaderToCome};
+ghost use Rattle.wire_base.specs.model.Capture.{CaptureRecord, IsCapture, Reading, unread, fed, drained, read_pieces, capture_at, next_of, by_header, by_record, header_at, record_at, end_of, HeaderToCome};
+ghost use Rattle.wire_base.specs.model.Fields.{AreOctets};
 ghost use Rattle.pcap_frames.specs.Seen.{form_seen, record_seen, Answers, after_answer, fault_in, opened_end, cut_end};
 
 use crate::header::{Form, HEADER, read_header};
@@ -43,6 +44,7 @@ impl Reader {
     /// A reader that was fed nothing. The records are those of all octets that it is fed, however they are cut.
     pub fn new(alloc: Global) -> Reader
         ensures empty { result ≡ unread }
+        ensures captures { (octets : List ℕ) (records : List CaptureRecord) → AreOctets octets → (capture_at octets ≡ (records, None)) ↔ IsCapture octets records }
         ensures pieces { (pieces : List (List ℕ)) → read_pieces result pieces ≡ drained (fed result (concat pieces)) }
     {
         Reader {
@@ -84,6 +86,7 @@ impl Reader {
     pub fn next(&mut self) -> Result<Option<CapRecord>, CaptureFault>
         ensures exact { Answers (option_map record_seen) result (next_of self.old).0 }
         ensures after { self.new ≡ after_answer result self.old (next_of self.old).1 }
+        ensures none { result ≡ Ok None → (next_of self.new).0 ≡ Ok None }
     {
         match self.step {
             Step::Header => self.open(),

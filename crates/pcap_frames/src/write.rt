@@ -1,7 +1,7 @@
 //! Capture files as they are written: microseconds, the lowest octet first, version 2.4, at most 65,535 octets of a
 //! frame, Ethernet.
-ghost use Rattle.std.specs.Prelude.{◌≡◌, ◌≤◌, ◌++◌, length, OnOk, OnErr};
-ghost use Rattle.wire_base.specs.model.Capture.{written_header, written_record, octets_in, written_form};
+ghost use Rattle.std.specs.Prelude.{◌≡◌, ◌≤◌, ◌++◌, ℕ, List, true, length, drop, Ok, Some, OnOk, OnErr};
+ghost use Rattle.wire_base.specs.model.Capture.{header_at, record_at, written_header, written_record, octets_in, written_form};
 
 use byteorder::{ByteOrder, LittleEndian};
 use wire_base::{M, Octets};
@@ -15,6 +15,7 @@ const WRITTEN_HEADER: [u8; 24] = [
 /// Appends the header of a capture file.
 pub fn write_cap_header(out: &mut Octets) -> M<()>
     ensures ok { OnOk result (out.new ≡ out.old ++ written_header) }
+    ensures again { OnOk result ((rest : List ℕ) → header_at (drop (length out.old) out.new ++ rest) ≡ Ok (Some (written_form, rest))) }
     ensures err { OnErr result (out.new ≡ out.old) }
 {
     out.append(&WRITTEN_HEADER)
@@ -22,6 +23,16 @@ pub fn write_cap_header(out: &mut Octets) -> M<()>
 
 /// Appends a record of a whole frame of at most 65,535 octets, and the second and the microsecond at which it was sent.
 pub fn write_cap_record(out: &mut Octets, sec: u32, usec: u32, frame: &[u8]) -> M<()>
+    requires { length frame.now ≤ 65535 }
+    ensures ok { OnOk result (out.new ≡ out.old ++ written_record sec usec frame.now) }
+    ensures again { OnOk result ((rest : List ℕ) → record_at written_form (drop (length out.old) out.new ++ rest) ≡ Ok (Some (record { sec = sec; usec = usec; whole = true; octets = frame.now }, rest))) }
+    ensures err { OnErr result (out.new ≡ out.old) }
+{
+    append_record(out, sec, usec, frame)
+}
+
+/// Appends the record's header and the frame, or neither.
+fn append_record(out: &mut Octets, sec: u32, usec: u32, frame: &[u8]) -> M<()>
     requires { length frame.now ≤ 65535 }
     ensures ok { OnOk result (out.new ≡ out.old ++ written_record sec usec frame.now) }
     ensures err { OnErr result (out.new ≡ out.old) }
