@@ -2,7 +2,7 @@
 //! BIER; and the rows of a forwarding table.
 ghost use Rattle.std.specs.Prelude.{◌≡◌, ◌==◌, ◌&&◌};
 ghost use Rattle.std.specs.List.{list_any};
-ghost use Rattle.wire_base.specs.model.Graph.{covers, kind_of, sub_covers, is_range_for, is_row_for};
+ghost use Rattle.wire_base.specs.model.Graph.{IsGraph, covers, kind_of, sub_covers, is_range_for, is_row_for};
 
 use crate::addresses::{Ipv4, SystemId};
 use crate::conf::{Kind, LabelRange, SubKind, TableRow};
@@ -53,6 +53,16 @@ impl Model for View {
     ghost view = { λ v. record { nodes = v.nodes } };
 
     ghost invariant = { λ v. IsGraph v.nodes };
+}
+
+impl View {
+    /// The nodes, in the order of their systems.
+    pub fn as_slice(&self) -> &[ViewNode]
+        ensures nodes { result.now ≡ self.now.nodes }
+        ensures graph { IsGraph result.now }
+    {
+        self.nodes.as_slice()
+    }
 }
 
 /// A router to which a bit may be sent: its system, and the place of the end where it is reached directly, or None where
