@@ -2,3 +2,5 @@ mod QueueLemmas
 mod RelaxLemmas
 mod SettleLemmas
 mod SkipLemmas
+mod WaysLemmas
+mod ReachLemmas

@@ -31,7 +31,12 @@ pub(crate) fn search(
     queue.push(0, start)?;
     while let Some((length, node)) = next_waiting(&mut queue, settled.as_slice()) {
         settled[node as usize] = true;
-        relax(ways_on(nodes, ways, start, node), length, &mut found, &mut queue)?;
+        relax(
+            ways_on(nodes, ways, start, node),
+            length,
+            &mut found,
+            &mut queue,
+        )?;
     }
     Ok(found)
 }
@@ -43,7 +48,11 @@ fn first_lengths(alloc: Global, count: usize, start: u16) -> M<Vec<Option<u64>>>
 {
     let mut first: Vec<Option<u64>> = Vec::new(alloc);
     for node in 0..count {
-        first.push(if node == start as usize { Some(0) } else { None })?;
+        first.push(if node == start as usize {
+            Some(0)
+        } else {
+            None
+        })?;
     }
     Ok(first)
 }
@@ -81,12 +90,7 @@ fn ways_on<'a>(
 }
 
 /// Counts each edge that leads on from a node of that length.
-fn relax(
-    edges: &[ViewEdge],
-    reached: u64,
-    found: &mut Vec<Option<u64>>,
-    queue: &mut Queue,
-) -> M<()>
+fn relax(edges: &[ViewEdge], reached: u64, found: &mut Vec<Option<u64>>, queue: &mut Queue) -> M<()>
     requires edges { All (λ e. IsEdge (length found.old.items) e) edges.now }
     requires small { reached ≤ 2 ^ 48 }
     ensures { OnOk result (Relaxed edges.now reached found.old.items queue.old found.new.items queue.new) }

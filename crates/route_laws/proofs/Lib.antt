@@ -6,4 +6,5 @@ pub mod ChoiceLemmas
 pub mod OwnerLemmas
 pub mod HopCountLemmas
 pub mod RouteLemmas
+pub mod LastLemmas
 pub mod HopLemmas

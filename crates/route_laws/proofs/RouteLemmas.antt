@@ -25,7 +25,7 @@ Leads-append g u x d (e ∷ es) fs free l k = (l.0, inr (passes es l.1 l.2), Lea
     passes [] (inl h) l = rw l free
     passes (y ∷ ys) (inl h) l = cc
 
-cost-append : (es fs : List ViewEdge) → cost (es ++ fs) ≡ cost es + cost fs
+pub cost-append : (es fs : List ViewEdge) → cost (es ++ fs) ≡ cost es + cost fs
 cost-append [] fs = omega arith
 cost-append (e ∷ es) fs = omega (arith, cost-append es fs)
 

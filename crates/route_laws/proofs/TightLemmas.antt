@@ -1,16 +1,16 @@
 -- The list of the tight steps from a node.
-use Rattle.std.proofs.Common.{◌≡◌, ℕ, zero, suc, ◌+◌, ◌<◌, ◌≤◌, Bool, true, false, cond, List, [], ◌∷◌, ◌++◌, length, Option, Some, None, refl, ap, arith, sym, ◌∙◌, ◌⊎◌, inl, inr, Contains, AllPairs, subst, map, filter, take, get_or, slice_get, ◌&&◌, ◌↔◌}
-use Rattle.std.proofs.lemmas.Bool.{cases_Bool, eqb-true, eq-eqb}
-use Rattle.std.proofs.lemmas.List.Elements.{filter_more}
+use Rattle.std.proofs.Common.{◌≡◌, ℕ, zero, suc, ◌+◌, ◌<◌, ◌≤◌, Bool, true, false, cond, List, [], ◌∷◌, ◌++◌, length, Option, Some, None, refl, ap, arith, sym, ◌∙◌, ◌⊎◌, inl, inr, Contains, All, AllPairs, subst, map, filter, take, get_or, slice_get, ◌&&◌, ◌↔◌}
+use Rattle.std.proofs.lemmas.Bool.{cases_Bool, cases_lt, eqb-true, eq-eqb}
+use Rattle.std.proofs.lemmas.List.Elements.{All-head, All-tail, filter_more}
 use Rattle.std.proofs.lemmas.List.Kept.{AllPairs-filter}
 use Rattle.std.proofs.lemmas.List.{length-map, take_all}
 use Rattle.std.proofs.lemmas.Option.{get_or_from_slice_get, slice_get_within, slice_get_read}
 use Rattle.wire_base.specs.declared.view.ViewEdge.{ViewEdge}
 use Rattle.wire_base.specs.declared.view.ViewNode.{ViewNode}
-use Rattle.wire_base.specs.model.Graph.{edges_at, edges_of, is_overloaded, IsGraph}
+use Rattle.wire_base.specs.model.Graph.{edges_at, edges_of, is_overloaded, IsGraph, IsEdge}
 use Rattle.wire_base.specs.model.Walk.{dist, may_enter}
-use Rattle.wire_base.specs.model.Tight.{IsTight, makes_up, is_tight, tight_list}
-use Rattle.route_laws.proofs.WalkLemmas.{Contains-cases, enter-cases, may-enter-end, may-enter-free}
+use Rattle.wire_base.specs.model.Tight.{IsTight, makes_up, is_tight, tight_list, tight_from}
+use Rattle.route_laws.proofs.WalkLemmas.{edges-good, edges-node, Contains-cases, enter-cases, may-enter-end, may-enter-free}
 use Rattle.route_laws.proofs.DescentLemmas.{edge-within}
 
 -- lists under a map and a filter
@@ -152,3 +152,36 @@ tight_list-ordered g good d f u i j z h k =
 pub edges-read : (g : List ViewNode) (u : ℕ) (n : ViewNode) (es : List ViewEdge) (i : ℕ) → u < length g → n ≡ get_or g u n → es ≡ n.edges → length es ≤ i → take i es ≡ edges_of g u
 edges-read g u n es i within q r done =
     take_all i es done ∙ r ∙ sym (ap edges_at (slice_get_read g (length g) u n refl within q))
+
+-- the list with other lengths that agree at the nodes
+pub tight_list-same : (g : List ViewNode) (d count : ℕ) (f h : ℕ → Option ℕ) (u : ℕ) → f u ≡ h u → ((x : ℕ) → x < count → f x ≡ h x) → (es : List ViewEdge) → All (λ e. IsEdge count e) es → tight_list g d f u es ≡ tight_list g d h u es
+tight_list-same g d count f h u here same [] good = refl
+tight_list-same g d count f h u here same (e ∷ es) good =
+    let head = All-head (λ e. IsEdge count e) e es good in
+    let rest = tight_list-same g d count f h u here same es (All-tail (λ e. IsEdge count e) e es good) in
+    rw (here, same e.to head.names) (go (is_tight g d h u e) rest)
+  where
+    go : (b : Bool) → tight_list g d f u es ≡ tight_list g d h u es → map (λ e. e.to) (cond b (e ∷ filter (is_tight g d f u) es) (filter (is_tight g d f u) es)) ≡ map (λ e. e.to) (cond b (e ∷ filter (is_tight g d h u) es) (filter (is_tight g d h u) es))
+    go true q = ap (λ xs. e.to ∷ xs) q
+    go false q = q
+
+-- where the lengths are the distances to d, the list is that of the tight steps
+pub tight_list-from : (g : List ViewNode) → IsGraph g → (d u : ℕ) (f : ℕ → Option ℕ) → ((x : ℕ) → x < length g → f x ≡ dist g x d) → tight_list g d f u (edges_of g u) ≡ tight_from g d u
+unfolding tight_from
+tight_list-from g good d u f same =
+    elim (cases_lt u (length g)) [
+      | inl h ↦ tight_list-same g d (length g) f (λ x. dist g x d) u (same u h) same (edges_of g u) (edges-good g good u)
+      | inr h ↦ none (edges_of g u) (λ e there. (let w = edges-node g u e there in omega arith))
+    ]
+  where
+    none : (es : List ViewEdge) → ((e : ViewEdge) → Contains es e → ⊥) → tight_list g d f u es ≡ tight_list g d (λ x. dist g x d) u es
+    none [] empty = refl
+    none (e ∷ es) empty = absurd (empty e (0, omega arith, refl))
+
+pub tight_from-ordered : (g : List ViewNode) → IsGraph g → (d u : ℕ) → AllPairs (λ a b. a < b) (tight_from g d u)
+unfolding tight_from
+tight_from-ordered g good d u = tight_list-ordered g good d (λ x. dist g x d) u
+
+pub tight_from-IsTight : (g : List ViewNode) → IsGraph g → (d u x : ℕ) → u < length g → Contains (tight_from g d u) x ↔ IsTight g d u x
+unfolding tight_from
+tight_from-IsTight g good d u x node = tight_list-IsTight g good d (λ x. dist g x d) (λ x l. refl) u node x

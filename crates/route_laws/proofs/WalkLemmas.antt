@@ -167,6 +167,14 @@ edges-good g h u = from (slice_get g u) refl
     from None q = λ k d l. absurd (omega arith)
     from (Some n) q = (rw (get_or_from_slice_get g u n n q) at (h.nodes u n (slice_get_within g u n q))).edges
 
+-- only nodes have edges
+pub edges-node : (g : List ViewNode) (u : ℕ) (e : ViewEdge) → Contains (edges_of g u) e → u < length g
+edges-node g u e there = go (slice_get g u) refl there
+  where
+    go : (o : Option ViewNode) → slice_get g u ≡ o → Contains (edges_at o) e → u < length g
+    go None q (k, l, p) = absurd (omega arith)
+    go (Some n) q h = slice_get_within g u n q
+
 cost-small : (g : List ViewNode) → IsGraph g → (u d : ℕ) (es : List ViewEdge) → Leads g u d es → cost es ≤ length es * 2 ^ 32
 cost-small g h u d [] l = omega arith
 cost-small g h u d (e ∷ es) l =

@@ -22,3 +22,8 @@ pub fn walks_bound()
 pub fn tight_steps_exist()
     ensures { (g : List ViewNode) (u d n : ℕ) → IsGraph g → u < length g → (u ≡ d → ⊥) → dist g u d ≡ Some n → (v : ℕ) × (v < length g) × IsTight g d u v }
 {}
+
+/// Each distance but 0 ends with an edge from a node that may be passed, or from the start.
+pub fn last_edges_exist()
+    ensures { (g : List ViewNode) (u d n : ℕ) → IsGraph g → u < length g → (d ≡ u → ⊥) → dist g u d ≡ Some n → (x : ℕ) × (e : ViewEdge) × (r : ℕ) × Contains (edges_of g x) e × (e.to ≡ d) × (dist g u x ≡ Some r) × (r + e.metric ≡ n) }
+{}

@@ -8,7 +8,7 @@ mod examples;
 mod outcomes;
 
 pub use choices::{descent, firsts_are_listed, tunnels_arrive};
-pub use distances::{distance_is_least, tight_steps_exist, walks_bound};
+pub use distances::{distance_is_least, last_edges_exist, tight_steps_exist, walks_bound};
 pub use examples::{
     edges_lead_one_way, equal_lengths_tie, fork_needs_a_tunnel, line_is_not_passed,
     outcomes_in_order, ring_has_two_ways,

@@ -13,8 +13,8 @@ loop-length-init c f reach =
     let v : c.in_ok-settled.settled.items ≡ replicate (length g) false = c.in_ok-settled.ensures.items_if_clones_equal (λ y q. q) in
     subst (λ xs. IsSettling (length g) ways (may_enter g c.args.start) c.args.start f xs c.in_ok-found.found.items c.push.new.self) (sym v)
     (starting (length g) ways (may_enter g c.args.start) c.args.start f reach c.requires.within c.in_ok-found.found.items c.push.new.self c.in_ok-found.ensures.rows c.in_ok-found.ensures.each
-      (first-in c.new-queue.result c.push.new.self (0, c.args.start) c.new-queue.ensures c.in_ok-push.ensures)
-      (first-only c.new-queue.result c.push.new.self (0, c.args.start) c.new-queue.ensures c.in_ok-push.ensures))
+    (first-in c.new-queue.result c.push.new.self (0, c.args.start) c.new-queue.ensures c.in_ok-push.ensures)
+    (first-only c.new-queue.result c.push.new.self (0, c.args.start) c.new-queue.ensures c.in_ok-push.ensures))
 
 pub next_waiting-requires : goal.next_waiting-requires
 next_waiting-requires c =

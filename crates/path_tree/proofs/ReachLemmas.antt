@@ -1,0 +1,103 @@
+-- What the searches are to find.
+use Rattle.std.proofs.Common.{◌≡◌, ℕ, ◌+◌, ◌-◌, ◌<◌, ◌≤◌, ◌^◌, ◌⊎◌, inl, inr, true, false, List, length, Contains, Option, Some, None, IfSome, refl, ap, arith, sym, ◌∙◌, subst}
+use Rattle.std.proofs.lemmas.Option.{same_Some}
+use Rattle.wire_base.specs.declared.view.ViewEdge.{ViewEdge}
+use Rattle.wire_base.specs.declared.view.ViewNode.{ViewNode}
+use Rattle.wire_base.specs.model.Graph.{edges_of, is_overloaded, IsGraph}
+use Rattle.wire_base.specs.model.Walk.{AreDists, IsDist, dist, may_enter}
+use Rattle.route_laws.specs.Bounds.{IsAtMost}
+use Rattle.route_laws.proofs.WalkLemmas.{at-most-of, best-IsDist, best-small, edges-node, enter-cases, may-enter-end, may-enter-free}
+use Rattle.route_laws.proofs.DescentLemmas.{dist-end, dist-over, dist-edge, edge-within}
+use Rattle.route_laws.proofs.LastLemmas.{dist-last-over, dist-last}
+use Rattle.path_tree.specs.Search.{IsReach, lengths, ways_of}
+use Rattle.path_tree.specs.Ways.{AreIncoming, AreOutgoing, AreDistsFrom}
+
+module _ (g : List ViewNode) (good : IsGraph g) where
+  dist-small : (u d : ℕ) → IfSome (dist g u d) (λ n. n ≤ 2 ^ 48)
+  unfolding dist
+  dist-small u d = best-small g good d (length g - 1) u (omega (arith, good.few))
+
+  entered : (d x : ℕ) → (x ≡ d) ⊎ (is_overloaded g x ≡ false) → may_enter g d x ≡ true
+  entered d x (inl h) = may-enter-end g d x h
+  entered d x (inr h) = may-enter-free g d x h
+
+  -- a search from d over the edges that lead into each node
+  pub reach-to : (ways : List (List ViewEdge)) → AreIncoming g ways → (d : ℕ) → d < length g → IsReach (length g) (ways_of ways) (may_enter g d) d (λ x. dist g x d)
+  reach-to ways i d node =
+      record {
+        starts = dist-end g d;
+        over =
+            λ x e r within enters there q.
+            (let was = (i.each x e within).0 there in
+            let o = dist-over g good e.to d r (record { to = x; metric = e.metric }) (edges-node g e.to (record { to = x; metric = e.metric }) was) was (enter-cases g d x enters) q in
+            at-most-of (dist g e.to d) o.0 (r + e.metric) o.1 (omega (arith, o.2)));
+        last =
+            λ y n within apart q.
+            (let s = dist-edge g good y d n within apart q in
+            let t = s.2 in
+            let leaves : Contains (edges_of g y) (record { to = s.0; metric = t.edge.metric }) = subst (λ (v : ℕ). Contains (edges_of g y) (record { to = v; metric = t.edge.metric })) t.enters t.leaves in
+            let sum : t.rest + t.edge.metric ≡ n = same-sum y n t.edge.metric t.rest q t.whole in
+            record {
+              from = s.0;
+              within = s.1;
+              goes_on = entered d s.0 t.passes;
+              edge = record { to = y; metric = t.edge.metric };
+              there = (i.each s.0 (record { to = y; metric = t.edge.metric }) s.1).1 leaves;
+              leads = refl;
+              rest = t.rest;
+              known = t.from_there;
+              sum = sum;
+              positive = (edge-within g good y t.edge t.leaves).positive;
+            });
+        small = λ x within. dist-small x d;
+      }
+    where
+      same-sum : (y n m r : ℕ) → dist g y d ≡ Some n → dist g y d ≡ Some (m + r) → r + m ≡ n
+      same-sum y n m r p q = let e : n ≡ m + r = same_Some n (m + r) (sym p ∙ q) in omega arith
+
+  -- a search from u over the edges of each node
+  pub reach-from : (ways : List (List ViewEdge)) → AreOutgoing g ways → (u : ℕ) → u < length g → IsReach (length g) (ways_of ways) (may_enter g u) u (λ x. dist g u x)
+  reach-from ways o u node =
+      record {
+        starts = dist-end g u;
+        over =
+            λ x e r within enters there q.
+            (let here : Contains (edges_of g x) e = subst (λ es. Contains es e) (o.each x within) there in
+            let w = dist-last-over g good u x r e node (enter-cases g u x enters) here q in
+            at-most-of (dist g u e.to) w.0 (r + e.metric) w.1 w.2);
+        last =
+            λ y n within apart q.
+            (let t = dist-last g good u y n node apart q in
+            record {
+              from = t.from;
+              within = t.within;
+              goes_on = entered u t.from t.passes;
+              edge = t.edge;
+              there = subst (λ es. Contains es t.edge) (sym (o.each t.from t.within)) t.there;
+              leads = t.ends;
+              rest = t.rest;
+              known = t.known;
+              sum = t.sum;
+              positive = (edge-within g good t.from t.edge t.there).positive;
+            });
+        small = λ x within. dist-small u x;
+      }
+
+  pub dists-to : (ways : List (List ViewEdge)) → AreIncoming g ways → (d : ℕ) → d < length g → (xs : List (Option ℕ)) → length xs ≡ length g
+      → ((f : ℕ → Option ℕ) → IsReach (length g) (ways_of ways) (may_enter g d) d f → (x : ℕ) → x < length g → lengths xs x ≡ f x) → AreDists g d xs
+  dists-to ways i d node xs long found = record { rows = long; each = found (λ x. dist g x d) (reach-to ways i d node) }
+
+  pub dists-from : (ways : List (List ViewEdge)) → AreOutgoing g ways → (u : ℕ) → u < length g → (xs : List (Option ℕ)) → length xs ≡ length g
+      → ((f : ℕ → Option ℕ) → IsReach (length g) (ways_of ways) (may_enter g u) u f → (x : ℕ) → x < length g → lengths xs x ≡ f x) → AreDistsFrom g u xs
+  dists-from ways o u node xs long found = record { rows = long; each = found (λ x. dist g u x) (reach-from ways o u node) }
+
+dist-is : (g : List ViewNode) (u d : ℕ) → u < length g → IsDist g u d (dist g u d)
+unfolding dist
+dist-is g u d within = best-IsDist g d u (length g - 1) (omega arith)
+
+-- the distances as those of walks
+pub walks-to : (g : List ViewNode) (d : ℕ) (xs : List (Option ℕ)) → AreDists g d xs → (u : ℕ) → u < length g → IsDist g u d (lengths xs u)
+walks-to g d xs a u within = subst (λ o. IsDist g u d o) (sym (a.each u within)) (dist-is g u d within)
+
+pub walks-from : (g : List ViewNode) (u : ℕ) (xs : List (Option ℕ)) → u < length g → AreDistsFrom g u xs → (d : ℕ) → d < length g → IsDist g u d (lengths xs d)
+walks-from g u xs node a d within = subst (λ o. IsDist g u d o) (sym (a.each d within)) (dist-is g u d node)

@@ -1,0 +1,31 @@
+-- The ways of a search: the edges that leave each node, or those that lead into it, turned round.
+use Rattle.std.specs.Prelude.{◌≡◌, ℕ, zero, suc, ◌<◌, List, [], ◌∷◌, ◌++◌, length, fold, replicate, slice_set, slice_index_or, Contains, ◌↔◌, Option, None}
+use Rattle.wire_base.specs.declared.view.ViewEdge.{ViewEdge}
+use Rattle.wire_base.specs.declared.view.ViewNode.{ViewNode}
+use Rattle.wire_base.specs.model.Graph.{edges_of}
+use Rattle.wire_base.specs.model.Walk.{dist}
+use Rattle.path_tree.specs.Search.{ways_of}
+
+-- an edge from a node, turned round and put to the ways of the node that it leads to
+abbrev pub put : ℕ → List (List ViewEdge) → ViewEdge → List (List ViewEdge)
+put from ways e = slice_set ways e.to (ways_of ways e.to ++ record { to = from; metric = e.metric } ∷ [])
+
+-- the edges of the first k nodes, turned round
+abbrev pub turned : List ViewNode → ℕ → List (List ViewEdge)
+turned g zero = replicate (length g) []
+turned g (suc k) = fold (put k) (turned g k) (edges_of g k)
+
+-- the ways of x lead back over each edge that leads into x
+pub record AreIncoming (g : List ViewNode) (ways : List (List ViewEdge)) : Type 0 where
+  pub rows : length ways ≡ length g
+  pub each : (x : ℕ) (e : ViewEdge) → x < length g → (Contains (ways_of ways x) e ↔ Contains (edges_of g e.to) (record { to = x; metric = e.metric }))
+
+-- the ways of x are its edges
+pub record AreOutgoing (g : List ViewNode) (ways : List (List ViewEdge)) : Type 0 where
+  pub rows : length ways ≡ length g
+  pub each : (x : ℕ) → x < length g → ways_of ways x ≡ edges_of g x
+
+-- these are the distances from u to the nodes
+pub record AreDistsFrom (g : List ViewNode) (u : ℕ) (xs : List (Option ℕ)) : Type 0 where
+  pub rows : length xs ≡ length g
+  pub each : (x : ℕ) → x < length g → slice_index_or xs x None ≡ dist g u x

@@ -1,0 +1,35 @@
+//! The distances to a router, and from one.
+ghost use Rattle.std.specs.Prelude.{◌≡◌, ◌<◌, ℕ, None, IfOk, length, slice_index_or};
+ghost use Rattle.wire_base.specs.model.Walk.{AreDists, IsDist};
+ghost use Rattle.path_tree.specs.Ways.{AreDistsFrom};
+
+use crate::search::search;
+use crate::ways::{incoming, outgoing};
+use std::alloc::Global;
+use wire_base::{M, Rows, View};
+
+/// For each node the sum of the metrics of a shortest walk to `d` that goes through no overloaded node between its ends
+/// (ISO/IEC 10589, 7.2.6 and 7.2.8.1). None exactly where there is no walk.
+pub fn distances_to(alloc: Global, v: &View, d: u16) -> M<Rows<Option<u64>>>
+    requires node { d < length v.now.nodes }
+    ensures walks { IfOk result (λ dist. (u : ℕ) → u < length v.now.nodes → IsDist v.now.nodes u d (slice_index_or dist u None)) }
+    ensures dists { IfOk result (λ dist. AreDists v.now.nodes d dist) }
+{
+    let nodes = v.as_slice();
+    let ways = incoming(alloc, nodes)?;
+    let found = search(alloc, nodes, ways.as_slice(), d)?;
+    Rows::from_slice(alloc, found.as_slice())
+}
+
+/// For each node the sum of the metrics of a shortest walk from `u` to it that goes through no overloaded node between its
+/// ends. None exactly where there is no walk.
+pub fn distances_from(alloc: Global, v: &View, u: u16) -> M<Rows<Option<u64>>>
+    requires node { u < length v.now.nodes }
+    ensures walks { IfOk result (λ dist. (d : ℕ) → d < length v.now.nodes → IsDist v.now.nodes u d (slice_index_or dist d None)) }
+    ensures dists { IfOk result (λ dist. AreDistsFrom v.now.nodes u dist) }
+{
+    let nodes = v.as_slice();
+    let ways = outgoing(alloc, nodes)?;
+    let found = search(alloc, nodes, ways.as_slice(), u)?;
+    Rows::from_slice(alloc, found.as_slice())
+}
