@@ -1,14 +1,8 @@
 //! The view of the domain that a router has: the routers that it knows of, the links between them and what each says of
 //! BIER; and the rows of a forwarding table.
-<<<<<<< HEAD
 ghost use Rattle.std.specs.Prelude.{◌≡◌, is_some, option_map};
 ghost use Rattle.wire_base.specs.model.Place.{bift_by, label_in, row_in, same_triple};
 ghost use Rattle.wire_base.specs.model.Graph.{IsGraph, covers, place_in};
-=======
-ghost use Rattle.std.specs.Prelude.{◌≡◌, ◌==◌, ◌&&◌};
-ghost use Rattle.std.specs.List.{list_any};
-ghost use Rattle.wire_base.specs.model.Graph.{IsGraph, covers, kind_of, sub_covers, is_range_for, is_row_for};
->>>>>>> 187f01fba41947d704f447d908131b4c50b0d453
 
 use crate::addresses::{Ipv4, SystemId};
 use crate::conf::{Kind, LabelRange, SubKind, TableRow};
