@@ -1,1 +1,2 @@
+pub mod FirstStates
 pub mod Validity

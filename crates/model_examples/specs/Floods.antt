@@ -1,10 +1,11 @@
 -- Flood states and PDUs on which flooding is tried. Router 9 has two links, both up, and no flag.
-use Rattle.std.specs.Prelude.{ℕ, Bool, true, false, List, [], ◌∷◌, fold}
+use Rattle.std.specs.Prelude.{ℕ, zero, suc, Bool, true, false, List, [], ◌∷◌, fold}
 use Rattle.wire_base.specs.declared.entry.Entry.{Entry}
 use Rattle.wire_base.specs.declared.triple.Summary.{Summary}
 use Rattle.wire_base.specs.model.Pdu.{Head, Pdu, row_tlvs}
 use Rattle.wire_base.specs.model.Control.{Flood, FlagRow, Control}
-use Rattle.wire_base.specs.model.Flooding.{LspAnswer, on_lsp, SnpAnswer, on_csnp, on_psnp, on_pdu, send, first_control}
+use Rattle.wire_base.specs.model.OwnLsp.{own_lsp}
+use Rattle.wire_base.specs.model.Flooding.{LspAnswer, on_lsp, SnpAnswer, on_csnp, on_psnp, on_pdu, send, first_control, lsp_of, tick, end_up, end_down}
 use Rattle.model_examples.specs.Domains.{lsp, system, pair_a, pair_b}
 
 abbrev pub no_flag : Flood
@@ -54,3 +55,25 @@ a_heard = hears_all (send (first_control pair_a) 0).control (send b_heard 0).sen
 
 abbrev pub b_settled : Control
 b_settled = hears_all (send b_heard 0).control (send a_heard 0).sent
+
+-- five seconds later
+abbrev pub ticks : ℕ → Control → Control
+ticks zero c = c
+ticks (suc n) c = (tick (ticks n c)).control
+
+abbrev pub b_after_five : Control
+b_after_five = ticks 5 (hears (first_control pair_b) (lsp_of (own_lsp pair_a (true ∷ []) 1)))
+
+-- a router whose first end went down and up
+abbrev pub flapped : Control → Control
+flapped c = (end_up (end_down c 0).control 0).control
+
+-- A of the pair with one entry, of that life, and no flag
+abbrev pub aging : Entry → ℕ → Control
+aging e life =
+    record {
+      conf = pair_a;
+      flood = record { own = system 1; up = true ∷ []; due = false ∷ []; rows = [] };
+      entries = record e { life = life } ∷ [];
+      spent = false;
+    }

@@ -1,14 +1,19 @@
-ghost use Rattle.std.specs.Prelude.{◌≡◌, ℕ, List, true, false, [], ◌∷◌, Some, None, map};
+ghost use Rattle.std.specs.Prelude.{◌≡◌, ℕ, List, true, false, [], ◌∷◌, Some, None, map, drop};
 ghost use Rattle.wire_base.specs.declared.cause.Cause.TheVariants as cause;
 ghost use Rattle.wire_base.specs.declared.flood_out.FloodOut.TheVariants as out;
+ghost use Rattle.wire_base.specs.declared.conf.RouterConf.{RouterConf};
 ghost use Rattle.wire_base.specs.declared.entry.Entry.{Entry};
-ghost use Rattle.wire_base.specs.model.Pdu.{row_tlvs, PsnpPdu};
-ghost use Rattle.wire_base.specs.model.Control.{purge, srm, ssn, is_full, entry_in, Flood, own_entry_in};
+ghost use Rattle.wire_base.specs.model.Configuration.{IsSound};
+ghost use Rattle.wire_base.specs.declared.conf.Level.TheVariants.{Two};
+ghost use Rattle.wire_base.specs.model.Lists.{blocks};
+ghost use Rattle.wire_base.specs.model.Pdu.{pdu};
+ghost use Rattle.wire_base.specs.model.Control.{purge, is_full, entry_in, own_entry_in, seq_of, IsControl};
 ghost use Rattle.wire_base.specs.model.OwnLsp.{own_lsp};
-ghost use Rattle.wire_base.specs.model.Flooding.{on_lsp, on_pdu, id_after, wanted, first_control, lsp_of, reissue, restart, end_down, send_of, tick};
+ghost use Rattle.wire_base.specs.model.Flooding.{on_lsp, on_pdu, id_after, wanted, first_control, lsp_of, reissue, restart, end_down, end_up, send_of, tick, csnps, csnp_of, zero_id, last_id};
 ghost use Rattle.model_examples.specs.Domains.{lsp, system, pair_a, pair_b};
 ghost use Rattle.model_examples.specs.Entries.{told};
-ghost use Rattle.model_examples.specs.Floods.{no_flag, flags, head, summary, content, heard, told_by, told_whole, entry, b_heard, a_heard, b_settled};
+ghost use Rattle.model_examples.specs.Floods.{no_flag, flags, head, summary, content, heard, told_by, told_whole, entry, flapped, aging, b_after_five};
+ghost use Rattle.model_examples.specs.Vectors.{pair_b_psnp};
 
 /// What an LSP on the first of two links asks for, and what the database is then.
 #[tactic(auto, unfolding(wire_base::specs::model::Flooding::on_lsp, wire_base::specs::model::Flooding::mark_all))]
@@ -82,4 +87,44 @@ pub fn the_last_sequence_number_is_purged()
 #[tactic(auto, unfolding(wire_base::specs::model::Flooding::reissue, wire_base::specs::model::Flooding::on_pdu, wire_base::specs::model::Flooding::on_lsp, wire_base::specs::model::Flooding::mark_all, wire_base::specs::model::Flooding::first_control, wire_base::specs::model::Flooding::started, wire_base::specs::model::Flooding::new_flood, wire_base::specs::model::OwnLsp::own_lsp))]
 pub fn a_restarted_router_passes_its_old_lsp()
     ensures { own_entry_in (on_pdu (first_control pair_a) 0 (lsp_of (own_lsp pair_a (true ∷ []) 7))).control ≡ Some (own_lsp pair_a (true ∷ []) 8) }
+{}
+
+/// B of the pair hears A's LSP, and five seconds later sends its CSNP, its own LSP and the acknowledgement, in this order.
+#[tactic(auto, unfolding(wire_base::specs::model::Flooding::first_control, wire_base::specs::model::Flooding::started, wire_base::specs::model::Flooding::new_flood, wire_base::specs::model::Flooding::mark_all, wire_base::specs::model::Flooding::forget, wire_base::specs::model::Flooding::send, wire_base::specs::model::Flooding::send_of, wire_base::specs::model::Flooding::sent_on, wire_base::specs::model::Flooding::on_pdu, wire_base::specs::model::Flooding::on_lsp, wire_base::specs::model::Flooding::reissue, wire_base::specs::model::Flooding::reissue_unless_spent, wire_base::specs::model::Flooding::end_up, wire_base::specs::model::Flooding::end_down, wire_base::specs::model::Flooding::link_up, wire_base::specs::model::Flooding::link_down, wire_base::specs::model::Flooding::tick, wire_base::specs::model::Flooding::aged_all, wire_base::specs::model::Flooding::id_after, wire_base::specs::model::OwnLsp::own_lsp, wire_base::specs::model::OwnLsp::own_content, wire_base::specs::model::Checksum::check_sum, wire_base::specs::model::Pdu::row_tlvs, wire_base::specs::model::Pdu::blocks_within))]
+pub fn pair_acknowledges_an_lsp()
+    ensures sent { drop 2 (map (pdu Two) (send_of b_after_five 0)) ≡ pair_b_psnp ∷ [] }
+{}
+
+/// Each change of an end issues the own LSP anew; three times down and up make the sequence number 7.
+#[tactic(auto, unfolding(wire_base::specs::model::Flooding::first_control, wire_base::specs::model::Flooding::started, wire_base::specs::model::Flooding::new_flood, wire_base::specs::model::Flooding::mark_all, wire_base::specs::model::Flooding::forget, wire_base::specs::model::Flooding::send, wire_base::specs::model::Flooding::send_of, wire_base::specs::model::Flooding::sent_on, wire_base::specs::model::Flooding::on_pdu, wire_base::specs::model::Flooding::on_lsp, wire_base::specs::model::Flooding::reissue, wire_base::specs::model::Flooding::reissue_unless_spent, wire_base::specs::model::Flooding::end_up, wire_base::specs::model::Flooding::end_down, wire_base::specs::model::Flooding::link_up, wire_base::specs::model::Flooding::link_down, wire_base::specs::model::Flooding::tick, wire_base::specs::model::Flooding::aged_all, wire_base::specs::model::Flooding::id_after, wire_base::specs::model::OwnLsp::own_lsp))]
+pub fn ends_issue_the_own_lsp()
+    ensures sequence { seq_of (own_entry_in (flapped (flapped (flapped (first_control pair_a))))) ≡ 7 }
+    ensures due { (flapped (first_control pair_a)).flood.due ≡ true ∷ [] }
+    ensures down { (end_down (first_control pair_a) 0).control.flood ≡ record { own = system 1; up = false ∷ []; due = false ∷ []; rows = flags 1 (false ∷ []) (false ∷ []) ∷ [] } }
+    ensures content { own_entry_in (flapped (first_control pair_a)) ≡ Some (own_lsp pair_a (true ∷ []) 3) }
+{}
+
+/// The own LSP is issued anew at 300 seconds; another that ends is marked on all links; a purge that ends takes its flags.
+#[tactic(auto, unfolding(wire_base::specs::model::Flooding::first_control, wire_base::specs::model::Flooding::started, wire_base::specs::model::Flooding::new_flood, wire_base::specs::model::Flooding::mark_all, wire_base::specs::model::Flooding::forget, wire_base::specs::model::Flooding::send, wire_base::specs::model::Flooding::send_of, wire_base::specs::model::Flooding::sent_on, wire_base::specs::model::Flooding::on_pdu, wire_base::specs::model::Flooding::on_lsp, wire_base::specs::model::Flooding::reissue, wire_base::specs::model::Flooding::reissue_unless_spent, wire_base::specs::model::Flooding::end_up, wire_base::specs::model::Flooding::end_down, wire_base::specs::model::Flooding::link_up, wire_base::specs::model::Flooding::link_down, wire_base::specs::model::Flooding::tick, wire_base::specs::model::Flooding::aged_all, wire_base::specs::model::Flooding::id_after, wire_base::specs::model::OwnLsp::own_lsp))]
+pub fn a_second_passes()
+    ensures refreshes { (tick (aging (own_lsp pair_a (true ∷ []) 1) 301)).control.entries ≡ own_lsp pair_a (true ∷ []) 2 ∷ [] }
+    ensures waits { (tick (aging (own_lsp pair_a (true ∷ []) 1) 302)).control.entries ≡ record (own_lsp pair_a (true ∷ []) 1) { life = 301 } ∷ [] }
+    ensures expires { (tick (aging (entry 2 7 9 5) 1)).control.entries ≡ purge (lsp 2) 7 ∷ [] }
+    ensures marked { (tick (aging (entry 2 7 9 5) 1)).control.flood.rows ≡ flags 2 (true ∷ []) (false ∷ []) ∷ [] }
+    ensures goes { (tick (aging (record (purge (lsp 2) 7) { hold = 1 }) 0)).control ≡ record (aging (purge (lsp 2) 7) 0) { entries = []; flood = record no_flag { own = system 1; up = true ∷ []; due = false ∷ []; rows = [] } } }
+{}
+
+/// CSNPs of several blocks cover all identifiers: each begins one above the last entry of the one before.
+#[tactic(auto, unfolding(wire_base::specs::model::Flooding::id_after))]
+pub fn csnps_cover_all_identifiers()
+    ensures two { csnps (first_control pair_a) zero_id ((summary 1 7 9 5 ∷ summary 2 7 9 5 ∷ []) ∷ (summary 4 7 9 5 ∷ []) ∷ [])
+        ≡ csnp_of (first_control pair_a) zero_id (lsp 2) (summary 1 7 9 5 ∷ summary 2 7 9 5 ∷ [])
+        ∷ csnp_of (first_control pair_a) (record (lsp 2) { fragment = 1 }) last_id (summary 4 7 9 5 ∷ []) ∷ [] }
+    ensures none { csnps (first_control pair_a) zero_id [] ≡ csnp_of (first_control pair_a) zero_id last_id [] ∷ [] }
+    ensures blocks { blocks {X = ℕ} 2 (1 ∷ 2 ∷ 3 ∷ 4 ∷ 5 ∷ []) ≡ (1 ∷ 2 ∷ []) ∷ (3 ∷ 4 ∷ []) ∷ (5 ∷ []) ∷ [] }
+{}
+
+/// The first state of a router keeps what every control state keeps.
+pub fn first_state_is_a_control_state()
+    ensures { (r : RouterConf) → IsSound r → IsControl (first_control r) }
 {}

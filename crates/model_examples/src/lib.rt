@@ -8,6 +8,7 @@ mod floods;
 mod frames;
 mod ingresses;
 mod own_lsps;
+mod tunnels;
 mod views;
 
 pub use configurations::{
@@ -18,8 +19,10 @@ pub use databases::{
 };
 pub use floods::{
     a_csnp_is_bounded, a_full_database_takes_no_unknown_lsp, a_restarted_router_passes_its_old_lsp,
-    the_identifier_after, the_last_sequence_number_is_purged, what_an_lsp_asks,
-    what_listed_entries_do, which_flags_an_lsp_sets,
+    a_second_passes, csnps_cover_all_identifiers, ends_issue_the_own_lsp,
+    first_state_is_a_control_state, pair_acknowledges_an_lsp, the_identifier_after,
+    the_last_sequence_number_is_purged, what_an_lsp_asks, what_listed_entries_do,
+    which_flags_an_lsp_sets,
 };
 pub use frames::{
     fork_sends_a_tunnel_on, frames_of_items, pair_takes_an_lsp, ring_delivers, the_ttl_ends,
@@ -27,6 +30,7 @@ pub use frames::{
 };
 pub use ingresses::{one_packet_for_each_set, packets_enter, why_nothing_enters};
 pub use own_lsps::{pair_first_csnp, pair_first_lsp, pair_first_lsp_content, plain_router_lsp};
+pub use tunnels::{ones_complement_sums, tunnels_are_read, what_is_no_tunnel, what_items_are_for};
 pub use views::{
     line_settled_view, links_count_where_both_list_them, pair_settles, ring_settled_view,
     which_links_are_read, which_places_count,
