@@ -1,3 +1,4 @@
 pub mod Causes
+pub mod InMemory
 pub mod Status
 pub mod model

@@ -1,6 +1,12 @@
 //! Sources and sinks in memory.
 ghost use Rattle.std.specs.Prelude.{◌≡◌, ◌<◌, ◌≤◌, ◌+◌, ◌-◌, ◌^◌, ◌++◌, ℕ, [], false, min, length, take, drop, Some, IfOk, vec_len, vec_capacity};
 
+ghost use Rattle.std.specs.Io.{ReadsAtMost, WritesAtMost};
+ghost use Rattle.std.specs.Io.KnownBytes.{ReadConsumes, WriteAppends, Keeps};
+ghost use Rattle.std.specs.Prelude.{is_err, Ok};
+ghost use Rattle.wire_base.specs.Causes.{HasCause, CountsZeros, after_write, after_finish};
+ghost use Rattle.wire_base.specs.InMemory.{next_call, is_to_fail};
+
 use crate::lists::{Octets, Rows};
 use crate::memory::M;
 use crate::outside::{Failed, Sink, Source};
@@ -28,6 +34,7 @@ impl Unread {
     /// Gives as many octets as the buffer has room for.
     #[tactic(auto, using(crate::proofs::Unread::gives_all))]
     fn give(&mut self, into: &mut [u8]) -> usize
+        ensures count { result ≡ min (length self.old.octets - self.old.at) (length into.old) }
         ensures bound { result ≤ length into.new }
         ensures front { drop self.old.at self.old.octets ≡ take result into.new ++ drop self.new.at self.new.octets }
         ensures end { result ≡ 0 → 0 < length into.new → drop self.new.at self.new.octets ≡ [] }
@@ -38,7 +45,7 @@ impl Unread {
     }
 }
 
-/// A source in memory, whose calls with these numbers, from 1, fail.
+/// A source in memory, which fails at the calls that it is told, and at no other.
 #[derive(Drop)]
 pub struct BytesSource {
     unread: Unread,
@@ -48,9 +55,11 @@ pub struct BytesSource {
 }
 
 impl BytesSource {
+    /// A source of those octets, whose calls with those numbers, from 1, fail.
     pub fn new(octets: Octets, fails: Rows<u32>) -> BytesSource
         ensures left { ⟦<BytesSource as Source>⟧.left result ≡ Some octets }
         ensures faults { ⟦<BytesSource as Source>⟧.faults result ≡ 0 }
+        ensures calls { (result.calls ≡ 0) × (result.fails ≡ fails) }
     {
         BytesSource {
             unread: Unread { octets, at: 0 },
@@ -66,7 +75,15 @@ impl Source for BytesSource {
 
     ghost faults = { λ s. s.faults };
 
-    fn read(&mut self, into: &mut [u8]) -> Result<usize, Failed> {
+    /// Fails exactly at the calls that are to fail, and else gives as many octets as there are and the buffer holds.
+    fn read(&mut self, into: &mut [u8]) -> Result<usize, Failed>
+        ensures bound { ReadsAtMost result into.new }
+        ensures bytes { ReadConsumes (Some (drop self.old.unread.at self.old.unread.octets)) (Some (drop self.new.unread.at self.new.unread.octets)) result into.new }
+        ensures cause { HasCause self.old.faults self.new.faults result }
+        ensures fails { is_err result ≡ is_to_fail self.old.fails self.old.calls }
+        ensures calls { (self.new.calls ≡ next_call self.old.calls) × (self.new.fails ≡ self.old.fails) }
+        ensures count { IfOk result (λ n. n ≡ min (length self.old.unread.octets - self.old.unread.at) (length into.old)) }
+    {
         self.calls = self.calls.saturating_add(1);
         if self.fails.as_slice().contains(&self.calls) {
             self.faults = self.faults.saturating_add(1);
@@ -83,6 +100,7 @@ pub struct QuietSource {
 }
 
 impl QuietSource {
+    /// A source of those octets.
     pub fn new(octets: Octets) -> QuietSource
         ensures left { ⟦<QuietSource as Source>⟧.left result ≡ Some octets }
         ensures faults { ⟦<QuietSource as Source>⟧.faults result ≡ 0 }
@@ -98,7 +116,13 @@ impl Source for QuietSource {
 
     ghost faults = { λ _. 0 };
 
-    fn read(&mut self, into: &mut [u8]) -> Result<usize, Failed> {
+    /// Gives as many octets as there are and the buffer holds.
+    fn read(&mut self, into: &mut [u8]) -> Result<usize, Failed>
+        ensures bound { ReadsAtMost result into.new }
+        ensures bytes { ReadConsumes (Some (drop self.old.unread.at self.old.unread.octets)) (Some (drop self.new.unread.at self.new.unread.octets)) result into.new }
+        ensures cause { HasCause 0 0 result }
+        ensures count { result ≡ Ok (min (length self.old.unread.octets - self.old.unread.at) (length into.old)) }
+    {
         Ok(self.unread.give(into))
     }
 }
@@ -134,7 +158,8 @@ impl Room {
     }
 }
 
-/// A sink in memory, whose calls with these numbers, from 1, fail.
+/// A sink in memory, which fails at the calls that it is told, of writing and finishing alike, and at no other. The
+/// memory for its room is taken when it is made.
 #[derive(Drop)]
 pub struct BytesSink {
     taken: Room,
@@ -146,11 +171,14 @@ pub struct BytesSink {
 }
 
 impl BytesSink {
+    /// An empty sink with room for so many octets, whose calls with those numbers, from 1, fail.
     pub fn new(alloc: Global, room: usize, fails: Rows<u32>) -> M<BytesSink>
         ensures written { IfOk result (λ s. ⟦<BytesSink as Sink>⟧.written s ≡ Some []) }
         ensures faults { IfOk result (λ s. ⟦<BytesSink as Sink>⟧.faults s ≡ 0) }
         ensures zeros { IfOk result (λ s. ⟦<BytesSink as Sink>⟧.zeros s ≡ 0) }
         ensures unfinished { IfOk result (λ s. ⟦<BytesSink as Sink>⟧.unfinished s ≡ false) }
+        ensures calls { IfOk result (λ s. (s.calls ≡ 0) × (s.fails ≡ fails)) }
+        ensures room { IfOk result (λ s. s.taken.room ≡ room) }
     {
         Ok(BytesSink {
             taken: Room::new(alloc, room)?,
@@ -162,6 +190,7 @@ impl BytesSink {
         })
     }
 
+    /// What was written.
     pub fn as_slice(&self) -> &[u8]
         ensures { ⟦<BytesSink as Sink>⟧.written self.now ≡ Some result.now }
     {
@@ -170,7 +199,8 @@ impl BytesSink {
 
     /// Counts a call, and says whether it is to fail.
     fn fails_now(&mut self) -> bool
-        ensures { self.new ≡ record self.old { calls = min (self.old.calls + 1) (2 ^ 32 - 1) } }
+        ensures counted { self.new ≡ record self.old { calls = next_call self.old.calls } }
+        ensures fails { result ≡ is_to_fail self.old.fails self.old.calls }
     {
         self.calls = self.calls.saturating_add(1);
         self.fails.as_slice().contains(&self.calls)
@@ -186,7 +216,18 @@ impl Sink for BytesSink {
 
     ghost unfinished = { λ s. s.unfinished };
 
-    fn write(&mut self, piece: &[u8]) -> Result<usize, Failed> {
+    /// Fails exactly at the calls that are to fail, and else takes as many octets as still fit.
+    fn write(&mut self, piece: &[u8]) -> Result<usize, Failed>
+        ensures bound { WritesAtMost result piece.now }
+        ensures bytes { WriteAppends (Some self.old.taken.bytes.items) (Some self.new.taken.bytes.items) result piece.now }
+        ensures cause { HasCause self.old.faults self.new.faults result }
+        ensures nothing { CountsZeros self.old.zeros self.new.zeros result piece.now }
+        ensures open { after_write self.old.unfinished result self.new.unfinished }
+        ensures fails { is_err result ≡ is_to_fail self.old.fails self.old.calls }
+        ensures calls { (self.new.calls ≡ next_call self.old.calls) × (self.new.fails ≡ self.old.fails) }
+        ensures count { IfOk result (λ n. n ≡ min (length piece.now) (self.old.taken.room - vec_len self.old.taken.bytes)) }
+        ensures room { self.new.taken.room ≡ self.old.taken.room }
+    {
         if self.fails_now() {
             self.faults = self.faults.saturating_add(1);
             return Err(Failed);
@@ -200,7 +241,16 @@ impl Sink for BytesSink {
         Ok(count)
     }
 
-    fn finish(&mut self) -> Result<(), Failed> {
+    /// Fails exactly at the calls that are to fail.
+    fn finish(&mut self) -> Result<(), Failed>
+        ensures bytes { Keeps (Some self.old.taken.bytes.items) (Some self.new.taken.bytes.items) }
+        ensures cause { HasCause self.old.faults self.new.faults result }
+        ensures nothing { self.new.zeros ≡ self.old.zeros }
+        ensures open { after_finish self.old.unfinished result self.new.unfinished }
+        ensures fails { is_err result ≡ is_to_fail self.old.fails self.old.calls }
+        ensures calls { (self.new.calls ≡ next_call self.old.calls) × (self.new.fails ≡ self.old.fails) }
+        ensures room { self.new.taken.room ≡ self.old.taken.room }
+    {
         if self.fails_now() {
             self.faults = self.faults.saturating_add(1);
             return Err(Failed);
@@ -210,7 +260,7 @@ impl Sink for BytesSink {
     }
 }
 
-/// A sink in memory that never fails.
+/// A sink in memory that never fails. The memory for its room is taken when it is made.
 #[derive(Drop)]
 pub struct QuietSink {
     taken: Room,
@@ -219,11 +269,13 @@ pub struct QuietSink {
 }
 
 impl QuietSink {
+    /// An empty sink with room for so many octets.
     pub fn new(alloc: Global, room: usize) -> M<QuietSink>
         ensures written { IfOk result (λ s. ⟦<QuietSink as Sink>⟧.written s ≡ Some []) }
         ensures faults { IfOk result (λ s. ⟦<QuietSink as Sink>⟧.faults s ≡ 0) }
         ensures zeros { IfOk result (λ s. ⟦<QuietSink as Sink>⟧.zeros s ≡ 0) }
         ensures unfinished { IfOk result (λ s. ⟦<QuietSink as Sink>⟧.unfinished s ≡ false) }
+        ensures room { IfOk result (λ s. s.taken.room ≡ room) }
     {
         Ok(QuietSink {
             taken: Room::new(alloc, room)?,
@@ -232,6 +284,7 @@ impl QuietSink {
         })
     }
 
+    /// What was written.
     pub fn as_slice(&self) -> &[u8]
         ensures { ⟦<QuietSink as Sink>⟧.written self.now ≡ Some result.now }
     {
@@ -248,7 +301,16 @@ impl Sink for QuietSink {
 
     ghost unfinished = { λ s. s.unfinished };
 
-    fn write(&mut self, piece: &[u8]) -> Result<usize, Failed> {
+    /// Takes as many octets as still fit.
+    fn write(&mut self, piece: &[u8]) -> Result<usize, Failed>
+        ensures bound { WritesAtMost result piece.now }
+        ensures bytes { WriteAppends (Some self.old.taken.bytes.items) (Some self.new.taken.bytes.items) result piece.now }
+        ensures cause { HasCause 0 0 result }
+        ensures nothing { CountsZeros self.old.zeros self.new.zeros result piece.now }
+        ensures open { after_write self.old.unfinished result self.new.unfinished }
+        ensures count { result ≡ Ok (min (length piece.now) (self.old.taken.room - vec_len self.old.taken.bytes)) }
+        ensures room { self.new.taken.room ≡ self.old.taken.room }
+    {
         let count = self.taken.take(piece);
         if count > 0 {
             self.unfinished = true;
