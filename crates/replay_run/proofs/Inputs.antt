@@ -1,19 +1,16 @@
 -- The answer to what was read is the answer to what the source held.
-use Rattle.std.proofs.Common.{◌≡◌, ◌≢◌, ℕ, ◌+◌, ◌≤◌, ◌<◌, Bool, true, false, leb, List, [], ◌∷◌, ◌++◌, length, take, Option, Some, None, Result, Ok, Err, refl, sym, ap, ◌∙◌, arith, inl, inr}
-use Rattle.std.specs.Prelude.{IfOk, IfSome, ◌⊎◌, nat_le}
-use Rattle.std.specs.List.{flat_map}
-use Rattle.std.specs.Io.KnownBytes.{Appends, Consumes, IsAtEnd}
+use Rattle.std.proofs.Common.{◌≡◌, ℕ, ◌+◌, ◌≤◌, Bool, true, false, List, [], ◌∷◌, ◌++◌, length, take, Option, Some, None, Result, Ok, Err, refl, sym, ap, ◌∙◌, arith, inl, inr}
+use Rattle.std.specs.Prelude.{IfOk, ◌⊎◌}
+use Rattle.std.specs.Io.KnownBytes.{Consumes, IsAtEnd}
 use Rattle.std.proofs.lemmas.Bool.{cases_lt, le-leb, lt-leb}
 use Rattle.std.proofs.lemmas.List.{append-nil, length-append, take-append-le, take_all}
 use Rattle.wire_base.specs.declared.status.Status.{Status}
 use Rattle.wire_base.specs.declared.status.Status.TheVariants.{Done, InputRefused}
 use Rattle.replay_text.specs.declared.fault.TextFault.{TextFault}
 use Rattle.replay_text.specs.declared.hop.HopState.{HopState}
-use Rattle.replay_text.specs.declared.hop.HopLine.{HopLine}
 use Rattle.replay_text.specs.Pieces.{lines_in}
-use Rattle.replay_text.specs.Hop.{hop_line}
 use Rattle.replay_text.proofs.Spelled.{line_back}
-use Rattle.replay_run.specs.HopText.{hop_answer, answer_on, is_short, ending, behind, packets_from, packets_of, packet_text, refusal_from, fresh, after, AreAllowed, IsAllowed}
+use Rattle.replay_run.specs.HopText.{hop_answer, answer_on, is_short, ending, behind, packets_from, refusal_from, fresh, after, AreAllowed, IsAllowed}
 use Rattle.replay_run.specs.Outside.{Held}
 
 -- ---- how an answer ends

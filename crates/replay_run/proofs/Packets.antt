@@ -10,7 +10,7 @@ use Rattle.replay_text.specs.declared.hop.HopLine.{HopLine}
 use Rattle.replay_text.specs.declared.hop.HopLine.TheVariants as says
 use Rattle.replay_text.specs.Hop.{hop_line, IsOrdered}
 use Rattle.replay_text.proofs.Ordered.{line_ordered}
-use Rattle.replay_run.specs.HopText.{Packet, packet_in, packets_from, packets_of, after, fresh}
+use Rattle.replay_run.specs.HopText.{packet_in, packets_from, packets_of, after, fresh}
 use Rattle.replay_run.specs.Partition.{IsParted}
 use Rattle.replay_run.proofs.Partition.{each_once}
 

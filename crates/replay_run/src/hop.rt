@@ -1,10 +1,9 @@
 //! The command `hop`: one router's forwarding on written rows.
-ghost use Rattle.std.specs.Prelude.{◌≡◌, ◌⊎◌, ◌≤◌, ◌<◌, ◌≢◌, ℕ, List, false, length, IfOk, IfErr, IfSome, OnOk};
-ghost use Rattle.std.specs.Io.KnownBytes.{IsAtEnd, Consumes};
+ghost use Rattle.std.specs.Prelude.{◌≡◌, ◌⊎◌, ◌<◌, ◌≢◌, ℕ, List, false, IfOk, IfErr, OnOk};
+ghost use Rattle.std.specs.Io.KnownBytes.{IsAtEnd};
 ghost use Rattle.wire_base.specs.Causes.{last_count};
 ghost use Rattle.wire_base.specs.declared.status.Status.TheVariants as status;
-ghost use Rattle.replay_run.specs.HopText.{hop_answer, IsAllowed};
-ghost use Rattle.replay_run.specs.Partition.{Reports};
+ghost use Rattle.replay_run.specs.HopText.{hop_answer};
 ghost use Rattle.replay_run.specs.Verdict.{IsDecided};
 ghost use Rattle.replay_run.specs.Outside.{Held, Gave, AppendsFront};
 

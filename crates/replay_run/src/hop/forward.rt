@@ -1,5 +1,5 @@
 //! One router's forwarding of a packet on written rows.
-ghost use Rattle.std.specs.Prelude.{◌≡◌, ◌++◌, ◌∷◌, [], map, filter, option_map, IfOk, OnOk, is_none, ◌==◌};
+ghost use Rattle.std.specs.Prelude.{◌≡◌, ◌++◌, map, filter, option_map, IfOk, OnOk, is_none, ◌==◌};
 ghost use Rattle.std.specs.Fmt.{decimal};
 ghost use Rattle.std.specs.List.{list_any};
 ghost use Rattle.bier_bits.specs.Any.{positions_of};

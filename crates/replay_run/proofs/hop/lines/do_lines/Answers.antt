@@ -1,5 +1,5 @@
-use Rattle.std.proofs.Common.{◌+◌, ℕ, ap, ◌∙◌, arith}
-use Rattle.replay_run.specs.HopText.{behind, ending}
+use Rattle.std.proofs.Common.{◌+◌, ℕ, ap, arith}
+use Rattle.replay_run.specs.HopText.{behind}
 use Rattle.replay_run.proofs.Steps.{goes_on, refused_result, ends, begins, one_at_most}
 use Rattle.replay_run.proofs.Inputs.{ended_result}
 use Rattle.replay_run.proofs.hop.lines.do_lines.Goals as goal
