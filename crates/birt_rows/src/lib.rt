@@ -1,13 +1,10 @@
-// A library with one function.
+//! The rows of a forwarding table: for each bit position the routers to which its bit may be sent.
 #![tactic(auto)]
 
-ghost use Rattle.std.specs.Prelude.{◌≡◌};
-ghost use Rattle.birt_rows.specs.Echo.{echo_of};
+mod direct;
+mod entries;
+mod forward;
+mod owner;
+mod row_set;
 
-// The `ensures` clause is the contract: what `echo` returns is `echo_of` of its argument, a definition
-// in `specs/Echo.antt`, which a caller's clause can cite too.
-pub fn echo(x: usize) -> usize
-    ensures { result ≡ echo_of x }
-{
-    x
-}
+pub use row_set::rows;

@@ -1,11 +1,10 @@
 -- What the searches are to find.
-use Rattle.std.proofs.Common.{◌≡◌, ℕ, ◌+◌, ◌-◌, ◌<◌, ◌≤◌, ◌^◌, ◌⊎◌, inl, inr, true, false, List, length, Contains, Option, Some, None, IfSome, refl, ap, arith, sym, ◌∙◌, subst}
+use Rattle.std.proofs.Common.{◌≡◌, ℕ, ◌+◌, ◌-◌, ◌<◌, ◌≤◌, ◌^◌, ◌⊎◌, inl, inr, true, false, List, length, Contains, Option, Some, IfSome, refl, arith, sym, ◌∙◌, subst}
 use Rattle.std.proofs.lemmas.Option.{same_Some}
 use Rattle.wire_base.specs.declared.view.ViewEdge.{ViewEdge}
 use Rattle.wire_base.specs.declared.view.ViewNode.{ViewNode}
 use Rattle.wire_base.specs.model.Graph.{edges_of, is_overloaded, IsGraph}
 use Rattle.wire_base.specs.model.Walk.{AreDists, IsDist, dist, may_enter}
-use Rattle.route_laws.specs.Bounds.{IsAtMost}
 use Rattle.route_laws.proofs.WalkLemmas.{at-most-of, best-IsDist, best-small, edges-node, enter-cases, may-enter-end, may-enter-free}
 use Rattle.route_laws.proofs.DescentLemmas.{dist-end, dist-over, dist-edge, edge-within}
 use Rattle.route_laws.proofs.LastLemmas.{dist-last-over, dist-last}

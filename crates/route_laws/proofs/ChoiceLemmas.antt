@@ -1,5 +1,5 @@
 -- The first nodes, the choice, and how it comes nearer.
-use Rattle.std.proofs.Common.{◌≡◌, ℕ, zero, suc, ◌+◌, ◌<◌, ◌≤◌, ◌%◌, Bool, true, false, not, ◌||◌, List, [], ◌∷◌, length, Option, Some, None, refl, ap, arith, sym, ◌∙◌, ◌⊎◌, inl, inr, Contains, subst, filter, unwrap_or, ◌↔◌, ◌==◌, if◌then◌else◌, option_map, option_and_then, get_or}
+use Rattle.std.proofs.Common.{◌≡◌, ℕ, zero, suc, ◌+◌, ◌<◌, ◌≤◌, ◌%◌, Bool, true, false, not, ◌||◌, List, [], ◌∷◌, length, Option, Some, refl, ap, arith, sym, ◌∙◌, ◌⊎◌, inl, inr, Contains, subst, filter, unwrap_or, ◌↔◌, ◌==◌, if◌then◌else◌, get_or}
 use Rattle.std.specs.List.{range_with_len, list_any}
 use Rattle.std.proofs.lemmas.Bool.{cases_Bool, eqb-true, eq-eqb, ne_eqb}
 use Rattle.std.proofs.lemmas.Bool.Decides.{eqb_tells}

@@ -1,18 +1,15 @@
 -- Following the choice of an id ends at its owner.
-use Rattle.std.proofs.Common.{◌≡◌, ℕ, ◌+◌, ◌<◌, ◌≤◌, ◌==◌, Bool, true, List, [], ◌∷◌, length, Option, Some, None, IsSome, IfSome, option_and_then, refl, ap, arith, sym, ◌∙◌, subst}
+use Rattle.std.proofs.Common.{◌≡◌, ℕ, ◌<◌, Bool, List, length, Option, Some, None, option_and_then, refl, ap, ◌∙◌}
 use Rattle.wire_base.specs.declared.conf.SubKind.{SubKind}
 use Rattle.wire_base.specs.declared.conf.TableRow.{TableRow}
 use Rattle.wire_base.specs.declared.triple.Triple.{Triple}
 use Rattle.wire_base.specs.declared.view.ViewNode.{ViewNode}
 use Rattle.wire_base.specs.model.Graph.{IsGraph, covers_at, owner, has_id_at}
-use Rattle.wire_base.specs.model.Walk.{dist}
 use Rattle.wire_base.specs.model.Choice.{choice, choose}
 use Rattle.wire_base.specs.model.HopCount.{follow, hops}
-use Rattle.route_laws.specs.Candidate.{IsCandidate}
-use Rattle.route_laws.specs.Nearer.{Nearer}
 use Rattle.route_laws.specs.Descends.{Descends}
 use Rattle.route_laws.proofs.ChoiceLemmas.{choice-from, choice-descends, choice-follows}
-use Rattle.route_laws.proofs.OwnerLemmas.{IsOwner, owner-is}
+use Rattle.route_laws.proofs.OwnerLemmas.{owner-is}
 
 module _ (g : List ViewNode) (kinds : List SubKind) (table : List TableRow) (t : Triple) (class k : ℕ) where
   -- where the id is sent, given its owner

@@ -1,5 +1,5 @@
 -- The last edge of a shortest walk.
-use Rattle.std.proofs.Common.{◌≡◌, ℕ, zero, suc, ◌+◌, ◌-◌, ◌<◌, ◌≤◌, false, List, [], ◌∷◌, ◌++◌, length, Option, Some, refl, ap, arith, sym, ◌∙◌, ◌⊎◌, inl, inr, Contains, subst}
+use Rattle.std.proofs.Common.{◌≡◌, ℕ, ◌+◌, ◌-◌, ◌<◌, ◌≤◌, false, List, [], ◌∷◌, ◌++◌, length, Some, refl, ap, arith, sym, ◌∙◌, ◌⊎◌, inl, inr, Contains, subst}
 use Rattle.std.proofs.lemmas.Option.{same_Some}
 use Rattle.wire_base.specs.declared.view.ViewEdge.{ViewEdge}
 use Rattle.wire_base.specs.declared.view.ViewNode.{ViewNode}

@@ -72,12 +72,12 @@ pub both-true : (a b : Bool) → a ≡ true → b ≡ true → (a && b) ≡ true
 both-true true b p q = q
 both-true false b p q = cc
 
-made-up : (m : ℕ) (o w : Option ℕ) → makes_up m o w ≡ true → (r : ℕ) × (o ≡ Some r) × (w ≡ Some (m + r))
+pub made-up : (m : ℕ) (o w : Option ℕ) → makes_up m o w ≡ true → (r : ℕ) × (o ≡ Some r) × (w ≡ Some (m + r))
 made-up m None w q = cc
 made-up m (Some r) None q = cc
 made-up m (Some r) (Some n) q = (r, refl, ap Some (sym (eqb-true (m + r) n q)))
 
-makes-up : (m r : ℕ) (o w : Option ℕ) → o ≡ Some r → w ≡ Some (m + r) → makes_up m o w ≡ true
+pub makes-up : (m r : ℕ) (o w : Option ℕ) → o ≡ Some r → w ≡ Some (m + r) → makes_up m o w ≡ true
 makes-up m r o w p q = rw (p, q) (eq-eqb (m + r) (m + r) refl)
 
 -- the loop's one_more

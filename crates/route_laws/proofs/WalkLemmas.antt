@@ -1,15 +1,14 @@
 -- The recursion on the number of edges gives the least lengths of walks.
-use Rattle.std.proofs.Common.{IfSome, slice_index_or, slice_get, ◌≡◌, ℕ, zero, suc, ◌+◌, ◌*◌, ◌^◌, ◌<◌, ◌≤◌, Bool, true, false, List, [], ◌∷◌, length, Option, Some, None, min, refl, ap, arith, add-one, sym, ◌∙◌, ◌==◌, ◌||◌, not, ◌⊎◌, inl, inr, Contains, All, option_map, if◌then◌else◌, subst}
+use Rattle.std.proofs.Common.{IfSome, slice_get, ◌≡◌, ℕ, zero, suc, ◌+◌, ◌*◌, ◌^◌, ◌<◌, ◌≤◌, Bool, true, false, List, [], ◌∷◌, length, Option, Some, None, min, refl, ap, arith, sym, ◌∙◌, ◌==◌, ◌||◌, not, ◌⊎◌, inl, inr, Contains, All, option_map, if◌then◌else◌, subst}
 use Rattle.std.proofs.lemmas.Option.{same_Some, slice_get_within, get_or_from_slice_get}
-use Rattle.std.proofs.lemmas.List.Elements.{All-contains, All-head, All-tail}
-use Rattle.std.proofs.lemmas.List.{get_or_past}
+use Rattle.std.proofs.lemmas.List.Elements.{All-contains}
 use Rattle.std.proofs.lemmas.Bool.{eq-eqb, cases_lt}
 use Rattle.std.proofs.lemmas.Bool.Decides.{eqb_tells}
 use Rattle.wire_base.specs.declared.view.ViewEdge.{ViewEdge}
 use Rattle.wire_base.specs.declared.view.ViewNode.{ViewNode}
 use Rattle.wire_base.specs.model.Graph.{edges_at, edges_of, is_overloaded, IsEdge, IsGraph}
 use Rattle.route_laws.specs.Bounds.{IsAtMost}
-use Rattle.wire_base.specs.model.Walk.{Leads, cost, IsDist, least, may_enter, over, least_over, one_more, best}
+use Rattle.wire_base.specs.model.Walk.{Leads, cost, IsDist, least, may_enter, over, least_over, best}
 
 pub Contains-cases : {X : Type 0} (x : X) (xs : List X) (e : X) → Contains (x ∷ xs) e → (x ≡ e) ⊎ Contains xs e
 Contains-cases x xs e (zero, l, q) = inl q

@@ -1,7 +1,6 @@
 -- Small domains, on which the definitions are tried. All have subdomain 0 with labels, bit strings of 64 bits, and metrics
 -- of 10 where nothing else is said; a node's place is one less than the last octet of its system.
-use Rattle.std.specs.Prelude.{ℕ, ◌+◌, ◌*◌, ◌==◌, Bool, true, false, List, [], ◌∷◌, Option, Some, None, if◌then◌else◌}
-use Rattle.wire_base.specs.declared.bsl.Bsl.{Bsl}
+use Rattle.std.specs.Prelude.{ℕ, ◌*◌, ◌==◌, Bool, true, false, List, [], ◌∷◌, Option, Some, None, if◌then◌else◌}
 use Rattle.wire_base.specs.declared.bsl.Bsl.TheVariants.{B64}
 use Rattle.wire_base.specs.declared.conf.Kind.TheVariants.{Mpls}
 use Rattle.wire_base.specs.declared.conf.SubKind.{SubKind}

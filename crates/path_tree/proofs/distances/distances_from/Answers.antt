@@ -1,6 +1,5 @@
-use Rattle.std.proofs.Common.{ℕ, None, List, ◌≡◌, ◌<◌, length, slice_index_or, ap, sym, ◌∙◌, subst}
+use Rattle.std.proofs.Common.{ℕ, None, ◌≡◌, ◌<◌, length, slice_index_or, sym, ◌∙◌, subst}
 use Rattle.std.proofs.lemmas.Result.{IfOk-weaker}
-use Rattle.wire_base.specs.declared.view.ViewNode.{ViewNode}
 use Rattle.wire_base.specs.model.Walk.{IsDist, dist}
 use Rattle.path_tree.specs.Ways.{AreDistsFrom}
 use Rattle.path_tree.proofs.ReachLemmas.{reach-from, dists-from, walks-from}

@@ -1,6 +1,5 @@
-use Rattle.std.proofs.Common.{ℕ, None, List, ◌≡◌, ◌<◌, length, slice_index_or, ap, sym, ◌∙◌, subst}
+use Rattle.std.proofs.Common.{ℕ, None, ◌≡◌, ◌<◌, length, slice_index_or, sym, ◌∙◌, subst}
 use Rattle.std.proofs.lemmas.Result.{IfOk-weaker}
-use Rattle.wire_base.specs.declared.view.ViewNode.{ViewNode}
 use Rattle.wire_base.specs.model.Walk.{AreDists, IsDist, dist}
 use Rattle.path_tree.proofs.ReachLemmas.{reach-to, dists-to, walks-to}
 use Rattle.path_tree.proofs.distances.distances_to.Goals as goal

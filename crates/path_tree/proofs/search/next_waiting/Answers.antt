@@ -1,4 +1,4 @@
-use Rattle.std.proofs.Common.{ℕ, List, ◌∷◌, length, true, false, ◌∙◌}
+use Rattle.std.proofs.Common.{true, false, ◌∙◌}
 use Rattle.path_tree.proofs.SkipLemmas.{within-same, popped-in, popped-shorter, skipped-more, takes-next}
 use Rattle.path_tree.proofs.search.next_waiting.Goals as goal
 

@@ -1,4 +1,4 @@
-use Rattle.std.proofs.Common.{ℕ, ◌<◌, ◌∷◌, ◌++◌, [], take, get_or, length, sym, subst, arith}
+use Rattle.std.proofs.Common.{take, get_or, sym, subst, arith}
 use Rattle.std.proofs.lemmas.List.{take_more}
 use Rattle.wire_base.specs.declared.view.ViewEdge.{ViewEdge}
 use Rattle.path_tree.specs.Search.{Relaxed}

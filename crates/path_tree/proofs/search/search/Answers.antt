@@ -1,4 +1,4 @@
-use Rattle.std.proofs.Common.{ℕ, Option, Some, List, ◌≡◌, ◌<◌, [], ◌∷◌, All, length, Bool, true, false, replicate, arith, ap, sym, ◌∙◌, subst, Contains}
+use Rattle.std.proofs.Common.{◌≡◌, [], All, length, false, replicate, arith, ap, sym, subst}
 use Rattle.wire_base.specs.model.Graph.{IsEdge}
 use Rattle.wire_base.specs.model.Walk.{may_enter}
 use Rattle.path_tree.specs.Search.{ways_of}

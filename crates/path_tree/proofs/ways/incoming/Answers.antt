@@ -1,4 +1,4 @@
-use Rattle.std.proofs.Common.{◌≡◌, List, All, length, fold, refl, sym, ◌∙◌, subst, add-one}
+use Rattle.std.proofs.Common.{List, All, length, refl, sym, ◌∙◌, subst, add-one}
 use Rattle.wire_base.specs.declared.view.ViewEdge.{ViewEdge}
 use Rattle.wire_base.specs.model.Graph.{IsEdge, edges_of}
 use Rattle.path_tree.proofs.WaysLemmas.{edges-fit, turned-incoming, incoming-edges}

@@ -1,4 +1,4 @@
-use Rattle.std.proofs.Common.{◌≡◌, map, ◌∙◌, ap, length}
+use Rattle.std.proofs.Common.{map, ◌∙◌, ap}
 use Rattle.std.proofs.lemmas.List.{take_all}
 use Rattle.path_tree.proofs.WaysLemmas.{mapped-outgoing, outgoing-edges}
 use Rattle.path_tree.proofs.ways.outgoing.Goals as goal

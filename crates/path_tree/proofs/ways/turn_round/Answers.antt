@@ -1,4 +1,4 @@
-use Rattle.std.proofs.Common.{ℕ, ◌≡◌, arith, length, take, fold, ap, ◌∙◌}
+use Rattle.std.proofs.Common.{arith, length, take, ap, ◌∙◌}
 use Rattle.wire_base.specs.declared.view.ViewEdge.{ViewEdge}
 use Rattle.path_tree.proofs.WaysLemmas.{length-along}
 use Rattle.path_tree.proofs.ways.turn_round.Goals as goal

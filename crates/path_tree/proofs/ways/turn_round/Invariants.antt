@@ -1,4 +1,4 @@
-use Rattle.std.proofs.Common.{◌≡◌, fold, take, length}
+use Rattle.std.proofs.Common.{◌≡◌, fold, take}
 use Rattle.path_tree.specs.Ways.{put}
 use Rattle.path_tree.proofs.ways.turn_round.Given as goal
 

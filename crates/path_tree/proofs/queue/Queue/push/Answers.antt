@@ -1,4 +1,4 @@
-use Rattle.std.proofs.Common.{◌≡◌, ◌∷◌, ℕ, heap_items}
+use Rattle.std.proofs.Common.{◌∷◌, ℕ, heap_items}
 use Rattle.std.proofs.lemmas.List.Sorted.{IsPermutation-map}
 use Rattle.std.specs.declared.cmp.Reverse.{Reverse}
 use Rattle.path_tree.proofs.queue.Queue.push.Goals as goal

@@ -1,0 +1,5 @@
+mod ForwardLemmas
+mod EntryLemmas
+mod SearchLemmas
+mod OwnerLemmas
+mod RowLemmas

@@ -1,0 +1,25 @@
+use Rattle.std.proofs.Common.{ℕ, Bool, ◌≡◌, ◌<◌, ◌+◌, ◌-◌, length, arith, ap, ◌∙◌}
+use Rattle.wire_base.specs.model.Graph.{covers_at, owner}
+use Rattle.wire_base.specs.model.Place.{bits_of, id_at}
+use Rattle.route_laws.proofs.OwnerLemmas.{owner-is}
+use Rattle.birt_rows.specs.Rows.{row_of_owner}
+use Rattle.birt_rows.proofs.RowLemmas.{row-is}
+use Rattle.birt_rows.proofs.row_set.rows.Goals as goal
+
+pub returns-clause-rows : goal.returns-clause-rows
+returns-clause-rows c p above within =
+    let g = c.as_slice-nodes.result.now in
+    let t = c.args.t in
+    let c-at : ℕ → Bool = covers_at c.args.conf.now.kinds c.args.conf.now.table t g in
+    let covers = c.in_ok-covers.covers.items in
+    let seen = c.in_ok-seen.seen.items in
+    let node : c.args.u < length g = rw c.as_slice-nodes.ensures.nodes c.requires.node in
+    let marked = rw c.as_slice-2.ensures.value at c.in_ok-seen.ensures.each in
+    let are = rw (c.as_slice-ends.ensures, c.as_slice-4.ensures.value, c.as_slice-5.ensures.value) at c.in_ok-found.ensures in
+    let low : p - 1 < bits_of t.bsl = omega arith in
+    let here = rw (c.as_slice-6.ensures.value, c.as_slice-7.ensures.value) at (c.in_ok-bits.ensures.rows (p - 1) low) in
+    let back : (p - 1) + 1 ≡ p = omega arith in
+    rw (← c.as_slice-nodes.ensures.nodes)
+    (here
+    ∙ ap (λ (n : ℕ). row_of_owner c.in_ok-found.found.items covers c.args.u (owner g t.sd (id_at t n))) back
+    ∙ row-is c.args.conf.now.ends g c.as_slice-nodes.ensures.graph c-at c.args.u node seen covers c.in_ok-covers.ensures.each marked c.in_ok-found.found.items are (owner g t.sd (id_at t p)) (λ d q. (owner-is g t.sd (id_at t p) d q).within))

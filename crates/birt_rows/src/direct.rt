@@ -1,0 +1,94 @@
+//! How a router names another to which it sends.
+ghost use Rattle.std.specs.Prelude.{◌≡◌, ◌<◌, ◌≤◌, ◌==◌, ◌&&◌, None, Some, length, slice_index_or, if◌then◌else◌};
+ghost use Rattle.std.specs.List.{list_any};
+ghost use Rattle.wire_base.specs.model.Graph.{edges_of};
+ghost use Rattle.wire_base.specs.model.Choice.{end_toward, first_at, is_direct, is_length, is_system};
+ghost use Rattle.path_tree.specs.Ways.{AreDistsFrom};
+
+use crate::forward::edges_of;
+use wire_base::{End, First, SystemId, ViewEdge, ViewNode};
+
+/// The node's system, and the place of the end where it is reached directly from `u`.
+pub(crate) fn first_of(
+    ends: &[End],
+    nodes: &[ViewNode],
+    dist: &[Option<u64>],
+    u: u16,
+    node: u16,
+) -> First
+    requires ends { length ends.now ≤ 65536 }
+    requires from { u < length nodes.now }
+    requires within { node < length nodes.now }
+    requires dists { AreDistsFrom nodes.now u dist.now }
+    ensures { first_at ends.now nodes.now u node ≡ Some result }
+{
+    let system = nodes[node as usize].system;
+    First {
+        system,
+        direct: direct_end(ends, is_direct(nodes, dist, u, node), system),
+    }
+}
+
+/// Whether an edge leads from `u` to the node whose metric is the distance.
+#[tactic(auto, unfolding(wire_base::specs::model::Choice::is_direct))]
+fn is_direct(nodes: &[ViewNode], dist: &[Option<u64>], u: u16, node: u16) -> bool
+    requires from { u < length nodes.now }
+    requires within { node < length nodes.now }
+    requires dists { AreDistsFrom nodes.now u dist.now }
+    ensures { result ≡ is_direct nodes.now u node }
+{
+    has_edge(edges_of(nodes, u), node, length_at(dist, node))
+}
+
+fn length_at(dist: &[Option<u64>], node: u16) -> Option<u64>
+    requires { node < length dist.now }
+    ensures { result ≡ slice_index_or dist.now node None }
+{
+    dist[node as usize]
+}
+
+fn direct_end(ends: &[End], is_direct: bool, system: SystemId) -> Option<u16>
+    requires { length ends.now ≤ 65536 }
+    ensures { result ≡ (if is_direct then end_toward ends.now system else None) }
+{
+    if is_direct {
+        end_toward(ends, system)
+    } else {
+        None
+    }
+}
+
+/// Whether an edge to the node has that length as its metric.
+fn has_edge(edges: &[ViewEdge], node: u16, length: Option<u64>) -> bool
+    ensures { result ≡ list_any (λ e. (e.to == node) && is_length length e.metric) edges.now }
+{
+    edges.iter().any(|edge| is_length(*edge, node, length))
+}
+
+fn is_length(edge: ViewEdge, node: u16, length: Option<u64>) -> bool
+    ensures { result ≡ ((edge.to == node) && is_length length edge.metric) }
+{
+    match length {
+        Some(length) => edge.to == node && length == edge.metric as u64,
+        None => false,
+    }
+}
+
+/// The place of the first end whose peer is that system.
+fn end_toward(ends: &[End], system: SystemId) -> Option<u16>
+    requires { length ends.now ≤ 65536 }
+    ensures { result ≡ end_toward ends.now system }
+{
+    for place in 0..ends.len() {
+        if is_system(ends[place].peer, system) {
+            return Some(place as u16);
+        }
+    }
+    None
+}
+
+fn is_system(a: SystemId, b: SystemId) -> bool
+    ensures { result ≡ is_system a b }
+{
+    a == b
+}

@@ -1,0 +1,131 @@
+ghost use Rattle.std.specs.Prelude.{◌≡◌, ◌<◌, ◌≤◌, ◌+◌, ◌-◌, ℕ, Bool, true, false, [], List, IfOk, length, slice_index_or, filter, map};
+ghost use Rattle.wire_base.specs.model.Place.{bits_of, id_at};
+ghost use Rattle.wire_base.specs.model.Graph.{IsGraph, covers_at, owner};
+ghost use Rattle.wire_base.specs.model.Choice.{row};
+ghost use Rattle.birt_rows.specs.Rows.{beyond, row_of_owner};
+
+use crate::entries::{Entry, all_entries};
+use crate::forward::reach;
+use crate::owner::owner_of;
+use path_tree::distances_from;
+use std::alloc::Global;
+use wire_base::{First, M, RouterConf, RowSet, Rows, Triple, View, ViewNode};
+
+/// For each bit position of the triple the routers to which the node `u` may send its bit, in the order of their systems:
+/// the first supporting routers on shortest walks toward the one owner of the position's BFR-id (RFC 8279, 6.9). A row is
+/// empty where the id has no owner or several, where the owner doesn't support the triple or is `u`, and where no walk leads
+/// there. `u` is the node of the configuration `conf`.
+pub fn rows(alloc: Global, v: &View, conf: &RouterConf, u: u16, t: Triple) -> M<RowSet>
+    requires ends { length conf.now.ends ≤ 65536 }
+    requires node { u < length v.now.nodes }
+    ensures bits { IfOk result (λ set. length set.bits ≡ bits_of t.bsl) }
+    ensures rows { IfOk result (λ set. (p : ℕ) → 0 < p → p ≤ bits_of t.bsl → slice_index_or set.bits (p - 1) [] ≡ row conf.now.kinds conf.now.table conf.now.ends v.now.nodes t u p) }
+{
+    let nodes = v.as_slice();
+    let dist = distances_from(alloc, v, u)?;
+    let covers = supporting(alloc, nodes, conf, t)?;
+    let seen = reach(alloc, nodes, dist.as_slice(), covers.as_slice(), u, u)?;
+    let ends = conf.ends.as_slice();
+    let found = all_entries(
+        alloc,
+        ends,
+        nodes,
+        dist.as_slice(),
+        seen.as_slice(),
+        covers.as_slice(),
+        u,
+    )?;
+    let bits = all_rows(alloc, nodes, found.as_slice(), covers.as_slice(), u, t)?;
+    Ok(RowSet { bits })
+}
+
+/// Which nodes support the triple.
+fn supporting(alloc: Global, nodes: &[ViewNode], conf: &RouterConf, t: Triple) -> M<Vec<bool>>
+    ensures rows { IfOk result (λ covers. length covers.items ≡ length nodes.now) }
+    ensures each { IfOk result (λ covers. (x : ℕ) → slice_index_or covers.items x false ≡ covers_at conf.now.kinds conf.now.table t nodes.now x) }
+{
+    let mut covers: Vec<bool> = Vec::new(alloc);
+    for node in nodes {
+        covers.push(node.covers(&conf.kinds, &conf.table, t))?;
+    }
+    Ok(covers)
+}
+
+/// The rows of all bit positions.
+fn all_rows(
+    alloc: Global,
+    nodes: &[ViewNode],
+    entries: &[Entry],
+    covers: &[bool],
+    u: u16,
+    t: Triple,
+) -> M<Rows<Rows<First>>>
+    requires few { length nodes.now ≤ 65536 }
+    ensures bits { IfOk result (λ bits. length bits ≡ bits_of t.bsl) }
+    ensures rows { IfOk result (λ bits. (k : ℕ) → k < bits_of t.bsl → slice_index_or bits k [] ≡ row_of_owner entries.now covers.now u (owner nodes.now t.sd (id_at t (k + 1)))) }
+{
+    let mut bits: Rows<Rows<First>> = Rows::new(alloc);
+    for place in 0..t.bsl.bits() {
+        let owner = owner_of(nodes, t.sd, id_at(t, place));
+        bits.push(row_of_owner(alloc, entries, covers, u, owner)?)?;
+    }
+    Ok(bits)
+}
+
+/// The BFR-id of the bit position after so many others.
+fn id_at(t: Triple, before: u16) -> u32
+    requires { before < 65535 }
+    ensures { result ≡ id_at t (before + 1) }
+{
+    t.si as u32 * t.bsl.bits() as u32 + (before as u32 + 1)
+}
+
+/// The row of the bit position that a node owns.
+fn row_of_owner(
+    alloc: Global,
+    entries: &[Entry],
+    covers: &[bool],
+    u: u16,
+    owner: Option<u16>,
+) -> M<Rows<First>>
+    ensures { IfOk result (λ row. row ≡ row_of_owner entries.now covers.now u owner) }
+{
+    match owner {
+        Some(d) => {
+            if u == d || !covers_at(covers, d) {
+                Ok(Rows::new(alloc))
+            } else {
+                row_toward(alloc, entries, d)
+            }
+        }
+        None => Ok(Rows::new(alloc)),
+    }
+}
+
+fn covers_at(covers: &[bool], node: u16) -> bool
+    ensures { result ≡ slice_index_or covers.now node false }
+{
+    match covers.get(node as usize) {
+        Some(covers) => *covers,
+        None => false,
+    }
+}
+
+/// The entries over which shortest walks lead to a node.
+fn row_toward(alloc: Global, entries: &[Entry], d: u16) -> M<Rows<First>>
+    ensures { IfOk result (λ row. row ≡ map (λ e. e.first) (filter (beyond d) entries.now)) }
+{
+    let mut row: Rows<First> = Rows::new(alloc);
+    for entry in entries {
+        if is_beyond(entry, d) {
+            row.push(entry.first)?;
+        }
+    }
+    Ok(row)
+}
+
+fn is_beyond(entry: &Entry, d: u16) -> bool
+    ensures { result ≡ beyond d entry.now }
+{
+    covers_at(entry.beyond.as_slice(), d)
+}
