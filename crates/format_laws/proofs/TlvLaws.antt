@@ -1,14 +1,13 @@
 -- What is read of an entry is its spelling, and its spelling is read again.
-use Rattle.std.proofs.Common.{◌≡◌, ℕ, zero, suc, ◌+◌, ◌-◌, ◌*◌, ◌/◌, ◌%◌, ◌^◌, ◌<◌, ◌≤◌, Bool, true, false, cond, ltb, List, [], ◌∷◌, ◌++◌, length, get_or, slice_index, take, drop, replicate, Option, Some, None, Result, Ok, Err, refl, sym, ap, subst, ◌∙◌, append_assoc, arith, inl, inr}
+use Rattle.std.proofs.Common.{◌≡◌, ℕ, ◌+◌, ◌-◌, ◌≤◌, Bool, true, false, cond, ltb, List, [], ◌∷◌, ◌++◌, length, get_or, take, drop, replicate, Option, Some, None, Result, Ok, Err, refl, sym, ap, subst, ◌∙◌, append_assoc, arith}
 use Rattle.std.proofs.lemmas.Bool.{ltb-false, ltb-true, le-ltb, lt-ltb}
-use Rattle.std.proofs.lemmas.List.{take_at, take_all, drop_at, take-append-drop, length-append, length-drop, length-take, length-replicate, append-nil, drop-drop, drop_more}
+use Rattle.std.proofs.lemmas.List.{take_at, drop_at, take-append-drop, length-append, length-drop, length-take, length-replicate, append-nil, drop-drop, drop_more}
 use Rattle.byteorder.specs.Endian.{big_bytes, big_number}
-use Rattle.wire_base.specs.declared.addresses.SystemId.{SystemId}
 use Rattle.wire_base.specs.declared.addresses.LspId.{LspId}
 use Rattle.wire_base.specs.declared.triple.Summary.{Summary}
 use Rattle.wire_base.specs.declared.faults.TlvFault.{TlvFault}
 use Rattle.wire_base.specs.declared.faults.TlvFault.TheVariants.{Overrun, EntryShort, PrefixLen}
-use Rattle.wire_base.specs.model.Fields.{◌>>=◌, AreOctets, octet_at, octets_at, number_at, counted, counted_at}
+use Rattle.wire_base.specs.model.Fields.{AreOctets, octet_at, octets_at, number_at, counted, counted_at}
 use Rattle.wire_base.specs.model.Tlv.{Tlv, TlvFits, tlv, tlv_at, IsOverrun, Reach, ReachFits, reach, reach_at, Prefix, PrefixFits, prefix, prefix_at, prefix_bits, prefix_octets, has_subs, padded, bits_at, subs_if, subs_if_at, NoneUnless, LspIdFits, lsp_id, lsp_id_at, SummaryFits, row, row_at}
 use Rattle.format_laws.proofs.FieldLaws.{bind_ok, guard_ok, ok_is, Takes, Takes-then, octet_takes, octets_takes, octets_again, number_takes, number_again, counted_takes, counted_again, wide2, wide3, wide4, AreOctets-drop, spelled_once}
 

@@ -1,5 +1,5 @@
 -- Lists of TLVs and of entries: what a writer wrote one after the other is walked as those values.
-use Rattle.std.proofs.Common.{◌≡◌, ℕ, zero, suc, ◌+◌, ◌-◌, ◌*◌, ◌%◌, ◌<◌, ◌≤◌, Bool, true, false, ◌&&◌, cond, ltb, eqb, eq-eqb, min, List, [], ◌∷◌, ◌++◌, length, take, drop, Option, Some, None, Result, Ok, Err, refl, sym, ap, subst, ◌∙◌, arith, inl, inr}
+use Rattle.std.proofs.Common.{◌≡◌, ℕ, zero, suc, ◌+◌, ◌*◌, ◌%◌, ◌<◌, ◌≤◌, Bool, true, false, ◌&&◌, eqb, eq-eqb, min, List, [], ◌∷◌, ◌++◌, length, take, drop, Option, Some, None, Result, Ok, Err, refl, sym, ap, ◌∙◌, arith, inl, inr}
 use Rattle.std.specs.List.{list_all, flat_map, AllByRecursion}
 use Rattle.std.proofs.lemmas.Bool.{cases_lt, eqb-true}
 use Rattle.std.proofs.lemmas.List.{take_all, drop_all, take-append-drop, length-append, length-take, length-drop}
@@ -12,7 +12,7 @@ use Rattle.wire_base.specs.model.Fields.{◌>>=◌, octet_at, octets_at, number_
 use Rattle.wire_base.specs.model.Tlv.{Tlv, tlv, tlv_at, then_tlvs, tlvs_within, tlvs_of, Reach, ReachFits, reach, reach_at, Prefix, PrefixFits, prefix, prefix_at, SummaryFits, row, row_at, then_entries, entries_within, entries_of, some_tlv, one_tlv_at, bits_at, prefix_octets, subs_if_at, has_subs, lsp_id_at, tlvs_before, rows_in, rows_of}
 use Rattle.wire_base.specs.model.Pdu.{passes, AreTlvs, all_pass, tlvs_pass, blocks_within, blocks, row_tlv, row_tlvs}
 use Rattle.format_laws.proofs.FieldLaws.{bind_ok, ok_is, octet_shorter, octets_shorter, number_shorter, counted_shorter}
-use Rattle.format_laws.proofs.TlvLaws.{tlv_parts, tlv_again, tlv_end, Tlv-is, Tlv-err, length_row, row_again, reach_again, prefix_again}
+use Rattle.format_laws.proofs.TlvLaws.{tlv_parts, tlv_again, tlv_end, length_row, row_again, reach_again, prefix_again}
 
 -- ---- lists of TLVs
 

@@ -1,4 +1,4 @@
-use Rattle.std.proofs.Common.{◌+◌, ◌<◌, ◌^◌, length, arith}
+use Rattle.std.proofs.Common.{arith}
 use Rattle.isis_pdu.specs.Views.{head_of}
 use Rattle.isis_pdu.proofs.WriteLemmas.{lsp_read_again}
 use Rattle.isis_pdu.proofs.writer.write_lsp.Goals as goal
