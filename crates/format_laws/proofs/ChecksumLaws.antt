@@ -1,11 +1,11 @@
 -- The two sums of joined lists, and the one pair that makes both 0.
-use Rattle.std.proofs.Common.{◌≡◌, ℕ, zero, suc, ◌+◌, ◌-◌, ◌*◌, ◌/◌, ◌%◌, ◌<◌, ◌≤◌, Bool, true, false, ◌&&◌, eqb, eq-eqb, List, [], ◌∷◌, ◌++◌, length, sum, get_or, take, drop, refl, sym, ap, subst, ◌∙◌, arith, add-one, length-append}
+use Rattle.std.proofs.Common.{◌≡◌, ℕ, suc, ◌+◌, ◌-◌, ◌*◌, ◌/◌, ◌%◌, ◌<◌, ◌≤◌, Bool, true, false, ◌&&◌, eqb, eq-eqb, List, [], ◌∷◌, ◌++◌, length, sum, get_or, take, drop, refl, sym, ap, subst, ◌∙◌, arith, length-append}
 use Rattle.std.proofs.Math.Nat.{mul-suc, mul-add, add-mul, mod-add-mod}
-use Rattle.std.proofs.lemmas.List.{drop_more, take_more, take_all, take-append-drop, length-drop, length-take}
+use Rattle.std.proofs.lemmas.List.{drop_more, take_more, take_all, take-append-drop, length-drop}
 use Rattle.std.proofs.lemmas.List.Sums.{sum_by-append, sum_by-cons}
 use Rattle.std.proofs.lemmas.Nat.{mul-mod_first}
 use Rattle.std.proofs.lemmas.Bool.{eqb-true}
-use Rattle.wire_base.specs.model.Checksum.{weighted, IsRight, is_right, IsCheck, IsCheckOctet, with_pair, check_first, check_second, check_sum}
+use Rattle.wire_base.specs.model.Checksum.{weighted, IsRight, is_right, IsCheck, with_pair, check_first, check_second, check_sum}
 
 pub sum-joined : (xs ys : List ℕ) → sum (xs ++ ys) ≡ sum xs + sum ys
 sum-joined xs ys = sum_by-append (λ x. x) xs ys

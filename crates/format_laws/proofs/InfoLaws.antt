@@ -1,8 +1,8 @@
 -- BIER Info: what is read is in the grammar, and what is in the grammar is read.
-use Rattle.std.proofs.Common.{◌≡◌, ◌≢◌, ℕ, zero, suc, ◌+◌, ◌-◌, ◌*◌, ◌/◌, ◌%◌, ◌^◌, ◌<◌, ◌≤◌, ◌⊎◌, Bool, true, false, not, ◌&&◌, ◌||◌, cond, ltb, leb, eqb, eq-eqb, List, [], ◌∷◌, ◌++◌, length, map, get_or, set, slice_index, take, drop, Option, Some, None, Result, Ok, Err, refl, sym, ap, subst, ◌∙◌, append_assoc, arith, inl, inr}
+use Rattle.std.proofs.Common.{◌≡◌, ◌≢◌, ℕ, zero, suc, ◌+◌, ◌-◌, ◌*◌, ◌/◌, ◌%◌, ◌<◌, ◌≤◌, ◌⊎◌, Bool, true, false, not, ◌&&◌, ◌||◌, cond, ltb, leb, eqb, eq-eqb, List, [], ◌∷◌, ◌++◌, length, map, get_or, set, Option, Some, None, Result, Ok, Err, refl, sym, ap, subst, ◌∙◌, append_assoc, arith, inl, inr}
 use Rattle.std.specs.List.{flat_map, filter_map, list_any, cons_option, AllByRecursion}
 use Rattle.std.proofs.lemmas.Bool.{cases_lt, ltb-false, le-ltb, le-leb, leb-true, eqb-true}
-use Rattle.std.proofs.lemmas.List.{append-nil, length-append, length-set, get_or-set_same, get_or-set_other, get_or_past}
+use Rattle.std.proofs.lemmas.List.{append-nil, length-set, get_or-set_same, get_or-set_other}
 use Rattle.std.proofs.lemmas.List.Concat.{flat_map-cons}
 use Rattle.std.specs.Prelude.{slice_get, IsSomeAnd}
 use Rattle.byteorder.specs.Endian.{big_bytes, big_number}
@@ -16,8 +16,8 @@ use Rattle.wire_base.specs.declared.conf.LabelRange.{LabelRange}
 use Rattle.wire_base.specs.model.Fields.{◌>>=◌, AreOctets}
 use Rattle.wire_base.specs.model.Place.{code_of, bsl_coded}
 use Rattle.wire_base.specs.model.Tlv.{Tlv, tlv, tlv_at}
-use Rattle.wire_base.specs.model.BierInfo.{Info, range_word, range_tlv, range, info, RangeFits, AreApart, InfoFits, word_bsl, range_with, is_range, length_named, range_given, IsFour, IsInfo, Parts, no_parts, take_known, take_if, take_part, short, then_parts, parts_within, parts_of, info_at, last_label, HasLabel, Overlap, share_label, any_overlap}
-use Rattle.format_laws.proofs.FieldLaws.{bind_ok, guard_ok, ok_is, wide2, AreOctets-drop, AreOctets-front, AreOctets-back, guarded}
+use Rattle.wire_base.specs.model.BierInfo.{Info, range_word, range_tlv, range, info, RangeFits, AreApart, InfoFits, word_bsl, range_with, is_range, length_named, range_given, IsFour, IsInfo, Parts, no_parts, take_if, take_part, short, then_parts, parts_within, parts_of, info_at, last_label, HasLabel, Overlap, share_label, any_overlap}
+use Rattle.format_laws.proofs.FieldLaws.{bind_ok, guard_ok, ok_is, wide2, AreOctets-front, AreOctets-back, guarded}
 use Rattle.format_laws.proofs.TlvLaws.{tlv_parts, tlv_end, tlv_again, some_is}
 use Rattle.format_laws.proofs.ChecksumLaws.{and_true}
 use Rattle.format_laws.proofs.TlvListLaws.{tlv_shorter}
@@ -481,12 +481,14 @@ given_fits t r fits e = by_type (is_range t) refl
         let small : w < 4294967296 = rw is (big_from-lt 0 4 t.value fits) in
         let last : w % 1048576 + w / 16777216 ≤ 1048575 = ltb-false _ _ test in
         subst (λ (q : LabelRange). RangeFits q × (b ≡ q.bsl)) same (record { max_si = omega arith; last = last }, refl)
+
     by_length : (o : Option Bsl) → word_bsl (word t) ≡ o → is_range t ≡ true → range_with o (word t) ≡ Some r → RangeFits r × (length_named t ≡ Some r.bsl)
     by_length None named is e = absurd cc
     by_length (Some b) named is e =
         let one = by_test b (word t) (ltb 1048575 (word t % 1048576 + word t / 16777216)) named refl refl e in
         let name : length_named t ≡ Some b = rw is named in
         (one.0, name ∙ ap (λ (c : Bsl). Some c) one.1)
+
     by_type : (f : Bool) → is_range t ≡ f → RangeFits r × (length_named t ≡ Some r.bsl)
     by_type false is = let none : range_given t ≡ None = rw is refl in let both : None ≡ Some r = sym none ∙ e in absurd cc
     by_type true is = let given : range_given t ≡ range_with (word_bsl (word t)) (word t) = rw is refl in by_length (word_bsl (word t)) refl is (sym given ∙ e)

@@ -1,18 +1,18 @@
 -- IS-IS PDUs: what is in the grammar is read, and what is read is in the grammar.
-use Rattle.std.proofs.Common.{◌≡◌, ℕ, zero, suc, ◌+◌, ◌-◌, ◌*◌, ◌/◌, ◌%◌, ◌^◌, ◌<◌, ◌≤◌, ◌⊎◌, Bool, true, false, not, ◌&&◌, ◌||◌, cond, ltb, leb, eqb, eq-eqb, List, [], ◌∷◌, ◌++◌, length, get_or, take, drop, Result, Ok, Err, refl, sym, ap, subst, ◌∙◌, append_assoc, arith, inl, inr}
+use Rattle.std.proofs.Common.{◌≡◌, ℕ, zero, suc, ◌+◌, ◌-◌, ◌*◌, ◌/◌, ◌%◌, ◌^◌, ◌<◌, ◌≤◌, ◌⊎◌, Bool, true, false, not, ◌&&◌, ◌||◌, cond, ltb, eqb, eq-eqb, List, [], ◌∷◌, ◌++◌, length, get_or, take, drop, Ok, Err, refl, sym, ap, subst, ◌∙◌, append_assoc, arith, inl, inr}
 use Rattle.std.proofs.lemmas.Bool.{ltb-false, le-ltb, lt-ltb, leb-true, eqb-true}
 use Rattle.std.proofs.lemmas.List.{take_at, drop_at, drop-drop, get_or-drop, length-append}
-use Rattle.byteorder.specs.Endian.{big_bytes, big_number}
+use Rattle.byteorder.specs.Endian.{big_bytes}
 use Rattle.wire_base.specs.declared.addresses.SystemId.{SystemId}
 use Rattle.wire_base.specs.declared.addresses.LspId.{LspId}
 use Rattle.wire_base.specs.declared.faults.PduFault.{PduFault}
 use Rattle.wire_base.specs.declared.faults.PduFault.TheVariants as faults
 use Rattle.wire_base.specs.declared.conf.Level.{Level}
 use Rattle.wire_base.specs.declared.conf.Level.TheVariants.{One, Two}
-use Rattle.wire_base.specs.model.Fields.{◌>>=◌, AreOctets, octet_at, octets_at, number_at}
+use Rattle.wire_base.specs.model.Fields.{AreOctets, octet_at, octets_at, number_at}
 use Rattle.wire_base.specs.model.Tlv.{LspIdFits, lsp_id, lsp_id_at}
 use Rattle.wire_base.specs.model.Checksum.{IsRight, is_right, with_pair, check_first, check_second, check_sum}
-use Rattle.wire_base.specs.model.Pdu.{Head, Pdu, LspPdu, CsnpPdu, PsnpPdu, HelloPdu, OtherPdu, AreTlvs, tlvs_pass, lsp_type, csnp_type, psnp_type, lsp_covered, lsp_body, csnp_body, psnp_body, lsp, csnp, psnp, lsp_sum, HeadFits, LspFits, CsnpFits, PsnpFits, is_hello, IsOther, Free, shaped, IsPdu, sized_at, lsp_at, csnp_at, psnp_at, body_at, pdu_at}
+use Rattle.wire_base.specs.model.Pdu.{Head, Pdu, LspPdu, CsnpPdu, PsnpPdu, HelloPdu, OtherPdu, tlvs_pass, lsp_type, csnp_type, psnp_type, lsp_covered, lsp_body, csnp_body, psnp_body, lsp, csnp, psnp, lsp_sum, LspFits, CsnpFits, PsnpFits, is_hello, IsOther, Free, shaped, IsPdu, sized_at, lsp_at, csnp_at, psnp_at, body_at, pdu_at}
 use Rattle.format_laws.proofs.FieldLaws.{bind_ok, ok_is, guarded, guarded_else, Takes-then, octet_takes, octets_takes, octets_again, number_takes, number_again, wide2, wide4, AreOctets-front}
 use Rattle.format_laws.proofs.TlvLaws.{lsp_id_takes, lsp_id_again, length_lsp_id}
 use Rattle.format_laws.proofs.TlvListLaws.{passes_are, are_passes}

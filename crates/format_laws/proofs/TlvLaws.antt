@@ -1,14 +1,13 @@
 -- What is read of an entry is its spelling, and its spelling is read again.
-use Rattle.std.proofs.Common.{◌≡◌, ℕ, zero, suc, ◌+◌, ◌-◌, ◌*◌, ◌/◌, ◌%◌, ◌^◌, ◌<◌, ◌≤◌, Bool, true, false, cond, ltb, List, [], ◌∷◌, ◌++◌, length, get_or, slice_index, take, drop, replicate, Option, Some, None, Result, Ok, Err, refl, sym, ap, subst, ◌∙◌, append_assoc, arith, inl, inr}
+use Rattle.std.proofs.Common.{◌≡◌, ℕ, ◌+◌, ◌-◌, ◌≤◌, Bool, true, false, cond, ltb, List, [], ◌∷◌, ◌++◌, length, get_or, take, drop, replicate, Option, Some, None, Result, Ok, Err, refl, sym, ap, subst, ◌∙◌, append_assoc, arith}
 use Rattle.std.proofs.lemmas.Bool.{ltb-false, ltb-true, le-ltb, lt-ltb}
-use Rattle.std.proofs.lemmas.List.{take_at, take_all, drop_at, take-append-drop, length-append, length-drop, length-take, length-replicate, append-nil, drop-drop, drop_more}
+use Rattle.std.proofs.lemmas.List.{take_at, drop_at, take-append-drop, length-append, length-drop, length-take, length-replicate, append-nil, drop-drop, drop_more}
 use Rattle.byteorder.specs.Endian.{big_bytes, big_number}
-use Rattle.wire_base.specs.declared.addresses.SystemId.{SystemId}
 use Rattle.wire_base.specs.declared.addresses.LspId.{LspId}
 use Rattle.wire_base.specs.declared.triple.Summary.{Summary}
 use Rattle.wire_base.specs.declared.faults.TlvFault.{TlvFault}
 use Rattle.wire_base.specs.declared.faults.TlvFault.TheVariants.{Overrun, EntryShort, PrefixLen}
-use Rattle.wire_base.specs.model.Fields.{◌>>=◌, AreOctets, octet_at, octets_at, number_at, counted, counted_at}
+use Rattle.wire_base.specs.model.Fields.{AreOctets, octet_at, octets_at, number_at, counted, counted_at}
 use Rattle.wire_base.specs.model.Tlv.{Tlv, TlvFits, tlv, tlv_at, IsOverrun, Reach, ReachFits, reach, reach_at, Prefix, PrefixFits, prefix, prefix_at, prefix_bits, prefix_octets, has_subs, padded, bits_at, subs_if, subs_if_at, NoneUnless, LspIdFits, lsp_id, lsp_id_at, SummaryFits, row, row_at}
 use Rattle.format_laws.proofs.FieldLaws.{bind_ok, guard_ok, ok_is, Takes, Takes-then, octet_takes, octets_takes, octets_again, number_takes, number_again, counted_takes, counted_again, wide2, wide3, wide4, AreOctets-drop, spelled_once}
 
@@ -29,7 +28,7 @@ reach_takes octets x fits e =
     let e13 = Takes-then a.0.1 (b.0.0 ∷ []) b.0.1 (big_bytes 3 c.0.0 ++ counted d.0.0) d.0.1 t1.0 e23 in
     let e03 = Takes-then octets a.0.0 a.0.1 (b.0.0 ∷ (big_bytes 3 c.0.0 ++ counted d.0.0)) d.0.1 t0.0 e13 in
     let made : Reach × List ℕ = (record { neighbour = record { 0 = a.0.0 }; pseudonode = b.0.0; metric = c.0.0; subs = d.0.0 }, d.0.1) in
-    subst (λ (y : Reach × List ℕ). Takes octets (reach y.0) y.1 × ReachFits y.0) (ok_is made x d.2) (e03, record { neighbour = t0.1; pseudonode = t1.1; metric = t2.1; subs = t3.1 })
+    subst (λ (y : Reach × List ℕ). Takes octets (reach y.0) y.1 × ReachFits y.0) {x = made} (ok_is made x d.2) (e03, record { neighbour = t0.1; pseudonode = t1.1; metric = t2.1; subs = t3.1 })
 
 pub reach_again : (r : Reach) (rest : List ℕ) → ReachFits r → reach_at (reach r ++ rest) ≡ Ok (r, rest)
 unfolding reach_at
@@ -79,7 +78,7 @@ prefix_takes octets x fits e =
     let e13 = Takes-then a.0.1 (b.0.0 ∷ []) b.0.1 (take (prefix_octets (prefix_bits b.0.0)) (padded d.0.0) ++ subs_if (has_subs b.0.0) f.0.0) f.0.1 t1.0 e23 in
     let e03 = Takes-then octets (big_bytes 4 a.0.0) a.0.1 (b.0.0 ∷ (take (prefix_octets (prefix_bits b.0.0)) (padded d.0.0) ++ subs_if (has_subs b.0.0) f.0.0)) f.0.1 t0.0 e13 in
     let made : Prefix × List ℕ = (record { metric = a.0.0; control = b.0.0; octets = padded d.0.0; subs = f.0.0 }, f.0.1) in
-    subst (λ (y : Prefix × List ℕ). Takes octets (prefix y.0) y.1 × PrefixFits y.0) (ok_is made x f.2) (e03, record { metric = t0.1; control = t1.1; bits = n.0; octets = ap padded (sym cut); subs = t3.1 })
+    subst (λ (y : Prefix × List ℕ). Takes octets (prefix y.0) y.1 × PrefixFits y.0) {x = made} (ok_is made x f.2) (e03, record { metric = t0.1; control = t1.1; bits = n.0; octets = ap padded (sym cut); subs = t3.1 })
 
 pub prefix_again : (p : Prefix) (rest : List ℕ) → PrefixFits p → prefix_at (prefix p ++ rest) ≡ Ok (p, rest)
 unfolding prefix_at
@@ -106,7 +105,7 @@ lsp_id_takes {E} fault octets x fits e =
     let e12 = Takes-then a.0.1 (b.0.0 ∷ []) b.0.1 (c.0.0 ∷ []) c.0.1 t1.0 t2.0 in
     let e02 = Takes-then octets a.0.0 a.0.1 (b.0.0 ∷ c.0.0 ∷ []) c.0.1 t0.0 e12 in
     let made : LspId × List ℕ = (record { system = record { 0 = a.0.0 }; pseudonode = b.0.0; fragment = c.0.0 }, c.0.1) in
-    subst (λ (y : LspId × List ℕ). Takes octets (lsp_id y.0) y.1 × LspIdFits y.0) (ok_is {E = E} made x c.2) (e02, record { system = t0.1; pseudonode = t1.1; fragment = t2.1 })
+    subst (λ (y : LspId × List ℕ). Takes octets (lsp_id y.0) y.1 × LspIdFits y.0) {x = made} (ok_is {E = E} made x c.2) (e02, record { system = t0.1; pseudonode = t1.1; fragment = t2.1 })
 
 pub lsp_id_again : {E : Type 0} (fault : E) (id : LspId) (rest : List ℕ) → LspIdFits id → lsp_id_at fault (lsp_id id ++ rest) ≡ Ok (id, rest)
 lsp_id_again fault id rest fits =
@@ -133,7 +132,7 @@ row_takes octets x fits e =
     let e13 = Takes-then a.0.1 (lsp_id b.0.0) b.0.1 (big_bytes 4 c.0.0 ++ big_bytes 2 d.0.0) d.0.1 t1.0 e23 in
     let e03 = Takes-then octets (big_bytes 2 a.0.0) a.0.1 (lsp_id b.0.0 ++ (big_bytes 4 c.0.0 ++ big_bytes 2 d.0.0)) d.0.1 t0.0 e13 in
     let made : Summary × List ℕ = (record { life = a.0.0; id = b.0.0; seq = c.0.0; sum = d.0.0 }, d.0.1) in
-    subst (λ (y : Summary × List ℕ). Takes octets (row y.0) y.1 × SummaryFits y.0) (ok_is made x d.2) (e03, record { life = t0.1; id = t1.1; seq = t2.1; sum = t3.1 })
+    subst (λ (y : Summary × List ℕ). Takes octets (row y.0) y.1 × SummaryFits y.0) {x = made} (ok_is made x d.2) (e03, record { life = t0.1; id = t1.1; seq = t2.1; sum = t3.1 })
 
 pub row_again : (s : Summary) (rest : List ℕ) → SummaryFits s → row_at (row s ++ rest) ≡ Ok (s, rest)
 unfolding row_at

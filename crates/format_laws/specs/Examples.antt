@@ -1,11 +1,11 @@
 -- PDUs that are worked out by hand: two routers, A of system 1 and B of system 2, of area 490001, joined by one link.
-use Rattle.std.specs.Prelude.{ℕ, List, [], ◌∷◌, ◌++◌}
+use Rattle.std.specs.Prelude.{ℕ, List, [], ◌∷◌}
 use Rattle.wire_base.specs.declared.addresses.LspId.{LspId}
 use Rattle.wire_base.specs.declared.addresses.SystemId.{SystemId}
 use Rattle.wire_base.specs.declared.bsl.Bsl.TheVariants.{B64, B256, B512}
 use Rattle.wire_base.specs.declared.conf.LabelRange.{LabelRange}
 use Rattle.wire_base.specs.declared.triple.Summary.{Summary}
-use Rattle.wire_base.specs.model.BierInfo.{Info, info, info_tlv}
+use Rattle.wire_base.specs.model.BierInfo.{Info, info_tlv}
 use Rattle.wire_base.specs.model.Pdu.{Head}
 use Rattle.wire_base.specs.model.Tlv.{Tlv, tlv, Reach, reach, Prefix, prefix}
 

@@ -16,7 +16,10 @@ pub struct LspHead {
 #[derive(Clone, Copy, Debug)]
 pub enum Pdu<'a> {
     /// A link state PDU.
-    Lsp { head: LspHead, tlvs: &'a [u8] },
+    Lsp {
+        head: LspHead,
+        tlvs: &'a [u8],
+    },
     /// A complete sequence numbers PDU: the system that sent it, and the first and the last identifier of its range.
     Csnp {
         source: SystemId,
@@ -25,7 +28,10 @@ pub enum Pdu<'a> {
         tlvs: &'a [u8],
     },
     /// A partial sequence numbers PDU: the system that sent it.
-    Psnp { source: SystemId, tlvs: &'a [u8] },
+    Psnp {
+        source: SystemId,
+        tlvs: &'a [u8],
+    },
     Hello,
     Other(u8),
 }

@@ -11,6 +11,3 @@ pub use kinds::{LspHead, Pdu};
 pub use reader::read_pdu;
 pub use wire_base::PduFault;
 pub use writer::{write_csnp, write_lsp, write_psnp};
-
-#[cfg(test)]
-mod tests;

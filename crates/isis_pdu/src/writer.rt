@@ -1,7 +1,8 @@
-ghost use Rattle.std.specs.Prelude.{◌≡◌, ◌+◌, ◌*◌, ◌<◌, ◌≤◌, ◌++◌, ℕ, List, length, Ok, IfOk, OnOk, OnErr};
+ghost use Rattle.std.specs.Prelude.{◌≡◌, ◌<◌, ◌≤◌, ◌++◌, ℕ, List, false, length, Ok, IfOk, OnOk, OnErr};
 ghost use Rattle.std.specs.List.{AllByRecursion};
 ghost use Rattle.wire_base.specs.model.Tlv.{tlv, lsp_id, LspIdFits, SummaryFits};
-ghost use Rattle.wire_base.specs.model.Pdu.{LspPdu, CsnpPdu, PsnpPdu, HeadFits, LspFits, common, lsp, csnp, psnp, row_tlv, row_tlvs, pdu_at};
+ghost use Rattle.wire_base.specs.model.Checksum.{IsRight};
+ghost use Rattle.wire_base.specs.model.Pdu.{LspPdu, CsnpPdu, PsnpPdu, HeadFits, AreTlvs, common, lsp_covered, lsp, csnp, psnp, row_tlv, row_tlvs, pdu_at};
 ghost use Rattle.isis_pdu.specs.Views.{head_of};
 
 use crate::kinds::LspHead;
@@ -26,17 +27,24 @@ fn append_id(out: &mut Octets, id: LspId) -> M<()>
 fn lsp_octets(alloc: Global, level: Level, head: &LspHead, tlvs: &[u8]) -> M<Octets>
     requires { length tlvs.now ≤ 1470 }
     ensures spelled { IfOk result (λ o. o ≡ lsp level (head_of head.now) tlvs.now) }
-    ensures fits { OnOk result (HeadFits (head_of head.now)) }
+    ensures fits { HeadFits (head_of head.now) }
 {
+    let LspHead {
+        life,
+        id,
+        seq,
+        sum,
+        flags,
+    } = *head;
     let size = 27 + tlvs.len() as u16;
     let mut out = Octets::with_room(alloc, usize::from(size))?;
     append_common(&mut out, 27, lsp_number(level))?;
     out.append(&size.to_be_bytes())?;
-    out.append(&head.life.to_be_bytes())?;
-    append_id(&mut out, head.id)?;
-    out.append(&head.seq.to_be_bytes())?;
-    out.append(&head.sum.to_be_bytes())?;
-    out.push(head.flags)?;
+    out.append(&life.to_be_bytes())?;
+    append_id(&mut out, id)?;
+    out.append(&seq.to_be_bytes())?;
+    out.append(&sum.to_be_bytes())?;
+    out.push(flags)?;
     out.append(tlvs)?;
     Ok(out)
 }
@@ -46,10 +54,10 @@ pub fn write_lsp(alloc: Global, level: Level, head: &LspHead, tlvs: &[u8]) -> M<
     requires { length tlvs.now ≤ 1470 }
     // The one spelling.
     ensures spelled { IfOk result (λ o. o ≡ lsp level (head_of head.now) tlvs.now) }
-    // Where a reader can give the PDU it is read again, whatever follows it.
-    ensures again { LspFits (head_of head.now) tlvs.now
+    // Where a live one has right sums and its TLVs are whole it is read again, whatever follows it.
+    ensures again { (0 < head.now.life → IsRight (lsp_covered (head_of head.now) tlvs.now)) → AreTlvs false tlvs.now
         → IfOk result (λ o. (rest : List ℕ) → pdu_at level (o ++ rest) ≡ Ok (LspPdu (head_of head.now) tlvs.now)) }
-    ensures fits { OnOk result (HeadFits (head_of head.now)) }
+    ensures fits { HeadFits (head_of head.now) }
 {
     lsp_octets(alloc, level, head, tlvs)
 }

@@ -1,11 +1,10 @@
 -- What is read is an entry, and an entry is read.
-use Rattle.std.proofs.Common.{◌≡◌, ℕ, ◌-◌, ◌<◌, ◌≤◌, List, [], ◌∷◌, ◌++◌, length, take, drop, Option, Some, None, ◌↔◌, Result, Ok, Err, refl, sym, ap, subst, ◌∙◌, arith}
-use Rattle.std.specs.Prelude.{IfOk, IfErr, IfSome, IsOkAnd, IsSomeAnd, IsErr, OnOk}
+use Rattle.std.proofs.Common.{◌≡◌, ℕ, List, [], ◌++◌, drop, Option, Some, None, ◌↔◌, Result, Ok, Err, refl, sym, ap, ◌∙◌}
+use Rattle.std.specs.Prelude.{IfOk, IfErr, IfSome, IsOkAnd, IsSomeAnd, IsErr}
 use Rattle.wire_base.specs.declared.faults.TlvFault.{TlvFault}
 use Rattle.wire_base.specs.declared.faults.TlvFault.TheVariants.{Overrun}
-use Rattle.wire_base.specs.declared.triple.Summary.{Summary}
 use Rattle.wire_base.specs.model.Fields.{Gives, AreOctets}
-use Rattle.wire_base.specs.model.Tlv.{tlv, tlv_at, IsOverrun, ReachFits, reach, reach_at, PrefixFits, prefix, prefix_at, SummaryFits, row, row_at}
+use Rattle.wire_base.specs.model.Tlv.{tlv, tlv_at, IsOverrun, ReachFits, reach, reach_at, PrefixFits, prefix, prefix_at}
 use Rattle.wire_base.specs.model.Tlv.{Tlv as Item}
 use Rattle.wire_base.specs.model.Tlv.{Reach as ReachItem}
 use Rattle.wire_base.specs.model.Tlv.{Prefix as PrefixItem}

@@ -1,4 +1,4 @@
-use Rattle.std.proofs.Common.{◌≡◌, Err, sym, ◌∙◌}
+use Rattle.std.proofs.Common.{sym, ◌∙◌}
 use Rattle.std.proofs.lemmas.Result.{err_from_is_err_and}
 use Rattle.format_laws.proofs.InfoLaws.{parts_next, parts_refuses, parts_end, parts_short}
 use Rattle.isis_tlv.specs.Views.{item}

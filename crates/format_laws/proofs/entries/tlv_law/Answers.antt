@@ -1,5 +1,3 @@
-use Rattle.std.proofs.Common.{[], ℕ, List, ap, sym, ◌∙◌, ◌++◌, ◌≡◌}
-use Rattle.wire_base.specs.model.Tlv.{Tlv, tlv, tlv_at}
 use Rattle.format_laws.proofs.TlvLaws.{tlv_again, tlv_parts, tlv_once}
 use Rattle.format_laws.proofs.entries.tlv_law.Goals as goal
 

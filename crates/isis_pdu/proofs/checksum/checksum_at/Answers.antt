@@ -1,5 +1,4 @@
-use Rattle.std.proofs.Common.{◌≡◌, ◌+◌, ◌*◌, ◌/◌, ◌%◌, ap, subst, sym, ◌∙◌, arith}
-use Rattle.wire_base.specs.model.Checksum.{IsCheck, check_first, check_second}
+use Rattle.std.proofs.Common.{◌∙◌, arith}
 use Rattle.format_laws.proofs.ChecksumLaws.{check_found, check_only, check_sum_is, check_octets}
 use Rattle.isis_pdu.proofs.checksum.checksum_at.Goals as goal
 

@@ -1,4 +1,4 @@
-use Rattle.std.proofs.Common.{◌≡◌, ◌+◌, ◌*◌, ◌++◌, ◌∷◌, length, take}
+use Rattle.std.proofs.Common.{◌≡◌, ◌*◌, ◌++◌, ◌∷◌, length, take}
 use Rattle.std.specs.List.{flat_map, AllByRecursion}
 use Rattle.wire_base.specs.model.Tlv.{SummaryFits, row}
 use Rattle.isis_pdu.proofs.writer.append_block.Given as goal

@@ -1,7 +1,4 @@
-use Rattle.std.proofs.Common.{◌≡◌, ◌<◌, ◌++◌, length, min, take, drop, subst, ap, sym, ◌∙◌, arith}
-use Rattle.std.specs.List.{AllByRecursion}
-use Rattle.wire_base.specs.model.Tlv.{tlv, SummaryFits}
-use Rattle.wire_base.specs.model.Pdu.{row_tlv, row_tlvs}
+use Rattle.std.proofs.Common.{◌<◌, length, arith}
 use Rattle.isis_pdu.proofs.WriteLemmas.{cut_text, cut_fits, cut_end}
 use Rattle.isis_pdu.proofs.writer.append_rows.Goals as goal
 

@@ -1,4 +1,3 @@
-use Rattle.std.proofs.Common.{◌∙◌, ap}
 use Rattle.isis_pdu.proofs.WriteLemmas.{rows_short}
 use Rattle.isis_pdu.proofs.writer.row_octets.Goals as goal
 

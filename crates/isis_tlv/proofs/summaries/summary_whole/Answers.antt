@@ -1,4 +1,4 @@
-use Rattle.std.proofs.Common.{Ok, ap, sym, ◌∙◌, arith}
+use Rattle.std.proofs.Common.{arith}
 use Rattle.wire_base.specs.model.Tlv.{row_at}
 use Rattle.format_laws.proofs.FieldLaws.{given_ok}
 use Rattle.format_laws.proofs.TlvLaws.{row_there, row_whole}
