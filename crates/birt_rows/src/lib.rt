@@ -6,5 +6,7 @@ mod entries;
 mod forward;
 mod owner;
 mod row_set;
+#[cfg(test)]
+mod tests;
 
 pub use row_set::rows;

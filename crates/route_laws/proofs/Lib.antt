@@ -8,3 +8,4 @@ pub mod HopCountLemmas
 pub mod RouteLemmas
 pub mod LastLemmas
 pub mod HopLemmas
+pub mod GraphLemmas

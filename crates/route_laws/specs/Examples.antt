@@ -22,6 +22,9 @@ sub id = record {
   ranges = record { bsl = B64; max_si = 0; label = 100 * id } ∷ [];
 }
 
+abbrev pub subs : ℕ → List ViewSub
+subs id = sub id ∷ []
+
 abbrev pub node : ℕ → Bool → List ViewEdge → List ViewSub → ViewNode
 node n overload edges subs = record {
   system = record { 0 = 0 ∷ 0 ∷ 0 ∷ 0 ∷ 0 ∷ n ∷ [] };

@@ -4,3 +4,4 @@ pub mod Candidate
 pub mod OnWay
 pub mod Descends
 pub mod Examples
+pub mod GraphTest

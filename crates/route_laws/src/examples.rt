@@ -1,5 +1,5 @@
 ghost use Rattle.std.specs.Prelude.{◌≡◌, ℕ, true, false, [], ◌∷◌, Some, None};
-ghost use Rattle.wire_base.specs.model.Graph.{owner};
+ghost use Rattle.wire_base.specs.model.Graph.{IsGraph, owner};
 ghost use Rattle.wire_base.specs.model.Walk.{dist};
 ghost use Rattle.wire_base.specs.model.Tight.{tight_from, next_step};
 ghost use Rattle.wire_base.specs.model.Supporting.{firsts};
@@ -67,4 +67,12 @@ pub fn outcomes_in_order()
     ensures onward { hop (Some 1) to_two (1 ∷ 2 ∷ 3 ∷ 4 ∷ 9 ∷ []) 3 ≡ Local 1 ∷ Copy 7 (2 ∷ 3 ∷ []) 2 ∷ Copy 8 (4 ∷ []) 2 ∷ NoRow (9 ∷ []) ∷ [] }
     ensures last { hop (Some 1) to_two (1 ∷ 2 ∷ 3 ∷ 4 ∷ 9 ∷ []) 1 ≡ Local 1 ∷ Expired (2 ∷ 3 ∷ 4 ∷ []) ∷ NoRow (9 ∷ []) ∷ [] }
     ensures ended { hop (Some 1) to_two (1 ∷ 2 ∷ 9 ∷ []) 0 ≡ Expired (1 ∷ 2 ∷ 9 ∷ []) ∷ [] }
+{}
+
+/// All that a view keeps holds of the examples.
+pub fn examples_are_views()
+    ensures ring { IsGraph ring }
+    ensures fork { IsGraph fork }
+    ensures line { IsGraph line }
+    ensures tie { IsGraph tie }
 {}
