@@ -76,6 +76,6 @@ graph-from g q =
     prefix-from a b h =
         all-from (λ (s : ViewSub). All (λ r. s.prefix ≡ r.prefix → ⊥) b.subs) (λ s. list_all (λ r. differ s.prefix.0 r.prefix.0) b.subs)
         (λ s h. all-from (λ (r : ViewSub). s.prefix ≡ r.prefix → ⊥) (λ r. differ s.prefix.0 r.prefix.0) (λ r h e. (
-            let w : differ s.prefix.0 r.prefix.0 ≡ false = ap (λ z. differ z.0 r.prefix.0) e ∙ differ-itself r.prefix.0 in
-            let z : true ≡ false = sym h ∙ w in
-            cc)) b.subs h) a.subs h
+        let w : differ s.prefix.0 r.prefix.0 ≡ false = ap (λ z. differ z.0 r.prefix.0) e ∙ differ-itself r.prefix.0 in
+        let z : true ≡ false = sym h ∙ w in
+        cc)) b.subs h) a.subs h
