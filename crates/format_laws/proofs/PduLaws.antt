@@ -12,7 +12,7 @@ use Rattle.wire_base.specs.declared.conf.Level.TheVariants.{One, Two}
 use Rattle.wire_base.specs.model.Fields.{AreOctets, octet_at, octets_at, number_at}
 use Rattle.wire_base.specs.model.Tlv.{LspIdFits, lsp_id, lsp_id_at}
 use Rattle.wire_base.specs.model.Checksum.{IsRight, is_right, with_pair, check_first, check_second, check_sum}
-use Rattle.wire_base.specs.model.Pdu.{Head, HeadFits, Pdu, LspPdu, CsnpPdu, PsnpPdu, HelloPdu, OtherPdu, tlvs_pass, lsp_type, csnp_type, psnp_type, lsp_covered, lsp_body, csnp_body, psnp_body, lsp, csnp, psnp, lsp_sum, LspFits, CsnpFits, PsnpFits, is_hello, IsOther, Free, shaped, IsPdu, sized_at, lsp_at, csnp_at, psnp_at, body_at, pdu_at}
+use Rattle.wire_base.specs.model.Pdu.{Head, HeadFits, AreTlvs, Pdu, LspPdu, CsnpPdu, PsnpPdu, HelloPdu, OtherPdu, tlvs_pass, lsp_type, csnp_type, psnp_type, lsp_covered, lsp_body, csnp_body, psnp_body, lsp, csnp, psnp, lsp_sum, LspFits, CsnpFits, PsnpFits, is_hello, IsOther, Free, shaped, IsPdu, sized_at, lsp_at, csnp_at, psnp_at, body_at, pdu_at}
 use Rattle.format_laws.proofs.FieldLaws.{bind_ok, ok_is, guarded, guarded_else, Takes-then, octet_takes, octets_takes, octets_again, number_takes, number_again, wide2, wide4, AreOctets-front}
 use Rattle.format_laws.proofs.TlvLaws.{lsp_id_takes, lsp_id_again, length_lsp_id}
 use Rattle.format_laws.proofs.TlvListLaws.{passes_are, are_passes}
