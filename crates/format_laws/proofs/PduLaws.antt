@@ -12,7 +12,7 @@ use Rattle.wire_base.specs.declared.conf.Level.TheVariants.{One, Two}
 use Rattle.wire_base.specs.model.Fields.{AreOctets, octet_at, octets_at, number_at}
 use Rattle.wire_base.specs.model.Tlv.{LspIdFits, lsp_id, lsp_id_at}
 use Rattle.wire_base.specs.model.Checksum.{IsRight, is_right, with_pair, check_first, check_second, check_sum}
-use Rattle.wire_base.specs.model.Pdu.{Head, Pdu, LspPdu, CsnpPdu, PsnpPdu, HelloPdu, OtherPdu, tlvs_pass, lsp_type, csnp_type, psnp_type, lsp_covered, lsp_body, csnp_body, psnp_body, lsp, csnp, psnp, lsp_sum, LspFits, CsnpFits, PsnpFits, is_hello, IsOther, Free, shaped, IsPdu, sized_at, lsp_at, csnp_at, psnp_at, body_at, pdu_at}
+use Rattle.wire_base.specs.model.Pdu.{Head, HeadFits, AreTlvs, Pdu, LspPdu, CsnpPdu, PsnpPdu, HelloPdu, OtherPdu, tlvs_pass, lsp_type, csnp_type, psnp_type, lsp_covered, lsp_body, csnp_body, psnp_body, lsp, csnp, psnp, lsp_sum, LspFits, CsnpFits, PsnpFits, is_hello, IsOther, Free, shaped, IsPdu, sized_at, lsp_at, csnp_at, psnp_at, body_at, pdu_at}
 use Rattle.format_laws.proofs.FieldLaws.{bind_ok, ok_is, guarded, guarded_else, Takes-then, octet_takes, octets_takes, octets_again, number_takes, number_again, wide2, wide4, AreOctets-front}
 use Rattle.format_laws.proofs.TlvLaws.{lsp_id_takes, lsp_id_again, length_lsp_id}
 use Rattle.format_laws.proofs.TlvListLaws.{passes_are, are_passes}
@@ -471,6 +471,12 @@ pdu_once level octets p q ip iq = ok_is {E = PduFault} p q (sym (pdu_only level 
 pub lsp_once : (level : Level) (a b : Head) (s t : List ℕ) → LspFits a s → LspFits b t → lsp level a s ≡ lsp level b t → LspPdu a s ≡ LspPdu b t
 lsp_once level a b s t fa fb e = ok_is {E = PduFault} (LspPdu a s) (LspPdu b t) (sym (lsp_read level a s [] fa) ∙ ap (λ (l : List ℕ). pdu_at level (l ++ [])) e ∙ lsp_read level b t [] fb)
 
+pub csnp_once : (level : Level) (sa sb : SystemId) (fa fb la lb : LspId) (ta tb : List ℕ) → CsnpFits sa fa la ta → CsnpFits sb fb lb tb → csnp level sa fa la ta ≡ csnp level sb fb lb tb → CsnpPdu sa fa la ta ≡ CsnpPdu sb fb lb tb
+csnp_once level sa sb fa fb la lb ta tb a b e = ok_is {E = PduFault} (CsnpPdu sa fa la ta) (CsnpPdu sb fb lb tb) (sym (csnp_read level sa fa la ta [] a) ∙ ap (λ (l : List ℕ). pdu_at level (l ++ [])) e ∙ csnp_read level sb fb lb tb [] b)
+
+pub psnp_once : (level : Level) (sa sb : SystemId) (ta tb : List ℕ) → PsnpFits sa ta → PsnpFits sb tb → psnp level sa ta ≡ psnp level sb tb → PsnpPdu sa ta ≡ PsnpPdu sb tb
+psnp_once level sa sb ta tb a b e = ok_is {E = PduFault} (PsnpPdu sa ta) (PsnpPdu sb tb) (sym (psnp_read level sa ta [] a) ∙ ap (λ (l : List ℕ). pdu_at level (l ++ [])) e ∙ psnp_read level sb tb [] b)
+
 -- ---- the checksum of a link state PDU
 
 get_or_at : (front back : List ℕ) (n i : ℕ) → length front ≡ n → get_or (front ++ back) (n + i) 0 ≡ get_or back i 0
@@ -524,3 +530,12 @@ lsp_sum_fits head tlvs = let e = check_sum_is (lsp_covered (record head { sum = 
 
 pub lsp_sum_some : (head : Head) (tlvs : List ℕ) → 257 ≤ lsp_sum head tlvs
 lsp_sum_some head tlvs = let e = check_sum_is (lsp_covered (record head { sum = 0 }) tlvs) 12 in omega (arith, e)
+
+-- a link state PDU with that sum is one that a reader gives
+pub lsp_with_sum : (head : Head) (tlvs : List ℕ) → HeadFits head → 27 + length tlvs < 256 ^ 2 → AreTlvs false tlvs → LspFits (record head { sum = lsp_sum head tlvs }) tlvs
+lsp_with_sum head tlvs fits size are = record {
+  head_fits = record { life = fits.life; id = fits.id; seq = fits.seq; sum = lsp_sum_fits head tlvs; flags = fits.flags };
+  size = size;
+  live = λ alive. lsp_sum_right head tlvs fits.id;
+  tlvs_are = are;
+}

@@ -121,6 +121,14 @@ passes_are rows octets e = by_list (tlvs_of octets) refl e
 pub are_passes : (rows : Bool) (octets : List ℕ) → AreTlvs rows octets → tlvs_pass rows octets ≡ true
 are_passes rows octets are = ap (tlvs_pass rows) are.spelled ∙ pass_spelled rows are.tlvs are.pass
 
+-- TLVs that are spelled one after the other are whole, where no entries are listed
+all_plain : (ts : List Tlv) → list_all (passes false) ts ≡ true
+all_plain [] = refl
+all_plain (t ∷ ts) = all_plain ts
+
+pub are_spelled : (ts : List Tlv) → AreTlvs false (flat_map tlv ts)
+are_spelled ts = record { tlvs = ts; spelled = refl; pass = all_plain ts }
+
 -- ---- entries one after the other
 
 -- each entry that is read takes an octet or more

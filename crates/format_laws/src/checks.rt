@@ -1,8 +1,8 @@
 //! The checksum of link state PDUs.
-ghost use Rattle.std.specs.Prelude.{◌≡◌, ◌≤◌, ◌<◌, ◌+◌, ◌*◌, ◌^◌, ℕ, List, length, slice_index, true};
+ghost use Rattle.std.specs.Prelude.{◌≡◌, ◌≤◌, ◌<◌, ◌+◌, ◌*◌, ◌^◌, ℕ, List, length, slice_index, true, false};
 ghost use Rattle.wire_base.specs.model.Tlv.{LspIdFits};
 ghost use Rattle.wire_base.specs.model.Checksum.{IsRight, is_right, IsCheck, check_first, check_second, check_sum};
-ghost use Rattle.wire_base.specs.model.Pdu.{Head, lsp_covered, lsp_sum};
+ghost use Rattle.wire_base.specs.model.Pdu.{Head, HeadFits, LspFits, AreTlvs, lsp_covered, lsp_sum};
 
 /// For any place of octets that has 0 and 0 there, exactly one pair of octets from 1 to 255 makes both sums 0
 /// (ISO/IEC 10589, 7.3.11).
@@ -18,4 +18,6 @@ pub fn lsp_sum_law()
     ensures right { (head : Head) (tlvs : List ℕ) → LspIdFits head.id → IsRight (lsp_covered (record head { sum = lsp_sum head tlvs }) tlvs) }
     ensures fits { (head : Head) (tlvs : List ℕ) → lsp_sum head tlvs < 256 ^ 2 }
     ensures some { (head : Head) (tlvs : List ℕ) → 257 ≤ lsp_sum head tlvs }
+    // A link state PDU with that sum is one that a reader gives.
+    ensures whole { (head : Head) (tlvs : List ℕ) → HeadFits head → 27 + length tlvs < 256 ^ 2 → AreTlvs false tlvs → LspFits (record head { sum = lsp_sum head tlvs }) tlvs }
 {}

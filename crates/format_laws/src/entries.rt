@@ -1,5 +1,5 @@
 //! TLVs and the entries of the TLVs 22, 135 and 9.
-ghost use Rattle.std.specs.Prelude.{◌≡◌, ◌≤◌, ◌*◌, ◌++◌, ℕ, Bool, true, List, length, Ok, Some};
+ghost use Rattle.std.specs.Prelude.{◌≡◌, ◌≤◌, ◌*◌, ◌++◌, ℕ, Bool, true, false, List, length, Ok, Some};
 ghost use Rattle.std.specs.List.{flat_map, AllByRecursion};
 ghost use Rattle.wire_base.specs.model.Fields.{AreOctets};
 ghost use Rattle.wire_base.specs.model.Tlv.{Tlv, tlv, tlv_at, tlvs_of, tlvs_before, entries_of, rows_of, Reach, ReachFits, reach, reach_at, Prefix, PrefixFits, prefix, prefix_at, SummaryFits, row, row_at};
@@ -48,6 +48,8 @@ pub fn tlvs_law()
     // The test of a whole list finds these lists alone.
     ensures pass { (rows : Bool) (octets : List ℕ) → tlvs_pass rows octets ≡ true → AreTlvs rows octets }
     ensures all { (rows : Bool) (octets : List ℕ) → AreTlvs rows octets → tlvs_pass rows octets ≡ true }
+    // TLVs that are written one after the other are such a list.
+    ensures spelled { (ts : List Tlv) → AreTlvs false (flat_map tlv ts) }
 {}
 
 /// Entries that are written one after the other are read as those entries.

@@ -28,10 +28,12 @@ pub fn lsp_law()
 pub fn csnp_law()
     ensures spelled { (level : Level) (source : SystemId) (start last : LspId) (tlvs rest : List ℕ) → CsnpFits source start last tlvs → IsPdu level (csnp level source start last tlvs ++ rest) (CsnpPdu source start last tlvs) }
     ensures again { (level : Level) (source : SystemId) (start last : LspId) (tlvs rest : List ℕ) → CsnpFits source start last tlvs → pdu_at level (csnp level source start last tlvs ++ rest) ≡ Ok (CsnpPdu source start last tlvs) }
+    ensures one { (level : Level) (sa sb : SystemId) (fa fb la lb : LspId) (ta tb : List ℕ) → CsnpFits sa fa la ta → CsnpFits sb fb lb tb → csnp level sa fa la ta ≡ csnp level sb fb lb tb → CsnpPdu sa fa la ta ≡ CsnpPdu sb fb lb tb }
 {}
 
 /// Partial sequence numbers PDUs (ISO/IEC 10589, 9.12 and 9.13).
 pub fn psnp_law()
     ensures spelled { (level : Level) (source : SystemId) (tlvs rest : List ℕ) → PsnpFits source tlvs → IsPdu level (psnp level source tlvs ++ rest) (PsnpPdu source tlvs) }
     ensures again { (level : Level) (source : SystemId) (tlvs rest : List ℕ) → PsnpFits source tlvs → pdu_at level (psnp level source tlvs ++ rest) ≡ Ok (PsnpPdu source tlvs) }
+    ensures one { (level : Level) (sa sb : SystemId) (ta tb : List ℕ) → PsnpFits sa ta → PsnpFits sb tb → psnp level sa ta ≡ psnp level sb tb → PsnpPdu sa ta ≡ PsnpPdu sb tb }
 {}

@@ -1,4 +1,4 @@
-use Rattle.format_laws.proofs.PduLaws.{lsp_sum_right, lsp_sum_fits, lsp_sum_some}
+use Rattle.format_laws.proofs.PduLaws.{lsp_sum_right, lsp_sum_fits, lsp_sum_some, lsp_with_sum}
 use Rattle.format_laws.proofs.checks.lsp_sum_law.Goals as goal
 
 pub returns-clause-right : goal.returns-clause-right
@@ -9,3 +9,6 @@ returns-clause-fits c = lsp_sum_fits
 
 pub returns-clause-some : goal.returns-clause-some
 returns-clause-some c = lsp_sum_some
+
+pub returns-clause-whole : goal.returns-clause-whole
+returns-clause-whole c = lsp_with_sum

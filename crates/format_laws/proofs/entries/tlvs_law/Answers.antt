@@ -1,4 +1,4 @@
-use Rattle.format_laws.proofs.TlvListLaws.{tlvs_again, tlvs_parts, before_all, passes_are, are_passes}
+use Rattle.format_laws.proofs.TlvListLaws.{tlvs_again, tlvs_parts, before_all, passes_are, are_passes, are_spelled}
 use Rattle.format_laws.proofs.entries.tlvs_law.Goals as goal
 
 pub returns-clause-again : goal.returns-clause-again
@@ -15,3 +15,6 @@ returns-clause-pass c = passes_are
 
 pub returns-clause-all : goal.returns-clause-all
 returns-clause-all c = are_passes
+
+pub returns-clause-spelled : goal.returns-clause-spelled
+returns-clause-spelled c = are_spelled

@@ -1,4 +1,4 @@
-use Rattle.format_laws.proofs.PduLaws.{psnp_is, psnp_read}
+use Rattle.format_laws.proofs.PduLaws.{psnp_is, psnp_read, psnp_once}
 use Rattle.format_laws.proofs.pdus.psnp_law.Goals as goal
 
 pub returns-clause-spelled : goal.returns-clause-spelled
@@ -6,3 +6,6 @@ returns-clause-spelled c = psnp_is
 
 pub returns-clause-again : goal.returns-clause-again
 returns-clause-again c = psnp_read
+
+pub returns-clause-one : goal.returns-clause-one
+returns-clause-one c = psnp_once
