@@ -1,5 +1,9 @@
 -- Those who have an id, as far as it matters whether one of them owns it.
-use Rattle.std.specs.Prelude.{ℕ, List, [], ◌∷◌, Option, Some, None}
+use Rattle.std.specs.Prelude.{ℕ, ◌==◌, ◌||◌, ◌-◌, nat_lt, List, [], ◌∷◌, Option, Some, None, option_and_then, slice_index_or, slice_set, if◌then◌else◌}
+use Rattle.wire_base.specs.declared.triple.Triple.{Triple}
+use Rattle.wire_base.specs.declared.view.ViewNode.{ViewNode}
+use Rattle.wire_base.specs.model.Graph.{place_in}
+use Rattle.wire_base.specs.model.Place.{position_in}
 use Rattle.birt_rows.specs.declared.owner.Found.{Found}
 use Rattle.birt_rows.specs.declared.owner.Found.TheVariants.{Nobody, One, Several}
 
@@ -17,3 +21,15 @@ abbrev pub found_in : List ℕ → Found
 found_in [] = Nobody
 found_in (x ∷ []) = One x
 found_in (x ∷ y ∷ ys) = Several
+
+-- the bit position of a node's BFR-id, where the id lies in the triple's set
+abbrev pub node_position : Triple → ViewNode → Option ℕ
+node_position t n = option_and_then (λ s. position_in t s.id) (place_in n.subs t.sd)
+
+-- one more who has the id of a position
+abbrev pub counted : List Found → Option ℕ → ℕ → List Found
+counted found None node = found
+counted found (Some p) node = slice_set found (p - 1) (one_more (slice_index_or found (p - 1) Nobody) node)
+
+abbrev pub owner_among : Found → ℕ → Option ℕ
+owner_among found k = if (k == 0) || nat_lt 65535 k then None else only_one found

@@ -1,42 +1,15 @@
-//! The owner of a BFR-id.
-ghost use Rattle.std.specs.Prelude.{◌≡◌, ◌≤◌, ◌==◌, ◌&&◌, ◌||◌, nat_lt, ℕ, length, filter, if◌then◌else◌};
-ghost use Rattle.std.specs.List.{list_any, range_with_len};
-ghost use Rattle.birt_rows.specs.Owner.{one_more, only_one};
-ghost use Rattle.wire_base.specs.model.Graph.{has_id, has_id_at, only, owner};
+//! The owners of BFR-ids.
+ghost use Rattle.std.specs.Prelude.{◌≡◌, ◌<◌, ◌≤◌, ◌==◌, ◌-◌, ◌||◌, nat_lt, ℕ, IfOk, IfSome, length, filter, option_map, slice_index_or, if◌then◌else◌};
+ghost use Rattle.std.specs.List.{range_with_len};
+ghost use Rattle.wire_base.specs.model.Graph.{IsGraph, has_id_at, place_in};
+ghost use Rattle.wire_base.specs.model.Place.{bits_of, id_at};
+ghost use Rattle.birt_rows.specs.declared.owner.Found.TheVariants.{Nobody};
+ghost use Rattle.birt_rows.specs.Owner.{counted, found_in, node_position, one_more, only_one, owner_among};
 
-use wire_base::{ViewNode, ViewSub};
+use std::alloc::Global;
+use wire_base::{M, Triple, ViewNode, ViewSub};
 
-/// The one node that has a BFR-id in a subdomain, 0 and numbers above 65,535 being none (RFC 8279, 5).
-#[tactic(auto, unfolding(wire_base::specs::model::Graph::owner))]
-pub(crate) fn owner_of(nodes: &[ViewNode], sd: u8, id: u32) -> Option<u16>
-    requires few { length nodes.now ≤ 65536 }
-    ensures { result ≡ owner nodes.now sd id }
-{
-    if is_no_id(id) {
-        None
-    } else {
-        only_with(nodes, sd, id)
-    }
-}
-
-fn is_no_id(id: u32) -> bool
-    ensures { result ≡ ((id == 0) || nat_lt 65535 id) }
-{
-    id == 0 || 65535 < id
-}
-
-fn only_with(nodes: &[ViewNode], sd: u8, id: u32) -> Option<u16>
-    requires few { length nodes.now ≤ 65536 }
-    ensures { result ≡ only (filter (has_id_at nodes.now sd id) (range_with_len 0 (length nodes.now))) }
-{
-    let mut found = Found::Nobody;
-    for node in 0..nodes.len() {
-        found = counted(found, has_id(&nodes[node], sd, id), node as u16);
-    }
-    only_one(found)
-}
-
-/// Those who have an id, as far as it matters.
+/// Those who have an id, as far as it matters whether one of them owns it.
 #[derive(Clone, Copy)]
 pub(crate) enum Found {
     Nobody,
@@ -44,10 +17,59 @@ pub(crate) enum Found {
     Several,
 }
 
-fn counted(found: Found, has: bool, node: u16) -> Found
-    ensures { result ≡ (if has then one_more found node else found) }
+/// For each bit position of the triple who has its BFR-id.
+pub(crate) fn owners(alloc: Global, nodes: &[ViewNode], t: Triple) -> M<Vec<Found>>
+    requires graph { IsGraph nodes.now }
+    ensures rows { IfOk result (λ found. length found.items ≡ bits_of t.bsl) }
+    ensures each { IfOk result (λ found. (p : ℕ) → 0 < p → p ≤ bits_of t.bsl → slice_index_or found.items (p - 1) Nobody ≡ found_in (filter (has_id_at nodes.now t.sd (id_at t p)) (range_with_len 0 (length nodes.now)))) }
 {
-    if has { one_more(found, node) } else { found }
+    let mut found = nobody(alloc, t.bsl.bits())?;
+    for node in 0..nodes.len() {
+        count(&mut found, node_position(&nodes[node], t), node as u16);
+    }
+    Ok(found)
+}
+
+fn nobody(alloc: Global, count: u16) -> M<Vec<Found>>
+    ensures rows { IfOk result (λ found. length found.items ≡ count) }
+    ensures each { IfOk result (λ found. (k : ℕ) → slice_index_or found.items k Nobody ≡ Nobody) }
+{
+    let mut found: Vec<Found> = Vec::new(alloc);
+    for _position in 0..count {
+        found.push(Found::Nobody)?;
+    }
+    Ok(found)
+}
+
+/// The bit position of a node's BFR-id, where the id lies in the triple's set.
+fn node_position(node: &ViewNode, t: Triple) -> Option<u16>
+    ensures { result ≡ node_position t node.now }
+{
+    match place_in(node.subs.as_slice(), t.sd) {
+        Some(sub) => t.place(sub.id),
+        None => None,
+    }
+}
+
+fn place_in(subs: &[ViewSub], sd: u8) -> Option<&ViewSub>
+    ensures { option_map (λ s. s.now) result ≡ place_in subs.now sd }
+{
+    for sub in subs {
+        if sub.sd == sd {
+            return Some(sub);
+        }
+    }
+    None
+}
+
+/// Counts one more who has the id of a position.
+fn count(found: &mut Vec<Found>, position: Option<u16>, node: u16)
+    requires within { IfSome position (λ p. (0 < p) × (p ≤ length found.old.items)) }
+    ensures { found.new.items ≡ counted found.old.items position node }
+{
+    if let Some(position) = position {
+        found[position as usize - 1] = one_more(found[position as usize - 1], node);
+    }
 }
 
 fn one_more(found: Found, node: u16) -> Found
@@ -59,6 +81,17 @@ fn one_more(found: Found, node: u16) -> Found
     }
 }
 
+/// The one that has a BFR-id, 0 and numbers above 65,535 being none (RFC 8279, 5).
+pub(crate) fn owner_among(found: Found, id: u32) -> Option<u16>
+    ensures { result ≡ owner_among found id }
+{
+    if id == 0 || 65535 < id {
+        None
+    } else {
+        only_one(found)
+    }
+}
+
 fn only_one(found: Found) -> Option<u16>
     ensures { result ≡ only_one found }
 {
@@ -66,21 +99,4 @@ fn only_one(found: Found) -> Option<u16>
         Found::One(node) => Some(node),
         Found::Nobody | Found::Several => None,
     }
-}
-
-fn has_id(node: &ViewNode, sd: u8, id: u32) -> bool
-    ensures { result ≡ has_id sd id node.now }
-{
-    any_is(node.subs.as_slice(), sd, id)
-}
-
-fn any_is(subs: &[ViewSub], sd: u8, id: u32) -> bool
-    ensures { result ≡ list_any (λ s. (s.sd == sd) && (s.id == id)) subs.now }
-{
-    for sub in subs {
-        if sub.sd == sd && sub.id as u32 == id {
-            return true;
-        }
-    }
-    false
 }

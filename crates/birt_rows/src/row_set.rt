@@ -1,12 +1,14 @@
 ghost use Rattle.std.specs.Prelude.{◌≡◌, ◌<◌, ◌≤◌, ◌+◌, ◌-◌, ℕ, Bool, true, false, [], List, IfOk, length, slice_index_or, filter, map};
 ghost use Rattle.wire_base.specs.model.Place.{bits_of, id_at};
-ghost use Rattle.wire_base.specs.model.Graph.{IsGraph, covers_at, owner};
+ghost use Rattle.wire_base.specs.model.Graph.{covers_at};
 ghost use Rattle.wire_base.specs.model.Choice.{row};
+ghost use Rattle.birt_rows.specs.declared.owner.Found.TheVariants.{Nobody};
+ghost use Rattle.birt_rows.specs.Owner.{owner_among};
 ghost use Rattle.birt_rows.specs.Rows.{beyond, row_of_owner};
 
 use crate::entries::{Entry, all_entries};
 use crate::forward::reach;
-use crate::owner::owner_of;
+use crate::owner::{Found, owner_among, owners};
 use path_tree::distances_from;
 use std::alloc::Global;
 use wire_base::{First, M, RouterConf, RowSet, Rows, Triple, View, ViewNode};
@@ -35,7 +37,15 @@ pub fn rows(alloc: Global, v: &View, conf: &RouterConf, u: u16, t: Triple) -> M<
         covers.as_slice(),
         u,
     )?;
-    let bits = all_rows(alloc, nodes, found.as_slice(), covers.as_slice(), u, t)?;
+    let owners = owners(alloc, nodes, t)?;
+    let bits = all_rows(
+        alloc,
+        owners.as_slice(),
+        found.as_slice(),
+        covers.as_slice(),
+        u,
+        t,
+    )?;
     Ok(RowSet { bits })
 }
 
@@ -54,19 +64,19 @@ fn supporting(alloc: Global, nodes: &[ViewNode], conf: &RouterConf, t: Triple) -
 /// The rows of all bit positions.
 fn all_rows(
     alloc: Global,
-    nodes: &[ViewNode],
+    owners: &[Found],
     entries: &[Entry],
     covers: &[bool],
     u: u16,
     t: Triple,
 ) -> M<Rows<Rows<First>>>
-    requires few { length nodes.now ≤ 65536 }
+    requires owners { length owners.now ≡ bits_of t.bsl }
     ensures bits { IfOk result (λ bits. length bits ≡ bits_of t.bsl) }
-    ensures rows { IfOk result (λ bits. (k : ℕ) → k < bits_of t.bsl → slice_index_or bits k [] ≡ row_of_owner entries.now covers.now u (owner nodes.now t.sd (id_at t (k + 1)))) }
+    ensures rows { IfOk result (λ bits. (k : ℕ) → k < bits_of t.bsl → slice_index_or bits k [] ≡ row_of_owner entries.now covers.now u (owner_among (slice_index_or owners.now k Nobody) (id_at t (k + 1)))) }
 {
     let mut bits: Rows<Rows<First>> = Rows::new(alloc);
     for place in 0..t.bsl.bits() {
-        let owner = owner_of(nodes, t.sd, id_at(t, place));
+        let owner = owner_among(owners[place as usize], id_at(t, place));
         bits.push(row_of_owner(alloc, entries, covers, u, owner)?)?;
     }
     Ok(bits)

@@ -1,8 +1,11 @@
-use Rattle.std.proofs.Common.{ℕ, Bool, ◌≡◌, ◌<◌, ◌+◌, ◌-◌, length, arith, ap, ◌∙◌}
+use Rattle.std.proofs.Common.{ℕ, Bool, ◌≡◌, ◌<◌, ◌+◌, ◌-◌, Option, slice_index_or, length, arith, ap, ◌∙◌}
 use Rattle.wire_base.specs.model.Graph.{covers_at, owner}
 use Rattle.wire_base.specs.model.Place.{bits_of, id_at}
 use Rattle.route_laws.proofs.OwnerLemmas.{owner-is}
+use Rattle.birt_rows.specs.declared.owner.Found.TheVariants.{Nobody}
+use Rattle.birt_rows.specs.Owner.{owner_among}
 use Rattle.birt_rows.specs.Rows.{row_of_owner}
+use Rattle.birt_rows.proofs.OwnerLemmas.{owner-among}
 use Rattle.birt_rows.proofs.RowLemmas.{row-is}
 use Rattle.birt_rows.proofs.row_set.rows.Goals as goal
 
@@ -17,9 +20,11 @@ returns-clause-rows c p above within =
     let marked = rw c.as_slice-2.ensures.value at c.in_ok-seen.ensures.each in
     let are = rw (c.as_slice-ends.ensures, c.as_slice-4.ensures.value, c.as_slice-5.ensures.value) at c.in_ok-found.ensures in
     let low : p - 1 < bits_of t.bsl = omega arith in
-    let here = rw (c.as_slice-6.ensures.value, c.as_slice-7.ensures.value) at (c.in_ok-bits.ensures.rows (p - 1) low) in
+    let here = rw (c.as_slice-6.ensures.value, c.as_slice-7.ensures.value, c.as_slice-8.ensures.value) at (c.in_ok-bits.ensures.rows (p - 1) low) in
     let back : (p - 1) + 1 ≡ p = omega arith in
+    let who = owner-among g t.sd (id_at t p) (slice_index_or c.in_ok-owners.owners.items (p - 1) Nobody) (c.in_ok-owners.ensures.each p above within) in
     rw (← c.as_slice-nodes.ensures.nodes)
     (here
-    ∙ ap (λ (n : ℕ). row_of_owner c.in_ok-found.found.items covers c.args.u (owner g t.sd (id_at t n))) back
+    ∙ ap (λ (n : ℕ). row_of_owner c.in_ok-found.found.items covers c.args.u (owner_among (slice_index_or c.in_ok-owners.owners.items (p - 1) Nobody) (id_at t n))) back
+    ∙ ap (λ (o : Option ℕ). row_of_owner c.in_ok-found.found.items covers c.args.u o) who
     ∙ row-is c.args.conf.now.ends g c.as_slice-nodes.ensures.graph c-at c.args.u node seen covers c.in_ok-covers.ensures.each marked c.in_ok-found.found.items are (owner g t.sd (id_at t p)) (λ d q. (owner-is g t.sd (id_at t p) d q).within))
