@@ -199,3 +199,18 @@ pub only_from : (bytes : List ℕ) (result : Result (ArrayVec Label 8 (Unit {0})
     → (es : List LabelEntry) (rest : List ℕ) → StackFits 8 es → bytes ≡ stack es ++ rest → Gives (read_entries bytes) result (Ok (es, rest))
 only_from bytes (Ok labels) gives es rest fits is = sym (ap (stack_at 8) is ∙ stack_again 8 es rest fits) ∙ gives
 only_from bytes (Err fault) gives es rest fits is = sym (ap (stack_at 8) is ∙ stack_again 8 es rest fits) ∙ gives
+
+length_stack : (most : ℕ) (entries : List LabelEntry) → StackFits most entries → (1 ≤ length entries) × (4 * length entries ≤ length (stack entries))
+length_stack most [] fits = absurd fits
+length_stack most (e ∷ []) fits = (omega arith, omega arith)
+length_stack zero (e ∷ f ∷ es) fits = absurd fits
+length_stack (suc most) (e ∷ f ∷ es) fits = (omega arith, omega (arith, (length_stack most (f ∷ es) fits.1).1))
+
+pub whole_from : (bytes : List ℕ) (result : Result (ArrayVec Label 8 (Unit {0})) StackFault) → AreOctets bytes → Gives (read_entries bytes) result (stack_at 8 bytes)
+    → IfOk result (λ labels. (1 ≤ length labels.items) × (4 * length labels.items ≤ length bytes))
+whole_from bytes (Ok labels) small gives =
+    let n : length (entries labels.items) ≡ length labels.items = length-map labels.items entry in
+    let spelled : Spelled 8 bytes (Ok (read_entries bytes labels)) = subst (Spelled 8 bytes) gives (stack_spells 8 bytes small) in
+    let sizes = length_stack 8 (entries labels.items) spelled.0 in
+    (omega (arith, n, sizes.0), omega (arith, n, sizes.1, ap length spelled.1, length-append (stack (entries labels.items)) (drop (4 * length labels.items) bytes)))
+whole_from bytes (Err fault) small gives = tt

@@ -1,5 +1,5 @@
 //! MPLS label stacks (RFC 3032, 2.1).
-ghost use Rattle.std.specs.Prelude.{◌≡◌, ◌++◌, List, ℕ, Ok, IfOk};
+ghost use Rattle.std.specs.Prelude.{◌≡◌, ◌≤◌, ◌*◌, ◌++◌, List, ℕ, Ok, IfOk, length};
 ghost use Rattle.wire_base.specs.model.Fields.{Gives};
 ghost use Rattle.wire_base.specs.model.Labels.{LabelEntry, IsStack, StackFits, entry_of, stack, stack_at};
 ghost use Rattle.link_frame.specs.Stacks.{entry, entries, read_entries};
@@ -37,6 +37,7 @@ fn label_from(word: u32) -> Label
 /// none of the first eight entries is the bottom.
 pub fn read_stack(bytes: &[u8]) -> Result<ArrayVec<Label, 8>, StackFault>
     ensures exact { Gives (read_entries bytes.now) result (stack_at 8 bytes.now) }
+    ensures whole { IfOk result (λ labels. (1 ≤ length labels.items) × (4 * length labels.items ≤ length bytes.now)) }
     ensures found { IfOk result (λ labels. IsStack 8 (entries labels.items) bytes.now) }
     ensures only { (es : List LabelEntry) (rest : List ℕ) → StackFits 8 es → bytes.now ≡ stack es ++ rest → Gives (read_entries bytes.now) result (Ok (es, rest)) }
 {

@@ -1,12 +1,18 @@
 -- The records that a reader gives until it has none: however its octets come.
-use Rattle.std.proofs.Common.{◌≡◌, ℕ, zero, suc, ◌-◌, ◌+◌, ◌<◌, ◌≤◌, ltb, false, List, [], ◌∷◌, ◌++◌, length, take, drop, Result, Ok, Err, Option, Some, None, refl, sym, ap, ap₂, ◌∙◌, subst, append_assoc, append-nil, arith, inl, inr}
+use Rattle.std.proofs.Common.{◌≡◌, ℕ, zero, suc, ◌-◌, ◌+◌, ◌<◌, ◌≤◌, ltb, Bool, true, false, List, [], ◌∷◌, ◌++◌, length, take, drop, Result, Ok, Err, Option, Some, None, refl, sym, ap, ap₂, ◌∙◌, subst, append_assoc, append-nil, arith, inl, inr}
 use Rattle.std.specs.List.{concat}
-use Rattle.std.proofs.lemmas.Bool.{cases_lt, cases_Bool, lt-ltb, le-ltb}
+use Rattle.std.proofs.lemmas.Bool.{cases_lt, lt-ltb, le-ltb, false≢true}
 use Rattle.std.proofs.lemmas.List.{length-drop, length-append}
 use Rattle.wire_base.specs.declared.faults.CaptureFault.{CaptureFault}
 use Rattle.wire_base.specs.model.Capture.{CaptureForm, CaptureRecord, Stage, Reading, HeaderToCome, HeaderRead, Refused, fed, unread, next_of, next_in, by_header, by_record, header_at, record_at, frame_at, number_in, most_captured, drain, drain_on, drained, more_after, read_pieces}
 use Rattle.pcap_frames.proofs.Ends.{HeaderShape, header_shape}
 use Rattle.pcap_frames.proofs.Grows.{NextGrows, next_grows}
+
+-- whether an answer has a record
+given : Result (Option CaptureRecord) CaptureFault → Bool
+given (Ok (Some read)) = true
+given (Ok None) = false
+given (Err fault) = false
 
 -- a record takes octets from the front
 abbrev Shrinks : ℕ → Result (Option CaptureRecord) CaptureFault × Reading → Type 0
@@ -143,13 +149,98 @@ pieces_joined reading (piece ∷ pieces) none =
     ap (λ (rest : List CaptureRecord × Reading). (done.0 ++ rest.0, rest.1)) (pieces_joined done.1 pieces (drained_twice (fed reading piece)))
     ∙ sym (ap drained (sym (fed_twice reading piece (concat pieces))) ∙ drained_fed (fed reading piece) (concat pieces))
 
-nothing_next : next_of unread ≡ (Ok None, unread)
+pub nothing_next : next_of unread ≡ (Ok None, unread)
 unfolding next_of header_at
 nothing_next = refl
 
-unread_none : drained unread ≡ ([], unread)
+pub unread_none : drained unread ≡ ([], unread)
 unread_none = drained_next unread ∙ ap (drain_on drained) nothing_next
 
 -- The records don't depend on how the octets come.
 pub any_pieces : (reading : Reading) → reading ≡ unread → (pieces : List (List ℕ)) → read_pieces reading pieces ≡ drained (fed reading (concat pieces))
 any_pieces reading is pieces = pieces_joined reading pieces (subst (λ (r : Reading). drained r ≡ ([], r)) (sym is) unread_none)
+
+-- what is left after a record is shorter
+shorter_at : (n : ℕ) (answer : Result (Option CaptureRecord) CaptureFault × Reading) (read : CaptureRecord) → answer.0 ≡ Ok (Some read) → Shrinks n answer → length answer.1.octets < n
+unfolding given
+shorter_at n (Ok (Some found), after) read is shrinks = shrinks
+shorter_at n (Ok None, after) read is shrinks = absurd (false≢true (ap given is))
+shorter_at n (Err fault, after) read is shrinks = absurd (false≢true (ap given is))
+
+pub next_shorter : (reading after : Reading) (read : CaptureRecord) → (next_of reading).0 ≡ Ok (Some read) → after ≡ (next_of reading).1 → length after.octets < length reading.octets
+next_shorter reading after read is after-is =
+    subst (λ (r : Reading). length r.octets < length reading.octets) (sym after-is) (shorter_at (length reading.octets) (next_of reading) read is (next_shrinks reading))
+
+-- and no answer leaves more
+record_lowers : (form : CaptureForm) (n : ℕ) (octets : List ℕ) (read : Result (Option (CaptureRecord × List ℕ)) CaptureFault) → length octets ≤ n → RecordShape octets read → length (by_record form octets read).1.octets ≤ n
+record_lowers form n octets (Ok None) le shape = le
+record_lowers form n octets (Ok (Some read)) le shape = omega (arith, shape)
+record_lowers form n octets (Err fault) le shape = le
+
+header_lowers : (n : ℕ) (octets : List ℕ) (read : Result (Option (CaptureForm × List ℕ)) CaptureFault) → length octets ≤ n → HeaderShape octets read → length (by_header octets read).1.octets ≤ n
+header_lowers n octets (Ok None) le shape = le
+header_lowers n octets (Ok (Some read)) le shape = record_lowers read.0 n read.1 (record_at read.0 read.1) (omega (arith, ap length shape.1, length-drop 24 octets)) (record_shape read.0 read.1)
+header_lowers n octets (Err fault) le shape = le
+
+next_in_lowers : (stage : Stage) (octets : List ℕ) → length (next_in stage octets).1.octets ≤ length octets
+next_in_lowers HeaderToCome octets = header_lowers (length octets) octets (header_at octets) (omega arith) (header_shape octets)
+next_in_lowers (HeaderRead form) octets = record_lowers form (length octets) octets (record_at form octets) (omega arith) (record_shape form octets)
+next_in_lowers (Refused fault) octets = omega arith
+
+pub next_lowers : (reading after : Reading) → after ≡ (next_of reading).1 → length after.octets ≤ length reading.octets
+unfolding next_of
+next_lowers reading after is = subst (λ (r : Reading). length r.octets ≤ length reading.octets) (sym is) (next_in_lowers reading.stage reading.octets)
+
+-- once all records were given, the next answer changes nothing
+end_on : (n k : ℕ) (answer : Result (Option CaptureRecord) CaptureFault × Reading) → k ≤ n → Shrinks k answer → IsSpent answer
+    → ((r : Reading) → length r.octets < n → (next_of (drained r).1).1 ≡ (drained r).1) → (next_of (drain_on drained answer).1).1 ≡ (drain_on drained answer).1
+end_on n k (Ok None, after) enough shrinks is ends = ap (λ (a : Result (Option CaptureRecord) CaptureFault × Reading). a.1) is
+end_on n k (Ok (Some read), after) enough shrinks is ends = ends after (omega (arith, shrinks))
+end_on n k (Err fault, after) enough shrinks is ends = ap (λ (a : Result (Option CaptureRecord) CaptureFault × Reading). a.1) is
+
+end_goes : (n : ℕ) (reading : Reading) → length reading.octets < n → (next_of (drained reading).1).1 ≡ (drained reading).1
+end_goes zero reading enough = absurd (omega (arith, enough))
+end_goes (suc n) reading enough =
+    subst (λ (done : List CaptureRecord × Reading). (next_of done.1).1 ≡ done.1) (sym (drained_next reading))
+      (end_on n (length reading.octets) (next_of reading) (omega (arith, enough)) (next_shrinks reading) (spent reading) (λ r. end_goes n r))
+
+pub drained_end : (reading : Reading) → (next_of (drained reading).1).1 ≡ (drained reading).1
+drained_end reading = end_goes (suc (length reading.octets)) reading (omega arith)
+
+-- a reader that met a fault gives nothing more
+pub refused_still : (reading : Reading) (fault : CaptureFault) → reading.stage ≡ Refused fault → drained reading ≡ ([], reading)
+unfolding next_of
+refused_still reading fault is =
+    let same : next_of reading ≡ (Err fault, reading) = ap (λ (s : Stage). next_in s reading.octets) is ∙ ap (λ (s : Stage). (Err fault, record { stage = s; octets = reading.octets })) (sym is) in
+    drained_next reading ∙ ap (drain_on drained) same
+
+-- a fault that was answered stays
+fault_or : CaptureFault → Result (Option CaptureRecord) CaptureFault → CaptureFault
+fault_or other (Ok read) = other
+fault_or other (Err fault) = fault
+
+refuses : Result (Option CaptureRecord) CaptureFault → Bool
+refuses (Ok read) = false
+refuses (Err fault) = true
+
+record_refuses : (form : CaptureForm) (octets : List ℕ) (read : Result (Option (CaptureRecord × List ℕ)) CaptureFault) (fault : CaptureFault) → (by_record form octets read).0 ≡ Err fault → (by_record form octets read).1.stage ≡ Refused fault
+unfolding fault_or refuses
+record_refuses form octets (Ok None) fault is = absurd (false≢true (ap refuses is))
+record_refuses form octets (Ok (Some read)) fault is = absurd (false≢true (ap refuses is))
+record_refuses form octets (Err met) fault is = ap Refused (ap (fault_or met) is)
+
+header_refuses : (octets : List ℕ) (read : Result (Option (CaptureForm × List ℕ)) CaptureFault) (fault : CaptureFault) → (by_header octets read).0 ≡ Err fault → (by_header octets read).1.stage ≡ Refused fault
+unfolding fault_or refuses
+header_refuses octets (Ok None) fault is = absurd (false≢true (ap refuses is))
+header_refuses octets (Ok (Some read)) fault is = record_refuses read.0 read.1 (record_at read.0 read.1) fault is
+header_refuses octets (Err met) fault is = ap Refused (ap (fault_or met) is)
+
+next_in_refuses : (stage : Stage) (octets : List ℕ) (fault : CaptureFault) → (next_in stage octets).0 ≡ Err fault → (next_in stage octets).1.stage ≡ Refused fault
+unfolding fault_or
+next_in_refuses HeaderToCome octets fault is = header_refuses octets (header_at octets) fault is
+next_in_refuses (HeaderRead form) octets fault is = record_refuses form octets (record_at form octets) fault is
+next_in_refuses (Refused met) octets fault is = ap Refused (ap (fault_or met) is)
+
+pub next_refuses : (reading after : Reading) (fault : CaptureFault) → (next_of reading).0 ≡ Err fault → after ≡ (next_of reading).1 → after.stage ≡ Refused fault
+unfolding next_of
+next_refuses reading after fault is after-is = subst (λ (r : Reading). r.stage ≡ Refused fault) (sym after-is) (next_in_refuses reading.stage reading.octets fault is)

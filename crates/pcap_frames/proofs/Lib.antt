@@ -1,3 +1,4 @@
+pub mod Answered
 pub mod Drained
 pub mod Ends
 pub mod Grows

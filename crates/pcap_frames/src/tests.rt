@@ -1,4 +1,6 @@
 //! Captures whose records were written down by hand.
+ghost use Rattle.std.specs.Prelude.{◌<◌};
+
 use super::*;
 use std::test::Fail;
 use wire_base::{CaptureFault, M, Memory, Octets};
@@ -152,7 +154,7 @@ fn captures_have_their_records(rt: HostRuntime) -> Result<(), Fail> {
     for (capture, rows, fault) in &CAPTURES {
         let mut expected = Octets::new(rt.alloc());
         for row in *rows {
-            log_row(&mut expected, *row).unwrap();
+            log_row(&mut expected, *row)?;
         }
         for size in [1usize, 7, 24, 1000] {
             let mut log = Octets::new(rt.alloc());

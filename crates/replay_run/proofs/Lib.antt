@@ -1,3 +1,4 @@
+pub mod Captures
 pub mod Below
 pub mod Written
 pub mod Steps

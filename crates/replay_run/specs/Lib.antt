@@ -4,3 +4,6 @@ pub mod Forward
 pub mod HopText
 pub mod Partition
 pub mod Outside
+pub mod Headers
+pub mod HeadersText
+pub mod Sight

@@ -7,7 +7,7 @@ ghost use Rattle.replay_run.specs.HopText.{hop_answer};
 ghost use Rattle.replay_run.specs.Verdict.{IsDecided};
 ghost use Rattle.replay_run.specs.Outside.{Held, Gave, AppendsFront};
 
-mod forward;
+pub(crate) mod forward;
 mod lines;
 
 use crate::whole::{LIMIT, deliver, front, read_within};

@@ -2,6 +2,7 @@
 //! with a definition of what it owes.
 #![tactic(auto)]
 
+mod headers;
 mod hop;
 mod law;
 mod top;

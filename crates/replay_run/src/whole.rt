@@ -13,9 +13,10 @@ use wire_base::{Failed, M, Octets, Sink, Source, Status};
 pub const LIMIT: usize = 65_536;
 
 /// How many octets are asked for at a time.
-const PIECE: usize = 65_536;
+pub const PIECE: usize = 65_536;
 
-fn buffer(alloc: Global) -> M<Vec<u8>>
+/// Room for a piece of an input.
+pub fn buffer(alloc: Global) -> M<Vec<u8>>
     ensures { IfOk result (λ bytes. 0 < length bytes.items) }
 {
     Ok(vec![in alloc; 0u8; PIECE]?)
@@ -56,7 +57,7 @@ pub fn front(octets: &Octets) -> &[u8]
 }
 
 /// Writes a text whole. A sink that takes nothing of what is left fails it.
-fn write_all<R: Sink>(sink: &mut R, text: &[u8]) -> Result<(), Failed>
+pub fn write_all<R: Sink>(sink: &mut R, text: &[u8]) -> Result<(), Failed>
     requires faults { R.faults sink.old < last_count }
     requires zeros { R.zeros sink.old < last_count }
     ensures written { OnOk result (Appends (R.written sink.old) (R.written sink.new) text.now) }
