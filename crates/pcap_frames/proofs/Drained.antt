@@ -202,7 +202,7 @@ end_goes : (n : ℕ) (reading : Reading) → length reading.octets < n → (next
 end_goes zero reading enough = absurd (omega (arith, enough))
 end_goes (suc n) reading enough =
     subst (λ (done : List CaptureRecord × Reading). (next_of done.1).1 ≡ done.1) (sym (drained_next reading))
-      (end_on n (length reading.octets) (next_of reading) (omega (arith, enough)) (next_shrinks reading) (spent reading) (λ r. end_goes n r))
+    (end_on n (length reading.octets) (next_of reading) (omega (arith, enough)) (next_shrinks reading) (spent reading) (λ r. end_goes n r))
 
 pub drained_end : (reading : Reading) → (next_of (drained reading).1).1 ≡ (drained reading).1
 drained_end reading = end_goes (suc (length reading.octets)) reading (omega arith)

@@ -394,7 +394,7 @@ unfolding next_of
 header_next xs read is = drained_next (record { stage = HeaderToCome; octets = xs }) ∙ ap (λ (r : Result (Option (CaptureForm × List ℕ)) CaptureFault). drain_on drained (by_header xs r)) is
 
 -- a capture that is spelled is read
-capture_again : (xs : List ℕ) (records : List CaptureRecord) → IsCapture xs records → capture_at xs ≡ (records, None)
+pub capture_again : (xs : List ℕ) (records : List CaptureRecord) → IsCapture xs records → capture_at xs ≡ (records, None)
 capture_again xs records is =
     let head = is.is_header in
     let one : header_at xs ≡ Ok (Some (is.form, is.rest)) =

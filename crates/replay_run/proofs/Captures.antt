@@ -1,18 +1,20 @@
 -- A capture reported piece by piece is reported as a whole.
-use Rattle.std.proofs.Common.{◌≡◌, ◌≢◌, ℕ, zero, suc, ◌-◌, ◌+◌, ◌<◌, ◌≤◌, Bool, true, false, leb, List, [], ◌∷◌, ◌++◌, length, take, drop, Option, Some, None, Result, Ok, Err, is_ok, refl, sym, ap, ap₂, subst, ◌∙◌, append_assoc, append-nil, arith, inl, inr}
+use Rattle.std.proofs.Common.{◌≡◌, ◌≢◌, ℕ, zero, suc, ◌-◌, ◌+◌, ◌<◌, ◌≤◌, Bool, true, false, leb, List, [], ◌∷◌, ◌++◌, length, take, drop, Option, Some, None, Result, Ok, Err, is_ok, is_some, refl, sym, ap, ap₂, subst, ◌∙◌, append_assoc, append-nil, arith, inl, inr}
 use Rattle.std.specs.Prelude.{nat_le, OnOk}
 use Rattle.std.specs.Io.KnownBytes.{Appends, Consumes, Keeps, IsAtEnd}
 use Rattle.std.proofs.KnownBytes.{Appends-trans}
-use Rattle.std.proofs.lemmas.Bool.{le-leb, lt-leb, false≢true}
+use Rattle.std.proofs.lemmas.Bool.{le-leb, lt-leb, false≢true, true≢false}
 use Rattle.std.proofs.lemmas.List.{length-append, length-drop, length-take, length-take-le, take_all, take_at, take-take, take-append-drop}
 use Rattle.wire_base.specs.declared.status.Status.{Status}
+use Rattle.wire_base.specs.declared.status.Status.TheVariants.{Done}
 use Rattle.wire_base.specs.declared.faults.CaptureFault.{CaptureFault}
 use Rattle.wire_base.specs.model.Capture.{CaptureRecord, Stage, Reading, HeaderToCome, HeaderRead, Refused, unread, fed, drained, drain_on, next_of, end_of, end_in}
+use Rattle.pcap_frames.proofs.Spelled.{capture_again}
 use Rattle.pcap_frames.proofs.Drained.{drained_next, drained_fed, drained_twice, fed_twice, next_shorter, next_lowers, drained_end, unread_none, nothing_next, refused_still}
 use Rattle.replay_run.specs.declared.headers.Progress.{Progress}
 use Rattle.replay_run.specs.Sight.{Sight, Passed, Seen, Bad, sight_of, sight_text, sight_count}
 use Rattle.replay_run.specs.HopText.{behind}
-use Rattle.replay_run.specs.HeadersText.{record_lines, header_count, refused_by, at_end, too_long, headers_end, report_of, headers_answer, within_limit, is_within}
+use Rattle.replay_run.specs.HeadersText.{record_lines, header_count, refused_by, at_end, too_long, headers_end, report_of, headers_answer, within_limit, is_within, IsRead}
 use Rattle.replay_run.specs.Headers.{Took, Owes, IsOpen, lines_of}
 use Rattle.replay_run.specs.Outside.{Held}
 
@@ -372,3 +374,19 @@ whole_piece k count m into items given given-is whole less more = piece_is k cou
 
 pub room_kept : (m : ℕ) (into items : List ℕ) → m ≡ length into → 0 < length into → 0 < length (take m (into ++ drop (length into) items))
 room_kept m into items whole some = omega (arith, some, ap length (take_at into (drop (length into) items) m (sym whole)))
+
+-- ---- captures that are done to their end
+
+ends_done : (n headers : ℕ) (stage : Stage) (octets : List ℕ) → end_in stage octets ≡ None → (headers_end true n headers stage octets).0 ≡ Done
+ends_done n headers HeaderToCome octets none = absurd (true≢false (ap is_some none))
+ends_done n headers (HeaderRead form) octets none = ap (λ (o : Option CaptureFault). (at_end n headers o).0) none
+ends_done n headers (Refused fault) octets none = absurd (true≢false (ap is_some none))
+
+pub read_done : (input : List ℕ) → IsRead input → (headers_answer input).0 ≡ Done
+unfolding headers_answer within_limit
+read_done input is =
+    let all : take 268435456 input ≡ input = take_all 268435456 input is.short in
+    let end : end_of (drained (fed unread input)).1 ≡ None = ap (λ (c : List CaptureRecord × Option CaptureFault). c.1) (capture_again input is.records is.capture) in
+    let done = drained (fed unread input) in
+    ap₂ (λ (b : Bool) (l : List ℕ). (report_of b (drained (fed unread l))).0) (le-leb (length input) 268435456 is.short) all
+    ∙ ends_done (length done.0) (header_count done.0) done.1.stage done.1.octets end

@@ -5,14 +5,16 @@ use Rattle.std.specs.Io.KnownBytes.{Appends}
 use Rattle.wire_base.specs.declared.status.Status.{Status}
 use Rattle.wire_base.specs.declared.status.Status.TheVariants.{Done, Usage, ConfRefused, InputRefused, ReadFault, WriteFault, Memory, CaptureRefused}
 use Rattle.replay_run.specs.declared.words.Form.{Form}
-use Rattle.replay_run.specs.declared.words.Form.TheVariants.{Hop, Unknown}
+use Rattle.replay_run.specs.declared.words.Form.TheVariants.{Hop, Headers, Unknown}
 use Rattle.replay_run.specs.Words.{usage_text}
 use Rattle.replay_run.specs.HopText.{hop_answer, answer_on, packets_of, IsAllowed}
 use Rattle.replay_run.specs.Partition.{Reports}
 use Rattle.replay_run.specs.Verdict.{Verdict, verdict, IsDecided}
 use Rattle.replay_run.specs.Outside.{Held, Gave, Meets, AppendsFront}
 use Rattle.replay_run.proofs.Packets.{all_parted}
+use Rattle.replay_run.specs.HeadersText.{headers_answer, IsRead}
 use Rattle.replay_run.proofs.Inputs.{allowed_done}
+use Rattle.replay_run.proofs.Captures.{read_done}
 
 nothing_more : (known : Option (List ℕ)) → Appends known known []
 nothing_more None = tt
@@ -23,6 +25,7 @@ pub told : (form : Form) (conf left : Option (List ℕ)) (P : Verdict → Type 0
 unfolding verdict
 told form conf (Some held) P some = subst (λ (octets : List ℕ). IfSome (verdict form conf (Some octets)) P) (sym some.1) some.2
 told Hop conf None P some = tt
+told Headers conf None P some = tt
 told Unknown conf None P some = some.2
 
 -- without a count that rose there is no fault
@@ -94,6 +97,28 @@ reports octets before now result gave = record { lines = (_, gave.report); parte
 pub hop_reports : (left before now : Option (List ℕ)) (result : Status) → ((octets : List ℕ) × Held left octets × Gave (hop_answer octets) result before now) → IfSome left (λ octets. Reports octets before now)
 hop_reports None before now result gave = tt
 hop_reports (Some octets) before now result gave = subst (λ (o : List ℕ). Reports o before now) (sym gave.1) (reports gave.0 before now result gave.2)
+
+-- ---- `headers`
+
+pub headers_meets : (form : Form) (conf left before now frames : Option (List ℕ)) (result : Status) → form ≡ Headers → ((octets : List ℕ) × Held left octets × Gave (headers_answer octets) result before now)
+    → (octets : List ℕ) × Held left octets × IfSome (verdict form conf (Some octets)) (λ owed. Meets owed result before now frames frames)
+unfolding verdict
+headers_meets form conf left before now frames result is gave =
+    (gave.0, gave.1, rw is (record { status = gave.2.status; report = gave.2.report; frames = nothing_more frames }))
+
+pub headers_done : (result : Status) (left before now : Option (List ℕ)) (reads reads_now writes writes_now takes takes_now : ℕ)
+    → (IsDecided result → (result ≡ Done) ⊎ (result ≡ CaptureRefused))
+    → (IsDecided result → (octets : List ℕ) × Held left octets × Gave (headers_answer octets) result before now)
+    → (result ≡ ReadFault → reads < reads_now) → (result ≡ WriteFault → (writes < writes_now) ⊎ (takes < takes_now))
+    → IfSome left (λ octets. IsRead octets → reads_now ≡ reads → writes_now ≡ writes → takes_now ≡ takes → (result ≡ Done) ⊎ (result ≡ Memory))
+headers_done result None before now reads reads_now writes writes_now takes takes_now statuses answer read write = tt
+headers_done result (Some octets) before now reads reads_now writes writes_now takes takes_now statuses answer read write = λ is r w z.
+    elim (no_fault result reads reads_now writes writes_now takes takes_now read write r w z) [
+      | inl decided ↦
+          let gave = answer decided in
+          inl (gave.2.status ∙ subst (λ (o : List ℕ). (headers_answer o).0 ≡ Done) gave.1 (read_done octets is))
+      | inr memory ↦ inr memory
+    ]
 
 -- ---- words of no form
 

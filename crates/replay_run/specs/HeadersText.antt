@@ -1,11 +1,11 @@
 -- A capture's headers: the report of them, and how it ends.
-use Rattle.std.specs.Prelude.{◌≡◌, ℕ, ◌+◌, Bool, true, false, nat_le, List, [], ◌∷◌, ◌++◌, length, take, Option, Some, None, Ok, codes}
+use Rattle.std.specs.Prelude.{◌≡◌, ℕ, ◌+◌, ◌≤◌, Bool, true, false, nat_le, List, [], ◌∷◌, ◌++◌, length, take, Option, Some, None, Ok, codes}
 use Rattle.std.specs.Fmt.{decimal}
 use Rattle.wire_base.specs.declared.status.Status.{Status}
 use Rattle.wire_base.specs.declared.status.Status.TheVariants.{Done, CaptureRefused}
 use Rattle.wire_base.specs.declared.faults.CaptureFault.{CaptureFault}
 use Rattle.wire_base.specs.declared.faults.CaptureFault.TheVariants as faults
-use Rattle.wire_base.specs.model.Capture.{CaptureRecord, Stage, HeaderToCome, HeaderRead, Refused, Reading, unread, fed, drained, end_in, capture_at}
+use Rattle.wire_base.specs.model.Capture.{CaptureRecord, Stage, HeaderToCome, HeaderRead, Refused, Reading, unread, fed, drained, end_in, IsCapture}
 use Rattle.replay_run.specs.Sight.{sight_of, sight_text, sight_count}
 use Rattle.replay_run.specs.HopText.{behind}
 
@@ -87,7 +87,8 @@ headers_answer input = report_of (is_within input) (drained (fed unread (within_
 
 -- ---- captures that are done to their end
 
--- a capture without a fault that isn't too long
+-- octets that are a capture, and not too many
 pub record IsRead (input : List ℕ) : Type 0 where
-  pub short : nat_le (length input) 268435456 ≡ true
-  pub whole : (records : List CaptureRecord) × (capture_at input ≡ (records, None))
+  pub short : length input ≤ 268435456
+  pub records : List CaptureRecord
+  pub capture : IsCapture input records

@@ -2,13 +2,13 @@
 use Rattle.std.specs.Prelude.{ℕ, List, [], ◌∷◌, codes, if◌then◌else◌}
 use Rattle.std.specs.Str.{bytes_eq}
 use Rattle.replay_run.specs.declared.words.Form.{Form}
-use Rattle.replay_run.specs.declared.words.Form.TheVariants.{Hop, Unknown}
+use Rattle.replay_run.specs.declared.words.Form.TheVariants.{Hop, Headers, Unknown}
 
--- `hop INPUT` is a form, whatever the word INPUT
+-- `hop INPUT` and `headers CAPTURE` are forms, whatever the second word
 unfoldable pub form_of : List (List ℕ) → Form
 form_of [] = Unknown
 form_of (word ∷ []) = Unknown
-form_of (word ∷ input ∷ []) = if bytes_eq word (codes "hop") then Hop else Unknown
+form_of (word ∷ input ∷ []) = if bytes_eq word (codes "hop") then Hop else if bytes_eq word (codes "headers") then Headers else Unknown
 form_of (word ∷ input ∷ more ∷ rest) = Unknown
 
 -- the line on words of no form

@@ -10,12 +10,27 @@ const LINES: &[u8] = b"6 local 1\n6 copy B 2,3\n6 copy D 4\n";
 
 /// Runs `hop` over objects whose calls with these numbers fail.
 fn hop(alloc: Global, input: &[u8], reads: &[u32], writes: &[u32]) -> M<(Status, BytesSink)> {
+    run_on(alloc, "hop", input, reads, writes)
+}
+
+/// The same of `headers`.
+fn headers(alloc: Global, input: &[u8], reads: &[u32], writes: &[u32]) -> M<(Status, BytesSink)> {
+    run_on(alloc, "headers", input, reads, writes)
+}
+
+fn run_on(
+    alloc: Global,
+    command: &str,
+    input: &[u8],
+    reads: &[u32],
+    writes: &[u32],
+) -> M<(Status, BytesSink)> {
     let octets = Octets::from_slice(alloc, input)?;
     let mut source = BytesSource::new(octets, Rows::from_slice(alloc, reads)?);
     let mut report = BytesSink::new(alloc, 1000, Rows::from_slice(alloc, writes)?)?;
     let mut conf = QuietSource::new(Octets::new(alloc));
     let mut frames = QuietSink::new(alloc, 0)?;
-    let words = ["hop", "input"];
+    let words = [command, "input"];
     let status = run(
         alloc,
         &words,
@@ -123,6 +138,73 @@ fn faults(rt: HostRuntime) -> Result<(), Fail> {
     ];
     for (reads, writes, text, wanted) in cases {
         let (status, report) = hop(alloc, ROWS, reads, writes)?;
+        assert_eq!(rt; report.as_slice(), text);
+        assert_eq!(rt; status, wanted);
+    }
+    Ok(())
+}
+
+/// The header of a capture.
+const CAPTURE: &[u8] = b"\xd4\xc3\xb2\xa1\x02\x00\x04\x00\x00\x00\x00\x00\x00\x00\x00\x00\xff\xff\x00\x00\x01\x00\x00\x00";
+
+/// A record of a frame with a label and a BIER header.
+const LABELLED: &[u8] = b"\x01\x00\x00\x00\x00\x00\x00\x00\x22\x00\x00\x00\x22\x00\x00\x00\x02\x00\x00\x01\x00\x00\x02\x00\x00\x00\x00\x01\x88\x47\x00\x06\x41\x40\x50\x10\x00\x0a\x00\x04\x00\x01\x00\x00\x00\x00\x00\x00\x00\x05";
+
+/// A record of a frame with a BIER header of 128 bits and no label.
+const UNLABELLED: &[u8] = b"\x01\x00\x00\x00\x00\x00\x00\x00\x2a\x00\x00\x00\x2a\x00\x00\x00\x02\x00\x00\x01\x00\x00\x02\x00\x00\x00\x00\x01\xab\x37\x00\x06\x40\x40\x00\x20\x00\x0a\x00\x04\x00\x01\x80\x00\x00\x00\x00\x00\x00\x00\x00\x00\x00\x00\x00\x00\x00\x00";
+
+/// A record of a frame with a label and a BIER header of version 1.
+const NEWER: &[u8] = b"\x01\x00\x00\x00\x00\x00\x00\x00\x22\x00\x00\x00\x22\x00\x00\x00\x02\x00\x00\x01\x00\x00\x02\x00\x00\x00\x00\x01\x88\x47\x00\x06\x41\x40\x51\x10\x00\x0a\x00\x04\x00\x01\x00\x00\x00\x00\x00\x00\x00\x05";
+
+/// Captures with their whole reports, read in one piece, and with a read that fails.
+#[test]
+fn captures(rt: HostRuntime) -> Result<(), Fail> {
+    let alloc = rt.alloc();
+    let one = joined(alloc, CAPTURE, LABELLED)?;
+    let mut two = joined(alloc, one.as_slice(), LABELLED)?;
+    two.append(&LABELLED[..26])?;
+    let mut mixed = joined(alloc, CAPTURE, UNLABELLED)?;
+    mixed.append(NEWER)?;
+    let cases: [(&[u8], &[u32], &[u8], Status); 6] = [
+        (
+            one.as_slice(),
+            &[],
+            b"1 mpls 100 64 64 10 4 1 1,3\ndone records 1 headers 1\n",
+            Status::Done,
+        ),
+        (
+            two.as_slice(),
+            &[],
+            b"1 mpls 100 64 64 10 4 1 1,3\n2 mpls 100 64 64 10 4 1 1,3\nrefused record 3 5 CutRecord\n",
+            Status::CaptureRefused,
+        ),
+        (
+            mixed.as_slice(),
+            &[],
+            b"1 bier 100 64 128 10 4 1 128\n2 bad 3 Version\ndone records 2 headers 1\n",
+            Status::Done,
+        ),
+        (
+            b"",
+            &[],
+            b"refused record 0 4 CutHeader\n",
+            Status::CaptureRefused,
+        ),
+        (
+            LABELLED,
+            &[],
+            b"refused record 0 1 Magic\n",
+            Status::CaptureRefused,
+        ),
+        (
+            two.as_slice(),
+            &[2],
+            b"1 mpls 100 64 64 10 4 1 1,3\n2 mpls 100 64 64 10 4 1 1,3\n",
+            Status::ReadFault,
+        ),
+    ];
+    for (input, reads, text, wanted) in cases {
+        let (status, report) = headers(alloc, input, reads, &[])?;
         assert_eq!(rt; report.as_slice(), text);
         assert_eq!(rt; status, wanted);
     }

@@ -1,15 +1,18 @@
 //! The top call.
 ghost use Rattle.std.specs.Prelude.{◌≡◌, ◌⊎◌, ◌<◌, ◌≢◌, ◌↔◌, ℕ, List, Some, false, map, IfSome};
-ghost use Rattle.std.specs.Io.KnownBytes.{IsAtEnd};
+ghost use Rattle.std.specs.Io.KnownBytes.{IsAtEnd, Consumes, Appends};
 ghost use Rattle.wire_base.specs.Causes.{last_count};
 ghost use Rattle.wire_base.specs.declared.status.Status.TheVariants as status;
 ghost use Rattle.replay_run.specs.declared.words.Form.TheVariants as form;
 ghost use Rattle.replay_run.specs.HopText.{IsAllowed};
+ghost use Rattle.replay_run.specs.HeadersText.{IsRead};
+ghost use Rattle.replay_run.specs.Headers.{IsOpen, lines_of};
 ghost use Rattle.replay_run.specs.Partition.{Reports};
 ghost use Rattle.replay_run.specs.Verdict.{IsDecided, verdict};
 ghost use Rattle.replay_run.specs.Outside.{Held, Meets, AppendsFront};
 ghost use Rattle.replay_run.specs.Words as forms;
 
+use crate::headers::headers;
 use crate::hop::hop;
 use crate::law::packets_are_parted;
 use crate::whole::deliver;
@@ -21,7 +24,7 @@ use wire_base::{Sink, Source, Status};
 /// the domain file, the schedule, capture or other input, the frames that it sends, and its report. It answers its
 /// exit status.
 ///
-/// The words are `hop INPUT`; on any other words the report is the usage line.
+/// The words are `hop INPUT` or `headers CAPTURE`; on any other words the report is the usage line.
 pub fn run<D: Source, S: Source, C: Sink, R: Sink>(
     alloc: Global,
     words: &[&str],
@@ -49,14 +52,14 @@ pub fn run<D: Source, S: Source, C: Sink, R: Sink>(
     ensures decided { D.faults conf.new ≡ D.faults conf.old → S.faults input.new ≡ S.faults input.old → C.faults frames.new ≡ C.faults frames.old → C.zeros frames.new ≡ C.zeros frames.old
         → R.faults report.new ≡ R.faults report.old → R.zeros report.new ≡ R.zeros report.old → IsDecided result ⊎ (result ≡ status.Memory) }
 
-    // When each status comes. No command reads a domain file or a capture yet.
-    ensures done { result ≡ status.Done → forms.form_of (map (λ word. word.now) words.now) ≡ form.Hop }
+    // When each status comes. No command reads a domain file yet.
+    ensures done { result ≡ status.Done → (forms.form_of (map (λ word. word.now) words.now) ≡ form.Hop) ⊎ (forms.form_of (map (λ word. word.now) words.now) ≡ form.Headers) }
     ensures done_whole { result ≡ status.Done → IsAtEnd (S.left input.new) }
     ensures usage { IsDecided result → ((result ≡ status.Usage) ↔ (forms.form_of (map (λ word. word.now) words.now) ≡ form.Unknown)) }
     ensures usage_or_fault { forms.form_of (map (λ word. word.now) words.now) ≡ form.Unknown → (result ≡ status.Usage) ⊎ (result ≡ status.WriteFault) }
     ensures input_refused { result ≡ status.InputRefused → forms.form_of (map (λ word. word.now) words.now) ≡ form.Hop }
     ensures no_conf_refused { result ≢ status.ConfRefused }
-    ensures no_capture_refused { result ≢ status.CaptureRefused }
+    ensures capture_refused { result ≡ status.CaptureRefused → forms.form_of (map (λ word. word.now) words.now) ≡ form.Headers }
     ensures read_fault { result ≡ status.ReadFault → (D.faults conf.old < D.faults conf.new) ⊎ (S.faults input.old < S.faults input.new) }
     ensures write_fault { result ≡ status.WriteFault → (C.faults frames.old < C.faults frames.new) ⊎ ((C.zeros frames.old < C.zeros frames.new) ⊎ ((R.faults report.old < R.faults report.new) ⊎ (R.zeros report.old < R.zeros report.new))) }
 
@@ -78,11 +81,21 @@ pub fn run<D: Source, S: Source, C: Sink, R: Sink>(
     ensures hop_parts { forms.form_of (map (λ word. word.now) words.now) ≡ form.Hop → IsDecided result → IfSome (S.left input.old)
         (λ octets. Reports octets (R.written report.old) (R.written report.new)) }
 
-    // What a stop leaves: what was written is finished; a fault of a source and want of memory come before anything is
-    // written; and at a fault of a sink a front of the report is written.
+    // `headers` is done wherever its input is a capture that isn't too long, and no count rose.
+    ensures headers_complete { forms.form_of (map (λ word. word.now) words.now) ≡ form.Headers → IfSome (S.left input.old) (λ octets. IsRead octets
+        → S.faults input.new ≡ S.faults input.old → R.faults report.new ≡ R.faults report.old → R.zeros report.new ≡ R.zeros report.old
+        → (result ≡ status.Done) ⊎ (result ≡ status.Memory)) }
+
+    // What a stop leaves. What was written is finished. In `hop` a fault of a source and want of memory come before
+    // anything is written. Where the source of a capture fails, the records that are whole in what was taken are
+    // reported, no fault of the capture's reader stands in it, and there is no last line. At a fault of a sink a front
+    // of the report is written.
     ensures finished { IsDecided result → R.unfinished report.new ≡ false }
-    ensures unwritten { (result ≡ status.ReadFault) ⊎ (result ≡ status.Memory) → report.new ≡ report.old }
-    ensures front { result ≡ status.WriteFault → (octets : List ℕ) × Held (S.left input.old) octets × IfSome (verdict (forms.form_of (map (λ word. word.now) words.now)) (D.left conf.old) (Some octets))
+    ensures headers_finished { forms.form_of (map (λ word. word.now) words.now) ≡ form.Headers → result ≡ status.ReadFault → R.unfinished report.new ≡ false }
+    ensures hop_unwritten { forms.form_of (map (λ word. word.now) words.now) ≡ form.Hop → (result ≡ status.ReadFault) ⊎ (result ≡ status.Memory) → report.new ≡ report.old }
+    ensures headers_stopped { forms.form_of (map (λ word. word.now) words.now) ≡ form.Headers → result ≡ status.ReadFault
+        → (octets : List ℕ) × Consumes (S.left input.old) (S.left input.new) octets × IsOpen octets × Appends (R.written report.old) (R.written report.new) (lines_of octets) }
+    ensures front { forms.form_of (map (λ word. word.now) words.now) ≢ form.Headers → result ≡ status.WriteFault → (octets : List ℕ) × Held (S.left input.old) octets × IfSome (verdict (forms.form_of (map (λ word. word.now) words.now)) (D.left conf.old) (Some octets))
         (λ owed. AppendsFront (R.written report.old) (R.written report.new) owed.report) }
 
     // What the words don't name is as before. No command reads a domain file or sends frames.
@@ -93,6 +106,7 @@ pub fn run<D: Source, S: Source, C: Sink, R: Sink>(
     packets_are_parted();
     match form_of(words) {
         Form::Hop => hop(alloc, input, report),
+        Form::Headers => headers(alloc, input, report),
         Form::Unknown => deliver(report, Status::Usage, USAGE),
     }
 }

@@ -7,6 +7,8 @@ ghost use Rattle.replay_run.specs.Words as words;
 pub enum Form {
     /// `hop INPUT`
     Hop,
+    /// `headers CAPTURE`
+    Headers,
     /// Words of no form.
     Unknown,
 }
@@ -22,6 +24,7 @@ pub fn form_of(given: &[&str]) -> Form
 {
     match given {
         [word, _] if *word == "hop" => Form::Hop,
+        [word, _] if *word == "headers" => Form::Headers,
         _ => Form::Unknown,
     }
 }
