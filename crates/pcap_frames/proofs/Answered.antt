@@ -1,5 +1,5 @@
 -- An answer that isn't want of memory is the one that reading gives.
-use Rattle.std.proofs.Common.{◌≡◌, ◌≢◌, Result, Ok, Err, refl}
+use Rattle.std.proofs.Common.{◌≡◌, ◌≢◌, Result, Err, refl}
 use Rattle.wire_base.specs.declared.faults.CaptureFault.{CaptureFault}
 use Rattle.wire_base.specs.declared.faults.CaptureFault.TheVariants as faults
 use Rattle.pcap_frames.specs.Seen.{Answers, after_answer}

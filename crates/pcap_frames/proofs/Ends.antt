@@ -1,10 +1,9 @@
 -- What the end of the octets makes of a reader that has no further record.
-use Rattle.std.proofs.Common.{◌≡◌, ℕ, ◌-◌, ◌+◌, ◌<◌, ◌≤◌, Bool, true, false, ltb, not, List, [], ◌∷◌, length, drop, Result, Ok, Err, Option, Some, None, is_ok, is_some, refl, sym, ap, ◌∙◌, subst, arith, inl, inr}
-use Rattle.std.proofs.lemmas.Bool.{cases_lt, cases_Bool, lt-ltb, le-ltb, false≢true, true≢false}
+use Rattle.std.proofs.Common.{◌≡◌, ℕ, ◌<◌, ◌≤◌, Bool, true, false, List, [], ◌∷◌, length, drop, Result, Ok, Err, Option, Some, None, refl, sym, ap, ◌∙◌, subst, arith, inl, inr}
+use Rattle.std.proofs.lemmas.Bool.{cases_lt, cases_Bool, lt-ltb, le-ltb, true≢false}
 use Rattle.std.proofs.lemmas.List.{length-drop}
 use Rattle.byteorder.specs.Endian.{big_number}
 use Rattle.wire_base.specs.declared.faults.CaptureFault.{CaptureFault}
-use Rattle.wire_base.specs.declared.faults.CaptureFault.TheVariants as faults
 use Rattle.wire_base.specs.model.Capture.{CaptureForm, CaptureRecord, Stage, Reading, HeaderToCome, HeaderRead, Refused, next_of, by_header, by_record, header_at, formed_at, form_of, is_version, is_ethernet, record_at, end_of, end_in}
 use Rattle.pcap_frames.specs.Seen.{cut_end, opened_end}
 

@@ -1,11 +1,10 @@
 -- What is read of octets stays so when more come.
-use Rattle.std.proofs.Common.{◌≡◌, ℕ, zero, suc, ◌-◌, ◌+◌, ◌%◌, ◌<◌, ◌≤◌, Bool, true, false, ltb, not, ◌==◌, ◌&&◌, List, [], ◌∷◌, ◌++◌, length, take, drop, Result, Ok, Err, Option, Some, None, refl, sym, ap, ap₂, ◌∙◌, subst, append_assoc, append-nil, arith, inl, inr}
+use Rattle.std.proofs.Common.{◌≡◌, ℕ, ◌-◌, ◌+◌, ◌≤◌, false, ltb, List, ◌++◌, length, take, drop, Result, Ok, Err, Option, Some, None, refl, sym, ap, ◌∙◌, subst, arith, inl, inr}
 use Rattle.std.proofs.lemmas.Bool.{cases_lt, cases_Bool, lt-ltb, le-ltb}
 use Rattle.std.proofs.lemmas.List.{length-drop, length-append, take-append-le, drop-append-le}
 use Rattle.byteorder.specs.Endian.{big_number, little_number}
 use Rattle.byteorder.specs.Numbers.{big_from-append, little_from-append}
 use Rattle.wire_base.specs.declared.faults.CaptureFault.{CaptureFault}
-use Rattle.wire_base.specs.declared.faults.CaptureFault.TheVariants as faults
 use Rattle.wire_base.specs.model.Capture.{CaptureForm, CaptureRecord, Stage, Reading, HeaderToCome, HeaderRead, Refused, fed, next_of, next_in, by_header, by_record, header_at, formed_at, form_of, is_version, is_ethernet, record_at, frame_at, record_of, number_in, most_captured}
 
 -- what was read stays, and the octets that came stand after it

@@ -1,13 +1,12 @@
 -- Captures as they are spelled: what is read is spelled so, and what is spelled so is read again.
-use Rattle.std.proofs.Common.{◌≡◌, ℕ, zero, suc, ◌-◌, ◌+◌, ◌*◌, ◌/◌, ◌%◌, ◌^◌, ◌<◌, ◌≤◌, ◌↔◌, Bool, true, false, ltb, not, cond, ◌==◌, ◌&&◌, List, [], ◌∷◌, ◌++◌, length, take, drop, slice_index, Result, Ok, Err, Option, Some, None, is_some, OnOk, refl, sym, ap, ap₂, ◌∙◌, subst, append_assoc, append-nil, take-append-drop, arith, inl, inr}
-use Rattle.std.proofs.lemmas.Bool.{cases_lt, cases_Bool, cases_eq, ne_eqb, lt-ltb, le-ltb, eq-eqb, eqb-true, and_parts, and_from, false≢true, true≢false}
-use Rattle.std.proofs.lemmas.List.{length-drop, length-take, length-append, take_at, drop_at, drop-drop, get_or-drop, take-append-le, drop-append-le}
+use Rattle.std.proofs.Common.{◌≡◌, ℕ, zero, suc, ◌-◌, ◌+◌, ◌*◌, ◌/◌, ◌%◌, ◌^◌, ◌<◌, ◌≤◌, ◌↔◌, Bool, true, false, ◌==◌, List, [], ◌∷◌, ◌++◌, length, take, drop, Result, Ok, Err, Option, Some, None, is_some, OnOk, refl, sym, ap, ap₂, ◌∙◌, subst, append_assoc, take-append-drop, arith, inl, inr}
+use Rattle.std.proofs.lemmas.Bool.{cases_lt, cases_Bool, cases_eq, ne_eqb, lt-ltb, le-ltb, eq-eqb, eqb-true, and_parts, false≢true, true≢false}
+use Rattle.std.proofs.lemmas.List.{length-drop, length-take, length-append, take_at, drop_at, drop-drop, get_or-drop}
 use Rattle.byteorder.specs.Endian.{big_number, little_number, big_bytes, little_bytes}
 use Rattle.byteorder.specs.Numbers.{big_number-reads_back, little_number-reads_back, length-bytes_high_first, length-bytes_low_first, big_from-lt, little_from-lt}
 use Rattle.wire_base.specs.declared.faults.CaptureFault.{CaptureFault}
-use Rattle.wire_base.specs.declared.faults.CaptureFault.TheVariants as faults
 use Rattle.wire_base.specs.model.Fields.{AreOctets}
-use Rattle.wire_base.specs.model.Capture.{CaptureForm, CaptureRecord, Stage, Reading, HeaderToCome, HeaderRead, Refused, IsHeader, IsRecord, AreRecords, NoRecord, OneMore, IsCapture, header_octets, record_octets, octets_in, number_in, magic, microseconds, record_of, most_captured, form_of, is_version, is_ethernet, header_at, formed_at, record_at, frame_at, next_of, by_header, by_record, drained, drain_on, more_after, end_of, end_in, capture_at, written_form, written_header, written_record}
+use Rattle.wire_base.specs.model.Capture.{CaptureForm, CaptureRecord, Reading, HeaderToCome, HeaderRead, IsHeader, IsRecord, AreRecords, NoRecord, OneMore, IsCapture, header_octets, record_octets, octets_in, number_in, magic, record_of, most_captured, form_of, is_version, is_ethernet, header_at, formed_at, record_at, frame_at, next_of, by_header, by_record, drained, drain_on, more_after, end_of, end_in, capture_at, written_form, written_header, written_record}
 use Rattle.pcap_frames.proofs.Drained.{drained_next}
 
 -- numbers

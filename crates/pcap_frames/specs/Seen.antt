@@ -1,8 +1,8 @@
 -- How contracts see a reader and its records.
-use Rattle.std.specs.Prelude.{◌≡◌, ◌≤◌, ◌-◌, nat_lt, if◌then◌else◌, ℕ, Bool, List, length, drop, Result, Ok, Err, Option, Some, None, ◌⊎◌, option_map}
+use Rattle.std.specs.Prelude.{◌≡◌, ◌≤◌, ◌-◌, nat_lt, if◌then◌else◌, ℕ, List, length, drop, Result, Ok, Err, Option, Some, None, option_map}
 use Rattle.wire_base.specs.declared.faults.CaptureFault.{CaptureFault}
 use Rattle.wire_base.specs.declared.faults.CaptureFault.TheVariants as faults
-use Rattle.wire_base.specs.model.Capture.{CaptureForm, CaptureRecord, Stage, HeaderToCome, HeaderRead, Refused, Reading}
+use Rattle.wire_base.specs.model.Capture.{CaptureForm, CaptureRecord, Stage, HeaderToCome, HeaderRead, Refused}
 use Rattle.pcap_frames.specs.declared.header.Form.{Form}
 use Rattle.pcap_frames.specs.declared.record.CapRecord.{CapRecord}
 use Rattle.pcap_frames.specs.declared.reader.Step.{Step}

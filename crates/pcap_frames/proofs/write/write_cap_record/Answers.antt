@@ -1,4 +1,4 @@
-use Rattle.std.proofs.Common.{◌≡◌, arith}
+use Rattle.std.proofs.Common.{arith}
 use Rattle.pcap_frames.proofs.Spelled.{record_written}
 use Rattle.pcap_frames.proofs.write.write_cap_record.Goals as goal
 

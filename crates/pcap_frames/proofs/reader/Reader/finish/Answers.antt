@@ -1,7 +1,5 @@
-use Rattle.std.proofs.Common.{◌≡◌, ℕ, ◌-◌, length, sym, ap, ◌∙◌, drop, vec_len, arith}
+use Rattle.std.proofs.Common.{◌≡◌, ◌-◌, length, sym, ap, ◌∙◌, drop, arith}
 use Rattle.std.proofs.lemmas.List.{length-drop}
-use Rattle.wire_base.specs.model.Capture.{Reading, Stage}
-use Rattle.pcap_frames.specs.declared.reader.Step.{Step}
 use Rattle.pcap_frames.specs.Seen.{stage_seen, cut_end, opened_end, form_seen}
 use Rattle.pcap_frames.proofs.Ends.{header_end, records_end, refused_end, same_reading}
 use Rattle.pcap_frames.proofs.reader.Reader.finish.Goals as goal
