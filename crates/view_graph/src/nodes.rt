@@ -1,0 +1,61 @@
+//! The view: a node for each system.
+ghost use Rattle.std.specs.Prelude.{◌≡◌, ◌≤◌, ◌<◌, map, length, slice_get, Some, IfOk};
+ghost use Rattle.wire_base.specs.model.View.{Claim as ClaimItem, node_of, nodes_of, view_of};
+ghost use Rattle.wire_base.specs.model.Control.{IsDatabase};
+ghost use Rattle.wire_base.specs.model.Graph.{covers};
+ghost use Rattle.view_graph.specs.Edges.{AreInOrder, half_edges_of};
+
+use crate::claims::{Claim, claims_of};
+use crate::edges::{all_half_edges, whole_edges};
+use crate::known::own_subs;
+use std::alloc::Global;
+use wire_base::{Entry, M, RouterConf, Rows, Triple, ViewEdge, ViewNode};
+
+/// The node of the system at a place.
+fn node_of(alloc: Global, claims: &[Claim], halves: &[Rows<ViewEdge>], place: usize) -> M<ViewNode>
+    requires within { place < length claims.now }
+    requires few { length claims.now ≤ 65536 }
+    requires halves { halves.now ≡ map (half_edges_of claims.now) claims.now }
+    ensures { IfOk result (λ n. (c : ClaimItem) → slice_get claims.now place ≡ Some c → n ≡ node_of claims.now c) }
+{
+    let claim = &claims[place];
+    Ok(ViewNode {
+        system: claim.system,
+        overload: claim.overload,
+        edges: whole_edges(alloc, halves, place as u16)?,
+        subs: own_subs(alloc, claims, claim)?,
+    })
+}
+
+fn nodes_of(alloc: Global, claims: &[Claim]) -> M<Rows<ViewNode>>
+    requires order { AreInOrder claims.now }
+    requires few { length claims.now ≤ 65536 }
+    ensures { IfOk result (λ nodes. nodes ≡ nodes_of claims.now) }
+{
+    let halves = all_half_edges(alloc, claims)?;
+    let mut nodes = Rows::new(alloc);
+    'systems: for place in 0..claims.len() {
+        nodes.push(node_of(alloc, claims, halves.as_slice(), place)?)?;
+    }
+    Ok(nodes)
+}
+
+/// The view by a configuration, the ends that are up and the entries of a database.
+#[tactic(auto, unfolding(wire_base::specs::model::View::view_of), using(crate::proofs::GraphLaws::claims_in_order, crate::proofs::GraphLaws::few_claims))]
+pub(crate) fn viewed(alloc: Global, conf: &RouterConf, up: &[bool], entries: &[Entry]) -> M<Rows<ViewNode>>
+    requires one_each { length up.now ≡ length conf.now.ends }
+    requires database { IsDatabase entries.now }
+    ensures { IfOk result (λ nodes. nodes ≡ view_of conf.now up.now entries.now) }
+{
+    let claims = claims_of(alloc, conf, up, entries)?;
+    nodes_of(alloc, claims.as_slice())
+}
+
+/// Whether a node forwards packets of a triple: in a subdomain with labels it has a range of that length up to the set
+/// identifier; in one with a written table it is in the subdomain and the table has the triple's row (RFC 8279, 6.9;
+/// RFC 8401, 6.2).
+pub fn supports(conf: &RouterConf, node: &ViewNode, t: Triple) -> bool
+    ensures { result ≡ covers conf.now.kinds conf.now.table t node.now }
+{
+    node.covers(&conf.kinds, &conf.table, t)
+}
