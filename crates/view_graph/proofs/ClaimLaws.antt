@@ -22,7 +22,7 @@ use Rattle.wire_base.specs.declared.view.ViewSub.{ViewSub}
 use Rattle.wire_base.specs.model.Lists.{AreApart}
 use Rattle.wire_base.specs.model.Fields.{◌>>=◌}
 use Rattle.wire_base.specs.model.Place.{code_of, kind_of, is_mpls}
-use Rattle.wire_base.specs.model.Tlv.{Tlv, tlv_at, Reach, Prefix, prefix_bits}
+use Rattle.wire_base.specs.model.Tlv.{Tlv, tlv_at, Reach, reach_at, Prefix, prefix_at, prefix_bits, entries_of, tlvs_before}
 use Rattle.wire_base.specs.model.BierInfo.{Info, Parts, no_parts, take_known, take_if, take_part, then_parts, short, parts_within, parts_of, info_at, word_bsl, is_range}
 use Rattle.wire_base.specs.model.Configuration.{IsSound, IsEnd, IsOwnSub, same_length}
 use Rattle.wire_base.specs.model.OwnLsp.{picked, info_of}
@@ -78,14 +78,14 @@ link_good r l e = by ((r.pseudonode == 0) && nat_lt r.metric greatest_metric) re
     by true f e =
         let x : Link = record { neighbour = r.neighbour; metric = max r.metric 1 } in
         let first : link_of r ≡ Some x = rw f refl in
-        let low : r.metric < 16777215 = ltb-true r.metric 16777215 (and_both _ _ f).1 in
+        let low : r.metric < 16777215 = ltb-true r.metric 16777215 (and_both (r.pseudonode == 0) (nat_lt r.metric greatest_metric) f).1 in
         subst IsLink (some_is x l (sym first ∙ e)) (record { positive = omega arith; small = omega (arith, low) })
 
 links_good : (t : Tlv) → AllByRecursion IsLink (links_in t)
 links_good t = by (t.code == 22) refl
   where
     by : (b : Bool) → (t.code == 22) ≡ b → AllByRecursion IsLink (links_in t)
-    by true e = rw e (some_all IsLink link_of link_good _)
+    by true e = rw e (some_all IsLink link_of link_good (entries_of reach_at t.value))
     by false e = rw e tt
 
 -- ---- label ranges of one BIER Info
@@ -152,6 +152,7 @@ known_keeps p q bsl word e ok =
   where
     z : LabelRange
     z = record { bsl = bsl; max_si = word / 16777216; label = word % 1048576 }
+
     by : (b : Bool) → nat_lt 1048575 (word % 1048576 + word / 16777216) ≡ b → get_or p.seen (code_of bsl - 1) false ≡ false
         → IsParts (record { seen = set p.seen (code_of bsl - 1) true; ranges = if nat_lt 1048575 (word % 1048576 + word / 16777216) then p.ranges else p.ranges ++ record { bsl = bsl; max_si = word / 16777216; label = word % 1048576 } ∷ [] })
     by b f unseen =
@@ -191,7 +192,7 @@ parts_keep (suc n) p q octets e ok = let b = bind_ok (short (tlv_at octets)) _ q
     by again (Some x) f = let c = bind_ok (take_part p x.0) _ q f in again c.0 x.1 c.2 (part_keeps p c.0 x.0 c.1 ok)
 
 info_apart : (value : List ℕ) (i : Info) → info_at value ≡ Ok i → AllPairs BslDiffer i.ranges
-unfolding info_at
+unfolding info_at Apart
 info_apart value i e =
     let a = guarded _ faults.Short _ i e in
     let b = guarded _ faults.Algorithm _ i a.1 in
@@ -214,14 +215,14 @@ subs_good : (p : Prefix) → AllByRecursion HasApart (subs_of p)
 subs_good p = by (prefix_bits p.control == 32) refl
   where
     by : (b : Bool) → (prefix_bits p.control == 32) ≡ b → AllByRecursion HasApart (subs_of p)
-    by true e = rw e (some_all HasApart (sub_at p.octets) (sub_good p.octets) _)
+    by true e = rw e (some_all HasApart (sub_at p.octets) (sub_good p.octets) (tlvs_before p.subs))
     by false e = rw e tt
 
 places_good : (t : Tlv) → AllByRecursion HasApart (subs_in t)
 places_good t = by (t.code == 135) refl
   where
     by : (b : Bool) → (t.code == 135) ≡ b → AllByRecursion HasApart (subs_in t)
-    by true e = rw e (flat_all HasApart subs_of subs_good _)
+    by true e = rw e (flat_all HasApart subs_of subs_good (entries_of prefix_at t.value))
     by false e = rw e tt
 
 -- ---- claims

@@ -280,13 +280,15 @@ known_good kinds (c ∷ cs) all =
 
 pub nodes_good : (k cs : List Claim) → AllByRecursion IsKnown cs → AllByRecursion (λ n. IsNode (length k) n) (map (node_of k) cs)
 nodes_good k [] all = tt
-nodes_good k (c ∷ cs) all =
-    (record {
-      edges = all_from (λ (e : ViewEdge). IsEdge (length k) e) (edges_from c 0 k) (edges_good c all.0.links (length k) 0 k (omega arith));
-      edges_in_order = edges_rise c 0 k;
-      subs_differ = AllPairs-filter (λ (a b : ViewSub). a.sd ≡ b.sd → ⊥) (λ s. not (is_shared k c.system s.prefix)) c.subs all.0.subs;
-      ranges_differ = All-filter (λ s. not (is_shared k c.system s.prefix)) HasApart c.subs (all_from HasApart c.subs all.0.ranges);
-    }, nodes_good k cs all.1)
+nodes_good k (c ∷ cs) all = (
+  record {
+    edges = all_from (λ (e : ViewEdge). IsEdge (length k) e) (edges_from c 0 k) (edges_good c all.0.links (length k) 0 k (omega arith));
+    edges_in_order = edges_rise c 0 k;
+    subs_differ = AllPairs-filter (λ (a b : ViewSub). a.sd ≡ b.sd → ⊥) (λ s. not (is_shared k c.system s.prefix)) c.subs all.0.subs;
+    ranges_differ = All-filter (λ s. not (is_shared k c.system s.prefix)) HasApart c.subs (all_from HasApart c.subs all.0.ranges);
+  },
+  nodes_good k cs all.1,
+)
 
 -- ---- systems in order, and prefixes that no two share
 

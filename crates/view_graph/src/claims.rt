@@ -17,7 +17,9 @@ use crate::walks::next_tlv;
 use isis_tlv::{Tlv, TlvWalk};
 use std::alloc::Global;
 use std::marker::Model;
-use wire_base::{End, Entry, Kind, LabelRange, M, OwnSub, RouterConf, Rows, SubKind, SystemId, ViewSub, kind_of};
+use wire_base::{
+    End, Entry, Kind, LabelRange, M, OwnSub, RouterConf, Rows, SubKind, SystemId, ViewSub, kind_of,
+};
 
 /// A system: whether it is overloaded, its links, and its places in subdomains, in the order of its LSPs.
 #[derive(Drop)]
@@ -241,7 +243,12 @@ fn place_of(claims: &[Claim], system: &SystemId) -> usize
 
 /// What all systems claim, in the order of their systems.
 #[tactic(auto, unfolding(wire_base::specs::model::View::claims_of))]
-pub(crate) fn claims_of(alloc: Global, conf: &RouterConf, up: &[bool], entries: &[Entry]) -> M<Vec<Claim>>
+pub(crate) fn claims_of(
+    alloc: Global,
+    conf: &RouterConf,
+    up: &[bool],
+    entries: &[Entry],
+) -> M<Vec<Claim>>
     requires { length up.now ≡ length conf.now.ends }
     ensures { IfOk result (λ claims. claims.items ≡ map (with_known conf.now.kinds) (claims_of conf.now up.now entries.now)) }
 {

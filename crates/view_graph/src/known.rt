@@ -93,9 +93,7 @@ fn has_prefix(prefix: &Ipv4, subs: &[ViewSub]) -> bool
 fn is_shared(claims: &[Claim], system: &SystemId, prefix: &Ipv4) -> bool
     ensures { result ≡ is_shared claims.now system.now prefix.now }
 {
-    claims
-        .iter()
-        .any(|claim| claim.system != *system && has_prefix(prefix, claim.subs.as_slice()))
+    claims.iter().any(|claim| claim.system != *system && has_prefix(prefix, claim.subs.as_slice()))
 }
 
 /// The places of a system whose prefix is no other system's.

@@ -10,6 +10,4 @@ mod nodes;
 mod places;
 mod walks;
 
-pub use nodes::supports;
-
-
+pub use nodes::{supports, view};
