@@ -1,6 +1,6 @@
 -- What a system claims: its links have a metric above 0, and the lengths of a place's label ranges differ.
 use mathlib.Core.Bool.{false≢true, true≢false}
-use Rattle.std.proofs.Common.{◌≡◌, ℕ, zero, suc, ◌+◌, ◌-◌, ◌/◌, ◌%◌, ◌<◌, ◌≤◌, ◌^◌, ◌==◌, ◌&&◌, nat_lt, max, not, Bool, true, false, if◌then◌else◌, List, [], ◌∷◌, ◌++◌, length, get_or, set, drop, map, filter, Option, Some, None, Result, Ok, Err, All, AllPairs, refl, sym, ap, subst, ◌∙◌, arith}
+use Rattle.std.proofs.Common.{◌≡◌, ℕ, zero, suc, ◌+◌, ◌-◌, ◌/◌, ◌%◌, ◌<◌, ◌==◌, ◌&&◌, nat_lt, max, not, Bool, true, false, if◌then◌else◌, List, [], ◌∷◌, ◌++◌, length, get_or, set, drop, map, Option, Some, None, Result, Ok, Err, AllPairs, refl, sym, ap, subst, ◌∙◌, arith}
 use Rattle.std.specs.Prelude.{option_to_list}
 use Rattle.std.specs.List.{AllByRecursion, flat_map, filter_map}
 use Rattle.byteorder.specs.Endian.{big_number}
@@ -15,18 +15,16 @@ use Rattle.wire_base.specs.declared.conf.LabelRange.{LabelRange}
 use Rattle.wire_base.specs.declared.conf.OwnSub.{OwnSub}
 use Rattle.wire_base.specs.declared.conf.RouterConf.{RouterConf}
 use Rattle.wire_base.specs.declared.entry.Entry.{Entry}
-use Rattle.wire_base.specs.declared.faults.TlvFault.{TlvFault}
 use Rattle.wire_base.specs.declared.faults.InfoFault.{InfoFault}
 use Rattle.wire_base.specs.declared.faults.InfoFault.TheVariants as faults
 use Rattle.wire_base.specs.declared.view.ViewSub.{ViewSub}
 use Rattle.wire_base.specs.model.Lists.{AreApart}
-use Rattle.wire_base.specs.model.Fields.{◌>>=◌}
 use Rattle.wire_base.specs.model.Place.{code_of, kind_of, is_mpls}
 use Rattle.wire_base.specs.model.Tlv.{Tlv, tlv_at, Reach, reach_at, Prefix, prefix_at, prefix_bits, entries_of, tlvs_before}
 use Rattle.wire_base.specs.model.BierInfo.{Info, Parts, no_parts, take_known, take_if, take_part, then_parts, short, parts_within, parts_of, info_at, word_bsl, is_range}
 use Rattle.wire_base.specs.model.Configuration.{IsSound, IsEnd, IsOwnSub, same_length}
 use Rattle.wire_base.specs.model.OwnLsp.{picked, info_of}
-use Rattle.wire_base.specs.model.View.{Claim, Link, greatest_metric, link_of, links_in, sub_of, accepted, sub_at, subs_of, subs_in, tlvs_of, end_link, claim_of, own_claim, is_other, claims_of, with_known}
+use Rattle.wire_base.specs.model.View.{Link, greatest_metric, link_of, links_in, sub_of, sub_at, subs_of, subs_in, tlvs_of, end_link, claim_of, own_claim, claims_of}
 use Rattle.format_laws.proofs.FieldLaws.{bind_ok, ok_is, guarded}
 use Rattle.format_laws.proofs.TlvLaws.{some_is}
 use Rattle.view_graph.proofs.GraphLaws.{IsLink, HasApart, IsClaim, all_from, all_weaker, all_put, and_both, no_pairs}

@@ -1,17 +1,16 @@
 -- A view is a graph: its nodes stand in the order of their systems, its edges name nodes, and so on.
 use mathlib.Core.Bool.{false≢true, true≢false}
-use Rattle.std.proofs.Common.{◌≡◌, ℕ, zero, suc, ◌+◌, ◌<◌, ◌≤◌, ◌^◌, ◌==◌, ◌&&◌, ◌||◌, nat_lt, not, max, min, Bool, true, false, if◌then◌else◌, List, [], ◌∷◌, ◌++◌, length, get_or, map, filter, Option, Some, None, is_some, All, AllPairs, refl, sym, ap, subst, ◌∙◌, arith}
-use Rattle.std.specs.Prelude.{option_to_list, option_map}
+use Rattle.std.proofs.Common.{◌≡◌, ℕ, suc, ◌+◌, ◌<◌, ◌≤◌, ◌^◌, ◌==◌, ◌&&◌, ◌||◌, nat_lt, not, min, Bool, true, false, List, [], ◌∷◌, length, get_or, map, filter, Option, Some, None, is_some, All, AllPairs, refl, sym, ap, subst, ◌∙◌, arith}
 use Rattle.std.specs.declared.cmp.Ordering.{Ordering}
 use Rattle.std.specs.declared.cmp.Ordering.TheVariants.{Less, Equal, Greater}
 use Rattle.std.specs.Ordering.{nat_cmp, ordering_then, is_eq, is_lt, is_gt}
 use Rattle.std.specs.Cmp.Lexicographic.{slice_cmp}
-use Rattle.std.specs.List.{AllByRecursion, list_any, flat_map, filter_map}
+use Rattle.std.specs.List.{AllByRecursion, list_any}
 use Rattle.std.specs.Str.{bytes_eq}
 use Rattle.std.proofs.lemmas.Bool.{eqb-true, eq-eqb}
 use Rattle.std.proofs.lemmas.List.{length-map}
 use Rattle.std.proofs.lemmas.List.Kept.{AllPairs-filter, AllPairs-cons}
-use Rattle.std.proofs.lemmas.List.Elements.{All-cons, All-filter, All-map, filter_passes}
+use Rattle.std.proofs.lemmas.List.Elements.{All-cons, All-filter, filter_passes}
 use Rattle.wire_base.specs.declared.addresses.SystemId.{SystemId}
 use Rattle.wire_base.specs.declared.addresses.LspId.{LspId}
 use Rattle.wire_base.specs.declared.conf.RouterConf.{RouterConf}
@@ -26,10 +25,10 @@ use Rattle.wire_base.specs.model.Control.{same_system, system_order, is_below, A
 use Rattle.wire_base.specs.model.BierInfo.{any_overlap}
 use Rattle.wire_base.specs.model.Place.{kind_of}
 use Rattle.format_laws.proofs.TlvLaws.{some_is}
-use Rattle.wire_base.specs.model.Graph.{octets_before, IsBefore, IsEdge, IsNode, ShareNoPrefix, IsGraph}
-use Rattle.wire_base.specs.model.View.{Claim, Link, least_of, metric_to, lists, edge_to, edges_from, first_each, all_ranges, unless_overlap, with_known, put_claim, claim_of, is_other, own_claim, claims_of, is_shared, has_prefix, own_subs, node_of, nodes_of}
+use Rattle.wire_base.specs.model.Graph.{octets_before, IsBefore, IsEdge, IsNode, ShareNoPrefix}
+use Rattle.wire_base.specs.model.View.{Claim, Link, metric_to, lists, edges_from, first_each, all_ranges, unless_overlap, with_known, put_claim, claim_of, is_other, own_claim, claims_of, is_shared, has_prefix, node_of}
 use Rattle.view_graph.specs.Edges.{is_before, AreInOrder}
-use Rattle.view_graph.proofs.SystemLaws.{tie_is_same, before_from_above, before_trans, before_differs, same_turned, lt_is}
+use Rattle.view_graph.proofs.SystemLaws.{tie_is_same, before_from_above, before_trans, before_differs, same_turned}
 
 -- ---- words on lists
 

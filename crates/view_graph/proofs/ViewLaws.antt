@@ -1,5 +1,5 @@
 -- A view is a graph.
-use Rattle.std.proofs.Common.{◌≤◌, Bool, List, length, map, All, sym, subst, arith}
+use Rattle.std.proofs.Common.{Bool, List, length, map, All, sym, subst, arith}
 use Rattle.std.proofs.lemmas.List.{length-map}
 use Rattle.wire_base.specs.declared.conf.RouterConf.{RouterConf}
 use Rattle.wire_base.specs.declared.entry.Entry.{Entry}

@@ -1,12 +1,12 @@
 -- Entries one after the other, and what a step of a walk adds.
-use Rattle.std.proofs.Common.{◌≡◌, ℕ, ◌+◌, ◌<◌, List, [], ◌∷◌, ◌++◌, ◌-◌, take, drop, length, Option, Some, None, Result, Ok, Err, refl, sym, ap, ◌∙◌, arith, append_assoc, append-nil}
+use Rattle.std.proofs.Common.{◌≡◌, ℕ, List, [], ◌∷◌, ◌++◌, ◌-◌, take, drop, length, Option, Some, None, Result, Ok, Err, refl, sym, ap, ◌∙◌, arith, append_assoc}
 use Rattle.std.specs.Prelude.{option_to_list, IfSome, IfNone}
 use Rattle.std.specs.List.{flat_map, filter_map}
 use Rattle.std.proofs.lemmas.List.{take_rest}
 use Rattle.std.proofs.lemmas.List.Concat.{flat_map-cons}
 use Rattle.wire_base.specs.declared.faults.TlvFault.{TlvFault}
 use Rattle.wire_base.specs.declared.faults.TlvFault.TheVariants.{Overrun}
-use Rattle.wire_base.specs.model.Tlv.{Tlv, tlv_at, some_tlv, one_tlv_at, tlvs_before, entries_of}
+use Rattle.wire_base.specs.model.Tlv.{Tlv, tlv_at, some_tlv, one_tlv_at, tlvs_before}
 use Rattle.isis_tlv.specs.declared.walk.Tlv.{Tlv as Declared}
 use Rattle.isis_tlv.specs.Views.{item, Walks}
 use Rattle.format_laws.proofs.TlvListLaws.{Shortens, entries_step, entries_end, tlv_shorter}

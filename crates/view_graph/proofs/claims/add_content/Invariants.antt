@@ -1,7 +1,5 @@
-use Rattle.std.proofs.Common.{◌≡◌, ◌++◌, length}
-use Rattle.std.specs.List.{flat_map}
+use Rattle.std.proofs.Common.{length}
 use Rattle.wire_base.specs.model.Tlv.{tlvs_before}
-use Rattle.wire_base.specs.model.View.{Claim, links_in, subs_in}
 use Rattle.view_graph.specs.Places.{IsAdding}
 use Rattle.view_graph.proofs.claims.add_content.Given as goal
 

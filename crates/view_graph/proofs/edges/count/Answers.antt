@@ -1,5 +1,4 @@
-use Rattle.std.proofs.Common.{ap, sym, ◌∙◌, arith}
-use Rattle.wire_base.specs.model.View.{Link}
+use Rattle.std.proofs.Common.{sym, ◌∙◌, arith}
 use Rattle.view_graph.proofs.EdgeLaws.{stands_within, count_there, count_not}
 use Rattle.view_graph.proofs.edges.count.Goals as goal
 

@@ -1,4 +1,4 @@
-use Rattle.std.proofs.Common.{◌≡◌, Bool, true, false, sym, ap, ◌∙◌, arith}
+use Rattle.std.proofs.Common.{sym, ap, ◌∙◌, arith}
 use Rattle.std.specs.Ordering.{is_gt}
 use Rattle.wire_base.specs.model.Control.{system_order}
 use Rattle.wire_base.specs.model.View.{Claim}

@@ -1,4 +1,4 @@
-use Rattle.std.proofs.Common.{◌-◌, ℕ, ◌≤◌, length}
+use Rattle.std.proofs.Common.{◌-◌, ◌≤◌, length}
 use Rattle.view_graph.specs.Edges.{place_in}
 use Rattle.view_graph.proofs.edges.place_in.Given as goal
 

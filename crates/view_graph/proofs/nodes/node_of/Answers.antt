@@ -1,7 +1,7 @@
-use Rattle.std.proofs.Common.{ap, sym, ◌∙◌, get_or, map}
+use Rattle.std.proofs.Common.{ap, sym, ◌∙◌}
 use Rattle.std.proofs.lemmas.Option.{get_or_from_slice_get}
-use Rattle.wire_base.specs.model.View.{Claim, own_subs}
-use Rattle.view_graph.specs.Edges.{half_edges_of, whole_edges}
+use Rattle.wire_base.specs.model.View.{own_subs}
+use Rattle.view_graph.specs.Edges.{whole_edges}
 use Rattle.view_graph.proofs.EdgeLaws.{edges_are}
 use Rattle.view_graph.proofs.ListLaws.{node_built}
 use Rattle.view_graph.proofs.nodes.node_of.Goals as goal

@@ -1,4 +1,4 @@
-use Rattle.std.proofs.Common.{◌≡◌, ◌∷◌, ◌-◌, take, drop, length, ap, sym, ◌∙◌}
+use Rattle.std.proofs.Common.{◌∷◌, drop, ap, sym, ◌∙◌}
 use Rattle.wire_base.specs.model.Tlv.{entries_of, reach_at}
 use Rattle.isis_tlv.specs.Views.{reach_of}
 use Rattle.format_laws.proofs.TlvListLaws.{entries_step, entries_end, reach_shortens}
