@@ -1,0 +1,313 @@
+-- What stands at the place of an identifier, and what a list becomes there.
+use Rattle.std.proofs.Common.{◌≡◌, ℕ, zero, suc, ◌+◌, ◌<◌, ◌≤◌, Bool, true, false, if◌then◌else◌, List, [], ◌∷◌, ◌++◌, length, get_or, set, take, drop, map, length-set, Option, Some, None, IfSome, is_none, Result, Ok, Err, IfErr, slice_get, le-leb, refl, sym, ap, subst, ◌∙◌, arith}
+use Rattle.std.specs.Prelude.{option_to_list}
+use Rattle.std.proofs.lemmas.List.{length-map}
+use Rattle.std.proofs.lemmas.List.Edits.{length-insert, length-remove}
+use Rattle.std.proofs.lemmas.Option.{slice_get_read}
+use Rattle.std.proofs.lemmas.Bool.{lt-leb}
+use mathlib.Core.Bool.{false≢true, true≢false}
+use Rattle.std.specs.declared.cmp.Ordering.{Ordering}
+use Rattle.std.specs.declared.cmp.Ordering.TheVariants.{Less, Equal, Greater}
+use Rattle.std.specs.Ordering.{is_eq, is_lt, is_gt, match_ordering}
+use Rattle.std.specs.List.{AllByRecursion, insert, remove}
+use Rattle.wire_base.specs.declared.addresses.LspId.{LspId}
+use Rattle.wire_base.specs.declared.entry.Entry.{Entry}
+use Rattle.wire_base.specs.declared.entry.Aged.{Aged}
+use Rattle.wire_base.specs.declared.entry.Aged.TheVariants.{Live, Expired, Held, Removed}
+use Rattle.wire_base.specs.declared.faults.PutFault.{PutFault}
+use Rattle.wire_base.specs.declared.faults.PutFault.TheVariants.{Full, Memory}
+use Rattle.wire_base.specs.model.Control.{same_id, id_order, is_below, AreAscending, IsDatabase, ids_of, entry_in, put_entry, aged, aged_to}
+use Rattle.lsp_store.specs.Places.{place_in, stands_at, IsPlace, is_new, PutAnswers, IsSecondAt, is_removed}
+use Rattle.lsp_store.proofs.OrderLaws.{id_total, tie_is_same, below_from_above, above_from_below, below_trans, above_trans, below_differs, above_differs, same_turned}
+
+-- ---- each element
+
+pub all_read : {X : Type 0} (P : LspId → Type 0) (f : X → LspId) (xs : List X) (i : ℕ) (x : X) → AllByRecursion P (map f xs) → i < length xs → x ≡ get_or xs i x → P (f x)
+all_read P f [] i x h lt at = absurd (omega (arith, lt))
+all_read P f (y ∷ ys) zero x h lt at = subst (λ z. P (f z)) (sym at) h.0
+all_read P f (y ∷ ys) (suc i) x h lt at = all_read P f ys i x h.1 (omega (arith, lt)) at
+
+-- ---- halving
+
+-- where an identifier is above the one at a place, its own place is higher
+pub above_place : {X : Type 0} (f : X → LspId) (xs : List X) (i : ℕ) (x : X) (id : LspId) → AreAscending (map f xs) → i < length xs → x ≡ get_or xs i x → is_gt (id_order id (f x)) ≡ true → i < place_in (map f xs) id
+above_place f [] i x id asc lt at gt = absurd (omega (arith, lt))
+above_place f (y ∷ ys) zero x id asc lt at gt = first (id_order id (f y)) (subst (λ z. is_gt (id_order id (f z)) ≡ true) at gt)
+  where
+    first : (o : Ordering) → is_gt o ≡ true → 0 < match_ordering o 0 0 (suc (place_in (map f ys) id))
+    first Less h = absurd (false≢true h)
+    first Equal h = absurd (false≢true h)
+    first Greater h = omega arith
+above_place f (y ∷ ys) (suc i) x id asc lt at gt =
+    later (id_order id (f y)) (above_trans id (f x) (f y) gt (all_read (λ z. is_below (f y) z ≡ true) f ys i x asc.0 (omega (arith, lt)) at)) (above_place f ys i x id asc.1 (omega (arith, lt)) at gt)
+  where
+    later : (o : Ordering) → is_gt o ≡ true → i < place_in (map f ys) id → suc i < match_ordering o 0 0 (suc (place_in (map f ys) id))
+    later Less h k = absurd (false≢true h)
+    later Equal h k = absurd (false≢true h)
+    later Greater h k = omega (arith, k)
+
+-- where it isn't, its own place is at most that one
+pub not_above_place : {X : Type 0} (f : X → LspId) (xs : List X) (i : ℕ) (x : X) (id : LspId) → i < length xs → x ≡ get_or xs i x → is_gt (id_order id (f x)) ≡ false → place_in (map f xs) id ≤ i
+not_above_place f [] i x id lt at gt = absurd (omega (arith, lt))
+not_above_place f (y ∷ ys) zero x id lt at gt = first (id_order id (f y)) (subst (λ z. is_gt (id_order id (f z)) ≡ false) at gt)
+  where
+    first : (o : Ordering) → is_gt o ≡ false → match_ordering o 0 0 (suc (place_in (map f ys) id)) ≤ 0
+    first Less h = omega arith
+    first Equal h = omega arith
+    first Greater h = absurd (true≢false h)
+not_above_place f (y ∷ ys) (suc i) x id lt at gt = later (id_order id (f y)) (not_above_place f ys i x id (omega (arith, lt)) at gt)
+  where
+    later : (o : Ordering) → place_in (map f ys) id ≤ i → match_ordering o 0 0 (suc (place_in (map f ys) id)) ≤ suc i
+    later Less k = omega arith
+    later Equal k = omega arith
+    later Greater k = omega (arith, k)
+
+pub place_within : (ids : List LspId) (id : LspId) → place_in ids id ≤ length ids
+place_within [] id = omega arith
+place_within (x ∷ xs) id = more (id_order id x) (place_within xs id)
+  where
+    more : (o : Ordering) → place_in xs id ≤ length xs → match_ordering o 0 0 (suc (place_in xs id)) ≤ suc (length xs)
+    more Less k = omega arith
+    more Equal k = omega arith
+    more Greater k = omega (arith, k)
+
+-- ---- what stands there
+
+pub stands_read : {X : Type 0} (f : X → LspId) (xs : List X) (i : ℕ) (x : X) (id : LspId) → i < length xs → x ≡ get_or xs i x → stands_at (map f xs) i id ≡ same_id (f x) id
+stands_read f [] i x id lt at = absurd (omega (arith, lt))
+stands_read f (y ∷ ys) zero x id lt at = ap (λ z. same_id (f z) id) (sym at)
+stands_read f (y ∷ ys) (suc i) x id lt at = stands_read f ys i x id (omega (arith, lt)) at
+
+pub stands_past : {X : Type 0} (f : X → LspId) (xs : List X) (i : ℕ) (id : LspId) → length xs ≤ i → stands_at (map f xs) i id ≡ false
+stands_past f [] i id le = refl
+stands_past f (y ∷ ys) zero id le = absurd (omega (arith, le))
+stands_past f (y ∷ ys) (suc i) id le = stands_past f ys i id (omega (arith, le))
+
+pub stands_within : (ids : List LspId) (i : ℕ) (id : LspId) → stands_at ids i id ≡ true → i < length ids
+stands_within [] i id h = absurd (false≢true h)
+stands_within (x ∷ xs) zero id h = omega arith
+stands_within (x ∷ xs) (suc i) id h = omega (arith, stands_within xs i id h)
+
+-- ---- lookups
+
+-- no entry of an identifier that is below all
+none_above : (es : List Entry) (x id : LspId) → is_below id x ≡ true → AllByRecursion (λ y. is_below x y ≡ true) (ids_of es) → entry_in es id ≡ None
+none_above [] x id h all = refl
+none_above (e ∷ es) x id h all = rw (same_turned e.id id, below_differs id e.id (below_trans id x e.id h all.0)) (none_above es x id h all.1)
+
+pub entry_there : (es : List Entry) (id : LspId) → stands_at (ids_of es) (place_in (ids_of es) id) id ≡ true → slice_get es (place_in (ids_of es) id) ≡ entry_in es id
+entry_there [] id h = absurd (false≢true h)
+entry_there (e ∷ es) id h = cases (entry_there es id) (id_order id e.id) refl h
+  where
+    cases : (stands_at (ids_of es) (place_in (ids_of es) id) id ≡ true → slice_get es (place_in (ids_of es) id) ≡ entry_in es id) → (o : Ordering) → id_order id e.id ≡ o → stands_at (e.id ∷ ids_of es) (match_ordering o 0 0 (suc (place_in (ids_of es) id))) id ≡ true → slice_get (e ∷ es) (match_ordering o 0 0 (suc (place_in (ids_of es) id))) ≡ entry_in (e ∷ es) id
+    cases again Less o k = rw k refl
+    cases again Equal o k = rw k refl
+    cases again Greater o k = rw (same_turned e.id id, above_differs id e.id (ap is_gt o)) (again k)
+
+pub entry_missing : (es : List Entry) (id : LspId) → AreAscending (ids_of es) → stands_at (ids_of es) (place_in (ids_of es) id) id ≡ false → entry_in es id ≡ None
+entry_missing [] id asc h = refl
+entry_missing (e ∷ es) id asc h = cases (entry_missing es id asc.1) (id_order id e.id) refl h
+  where
+    cases : (stands_at (ids_of es) (place_in (ids_of es) id) id ≡ false → entry_in es id ≡ None) → (o : Ordering) → id_order id e.id ≡ o → stands_at (e.id ∷ ids_of es) (match_ordering o 0 0 (suc (place_in (ids_of es) id))) id ≡ false → entry_in (e ∷ es) id ≡ None
+    cases again Less o k = rw k (none_above es e.id id (ap is_lt o) asc.0)
+    cases again Equal o k = absurd (true≢false (sym (ap is_eq o) ∙ tie_is_same id e.id ∙ same_turned id e.id ∙ k))
+    cases again Greater o k = rw (same_turned e.id id, above_differs id e.id (ap is_gt o)) (again k)
+
+-- ---- puts
+
+pub put_there : (es : List Entry) (e : Entry) → stands_at (ids_of es) (place_in (ids_of es) e.id) e.id ≡ true → set es (place_in (ids_of es) e.id) e ≡ put_entry e es
+put_there [] e h = absurd (false≢true h)
+put_there (x ∷ xs) e h = cases (put_there xs e) (id_order e.id x.id) refl h
+  where
+    cases : (stands_at (ids_of xs) (place_in (ids_of xs) e.id) e.id ≡ true → set xs (place_in (ids_of xs) e.id) e ≡ put_entry e xs) → (o : Ordering) → id_order e.id x.id ≡ o → stands_at (x.id ∷ ids_of xs) (match_ordering o 0 0 (suc (place_in (ids_of xs) e.id))) e.id ≡ true → set (x ∷ xs) (match_ordering o 0 0 (suc (place_in (ids_of xs) e.id))) e ≡ match_ordering o (e ∷ x ∷ xs) (e ∷ xs) (x ∷ put_entry e xs)
+    cases again Less o k = absurd (true≢false (sym k ∙ same_turned x.id e.id ∙ below_differs e.id x.id (ap is_lt o)))
+    cases again Equal o k = refl
+    cases again Greater o k = ap (λ (ys : List Entry). x ∷ ys) (again k)
+
+pub put_new : (es : List Entry) (e : Entry) → stands_at (ids_of es) (place_in (ids_of es) e.id) e.id ≡ false → insert es (place_in (ids_of es) e.id) e ≡ put_entry e es
+put_new [] e h = refl
+put_new (x ∷ xs) e h = cases (put_new xs e) (id_order e.id x.id) refl h
+  where
+    cases : (stands_at (ids_of xs) (place_in (ids_of xs) e.id) e.id ≡ false → insert xs (place_in (ids_of xs) e.id) e ≡ put_entry e xs) → (o : Ordering) → id_order e.id x.id ≡ o → stands_at (x.id ∷ ids_of xs) (match_ordering o 0 0 (suc (place_in (ids_of xs) e.id))) e.id ≡ false → insert (x ∷ xs) (match_ordering o 0 0 (suc (place_in (ids_of xs) e.id))) e ≡ match_ordering o (e ∷ x ∷ xs) (e ∷ xs) (x ∷ put_entry e xs)
+    cases again Less o k = refl
+    cases again Equal o k = absurd (true≢false (sym (ap is_eq o) ∙ tie_is_same e.id x.id ∙ same_turned e.id x.id ∙ k))
+    cases again Greater o k = ap (λ (ys : List Entry). x ∷ ys) (again k)
+
+-- ---- the order is kept
+
+all_put : (P : LspId → Type 0) (es : List Entry) (e : Entry) → P e.id → AllByRecursion P (ids_of es) → AllByRecursion P (ids_of (put_entry e es))
+all_put P [] e h all = (h, tt)
+all_put P (x ∷ xs) e h all = cases (all_put P xs e h all.1) (id_order e.id x.id)
+  where
+    cases : AllByRecursion P (ids_of (put_entry e xs)) → (o : Ordering) → AllByRecursion P (ids_of (match_ordering o (e ∷ x ∷ xs) (e ∷ xs) (x ∷ put_entry e xs)))
+    cases later Less = (h, all)
+    cases later Equal = (h, all.1)
+    cases later Greater = (all.0, later)
+
+below_all : (es : List Entry) (x y : LspId) → is_below x y ≡ true → AllByRecursion (λ z. is_below y z ≡ true) (ids_of es) → AllByRecursion (λ z. is_below x z ≡ true) (ids_of es)
+below_all [] x y h all = tt
+below_all (e ∷ es) x y h all = (below_trans x y e.id h all.0, below_all es x y h all.1)
+
+-- an identifier that ties with another is below what that one is below
+tied_below : (es : List Entry) (x y : LspId) → id_order x y ≡ Equal → AllByRecursion (λ z. is_below y z ≡ true) (ids_of es) → AllByRecursion (λ z. is_below x z ≡ true) (ids_of es)
+tied_below [] x y h all = tt
+tied_below (e ∷ es) x y h all = (ap is_lt (id_total.congr x y e.id h) ∙ all.0, tied_below es x y h all.1)
+
+pub put_ascends : (es : List Entry) (e : Entry) → AreAscending (ids_of es) → AreAscending (ids_of (put_entry e es))
+put_ascends [] e asc = (tt, tt)
+put_ascends (x ∷ xs) e asc = cases (put_ascends xs e asc.1) (id_order e.id x.id) refl
+  where
+    cases : AreAscending (ids_of (put_entry e xs)) → (o : Ordering) → id_order e.id x.id ≡ o → AreAscending (ids_of (match_ordering o (e ∷ x ∷ xs) (e ∷ xs) (x ∷ put_entry e xs)))
+    cases later Less o = ((ap is_lt o, below_all xs e.id x.id (ap is_lt o) asc.0), asc)
+    cases later Equal o = (tied_below xs e.id x.id o asc.0, asc.1)
+    cases later Greater o = (all_put (λ z. is_below x.id z ≡ true) xs e (below_from_above e.id x.id (ap is_gt o)) asc.0, later)
+
+all_removed : (P : LspId → Type 0) (es : List Entry) (i : ℕ) → AllByRecursion P (ids_of es) → AllByRecursion P (ids_of (remove es i))
+all_removed P [] zero all = tt
+all_removed P [] (suc i) all = tt
+all_removed P (x ∷ xs) zero all = all.1
+all_removed P (x ∷ xs) (suc i) all = (all.0, all_removed P xs i all.1)
+
+pub removed_ascends : (es : List Entry) (i : ℕ) → AreAscending (ids_of es) → AreAscending (ids_of (remove es i))
+removed_ascends [] zero asc = tt
+removed_ascends [] (suc i) asc = tt
+removed_ascends (x ∷ xs) zero asc = asc.1
+removed_ascends (x ∷ xs) (suc i) asc = (all_removed (λ z. is_below x.id z ≡ true) xs i asc.0, removed_ascends xs i asc.1)
+
+pub ids_set : (es : List Entry) (i : ℕ) (e x : Entry) → x ≡ get_or es i x → e.id ≡ x.id → ids_of (set es i e) ≡ ids_of es
+ids_set [] i e x at h = refl
+ids_set (y ∷ ys) zero e x at h = ap (λ (id : LspId). id ∷ ids_of ys) (h ∙ ap (λ (z : Entry). z.id) at)
+ids_set (y ∷ ys) (suc i) e x at h = ap (λ (ids : List LspId). y.id ∷ ids) (ids_set ys i e x at h)
+
+-- ---- a database stays one
+
+moved : {es now : List Entry} {id : LspId} {there : Bool} {p : ℕ} → es ≡ now → IsPlace now id there p → IsPlace es id there p
+moved {es} {now} {id} {there} {p} same at = subst (λ (xs : List Entry). IsPlace xs id there p) (sym same) at
+
+-- what stands at the place itself
+stands_there : {es : List Entry} {id : LspId} {there : Bool} {p : ℕ} → IsPlace es id there p → stands_at (ids_of es) (place_in (ids_of es) id) id ≡ there
+stands_there {es} {id} {there} {p} at = subst (λ n. stands_at (ids_of es) n id ≡ there) at.place at.stands
+
+place_le : {es : List Entry} {id : LspId} {there : Bool} {p : ℕ} → IsPlace es id there p → p ≤ length es
+place_le {es} {id} {there} {p} at = let w = place_within (ids_of es) id in let l = length-map es (λ (x : Entry). x.id) in omega (arith, w, l, at.place)
+
+pub add_within : (es now : List Entry) (p : ℕ) (id : LspId) → es ≡ now → IsPlace now id false p → p ≤ length es
+add_within es now p id same at = place_le (moved same at)
+
+add_is_put : (es : List Entry) (p : ℕ) (e : Entry) → IsPlace es e.id false p → insert es p e ≡ put_entry e es
+add_is_put es p e at = ap (λ n. insert es n e) at.place ∙ put_new es e (stands_there at)
+
+-- an entry is added at its place, or it isn't
+pub add_kept : (es now new : List Entry) (p : ℕ) (e : Entry) (ok : Bool) → es ≡ now → IsDatabase es → IsPlace now e.id false p → length es < 4096 → new ≡ (if ok then insert es p e else es) → IsDatabase new
+add_kept es now new p e ok same db at few is = rw is (cases ok)
+  where
+    cases : (ok : Bool) → IsDatabase (if ok then insert es p e else es)
+    cases true = record {
+      few = let l = length-insert es p e (place_le (moved same at)) in omega (arith, l, few);
+      in_order = subst (λ (xs : List Entry). AreAscending (ids_of xs)) (sym (add_is_put es p e (moved same at))) (put_ascends es e db.in_order);
+    }
+    cases false = db
+
+pub add_puts : (es now new : List Entry) (p : ℕ) (e : Entry) → es ≡ now → IsPlace now e.id false p → new ≡ insert es p e → new ≡ put_entry e now
+add_puts es now new p e same at is = is ∙ ap (λ (xs : List Entry). insert xs p e) same ∙ add_is_put now p e at
+
+-- an entry takes the place of the one of its identifier
+pub set_puts : (es now : List Entry) (p : ℕ) (e : Entry) → es ≡ now → IsPlace now e.id true p → set es p e ≡ put_entry e now
+set_puts es now p e same at = ap (λ (xs : List Entry). set xs p e) same ∙ ap (λ n. set now n e) at.place ∙ put_there now e (stands_there at)
+
+pub set_kept : (es now : List Entry) (p : ℕ) (e : Entry) → es ≡ now → IsDatabase es → IsPlace now e.id true p → IsDatabase (set es p e)
+set_kept es now p e same db at = record {
+  few = let l = length-set es p e in omega (arith, l, db.few);
+  in_order = subst (λ (xs : List Entry). AreAscending (ids_of xs)) (sym (set_puts es es p e refl (moved same at))) (put_ascends es e db.in_order);
+}
+
+pub set_within : (es now : List Entry) (p : ℕ) (id : LspId) → es ≡ now → IsPlace now id true p → p < length es
+set_within es now p id same at =
+    let w = stands_within (ids_of es) p id (moved same at).stands in
+    let l = length-map es (λ (x : Entry). x.id) in
+    omega (arith, w, l)
+
+-- what is read at a place is the entry of the identifier
+pub read_there : (es now : List Entry) (p : ℕ) (id : LspId) (x : Entry) → es ≡ now → IsPlace now id true p → x ≡ get_or es p x → Some x ≡ entry_in now id
+read_there es now p id x same at is =
+    sym (slice_get_read es (length es) p x refl (set_within es now p id same at) is) ∙ ap (λ (xs : List Entry). slice_get xs p) same ∙ ap (λ n. slice_get now n) at.place ∙ entry_there now id (stands_there at)
+
+pub none_there : (es now : List Entry) (p : ℕ) (id : LspId) → es ≡ now → IsDatabase es → IsPlace now id false p → None ≡ entry_in now id
+none_there es now p id same db at =
+    sym (entry_missing now id (subst (λ (xs : List Entry). AreAscending (ids_of xs)) same db.in_order) (stands_there at))
+
+-- ---- whether an identifier is new
+
+pub old_there : (now : List Entry) (p : ℕ) (id : LspId) → IsPlace now id true p → is_new now id ≡ false
+old_there now p id at = ap is_none (sym (entry_there now id (stands_there at)) ∙ ap (λ n. slice_get now n) (sym at.place)) ∙ some now p (set_within now now p id refl at)
+  where
+    some : (xs : List Entry) (n : ℕ) → n < length xs → is_none (slice_get xs n) ≡ false
+    some [] n lt = absurd (omega (arith, lt))
+    some (x ∷ xs) zero lt = refl
+    some (x ∷ xs) (suc n) lt = some xs n (omega (arith, lt))
+
+pub new_missing : (es now : List Entry) (p : ℕ) (id : LspId) → es ≡ now → IsDatabase es → IsPlace now id false p → is_new now id ≡ true
+new_missing es now p id same db at = ap is_none (sym (none_there es now p id same db at))
+
+pub answers_there : (now : List Entry) (spare : ℕ) (id : LspId) (p : ℕ) → IsPlace now id true p → PutAnswers now spare id (Ok tt)
+answers_there now spare id p at = rw (old_there now p id at) tt
+
+pub answers_full : (es now : List Entry) (spare n : ℕ) (id : LspId) → es ≡ now → is_new now id ≡ true → n ≡ length es → 4096 ≤ n → PutAnswers now spare id (Err (Full n))
+answers_full es now spare n id same gone len le = rw (gone, le-leb 4096 (length now) (subst (λ m. 4096 ≤ m) (len ∙ l) le)) (ap (λ m. Err (Full m)) (len ∙ l))
+  where
+    l : length es ≡ length now
+    l = ap (λ (xs : List Entry). length xs) same
+
+pub answers_added : (es now : List Entry) (spare : ℕ) (id : LspId) (answer : Result (Unit {0}) PutFault) → es ≡ now → is_new now id ≡ true → length es < 4096 → IfErr answer (λ fault. (fault ≡ Memory) × (spare ≡ 0)) → PutAnswers now spare id answer
+answers_added es now spare id answer same gone lt memory = rw (gone, lt-leb 4096 (length now) (subst (λ (xs : List Entry). length xs < 4096) same lt)) (each answer memory)
+  where
+    each : (answer : Result (Unit {0}) PutFault) → IfErr answer (λ fault. (fault ≡ Memory) × (spare ≡ 0)) → IfErr answer (λ fault. (fault ≡ Memory) × (is_new now id ≡ true) × (spare ≡ 0))
+    each (Ok u) h = tt
+    each (Err fault) h = (h.0, gone, h.1)
+
+-- ---- one second
+
+pub aged_kept : (es : List Entry) (i : ℕ) (e x : Entry) → IsDatabase es → x ≡ get_or es i x → e.id ≡ x.id → IsDatabase (set es i e)
+aged_kept es i e x db at same = record {
+  few = let l = length-set es i e in omega (arith, l, db.few);
+  in_order = subst (λ (ids : List LspId). AreAscending ids) (sym (ids_set es i e x at same)) db.in_order;
+}
+
+pub removed_kept : (es new : List Entry) (i : ℕ) → i < length es → IsDatabase es → new ≡ remove es i → IsDatabase new
+removed_kept es new i lt db is = rw is (record {
+  few = let l = length-remove es i lt in omega (arith, l, db.few);
+  in_order = removed_ascends es i db.in_order;
+})
+
+-- the list with the entry at a place changed is its parts with the entry between them
+pub set_splits : (es : List Entry) (i : ℕ) (e : Entry) → i < length es → set es i e ≡ take i es ++ (e ∷ drop (suc i) es)
+set_splits [] i e lt = absurd (omega (arith, lt))
+set_splits (x ∷ xs) zero e lt = refl
+set_splits (x ∷ xs) (suc i) e lt = ap (λ (ys : List Entry). x ∷ ys) (set_splits xs i e (omega (arith, lt)))
+
+pub set_same : (es : List Entry) (i : ℕ) (x : Entry) → x ≡ get_or es i x → set es i x ≡ es
+set_same [] i x at = refl
+set_same (y ∷ ys) zero x at = ap (λ (z : Entry). z ∷ ys) at
+set_same (y ∷ ys) (suc i) x at = ap (λ (zs : List Entry). y ∷ zs) (set_same ys i x at)
+
+goes : (answer : Aged) (x : Entry) → is_removed answer ≡ true → aged_to answer x ≡ None
+goes Live x h = absurd (false≢true h)
+goes Expired x h = absurd (false≢true h)
+goes Held x h = absurd (false≢true h)
+goes Removed x h = refl
+
+-- an entry that goes
+pub second_removes : (es now new : List Entry) (i : ℕ) (x e : Entry) (answer : Aged) → es ≡ now → i < length es → x ≡ get_or es i x → answer ≡ aged x → is_removed answer ≡ true → e ≡ x → new ≡ remove (set es i e) i → IfSome (slice_get now i) (λ y. IsSecondAt now i y answer new)
+second_removes es now new i x e answer same lt at is gone stays becomes =
+    subst (λ (xs : List Entry). IfSome (slice_get xs i) (λ y. IsSecondAt xs i y answer new)) same (rw (slice_get_read es (length es) i x refl lt at) (record {
+      answers = is;
+      becomes = becomes ∙ ap (λ (z : Entry). remove (set es i z) i) stays ∙ ap (λ (xs : List Entry). remove xs i) (set_same es i x at) ∙ ap (λ (o : Option Entry). take i es ++ (option_to_list o ++ drop (suc i) es)) (sym (ap (λ a. aged_to a x) (sym is) ∙ goes answer x gone));
+    }))
+
+-- an entry that stays
+pub second_changes : (es now : List Entry) (i : ℕ) (x e : Entry) (answer : Aged) → es ≡ now → i < length es → x ≡ get_or es i x → answer ≡ aged x → aged_to answer x ≡ Some e → IfSome (slice_get now i) (λ y. IsSecondAt now i y answer (set es i e))
+second_changes es now i x e answer same lt at is becomes =
+    subst (λ (xs : List Entry). IfSome (slice_get xs i) (λ y. IsSecondAt xs i y answer (set es i e))) same (rw (slice_get_read es (length es) i x refl lt at) (record {
+      answers = is;
+      becomes = set_splits es i e lt ∙ ap (λ (o : Option Entry). take i es ++ (option_to_list o ++ drop (suc i) es)) (sym (ap (λ a. aged_to a x) (sym is) ∙ becomes));
+    }))

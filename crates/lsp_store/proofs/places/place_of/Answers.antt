@@ -1,0 +1,25 @@
+use Rattle.std.proofs.Common.{◌≡◌, true, false, sym, ap, ◌∙◌, arith, is_gt}
+use Rattle.std.proofs.lemmas.List.{length-map}
+use Rattle.wire_base.specs.declared.addresses.LspId.{LspId}
+use Rattle.wire_base.specs.declared.entry.Entry.{Entry}
+use Rattle.wire_base.specs.model.Control.{ids_of}
+use Rattle.lsp_store.proofs.PlaceLaws.{above_place, not_above_place, place_within}
+use Rattle.lsp_store.proofs.places.place_of.Goals as goal
+
+pub halves-init : goal.halves-init
+halves-init c =
+    let within = place_within (ids_of c.args.entries.now) c.args.id.now in
+    let len = length-map c.args.entries.now (λ (e : Entry). e.id) in
+    record { low = omega arith; high = omega (arith, within, len); within = omega arith }
+
+pub halves-preserved-then-is_above : goal.halves-preserved-then-is_above
+halves-preserved-then-is_above c =
+    let inv = c.halves.invariant in
+    let above = above_place (λ (e : Entry). e.id) c.args.entries.now _ c.index-entries-middle.result c.args.id.now c.requires (omega (arith, inv.within, c.halves-test.true)) c.index-entries-middle.is (sym c.is_above.ensures ∙ c.if-is_above.true) in
+    record { low = omega (arith, above); high = inv.high; within = inv.within }
+
+pub halves-preserved : goal.halves-preserved
+halves-preserved c =
+    let inv = c.halves.invariant in
+    let below = not_above_place (λ (e : Entry). e.id) c.args.entries.now _ c.index-entries-middle.result c.args.id.now (omega (arith, inv.within, c.halves-test.true)) c.index-entries-middle.is (sym c.is_above.ensures ∙ c.if-is_above.false) in
+    record { low = inv.low; high = below; within = omega (arith, inv.within, c.halves-test.true) }

@@ -1,0 +1,55 @@
+-- Where an identifier stands in a list that is in order, or would stand.
+use Rattle.std.specs.Prelude.{◌≡◌, ℕ, zero, suc, ◌+◌, ◌&&◌, Bool, true, false, List, [], ◌∷◌, length, take, drop, ◌++◌, Option, Some, None, is_none, option_to_list, Result, Ok, Err, IfErr, IfSome, slice_get}
+use Rattle.std.specs.Ordering.{match_ordering}
+use Rattle.wire_base.specs.declared.addresses.LspId.{LspId}
+use Rattle.wire_base.specs.declared.entry.Aged.{Aged}
+use Rattle.wire_base.specs.declared.entry.Aged.TheVariants.{Live, Expired, Held, Removed}
+use Rattle.wire_base.specs.declared.entry.Entry.{Entry}
+use Rattle.wire_base.specs.declared.faults.PutFault.{PutFault}
+use Rattle.wire_base.specs.declared.faults.PutFault.TheVariants.{Full, Memory}
+use Rattle.wire_base.specs.model.Control.{id_order, same_id, ids_of, entry_in, is_full, aged, after_second}
+
+-- how many are below it: the place of the first that isn't
+abbrev pub place_in : List LspId → LspId → ℕ
+place_in [] id = 0
+place_in (x ∷ xs) id = match_ordering (id_order id x) 0 0 (suc (place_in xs id))
+
+-- whether it stands at a place
+abbrev pub stands_at : List LspId → ℕ → LspId → Bool
+stands_at [] n id = false
+stands_at (x ∷ xs) zero id = same_id x id
+stands_at (x ∷ xs) (suc n) id = stands_at xs n id
+
+-- a place is that of an identifier, and whether it stands there
+pub record IsPlace (entries : List Entry) (id : LspId) (there : Bool) (p : ℕ) : Type 0 where
+  pub place : p ≡ place_in (ids_of entries) id
+  pub stands : stands_at (ids_of entries) p id ≡ there
+
+-- whether an identifier has no entry yet
+abbrev pub is_new : List Entry → LspId → Bool
+is_new entries id = is_none (entry_in entries id)
+
+-- no entry is taken beside those that are there
+abbrev pub is_refused : List Entry → LspId → Bool
+is_refused entries id = is_new entries id && is_full entries
+
+abbrev pub AnswersWhere : Bool → List Entry → ℕ → LspId → Result (Unit {0}) PutFault → Type 0
+AnswersWhere true entries spare id answer = answer ≡ Err (Full (length entries))
+AnswersWhere false entries spare id answer = IfErr answer (λ fault. (fault ≡ Memory) × (is_new entries id ≡ true) × (spare ≡ 0))
+
+-- Which answers there are to a put: Full exactly where the identifier is new and the database is full; else memory may
+-- be missing, where the identifier is new and there is none to spare.
+abbrev pub PutAnswers : List Entry → ℕ → LspId → Result (Unit {0}) PutFault → Type 0
+PutAnswers entries spare id answer = AnswersWhere (is_refused entries id) entries spare id answer
+
+-- one second at one entry: what it does, and what stands there then
+pub record IsSecondAt (entries : List Entry) (n : ℕ) (e : Entry) (answer : Aged) (new : List Entry) : Type 0 where
+  pub answers : answer ≡ aged e
+  pub becomes : new ≡ take n entries ++ (option_to_list (after_second e) ++ drop (suc n) entries)
+
+-- whether an entry goes
+abbrev pub is_removed : Aged → Bool
+is_removed Live = false
+is_removed Expired = false
+is_removed Held = false
+is_removed Removed = true

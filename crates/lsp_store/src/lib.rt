@@ -1,0 +1,16 @@
+//! A router's link state database: entries in the order of their identifiers, and what a second makes of them
+//! (ISO/IEC 10589, 7.3.15 and 7.3.16).
+#![tactic(auto)]
+
+mod ages;
+mod places;
+mod purges;
+mod seconds;
+mod store;
+
+pub use purges::purge;
+pub use store::Store;
+pub use wire_base::{Age, Aged, Entry, PutFault};
+
+#[cfg(test)]
+mod tests;

@@ -1,0 +1,21 @@
+ghost use Rattle.std.specs.Prelude.{◌≡◌};
+ghost use Rattle.wire_base.specs.model.Control.{purge};
+
+use std::alloc::Global;
+use wire_base::{Entry, LspId, Octets};
+
+/// The purge of a link state PDU: a dead entry that keeps its sequence number for a minute, without checksum, flags
+/// and content (ISO/IEC 10589, 7.3.16.4).
+pub fn purge(alloc: Global, id: LspId, seq: u32) -> Entry
+    ensures { result ≡ purge id seq }
+{
+    Entry {
+        id,
+        seq,
+        life: 0,
+        hold: 60,
+        sum: 0,
+        flags: 0,
+        content: Octets::new(alloc),
+    }
+}

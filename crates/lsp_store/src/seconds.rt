@@ -1,0 +1,51 @@
+ghost use Rattle.std.specs.Prelude.{◌≡◌, true, false, Some};
+ghost use Rattle.wire_base.specs.model.Control.{aged, aged_to};
+ghost use Rattle.lsp_store.specs.Places.{is_removed};
+
+use crate::purges::purge;
+use std::alloc::Global;
+use wire_base::{Aged, Entry};
+
+/// What a second does to an entry.
+pub(crate) fn aged(entry: &Entry) -> Aged
+    ensures { result ≡ aged entry.now }
+{
+    if entry.life > 0 {
+        if entry.life == 1 {
+            Aged::Expired
+        } else {
+            Aged::Live
+        }
+    } else if entry.hold <= 1 {
+        Aged::Removed
+    } else {
+        Aged::Held
+    }
+}
+
+/// Makes the entry a second older; one that is to be removed stays.
+pub(crate) fn pass_second(alloc: Global, entry: &mut Entry) -> Aged
+    ensures answer { result ≡ aged entry.old }
+    ensures stays { is_removed result ≡ true → entry.new ≡ entry.old }
+    ensures becomes { is_removed result ≡ false → aged_to result entry.old ≡ Some entry.new }
+    ensures id { entry.new.id ≡ entry.old.id }
+{
+    let answer = aged(entry);
+    match answer {
+        Aged::Live => entry.life -= 1,
+        Aged::Expired => *entry = purge(alloc, entry.id, entry.seq),
+        Aged::Held => entry.hold -= 1,
+        Aged::Removed => (),
+    }
+    answer
+}
+
+/// Whether an entry goes.
+pub(crate) fn is_removed(answer: Aged) -> bool
+    ensures { result ≡ is_removed answer }
+{
+    match answer {
+        Aged::Live | Aged::Expired | Aged::Held => false,
+        Aged::Removed => true,
+    }
+}

@@ -1,0 +1,206 @@
+-- Where a system stands among the claims, what a link adds to the metrics, and which edges count.
+use mathlib.Core.Bool.{false≢true, true≢false}
+use Rattle.std.proofs.Common.{◌≡◌, ℕ, zero, suc, ◌+◌, ◌<◌, ◌≤◌, ◌==◌, min, Bool, true, false, if◌then◌else◌, List, [], ◌∷◌, ◌++◌, length, get_or, set, take, map, filter, Option, Some, None, is_some, slice_get, refl, sym, ap, subst, ◌∙◌, arith}
+use Rattle.std.specs.declared.cmp.Ordering.{Ordering}
+use Rattle.std.specs.declared.cmp.Ordering.TheVariants.{Less, Equal, Greater}
+use Rattle.std.specs.Ordering.{is_eq, is_lt, is_gt, match_ordering}
+use Rattle.std.specs.List.{AllByRecursion}
+use Rattle.std.proofs.Math.Seq.{take-suc}
+use Rattle.std.proofs.lemmas.Bool.{eqb-true, eq-eqb}
+use Rattle.wire_base.specs.declared.addresses.SystemId.{SystemId}
+use Rattle.wire_base.specs.declared.view.ViewEdge.{ViewEdge}
+use Rattle.wire_base.specs.model.Control.{same_system, system_order}
+use Rattle.wire_base.specs.model.View.{Claim, Link, least_of, metric_to, lists, edges_from}
+use Rattle.view_graph.specs.Edges.{is_before, AreInOrder, place_in, stands_at, metrics_to, counted, half_edges, half_edges_of, leads_to, whole_edges}
+use Rattle.view_graph.proofs.SystemLaws.{tie_is_same, before_trans, above_trans, before_differs, above_differs, same_before}
+
+-- ---- each element
+
+pub all_read : (P : SystemId → Type 0) (cs : List Claim) (i : ℕ) (c : Claim) → AllByRecursion (λ d. P d.system) cs → i < length cs → c ≡ get_or cs i c → P c.system
+all_read P [] i c h lt at = absurd (omega (arith, lt))
+all_read P (d ∷ ds) zero c h lt at = subst (λ z. P z.system) (sym at) h.0
+all_read P (d ∷ ds) (suc i) c h lt at = all_read P ds i c h.1 (omega (arith, lt)) at
+
+-- ---- halving
+
+-- where a system is above the one at a place, its own place is higher
+pub above_place : (cs : List Claim) (i : ℕ) (c : Claim) (s : SystemId) → AreInOrder cs → i < length cs → c ≡ get_or cs i c → is_gt (system_order s c.system) ≡ true → i < place_in s cs
+above_place [] i c s asc lt at gt = absurd (omega (arith, lt))
+above_place (d ∷ ds) zero c s asc lt at gt = first (system_order s d.system) (subst (λ z. is_gt (system_order s z.system) ≡ true) at gt)
+  where
+    first : (o : Ordering) → is_gt o ≡ true → 0 < match_ordering o 0 0 (suc (place_in s ds))
+    first Less h = absurd (false≢true h)
+    first Equal h = absurd (false≢true h)
+    first Greater h = omega arith
+above_place (d ∷ ds) (suc i) c s asc lt at gt =
+    later (system_order s d.system) (above_trans s c.system d.system gt (all_read (λ z. is_before d.system z ≡ true) ds i c asc.0 (omega (arith, lt)) at)) (above_place ds i c s asc.1 (omega (arith, lt)) at gt)
+  where
+    later : (o : Ordering) → is_gt o ≡ true → i < place_in s ds → suc i < match_ordering o 0 0 (suc (place_in s ds))
+    later Less h k = absurd (false≢true h)
+    later Equal h k = absurd (false≢true h)
+    later Greater h k = omega (arith, k)
+
+-- where it isn't, its own place is at most that one
+pub not_above_place : (cs : List Claim) (i : ℕ) (c : Claim) (s : SystemId) → i < length cs → c ≡ get_or cs i c → is_gt (system_order s c.system) ≡ false → place_in s cs ≤ i
+not_above_place [] i c s lt at gt = absurd (omega (arith, lt))
+not_above_place (d ∷ ds) zero c s lt at gt = first (system_order s d.system) (subst (λ z. is_gt (system_order s z.system) ≡ false) at gt)
+  where
+    first : (o : Ordering) → is_gt o ≡ false → match_ordering o 0 0 (suc (place_in s ds)) ≤ 0
+    first Less h = omega arith
+    first Equal h = omega arith
+    first Greater h = absurd (true≢false h)
+not_above_place (d ∷ ds) (suc i) c s lt at gt = later (system_order s d.system) (not_above_place ds i c s (omega (arith, lt)) at gt)
+  where
+    later : (o : Ordering) → place_in s ds ≤ i → match_ordering o 0 0 (suc (place_in s ds)) ≤ suc i
+    later Less k = omega arith
+    later Equal k = omega arith
+    later Greater k = omega (arith, k)
+
+pub place_within : (s : SystemId) (cs : List Claim) → place_in s cs ≤ length cs
+place_within s [] = omega arith
+place_within s (d ∷ ds) = more (system_order s d.system) (place_within s ds)
+  where
+    more : (o : Ordering) → place_in s ds ≤ length ds → match_ordering o 0 0 (suc (place_in s ds)) ≤ suc (length ds)
+    more Less k = omega arith
+    more Equal k = omega arith
+    more Greater k = omega (arith, k)
+
+pub stands_read : (cs : List Claim) (i : ℕ) (c : Claim) (s : SystemId) → i < length cs → c ≡ get_or cs i c → stands_at cs i s ≡ same_system s c.system
+stands_read [] i c s lt at = absurd (omega (arith, lt))
+stands_read (d ∷ ds) zero c s lt at = ap (λ z. same_system s z.system) (sym at)
+stands_read (d ∷ ds) (suc i) c s lt at = stands_read ds i c s (omega (arith, lt)) at
+
+pub stands_past : (cs : List Claim) (i : ℕ) (s : SystemId) → length cs ≤ i → stands_at cs i s ≡ false
+stands_past [] i s le = refl
+stands_past (d ∷ ds) zero s le = absurd (omega (arith, le))
+stands_past (d ∷ ds) (suc i) s le = stands_past ds i s (omega (arith, le))
+
+pub stands_within : (cs : List Claim) (i : ℕ) (s : SystemId) → stands_at cs i s ≡ true → i < length cs
+stands_within [] i s h = absurd (false≢true h)
+stands_within (d ∷ ds) zero s h = omega arith
+stands_within (d ∷ ds) (suc i) s h = omega (arith, stands_within ds i s h)
+
+-- ---- a link more
+
+-- a system below all of them is none of them
+none_counted : (l : Link) (cs : List Claim) (ms : List (Option ℕ)) → length ms ≡ length cs → AllByRecursion (λ d. same_system l.neighbour d.system ≡ false) cs → counted l cs ms ≡ ms
+none_counted l [] ms same none = refl
+none_counted l (c ∷ cs) [] same none = refl
+none_counted l (c ∷ cs) (m ∷ ms) same none = rw none.0 (ap (λ (xs : List (Option ℕ)). m ∷ xs) (none_counted l cs ms (omega (arith, same)) none.1))
+
+below_all : (s : SystemId) (c : SystemId) (cs : List Claim) → is_before s c ≡ true → AllByRecursion (λ d. is_before c d.system ≡ true) cs → AllByRecursion (λ d. same_system s d.system ≡ false) cs
+below_all s c [] h all = tt
+below_all s c (d ∷ ds) h all = (before_differs s d.system (before_trans s c d.system h all.0), below_all s c ds h all.1)
+
+same_all : (s : SystemId) (c : SystemId) (cs : List Claim) → same_system s c ≡ true → AllByRecursion (λ d. is_before c d.system ≡ true) cs → AllByRecursion (λ d. same_system s d.system ≡ false) cs
+same_all s c [] h all = tt
+same_all s c (d ∷ ds) h all = (before_differs s d.system (same_before s c d.system h all.0), same_all s c ds h all.1)
+
+pub counted_there : (l : Link) (cs : List Claim) (ms : List (Option ℕ)) (m : Option ℕ) → AreInOrder cs → length ms ≡ length cs → stands_at cs (place_in l.neighbour cs) l.neighbour ≡ true → m ≡ get_or ms (place_in l.neighbour cs) m → set ms (place_in l.neighbour cs) (Some (least_of l.metric m)) ≡ counted l cs ms
+counted_there l [] ms m asc same stands at = absurd (false≢true stands)
+counted_there l (c ∷ cs) [] m asc same stands at = absurd (omega (arith, same))
+counted_there l (c ∷ cs) (x ∷ xs) m asc same stands at = cases (λ k a. counted_there l cs xs m asc.1 (omega (arith, same)) k a) (system_order l.neighbour c.system) refl stands at
+  where
+    cases : (stands_at cs (place_in l.neighbour cs) l.neighbour ≡ true → m ≡ get_or xs (place_in l.neighbour cs) m → set xs (place_in l.neighbour cs) (Some (least_of l.metric m)) ≡ counted l cs xs) → (o : Ordering) → system_order l.neighbour c.system ≡ o → stands_at (c ∷ cs) (match_ordering o 0 0 (suc (place_in l.neighbour cs))) l.neighbour ≡ true → m ≡ get_or (x ∷ xs) (match_ordering o 0 0 (suc (place_in l.neighbour cs))) m → set (x ∷ xs) (match_ordering o 0 0 (suc (place_in l.neighbour cs))) (Some (least_of l.metric m)) ≡ counted l (c ∷ cs) (x ∷ xs)
+    cases again Less o k a = absurd (true≢false (sym k ∙ before_differs l.neighbour c.system (ap is_lt o)))
+    cases again Equal o k a = rw k (rw (sym a) (ap (λ (ys : List (Option ℕ)). Some (least_of l.metric m) ∷ ys) (sym (none_counted l cs xs (omega (arith, same)) (same_all l.neighbour c.system cs k asc.0)))))
+    cases again Greater o k a = rw (above_differs l.neighbour c.system (ap is_gt o)) (ap (λ (ys : List (Option ℕ)). x ∷ ys) (again k a))
+
+pub counted_not : (l : Link) (cs : List Claim) (ms : List (Option ℕ)) → AreInOrder cs → length ms ≡ length cs → stands_at cs (place_in l.neighbour cs) l.neighbour ≡ false → ms ≡ counted l cs ms
+counted_not l [] ms asc same stands = refl
+counted_not l (c ∷ cs) [] asc same stands = refl
+counted_not l (c ∷ cs) (x ∷ xs) asc same stands = cases (λ k. counted_not l cs xs asc.1 (omega (arith, same)) k) (system_order l.neighbour c.system) refl stands
+  where
+    cases : (stands_at cs (place_in l.neighbour cs) l.neighbour ≡ false → xs ≡ counted l cs xs) → (o : Ordering) → system_order l.neighbour c.system ≡ o → stands_at (c ∷ cs) (match_ordering o 0 0 (suc (place_in l.neighbour cs))) l.neighbour ≡ false → x ∷ xs ≡ counted l (c ∷ cs) (x ∷ xs)
+    cases again Less o k = rw k (ap (λ (ys : List (Option ℕ)). x ∷ ys) (sym (none_counted l cs xs (omega (arith, same)) (below_all l.neighbour c.system cs (ap is_lt o) asc.0))))
+    cases again Equal o k = absurd (true≢false (sym (ap is_eq o) ∙ tie_is_same l.neighbour c.system ∙ k))
+    cases again Greater o k = rw (above_differs l.neighbour c.system (ap is_gt o)) (ap (λ (ys : List (Option ℕ)). x ∷ ys) (again k))
+
+pub count_there : (l x : Link) (cs : List Claim) (ms : List (Option ℕ)) (m : Option ℕ) (place least : ℕ) → l ≡ x → AreInOrder cs → length ms ≡ length cs → place ≡ place_in l.neighbour cs → stands_at cs place l.neighbour ≡ true → m ≡ get_or ms place m → least ≡ least_of l.metric m → set ms place (Some least) ≡ counted x cs ms
+count_there l x cs ms m place least lx asc same p stands at e =
+    ap (λ n. set ms n (Some least)) p ∙ ap (λ k. set ms (place_in l.neighbour cs) (Some k)) e
+    ∙ counted_there l cs ms m asc same (ap (λ n. stands_at cs n l.neighbour) (sym p) ∙ stands) (at ∙ ap (λ n. get_or ms n m) p) ∙ ap (λ (y : Link). counted y cs ms) lx
+
+pub count_not : (l x : Link) (cs : List Claim) (ms : List (Option ℕ)) (place : ℕ) → l ≡ x → AreInOrder cs → length ms ≡ length cs → place ≡ place_in l.neighbour cs → stands_at cs place l.neighbour ≡ false → ms ≡ counted x cs ms
+count_not l x cs ms place lx asc same p stands = counted_not l cs ms asc same (ap (λ n. stands_at cs n l.neighbour) (sym p) ∙ stands) ∙ ap (λ (y : Link). counted y cs ms) lx
+
+-- one link more at the end of a list
+pub metric_push : (links : List Link) (l : Link) (s : SystemId) → metric_to (links ++ l ∷ []) s ≡ (if same_system l.neighbour s then Some (least_of l.metric (metric_to links s)) else metric_to links s)
+metric_push [] l s = refl
+metric_push (x ∷ xs) l s = by (same_system x.neighbour s) refl (same_system l.neighbour s) refl (metric_to xs s) refl (metric_push xs l s)
+  where
+    by : (a : Bool) → same_system x.neighbour s ≡ a → (b : Bool) → same_system l.neighbour s ≡ b → (o : Option ℕ) → metric_to xs s ≡ o
+        → metric_to (xs ++ l ∷ []) s ≡ (if same_system l.neighbour s then Some (least_of l.metric (metric_to xs s)) else metric_to xs s)
+        → metric_to ((x ∷ xs) ++ l ∷ []) s ≡ (if same_system l.neighbour s then Some (least_of l.metric (metric_to (x ∷ xs) s)) else metric_to (x ∷ xs) s)
+    by false a true b o e more = rw (more, a, b) refl
+    by false a false b o e more = rw (more, a, b) refl
+    by true a false b o e more = rw (more, a, b) refl
+    by true a true b None e more = let m : min x.metric l.metric ≡ min l.metric x.metric = omega arith in rw (more, a, b, e) (ap (λ n. Some n) m)
+    by true a true b (Some n) e more = let m : min x.metric (min l.metric n) ≡ min l.metric (min x.metric n) = omega arith in rw (more, a, b, e) (ap (λ k. Some k) m)
+
+pub metrics_push : (links : List Link) (l : Link) (cs : List Claim) → counted l cs (metrics_to links cs) ≡ metrics_to (links ++ l ∷ []) cs
+metrics_push links l [] = refl
+metrics_push links l (c ∷ cs) = rw (metric_push links l c.system, metrics_push links l cs) refl
+
+pub metrics_step : (links : List Link) (i : ℕ) (l : Link) (cs : List Claim) (old new : List (Option ℕ)) → i < length links → l ≡ get_or links i l → old ≡ metrics_to (take i links) cs → new ≡ counted l cs old → new ≡ metrics_to (take (i + 1) links) cs
+metrics_step links i l cs old new lt at before step =
+    let one : i + 1 ≡ suc i = omega arith in
+    step ∙ ap (counted l cs) before ∙ metrics_push (take i links) l cs ∙ sym (ap (λ k. metrics_to (take k links) cs) one ∙ ap (λ ls. metrics_to ls cs) (take-suc links i l lt ∙ ap (λ x. take i links ++ x ∷ []) (sym at)))
+
+-- ---- edges
+
+apart : (a b : ℕ) → (a ≡ b → ⊥) → (a == b) ≡ false
+apart a b h = by (a == b) refl
+  where
+    by : (t : Bool) → (a == b) ≡ t → t ≡ false
+    by false e = refl
+    by true e = absurd (h (eqb-true a b e))
+
+-- no edge leads to a place before the first
+half_none : (q p : ℕ) (ms : List (Option ℕ)) → q < p → leads_to q (half_edges p ms) ≡ false
+half_none q p [] h = refl
+half_none q p (None ∷ ms) h = half_none q (p + 1) ms (omega (arith, h))
+half_none q p (Some n ∷ ms) h = rw (apart p q (λ e. omega (arith, h, e))) (half_none q (p + 1) ms (omega (arith, h)))
+
+half_leads : (p i : ℕ) (ms : List (Option ℕ)) → leads_to (p + i) (half_edges p ms) ≡ is_some (get_or ms i None)
+half_leads p i [] = refl
+half_leads p zero (None ∷ ms) = half_none (p + zero) (p + 1) ms (omega arith)
+half_leads p zero (Some n ∷ ms) = rw (eq-eqb p (p + zero) (omega arith)) refl
+half_leads p (suc i) (None ∷ ms) = let e : p + suc i ≡ (p + 1) + i = omega arith in ap (λ q. leads_to q (half_edges (p + 1) ms)) e ∙ half_leads (p + 1) i ms
+half_leads p (suc i) (Some n ∷ ms) =
+    let e : p + suc i ≡ (p + 1) + i = omega arith in
+    rw (apart p (p + suc i) (λ e. omega (arith, e))) (ap (λ q. leads_to q (half_edges (p + 1) ms)) e ∙ half_leads (p + 1) i ms)
+
+from_start : (i : ℕ) (ms : List (Option ℕ)) → leads_to i (half_edges 0 ms) ≡ is_some (get_or ms i None)
+from_start i ms = let e : i ≡ 0 + i = omega arith in ap (λ q. leads_to q (half_edges 0 ms)) e ∙ half_leads 0 i ms
+
+edges_whole : (h : ℕ → List ViewEdge) (i : ℕ) (c : Claim) (ds : List Claim) (p : ℕ) → ((k : ℕ) (d : Claim) → slice_get ds k ≡ Some d → leads_to i (h (p + k)) ≡ lists d c.system) → edges_from c p ds ≡ filter (λ e. leads_to i (h e.to)) (half_edges p (metrics_to c.links ds))
+edges_whole h i c [] p all = refl
+edges_whole h i c (d ∷ ds) p all =
+    let p0 : p ≡ p + 0 = omega arith in
+    by (metric_to c.links d.system) refl (lists d c.system) refl (ap (λ q. leads_to i (h q)) p0 ∙ all 0 d refl)
+    (edges_whole h i c ds (p + 1) (λ k x at. let e : (p + 1) + k ≡ p + suc k = omega arith in ap (λ q. leads_to i (h q)) e ∙ all (suc k) x at))
+  where
+    by : (o : Option ℕ) → metric_to c.links d.system ≡ o → (b : Bool) → lists d c.system ≡ b → leads_to i (h p) ≡ lists d c.system
+        → edges_from c (p + 1) ds ≡ filter (λ e. leads_to i (h e.to)) (half_edges (p + 1) (metrics_to c.links ds))
+        → edges_from c p (d ∷ ds) ≡ filter (λ e. leads_to i (h e.to)) (half_edges p (metrics_to c.links (d ∷ ds)))
+    by None e true f here more = rw (e, f) more
+    by None e false f here more = rw (e, f) more
+    by (Some m) e true f here more = rw (e, here, f) (ap (λ (es : List ViewEdge). record { to = p; metric = m } ∷ es) more)
+    by (Some m) e false f here more = rw (e, here, f) more
+
+get_map : {X Y : Type 0} (f : X → Y) (xs : List X) (i : ℕ) (x : X) (d : Y) → slice_get xs i ≡ Some x → get_or (map f xs) i d ≡ f x
+get_map f [] i x d at = absurd cc
+get_map {X} {Y} f (y ∷ ys) zero x d at = ap (λ (o : Option X). on o) at
+  where
+    on : Option X → Y
+    on None = d
+    on (Some z) = f z
+get_map f (y ∷ ys) (suc i) x d at = get_map f ys i x d at
+
+pub edges_are : (claims : List Claim) (i : ℕ) (c : Claim) → slice_get claims i ≡ Some c → whole_edges (map (half_edges_of claims) claims) i ≡ edges_from c 0 claims
+edges_are claims i c at =
+    let halves : List (List ViewEdge) = map (half_edges_of claims) claims in
+    let own : get_or halves i [] ≡ half_edges_of claims c = get_map (half_edges_of claims) claims i c [] at in
+    ap (λ es. filter (λ e. leads_to i (get_or halves e.to [])) es) own
+    ∙ sym (edges_whole (λ k. get_or halves k []) i c claims 0 (λ k d there. let e : 0 + k ≡ k = omega arith in ap (λ q. leads_to i (get_or halves q [])) e ∙ ap (λ es. leads_to i es) (get_map (half_edges_of claims) claims k d [] there) ∙ from_start i (metrics_to d.links claims) ∙ ap is_some (get_map (λ (x : Claim). metric_to d.links x.system) claims i c None at)))

@@ -1,0 +1,7 @@
+pub mod ClaimLaws
+pub mod EdgeLaws
+pub mod GraphLaws
+pub mod ListLaws
+pub mod SystemLaws
+pub mod ViewLaws
+pub mod WalkLaws

@@ -1,0 +1,146 @@
+-- What a step of a loop adds.
+use Rattle.std.proofs.Common.{◌≡◌, ℕ, zero, suc, ◌+◌, ◌<◌, ◌==◌, ◌&&◌, ◌||◌, Bool, true, false, not, if◌then◌else◌, List, [], ◌∷◌, ◌++◌, length, get_or, take, map, filter, is_some, slice_get, Some, refl, sym, ap, ◌∙◌, arith, append-nil}
+use Rattle.std.proofs.Math.Seq.{take-suc}
+use Rattle.std.specs.List.{insert}
+use Rattle.std.specs.Ordering.{is_lt}
+use Rattle.std.proofs.lemmas.List.{length-take-le, map-append}
+use Rattle.std.proofs.lemmas.Bool.{eqb-true, eq-eqb}
+use Rattle.std.proofs.lemmas.List.Elements.{filter-append}
+use Rattle.wire_base.specs.declared.conf.SubKind.{SubKind}
+use Rattle.wire_base.specs.declared.conf.End.{End}
+use Rattle.wire_base.specs.declared.conf.RouterConf.{RouterConf}
+use Rattle.wire_base.specs.declared.entry.Entry.{Entry}
+use Rattle.wire_base.specs.declared.view.ViewEdge.{ViewEdge}
+use Rattle.wire_base.specs.declared.view.ViewNode.{ViewNode}
+use Rattle.wire_base.specs.declared.view.ViewSub.{ViewSub}
+use Rattle.wire_base.specs.model.Control.{system_order}
+use Rattle.wire_base.specs.model.BierInfo.{any_overlap}
+use Rattle.wire_base.specs.model.OwnLsp.{picked}
+use Rattle.wire_base.specs.model.Place.{kind_of}
+use Rattle.wire_base.specs.model.View.{Claim, Link, all_ranges, first_each, known_subs, end_link, with_known, put_claim, claim_of, is_other, own_claim, claims_of, edges_from, own_subs, node_of}
+use Rattle.view_graph.specs.Places.{has_sd, place_before}
+
+-- one more at the end of both
+pub picked_more : {X : Type 0} (bs : List Bool) (xs : List X) (b : Bool) (x : X) → length bs ≡ length xs → picked (bs ++ b ∷ []) (xs ++ x ∷ []) ≡ picked bs xs ++ (if b then x ∷ [] else [])
+picked_more [] [] true x same = refl
+picked_more [] [] false x same = refl
+picked_more [] (y ∷ ys) b x same = absurd (omega (arith, same))
+picked_more (c ∷ cs) [] b x same = absurd (omega (arith, same))
+picked_more {X} (true ∷ cs) (y ∷ ys) b x same = ap (λ (zs : List X). y ∷ zs) (picked_more cs ys b x (omega (arith, same)))
+picked_more (false ∷ cs) (y ∷ ys) b x same = picked_more cs ys b x (omega (arith, same))
+
+-- ---- the first place in each subdomain
+
+abbrev pub is_elsewhere : ℕ → ViewSub → Bool
+is_elsewhere sd x = not (x.sd == sd)
+
+eqb-flip : (a b : ℕ) → (a == b) ≡ (b == a)
+eqb-flip a b = by (a == b) refl (b == a) refl
+  where
+    by : (s : Bool) → (a == b) ≡ s → (t : Bool) → (b == a) ≡ t → s ≡ t
+    by true e true f = refl
+    by false e false f = refl
+    by true e false f = sym (eq-eqb b a (sym (eqb-true a b e))) ∙ f
+    by false e true f = sym e ∙ eq-eqb a b (sym (eqb-true b a f))
+
+-- to leave out another subdomain changes nothing
+has_sd-filter : (sd other : ℕ) (subs : List ViewSub) → (other == sd) ≡ false → has_sd sd (filter (is_elsewhere other) subs) ≡ has_sd sd subs
+has_sd-filter sd other [] apart = refl
+has_sd-filter sd other (x ∷ xs) apart = by (x.sd == other) refl (has_sd-filter sd other xs apart)
+  where
+    by : (b : Bool) → (x.sd == other) ≡ b → has_sd sd (filter (is_elsewhere other) xs) ≡ has_sd sd xs → has_sd sd (filter (is_elsewhere other) (x ∷ xs)) ≡ has_sd sd (x ∷ xs)
+    by true e more =
+        let same : x.sd ≡ other = eqb-true x.sd other e in
+        rw e (more ∙ rw (same, apart) refl)
+    by false e more = rw e (ap (λ b. (x.sd == sd) || b) more)
+
+first_push : (xs : List ViewSub) (s : ViewSub) → first_each (xs ++ s ∷ []) ≡ (if has_sd s.sd (first_each xs) then first_each xs else first_each xs ++ s ∷ [])
+first_push [] s = refl
+first_push (x ∷ xs) s = by (has_sd s.sd (first_each xs)) refl (s.sd == x.sd) refl (first_push xs s)
+  where
+    by : (b : Bool) → has_sd s.sd (first_each xs) ≡ b → (t : Bool) → (s.sd == x.sd) ≡ t
+        → first_each (xs ++ s ∷ []) ≡ (if has_sd s.sd (first_each xs) then first_each xs else first_each xs ++ s ∷ [])
+        → first_each ((x ∷ xs) ++ s ∷ []) ≡ (if has_sd s.sd (first_each (x ∷ xs)) then first_each (x ∷ xs) else first_each (x ∷ xs) ++ s ∷ [])
+    by b e true t more = rw (eq-eqb x.sd s.sd (sym (eqb-true s.sd x.sd t)), more, e) (cut b)
+      where
+        cut : (b : Bool) → x ∷ filter (is_elsewhere x.sd) (if b then first_each xs else first_each xs ++ s ∷ []) ≡ x ∷ filter (is_elsewhere x.sd) (first_each xs)
+        cut true = refl
+        cut false = ap (λ (ys : List ViewSub). x ∷ ys) (filter-append (is_elsewhere x.sd) (first_each xs) (s ∷ []) ∙ rw t (append-nil (filter (is_elsewhere x.sd) (first_each xs))))
+    by true e false t more = rw (eqb-flip x.sd s.sd, t, has_sd-filter s.sd x.sd (first_each xs) (eqb-flip x.sd s.sd ∙ t), more, e) refl
+    by false e false t more =
+        rw (eqb-flip x.sd s.sd, t, has_sd-filter s.sd x.sd (first_each xs) (eqb-flip x.sd s.sd ∙ t), more, e) (ap (λ (ys : List ViewSub). x ∷ ys) (filter-append (is_elsewhere x.sd) (first_each xs) (s ∷ []) ∙ rw t refl))
+
+-- one more of those that are known
+pub first_more : (p : ViewSub → Bool) (xs : List ViewSub) (i : ℕ) (s : ViewSub) → i < length xs → s ≡ get_or xs i s → first_each (filter p (take (i + 1) xs)) ≡ (if p s && not (has_sd s.sd (first_each (filter p (take i xs)))) then first_each (filter p (take i xs)) ++ s ∷ [] else first_each (filter p (take i xs)))
+first_more p xs i s within at =
+    let one : i + 1 ≡ suc i = omega arith in
+    ap (λ k. first_each (filter p (take k xs))) one ∙ ap (λ ys. first_each (filter p ys)) (take-suc xs i s within ∙ ap (λ y. take i xs ++ y ∷ []) (sym at)) ∙ ap first_each (filter-append p (take i xs) (s ∷ [])) ∙ by (p s) refl
+  where
+    by : (b : Bool) → p s ≡ b → first_each (filter p (take i xs) ++ filter p (s ∷ [])) ≡ (if p s && not (has_sd s.sd (first_each (filter p (take i xs)))) then first_each (filter p (take i xs)) ++ s ∷ [] else first_each (filter p (take i xs)))
+    by true e = rw e (first_push (filter p (take i xs)) s ∙ flipped (has_sd s.sd (first_each (filter p (take i xs)))))
+      where
+        flipped : (c : Bool) → (if c then first_each (filter p (take i xs)) else first_each (filter p (take i xs)) ++ s ∷ []) ≡ (if not c then first_each (filter p (take i xs)) ++ s ∷ [] else first_each (filter p (take i xs)))
+        flipped true = refl
+        flipped false = refl
+    by false e = rw e (ap first_each (append-nil (filter p (take i xs))))
+
+pub known_overlap : (kinds : List SubKind) (subs : List ViewSub) → any_overlap (all_ranges subs) ≡ true → known_subs kinds subs ≡ []
+known_overlap kinds subs h = rw h refl
+
+pub known_apart : (kinds : List SubKind) (subs : List ViewSub) → any_overlap (all_ranges subs) ≡ false → known_subs kinds subs ≡ first_each (filter (λ s. is_some (kind_of kinds s.sd)) subs)
+known_apart kinds subs h = rw h refl
+
+pub first_step : (p : ViewSub → Bool) (xs : List ViewSub) (i : ℕ) (s : ViewSub) (kept next : List ViewSub) → i < length xs → s ≡ get_or xs i s → kept ≡ first_each (filter p (take i xs)) → next ≡ (if p s && not (has_sd s.sd kept) then kept ++ s ∷ [] else kept) → next ≡ first_each (filter p (take (i + 1) xs))
+first_step p xs i s kept next lt at before step =
+    step ∙ ap (λ k. if p s && not (has_sd s.sd k) then k ++ s ∷ [] else k) before ∙ sym (first_more p xs i s lt at)
+
+pub picked_step : {X : Type 0} (bs : List Bool) (xs : List X) (i : ℕ) (d : Bool) (z : X) → length bs ≡ length xs → i < length xs → picked (take (i + 1) bs) (take (i + 1) xs) ≡ picked (take i bs) (take i xs) ++ (if get_or bs i d then get_or xs i z ∷ [] else [])
+picked_step bs xs i d z same lt =
+    let one : i + 1 ≡ suc i = omega arith in
+    let short : length (take i bs) ≡ length (take i xs) = length-take-le i bs (omega (arith, same, lt)) ∙ sym (length-take-le i xs (omega (arith, lt))) in
+    ap (λ k. picked (take k bs) (take k xs)) one
+    ∙ ap (λ ys. picked ys (take (suc i) xs)) (take-suc bs i d (omega (arith, same, lt)))
+    ∙ ap (λ ys. picked (take i bs ++ get_or bs i d ∷ []) ys) (take-suc xs i z lt)
+    ∙ picked_more (take i bs) (take i xs) (get_or bs i d) (get_or xs i z) short
+
+pub links_step : (bs : List Bool) (es : List End) (i : ℕ) (d : Bool) (z : End) (links next : List Link) → length bs ≡ length es → i < length es → links ≡ map end_link (picked (take i bs) (take i es)) → next ≡ links ++ (if get_or bs i d then end_link (get_or es i z) ∷ [] else []) → next ≡ map end_link (picked (take (i + 1) bs) (take (i + 1) es))
+links_step bs es i d z links next same lt before step =
+    step ∙ ap (λ l. l ++ (if get_or bs i d then end_link (get_or es i z) ∷ [] else [])) before ∙ sym (ap (map end_link) (picked_step bs es i d z same lt) ∙ map-append end_link (picked (take i bs) (take i es)) (if get_or bs i d then get_or es i z ∷ [] else []) ∙ ap (λ l. map end_link (picked (take i bs) (take i es)) ++ l) (one (get_or bs i d) (get_or es i z)))
+  where
+    one : (b : Bool) (e : End) → map end_link (if b then e ∷ [] else []) ≡ (if b then end_link e ∷ [] else [])
+    one true e = refl
+    one false e = refl
+
+-- ---- the own claim at its place
+
+put_known : (kinds : List SubKind) (c : Claim) (cs : List Claim) → insert (map (with_known kinds) cs) (place_before c.system (map (with_known kinds) cs)) (with_known kinds c) ≡ map (with_known kinds) (put_claim c cs)
+put_known kinds c [] = refl
+put_known kinds c (x ∷ xs) = by (is_lt (system_order c.system x.system)) refl (put_known kinds c xs)
+  where
+    by : (b : Bool) → is_lt (system_order c.system x.system) ≡ b → insert (map (with_known kinds) xs) (place_before c.system (map (with_known kinds) xs)) (with_known kinds c) ≡ map (with_known kinds) (put_claim c xs)
+        → insert (map (with_known kinds) (x ∷ xs)) (place_before c.system (map (with_known kinds) (x ∷ xs))) (with_known kinds c) ≡ map (with_known kinds) (put_claim c (x ∷ xs))
+    by true e more = rw e refl
+    by false e more = rw e (ap (λ (l : List Claim). with_known kinds x ∷ l) more)
+
+pub inserted : (r : RouterConf) (up : List Bool) (entries : List Entry) (others : List Claim) (own known : Claim) (place : ℕ)
+    → others ≡ map (with_known r.kinds) (map (claim_of entries) (filter (is_other r.system) entries)) → own ≡ own_claim r up → known ≡ with_known r.kinds own → place ≡ place_before known.system others
+    → insert others place known ≡ map (with_known r.kinds) (claims_of r up entries)
+unfolding claims_of
+inserted r up entries others own known place o w k p =
+    ap (λ n. insert others n known) p ∙ ap (λ (c : Claim). insert others (place_before c.system others) c) (k ∙ ap (with_known r.kinds) w) ∙ ap (λ (l : List Claim). insert l (place_before r.system l) (with_known r.kinds (own_claim r up))) o
+    ∙ put_known r.kinds (own_claim r up) (map (claim_of entries) (filter (is_other r.system) entries))
+
+pub node_built : (claims : List Claim) (c x : Claim) (edges : List ViewEdge) (subs : List ViewSub) → c ≡ x → edges ≡ edges_from x 0 claims → subs ≡ own_subs claims c → record { system = c.system; overload = c.overload; edges = edges; subs = subs } ≡ node_of claims x
+node_built claims c x edges subs same e s = rw (e, s, same) refl
+
+there : (cs : List Claim) (i : ℕ) → i < length cs → (c : Claim) × (slice_get cs i ≡ Some c) × ((d : Claim) → get_or cs i d ≡ c)
+there [] i lt = absurd (omega (arith, lt))
+there (c ∷ cs) zero lt = (c, refl, λ d. refl)
+there (c ∷ cs) (suc i) lt = there cs i (omega (arith, lt))
+
+pub nodes_step : (claims : List Claim) (i : ℕ) (n : ViewNode) (old new : List ViewNode) → i < length claims → ((c : Claim) → slice_get claims i ≡ Some c → n ≡ node_of claims c) → old ≡ map (node_of claims) (take i claims) → new ≡ old ++ n ∷ [] → new ≡ map (node_of claims) (take (i + 1) claims)
+nodes_step claims i n old new lt is before step =
+    let one : i + 1 ≡ suc i = omega arith in
+    let t = there claims i lt in
+    step ∙ ap (λ (l : List ViewNode). l ++ n ∷ []) before ∙ ap (λ (m : ViewNode). map (node_of claims) (take i claims) ++ m ∷ []) (is t.0 t.1)
+    ∙ sym (ap (λ k. map (node_of claims) (take k claims)) one ∙ ap (map (node_of claims)) (take-suc claims i t.0 lt ∙ ap (λ (c : Claim). take i claims ++ c ∷ []) (t.2 t.0)) ∙ map-append (node_of claims) (take i claims) (t.0 ∷ []))

@@ -1,0 +1,52 @@
+-- Words of the code on links that count.
+use Rattle.std.specs.Prelude.{◌≡◌, ℕ, zero, suc, ◌+◌, ◌==◌, Bool, true, false, List, [], ◌∷◌, ◌++◌, map, filter, slice_index_or, option_map, option_to_list, Option, Some, if◌then◌else◌}
+use Rattle.std.specs.List.{list_any, AllByRecursion}
+use Rattle.std.specs.Ordering.{is_lt, match_ordering}
+use Rattle.wire_base.specs.declared.addresses.SystemId.{SystemId}
+use Rattle.wire_base.specs.declared.view.ViewEdge.{ViewEdge}
+use Rattle.wire_base.specs.model.Control.{same_system, system_order}
+use Rattle.wire_base.specs.model.View.{Claim, Link, least_of, metric_to}
+
+abbrev pub is_before : SystemId → SystemId → Bool
+is_before a b = is_lt (system_order a b)
+
+-- each system is below all after it
+abbrev pub AreInOrder : List Claim → Type 0
+AreInOrder [] = Unit {0}
+AreInOrder (c ∷ cs) = AllByRecursion (λ d. is_before c.system d.system ≡ true) cs × AreInOrder cs
+
+-- how many claims are of systems below this one
+abbrev pub place_in : SystemId → List Claim → ℕ
+place_in s [] = 0
+place_in s (c ∷ cs) = match_ordering (system_order s c.system) 0 0 (suc (place_in s cs))
+
+-- whether the claim at a place is of that system
+abbrev pub stands_at : List Claim → ℕ → SystemId → Bool
+stands_at [] i s = false
+stands_at (c ∷ cs) zero s = same_system s c.system
+stands_at (c ∷ cs) (suc i) s = stands_at cs i s
+
+-- for each system the least metric of the links to it
+abbrev pub metrics_to : List Link → List Claim → List (Option ℕ)
+metrics_to links claims = map (λ c. metric_to links c.system) claims
+
+-- the same with one link more
+abbrev pub counted : Link → List Claim → List (Option ℕ) → List (Option ℕ)
+counted l [] ms = ms
+counted l (c ∷ cs) [] = []
+counted l (c ∷ cs) (m ∷ ms) = (if same_system l.neighbour c.system then Some (least_of l.metric m) else m) ∷ counted l cs ms
+
+-- the edges to the systems from a place on that one end lists
+abbrev pub half_edges : ℕ → List (Option ℕ) → List ViewEdge
+half_edges place [] = []
+half_edges place (m ∷ ms) = option_to_list (option_map (λ n. record { to = place; metric = n }) m) ++ half_edges (place + 1) ms
+
+abbrev pub half_edges_of : List Claim → Claim → List ViewEdge
+half_edges_of claims c = half_edges 0 (metrics_to c.links claims)
+
+abbrev pub leads_to : ℕ → List ViewEdge → Bool
+leads_to place edges = list_any (λ e. e.to == place) edges
+
+-- those of a place whose other end lists it too
+abbrev pub whole_edges : List (List ViewEdge) → ℕ → List ViewEdge
+whole_edges halves place = filter (λ e. leads_to place (slice_index_or halves e.to [])) (slice_index_or halves place [])

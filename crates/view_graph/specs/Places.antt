@@ -1,0 +1,32 @@
+-- Words of the code on claims.
+use Rattle.std.specs.Prelude.{◌≡◌, ℕ, suc, Bool, List, [], ◌∷◌, ◌++◌, ◌==◌, if◌then◌else◌}
+use Rattle.std.specs.List.{flat_map, list_any}
+use Rattle.std.specs.Ordering.{is_lt}
+use Rattle.wire_base.specs.declared.addresses.SystemId.{SystemId}
+use Rattle.wire_base.specs.declared.view.ViewSub.{ViewSub}
+use Rattle.wire_base.specs.model.Control.{system_order}
+use Rattle.wire_base.specs.model.Tlv.{Tlv}
+use Rattle.wire_base.specs.model.View.{Claim, links_in, subs_in}
+
+-- how many claims stand before the first whose system is above this one
+abbrev pub place_before : SystemId → List Claim → ℕ
+place_before s [] = 0
+place_before s (c ∷ cs) = if is_lt (system_order s c.system) then 0 else suc (place_before s cs)
+
+-- whether one of them is in that subdomain
+abbrev pub has_sd : ℕ → List ViewSub → Bool
+has_sd sd subs = list_any (λ s. s.sd == sd) subs
+
+-- what a claim is once those TLVs were added to it
+pub record IsWith (tlvs : List Tlv) (before now : Claim) : Type 0 where
+  pub system : now.system ≡ before.system
+  pub overload : now.overload ≡ before.overload
+  pub links : now.links ≡ before.links ++ flat_map links_in tlvs
+  pub subs : now.subs ≡ before.subs ++ flat_map subs_in tlvs
+
+-- what a claim is while all those TLVs are added to it and the rest is left
+pub record IsAdding (rest all : List Tlv) (before now : Claim) : Type 0 where
+  pub system : now.system ≡ before.system
+  pub overload : now.overload ≡ before.overload
+  pub links : now.links ++ flat_map links_in rest ≡ before.links ++ flat_map links_in all
+  pub subs : now.subs ++ flat_map subs_in rest ≡ before.subs ++ flat_map subs_in all

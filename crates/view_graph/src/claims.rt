@@ -1,0 +1,261 @@
+//! What each system claims of itself: its links, and its places in subdomains.
+ghost use Rattle.std.specs.Prelude.{◌≡◌, ◌++◌, ◌≤◌, ◌∷◌, [], map, filter, length, IfOk, OnOk, if◌then◌else◌};
+ghost use Rattle.std.specs.List.{flat_map};
+ghost use Rattle.wire_base.specs.model.Control.{same_system, system_order};
+ghost use Rattle.wire_base.specs.model.Tlv.{tlvs_before};
+ghost use Rattle.wire_base.specs.model.OwnLsp.{picked, info_of};
+ghost use Rattle.wire_base.specs.model.View.{links_in, subs_in, is_part_of, is_overload_flag, claim_of, is_other, end_link, own_claim, claims_of, sub_of, tlvs_of, with_known};
+ghost use Rattle.wire_base.specs.model.Place.{kind_of, is_mpls};
+ghost use Rattle.isis_tlv.specs.Views.{item};
+ghost use Rattle.view_graph.specs.Edges.{is_before};
+ghost use Rattle.view_graph.specs.Places.{place_before};
+
+use crate::known::known_subs;
+use crate::links::{Link, append_links};
+use crate::places::append_places;
+use crate::walks::next_tlv;
+use isis_tlv::{Tlv, TlvWalk};
+use std::alloc::Global;
+use std::marker::Model;
+use wire_base::{
+    End, Entry, Kind, LabelRange, M, OwnSub, RouterConf, Rows, SubKind, SystemId, ViewSub, kind_of,
+};
+
+/// A system: whether it is overloaded, its links, and its places in subdomains, in the order of its LSPs.
+#[derive(Drop)]
+pub(crate) struct Claim {
+    pub(crate) system: SystemId,
+    pub(crate) overload: bool,
+    pub(crate) links: Rows<Link>,
+    pub(crate) subs: Rows<ViewSub>,
+}
+
+impl Model for Claim {
+    ghost use Rattle.wire_base.specs.model.View.{Claim as ClaimItem};
+
+    ghost Value = { ClaimItem };
+
+    ghost view = { λ c. record { system = c.system; overload = c.overload; links = c.links; subs = c.subs } };
+}
+
+fn no_claim(alloc: Global, system: SystemId, overload: bool) -> Claim
+    ensures { result ≡ record { system = system; overload = overload; links = []; subs = [] } }
+{
+    Claim {
+        system,
+        overload,
+        links: Rows::new(alloc),
+        subs: Rows::new(alloc),
+    }
+}
+
+/// Adds what a TLV says.
+fn add_tlv(claim: &mut Claim, tlv: Tlv<'_>) -> M<()>
+    ensures links { OnOk result (claim.new.links ≡ claim.old.links ++ links_in (item tlv.entry)) }
+    ensures subs { OnOk result (claim.new.subs ≡ claim.old.subs ++ subs_in (item tlv.entry)) }
+    ensures system { claim.new.system ≡ claim.old.system }
+    ensures overload { claim.new.overload ≡ claim.old.overload }
+{
+    match tlv.code {
+        22 => append_links(&mut claim.links, tlv.value),
+        135 => append_places(&mut claim.subs, tlv.value),
+        _ => Ok(()),
+    }
+}
+
+/// Adds what a fragment says, to its end or to an overrun.
+fn add_content(claim: &mut Claim, content: &[u8]) -> M<()>
+    ensures links { OnOk result (claim.new.links ≡ claim.old.links ++ flat_map links_in (tlvs_before content.now)) }
+    ensures subs { OnOk result (claim.new.subs ≡ claim.old.subs ++ flat_map subs_in (tlvs_before content.now)) }
+    ensures system { claim.new.system ≡ claim.old.system }
+    ensures overload { claim.new.overload ≡ claim.old.overload }
+{
+    let mut walk = TlvWalk::new(content);
+    'tlvs: while let Some(tlv) = next_tlv(&mut walk) {
+        add_tlv(claim, tlv)?;
+    }
+    Ok(())
+}
+
+/// A live fragment of a system itself, not of one of its pseudonodes.
+fn is_part_of(system: &SystemId, entry: &Entry) -> bool
+    ensures { result ≡ is_part_of system.now entry.now }
+{
+    entry.id.system == *system && entry.id.pseudonode == 0 && entry.life > 0
+}
+
+/// Adds what an entry says, where it is such a fragment.
+fn add_entry(claim: &mut Claim, entry: &Entry) -> M<()>
+    ensures links { OnOk result (claim.new.links ≡ claim.old.links ++ flat_map links_in (if is_part_of claim.old.system entry.now then tlvs_before entry.now.content else [])) }
+    ensures subs { OnOk result (claim.new.subs ≡ claim.old.subs ++ flat_map subs_in (if is_part_of claim.old.system entry.now then tlvs_before entry.now.content else [])) }
+    ensures system { claim.new.system ≡ claim.old.system }
+    ensures overload { claim.new.overload ≡ claim.old.overload }
+{
+    if is_part_of(&claim.system, entry) {
+        add_content(claim, entry.content.as_slice())
+    } else {
+        Ok(())
+    }
+}
+
+/// Adds what the fragments of its system say.
+fn add_fragments(claim: &mut Claim, entries: &[Entry]) -> M<()>
+    ensures links { OnOk result (claim.new.links ≡ claim.old.links ++ flat_map links_in (tlvs_of entries.now claim.old.system)) }
+    ensures subs { OnOk result (claim.new.subs ≡ claim.old.subs ++ flat_map subs_in (tlvs_of entries.now claim.old.system)) }
+    ensures system { claim.new.system ≡ claim.old.system }
+    ensures overload { claim.new.overload ≡ claim.old.overload }
+{
+    'fragments: for entry in entries {
+        add_entry(claim, entry)?;
+    }
+    Ok(())
+}
+
+/// What the system of a fragment 0 claims; it is overloaded where that fragment says so.
+fn claim_of(alloc: Global, entries: &[Entry], entry: &Entry) -> M<Claim>
+    ensures { IfOk result (λ c. c ≡ claim_of entries.now entry.now) }
+{
+    let mut claim = no_claim(alloc, entry.id.system, entry.flags / 4 % 2 == 1);
+    add_fragments(&mut claim, entries)?;
+    Ok(claim)
+}
+
+/// A claim with the places alone that count by what the router knows of subdomains.
+fn with_known(alloc: Global, kinds: &[SubKind], claim: Claim) -> M<Claim>
+    ensures { IfOk result (λ c. c ≡ with_known kinds.now claim) }
+{
+    let subs = known_subs(alloc, kinds, claim.subs.as_slice())?;
+    Ok(Claim {
+        system: claim.system,
+        overload: claim.overload,
+        links: claim.links,
+        subs,
+    })
+}
+
+/// The links over the ends that are up.
+fn own_links(alloc: Global, up: &[bool], ends: &[End]) -> M<Rows<Link>>
+    requires { length up.now ≡ length ends.now }
+    ensures { IfOk result (λ links. links ≡ map end_link (picked up.now ends.now)) }
+{
+    let mut links = Rows::new(alloc);
+    'ends: for place in 0..ends.len() {
+        let is_up = up[place];
+        let end = &ends[place];
+        append_end(&mut links, is_up, end)?;
+    }
+    Ok(links)
+}
+
+fn append_end(links: &mut Rows<Link>, is_up: bool, end: &End) -> M<()>
+    ensures { OnOk result (links.new ≡ links.old ++ (if is_up then end_link end.now ∷ [] else [])) }
+{
+    if is_up {
+        links.push(Link {
+            neighbour: end.peer,
+            metric: end.metric,
+        })
+    } else {
+        Ok(())
+    }
+}
+
+/// The label ranges of a subdomain that gives its BIFT-ids by labels; none of another.
+fn own_ranges(kinds: &[SubKind], sub: &OwnSub) -> M<Rows<LabelRange>>
+    ensures { IfOk result (λ ranges. ranges ≡ (info_of kinds.now sub.now).ranges) }
+{
+    if kind_of(kinds, sub.sd) == Some(Kind::Mpls) {
+        sub.ranges.copy()
+    } else {
+        Ok(Rows::new(sub.ranges.allocator()))
+    }
+}
+
+/// The router's own places in subdomains.
+fn own_subs(alloc: Global, conf: &RouterConf) -> M<Rows<ViewSub>>
+    ensures { IfOk result (λ subs. subs ≡ map (λ s. sub_of conf.now.prefix.0 (info_of conf.now.kinds s)) conf.now.subs) }
+{
+    let mut subs = Rows::new(alloc);
+    'subs: for sub in conf.subs.as_slice() {
+        subs.push(ViewSub {
+            sd: sub.sd,
+            id: sub.id,
+            prefix: conf.prefix,
+            ranges: own_ranges(conf.kinds.as_slice(), sub)?,
+        })?;
+    }
+    Ok(subs)
+}
+
+/// What the router claims: by its configuration and its ends that are up.
+fn own_claim(alloc: Global, conf: &RouterConf, up: &[bool]) -> M<Claim>
+    requires { length up.now ≡ length conf.now.ends }
+    ensures { IfOk result (λ c. c ≡ own_claim conf.now up.now) }
+{
+    Ok(Claim {
+        system: conf.system,
+        overload: conf.overload,
+        links: own_links(alloc, up, conf.ends.as_slice())?,
+        subs: own_subs(alloc, conf)?,
+    })
+}
+
+/// A live fragment 0 of another system.
+fn is_other(own: &SystemId, entry: &Entry) -> bool
+    ensures { result ≡ is_other own.now entry.now }
+{
+    entry.id.system != *own && entry.id.pseudonode == 0 && entry.id.fragment == 0 && entry.life > 0
+}
+
+/// What all other systems claim, in the order of their entries.
+fn other_claims(alloc: Global, conf: &RouterConf, entries: &[Entry]) -> M<Vec<Claim>>
+    ensures { IfOk result (λ claims. claims.items ≡ map (with_known conf.now.kinds) (map (claim_of entries.now) (filter (is_other conf.now.system) entries.now))) }
+{
+    let mut claims = Vec::new(alloc);
+    'systems: for entry in entries {
+        if is_other(&conf.system, entry) {
+            let claim = claim_of(alloc, entries, entry)?;
+            claims.push(with_known(alloc, conf.kinds.as_slice(), claim)?)?;
+        }
+    }
+    Ok(claims)
+}
+
+fn is_before(a: &SystemId, b: &SystemId) -> bool
+    ensures { result ≡ is_before a.now b.now }
+{
+    a.cmp(b).is_lt()
+}
+
+/// How many claims stand before the first whose system is above this one.
+fn place_of(claims: &[Claim], system: &SystemId) -> usize
+    ensures within { result ≤ length claims.now }
+    ensures place { result ≡ place_before system.now claims.now }
+{
+    'places: for place in 0..claims.len() {
+        let claim = &claims[place];
+        if is_before(system, &claim.system) {
+            return place;
+        }
+    }
+    claims.len()
+}
+
+/// What all systems claim, in the order of their systems.
+#[tactic(auto, unfolding(wire_base::specs::model::View::claims_of))]
+pub(crate) fn claims_of(
+    alloc: Global,
+    conf: &RouterConf,
+    up: &[bool],
+    entries: &[Entry],
+) -> M<Vec<Claim>>
+    requires { length up.now ≡ length conf.now.ends }
+    ensures { IfOk result (λ claims. claims.items ≡ map (with_known conf.now.kinds) (claims_of conf.now up.now entries.now)) }
+{
+    let mut claims = other_claims(alloc, conf, entries)?;
+    let own = own_claim(alloc, conf, up)?;
+    let own = with_known(alloc, conf.kinds.as_slice(), own)?;
+    let place = place_of(claims.as_slice(), &own.system);
+    claims.insert(place, own)?;
+    Ok(claims)
+}

@@ -1,0 +1,110 @@
+//! Which places in subdomains count.
+ghost use Rattle.std.specs.Prelude.{◌≡◌, ◌&&◌, ◌++◌, ◌∷◌, [], not, is_some, filter, IfOk, OnOk, if◌then◌else◌};
+ghost use Rattle.std.specs.List.{list_any};
+ghost use Rattle.std.specs.Str.{bytes_eq};
+ghost use Rattle.wire_base.specs.model.Control.{same_system};
+ghost use Rattle.wire_base.specs.model.Place.{kind_of};
+ghost use Rattle.wire_base.specs.model.View.{all_ranges, first_each, known_subs, has_prefix, is_shared, own_subs};
+ghost use Rattle.view_graph.specs.Places.{has_sd};
+
+use crate::claims::Claim;
+use bier_subtlv::overlaps;
+use std::alloc::Global;
+use wire_base::{Ipv4, LabelRange, M, Rows, SubKind, SystemId, ViewSub, kind_of};
+
+/// The label ranges of all places of a system.
+fn all_ranges(alloc: Global, subs: &[ViewSub]) -> M<Vec<LabelRange>>
+    ensures { IfOk result (λ ranges. ranges.items ≡ all_ranges subs.now) }
+{
+    let mut ranges = Vec::new(alloc);
+    'subs: for sub in subs {
+        ranges.extend_from_slice(sub.ranges.as_slice())?;
+    }
+    Ok(ranges)
+}
+
+fn has_sd(subs: &[ViewSub], sd: u8) -> bool
+    ensures { result ≡ has_sd sd subs.now }
+{
+    subs.iter().any(|sub| sub.sd == sd)
+}
+
+/// An equal one.
+fn copy_of(sub: &ViewSub) -> M<ViewSub>
+    ensures { IfOk result (λ s. s ≡ sub.now) }
+{
+    Ok(ViewSub {
+        sd: sub.sd,
+        id: sub.id,
+        prefix: sub.prefix,
+        ranges: sub.ranges.copy()?,
+    })
+}
+
+/// Whether the place is in a subdomain that the router knows, and the first there.
+fn is_first_known(kinds: &[SubKind], kept: &[ViewSub], sub: &ViewSub) -> bool
+    ensures { result ≡ (is_some (kind_of kinds.now sub.now.sd) && not (has_sd sub.now.sd kept.now)) }
+{
+    kind_of(kinds, sub.sd).is_some() && !has_sd(kept, sub.sd)
+}
+
+fn keep_first(kept: &mut Rows<ViewSub>, kinds: &[SubKind], sub: &ViewSub) -> M<()>
+    ensures { OnOk result (kept.new ≡ (if is_some (kind_of kinds.now sub.now.sd) && not (has_sd sub.now.sd kept.old) then kept.old ++ sub.now ∷ [] else kept.old)) }
+{
+    if is_first_known(kinds, kept.as_slice(), sub) {
+        kept.push(copy_of(sub)?)
+    } else {
+        Ok(())
+    }
+}
+
+/// The first place in each subdomain that the router knows.
+fn first_known(alloc: Global, kinds: &[SubKind], subs: &[ViewSub]) -> M<Rows<ViewSub>>
+    ensures { IfOk result (λ kept. kept ≡ first_each (filter (λ s. is_some (kind_of kinds.now s.sd)) subs.now)) }
+{
+    let mut kept = Rows::new(alloc);
+    'subs: for sub in subs {
+        keep_first(&mut kept, kinds, sub)?;
+    }
+    Ok(kept)
+}
+
+/// The places that count by what the router knows of subdomains: none where two label ranges of the system share a
+/// label, else the first in each subdomain that is known.
+#[tactic(auto, using(crate::proofs::ListLaws::known_overlap, crate::proofs::ListLaws::known_apart))]
+pub(crate) fn known_subs(alloc: Global, kinds: &[SubKind], subs: &[ViewSub]) -> M<Rows<ViewSub>>
+    ensures { IfOk result (λ kept. kept ≡ known_subs kinds.now subs.now) }
+{
+    let ranges = all_ranges(alloc, subs)?;
+    if overlaps(ranges.as_slice()) {
+        Ok(Rows::new(alloc))
+    } else {
+        first_known(alloc, kinds, subs)
+    }
+}
+
+fn has_prefix(prefix: &Ipv4, subs: &[ViewSub]) -> bool
+    ensures { result ≡ has_prefix prefix.now subs.now }
+{
+    subs.iter().any(|sub| sub.prefix == *prefix)
+}
+
+/// Whether another system has a place with that prefix.
+fn is_shared(claims: &[Claim], system: &SystemId, prefix: &Ipv4) -> bool
+    ensures { result ≡ is_shared claims.now system.now prefix.now }
+{
+    claims.iter().any(|claim| claim.system != *system && has_prefix(prefix, claim.subs.as_slice()))
+}
+
+/// The places of a system whose prefix is no other system's.
+pub(crate) fn own_subs(alloc: Global, claims: &[Claim], claim: &Claim) -> M<Rows<ViewSub>>
+    ensures { IfOk result (λ kept. kept ≡ own_subs claims.now claim.now) }
+{
+    let mut kept = Rows::new(alloc);
+    'subs: for sub in claim.subs.as_slice() {
+        if !is_shared(claims, &claim.system, &sub.prefix) {
+            kept.push(copy_of(sub)?)?;
+        }
+    }
+    Ok(kept)
+}

@@ -1,0 +1,13 @@
+//! The view of a router: the nodes and edges that its configuration, its ends that are up and its database make up
+//! (ISO/IEC 10589, 7.2.5 and 7.2.8; RFC 5305, 3 and 4; RFC 8401, 4 and 5).
+#![tactic(auto)]
+
+mod claims;
+mod edges;
+mod known;
+mod links;
+mod nodes;
+mod places;
+mod walks;
+
+pub use nodes::{supports, view};

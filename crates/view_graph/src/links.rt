@@ -1,0 +1,61 @@
+//! The links that a system lists in its TLVs 22.
+ghost use Rattle.std.specs.Prelude.{◌≡◌, ◌++◌, OnOk, option_to_list};
+ghost use Rattle.std.specs.List.{filter_map};
+ghost use Rattle.wire_base.specs.model.Tlv.{entries_of, reach_at};
+ghost use Rattle.wire_base.specs.model.View.{link_of};
+ghost use Rattle.isis_tlv.specs.Views.{reach_of};
+
+use crate::walks::next_reach;
+use isis_tlv::Reach;
+use std::marker::Model;
+use wire_base::{M, Rows, SystemId};
+
+/// A link to a neighbour, with its metric.
+#[derive(Drop)]
+pub(crate) struct Link {
+    pub(crate) neighbour: SystemId,
+    pub(crate) metric: u32,
+}
+
+impl Model for Link {
+    ghost use Rattle.wire_base.specs.model.View.{Link as LinkItem};
+
+    ghost Value = { LinkItem };
+
+    ghost view = { λ l. record { neighbour = l.neighbour; metric = l.metric } };
+}
+
+/// A link to a router, not to a pseudonode, of a metric that counts; 0 counts as 1 (RFC 5305, 3).
+fn link_of(reach: &Reach<'_>) -> Option<Link>
+    ensures { result ≡ link_of (reach_of reach.now) }
+{
+    if reach.pseudonode == 0 && reach.metric < 16_777_215 {
+        Some(Link {
+            neighbour: reach.neighbour,
+            metric: reach.metric.max(1),
+        })
+    } else {
+        None
+    }
+}
+
+fn append_link(links: &mut Rows<Link>, reach: &Reach<'_>) -> M<()>
+    ensures { OnOk result (links.new ≡ links.old ++ option_to_list (link_of (reach_of reach.now))) }
+{
+    match link_of(reach) {
+        Some(link) => links.push(link),
+        None => Ok(()),
+    }
+}
+
+/// Appends the links of a TLV 22; an entry that can't be read ends them.
+pub(crate) fn append_links(links: &mut Rows<Link>, value: &[u8]) -> M<()>
+    ensures { OnOk result (links.new ≡ links.old ++ filter_map link_of (entries_of reach_at value.now)) }
+{
+    let mut rest = value;
+    'entries: while let Some((reach, after)) = next_reach(rest) {
+        append_link(links, &reach)?;
+        rest = after;
+    }
+    Ok(())
+}

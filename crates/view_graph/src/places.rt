@@ -1,0 +1,75 @@
+//! The places in subdomains that a system tells in its TLVs 135.
+ghost use Rattle.std.specs.Prelude.{◌≡◌, ◌++◌, OnOk, IfOk, option_to_list};
+ghost use Rattle.std.specs.List.{filter_map, flat_map};
+ghost use Rattle.wire_base.specs.model.Tlv.{entries_of, prefix_at, prefix_bits, tlvs_before};
+ghost use Rattle.wire_base.specs.model.View.{sub_of, sub_at, subs_of};
+ghost use Rattle.isis_tlv.specs.Views.{item, prefix_of};
+ghost use Rattle.bier_subtlv.specs.Views.{info_of};
+
+use crate::walks::{next_prefix, next_tlv};
+use bier_subtlv::{Info, read_info};
+use isis_tlv::{PrefixEntry, Tlv, TlvWalk};
+use std::alloc::Global;
+use wire_base::{Ipv4, M, Rows, ViewSub};
+
+fn sub_of(alloc: Global, prefix: [u8; 4], info: &Info) -> M<ViewSub>
+    ensures { IfOk result (λ s. s ≡ sub_of prefix (info_of info.now)) }
+{
+    Ok(ViewSub {
+        sd: info.sd,
+        id: info.id,
+        prefix: Ipv4(prefix),
+        ranges: Rows::from_slice(alloc, info.ranges.as_slice())?,
+    })
+}
+
+/// Appends the place that a sub-TLV 32 tells, where its reader takes it.
+fn append_sub(subs: &mut Rows<ViewSub>, prefix: [u8; 4], tlv: Tlv<'_>) -> M<()>
+    ensures { OnOk result (subs.new ≡ subs.old ++ option_to_list (sub_at prefix (item tlv.entry))) }
+{
+    if tlv.code != 32 {
+        return Ok(());
+    }
+    match read_info(tlv.value) {
+        Ok(info) => {
+            let sub = sub_of(subs.allocator(), prefix, &info)?;
+            subs.push(sub)
+        }
+        Err(_) => Ok(()),
+    }
+}
+
+/// Appends the places that the sub-TLVs of a prefix tell; an overrun ends them.
+fn append_infos(subs: &mut Rows<ViewSub>, prefix: [u8; 4], octets: &[u8]) -> M<()>
+    ensures { OnOk result (subs.new ≡ subs.old ++ filter_map (sub_at prefix) (tlvs_before octets.now)) }
+{
+    let mut walk = TlvWalk::new(octets);
+    'parts: while let Some(tlv) = next_tlv(&mut walk) {
+        append_sub(subs, prefix, tlv)?;
+    }
+    Ok(())
+}
+
+/// Appends the places that an entry of TLV 135 tells: one of a prefix of 32 bits.
+fn append_prefix(subs: &mut Rows<ViewSub>, entry: &PrefixEntry<'_>) -> M<()>
+    requires { entry.now.length ≡ prefix_bits entry.now.control }
+    ensures { OnOk result (subs.new ≡ subs.old ++ subs_of (prefix_of entry.now)) }
+{
+    if entry.length == 32 {
+        append_infos(subs, entry.octets, entry.subs)
+    } else {
+        Ok(())
+    }
+}
+
+/// Appends the places of a TLV 135; an entry that can't be read ends them.
+pub(crate) fn append_places(subs: &mut Rows<ViewSub>, value: &[u8]) -> M<()>
+    ensures { OnOk result (subs.new ≡ subs.old ++ flat_map subs_of (entries_of prefix_at value.now)) }
+{
+    let mut rest = value;
+    'entries: while let Some((entry, after)) = next_prefix(rest) {
+        append_prefix(subs, &entry)?;
+        rest = after;
+    }
+    Ok(())
+}
