@@ -1,12 +1,11 @@
 -- The parts of a router's own link state PDU: how they are put together, that they fit, and how long they are.
-use Rattle.std.proofs.Common.{◌≡◌, ℕ, zero, suc, ◌+◌, ◌*◌, ◌<◌, ◌≤◌, min, Bool, true, false, ◌==◌, ◌&&◌, leb, if◌then◌else◌, List, [], ◌∷◌, ◌++◌, length, get_or, take, drop, map, eq-eqb, refl, sym, ap, subst, ◌∙◌, append_assoc, arith, inl, inr}
+use Rattle.std.proofs.Common.{◌≡◌, ℕ, zero, suc, ◌+◌, ◌*◌, ◌<◌, ◌≤◌, min, Bool, true, false, ◌&&◌, leb, if◌then◌else◌, List, [], ◌∷◌, ◌++◌, length, get_or, take, drop, map, eq-eqb, refl, sym, ap, ◌∙◌, append_assoc, arith, inl, inr}
 use mathlib.Core.Bool.{false≢true, true≢false}
-use Rattle.std.specs.Prelude.{sum_by}
 use Rattle.byteorder.specs.Endian.{big_bytes}
 use Rattle.std.specs.List.{flat_map, list_all, AllByRecursion}
 use Rattle.std.proofs.lemmas.Bool.{cases_lt, lt-leb}
 use Rattle.std.proofs.lemmas.List.{take_all, drop_all, length-append, length-take, length-drop, append-nil}
-use Rattle.std.proofs.lemmas.List.Concat.{flat_map-cons, flat_map-append}
+use Rattle.std.proofs.lemmas.List.Concat.{flat_map-append}
 use Rattle.std.proofs.lemmas.List.Sums.{sum_by-cons}
 use Rattle.wire_base.specs.declared.conf.LabelRange.{LabelRange}
 use Rattle.wire_base.specs.declared.conf.OwnSub.{OwnSub}
@@ -15,12 +14,12 @@ use Rattle.wire_base.specs.declared.conf.End.{End}
 use Rattle.wire_base.specs.declared.conf.RouterConf.{RouterConf}
 use Rattle.wire_base.specs.model.Lists.{blocks, blocks_within}
 use Rattle.wire_base.specs.model.Place.{code_of, kind_of, is_mpls}
-use Rattle.wire_base.specs.model.Tlv.{Tlv, tlv, reach, prefix, has_subs, NoneUnless}
-use Rattle.wire_base.specs.model.BierInfo.{Info, RangeFits, InfoFits, range, info, info_tlv}
+use Rattle.wire_base.specs.model.Tlv.{tlv, reach, prefix, has_subs, NoneUnless}
+use Rattle.wire_base.specs.model.BierInfo.{Info, RangeFits, InfoFits, range, info_tlv}
 use Rattle.wire_base.specs.model.BierInfo.{AreApart as LengthsApart}
 use Rattle.wire_base.specs.model.Lists.{AreApart}
 use Rattle.wire_base.specs.model.Configuration.{IsLabelRange, IsOwnSub, IsEnd, IsSound, same_length, sub_octets, is_name, is_letter, is_name_octet}
-use Rattle.wire_base.specs.model.OwnLsp.{picked, area_tlv, protocols_tlv, name_tlv, reach_of, reach_tlv, reach_tlvs, info_of, infos_of, control_for, own_prefix, prefix_tlv, own_tlvs, own_content}
+use Rattle.wire_base.specs.model.OwnLsp.{picked, area_tlv, protocols_tlv, name_tlv, reach_of, reach_tlv, reach_tlvs, info_of, infos_of, control_for, prefix_tlv, own_content}
 use Rattle.format_laws.proofs.InfoLaws.{all_weaker}
 use Rattle.bier_subtlv.specs.Views.{own_of}
 

@@ -1,5 +1,3 @@
-use Rattle.std.proofs.Common.{sym, ◌∙◌}
-use Rattle.std.specs.List.{AllByRecursion}
 use Rattle.wire_base.specs.model.Configuration.{IsEnd}
 use Rattle.lsp_origin.proofs.ContentLaws.{picked_all}
 use Rattle.lsp_origin.proofs.links.append_links.Goals as goal
