@@ -1,17 +1,15 @@
 -- The order of identifiers is total, and equal ones alone are tied.
 use mathlib.Core.Bool.{false≢true}
-use Rattle.std.proofs.Common.{◌≡◌, ℕ, ◌==◌, ◌&&◌, eqb, Bool, true, false, List, refl, sym, ap, ◌∙◌}
+use Rattle.std.proofs.Common.{◌≡◌, true, false, refl, sym, ap, ◌∙◌}
 use Rattle.std.specs.declared.cmp.Ordering.{Ordering}
 use Rattle.std.specs.declared.cmp.Ordering.TheVariants.{Less, Equal, Greater}
 use Rattle.std.specs.Ordering.{nat_cmp, ordering_reverse, is_eq, is_lt, is_gt}
 use Rattle.std.specs.Cmp.{IsTotalOrder, tied_then, unsigned_tied}
-use Rattle.std.specs.Cmp.Lexicographic.{slice_cmp}
-use Rattle.std.specs.Str.{bytes_eq}
 use Rattle.std.proofs.lemmas.Cmp.{nat_list_cmp_total, nat_cmp_total, on_total, then_total}
 use Rattle.std.proofs.lemmas.Map.Text.{is_eq-slice_cmp}
 use Rattle.wire_base.specs.declared.addresses.SystemId.{SystemId}
 use Rattle.wire_base.specs.declared.addresses.LspId.{LspId}
-use Rattle.wire_base.specs.model.Control.{same_system, same_id, system_order, id_order, is_below}
+use Rattle.wire_base.specs.model.Control.{same_id, system_order, id_order, is_below}
 
 pub system_total : IsTotalOrder system_order
 system_total = on_total (λ (s : SystemId). s.0) nat_list_cmp_total

@@ -1,5 +1,5 @@
 -- What stands at the place of an identifier, and what a list becomes there.
-use Rattle.std.proofs.Common.{◌≡◌, ℕ, zero, suc, ◌+◌, ◌<◌, ◌≤◌, Bool, true, false, if◌then◌else◌, List, [], ◌∷◌, ◌++◌, length, get_or, set, take, drop, map, length-set, Option, Some, None, IfSome, is_none, Result, Ok, Err, IfErr, slice_get, le-leb, refl, sym, ap, subst, ◌∙◌, arith}
+use Rattle.std.proofs.Common.{◌≡◌, ℕ, zero, suc, ◌<◌, ◌≤◌, Bool, true, false, if◌then◌else◌, List, [], ◌∷◌, ◌++◌, length, get_or, set, take, drop, map, length-set, Option, Some, None, IfSome, is_none, Result, Ok, Err, IfErr, slice_get, le-leb, refl, sym, ap, subst, ◌∙◌, arith}
 use Rattle.std.specs.Prelude.{option_to_list}
 use Rattle.std.proofs.lemmas.List.{length-map}
 use Rattle.std.proofs.lemmas.List.Edits.{length-insert, length-remove}
@@ -18,7 +18,7 @@ use Rattle.wire_base.specs.declared.faults.PutFault.{PutFault}
 use Rattle.wire_base.specs.declared.faults.PutFault.TheVariants.{Full, Memory}
 use Rattle.wire_base.specs.model.Control.{same_id, id_order, is_below, AreAscending, IsDatabase, ids_of, entry_in, put_entry, aged, aged_to}
 use Rattle.lsp_store.specs.Places.{place_in, stands_at, IsPlace, is_new, PutAnswers, IsSecondAt, is_removed}
-use Rattle.lsp_store.proofs.OrderLaws.{id_total, tie_is_same, below_from_above, above_from_below, below_trans, above_trans, below_differs, above_differs, same_turned}
+use Rattle.lsp_store.proofs.OrderLaws.{id_total, tie_is_same, below_from_above, below_trans, above_trans, below_differs, above_differs, same_turned}
 
 -- ---- each element
 

@@ -1,5 +1,5 @@
 -- Where an identifier stands in a list that is in order, or would stand.
-use Rattle.std.specs.Prelude.{◌≡◌, ℕ, zero, suc, ◌+◌, ◌&&◌, Bool, true, false, List, [], ◌∷◌, length, take, drop, ◌++◌, Option, Some, None, is_none, option_to_list, Result, Ok, Err, IfErr, IfSome, slice_get}
+use Rattle.std.specs.Prelude.{◌≡◌, ℕ, zero, suc, ◌&&◌, Bool, true, false, List, [], ◌∷◌, length, take, drop, ◌++◌, is_none, option_to_list, Result, Err, IfErr}
 use Rattle.std.specs.Ordering.{match_ordering}
 use Rattle.wire_base.specs.declared.addresses.LspId.{LspId}
 use Rattle.wire_base.specs.declared.entry.Aged.{Aged}

@@ -1,4 +1,4 @@
-use Rattle.std.proofs.Common.{◌-◌, ◌≡◌, ℕ, ◌+◌, ◌≤◌, length}
+use Rattle.std.proofs.Common.{◌-◌, ◌≤◌, length}
 use Rattle.wire_base.specs.model.Control.{ids_of}
 use Rattle.lsp_store.specs.Places.{place_in}
 use Rattle.lsp_store.proofs.places.place_of.Given as goal

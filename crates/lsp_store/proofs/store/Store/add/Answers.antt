@@ -1,4 +1,4 @@
-use Rattle.std.proofs.Common.{true, false, is_ok, Ok, Err, IfErr, refl, sym, ap, subst, ◌∙◌, arith}
+use Rattle.std.proofs.Common.{is_ok, refl, ap, ◌∙◌, arith}
 use Rattle.lsp_store.specs.Views.{Stored}
 use Rattle.lsp_store.proofs.PlaceLaws.{add_within, add_kept, add_puts, new_missing, answers_full, answers_added}
 use Rattle.lsp_store.proofs.store.Store.add.Goals.{in-Ok, in-Err}

@@ -1,4 +1,4 @@
-use Rattle.std.proofs.Common.{true, false, is_ok, Ok, Err, IfErr, sym, ap, subst, ◌∙◌, arith, length, set, length-set}
+use Rattle.std.proofs.Common.{sym, ap, ◌∙◌, arith, length, set, length-set}
 use Rattle.lsp_store.specs.Views.{Stored}
 use Rattle.lsp_store.proofs.PlaceLaws.{aged_kept, removed_kept, second_removes, second_changes}
 use Rattle.lsp_store.proofs.store.Store.age_at.Goals as goal

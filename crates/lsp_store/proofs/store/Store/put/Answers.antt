@@ -1,4 +1,4 @@
-use Rattle.std.proofs.Common.{true, false, is_ok, Ok, Err, IfErr, sym, ap, subst, ◌∙◌, arith}
+use Rattle.std.proofs.Common.{ap, arith}
 use Rattle.lsp_store.specs.Views.{Stored}
 use Rattle.lsp_store.proofs.PlaceLaws.{set_within, set_kept, set_puts, answers_there}
 use Rattle.lsp_store.proofs.store.Store.put.Goals as goal

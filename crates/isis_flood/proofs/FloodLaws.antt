@@ -1,0 +1,194 @@
+-- A table of masks as the rows of a flood state.
+use Rattle.std.proofs.Common.{◌≡◌, ℕ, zero, suc, ◌+◌, ◌<◌, ◌≤◌, Bool, true, false, if◌then◌else◌, List, [], ◌∷◌, length, get_or, set, map, replicate, refl, sym, ap, subst, ◌∙◌, arith}
+use mathlib.Core.Bool.{false≢true, true≢false}
+use Rattle.std.specs.declared.cmp.Ordering.{Ordering}
+use Rattle.std.specs.declared.cmp.Ordering.TheVariants.{Less, Equal, Greater}
+use Rattle.std.specs.Ordering.{is_eq, is_lt, is_gt, match_ordering, ordering_then, nat_cmp}
+use Rattle.std.specs.List.{AllByRecursion}
+use Rattle.std.proofs.lemmas.Map.Lookups.{exact_bytes, exact_unsigned}
+use Rattle.wire_base.specs.declared.addresses.SystemId.{SystemId}
+use Rattle.wire_base.specs.declared.addresses.LspId.{LspId}
+use Rattle.wire_base.specs.model.Control.{same_id, system_order, id_order, is_below, AreAscending, FlagRow, no_flags, at_row, without_row, srm_in, ssn_in, Flood}
+use Rattle.wire_base.specs.model.Flooding.{mark_all, forget, with_row, no_links, new_flood}
+use Rattle.lsp_store.proofs.OrderLaws.{id_total, tie_is_same, below_trans, below_differs, above_differs, same_turned}
+use Rattle.isis_flood.specs.declared.table.Bits.{Bits}
+use Rattle.isis_flood.specs.Masks.{links_in, row_of, rows_of, row_ids, row_in, no_bits, bits_in, put_bits, without_bits, flood_of, Flooding}
+use Rattle.isis_flood.proofs.MaskLaws.{links_none, links_get, links_long}
+
+none_is : (n : ℕ) (id : LspId) → row_of n (no_bits id) ≡ no_flags n id
+none_is n id = ap (λ (l : List Bool). record { id = id; srm = l; ssn = l }) (links_none n)
+
+-- the row that stands there, as flags
+pub row_seen : (n : ℕ) (rs : List Bits) (id : LspId) → row_of n (bits_in rs id) ≡ row_in n (rows_of n rs) id
+row_seen n [] id = none_is n id
+row_seen n (b ∷ rs) id = cases (row_seen n rs id) (id_order id b.id)
+  where
+    cases : row_of n (bits_in rs id) ≡ row_in n (rows_of n rs) id → (o : Ordering) → row_of n (match_ordering o (no_bits id) b (bits_in rs id)) ≡ match_ordering o (no_flags n id) (row_of n b) (row_in n (rows_of n rs) id)
+    cases again Less = none_is n id
+    cases again Equal = refl
+    cases again Greater = again
+
+-- a row that is put is the row there, changed
+pub rows_put : (n : ℕ) (rs : List Bits) (b : Bits) (change : FlagRow → FlagRow) → row_of n b ≡ change (row_in n (rows_of n rs) b.id) → rows_of n (put_bits b rs) ≡ at_row n b.id change (rows_of n rs)
+rows_put n [] b change h = ap (λ (r : FlagRow). r ∷ []) h
+rows_put n (x ∷ xs) b change h = cases (rows_put n xs b change) (id_order b.id x.id) h
+  where
+    cases : (row_of n b ≡ change (row_in n (rows_of n xs) b.id) → rows_of n (put_bits b xs) ≡ at_row n b.id change (rows_of n xs)) → (o : Ordering) → row_of n b ≡ change (match_ordering o (no_flags n b.id) (row_of n x) (row_in n (rows_of n xs) b.id)) → rows_of n (match_ordering o (b ∷ x ∷ xs) (b ∷ xs) (x ∷ put_bits b xs)) ≡ match_ordering o (change (no_flags n b.id) ∷ row_of n x ∷ rows_of n xs) (change (row_of n x) ∷ rows_of n xs) (row_of n x ∷ at_row n b.id change (rows_of n xs))
+    cases again Less k = ap (λ (r : FlagRow). r ∷ row_of n x ∷ rows_of n xs) k
+    cases again Equal k = ap (λ (r : FlagRow). r ∷ rows_of n xs) k
+    cases again Greater k = ap (λ (rs : List FlagRow). row_of n x ∷ rs) (again k)
+
+pub rows_go : (n : ℕ) (rs : List Bits) (id : LspId) → rows_of n (without_bits id rs) ≡ without_row id (rows_of n rs)
+rows_go n [] id = refl
+rows_go n (b ∷ rs) id = cases (rows_go n rs id) (same_id b.id id)
+  where
+    cases : rows_of n (without_bits id rs) ≡ without_row id (rows_of n rs) → (same : Bool) → rows_of n (if same then rs else b ∷ without_bits id rs) ≡ (if same then rows_of n rs else row_of n b ∷ without_row id (rows_of n rs))
+    cases again true = refl
+    cases again false = ap (λ (rs : List FlagRow). row_of n b ∷ rs) again
+
+-- equal identifiers alone are tied
+tied_is : (p q : Ordering) → ordering_then p q ≡ Equal → (p ≡ Equal) × (q ≡ Equal)
+tied_is Less q h = absurd (false≢true (ap is_eq h))
+tied_is Equal q h = (refl, h)
+tied_is Greater q h = absurd (false≢true (ap is_eq h))
+
+pub same_from_tie : (a b : LspId) → id_order a b ≡ Equal → a ≡ b
+same_from_tie a b h =
+    let outer = tied_is (system_order a.system b.system) (ordering_then (nat_cmp a.pseudonode b.pseudonode) (nat_cmp a.fragment b.fragment)) h in
+    let inner = tied_is (nat_cmp a.pseudonode b.pseudonode) (nat_cmp a.fragment b.fragment) outer.1 in
+    ap (λ (s : List ℕ). record { system = record { 0 = s }; pseudonode = a.pseudonode; fragment = a.fragment }) (exact_bytes a.system.0 b.system.0 outer.0)
+    ∙ ap (λ (p : ℕ). record { system = b.system; pseudonode = p; fragment = a.fragment }) (exact_unsigned a.pseudonode b.pseudonode inner.0)
+    ∙ ap (λ (f : ℕ). record { system = b.system; pseudonode = b.pseudonode; fragment = f }) (exact_unsigned a.fragment b.fragment inner.1)
+
+-- the row of an identifier has it
+pub row_in_id : (n : ℕ) (rows : List FlagRow) (id : LspId) → (row_in n rows id).id ≡ id
+row_in_id n [] id = refl
+row_in_id n (row ∷ rows) id = cases (row_in_id n rows id) (id_order id row.id) refl
+  where
+    cases : (row_in n rows id).id ≡ id → (o : Ordering) → id_order id row.id ≡ o → (match_ordering o (no_flags n id) row (row_in n rows id)).id ≡ id
+    cases again Less o = refl
+    cases again Equal o = sym (same_from_tie id row.id o)
+    cases again Greater o = again
+
+-- ---- questions
+
+no_flag : (n k : ℕ) → k < n → get_or (links_in n 0) k false ≡ false
+no_flag n k lt = ap (λ (l : List Bool). get_or l k false) (links_none n) ∙ none n k
+  where
+    none : (n k : ℕ) → get_or (replicate n false) k false ≡ false
+    none zero k = refl
+    none (suc n) zero = refl
+    none (suc n) (suc k) = none n k
+
+srm_above : (n k : ℕ) (rs : List Bits) (x id : LspId) → is_below id x ≡ true → AllByRecursion (λ y. is_below x y ≡ true) (row_ids rs) → srm_in (rows_of n rs) id k ≡ false
+srm_above n k [] x id h all = refl
+srm_above n k (b ∷ rs) x id h all = rw (same_turned b.id id, below_differs id b.id (below_trans id x b.id h all.0)) (srm_above n k rs x id h all.1)
+
+ssn_above : (n k : ℕ) (rs : List Bits) (x id : LspId) → is_below id x ≡ true → AllByRecursion (λ y. is_below x y ≡ true) (row_ids rs) → ssn_in (rows_of n rs) id k ≡ false
+ssn_above n k [] x id h all = refl
+ssn_above n k (b ∷ rs) x id h all = rw (same_turned b.id id, below_differs id b.id (below_trans id x b.id h all.0)) (ssn_above n k rs x id h all.1)
+
+pub srm_seen : (n k : ℕ) (rs : List Bits) (id : LspId) → k < n → AreAscending (row_ids rs) → get_or (links_in n (bits_in rs id).srm) k false ≡ srm_in (rows_of n rs) id k
+srm_seen n k [] id lt asc = no_flag n k lt
+srm_seen n k (b ∷ rs) id lt asc = cases (srm_seen n k rs id lt asc.1) (id_order id b.id) refl
+  where
+    cases : get_or (links_in n (bits_in rs id).srm) k false ≡ srm_in (rows_of n rs) id k → (o : Ordering) → id_order id b.id ≡ o → get_or (links_in n (match_ordering o (no_bits id) b (bits_in rs id)).srm) k false ≡ srm_in (row_of n b ∷ rows_of n rs) id k
+    cases again Less o = rw (same_turned b.id id, below_differs id b.id (ap is_lt o)) (no_flag n k lt ∙ sym (srm_above n k rs b.id id (ap is_lt o) asc.0))
+    cases again Equal o = rw (same_turned b.id id, sym (tie_is_same id b.id) ∙ ap is_eq o) refl
+    cases again Greater o = rw (same_turned b.id id, above_differs id b.id (ap is_gt o)) again
+
+pub ssn_seen : (n k : ℕ) (rs : List Bits) (id : LspId) → k < n → AreAscending (row_ids rs) → get_or (links_in n (bits_in rs id).ssn) k false ≡ ssn_in (rows_of n rs) id k
+ssn_seen n k [] id lt asc = no_flag n k lt
+ssn_seen n k (b ∷ rs) id lt asc = cases (ssn_seen n k rs id lt asc.1) (id_order id b.id) refl
+  where
+    cases : get_or (links_in n (bits_in rs id).ssn) k false ≡ ssn_in (rows_of n rs) id k → (o : Ordering) → id_order id b.id ≡ o → get_or (links_in n (match_ordering o (no_bits id) b (bits_in rs id)).ssn) k false ≡ ssn_in (row_of n b ∷ rows_of n rs) id k
+    cases again Less o = rw (same_turned b.id id, below_differs id b.id (ap is_lt o)) (no_flag n k lt ∙ sym (ssn_above n k rs b.id id (ap is_lt o) asc.0))
+    cases again Equal o = rw (same_turned b.id id, sym (tie_is_same id b.id) ∙ ap is_eq o) refl
+    cases again Greater o = rw (same_turned b.id id, above_differs id b.id (ap is_gt o)) again
+
+-- ---- the state: `now` is what contracts see of it
+
+module _ (own : SystemId) (n up due spare : ℕ) (rows : List Bits) (now : Flooding) (seen : record { flood = flood_of own n up due rows; spare = spare } ≡ now) where
+  flood_seen : flood_of own n up due rows ≡ now.flood
+  flood_seen = ap (λ (f : Flooding). f.flood) seen
+
+  pub links_are_n : length now.flood.up ≡ n
+  links_are_n = ap (λ (f : Flood). length f.up) (sym flood_seen) ∙ links_long n up
+
+  pub link_within : (link : ℕ) → n ≤ 64 → link < length now.flood.up → link < 64
+  link_within link few lt = omega (arith, few, lt, links_are_n)
+
+  link_of : (link : ℕ) → link < length now.flood.up → link < n
+  link_of link lt = omega (arith, lt, links_are_n)
+
+  pub up_seen : (link : ℕ) (answer : Bool) → link < length now.flood.up → ((m : ℕ) → link < m → answer ≡ get_or (links_in m up) link false) → answer ≡ get_or now.flood.up link false
+  up_seen link answer lt is = is n (link_of link lt) ∙ ap (λ (f : Flood). get_or f.up link false) flood_seen
+
+  pub due_seen : (link : ℕ) (answer : Bool) → link < length now.flood.up → ((m : ℕ) → link < m → answer ≡ get_or (links_in m due) link false) → answer ≡ get_or now.flood.due link false
+  due_seen link answer lt is = is n (link_of link lt) ∙ ap (λ (f : Flood). get_or f.due link false) flood_seen
+
+  pub srm_is : (link : ℕ) (id : LspId) (b : Bits) (answer : Bool) → link < length now.flood.up → b ≡ bits_in rows id → AreAscending (row_ids rows) → ((m : ℕ) → link < m → answer ≡ get_or (links_in m b.srm) link false) → answer ≡ srm_in now.flood.rows id link
+  srm_is link id b answer lt row asc is =
+      is n (link_of link lt) ∙ ap (λ (r : Bits). get_or (links_in n r.srm) link false) row ∙ srm_seen n link rows id (link_of link lt) asc ∙ ap (λ (f : Flood). srm_in f.rows id link) flood_seen
+
+  pub ssn_is : (link : ℕ) (id : LspId) (b : Bits) (answer : Bool) → link < length now.flood.up → b ≡ bits_in rows id → AreAscending (row_ids rows) → ((m : ℕ) → link < m → answer ≡ get_or (links_in m b.ssn) link false) → answer ≡ ssn_in now.flood.rows id link
+  ssn_is link id b answer lt row asc is =
+      is n (link_of link lt) ∙ ap (λ (r : Bits). get_or (links_in n r.ssn) link false) row ∙ ssn_seen n link rows id (link_of link lt) asc ∙ ap (λ (f : Flood). ssn_in f.rows id link) flood_seen
+
+  pub forgets : (id : LspId) (new : List Bits) → new ≡ without_bits id rows → flood_of own n up due new ≡ forget now.flood id
+  unfolding forget
+  forgets id new is = ap (λ (rs : List Bits). flood_of own n up due rs) is ∙ ap (λ (rs : List FlagRow). record { own = own; up = links_in n up; due = links_in n due; rows = rs }) (rows_go n rows id) ∙ ap (λ (f : Flood). forget f id) flood_seen
+
+  -- one row changed
+  pub changes : (b : Bits) (change : FlagRow → FlagRow) (new : List Bits) → new ≡ put_bits b rows → row_of n b ≡ change (row_in n (rows_of n rows) b.id) → flood_of own n up due new ≡ with_row now.flood b.id change
+  changes b change new is changed =
+      ap (λ (rs : List Bits). flood_of own n up due rs) is
+      ∙ ap (λ (rs : List FlagRow). record { own = own; up = links_in n up; due = links_in n due; rows = rs }) (rows_put n rows b change changed)
+      ∙ ap (λ m. record { own = own; up = links_in n up; due = links_in n due; rows = at_row m b.id change (rows_of n rows) }) (sym (links_long n up))
+      ∙ ap (λ (f : Flood). with_row f b.id change) flood_seen
+
+  pub marks : (id : LspId) (new : List Bits) → new ≡ put_bits (record { id = id; srm = up; ssn = 0 }) rows → flood_of own n up due new ≡ mark_all now.flood id
+  unfolding mark_all
+  marks id new is =
+      changes (record { id = id; srm = up; ssn = 0 }) (λ row. record row { srm = links_in n up; ssn = replicate (length (links_in n up)) false }) new is
+      (ap (λ (l : List Bool). record { id = id; srm = links_in n up; ssn = l }) (links_none n ∙ ap (λ m. replicate m false) (sym (links_long n up))) ∙ ap (λ (i : LspId). record { id = i; srm = links_in n up; ssn = replicate (length (links_in n up)) false }) (sym (row_in_id n (rows_of n rows) id)))
+      ∙ ap (λ (f : Flood). with_row now.flood id (λ row. record row { srm = f.up; ssn = no_links f })) flood_seen
+
+  pub few_links : n ≤ 64 → length now.flood.up ≤ 64
+  few_links few = omega (arith, few, links_are_n)
+
+  pub row_is : (id : LspId) (b : Bits) → b ≡ bits_in rows id → row_of (length now.flood.up) (record { id = id; srm = b.srm; ssn = b.ssn }) ≡ row_in (length now.flood.up) now.flood.rows id
+  row_is id b is =
+      let whole : row_of n b ≡ row_in n (rows_of n rows) id = ap (λ (r : Bits). row_of n r) is ∙ row_seen n rows id in
+      let same : b.id ≡ id = ap (λ (r : FlagRow). r.id) whole ∙ row_in_id n (rows_of n rows) id in
+      ap (λ m. row_of m (record { id = id; srm = b.srm; ssn = b.ssn })) links_are_n
+      ∙ ap (λ (i : LspId). row_of n (record { id = i; srm = b.srm; ssn = b.ssn })) (sym same) ∙ whole
+      ∙ ap (λ m. row_in m (rows_of n rows) id) (sym links_are_n) ∙ ap (λ (f : Flood). row_in (length now.flood.up) f.rows id) flood_seen
+
+  pub row_changes : (b : Bits) (change : FlagRow → FlagRow) (new : List Bits) → new ≡ put_bits b rows → row_of (length now.flood.up) b ≡ change (row_in (length now.flood.up) now.flood.rows b.id) → flood_of own n up due new ≡ with_row now.flood b.id change
+  row_changes b change new is changed =
+      changes b change new is (
+      ap (λ m. row_of m b) (sym links_are_n) ∙ changed ∙ ap (λ m. change (row_in m now.flood.rows b.id)) links_are_n ∙ ap (λ (f : Flood). change (row_in n f.rows b.id)) (sym flood_seen)
+      )
+
+pub up_is : (own : SystemId) (n up due spare : ℕ) (rows : List Bits) (now : Flooding) → record { flood = flood_of own n up due rows; spare = spare } ≡ now → links_in (length now.flood.up) up ≡ now.flood.up
+up_is own n up due spare rows now seen = ap (λ m. links_in m up) (links_are_n own n up due spare rows now seen) ∙ ap (λ (f : Flooding). f.flood.up) seen
+
+-- the row of what came on a link
+pub passed_row : (f : Flood) (link mask srm ssn : ℕ) (id : LspId) → links_in (length f.up) mask ≡ f.up → links_in (length f.up) srm ≡ set (links_in (length f.up) mask) link false → links_in (length f.up) ssn ≡ set (links_in (length f.up) 0) link true → row_of (length f.up) (record { id = id; srm = srm; ssn = ssn }) ≡ record (row_in (length f.up) f.rows id) { srm = set f.up link false; ssn = set (no_links f) link true }
+passed_row f link mask srm ssn id up a b =
+    ap (λ (l : List Bool). record { id = id; srm = l; ssn = links_in (length f.up) ssn }) (a ∙ ap (λ (l : List Bool). set l link false) up)
+    ∙ ap (λ (l : List Bool). record { id = id; srm = set f.up link false; ssn = l }) (b ∙ ap (λ (l : List Bool). set l link true) (links_none (length f.up)))
+    ∙ ap (λ (i : LspId). record { id = i; srm = set f.up link false; ssn = set (no_links f) link true }) (sym (row_in_id (length f.up) f.rows id))
+
+pub starts : (own : SystemId) (n mask : ℕ) (ups : List Bool) (rows : List Bits) → length ups ≡ n → links_in (length ups) mask ≡ ups → rows ≡ [] → flood_of own n mask mask rows ≡ new_flood own ups
+unfolding new_flood
+starts own n mask ups rows long is none =
+    let all : links_in n mask ≡ ups = ap (λ m. links_in m mask) (sym long) ∙ is in
+    ap (λ (l : List Bool). record { own = own; up = l; due = l; rows = rows_of n rows }) all ∙ ap (λ (rs : List Bits). record { own = own; up = ups; due = ups; rows = rows_of n rs }) none
+
+-- a row with its masks changed
+pub changed_row : (n : ℕ) (r : Bits) (id : LspId) (srm ssn : ℕ) (there : FlagRow) (s t : List Bool → List Bool) → r.id ≡ id → row_of n r ≡ there → links_in n srm ≡ s (links_in n r.srm) → links_in n ssn ≡ t (links_in n r.ssn) → row_of n (record { id = id; srm = srm; ssn = ssn }) ≡ record there { srm = s there.srm; ssn = t there.ssn }
+changed_row n r id srm ssn there s t same is a b =
+    ap (λ (l : List Bool). record { id = id; srm = l; ssn = links_in n ssn }) a ∙ ap (λ (l : List Bool). record { id = id; srm = s (links_in n r.srm); ssn = l }) b
+    ∙ ap (λ (i : LspId). record { id = i; srm = s (links_in n r.srm); ssn = t (links_in n r.ssn) }) (sym same) ∙ ap (λ (row : FlagRow). record row { srm = s row.srm; ssn = t row.ssn }) is

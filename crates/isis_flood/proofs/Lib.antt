@@ -1,0 +1,4 @@
+pub mod AgeLaws
+pub mod FloodLaws
+pub mod MaskLaws
+pub mod TableLaws

@@ -1,0 +1,74 @@
+-- Masks over links: the truth values that a number of 64 bits stands for, and rows of flags kept as such numbers.
+use Rattle.std.specs.Prelude.{◌≡◌, ℕ, zero, suc, ◌-◌, ◌==◌, Bool, true, false, List, [], ◌∷◌, ◌++◌, map, length, take, drop, if◌then◌else◌}
+use Rattle.std.specs.Int.{bit_at}
+use Rattle.std.specs.Ordering.{match_ordering}
+use Rattle.wire_base.specs.declared.addresses.SystemId.{SystemId}
+use Rattle.wire_base.specs.declared.addresses.LspId.{LspId}
+use Rattle.wire_base.specs.model.Control.{id_order, same_id, FlagRow, Flood, no_flags}
+use Rattle.lsp_store.specs.Places.{place_in, stands_at}
+use Rattle.isis_flood.specs.declared.table.Bits.{Bits}
+
+-- the values of a test at n numbers from i on
+abbrev pub spread : (ℕ → Bool) → ℕ → ℕ → List Bool
+spread test i zero = []
+spread test i (suc n) = test i ∷ spread test (suc i) n
+
+abbrev pub at_bit : ℕ → ℕ → Bool
+at_bit mask i = bit_at mask i == 1
+
+-- the first n bits, the lowest first
+unfoldable pub links_in : ℕ → ℕ → List Bool
+links_in n mask = spread (at_bit mask) 0 n
+
+-- a row of flags over n links
+abbrev pub row_of : ℕ → Bits → FlagRow
+row_of n b = record { id = b.id; srm = links_in n b.srm; ssn = links_in n b.ssn }
+
+abbrev pub rows_of : ℕ → List Bits → List FlagRow
+rows_of n rows = map (row_of n) rows
+
+abbrev pub row_ids : List Bits → List LspId
+row_ids rows = map (λ b. b.id) rows
+
+-- the row of an identifier, which has no flags where it isn't there
+abbrev pub row_in : ℕ → List FlagRow → LspId → FlagRow
+row_in n [] id = no_flags n id
+row_in n (row ∷ rows) id = match_ordering (id_order id row.id) (no_flags n id) row (row_in n rows id)
+
+abbrev pub flood_of : SystemId → ℕ → ℕ → ℕ → List Bits → Flood
+flood_of own n up due rows = record { own = own; up = links_in n up; due = links_in n due; rows = rows_of n rows }
+
+-- What contracts see of a table of rows: the rows, and how many more it has the memory for.
+pub record Held : Type 0 where
+  pub rows : List Bits
+  pub spare : ℕ
+
+-- What contracts see of flooding's state: the state, and for how many more rows it has the memory.
+pub record Flooding : Type 0 where
+  pub flood : Flood
+  pub spare : ℕ
+
+-- ---- a table of rows in the order of their identifiers
+
+abbrev pub no_bits : LspId → Bits
+no_bits id = record { id = id; srm = 0; ssn = 0 }
+
+-- the row of an identifier
+abbrev pub bits_in : List Bits → LspId → Bits
+bits_in [] id = no_bits id
+bits_in (b ∷ rows) id = match_ordering (id_order id b.id) (no_bits id) b (bits_in rows id)
+
+-- the row at its place, or in place of the one of its identifier
+abbrev pub put_bits : Bits → List Bits → List Bits
+put_bits b [] = b ∷ []
+put_bits b (x ∷ xs) = match_ordering (id_order b.id x.id) (b ∷ x ∷ xs) (b ∷ xs) (x ∷ put_bits b xs)
+
+-- without the row of an identifier
+abbrev pub without_bits : LspId → List Bits → List Bits
+without_bits id [] = []
+without_bits id (b ∷ rows) = if same_id b.id id then rows else b ∷ without_bits id rows
+
+-- a place is that of an identifier, and whether it stands there
+pub record IsPlace (rows : List Bits) (id : LspId) (there : Bool) (p : ℕ) : Type 0 where
+  pub place : p ≡ place_in (row_ids rows) id
+  pub stands : stands_at (row_ids rows) p id ≡ there

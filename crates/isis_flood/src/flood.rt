@@ -1,0 +1,231 @@
+ghost use Rattle.std.specs.Prelude.{◌≡◌, ◌<◌, ◌≤◌, ◌+◌, length, slice_index_or, true, false, IsOk, IfOk, OnOk, OnErr};
+ghost use Rattle.wire_base.specs.model.Control.{FlagRow, srm_in, ssn_in, without_row};
+ghost use Rattle.wire_base.specs.model.Flooding.{with_row, send_on, ask_on, set_srm, pass_on, mark_all, forget, new_flood};
+ghost use Rattle.isis_flood.specs.Masks.{links_in, row_of, row_in};
+
+use crate::masks::{has, mask_of, with, without};
+use crate::table::{Bits, Table};
+use std::alloc::Global;
+use std::marker::Model;
+use wire_base::{LspId, M, SystemId};
+
+/// What flooding keeps beside the database: which links are up, on which of them a CSNP is due, and for each identifier
+/// the links on which its link state PDU is to be sent (SRM) and on which it is to be acknowledged or asked for (SSN).
+/// Contracts see these, and for how many more identifiers it has the memory already (ISO/IEC 10589, 7.3.15).
+#[derive(Drop)]
+pub struct Flood {
+    own: SystemId,
+    links: u16,
+    up: u64,
+    due: u64,
+    table: Table,
+}
+
+impl Model for Flood {
+    ghost use Rattle.std.specs.Prelude.{◌≤◌};
+    ghost use Rattle.isis_flood.specs.Masks.{Flooding, flood_of};
+
+    ghost Value = { Flooding };
+
+    ghost view = { λ f. record { flood = flood_of f.own f.links f.up f.due f.table.rows; spare = f.table.spare } };
+
+    ghost invariant = { λ f. f.links ≤ 64 };
+}
+
+impl Flood {
+    /// No flags, and a CSNP due on every link that is up.
+    pub fn new(alloc: Global, own: SystemId, links: u16, up: &[bool]) -> M<Flood>
+        requires links { length up.now ≡ links }
+        requires few { links ≤ 64 }
+        ensures { IfOk result (λ f. f.flood ≡ new_flood own up.now) }
+    {
+        let up = mask_of(up);
+        Ok(Flood {
+            own,
+            links,
+            up,
+            due: up,
+            table: Table::new(alloc),
+        })
+    }
+
+    /// Whether a link is up.
+    pub fn is_up(&self, link: u16) -> bool
+        requires { link < length self.now.flood.up }
+        ensures { result ≡ slice_index_or self.now.flood.up link false }
+    {
+        has(self.up, link)
+    }
+
+    /// Whether a CSNP is due on a link.
+    pub fn due(&self, link: u16) -> bool
+        requires { link < length self.now.flood.up }
+        ensures { result ≡ slice_index_or self.now.flood.due link false }
+    {
+        has(self.due, link)
+    }
+
+    /// Whether the link state PDU of an identifier is to be sent on a link.
+    pub fn srm(&self, id: LspId, link: u16) -> bool
+        requires { link < length self.now.flood.up }
+        ensures { result ≡ srm_in self.now.flood.rows id link }
+    {
+        has(self.table.get(&id).srm, link)
+    }
+
+    /// Whether the link state PDU of an identifier is to be acknowledged or asked for on a link.
+    pub fn ssn(&self, id: LspId, link: u16) -> bool
+        requires { link < length self.now.flood.up }
+        ensures { result ≡ ssn_in self.now.flood.rows id link }
+    {
+        has(self.table.get(&id).ssn, link)
+    }
+
+    /// Makes room for that many rows more.
+    pub fn reserve(&mut self, n: usize) -> M<()>
+        ensures flood { self.new.flood ≡ self.old.flood }
+        ensures ok { OnOk result (n ≤ self.new.spare) }
+        ensures spare { self.old.spare ≤ self.new.spare }
+    {
+        self.table.reserve(n)
+    }
+
+    /// To be sent on every link that is up, and acknowledged on none.
+    pub fn mark_all(&mut self, id: LspId) -> M<()>
+        ensures ok { OnOk result (self.new.flood ≡ mark_all self.old.flood id) }
+        ensures err { OnErr result (self.new.flood ≡ self.old.flood) }
+        ensures room { 0 < self.old.spare → IsOk result }
+        ensures spare { self.old.spare ≤ self.new.spare + 1 }
+    {
+        let srm = self.up;
+        self.table.put(Bits { id, srm, ssn: 0 })
+    }
+
+    /// All flags of an identifier go.
+    pub fn forget(&mut self, id: LspId)
+        ensures flood { self.new.flood ≡ forget self.old.flood id }
+        ensures spare { self.old.spare ≤ self.new.spare }
+    {
+        self.table.remove(&id);
+    }
+
+    /// The row of an identifier, without flags where it isn't there.
+    fn row(&self, id: &LspId) -> Bits
+        ensures id { result.id ≡ id.now }
+        ensures row { row_of (length self.now.flood.up) result ≡ row_in (length self.now.flood.up) self.now.flood.rows id.now }
+        ensures few { length self.now.flood.up ≤ 64 }
+    {
+        let row = self.table.get(id);
+        Bits {
+            id: *id,
+            srm: row.srm,
+            ssn: row.ssn,
+        }
+    }
+
+    /// Changes the row of an identifier to this one.
+    fn set_row(&mut self, row: Bits) -> M<()>
+        ensures ok { (change : FlagRow → FlagRow) → row_of (length self.old.flood.up) row ≡ change (row_in (length self.old.flood.up) self.old.flood.rows row.id)
+            → OnOk result (self.new.flood ≡ with_row self.old.flood row.id change) }
+        ensures err { OnErr result (self.new.flood ≡ self.old.flood) }
+        ensures room { 0 < self.old.spare → IsOk result }
+        ensures spare { self.old.spare ≤ self.new.spare + 1 }
+    {
+        self.table.put(row)
+    }
+
+    /// To be acknowledged or asked for on a link, and not sent there.
+    pub(crate) fn ask(&mut self, id: LspId, link: u16) -> M<()>
+        requires { link < length self.old.flood.up }
+        ensures ok { OnOk result (self.new.flood ≡ with_row self.old.flood id (ask_on link)) }
+        ensures err { OnErr result (self.new.flood ≡ self.old.flood) }
+        ensures room { 0 < self.old.spare → IsOk result }
+        ensures spare { self.old.spare ≤ self.new.spare + 1 }
+    {
+        let row = self.row(&id);
+        self.set_row(Bits {
+            id,
+            srm: without(row.srm, link),
+            ssn: with(row.ssn, link),
+        })
+    }
+
+    /// To be sent on a link, and not acknowledged there.
+    pub(crate) fn resend(&mut self, id: LspId, link: u16) -> M<()>
+        requires { link < length self.old.flood.up }
+        ensures ok { OnOk result (self.new.flood ≡ with_row self.old.flood id (send_on link)) }
+        ensures err { OnErr result (self.new.flood ≡ self.old.flood) }
+        ensures room { 0 < self.old.spare → IsOk result }
+        ensures spare { self.old.spare ≤ self.new.spare + 1 }
+    {
+        let row = self.row(&id);
+        self.set_row(Bits {
+            id,
+            srm: with(row.srm, link),
+            ssn: without(row.ssn, link),
+        })
+    }
+
+    /// Not to be sent on a link.
+    pub(crate) fn acknowledge(&mut self, id: LspId, link: u16) -> M<()>
+        requires { link < length self.old.flood.up }
+        ensures ok { OnOk result (self.new.flood ≡ with_row self.old.flood id (set_srm link false)) }
+        ensures err { OnErr result (self.new.flood ≡ self.old.flood) }
+        ensures room { 0 < self.old.spare → IsOk result }
+        ensures spare { self.old.spare ≤ self.new.spare + 1 }
+    {
+        let row = self.row(&id);
+        self.set_row(Bits {
+            id,
+            srm: without(row.srm, link),
+            ssn: row.ssn,
+        })
+    }
+
+    /// To be sent on a link.
+    pub(crate) fn want(&mut self, id: LspId, link: u16) -> M<()>
+        requires { link < length self.old.flood.up }
+        ensures ok { OnOk result (self.new.flood ≡ with_row self.old.flood id (set_srm link true)) }
+        ensures err { OnErr result (self.new.flood ≡ self.old.flood) }
+        ensures room { 0 < self.old.spare → IsOk result }
+        ensures spare { self.old.spare ≤ self.new.spare + 1 }
+    {
+        let row = self.row(&id);
+        self.set_row(Bits {
+            id,
+            srm: with(row.srm, link),
+            ssn: row.ssn,
+        })
+    }
+
+    /// The links that are up, as a mask.
+    fn up_mask(&self) -> u64
+        ensures up { links_in (length self.now.flood.up) result ≡ self.now.flood.up }
+        ensures few { length self.now.flood.up ≤ 64 }
+    {
+        self.up
+    }
+
+    /// Came on a link: to be acknowledged there, and to be sent on all other links that are up.
+    pub(crate) fn pass(&mut self, id: LspId, link: u16) -> M<()>
+        requires { link < length self.old.flood.up }
+        ensures ok { OnOk result (self.new.flood ≡ pass_on self.old.flood id link) }
+        ensures err { OnErr result (self.new.flood ≡ self.old.flood) }
+        ensures room { 0 < self.old.spare → IsOk result }
+        ensures spare { self.old.spare ≤ self.new.spare + 1 }
+    {
+        let up = self.up_mask();
+        self.set_row(Bits {
+            id,
+            srm: without(up, link),
+            ssn: with(0, link),
+        })
+    }
+
+    /// The own system.
+    pub(crate) fn own(&self) -> SystemId
+        ensures { result ≡ self.now.flood.own }
+    {
+        self.own
+    }
+}

@@ -1,0 +1,11 @@
+//! Flooding on point-to-point links: on which links a router's link state PDUs are to be sent, and which are to be
+//! acknowledged or asked for there (ISO/IEC 10589, 7.3.14 to 7.3.17).
+#![tactic(auto)]
+
+mod flood;
+mod lsps;
+mod masks;
+mod table;
+
+pub use flood::Flood;
+pub use wire_base::{FloodOut, SnpOut};

@@ -1,0 +1,253 @@
+//! Link state PDUs that are received (ISO/IEC 10589, 7.3.15.1 and 7.3.16).
+ghost use Rattle.std.specs.Prelude.{◌≡◌, ◌<◌, ◌≤◌, ◌+◌, ◌&&◌, not, length, true, false, if◌then◌else◌, IfOk, OnOk, OnErr};
+ghost use Rattle.wire_base.specs.model.Control.{entry_in, put_entry, age_of, fragment_0, is_full, is_unknown, is_newer, purge};
+ghost use Rattle.wire_base.specs.model.Flooding.{mark_all, pass_on, kept, on_lsp, lsp_aged, stores, only_says, puts_marked, is_own_ahead, is_stray};
+ghost use Rattle.wire_base.specs.declared.entry.Age.TheVariants.{Unknown};
+ghost use Rattle.wire_base.specs.declared.flood_out.FloodOut.TheVariants as out;
+ghost use Rattle.wire_base.specs.model.Pdu.{head_summary};
+ghost use Rattle.lsp_store.specs.Places.{is_refused, is_new};
+ghost use Rattle.isis_pdu.specs.Views.{head_of};
+ghost use Rattle.isis_flood.specs.Answers.{LspDone};
+
+use crate::flood::Flood;
+use isis_pdu::LspHead;
+use lsp_store::{Store, purge};
+use std::alloc::Global;
+use wire_base::{Age, Entry, FloodOut, LspId, M, Memory, Octets, Summary, SystemId};
+
+/// The most entries of a database.
+const MOST_ENTRIES: usize = 4096;
+
+/// What a sequence numbers PDU says of a link state PDU.
+fn summary_of(head: &LspHead) -> Summary
+    ensures { result ≡ head_summary (head_of head.now) }
+{
+    Summary {
+        life: head.life,
+        id: head.id,
+        seq: head.seq,
+        sum: head.sum,
+    }
+}
+
+/// What a database keeps of a link state PDU: of a dead one a purge.
+fn kept(alloc: Global, head: &LspHead, tlvs: &[u8]) -> M<Entry>
+    ensures entry { IfOk result (λ e. e ≡ kept (head_of head.now) tlvs.now) }
+    ensures id { IfOk result (λ e. e.id ≡ head.now.id) }
+{
+    if head.life == 0 {
+        return Ok(purge(alloc, head.id, head.seq));
+    }
+    Ok(Entry {
+        id: head.id,
+        seq: head.seq,
+        life: head.life,
+        hold: 0,
+        sum: head.sum,
+        flags: head.flags,
+        content: Octets::from_slice(alloc, tlvs)?,
+    })
+}
+
+/// Puts an entry that isn't refused.
+fn put_into(store: &mut Store, e: Entry) -> M<()>
+    requires { is_refused store.old.entries e.id ≡ false }
+    ensures ok { OnOk result (store.new.entries ≡ put_entry e store.old.entries) }
+    ensures err { OnErr result (store.new.entries ≡ store.old.entries) }
+{
+    match store.put(e) {
+        Ok(()) => Ok(()),
+        Err(_) => Err(Memory),
+    }
+}
+
+/// Whether a database takes no new identifier.
+fn is_full(store: &Store) -> bool
+    ensures { result ≡ is_full store.now.entries }
+{
+    store.len() >= MOST_ENTRIES
+}
+
+fn is_unknown(age: Age) -> bool
+    ensures { result ≡ is_unknown age }
+{
+    match age {
+        Age::Unknown => true,
+        Age::Newer | Age::Equal | Age::Older | Age::Confused => false,
+    }
+}
+
+/// Newer than the entry, or at odds with it.
+fn is_newer(age: Age) -> bool
+    ensures { result ≡ is_newer age }
+{
+    match age {
+        Age::Newer | Age::Confused => true,
+        Age::Unknown | Age::Equal | Age::Older => false,
+    }
+}
+
+/// The identifier of a system's fragment 0.
+fn fragment_0(system: SystemId) -> LspId
+    ensures { result ≡ fragment_0 system }
+{
+    LspId {
+        system,
+        pseudonode: 0,
+        fragment: 0,
+    }
+}
+
+impl Flood {
+    /// Puts an entry and marks it on all links that are up.
+    pub(crate) fn put_marked(&mut self, store: &mut Store, e: Entry) -> M<()>
+        requires { is_refused store.old.entries e.id ≡ false }
+        ensures ok { OnOk result ((self.new.flood ≡ mark_all self.old.flood e.id) × (store.new.entries ≡ put_entry e store.old.entries)) }
+        ensures err { OnErr result ((self.new.flood ≡ self.old.flood) × (store.new.entries ≡ store.old.entries)) }
+        ensures spare { self.old.spare ≤ self.new.spare + 1 }
+    {
+        let id = e.id;
+        self.reserve(1)?;
+        put_into(store, e)?;
+        self.mark_all(id)
+    }
+
+    /// Puts an entry that came on a link, and passes it on.
+    fn put_passed(&mut self, store: &mut Store, link: u16, e: Entry) -> M<()>
+        requires link { link < length self.old.flood.up }
+        requires room { is_refused store.old.entries e.id ≡ false }
+        ensures ok { OnOk result ((self.new.flood ≡ pass_on self.old.flood e.id link) × (store.new.entries ≡ put_entry e store.old.entries)) }
+        ensures err { OnErr result ((self.new.flood ≡ self.old.flood) × (store.new.entries ≡ store.old.entries)) }
+        ensures spare { self.old.spare ≤ self.new.spare + 1 }
+    {
+        let id = e.id;
+        self.reserve(1)?;
+        put_into(store, e)?;
+        self.pass(id, link)
+    }
+
+    /// The own fragment 0, ahead of the one that the router issued.
+    pub(crate) fn is_own_ahead(&self, id: &LspId, spent: bool, age: Age) -> bool
+        ensures { result ≡ is_own_ahead self.now.flood id.now spent age }
+    {
+        *id == fragment_0(self.own()) && !spent && is_newer(age)
+    }
+
+    /// A live link state PDU of the own system that the router doesn't have.
+    fn is_stray(&self, head: &LspHead, age: Age) -> bool
+        ensures { result ≡ is_stray self.now.flood (head_of head.now) age }
+    {
+        head.id.system == self.own() && head.life > 0 && (is_unknown(age) || is_newer(age))
+    }
+
+    /// Purges a stray one everywhere.
+    fn on_stray(&mut self, store: &mut Store, head: &LspHead, age: Age) -> M<FloodOut>
+        requires { age ≡ age_of (entry_in store.old.entries head.now.id) (head_summary (head_of head.now)) }
+        ensures done { LspDone result self.old.flood store.old.entries self.new.flood store.new.entries
+            (if is_unknown age && is_full store.old.entries then only_says self.old.flood store.old.entries out.Full else puts_marked self.old.flood store.old.entries (purge head.now.id head.now.seq)) }
+        ensures spare { self.old.spare ≤ self.new.spare + 1 }
+    {
+        if is_unknown(age) && is_full(store) {
+            return Ok(FloodOut::Full);
+        }
+        let gone = purge(store.allocator(), head.id, head.seq);
+        self.put_marked(store, gone)?;
+        Ok(FloodOut::Kept)
+    }
+
+    /// Stores one and passes it on.
+    fn keep(&mut self, store: &mut Store, link: u16, head: &LspHead, tlvs: &[u8]) -> M<FloodOut>
+        requires link { link < length self.old.flood.up }
+        requires room { is_refused store.old.entries head.now.id ≡ false }
+        ensures done { LspDone result self.old.flood store.old.entries self.new.flood store.new.entries (stores self.old.flood store.old.entries link (kept (head_of head.now) tlvs.now)) }
+        ensures spare { self.old.spare ≤ self.new.spare + 1 }
+    {
+        let entry = kept(store.allocator(), head, tlvs)?;
+        self.put_passed(store, link, entry)?;
+        Ok(FloodOut::Kept)
+    }
+
+    /// One that is unknown: a dead one is acknowledged at once, a live one is stored where there is room.
+    fn on_unknown(
+        &mut self,
+        store: &mut Store,
+        link: u16,
+        head: &LspHead,
+        tlvs: &[u8],
+    ) -> M<FloodOut>
+        requires link { link < length self.old.flood.up }
+        ensures done { LspDone result self.old.flood store.old.entries self.new.flood store.new.entries (lsp_aged self.old.flood store.old.entries link (head_of head.now) tlvs.now Unknown) }
+        ensures spare { self.old.spare ≤ self.new.spare + 1 }
+    {
+        if head.life == 0 {
+            return Ok(FloodOut::Ack(summary_of(head)));
+        }
+        if is_full(store) {
+            return Ok(FloodOut::Full);
+        }
+        self.keep(store, link, head, tlvs)
+    }
+
+    /// By how new it is, where it isn't a matter of the own link state PDUs.
+    fn on_aged(
+        &mut self,
+        store: &mut Store,
+        link: u16,
+        head: &LspHead,
+        tlvs: &[u8],
+        age: Age,
+    ) -> M<FloodOut>
+        requires link { link < length self.old.flood.up }
+        requires age { age ≡ age_of (entry_in store.old.entries head.now.id) (head_summary (head_of head.now)) }
+        ensures done { LspDone result self.old.flood store.old.entries self.new.flood store.new.entries (lsp_aged self.old.flood store.old.entries link (head_of head.now) tlvs.now age) }
+        ensures spare { self.old.spare ≤ self.new.spare + 1 }
+    {
+        match age {
+            Age::Unknown => self.on_unknown(store, link, head, tlvs),
+            Age::Newer => self.keep(store, link, head, tlvs),
+            Age::Confused => {
+                let gone = purge(store.allocator(), head.id, head.seq);
+                self.put_marked(store, gone)?;
+                Ok(FloodOut::Kept)
+            }
+            Age::Equal => {
+                self.ask(head.id, link)?;
+                Ok(FloodOut::Kept)
+            }
+            Age::Older => {
+                self.resend(head.id, link)?;
+                Ok(FloodOut::Kept)
+            }
+        }
+    }
+
+    /// A link state PDU that came on a link. `spent` says that the router issues no link state PDU of its own. The
+    /// answer is what is asked for beside what is done here: that the own one be issued anew, that this one be
+    /// acknowledged at once, or that it was dropped, because the database is full or its sequence number is 0
+    /// (ISO/IEC 10589, 7.3.15.1 and 7.3.16). Where memory runs out, all is as it was.
+    #[tactic(auto, unfolding(wire_base::specs::model::Flooding::on_lsp))]
+    pub fn on_lsp(
+        &mut self,
+        store: &mut Store,
+        link: u16,
+        head: &LspHead,
+        tlvs: &[u8],
+        spent: bool,
+    ) -> M<FloodOut>
+        requires { link < length self.old.flood.up }
+        ensures done { LspDone result self.old.flood store.old.entries self.new.flood store.new.entries (on_lsp self.old.flood store.old.entries link (head_of head.now) tlvs.now spent) }
+        ensures spare { self.old.spare ≤ self.new.spare + 1 }
+    {
+        if head.seq == 0 {
+            return Ok(FloodOut::Zero);
+        }
+        let age = store.compare(&summary_of(head));
+        if self.is_own_ahead(&head.id, spent, age) {
+            return Ok(FloodOut::Reissue(head.seq));
+        }
+        if self.is_stray(head, age) {
+            return self.on_stray(store, head, age);
+        }
+        self.on_aged(store, link, head, tlvs, age)
+    }
+}

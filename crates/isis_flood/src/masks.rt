@@ -1,0 +1,67 @@
+//! Masks over links, of which there are at most 64: bit i of a mask is the link at place i.
+ghost use Rattle.std.specs.Prelude.{◌≡◌, ◌≢◌, ◌<◌, ◌≤◌, ℕ, true, false, length, slice_set, slice_index_or};
+ghost use Rattle.isis_flood.specs.Masks.{links_in, at_bit};
+
+/// With a link.
+fn with_bit(mask: u64, link: u16) -> u64
+    requires { link < 64 }
+    ensures here { at_bit result link ≡ true }
+    ensures others { (i : ℕ) → i < 64 → i ≢ link → at_bit result i ≡ at_bit mask i }
+{
+    mask | (1 << link)
+}
+
+/// Without a link.
+fn without_bit(mask: u64, link: u16) -> u64
+    requires { link < 64 }
+    ensures here { at_bit result link ≡ false }
+    ensures others { (i : ℕ) → i < 64 → i ≢ link → at_bit result i ≡ at_bit mask i }
+{
+    mask & !(1 << link)
+}
+
+/// Whether the mask has a link.
+fn has_bit(mask: u64, link: u16) -> bool
+    requires { link < 64 }
+    ensures { result ≡ at_bit mask link }
+{
+    (mask >> link) & 1 == 1
+}
+
+/// With a link.
+pub(crate) fn with(mask: u64, link: u16) -> u64
+    requires { link < 64 }
+    ensures { (n : ℕ) → link < n → n ≤ 64 → links_in n result ≡ slice_set (links_in n mask) link true }
+{
+    with_bit(mask, link)
+}
+
+/// Without a link.
+pub(crate) fn without(mask: u64, link: u16) -> u64
+    requires { link < 64 }
+    ensures { (n : ℕ) → link < n → n ≤ 64 → links_in n result ≡ slice_set (links_in n mask) link false }
+{
+    without_bit(mask, link)
+}
+
+/// Whether the mask has a link.
+pub(crate) fn has(mask: u64, link: u16) -> bool
+    requires { link < 64 }
+    ensures { (n : ℕ) → link < n → result ≡ slice_index_or (links_in n mask) link false }
+{
+    has_bit(mask, link)
+}
+
+/// The links at which the list has true.
+pub(crate) fn mask_of(values: &[bool]) -> u64
+    requires { length values.now ≤ 64 }
+    ensures { links_in (length values.now) result ≡ values.now }
+{
+    let mut mask = 0;
+    'links: for i in 0..values.len() {
+        if values[i] {
+            mask = with_bit(mask, i as u16);
+        }
+    }
+    mask
+}

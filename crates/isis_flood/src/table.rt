@@ -1,0 +1,162 @@
+ghost use Rattle.std.specs.Prelude.{◌≡◌, ◌<◌, ◌≤◌, ◌+◌, [], true, false, length, IsOk, IfOk, IfErr, OnOk, OnErr};
+ghost use Rattle.std.specs.Ordering.{is_gt};
+ghost use Rattle.wire_base.specs.model.Control.{AreAscending, id_order, same_id};
+ghost use Rattle.lsp_store.specs.Places.{place_in, stands_at};
+ghost use Rattle.isis_flood.specs.Masks.{row_ids, bits_in, put_bits, without_bits, IsPlace};
+
+use std::alloc::Global;
+use std::marker::Model;
+use wire_base::{LspId, M};
+
+/// On which links a link state PDU is to be sent, and on which it is to be acknowledged or asked for: bit i of a mask
+/// is the link at place i.
+#[derive(Clone, Copy)]
+pub(crate) struct Bits {
+    pub(crate) id: LspId,
+    pub(crate) srm: u64,
+    pub(crate) ssn: u64,
+}
+
+/// Rows of flags in the order of their identifiers, none twice.
+#[derive(Drop)]
+pub(crate) struct Table {
+    items: Vec<Bits>,
+}
+
+impl Model for Table {
+    ghost use Rattle.std.specs.Prelude.{◌-◌, vec_len, vec_capacity};
+    ghost use Rattle.wire_base.specs.model.Control.{AreAscending};
+    ghost use Rattle.isis_flood.specs.Masks.{Held, row_ids};
+
+    ghost Value = { Held };
+
+    ghost view = { λ t. record { rows = t.items.items; spare = vec_capacity t.items - vec_len t.items } };
+
+    ghost invariant = { λ t. AreAscending (row_ids t.items.items) };
+}
+
+fn is_above(id: &LspId, row: &Bits) -> bool
+    ensures { result ≡ is_gt (id_order id.now row.now.id) }
+{
+    id.cmp(&row.id).is_gt()
+}
+
+/// How many rows have an identifier below this one, by halving.
+fn place_of(rows: &[Bits], id: &LspId) -> usize
+    requires { AreAscending (row_ids rows.now) }
+    ensures { result ≡ place_in (row_ids rows.now) id.now }
+{
+    let mut low = 0;
+    let mut high = rows.len();
+    'halves: while low < high {
+        let middle = low + (high - low) / 2;
+        if is_above(id, &rows[middle]) {
+            low = middle + 1;
+        } else {
+            high = middle;
+        }
+    }
+    low
+}
+
+fn has_id(row: &Bits, id: &LspId) -> bool
+    ensures { result ≡ same_id row.now.id id.now }
+{
+    row.id == *id
+}
+
+fn stands_at(rows: &[Bits], place: usize, id: &LspId) -> bool
+    ensures { result ≡ stands_at (row_ids rows.now) place id.now }
+{
+    if place < rows.len() {
+        return has_id(&rows[place], id);
+    }
+    false
+}
+
+impl Table {
+    pub(crate) fn new(alloc: Global) -> Table
+        ensures { result.rows ≡ [] }
+    {
+        Table {
+            items: Vec::new(alloc),
+        }
+    }
+
+    pub(crate) fn as_slice(&self) -> &[Bits]
+        ensures { result.now ≡ self.now.rows }
+    {
+        self.items.as_slice()
+    }
+
+    /// Where an identifier stands, or would stand.
+    fn find(&self, id: &LspId) -> Result<usize, usize>
+        ensures there { IfOk result (λ place. IsPlace self.now.rows id.now true place) }
+        ensures gone { IfErr result (λ place. IsPlace self.now.rows id.now false place) }
+    {
+        let rows = self.items.as_slice();
+        let place = place_of(rows, id);
+        if stands_at(rows, place, id) {
+            Ok(place)
+        } else {
+            Err(place)
+        }
+    }
+
+    /// The row of an identifier, without flags where it isn't there.
+    pub(crate) fn get(&self, id: &LspId) -> Bits
+        ensures row { result ≡ bits_in self.now.rows id.now }
+        ensures ascends { AreAscending (row_ids self.now.rows) }
+    {
+        match self.find(id) {
+            Ok(place) => self.items[place],
+            Err(_) => Bits {
+                id: *id,
+                srm: 0,
+                ssn: 0,
+            },
+        }
+    }
+
+    /// Puts a row at its place, or in place of the one of its identifier.
+    pub(crate) fn put(&mut self, row: Bits) -> M<()>
+        ensures ok { OnOk result (self.new.rows ≡ put_bits row self.old.rows) }
+        ensures err { OnErr result (self.new.rows ≡ self.old.rows) }
+        ensures room { 0 < self.old.spare → IsOk result }
+        ensures spare { self.old.spare ≤ self.new.spare + 1 }
+    {
+        match self.find(&row.id) {
+            Ok(place) => {
+                self.items[place] = row;
+                Ok(())
+            }
+            Err(place) => {
+                self.items.insert(place, row)?;
+                Ok(())
+            }
+        }
+    }
+
+    /// Takes the row of an identifier away.
+    pub(crate) fn remove(&mut self, id: &LspId)
+        ensures rows { self.new.rows ≡ without_bits id.now self.old.rows }
+        ensures spare { self.old.spare ≤ self.new.spare }
+    {
+        match self.find(id) {
+            Ok(place) => {
+                self.items.remove(place);
+            }
+            Err(_) => (),
+        }
+    }
+
+    /// Makes room for that many rows more.
+    pub(crate) fn reserve(&mut self, n: usize) -> M<()>
+        ensures rows { self.new.rows ≡ self.old.rows }
+        ensures ok { OnOk result (n ≤ self.new.spare) }
+        ensures spare { self.old.spare ≤ self.new.spare }
+    {
+        self.items.reserve(n)?;
+        Ok(())
+    }
+}

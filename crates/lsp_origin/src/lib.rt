@@ -1,0 +1,15 @@
+//! The link state PDU that a router issues of itself: fragment 0 with its area, its name, its links and its places in
+//! BIER subdomains (ISO/IEC 10589, 7.3.7; RFC 5301; RFC 5305; RFC 8401).
+#![tactic(auto)]
+
+mod content;
+mod links;
+mod origin;
+mod subdomains;
+
+pub use lsp_store::purge;
+pub use origin::originate;
+pub use wire_base::Entry;
+
+#[cfg(test)]
+mod tests;
