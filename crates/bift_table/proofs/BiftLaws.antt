@@ -1,15 +1,16 @@
 -- Laws of forwarding tables: masks by membership, masks of different routers share no position, and together they are the
 -- positions that have a row.
-use Rattle.std.proofs.Common.{◌≡◌, ℕ, zero, suc, ◌+◌, ◌<◌, ◌≤◌, ◌==◌, ◌&&◌, Bool, true, false, cond, List, [], ◌∷◌, length, get_or, map, filter, Option, Some, None, is_some, refl, sym, ap, ◌∙◌, arith, subst, inl, inr, ◌↔◌}
+use Rattle.std.proofs.Common.{◌≡◌, ℕ, zero, suc, ◌+◌, ◌-◌, ◌<◌, ◌≤◌, ◌==◌, ◌&&◌, Bool, true, false, cond, List, [], ◌∷◌, length, get_or, map, filter, Option, Some, None, is_some, refl, sym, ap, ◌∙◌, arith, subst, inl, inr, ◌↔◌}
 use Rattle.std.proofs.lemmas.Bool.{cases_Bool, cases_lt, true≢false, eq-eqb, eqb-true}
 use Rattle.std.proofs.lemmas.List.{get_or_past, get_or-map, length-map}
 use Rattle.std.proofs.lemmas.Slice.Eq.{bytes_eq-Decides}
 use Rattle.std.specs.Str.{bytes_eq}
 use Rattle.std.proofs.Math.Bool.{and-false}
+use Rattle.std.proofs.Math.ListN.{get_or-map as any-get_or-map}
 use Rattle.wire_base.specs.declared.addresses.SystemId.{SystemId}
 use Rattle.wire_base.specs.declared.view.First.{First}
 use Rattle.wire_base.specs.model.BitSet.{has_member, IsWithin, intersection, up_to}
-use Rattle.wire_base.proofs.SetLaws.{has-filter, has-up_to, has_head, none_below, none_above, within-up_to, has-intersection}
+use Rattle.wire_base.proofs.SetLaws.{within-filter, has-filter, has-up_to, has_head, none_below, none_above, within-up_to, has-intersection}
 use Rattle.bift_table.specs.Bift.{router_at, same_end, same_router, leads_to, mask_of, routed_of, member_at, table_of}
 
 -- ---- one router
@@ -119,3 +120,13 @@ mask-whole rows class n f mask e q = q ∙ ap (λ (k : ℕ). filter (λ p. leads
 pub routed-whole : (rows : List (List First)) (class n : ℕ) (routed : List ℕ) → n ≡ length rows → routed ≡ filter (λ p. is_some (router_at (table_of rows class) p)) (up_to n) → routed ≡ routed_of (table_of rows class)
 unfolding routed_of
 routed-whole rows class n routed e q = q ∙ ap (λ (k : ℕ). filter (λ p. is_some (router_at (table_of rows class) p)) (up_to k)) (e ∙ sym (length-table rows class))
+
+-- the router of each position is a member of the position's list
+pub table-at : (rows : List (List First)) (class p : ℕ) → 1 ≤ p → router_at (table_of rows class) p ≡ member_at class (get_or rows (p - 1) [])
+unfolding table_of
+table-at rows class zero low = absurd (omega arith)
+table-at rows class (suc p) low = let e : p ≡ suc p - 1 = omega arith in any-get_or-map (member_at class) rows p [] ∙ ap (λ (k : ℕ). member_at class (get_or rows k [])) e
+
+pub within-routed : (table : List (Option First)) (size : ℕ) → length table ≡ size → IsWithin 0 size (routed_of table)
+unfolding routed_of
+within-routed table size e = subst (λ n. IsWithin 0 n (filter (λ p. is_some (router_at table p)) (up_to (length table)))) e (within-filter 0 (length table) (λ p. is_some (router_at table p)) (up_to (length table)) (within-up_to (length table)))

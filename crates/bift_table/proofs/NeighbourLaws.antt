@@ -56,6 +56,14 @@ routers_from-is ns (o ∷ table) p same =
     let tail = routers_from-is ns table (suc p) (λ i lt. ap (router_in ns) (omega arith) ∙ same (suc i) (omega arith)) in
     rw (head, tail) refl
 
+length-routers_from : {w : ℕ} (more p : ℕ) (ns : List (Neighbour w)) → length (routers_from more p ns) ≡ more
+length-routers_from zero p ns = refl
+length-routers_from (suc more) p ns = omega (arith, length-routers_from more (suc p) ns)
+
+pub length-routers : {w : ℕ} (size : ℕ) (ns : List (Neighbour w)) → length (routers size ns) ≡ size
+unfolding routers
+length-routers size ns = length-routers_from size 1 ns
+
 pub routers-is : {w : ℕ} (table : List (Option First)) (size : ℕ) (ns : List (Neighbour w)) → length table ≡ size → AreMasks table ns → AreKnown table size ns → routers size ns ≡ table
 unfolding routers
 routers-is table size ns len are known =

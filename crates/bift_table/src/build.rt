@@ -9,7 +9,11 @@ use std::alloc::Global;
 use wire_base::{First, M, Rows};
 
 // Each router that some position leads to, once, with its mask.
-pub fn neighbours_in<const W: usize>(alloc: Global, lists: &[Rows<First>], class: u8) -> M<Rows<Neighbour<W>>>
+pub fn neighbours_in<const W: usize>(
+    alloc: Global,
+    lists: &[Rows<First>],
+    class: u8,
+) -> M<Rows<Neighbour<W>>>
     requires width { IsTrue (is_width W) }
     requires lists { length lists.now ≡ 64 * W }
     ensures masks { IfOk result (λ ns. AreMasks (table_of lists.now class) ns) }

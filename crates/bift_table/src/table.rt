@@ -1,8 +1,8 @@
-ghost use Rattle.std.specs.Prelude.{◌≡◌, ◌↔◌, ℕ, ◌<◌, ◌≤◌, ◌+◌, ◌*◌, [], false, length, IsTrue, true, None, Some, IfOk, IfSome, MatchOption, is_some};
+ghost use Rattle.std.specs.Prelude.{◌≡◌, ◌↔◌, ℕ, ◌<◌, ◌≤◌, ◌+◌, ◌-◌, ◌*◌, [], slice_index_or, false, length, IsTrue, true, None, Some, IfOk, IfSome, MatchOption, is_some};
 ghost use Rattle.wire_base.specs.declared.view.First.{First};
 ghost use Rattle.wire_base.specs.model.BitSet.{has_member, IsWithin, intersection};
 ghost use Rattle.bier_bits.specs.Sets.{is_width};
-ghost use Rattle.bift_table.specs.Bift.{router_at, same_router, mask_of, routed_of, table_of};
+ghost use Rattle.bift_table.specs.Bift.{router_at, member_at, same_router, mask_of, routed_of, table_of};
 
 use crate::build::{neighbours_in, routed_in};
 use crate::neighbour::{Neighbour, neighbour_at};
@@ -36,6 +36,7 @@ impl<const W: usize> Model for Table<W> {
 
 /// A row of a table: the router to which a position leads, and all positions that lead to it (the forwarding bit mask of
 /// RFC 8279, 6.4).
+#[derive(Clone, Copy)]
 pub struct Row<'t, const W: usize> {
     pub mask: &'t BitString<W>,
     pub to: &'t First,
@@ -48,7 +49,8 @@ impl<const W: usize> Table<W> {
         requires width { IsTrue (is_width W) }
         requires lists { length rows.now.bits ≡ 64 * W }
         requires class { class < 16 }
-        ensures { IfOk result (λ table. table ≡ table_of rows.now.bits class) }
+        ensures table { IfOk result (λ table. table ≡ table_of rows.now.bits class) }
+        ensures positions { IfOk result (λ table. (p : ℕ) → 1 ≤ p → router_at table p ≡ member_at class (slice_index_or rows.now.bits (p - 1) [])) }
     {
         let lists = rows.bits.as_slice();
         let neighbours = neighbours_in(alloc, lists, class)?;
@@ -76,9 +78,10 @@ impl<const W: usize> Table<W> {
         })
     }
 
-    /// The positions that have a row: those that are in the mask of some router.
+    /// The positions that have a row: those that are in the mask of some router. They are in ascending order, from 1 to 64 W.
     pub fn routed(&self) -> &BitString<W>
         ensures value { result.now ≡ routed_of self.now }
+        ensures ordered { IsWithin 0 (64 * W) result.now }
         ensures union { (p : ℕ) → (has_member p result.now ≡ true) ↔ ((f : First) × (has_member p (mask_of self.now f) ≡ true)) }
     {
         &self.routed

@@ -1,7 +1,7 @@
 use Rattle.std.proofs.Common.{◌≡◌, ◌*◌, length, sym, ◌∙◌, ap, subst}
-use Rattle.bift_table.specs.Bift.{table_of, routed_of}
+use Rattle.bift_table.specs.Bift.{router_at, table_of, routed_of}
 use Rattle.bift_table.specs.Neighbours.{routers, AreMasks}
-use Rattle.bift_table.proofs.BiftLaws.{length-table}
+use Rattle.bift_table.proofs.BiftLaws.{length-table, table-at}
 use Rattle.bift_table.proofs.NeighbourLaws.{routers-is}
 use Rattle.bift_table.proofs.table.Table.build.Goals as goal
 use Rattle.bift_table.proofs.table.Table.build.Given.{Over}
@@ -18,5 +18,8 @@ invariant_of-result g c = record {
   routed = c.routed_in-routed.ensures ∙ ap routed_of (sym (whole g c));
 }
 
-pub returns : goal.returns
-returns g c = whole g c ∙ ap (λ rows. table_of rows c.args.class) c.as_slice-lists.ensures
+pub returns-clause-table : goal.returns-clause-table
+returns-clause-table g c = whole g c ∙ ap (λ rows. table_of rows c.args.class) c.as_slice-lists.ensures
+
+pub returns-clause-positions : goal.returns-clause-positions
+returns-clause-positions g c p low = ap (λ table. router_at table p) (returns-clause-table g c) ∙ table-at c.args.rows.now.bits c.args.class p low
