@@ -1,13 +1,10 @@
-// A library with one function.
+//! One hop of a packet at one router (RFC 8279, 6.5): where each of its bit positions goes.
 #![tactic(auto)]
 
-ghost use Rattle.std.specs.Prelude.{◌≡◌};
-ghost use Rattle.bier_hop.specs.Echo.{echo_of};
+mod hop;
+mod out;
+#[cfg(test)]
+mod tests;
 
-// The `ensures` clause is the contract: what `echo` returns is `echo_of` of its argument, a definition
-// in `specs/Echo.antt`, which a caller's clause can cite too.
-pub fn echo(x: usize) -> usize
-    ensures { result ≡ echo_of x }
-{
-    x
-}
+pub use hop::Hop;
+pub use out::{Out, Why};

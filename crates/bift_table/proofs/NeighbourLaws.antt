@@ -1,5 +1,5 @@
 -- Routers with their masks stand for a table.
-use Rattle.std.proofs.Common.{◌≡◌, ℕ, zero, suc, ◌+◌, ◌<◌, ◌≤◌, ◌||◌, ◌++◌, Bool, true, false, cond, List, [], ◌∷◌, length, get_or, Option, Some, None, option_map, refl, sym, ap, ◌∙◌, arith, subst, inl, inr}
+use Rattle.std.proofs.Common.{◌≡◌, ℕ, zero, suc, ◌+◌, ◌<◌, ◌≤◌, ◌||◌, ◌++◌, Bool, true, false, cond, List, [], ◌∷◌, length, get_or, map, Option, Some, None, option_map, refl, sym, ap, ◌∙◌, arith, subst, inl, inr}
 use Rattle.std.specs.List.{list_any}
 use Rattle.std.proofs.lemmas.Bool.{cases_Bool, cases_lt, true≢false}
 use Rattle.std.proofs.lemmas.Option.{same_Some}
@@ -9,8 +9,8 @@ use Rattle.wire_base.specs.declared.view.First.{First}
 use Rattle.wire_base.specs.model.BitSet.{has_member}
 use Rattle.bift_table.specs.declared.neighbour.Neighbour.{Neighbour}
 use Rattle.bift_table.specs.Bift.{router_at, same_router, leads_to, mask_of}
-use Rattle.bift_table.specs.Neighbours.{neighbour_at, router_in, routers_from, routers, AreMasks, AreKnown}
-use Rattle.bift_table.proofs.BiftLaws.{same_router-is, same_router-refl, router_at-place, has-mask}
+use Rattle.bift_table.specs.Neighbours.{neighbour_at, router_in, routers_from, table_in, AreMasks, AreKnown}
+use Rattle.bift_table.proofs.BiftLaws.{same_router-is, same_router-refl, router_at-place, router_at-past, has-mask}
 
 -- what is found in the list has the position, and its whole mask
 pub neighbour-found : {w : ℕ} (table : List (Option First)) (ns : List (Neighbour w)) (p : ℕ) (n : Neighbour w) → AreMasks table ns → neighbour_at p ns ≡ Some n → (n.mask ≡ mask_of table n.to) × (has_member p n.mask ≡ true)
@@ -60,12 +60,12 @@ length-routers_from : {w : ℕ} (more p : ℕ) (ns : List (Neighbour w)) → len
 length-routers_from zero p ns = refl
 length-routers_from (suc more) p ns = omega (arith, length-routers_from more (suc p) ns)
 
-pub length-routers : {w : ℕ} (size : ℕ) (ns : List (Neighbour w)) → length (routers size ns) ≡ size
-unfolding routers
+pub length-routers : {w : ℕ} (size : ℕ) (ns : List (Neighbour w)) → length (table_in size ns) ≡ size
+unfolding table_in
 length-routers size ns = length-routers_from size 1 ns
 
-pub routers-is : {w : ℕ} (table : List (Option First)) (size : ℕ) (ns : List (Neighbour w)) → length table ≡ size → AreMasks table ns → AreKnown table size ns → routers size ns ≡ table
-unfolding routers
+pub routers-is : {w : ℕ} (table : List (Option First)) (size : ℕ) (ns : List (Neighbour w)) → length table ≡ size → AreMasks table ns → AreKnown table size ns → table_in size ns ≡ table
+unfolding table_in
 routers-is table size ns len are known =
     ap (λ (n : ℕ). routers_from n 1 ns) (sym len) ∙ routers_from-is ns table 1
     (λ i lt. router_in-is table size ns (1 + i) are known (omega arith) ∙ router_at-place table i (1 + i) (omega arith))
@@ -75,8 +75,8 @@ routers_from-at ns zero p i lt = absurd (omega arith)
 routers_from-at ns (suc more) p zero lt = ap (router_in ns) (omega arith)
 routers_from-at ns (suc more) p (suc i) lt = routers_from-at ns more (suc p) i (omega arith) ∙ ap (router_in ns) (omega arith)
 
-pub routers-at : {w : ℕ} (size : ℕ) (ns : List (Neighbour w)) (p : ℕ) → 1 ≤ p → p ≤ size → router_at (routers size ns) p ≡ router_in ns p
-unfolding routers
+pub routers-at : {w : ℕ} (size : ℕ) (ns : List (Neighbour w)) (p : ℕ) → 1 ≤ p → p ≤ size → router_at (table_in size ns) p ≡ router_in ns p
+unfolding table_in
 routers-at size ns zero low high = absurd (omega arith)
 routers-at size ns (suc p) low high = routers_from-at ns size 1 p (omega arith) ∙ ap (router_in ns) (omega arith)
 
@@ -108,7 +108,7 @@ known-new table count more ns n known e is =
 
 -- ---- rows
 
-pub row-none : {w : ℕ} (size : ℕ) (ns : List (Neighbour w)) (table : List (Option First)) (p : ℕ) → routers size ns ≡ table → 1 ≤ p → p ≤ size → neighbour_at p ns ≡ None → router_at table p ≡ None
+pub row-none : {w : ℕ} (size : ℕ) (ns : List (Neighbour w)) (table : List (Option First)) (p : ℕ) → table_in size ns ≡ table → 1 ≤ p → p ≤ size → neighbour_at p ns ≡ None → router_at table p ≡ None
 row-none size ns table p view low high q = ap (λ t. router_at t p) (sym view) ∙ routers-at size ns p low high ∙ ap (λ o. option_map (λ n. n.to) o) q
 
 pub record IsRow {w : ℕ} (table : List (Option First)) (p : ℕ) (n : Neighbour w) : Type 0 where
@@ -116,11 +116,32 @@ pub record IsRow {w : ℕ} (table : List (Option First)) (p : ℕ) (n : Neighbou
   pub mask : n.mask ≡ mask_of table n.to
   pub has : has_member p n.mask ≡ true
 
-pub row-some : {w : ℕ} (size : ℕ) (ns : List (Neighbour w)) (table : List (Option First)) (p : ℕ) (n : Neighbour w) → routers size ns ≡ table → AreMasks (routers size ns) ns → 1 ≤ p → p ≤ size → neighbour_at p ns ≡ Some n → IsRow table p n
+pub row-some : {w : ℕ} (size : ℕ) (ns : List (Neighbour w)) (table : List (Option First)) (p : ℕ) (n : Neighbour w) → table_in size ns ≡ table → AreMasks (table_in size ns) ns → 1 ≤ p → p ≤ size → neighbour_at p ns ≡ Some n → IsRow table p n
 row-some size ns table p n view are low high q =
-    let found = neighbour-found (routers size ns) ns p n are q in
+    let found = neighbour-found (table_in size ns) ns p n are q in
     record {
       to = ap (λ t. router_at t p) (sym view) ∙ routers-at size ns p low high ∙ ap (λ o. option_map (λ m. m.to) o) q;
       mask = found.0 ∙ ap (λ t. mask_of t n.to) view;
       has = found.1;
     }
+
+-- ---- the list of the routers
+
+router-listed : {w : ℕ} (ns : List (Neighbour w)) (p : ℕ) (f : First) → router_in ns p ≡ Some f → list_any (λ g. same_router g f) (map (λ n. n.to) ns) ≡ true
+router-listed [] p f q = cc
+router-listed (n ∷ ns) p f q = elim (cases_Bool (has_member p n.mask)) [
+  | inl has ↦ (let e : Some n.to ≡ Some f = rw has at q in let same = same_Some n.to f e in rw (ap (λ g. same_router g f) same ∙ same_router-refl f) refl)
+  | inr hasnt ↦ rw (router-listed ns p f (rw hasnt at q)) (or-true (same_router n.to f))
+]
+
+pub router-known : {w : ℕ} (size : ℕ) (ns : List (Neighbour w)) (p : ℕ) (f : First) → router_at (table_in size ns) p ≡ Some f → list_any (λ g. same_router g f) (map (λ n. n.to) ns) ≡ true
+router-known size ns p f q = elim (cases_lt size p) [
+  | inl past ↦ absurd (none-some (router_at-past (table_in size ns) p (omega (arith, length-routers size ns))) q)
+  | inr high ↦ elim (cases_lt 0 p) [
+    | inl low ↦ router-listed ns p f (sym (routers-at size ns p low high) ∙ q)
+    | inr none ↦ (let e : p ≡ zero = omega arith in absurd (none-some (ap (router_at (table_in size ns)) e) q))
+  ]
+]
+  where
+    none-some : {o : Option First} → o ≡ None → o ≡ Some f → ⊥
+    none-some a b = cc

@@ -1,5 +1,5 @@
 -- How routers with their masks stand for a table.
-use Rattle.std.specs.Prelude.{ℕ, zero, suc, ◌≡◌, ◌≤◌, List, [], ◌∷◌, Option, Some, None, true, option_map, if◌then◌else◌}
+use Rattle.std.specs.Prelude.{ℕ, zero, suc, ◌≡◌, ◌≤◌, List, [], ◌∷◌, Option, Some, None, true, map, option_map, if◌then◌else◌}
 use Rattle.std.specs.List.{AllByRecursion, list_any}
 use Rattle.wire_base.specs.declared.view.First.{First}
 use Rattle.wire_base.specs.model.BitSet.{has_member}
@@ -19,8 +19,8 @@ abbrev pub routers_from : {w : ℕ} → ℕ → ℕ → List (Neighbour w) → L
 routers_from zero p ns = []
 routers_from (suc more) p ns = router_in ns p ∷ routers_from more (suc p) ns
 
-unfoldable pub routers : {w : ℕ} → ℕ → List (Neighbour w) → List (Option First)
-routers size ns = routers_from size 1 ns
+unfoldable pub table_in : {w : ℕ} → ℕ → List (Neighbour w) → List (Option First)
+table_in size ns = routers_from size 1 ns
 
 -- each mask has all positions that lead to its router
 abbrev pub AreMasks : {w : ℕ} → List (Option First) → List (Neighbour w) → Type 0
@@ -31,6 +31,7 @@ abbrev pub AreKnown : {w : ℕ} → List (Option First) → ℕ → List (Neighb
 AreKnown table count ns = (p : ℕ) (f : First) → p ≤ count → router_at table p ≡ Some f → list_any (λ n. same_router n.to f) ns ≡ true
 
 -- what a table keeps
-pub record IsTable {w : ℕ} (size : ℕ) (ns : List (Neighbour w)) (positions : List ℕ) : Type 0 where
-  pub masks : AreMasks (routers size ns) ns
-  pub routed : positions ≡ routed_of (routers size ns)
+pub record IsTable {w : ℕ} (size : ℕ) (ns : List (Neighbour w)) (firsts : List First) (positions : List ℕ) : Type 0 where
+  pub masks : AreMasks (table_in size ns) ns
+  pub listed : firsts ≡ map (λ n. n.to) ns
+  pub routed : positions ≡ routed_of (table_in size ns)

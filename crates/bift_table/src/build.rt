@@ -3,7 +3,7 @@ ghost use Rattle.bier_bits.specs.Sets.{is_width};
 ghost use Rattle.bift_table.specs.Bift.{router_at, leads_to, member_at, mask_of, routed_of, table_of};
 ghost use Rattle.bift_table.specs.Neighbours.{AreMasks, AreKnown};
 
-use crate::neighbour::{Neighbour, is_known, is_same};
+use crate::neighbour::{Neighbour, is_known, is_same_router};
 use bier_bits::BitString;
 use std::alloc::Global;
 use wire_base::{First, M, Rows};
@@ -68,7 +68,7 @@ fn leads_to(lists: &[Rows<First>], class: u8, place: usize, to: First) -> bool
 {
     match router_at(lists, class, place) {
         None => false,
-        Some(found) => is_same(found, to),
+        Some(found) => is_same_router(found, to),
     }
 }
 

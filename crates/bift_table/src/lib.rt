@@ -8,4 +8,5 @@ mod table;
 #[cfg(test)]
 mod tests;
 
+pub use neighbour::is_same_router;
 pub use table::{Row, Table};

@@ -1,11 +1,12 @@
 ghost use Rattle.std.specs.Prelude.{◌≡◌, ◌↔◌, ℕ, ◌<◌, ◌≤◌, ◌+◌, ◌-◌, ◌*◌, [], slice_index_or, false, length, IsTrue, true, None, Some, IfOk, IfSome, MatchOption, is_some};
+ghost use Rattle.std.specs.List.{list_any};
 ghost use Rattle.wire_base.specs.declared.view.First.{First};
 ghost use Rattle.wire_base.specs.model.BitSet.{has_member, IsWithin, intersection};
 ghost use Rattle.bier_bits.specs.Sets.{is_width};
 ghost use Rattle.bift_table.specs.Bift.{router_at, member_at, same_router, mask_of, routed_of, table_of};
 
 use crate::build::{neighbours_in, routed_in};
-use crate::neighbour::{Neighbour, neighbour_at};
+use crate::neighbour::{Neighbour, neighbour_at, routers_of};
 use bier_bits::BitString;
 use std::alloc::Global;
 use std::marker::Model;
@@ -15,23 +16,25 @@ use wire_base::{First, M, RowSet, Rows, Steps};
 /// A bit index forwarding table of 64 W bit positions (RFC 8279, 6.4), seen as the list of the routers of its positions,
 /// from position 1 on: None where a position has no row. W is 1, 2, 4, 8, 16, 32 or 64.
 ///
-/// It holds each router once, with the mask of the positions that lead to it.
+/// It holds each router once, with the mask of the positions that lead to it, and the routers in a list of their own, which
+/// a hop can hold on to for as long as the table lasts.
 #[derive(Drop)]
 pub struct Table<const W: usize> {
     neighbours: Rows<Neighbour<W>>,
+    routers: Rows<First>,
     routed: BitString<W>,
 }
 
 impl<const W: usize> Model for Table<W> {
     ghost use Rattle.std.specs.Prelude.{List, Option, ◌*◌};
     ghost use Rattle.wire_base.specs.declared.view.First.{First};
-    ghost use Rattle.bift_table.specs.Neighbours.{routers, IsTable};
+    ghost use Rattle.bift_table.specs.Neighbours.{IsTable, table_in};
 
     ghost Value = { List (Option First) };
 
-    ghost view = { λ t. routers (64 * W) t.neighbours };
+    ghost view = { λ t. table_in (64 * W) t.neighbours };
 
-    ghost invariant = { λ t. IsTable (64 * W) t.neighbours t.routed };
+    ghost invariant = { λ t. IsTable (64 * W) t.neighbours t.routers t.routed };
 }
 
 /// A row of a table: the router to which a position leads, and all positions that lead to it (the forwarding bit mask of
@@ -54,8 +57,13 @@ impl<const W: usize> Table<W> {
     {
         let lists = rows.bits.as_slice();
         let neighbours = neighbours_in(alloc, lists, class)?;
+        let routers = routers_of(alloc, neighbours.as_slice())?;
         let routed = routed_in(lists, class);
-        Ok(Table { neighbours, routed })
+        Ok(Table {
+            neighbours,
+            routers,
+            routed,
+        })
     }
 
     /// The row of a position, from 1 to 64 W, in one step. None exactly where the position isn't in `routed`. The masks of
@@ -76,6 +84,13 @@ impl<const W: usize> Table<W> {
             mask: &neighbour.mask,
             to: &neighbour.to,
         })
+    }
+
+    /// A list in which the router of each position is.
+    pub fn routers(&self) -> &[First]
+        ensures { (p : ℕ) (f : First) → router_at self.now p ≡ Some f → list_any (λ g. same_router g f) result.now ≡ true }
+    {
+        self.routers.as_slice()
     }
 
     /// The positions that have a row: those that are in the mask of some router. They are in ascending order, from 1 to 64 W.

@@ -1,12 +1,12 @@
-use Rattle.std.proofs.Common.{◌≡◌, ◌*◌, length, sym, ◌∙◌, ap, subst}
+use Rattle.std.proofs.Common.{◌≡◌, ◌*◌, length, map, sym, ◌∙◌, ap, subst}
 use Rattle.bift_table.specs.Bift.{router_at, table_of, routed_of}
-use Rattle.bift_table.specs.Neighbours.{routers, AreMasks}
+use Rattle.bift_table.specs.Neighbours.{table_in, AreMasks}
 use Rattle.bift_table.proofs.BiftLaws.{length-table, table-at}
 use Rattle.bift_table.proofs.NeighbourLaws.{routers-is}
 use Rattle.bift_table.proofs.table.Table.build.Goals as goal
 use Rattle.bift_table.proofs.table.Table.build.Given.{Over}
 
-whole : (g : Over) (c : goal.After-routed_in-routed g) → routers (64 * g.row.W) c.in_ok-neighbours.neighbours ≡ table_of c.as_slice-lists.result.now c.args.class
+whole : (g : Over) (c : goal.After-routed_in-routed g) → table_in (64 * g.row.W) c.in_ok-neighbours.neighbours ≡ table_of c.as_slice-lists.result.now c.args.class
 whole g c =
     routers-is (table_of c.as_slice-lists.result.now c.args.class) (64 * g.row.W) c.in_ok-neighbours.neighbours
     (length-table c.as_slice-lists.result.now c.args.class ∙ ap length c.as_slice-lists.ensures ∙ c.requires.lists)
@@ -15,6 +15,7 @@ whole g c =
 pub invariant_of-result : goal.invariant_of-result
 invariant_of-result g c = record {
   masks = subst (λ t. AreMasks t c.in_ok-neighbours.neighbours) (sym (whole g c)) c.in_ok-neighbours.ensures.masks;
+  listed = c.in_ok-routers.ensures ∙ ap (λ ns. map (λ n. n.to) ns) c.as_slice.ensures;
   routed = c.routed_in-routed.ensures ∙ ap routed_of (sym (whole g c));
 }
 
