@@ -1,0 +1,33 @@
+use Rattle.std.proofs.Common.{◌≡◌, ◌*◌, None, ℕ, List, Option, refl, sym, ◌∙◌, ap, arith, subst}
+use Rattle.wire_base.specs.model.BitSet.{intersection, first_member}
+use Rattle.bift_table.specs.Bift.{routed_of}
+use Rattle.bier_hop.specs.declared.out.Why.TheVariants.{NoRow, Ttl}
+use Rattle.bier_hop.specs.Outcomes.{HopState, drop_of, own_in, IsNext}
+use Rattle.bier_hop.proofs.NextLaws.{expired, delivered, unrouted, last, copied}
+use Rattle.bier_hop.proofs.hop.outcome.Goals as goal
+
+pub returns-then-ttl-eq0-clause-next : goal.returns-then-ttl-eq0-clause-next
+returns-then-ttl-eq0-clause-next g c =
+    let h : HopState = record { table = c.args.table.now; own = c.args.own; rest = c.args.rest.now; ttl = c.args.ttl } in
+    subst (λ r. IsNext {w = g.row.W} (64 * g.row.W) h r) (sym (c.dropped.ensures ∙ ap (λ l. drop_of l Ttl) c.copy.ensures))
+    (expired (64 * g.row.W) c.args.table.now c.args.own c.args.rest.now c.args.ttl c.if-ttl-eq0.true)
+
+pub returns-in-Some-clause-next : goal.returns-in-Some-clause-next
+returns-in-Some-clause-next g c = delivered (64 * g.row.W) c.args.table.now c.args.own c.args.rest.now c.args.ttl c.in-Some.bp (omega (arith, c.if-ttl-eq0.false)) c.requires.own (sym c.in-Some.ensures)
+
+pub returns-in-None-clause-next : goal.returns-in-None-clause-next
+returns-in-None-clause-next g c =
+    let h : HopState = record { table = c.args.table.now; own = c.args.own; rest = c.args.rest.now; ttl = c.args.ttl } in
+    subst (λ r. IsNext {w = g.row.W} (64 * g.row.W) h r) (sym (c.dropped-in-None.ensures ∙ ap (λ l. drop_of l NoRow) c.copy-in-None.ensures))
+    (unrouted (64 * g.row.W) c.args.table.now c.args.own c.args.rest.now (intersection c.args.rest.now (routed_of c.args.table.now)) c.args.ttl (omega (arith, c.if-ttl-eq0.false)) (sym c.in_default.ensures) refl (sym c.in-None.ensures.first))
+
+pub returns-in-Some-first_routed-clause-next : goal.returns-in-Some-first_routed-clause-next
+returns-in-Some-first_routed-clause-next g c =
+    let h : HopState = record { table = c.args.table.now; own = c.args.own; rest = c.args.rest.now; ttl = c.args.ttl } in
+    let e = c.and.ensures ∙ ap (intersection c.args.rest.now) c.routed.ensures.value in
+    subst (λ r. IsNext {w = g.row.W} (64 * g.row.W) h r) (sym c.dropped-in-Some-first_routed.ensures)
+    (last (64 * g.row.W) c.args.table.now c.args.own c.args.rest.now c.and.result c.args.ttl c.in-Some-first_routed.field-0 c.if-ttl-eq1.true (sym c.in_default.ensures) e (ap first_member e ∙ sym c.in-Some-first_routed.ensures.first))
+
+pub returns-in-Some-2-clause-next : goal.returns-in-Some-2-clause-next
+returns-in-Some-2-clause-next g c =
+    copied (64 * g.row.W) c.args.table.now c.args.own c.args.rest.now (intersection c.args.rest.now (routed_of c.args.table.now)) c.args.ttl c.in-Some-first_routed.field-0 c.copy_toward.result (omega (arith, c.if-ttl-eq0.false, c.if-ttl-eq1.false)) (sym c.in_default.ensures) refl (sym c.in-Some-first_routed.ensures.first) c.copy_toward.ensures.copy

@@ -1,0 +1,190 @@
+ghost use Rattle.std.specs.Prelude.{◌≡◌, ◌<◌, ◌≤◌, ◌+◌, ◌*◌, ◌==◌, ℕ, Option, None, [], ◌∷◌, length, true, false, IsTrue, IfSome, MatchOption, is_none};
+ghost use Rattle.std.specs.List.{list_any};
+ghost use Rattle.wire_base.specs.declared.view.First.{First};
+ghost use Rattle.wire_base.specs.model.BitSet.{difference, first_member, has_member, intersection, IsWithin};
+ghost use Rattle.wire_base.specs.model.Hop.{hop};
+ghost use Rattle.bier_bits.specs.Sets.{is_width};
+ghost use Rattle.bift_table.specs.Bift.{router_at, routed_of, same_router};
+ghost use Rattle.bier_hop.specs.Outcomes.{IsNumbering, IsOwn, IsOwnWithin, HopState, AreRouters, left, number_in, choose_in, outcome, positions_of, own_in, cost, left_after, drop_of, IsCopy, IsNext};
+
+use crate::out::{Out, Why, without};
+use bier_bits::BitString;
+use bift_table::{Table, is_same_router};
+use std::marker::Model;
+use std::sync::ledger::Ledger;
+use wire_base::{First, Steps};
+
+/// A packet on its way through one router, seen as the router's table, its own position, the positions that are not yet
+/// given and the packet's TTL.
+#[derive(Drop)]
+pub struct Hop<'t, const W: usize> {
+    table: &'t Table<W>,
+    routers: &'t [First],
+    own: Option<u16>,
+    rest: BitString<W>,
+    ttl: u16,
+}
+
+impl<'t, const W: usize> Model for Hop<'t, W> {
+    ghost use Rattle.std.specs.Prelude.{◌≤◌, ◌*◌};
+    ghost use Rattle.bier_hop.specs.Outcomes.{HopState, IsOwn, AreRouters};
+
+    ghost Value = { HopState };
+
+    ghost view = { λ h. record { table = h.table.now; own = h.own; rest = h.rest; ttl = h.ttl } };
+
+    ghost invariant = { λ h. AreRouters h.table.now h.routers.now × IsOwn (64 * W) h.own × (h.ttl ≤ 256) };
+}
+
+impl<'t, const W: usize> Hop<'t, W> {
+    /// A packet with those positions and that TTL, at most 256, at a router with that table and that own position, from 1
+    /// to 64 W, if it has one.
+    pub fn begin(table: &'t Table<W>, own: Option<u16>, set: BitString<W>, ttl: u16) -> Self
+        requires width { IsTrue (is_width W) }
+        requires own { IsOwn (64 * W) own }
+        requires ttl { ttl ≤ 256 }
+        ensures state { result ≡ record { table = table.now; own = own; rest = set.entry; ttl = ttl } }
+        ensures numbered { IsNumbering table.now (number_in table.now) (choose_in table.now) }
+    {
+        Hop {
+            table,
+            routers: table.routers(),
+            own,
+            rest: set,
+            ttl,
+        }
+    }
+
+    /// The next outcome, whose positions are then no longer among those that are left. In this order:
+    ///
+    /// 1. With TTL 0 the whole set is dropped, and nothing else is given.
+    /// 2. Else the own position is delivered, where it is in the set.
+    /// 3. With a TTL above 1 each router to which other positions lead gets one copy, with a TTL one lower; the copies are
+    ///    in the order of their least positions.
+    /// 4. With TTL 1 the other positions that have a row are dropped together, in place of the copies.
+    /// 5. The other positions without a row are dropped together, last.
+    ///
+    /// None exactly where every position was given. A copy takes one step, all else takes none.
+    pub fn next<L: Ledger>(&mut self, steps: &mut Steps<L>) -> Option<Out<'t, W>>
+        requires { IsTrue (is_width W) }
+        ensures outcomes { (number : First → ℕ) (choose : ℕ → Option ℕ) → IsNumbering self.old.table number choose → MatchOption result (left choose self.old ≡ []) (λ out. left choose self.old ≡ outcome number out ∷ left choose self.new) }
+        ensures none { is_none result ≡ (length self.old.rest == 0) }
+        ensures rest { self.new.rest ≡ left_after self.old.rest result }
+        ensures shorter { IfSome result (λ _. length self.new.rest < length self.old.rest) }
+        ensures table { self.new.table ≡ self.old.table }
+        ensures own { self.new.own ≡ self.old.own }
+        ensures ttl { self.new.ttl ≡ self.old.ttl }
+        ensures steps { steps.new ≡ steps.old + cost result }
+    {
+        let out = outcome(
+            self.table,
+            self.routers,
+            self.own,
+            &self.rest,
+            self.ttl,
+            steps,
+        )?;
+        self.rest = without(&self.rest, &out);
+        Some(out)
+    }
+}
+
+// The outcome of the positions that are left.
+fn outcome<'t, const W: usize, L: Ledger>(
+    table: &Table<W>,
+    routers: &'t [First],
+    own: Option<u16>,
+    rest: &BitString<W>,
+    ttl: u16,
+    steps: &mut Steps<L>,
+) -> Option<Out<'t, W>>
+    requires width { IsTrue (is_width W) }
+    requires routers { AreRouters table.now routers.now }
+    requires own { IsOwn (64 * W) own }
+    requires ttl { ttl ≤ 256 }
+    ensures next { IsNext (64 * W) (record { table = table.now; own = own; rest = rest.now; ttl = ttl }) result }
+    ensures steps { steps.new ≡ steps.old + cost result }
+{
+    if ttl == 0 {
+        return dropped(rest.copy(), Why::Ttl);
+    }
+    if let Some(bp) = own_in(own, rest) {
+        return Some(Out::Local(bp));
+    }
+    match first_routed(table, rest) {
+        None => dropped(rest.copy(), Why::NoRow),
+        Some(_) if ttl == 1 => dropped(rest.and(table.routed()), Why::Ttl),
+        Some(bp) => copy_toward(table, routers, bp, rest, ttl, steps),
+    }
+}
+
+// The own position, where it is left.
+fn own_in<const W: usize>(own: Option<u16>, rest: &BitString<W>) -> Option<u16>
+    requires width { IsTrue (is_width W) }
+    requires own { IsOwn (64 * W) own }
+    ensures { result ≡ own_in own rest.now }
+{
+    let bp = own?;
+    if rest.has(bp) { Some(bp) } else { None }
+}
+
+// The least position of a set that has a row.
+fn first_routed<const W: usize>(table: &Table<W>, rest: &BitString<W>) -> Option<u16>
+    requires { IsTrue (is_width W) }
+    ensures first { result ≡ first_member (intersection rest.now (routed_of table.now)) }
+    ensures low { IfSome result (λ p. 1 ≤ p) }
+    ensures high { IfSome result (λ p. p ≤ 64 * W) }
+    ensures routed { IfSome result (λ p. has_member p (routed_of table.now) ≡ true) }
+{
+    rest.and(table.routed()).first()
+}
+
+// The copy to the router of a position that has a row.
+fn copy_toward<'t, const W: usize, L: Ledger>(
+    table: &Table<W>,
+    routers: &'t [First],
+    bp: u16,
+    rest: &BitString<W>,
+    ttl: u16,
+    steps: &mut Steps<L>,
+) -> Option<Out<'t, W>>
+    requires width { IsTrue (is_width W) }
+    requires routers { AreRouters table.now routers.now }
+    requires low { 1 ≤ bp }
+    requires high { bp ≤ 64 * W }
+    requires onward { 1 < ttl }
+    requires ttl { ttl ≤ 256 }
+    requires routed { has_member bp (routed_of table.now) ≡ true }
+    ensures copy { IsCopy (record { table = table.now; own = None; rest = rest.now; ttl = ttl }) bp result }
+    ensures steps { steps.new ≡ steps.old + 1 }
+{
+    let row = table.row(bp, steps)?;
+    Some(Out::Copy {
+        to: find_router(routers, *row.to)?,
+        set: rest.and(row.mask),
+        ttl: (ttl - 1) as u8,
+    })
+}
+
+// The router, where a list that lasts longer has it.
+fn find_router(routers: &[First], to: First) -> Option<&First>
+    ensures { MatchOption result (list_any (λ f. same_router f to) routers.now ≡ false) (λ f. f.now ≡ to) }
+{
+    for router in routers {
+        if is_same_router(*router, to) {
+            return Some(router);
+        }
+    }
+    None
+}
+
+// A drop of a set that isn't empty.
+fn dropped<'t, const W: usize>(set: BitString<W>, why: Why) -> Option<Out<'t, W>>
+    requires { IsTrue (is_width W) }
+    ensures { result ≡ drop_of set.entry why }
+{
+    if set.is_empty() {
+        return None;
+    }
+    Some(Out::Dropped { set, why })
+}

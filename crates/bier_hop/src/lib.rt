@@ -1,0 +1,10 @@
+//! One hop of a packet at one router (RFC 8279, 6.5): where each of its bit positions goes.
+#![tactic(auto)]
+
+mod hop;
+mod out;
+#[cfg(test)]
+mod tests;
+
+pub use hop::Hop;
+pub use out::{Out, Why};

@@ -1,0 +1,2 @@
+pub mod BiftLaws
+pub mod NeighbourLaws

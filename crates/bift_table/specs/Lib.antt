@@ -1,0 +1,2 @@
+pub mod Bift
+pub mod Neighbours
