@@ -1,5 +1,5 @@
 -- The octets of PDUs and frames of the small domains, as they stand on the wire.
-use Rattle.std.specs.Prelude.{ℕ, List, [], ◌∷◌}
+use Rattle.std.specs.Prelude.{ℕ, List, [], ◌∷◌, ◌++◌}
 
 -- the TLVs of A's LSP in the pair, where its link is up: area, protocols, name, the link to B, and its prefix with
 -- the BIER Info of subdomain 0
@@ -39,3 +39,19 @@ pair_b_psnp =
     131 ∷ 17 ∷ 1 ∷ 0 ∷ 27 ∷ 1 ∷ 0 ∷ 0 ∷ 0 ∷ 35 ∷ 0 ∷ 0 ∷ 0 ∷ 0 ∷ 0 ∷ 2
     ∷ 0 ∷ 9 ∷ 16 ∷ 4 ∷ 171 ∷ 0 ∷ 0 ∷ 0 ∷ 0 ∷ 0 ∷ 1 ∷ 0 ∷ 0 ∷ 0 ∷ 0 ∷ 0
     ∷ 1 ∷ 85 ∷ 78 ∷ []
+
+-- a BIER packet behind the label 100, for the positions 1 and 3
+abbrev pub labelled_packet : List ℕ
+labelled_packet = 0 ∷ 6 ∷ 65 ∷ 64 ∷ 80 ∷ 16 ∷ 0 ∷ 10 ∷ 0 ∷ 4 ∷ 0 ∷ 1 ∷ 0 ∷ 0 ∷ 0 ∷ 0 ∷ 0 ∷ 0 ∷ 0 ∷ 5 ∷ []
+
+-- its frame
+abbrev pub labelled_frame : List ℕ
+labelled_frame = 2 ∷ 0 ∷ 0 ∷ 1 ∷ 0 ∷ 0 ∷ 2 ∷ 0 ∷ 0 ∷ 0 ∷ 0 ∷ 1 ∷ 136 ∷ 71 ∷ labelled_packet
+
+-- the header of a capture, lowest octets first, with microseconds
+abbrev pub capture_head : List ℕ
+capture_head = 212 ∷ 195 ∷ 178 ∷ 161 ∷ 2 ∷ 0 ∷ 4 ∷ 0 ∷ 0 ∷ 0 ∷ 0 ∷ 0 ∷ 0 ∷ 0 ∷ 0 ∷ 0 ∷ 255 ∷ 255 ∷ 0 ∷ 0 ∷ 1 ∷ 0 ∷ 0 ∷ 0 ∷ []
+
+-- that frame as its one record, taken at second 1, and the header's first 8 octets of a second record
+abbrev pub capture_of_one : List ℕ
+capture_of_one = capture_head ++ (1 ∷ 0 ∷ 0 ∷ 0 ∷ 0 ∷ 0 ∷ 0 ∷ 0 ∷ 34 ∷ 0 ∷ 0 ∷ 0 ∷ 34 ∷ 0 ∷ 0 ∷ 0 ∷ labelled_frame)
