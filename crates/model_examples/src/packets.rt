@@ -6,8 +6,12 @@ ghost use Rattle.wire_base.specs.model.BierHeader.{coded_header_at};
 ghost use Rattle.wire_base.specs.model.BitSet.{set_of, octets_of};
 ghost use Rattle.wire_base.specs.model.Capture.{capture_at};
 ghost use Rattle.wire_base.specs.model.Ethernet.{MplsPacket, frame_at};
+ghost use Rattle.wire_base.specs.model.HopCount.{CoversPath};
 ghost use Rattle.wire_base.specs.model.Labels.{stack_at};
 ghost use Rattle.wire_base.specs.model.Place.{place, position_in};
+ghost use Rattle.wire_base.specs.model.Tlv.{TlvFits};
+ghost use Rattle.model_examples.specs.Domains.{pair_a};
+ghost use Rattle.model_examples.specs.Views.{ring_view};
 ghost use Rattle.model_examples.specs.Vectors.{labelled_packet, labelled_frame, capture_head, capture_of_one};
 
 /// The last BFR-id in strings of 4,096 and of 64 bits, and the last and first ids beside the border of two sets. The id
@@ -44,4 +48,14 @@ pub fn a_capture_of_one_frame()
     ensures cut_header { capture_at (212 ∷ 195 ∷ 178 ∷ 161 ∷ 2 ∷ []) ≡ ([], Some CutHeader) }
     ensures cut_record { capture_at (capture_head ++ 1 ∷ 0 ∷ 0 ∷ []) ≡ ([], Some CutRecord) }
     ensures no_capture { capture_at (10 ∷ 13 ∷ 13 ∷ 10 ∷ []) ≡ ([], Some Magic) }
+{}
+
+/// In the ring a bit for C passes two routers from A, so that a TTL of 2 covers its path.
+pub fn a_ttl_of_2_covers_two_hops()
+    ensures { CoversPath ring_view pair_a.kinds [] (record { sd = 0; bsl = lengths.B64; si = 0 }) 0 1 3 2 }
+{}
+
+/// A TLV of the greatest code and of no value fits.
+pub fn an_empty_tlv_fits()
+    ensures { TlvFits (record { code = 255; value = [] }) }
 {}
