@@ -1,6 +1,6 @@
 -- A capture reported piece by piece is reported as a whole.
-use Rattle.std.proofs.Common.{◌≡◌, ◌≢◌, ℕ, zero, suc, ◌-◌, ◌+◌, ◌<◌, ◌≤◌, Bool, true, false, leb, List, [], ◌∷◌, ◌++◌, length, take, drop, Option, Some, None, Result, Ok, Err, is_ok, is_some, refl, sym, ap, ap₂, subst, ◌∙◌, append_assoc, append-nil, arith, inl, inr}
-use Rattle.std.specs.Prelude.{nat_le, OnOk}
+use Rattle.std.proofs.Common.{◌≡◌, ℕ, zero, suc, ◌-◌, ◌+◌, ◌<◌, ◌≤◌, Bool, true, false, List, [], ◌∷◌, ◌++◌, length, take, drop, Option, Some, None, Result, Ok, Err, is_ok, is_some, refl, sym, ap, ap₂, subst, ◌∙◌, append_assoc, append-nil, arith}
+use Rattle.std.specs.Prelude.{OnOk}
 use Rattle.std.specs.Io.KnownBytes.{Appends, Consumes, Keeps, IsAtEnd}
 use Rattle.std.proofs.KnownBytes.{Appends-trans}
 use Rattle.std.proofs.lemmas.Bool.{le-leb, lt-leb, false≢true, true≢false}
@@ -10,7 +10,7 @@ use Rattle.wire_base.specs.declared.status.Status.TheVariants.{Done}
 use Rattle.wire_base.specs.declared.faults.CaptureFault.{CaptureFault}
 use Rattle.wire_base.specs.model.Capture.{CaptureRecord, Stage, Reading, HeaderToCome, HeaderRead, Refused, unread, fed, drained, drain_on, next_of, end_of, end_in}
 use Rattle.pcap_frames.proofs.Spelled.{capture_again}
-use Rattle.pcap_frames.proofs.Drained.{drained_next, drained_fed, drained_twice, fed_twice, next_shorter, next_lowers, drained_end, unread_none, nothing_next, refused_still}
+use Rattle.pcap_frames.proofs.Drained.{drained_next, drained_fed, fed_twice, next_shorter, next_lowers, drained_end, unread_none, nothing_next, refused_still}
 use Rattle.replay_run.specs.declared.headers.Progress.{Progress}
 use Rattle.replay_run.specs.Sight.{Sight, Passed, Seen, Bad, sight_of, sight_text, sight_count}
 use Rattle.replay_run.specs.HopText.{behind}
@@ -74,10 +74,10 @@ goes_on start now after read headers lines goes is after-is headers-is lines-is 
       records = omega (arith, n, goes.records);
       headers = omega (arith, h, headers-is, goes.headers);
       lines =
-        ap (λ (l : List ℕ). l ++ record_lines (now.records + 1) (drained after).0) lines-is
-        ∙ append_assoc now.lines (sight_text (now.records + 1) (sight_of read.octets)) (record_lines (now.records + 1) (drained after).0)
-        ∙ ap (λ (l : List ℕ). now.lines ++ l) (sym t)
-        ∙ goes.lines;
+          ap (λ (l : List ℕ). l ++ record_lines (now.records + 1) (drained after).0) lines-is
+          ∙ append_assoc now.lines (sight_text (now.records + 1) (sight_of read.octets)) (record_lines (now.records + 1) (drained after).0)
+          ∙ ap (λ (l : List ℕ). now.lines ++ l) (sym t)
+          ∙ goes.lines;
       few = omega (arith, less, goes.few);
       counted = omega (arith, headers-is, goes.counted, one_at_most (sight_of read.octets));
     }
@@ -185,12 +185,12 @@ reached left left_now before now old new taken piece so_far did =
       records = omega (arith, did.records, so_far.records, length-append first more, ap (λ (d : List CaptureRecord × Reading). length d.0) all);
       headers = omega (arith, did.headers, so_far.headers, count_append first more, ap (λ (d : List CaptureRecord × Reading). header_count d.0) all);
       lines =
-        ap (λ (l : List ℕ). so_far.flushed ++ l) did.lines
-        ∙ sym (append_assoc so_far.flushed old.lines (record_lines old.records more))
-        ∙ ap₂ (λ (l : List ℕ) (k : ℕ). l ++ record_lines k more) so_far.lines so_far.records
-        ∙ ap (λ (k : ℕ). record_lines 0 first ++ record_lines k more) zero_on
-        ∙ sym (lines_append 0 first more)
-        ∙ sym (ap (λ (d : List CaptureRecord × Reading). record_lines 0 d.0) all);
+          ap (λ (l : List ℕ). so_far.flushed ++ l) did.lines
+          ∙ sym (append_assoc so_far.flushed old.lines (record_lines old.records more))
+          ∙ ap₂ (λ (l : List ℕ) (k : ℕ). l ++ record_lines k more) so_far.lines so_far.records
+          ∙ ap (λ (k : ℕ). record_lines 0 first ++ record_lines k more) zero_on
+          ∙ sym (lines_append 0 first more)
+          ∙ sym (ap (λ (d : List CaptureRecord × Reading). record_lines 0 d.0) all);
     }
 
 pub sofar_more : (left left_old left_now before now now_new : Option (List ℕ)) (old new : Progress) (taken taken_new : ℕ) (piece flushed lines : List ℕ) → Sofar left left_old before now old taken
@@ -275,9 +275,9 @@ end_answer octets flushed lines progress status short reader records headers so_
     let done = drained (fed unread octets) in
     let still : (next_of progress.reader).1 ≡ done.1 = ap (λ (r : Reading). (next_of r).1) reader ∙ drained_end (fed unread octets) in
     let last : at_end progress.records progress.headers (end_of (next_of progress.reader).1) ≡ headers_end true (length done.0) (header_count done.0) done.1.stage done.1.octets =
-      ap₂ (λ (n h : ℕ). at_end n h (end_of (next_of progress.reader).1)) records headers
-      ∙ ap (λ (r : Reading). at_end (length done.0) (header_count done.0) (end_of r)) still
-      ∙ sym (open_end (length done.0) (header_count done.0) done.1.stage done.1.octets (sym (ap (λ (r : Reading). (next_of r).0) reader) ∙ none)) in
+    ap₂ (λ (n h : ℕ). at_end n h (end_of (next_of progress.reader).1)) records headers
+    ∙ ap (λ (r : Reading). at_end (length done.0) (header_count done.0) (end_of r)) still
+    ∙ sym (open_end (length done.0) (header_count done.0) done.1.stage done.1.octets (sym (ap (λ (r : Reading). (next_of r).0) reader) ∙ none)) in
     with_last octets flushed lines progress status (at_end progress.records progress.headers (end_of (next_of progress.reader).1)) so_far ended
     ∙ ap (behind (record_lines 0 done.0)) last
     ∙ sym (ap₂ (λ (b : Bool) (l : List ℕ). report_of b (drained (fed unread l))) (le-leb (length octets) 268435456 short) (take_all 268435456 octets short))
@@ -289,7 +289,7 @@ unfolding headers_answer within_limit
 long_answer octets flushed more lines progress status full some reader records so_far none ended =
     let done = drained (fed unread octets) in
     let last : too_long progress.records ≡ headers_end false (length done.0) (header_count done.0) done.1.stage done.1.octets =
-      ap too_long records ∙ sym (open_long (length done.0) (header_count done.0) done.1.stage done.1.octets (sym (ap (λ (r : Reading). (next_of r).0) reader) ∙ none)) in
+    ap too_long records ∙ sym (open_long (length done.0) (header_count done.0) done.1.stage done.1.octets (sym (ap (λ (r : Reading). (next_of r).0) reader) ∙ none)) in
     with_last octets flushed lines progress status (too_long progress.records) so_far ended
     ∙ ap (behind (record_lines 0 done.0)) last
     ∙ sym (ap₂ (λ (b : Bool) (l : List ℕ). report_of b (drained (fed unread l))) (lt-leb (length (octets ++ more)) 268435456 (omega (arith, full, some, length-append octets more))) (take_at octets more 268435456 full))
@@ -311,8 +311,8 @@ pub exit_end : (left left_old left_now before now : Option (List ℕ)) (progress
     → (octets : List ℕ) × Held left octets × Owes before now (status, lines) (headers_answer octets)
 exit_end left left_old left_now before now progress taken status lines so_far consumed end ended =
     held_all left left_now so_far.octets (λ (o : List ℕ). Owes before now (status, lines) (headers_answer o))
-      (subst (Consumes left left_now) (append-nil so_far.octets) (consumed_more left left_old left_now so_far.octets [] so_far.consumed consumed)) end
-      (so_far.flushed, so_far.wrote, end_answer so_far.octets so_far.flushed lines progress status (omega (arith, so_far.count, so_far.most)) so_far.reader so_far.records so_far.headers so_far.lines so_far.is_open ended)
+    (subst (Consumes left left_now) (append-nil so_far.octets) (consumed_more left left_old left_now so_far.octets [] so_far.consumed consumed)) end
+    (so_far.flushed, so_far.wrote, end_answer so_far.octets so_far.flushed lines progress status (omega (arith, so_far.count, so_far.most)) so_far.reader so_far.records so_far.headers so_far.lines so_far.is_open ended)
 
 -- the octets of a piece, cut
 cut_piece : (octets piece more : List ℕ) (k : ℕ) → (octets ++ piece) ++ more ≡ (octets ++ take k piece) ++ (drop k piece ++ more)
@@ -327,10 +327,13 @@ exit_refused left left_old left_now before now old new taken k piece lines fault
     let octets = so_far.octets ++ take k piece in
     let short : length octets ≤ 268435456 = omega (arith, length-append so_far.octets (take k piece), length-take-le k piece fits, so_far.count, most) in
     held_any left left_now (so_far.octets ++ piece) (λ (o : List ℕ). Owes before now (status, lines) (headers_answer o))
-      (consumed_more left left_old left_now so_far.octets piece so_far.consumed consumed)
-      (λ more. (so_far.flushed, so_far.wrote,
-        refused_answer left left_old before now new octets so_far.flushed (drop k piece ++ more) lines fault status there short refused ended
-        ∙ ap headers_answer (sym (cut_piece so_far.octets piece more k))))
+    (consumed_more left left_old left_now so_far.octets piece so_far.consumed consumed)
+    (λ more. (
+      so_far.flushed,
+      so_far.wrote,
+      refused_answer left left_old before now new octets so_far.flushed (drop k piece ++ more) lines fault status there short refused ended
+          ∙ ap headers_answer (sym (cut_piece so_far.octets piece more k)),
+    ))
 
 pub exit_limit : (left left_old left_now before now : Option (List ℕ)) (old new : Progress) (taken k : ℕ) (piece lines : List ℕ) (status : Status) → Sofar left left_old before now old taken
     → Consumes left_old left_now piece → k < length piece → taken + k ≡ 268435456 → Took old (fed old.reader (take k piece)) new → (next_of new.reader).0 ≡ Ok None
@@ -340,10 +343,13 @@ exit_limit left left_old left_now before now old new taken k piece lines status 
     let octets = so_far.octets ++ take k piece in
     let all : length octets ≡ 268435456 = omega (arith, length-append so_far.octets (take k piece), length-take-le k piece (omega (arith, fits)), so_far.count, full) in
     held_any left left_now (so_far.octets ++ piece) (λ (o : List ℕ). Owes before now (status, lines) (headers_answer o))
-      (consumed_more left left_old left_now so_far.octets piece so_far.consumed consumed)
-      (λ more. (so_far.flushed, so_far.wrote,
-        long_answer octets so_far.flushed (drop k piece ++ more) lines new status all (omega (arith, length-append (drop k piece) more, length-drop k piece, fits)) there.reader there.records there.lines none ended
-        ∙ ap headers_answer (sym (cut_piece so_far.octets piece more k))))
+    (consumed_more left left_old left_now so_far.octets piece so_far.consumed consumed)
+    (λ more. (
+      so_far.flushed,
+      so_far.wrote,
+      long_answer octets so_far.flushed (drop k piece ++ more) lines new status all (omega (arith, length-append (drop k piece) more, length-drop k piece, fits)) there.reader there.records there.lines none ended
+          ∙ ap headers_answer (sym (cut_piece so_far.octets piece more k)),
+    ))
 
 -- where the source fails
 kept : (left left_old left_now : Option (List ℕ)) (octets : List ℕ) → Consumes left left_old octets → Keeps left_old left_now → Consumes left left_now octets
@@ -354,9 +360,12 @@ kept (Some all) (Some rest) (Some same) octets consumed keeps = consumed ∙ ap 
 
 pub exit_stopped : (left left_old left_now before now : Option (List ℕ)) (progress : Progress) (taken : ℕ) (status : Status) → Sofar left left_old before now progress taken → Keeps left_old left_now
     → (octets : List ℕ) × Consumes left left_now octets × IsOpen octets × Owes before now (status, progress.lines) (status, lines_of octets)
-exit_stopped left left_old left_now before now progress taken status so_far keeps =
-    (so_far.octets, kept left left_old left_now so_far.octets so_far.consumed keeps, sym (ap (λ (r : Reading). (next_of r).0) so_far.reader) ∙ so_far.is_open,
-     (so_far.flushed, so_far.wrote, ap (λ (l : List ℕ). (status, l)) so_far.lines))
+exit_stopped left left_old left_now before now progress taken status so_far keeps = (
+  so_far.octets,
+  kept left left_old left_now so_far.octets so_far.consumed keeps,
+  sym (ap (λ (r : Reading). (next_of r).0) so_far.reader) ∙ so_far.is_open,
+  (so_far.flushed, so_far.wrote, ap (λ (l : List ℕ). (status, l)) so_far.lines),
+)
 
 -- ---- texts and pieces
 

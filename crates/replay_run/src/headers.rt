@@ -191,7 +191,11 @@ fn flush<R: Sink>(report: &mut R, lines: &mut Octets) -> Result<(), Failed>
 
 /// Reads a capture and reports its headers, and answers how the run ends, with what is still to be written. Its lines
 /// are written out from time to time, so that a long capture takes no more memory than a short one.
-fn read_capture<S: Source, R: Sink>(alloc: Global, input: &mut S, report: &mut R) -> Result<(Status, Octets), Status>
+fn read_capture<S: Source, R: Sink>(
+    alloc: Global,
+    input: &mut S,
+    report: &mut R,
+) -> Result<(Status, Octets), Status>
     requires input_faults { S.faults input.old < last_count }
     requires report_faults { R.faults report.old < last_count }
     requires report_zeros { R.zeros report.old < last_count }

@@ -51,7 +51,12 @@ fn push_fields(alloc: Global, out: &mut Octets, header: &Header) -> M<()>
 {
     let bits = header.bits.bsl().bits();
     push_three(out, header.bift, u32::from(header.ttl), u32::from(bits))?;
-    push_three(out, header.entropy, u32::from(header.proto), u32::from(header.bfir))?;
+    push_three(
+        out,
+        header.entropy,
+        u32::from(header.proto),
+        u32::from(header.bfir),
+    )?;
     push_ids(out, &positions(alloc, &header.bits)?)?;
     out.push(b'\n')
 }
@@ -113,7 +118,13 @@ pub fn push_record(alloc: Global, out: &mut Octets, number: u64, frame: &[u8]) -
 {
     match classify(frame) {
         Ok(Class::Mpls { from }) => push_behind_stack(alloc, out, number, &frame[from..]),
-        Ok(Class::Bier { from }) => push_header(alloc, out, number, Kind::Configured, &frame[from..]),
+        Ok(Class::Bier { from }) => push_header(
+            alloc,
+            out,
+            number,
+            Kind::Configured,
+            &frame[from..],
+        ),
         _ => Ok(0),
     }
 }
