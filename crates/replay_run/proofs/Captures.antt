@@ -1,6 +1,6 @@
 -- A capture reported piece by piece is reported as a whole.
-use Rattle.std.proofs.Common.{◌≡◌, ◌≢◌, ℕ, zero, suc, ◌-◌, ◌+◌, ◌<◌, ◌≤◌, Bool, true, false, leb, List, [], ◌∷◌, ◌++◌, length, take, drop, Option, Some, None, Result, Ok, Err, is_ok, is_some, refl, sym, ap, ap₂, subst, ◌∙◌, append_assoc, append-nil, arith, inl, inr}
-use Rattle.std.specs.Prelude.{nat_le, OnOk}
+use Rattle.std.proofs.Common.{◌≡◌, ℕ, zero, suc, ◌-◌, ◌+◌, ◌<◌, ◌≤◌, Bool, true, false, List, [], ◌∷◌, ◌++◌, length, take, drop, Option, Some, None, Result, Ok, Err, is_ok, is_some, refl, sym, ap, ap₂, subst, ◌∙◌, append_assoc, append-nil, arith}
+use Rattle.std.specs.Prelude.{OnOk}
 use Rattle.std.specs.Io.KnownBytes.{Appends, Consumes, Keeps, IsAtEnd}
 use Rattle.std.proofs.KnownBytes.{Appends-trans}
 use Rattle.std.proofs.lemmas.Bool.{le-leb, lt-leb, false≢true, true≢false}
@@ -10,7 +10,7 @@ use Rattle.wire_base.specs.declared.status.Status.TheVariants.{Done}
 use Rattle.wire_base.specs.declared.faults.CaptureFault.{CaptureFault}
 use Rattle.wire_base.specs.model.Capture.{CaptureRecord, Stage, Reading, HeaderToCome, HeaderRead, Refused, unread, fed, drained, drain_on, next_of, end_of, end_in}
 use Rattle.pcap_frames.proofs.Spelled.{capture_again}
-use Rattle.pcap_frames.proofs.Drained.{drained_next, drained_fed, drained_twice, fed_twice, next_shorter, next_lowers, drained_end, unread_none, nothing_next, refused_still}
+use Rattle.pcap_frames.proofs.Drained.{drained_next, drained_fed, fed_twice, next_shorter, next_lowers, drained_end, unread_none, nothing_next, refused_still}
 use Rattle.replay_run.specs.declared.headers.Progress.{Progress}
 use Rattle.replay_run.specs.Sight.{Sight, Passed, Seen, Bad, sight_of, sight_text, sight_count}
 use Rattle.replay_run.specs.HopText.{behind}

@@ -1,4 +1,4 @@
-use Rattle.std.proofs.Common.{◌≡◌, ◌+◌, List, ℕ, Ok, ◌++◌, ap, ◌∙◌, option_map, Option, arith}
+use Rattle.std.proofs.Common.{◌+◌, List, ℕ, Ok, ◌++◌, ap, ◌∙◌, option_map, Option}
 use Rattle.std.proofs.lemmas.Result.{err_from_is_err_and}
 use Rattle.pcap_frames.specs.declared.record.CapRecord.{CapRecord}
 use Rattle.pcap_frames.specs.Seen.{record_seen}
