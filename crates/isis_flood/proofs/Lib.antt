@@ -1,4 +1,5 @@
 pub mod AgeLaws
 pub mod FloodLaws
+pub mod ListLaws
 pub mod MaskLaws
 pub mod TableLaws

@@ -2,10 +2,24 @@
 use Rattle.std.specs.Prelude.{◌≡◌, List, Result, Ok, Err}
 use Rattle.wire_base.specs.declared.entry.Entry.{Entry}
 use Rattle.wire_base.specs.declared.flood_out.FloodOut.{FloodOut}
+use Rattle.wire_base.specs.declared.flood_out.SnpOut.{SnpOut}
 use Rattle.wire_base.specs.declared.memory.Memory.{Memory}
 use Rattle.wire_base.specs.model.Control.{Flood}
-use Rattle.wire_base.specs.model.Flooding.{LspAnswer}
+use Rattle.wire_base.specs.model.Flooding.{LspAnswer, SnpAnswer}
 
 abbrev pub LspDone : Result FloodOut Memory → Flood → List Entry → Flood → List Entry → LspAnswer → Type 0
 LspDone (Ok answer) f entries new_f new_entries rules = rules ≡ record { flood = new_f; entries = new_entries; answer = answer }
 LspDone (Err memory) f entries new_f new_entries rules = (new_f ≡ f) × (new_entries ≡ entries)
+
+-- a state of flooding, a database and what is asked for
+abbrev pub state_of : Flood → List Entry → SnpOut → SnpAnswer
+state_of f entries answer = record { flood = f; entries = entries; answer = answer }
+
+abbrev pub SnpDone : Result SnpOut Memory → Flood → List Entry → Flood → List Entry → SnpAnswer → Type 0
+SnpDone (Ok answer) f entries new_f new_entries rules = rules ≡ state_of new_f new_entries answer
+SnpDone (Err memory) f entries new_f new_entries rules = (new_f ≡ f) × (new_entries ≡ entries)
+
+-- one step that can't fail where there is memory for one entry and one row
+abbrev pub Becomes : Result (Unit {0}) Memory → SnpAnswer → SnpAnswer → Type 0
+Becomes (Ok u) new rules = rules ≡ new
+Becomes (Err memory) new rules = Unit {0}

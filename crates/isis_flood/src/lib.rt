@@ -3,8 +3,11 @@
 #![tactic(auto)]
 
 mod flood;
+mod lacking;
+mod listed;
 mod lsps;
 mod masks;
+mod snps;
 mod table;
 
 pub use flood::Flood;

@@ -62,7 +62,7 @@ fn put_into(store: &mut Store, e: Entry) -> M<()>
 }
 
 /// Whether a database takes no new identifier.
-fn is_full(store: &Store) -> bool
+pub(crate) fn is_full(store: &Store) -> bool
     ensures { result ≡ is_full store.now.entries }
 {
     store.len() >= MOST_ENTRIES
@@ -88,7 +88,7 @@ fn is_newer(age: Age) -> bool
 }
 
 /// The identifier of a system's fragment 0.
-fn fragment_0(system: SystemId) -> LspId
+pub(crate) fn fragment_0(system: SystemId) -> LspId
     ensures { result ≡ fragment_0 system }
 {
     LspId {

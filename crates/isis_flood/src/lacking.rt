@@ -1,0 +1,104 @@
+//! What a complete sequence numbers PDU lacks, and what a link that comes up lacks (ISO/IEC 10589, 7.3.15.2 and 7.3.17).
+ghost use Rattle.std.specs.Prelude.{◌≡◌, ◌<◌, ◌≤◌, ◌+◌, length, fold, IsOk};
+ghost use Rattle.wire_base.specs.model.Control.{same_id, is_below};
+ghost use Rattle.wire_base.specs.model.Flooding.{lists, lacks, send_lacking, on_csnp};
+ghost use Rattle.wire_base.specs.model.Tlv.{rows_of};
+ghost use Rattle.isis_flood.specs.Answers.{SnpDone};
+
+use crate::flood::Flood;
+use crate::listed::listed;
+use lsp_store::Store;
+use wire_base::{Entry, LspId, M, SnpOut, Summary};
+
+/// The most entries of a database.
+const MOST_ENTRIES: usize = 4096;
+
+fn is_of(s: &Summary, id: &LspId) -> bool
+    ensures { result ≡ same_id s.now.id id.now }
+{
+    s.id == *id
+}
+
+fn lists(rows: &[Summary], id: &LspId) -> bool
+    ensures { result ≡ lists rows.now id.now }
+{
+    rows.iter().any(|s| is_of(s, id))
+}
+
+fn is_below(a: &LspId, b: &LspId) -> bool
+    ensures { result ≡ is_below a.now b.now }
+{
+    a.cmp(b).is_lt()
+}
+
+/// Whether a list from `start` to `last` should have had a live entry, and hasn't.
+fn lacks(start: &LspId, last: &LspId, rows: &[Summary], e: &Entry) -> bool
+    ensures { result ≡ lacks start.now last.now rows.now e.now }
+{
+    e.life > 0
+        && e.seq > 0
+        && !is_below(&e.id, start)
+        && !is_below(last, &e.id)
+        && !lists(rows, &e.id)
+}
+
+impl Flood {
+    /// What is lacking is to be sent; there is the memory for it already.
+    fn send_lacking(
+        &mut self,
+        store: &Store,
+        link: u16,
+        start: &LspId,
+        last: &LspId,
+        rows: &[Summary],
+    ) -> M<()>
+        requires link { link < length self.old.flood.up }
+        requires flags { length store.now.entries ≤ self.old.spare }
+        ensures next { self.new.flood ≡ fold (send_lacking link start.now last.now rows.now) self.old.flood store.now.entries }
+        ensures ok { IsOk result }
+        ensures spare { self.old.spare ≤ self.new.spare + length store.now.entries }
+    {
+        let mut rest = store.as_slice();
+        'entries: loop {
+            match rest {
+                [] => return Ok(()),
+                [e, after @ ..] => {
+                    if lacks(start, last, rows, e) {
+                        self.want(e.id, link)?;
+                    }
+                    rest = after;
+                }
+            }
+        }
+    }
+
+    /// A complete sequence numbers PDU from `start` to `last` that came on a link, with the octets of its TLVs. The
+    /// answer is that of a partial one (ISO/IEC 10589, 7.3.15.2). Where memory runs out, all is as it was.
+    #[tactic(auto, unfolding(wire_base::specs::model::Flooding::on_csnp, wire_base::specs::model::Flooding::on_list))]
+    pub fn on_csnp(
+        &mut self,
+        store: &mut Store,
+        link: u16,
+        start: LspId,
+        last: LspId,
+        tlvs: &[u8],
+        spent: bool,
+    ) -> M<SnpOut>
+        requires link { link < length self.old.flood.up }
+        requires tlvs { length tlvs.now ≤ 65535 }
+        ensures done { SnpDone result self.old.flood store.old.entries self.new.flood store.new.entries (on_csnp self.old.flood store.old.entries link start last tlvs.now spent) }
+        ensures spare { self.old.spare ≤ self.new.spare + (length (rows_of tlvs.now) + length store.new.entries) }
+    {
+        let rows = listed(store.allocator(), tlvs)?;
+        self.reserve(rows.len() + MOST_ENTRIES)?;
+        store.reserve(rows.len())?;
+        let mut answer = SnpOut {
+            reissue: None,
+            full: 0,
+        };
+        self.on_list(store, link, rows.as_slice(), spent, &mut answer)?;
+        let _entries = store.len();
+        self.send_lacking(store, link, &start, &last, rows.as_slice())?;
+        Ok(answer)
+    }
+}

@@ -1,0 +1,215 @@
+//! Sequence numbers PDUs that are received (ISO/IEC 10589, 7.3.15.2).
+ghost use Rattle.std.specs.Prelude.{◌≡◌, ◌<◌, ◌≤◌, ◌+◌, length, fold, false, IsOk, OnOk, OnErr};
+ghost use Rattle.wire_base.specs.model.Control.{entry_in, put_entry, age_of, seq_of, is_full};
+ghost use Rattle.wire_base.specs.model.Flooding.{wanted, is_live_summary, asks, listed_aged, on_listed, on_psnp};
+ghost use Rattle.wire_base.specs.model.Tlv.{rows_of};
+ghost use Rattle.wire_base.specs.declared.entry.Age.TheVariants.{Confused};
+ghost use Rattle.lsp_store.specs.Places.{is_new};
+ghost use Rattle.isis_flood.specs.Answers.{state_of, SnpDone, Becomes};
+
+use crate::flood::Flood;
+use crate::listed::listed;
+use crate::lsps::{fragment_0, is_full};
+use lsp_store::{Store, purge};
+use std::alloc::Global;
+use wire_base::{Age, Entry, LspId, M, Memory, Octets, SnpOut, Summary};
+
+/// The empty entry that asks for an unknown link state PDU until it comes.
+fn wanted(alloc: Global, s: &Summary) -> Entry
+    ensures { result ≡ wanted s.now }
+{
+    Entry {
+        id: s.id,
+        seq: 0,
+        life: 0,
+        hold: 60,
+        sum: 0,
+        flags: 0,
+        content: Octets::new(alloc),
+    }
+}
+
+fn is_live(s: &Summary) -> bool
+    ensures { result ≡ is_live_summary s.now }
+{
+    s.life > 0 && s.seq > 0 && s.sum > 0
+}
+
+/// The sequence number of the entry of an identifier; 0 where there is none.
+fn seq_of(store: &Store, id: &LspId) -> u32
+    ensures { result ≡ seq_of (entry_in store.now.entries id.now) }
+{
+    match store.get(id) {
+        None => 0,
+        Some(entry) => entry.seq,
+    }
+}
+
+impl Flood {
+    /// Asks for an unknown one, where the database has room.
+    fn want_it(&mut self, store: &mut Store, link: u16, s: &Summary, answer: &mut SnpOut) -> M<()>
+        requires link { link < length self.old.flood.up }
+        requires few { answer.old.full < 4294967295 }
+        ensures next { Becomes result (state_of self.new.flood store.new.entries answer.new) (asks (state_of self.old.flood store.old.entries answer.old) link s.now) }
+        ensures room { 0 < self.old.spare → 0 < store.old.spare → IsOk result }
+        ensures spare { self.old.spare ≤ self.new.spare + 1 }
+        ensures entries { store.old.spare ≤ store.new.spare + 1 }
+        ensures full { answer.new.full ≤ answer.old.full + 1 }
+        ensures links { OnOk result (length self.new.flood.up ≡ length self.old.flood.up) }
+    {
+        if is_full(store) {
+            answer.full += 1;
+            return Ok(());
+        }
+        let alloc = store.allocator();
+        if store.put(wanted(alloc, s)).is_err() {
+            return Err(Memory);
+        }
+        self.ask(s.id, link)
+    }
+
+    /// Purges one that is at odds with the entry, or asks that the own one be issued anew.
+    fn on_confused(
+        &mut self,
+        store: &mut Store,
+        link: u16,
+        s: &Summary,
+        spent: bool,
+        answer: &mut SnpOut,
+    ) -> M<()>
+        requires known { is_new store.old.entries s.now.id ≡ false }
+        requires link { link < length self.old.flood.up }
+        requires few { answer.old.full < 4294967295 }
+        ensures next { Becomes result (state_of self.new.flood store.new.entries answer.new) (listed_aged (state_of self.old.flood store.old.entries answer.old) link s.now spent Confused) }
+        ensures room { 0 < self.old.spare → 0 < store.old.spare → IsOk result }
+        ensures spare { self.old.spare ≤ self.new.spare + 1 }
+        ensures entries { store.old.spare ≤ store.new.spare + 1 }
+        ensures full { answer.new.full ≤ answer.old.full + 1 }
+        ensures links { OnOk result (length self.new.flood.up ≡ length self.old.flood.up) }
+    {
+        if s.id == fragment_0(self.own()) && !spent {
+            answer.reissue = Some(s.seq);
+            return Ok(());
+        }
+        let gone = purge(store.allocator(), s.id, s.seq);
+        if store.put(gone).is_err() {
+            return Err(Memory);
+        }
+        self.mark_all(s.id)
+    }
+
+    /// By how new the listed one is; its sequence number is above 0.
+    fn on_listed_aged(
+        &mut self,
+        store: &mut Store,
+        link: u16,
+        s: &Summary,
+        spent: bool,
+        age: Age,
+        answer: &mut SnpOut,
+    ) -> M<()>
+        requires age { age ≡ age_of (entry_in store.old.entries s.now.id) s.now }
+        requires link { link < length self.old.flood.up }
+        requires few { answer.old.full < 4294967295 }
+        ensures next { Becomes result (state_of self.new.flood store.new.entries answer.new) (listed_aged (state_of self.old.flood store.old.entries answer.old) link s.now spent age) }
+        ensures room { 0 < self.old.spare → 0 < store.old.spare → IsOk result }
+        ensures spare { self.old.spare ≤ self.new.spare + 1 }
+        ensures entries { store.old.spare ≤ store.new.spare + 1 }
+        ensures full { answer.new.full ≤ answer.old.full + 1 }
+        ensures links { OnOk result (length self.new.flood.up ≡ length self.old.flood.up) }
+    {
+        match age {
+            Age::Unknown => {
+                if is_live(s) {
+                    self.want_it(store, link, s, answer)
+                } else {
+                    Ok(())
+                }
+            }
+            Age::Newer => self.ask(s.id, link),
+            Age::Equal => self.acknowledge(s.id, link),
+            Age::Older => self.resend(s.id, link),
+            Age::Confused => self.on_confused(store, link, s, spent, answer),
+        }
+    }
+
+    /// An entry that a sequence numbers PDU lists: one of sequence number 0 asks for what there is.
+    #[tactic(auto, unfolding(wire_base::specs::model::Flooding::on_listed))]
+    fn on_listed(
+        &mut self,
+        store: &mut Store,
+        link: u16,
+        s: &Summary,
+        spent: bool,
+        answer: &mut SnpOut,
+    ) -> M<()>
+        requires link { link < length self.old.flood.up }
+        requires few { answer.old.full < 4294967295 }
+        ensures next { Becomes result (state_of self.new.flood store.new.entries answer.new) (on_listed link spent (state_of self.old.flood store.old.entries answer.old) s.now) }
+        ensures room { 0 < self.old.spare → 0 < store.old.spare → IsOk result }
+        ensures spare { self.old.spare ≤ self.new.spare + 1 }
+        ensures entries { store.old.spare ≤ store.new.spare + 1 }
+        ensures full { answer.new.full ≤ answer.old.full + 1 }
+        ensures links { OnOk result (length self.new.flood.up ≡ length self.old.flood.up) }
+    {
+        if s.seq == 0 {
+            if seq_of(store, &s.id) > 0 {
+                return self.resend(s.id, link);
+            }
+            return Ok(());
+        }
+        let age = store.compare(s);
+        self.on_listed_aged(store, link, s, spent, age, answer)
+    }
+
+    /// The entries of a sequence numbers PDU, in order, for which there is the memory already.
+    pub(crate) fn on_list(
+        &mut self,
+        store: &mut Store,
+        link: u16,
+        rows: &[Summary],
+        spent: bool,
+        answer: &mut SnpOut,
+    ) -> M<()>
+        requires link { link < length self.old.flood.up }
+        requires flags { length rows.now ≤ self.old.spare }
+        requires entries { length rows.now ≤ store.old.spare }
+        requires few { answer.old.full + length rows.now ≤ 4294967295 }
+        ensures next { state_of self.new.flood store.new.entries answer.new ≡ fold (on_listed link spent) (state_of self.old.flood store.old.entries answer.old) rows.now }
+        ensures ok { IsOk result }
+        ensures spare { self.old.spare ≤ self.new.spare + length rows.now }
+        ensures links { length self.new.flood.up ≡ length self.old.flood.up }
+    {
+        let mut rest = rows;
+        'rows: loop {
+            match rest {
+                [] => return Ok(()),
+                [s, after @ ..] => {
+                    self.on_listed(store, link, s, spent, answer)?;
+                    rest = after;
+                }
+            }
+        }
+    }
+
+    /// A partial sequence numbers PDU that came on a link, with the octets of its TLVs. The answer is the sequence
+    /// number past which the own link state PDU must be issued, if one was listed that is at odds with it, and how many
+    /// entries found no room (ISO/IEC 10589, 7.3.15.2). Where memory runs out, all is as it was.
+    #[tactic(auto, unfolding(wire_base::specs::model::Flooding::on_psnp, wire_base::specs::model::Flooding::on_list))]
+    pub fn on_psnp(&mut self, store: &mut Store, link: u16, tlvs: &[u8], spent: bool) -> M<SnpOut>
+        requires link { link < length self.old.flood.up }
+        requires tlvs { length tlvs.now ≤ 65535 }
+        ensures done { SnpDone result self.old.flood store.old.entries self.new.flood store.new.entries (on_psnp self.old.flood store.old.entries link tlvs.now spent) }
+        ensures spare { self.old.spare ≤ self.new.spare + length (rows_of tlvs.now) }
+    {
+        let rows = listed(store.allocator(), tlvs)?;
+        self.reserve(rows.len())?;
+        store.reserve(rows.len())?;
+        let mut answer = SnpOut {
+            reissue: None,
+            full: 0,
+        };
+        self.on_list(store, link, rows.as_slice(), spent, &mut answer)?;
+        Ok(answer)
+    }
+}
