@@ -115,7 +115,7 @@ sets-rise bsl ids none = distinct-rises 0 (map (set_identifier (bits_of bsl)) (i
 
 -- ---- the sets one after the other
 
-none-early : (n low : ℕ) (xs : List ℕ) → n < low → Rises low xs → has_member n xs ≡ false
+pub none-early : (n low : ℕ) (xs : List ℕ) → n < low → Rises low xs → has_member n xs ≡ false
 none-early n low [] lt is = refl
 none-early n low (x ∷ xs) lt is = rw (ne_eqb n x (λ e. omega (arith, is.0, lt))) (none-early n (suc x) xs (omega (arith, is.0, lt)) is.1)
 
@@ -141,7 +141,7 @@ set-missing n m bsl ids none e hasnt = ap (λ (k : ℕ). filter (λ s. nat_lt s 
 
 -- ---- which sets there are
 
-has-distinct : (n : ℕ) (xs : List ℕ) → has_member n (distinct xs) ≡ has_member n xs
+pub has-distinct : (n : ℕ) (xs : List ℕ) → has_member n (distinct xs) ≡ has_member n xs
 has-distinct n [] = refl
 has-distinct n (x ∷ xs) = elim (eqb_tells n x) [
   | inl same ↦ rw same.0 refl

@@ -1,7 +1,9 @@
-ghost use Rattle.std.specs.Prelude.{◌≡◌, ◌≤◌, ◌<◌, ◌==◌, None, false, map, find, length, IfOk, IfSome, MatchResult};
+ghost use Rattle.std.specs.Prelude.{◌≡◌, ℕ, ◌≤◌, ◌<◌, ◌==◌, None, false, map, find, length, IfOk, IfSome, MatchResult};
 ghost use Rattle.std.specs.List.{AllByRecursion, list_any};
 ghost use Rattle.wire_base.specs.model.Place.{bits_of, bit_position, position_in};
 ghost use Rattle.wire_base.specs.model.Ingress.{edge_fault, is_large, ids_of_set, packets_for};
+ghost use Rattle.wire_base.specs.model.BitSet.{has_member};
+ghost use Rattle.wire_base.specs.model.Hop.{one_if, tally};
 ghost use Rattle.bier_bits.specs.Any.{bsl_of, positions_of};
 ghost use Rattle.bfr_edge.specs.Entry.{positions_in, placed, Refuses};
 
@@ -26,6 +28,7 @@ pub fn ingress(
 ) -> Result<Rows<Packet>, EdgeFault>
     ensures refused { MatchResult result (λ _. edge_fault conf.now sd bsl ids.now ≡ None) (λ e. Refuses (edge_fault conf.now sd bsl ids.now) e) }
     ensures packets { IfOk result (λ ps. map positions_in ps ≡ map placed (packets_for sd bsl ids.now)) }
+    ensures once { IfOk result (λ _. (k : ℕ) → tally (λ p. has_member k p.ids) (packets_for sd bsl ids.now) ≡ one_if (has_member k ids.now)) }
     ensures lengths { IfOk result (λ ps. AllByRecursion (λ p. bsl_of p.bits ≡ p.triple.bsl) ps) }
 {
     if let Some(fault) = fault_of(conf, sd, bsl, ids) {
@@ -39,6 +42,7 @@ fn packets_of(alloc: Global, sd: u8, bsl: Bsl, ids: &[u16]) -> M<Rows<Packet>>
     requires zero { list_any (λ k. k == 0) ids.now ≡ false }
     requires large { find (is_large bsl) ids.now ≡ None }
     ensures packets { IfOk result (λ ps. map positions_in ps ≡ map placed (packets_for sd bsl ids.now)) }
+    ensures once { IfOk result (λ _. (k : ℕ) → tally (λ p. has_member k p.ids) (packets_for sd bsl ids.now) ≡ one_if (has_member k ids.now)) }
     ensures lengths { IfOk result (λ ps. AllByRecursion (λ p. bsl_of p.bits ≡ p.triple.bsl) ps) }
 {
     let mut packets = Rows::new(alloc);

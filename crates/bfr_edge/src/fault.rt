@@ -1,6 +1,6 @@
-ghost use Rattle.std.specs.Prelude.{◌≡◌, ◌==◌, ◌&&◌, is_some, find, option_map};
+ghost use Rattle.std.specs.Prelude.{◌≡◌, ◌↔◌, ℕ, true, ◌==◌, ◌&&◌, is_some, find, option_map};
 ghost use Rattle.std.specs.List.{list_any};
-ghost use Rattle.wire_base.specs.model.Place.{code_of, id_of, kind_of, sub_in};
+ghost use Rattle.wire_base.specs.model.Place.{code_of, own_bift, id_of, kind_of, sub_in};
 ghost use Rattle.wire_base.specs.model.Ingress.{edge_fault, is_large, supports_length, router_fault};
 
 use wire_base::{Bsl, EdgeFault, Kind, LabelRange, OwnSub, RouterConf, TableRow, kind_of};
@@ -90,6 +90,13 @@ fn has_id(subs: &[OwnSub], sd: u8) -> bool
 
 /// Whether the router has a BIFT-id for some set of the length in the subdomain.
 pub fn supports_length(conf: &RouterConf, sd: u8, bsl: Bsl) -> bool
+    ensures value { result ≡ supports_length conf.now sd bsl }
+    ensures some { (result ≡ true) ↔ ((si : ℕ) × (is_some (own_bift conf.now (record { sd = sd; bsl = bsl; si = si })) ≡ true)) }
+{
+    has_length(conf, sd, bsl)
+}
+
+fn has_length(conf: &RouterConf, sd: u8, bsl: Bsl) -> bool
     ensures { result ≡ supports_length conf.now sd bsl }
 {
     let Some(sub) = sub_in(conf.subs.as_slice(), sd) else {

@@ -4,6 +4,7 @@ use Rattle.bier_bits.specs.Any.{bsl_of, positions_of}
 use Rattle.bfr_edge.specs.declared.packet.Packet.{Packet}
 use Rattle.bfr_edge.specs.Entry.{positions_in}
 use Rattle.bfr_edge.proofs.EnterLaws.{among, packets-none, packets-more, packets-same, packets-whole, lengths-push}
+use Rattle.bfr_edge.proofs.OnceLaws.{each-once}
 use Rattle.bfr_edge.proofs.enter.packets_of.Goals as goal
 use Rattle.bfr_edge.proofs.enter.packets_of.Goals.{then-not-is_empty+in_ok-push, else-not-is_empty}
 
@@ -34,3 +35,6 @@ loop-si-preserved c =
 
 pub returns-clause-packets : goal.returns-clause-packets
 returns-clause-packets c = packets-whole c.args.sd c.args.bsl c.args.ids.now c.loop-si.si c.loop-si.packets (omega (arith, c.loop-si-test.false, c.loop-si.auto.si-end)) c.requires.large c.loop-si.invariant.packets
+
+pub returns-clause-once : goal.returns-clause-once
+returns-clause-once c k = each-once c.args.sd c.args.bsl c.args.ids.now k c.requires.zero
