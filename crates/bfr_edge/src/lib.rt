@@ -1,13 +1,14 @@
-// A library with one function.
+//! Where packets enter a domain (RFC 8279, 3; RFC 8296, 3): the packets that a list of BFR-ids makes, and their header.
 #![tactic(auto)]
 
-ghost use Rattle.std.specs.Prelude.{◌≡◌};
-ghost use Rattle.bfr_edge.specs.Echo.{echo_of};
+mod enter;
+mod fault;
+mod head;
+mod packet;
+#[cfg(test)]
+mod tests;
 
-// The `ensures` clause is the contract: what `echo` returns is `echo_of` of its argument, a definition
-// in `specs/Echo.antt`, which a caller's clause can cite too.
-pub fn echo(x: usize) -> usize
-    ensures { result ≡ echo_of x }
-{
-    x
-}
+pub use enter::ingress;
+pub use head::head_of;
+pub use packet::Packet;
+pub use wire_base::EdgeFault;

@@ -1,0 +1,4 @@
+pub mod GroupLaws
+pub mod EnterLaws
+pub mod SupportLaws
+pub mod OnceLaws

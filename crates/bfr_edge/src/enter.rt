@@ -1,0 +1,86 @@
+ghost use Rattle.std.specs.Prelude.{◌≡◌, ℕ, ◌≤◌, ◌<◌, ◌==◌, None, false, map, find, length, IfOk, IfSome, MatchResult};
+ghost use Rattle.std.specs.List.{AllByRecursion, list_any};
+ghost use Rattle.wire_base.specs.model.Place.{bits_of, bit_position, position_in};
+ghost use Rattle.wire_base.specs.model.Ingress.{edge_fault, is_large, ids_of_set, packets_for};
+ghost use Rattle.wire_base.specs.model.BitSet.{has_member};
+ghost use Rattle.wire_base.specs.model.Hop.{one_if, tally};
+ghost use Rattle.bier_bits.specs.Any.{bsl_of, positions_of};
+ghost use Rattle.bfr_edge.specs.Entry.{positions_in, placed, Refuses};
+
+use crate::fault::fault_of;
+use crate::packet::Packet;
+use bier_bits::AnyBits;
+use std::alloc::Global;
+use wire_base::{Bsl, EdgeFault, M, RouterConf, Rows, Triple};
+
+/// The packets that a list of BFR-ids makes at a router: one for each set identifier, in ascending order, with the bit
+/// positions of the ids of that set (RFC 8279, 3). The ids may repeat and stand in any order.
+///
+/// Refused is, in this order: a list without ids (NoEgress), the id 0 (IdZero), an id whose set identifier is above 255
+/// (SiLarge, with the first such id), a router without a BFR-id in the subdomain (NotBfr), and one that supports no triple
+/// of the subdomain and the length (BslUnknown). Memory may come in place of any answer.
+pub fn ingress(
+    alloc: Global,
+    conf: &RouterConf,
+    sd: u8,
+    bsl: Bsl,
+    ids: &[u16],
+) -> Result<Rows<Packet>, EdgeFault>
+    ensures refused { MatchResult result (λ _. edge_fault conf.now sd bsl ids.now ≡ None) (λ e. Refuses (edge_fault conf.now sd bsl ids.now) e) }
+    ensures packets { IfOk result (λ ps. map positions_in ps ≡ map placed (packets_for sd bsl ids.now)) }
+    ensures once { IfOk result (λ _. (k : ℕ) → tally (λ p. has_member k p.ids) (packets_for sd bsl ids.now) ≡ one_if (has_member k ids.now)) }
+    ensures lengths { IfOk result (λ ps. AllByRecursion (λ p. bsl_of p.bits ≡ p.triple.bsl) ps) }
+{
+    if let Some(fault) = fault_of(conf, sd, bsl, ids) {
+        return Err(fault);
+    }
+    Ok(packets_of(alloc, sd, bsl, ids)?)
+}
+
+// The packets of ids that are neither 0 nor in a set above 255.
+fn packets_of(alloc: Global, sd: u8, bsl: Bsl, ids: &[u16]) -> M<Rows<Packet>>
+    requires zero { list_any (λ k. k == 0) ids.now ≡ false }
+    requires large { find (is_large bsl) ids.now ≡ None }
+    ensures packets { IfOk result (λ ps. map positions_in ps ≡ map placed (packets_for sd bsl ids.now)) }
+    ensures once { IfOk result (λ _. (k : ℕ) → tally (λ p. has_member k p.ids) (packets_for sd bsl ids.now) ≡ one_if (has_member k ids.now)) }
+    ensures lengths { IfOk result (λ ps. AllByRecursion (λ p. bsl_of p.bits ≡ p.triple.bsl) ps) }
+{
+    let mut packets = Rows::new(alloc);
+    for si in 0..256u16 {
+        let triple = Triple {
+            sd,
+            bsl,
+            si: si as u8,
+        };
+        let bits = bits_of_set(triple, ids);
+        if !bits.is_empty() {
+            packets.push(Packet { triple, bits })?;
+        }
+    }
+    Ok(packets)
+}
+
+// The bit positions of the ids of a triple's set.
+fn bits_of_set(triple: Triple, ids: &[u16]) -> AnyBits
+    requires zero { list_any (λ k. k == 0) ids.now ≡ false }
+    ensures positions { positions_of result ≡ map (bit_position (bits_of triple.bsl)) (ids_of_set triple.bsl ids.now triple.si) }
+    ensures bsl { bsl_of result ≡ triple.bsl }
+{
+    let mut bits = AnyBits::zero(triple.bsl);
+    for id in ids {
+        if let Some(bp) = place_in(triple, *id) {
+            bits.set(bp);
+        }
+    }
+    let _bsl = bits.bsl();
+    bits
+}
+
+// The bit position of an id of the triple's set.
+fn place_in(triple: Triple, id: u16) -> Option<u16>
+    ensures value { result ≡ position_in triple id }
+    ensures low { IfSome result (λ p. 1 ≤ p) }
+    ensures high { IfSome result (λ p. p ≤ bits_of triple.bsl) }
+{
+    triple.place(id)
+}

@@ -1,0 +1,33 @@
+ghost use Rattle.std.specs.Prelude.{◌≡◌, ◌<◌, ◌^◌};
+ghost use Rattle.wire_base.specs.model.Item.{ingress_header};
+ghost use Rattle.bier_bits.specs.Any.{bsl_of, positions_of};
+ghost use Rattle.bier_head.specs.Views.{header_of};
+
+use crate::packet::Packet;
+use bier_head::Header;
+
+/// The header with which a packet enters (RFC 8296, 2.1 and 3): nibble 5, the end of the label stack, protocol 4 for IPv4,
+/// whose payload isn't read, and else 0 but for what is given. The BIFT-id and the entropy have 20 bits.
+#[tactic(auto, unfolding(wire_base::specs::model::Item::ingress_header))]
+pub fn head_of(p: &Packet, bift: u32, ttl: u8, entropy: u32, bfir: u16) -> Header
+    requires bift { bift < 2 ^ 20 }
+    requires entropy { entropy < 2 ^ 20 }
+    requires length { bsl_of p.now.bits ≡ p.now.triple.bsl }
+    ensures { header_of result ≡ ingress_header p.now.triple (positions_of p.now.bits) bift ttl entropy bfir }
+{
+    Header {
+        bift,
+        tc: 0,
+        s: true,
+        ttl,
+        nibble: 5,
+        entropy,
+        oam: 0,
+        rsv: 0,
+        dscp: 0,
+        proto: 4,
+        bfir,
+        bsl_code: p.triple.bsl.code(),
+        bits: p.bits.copy(),
+    }
+}
