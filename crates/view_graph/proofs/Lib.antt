@@ -1,5 +1,6 @@
 pub mod ClaimLaws
 pub mod EdgeLaws
+pub mod ExampleLaws
 pub mod GraphLaws
 pub mod ListLaws
 pub mod SystemLaws

@@ -8,6 +8,8 @@ mod known;
 mod links;
 mod nodes;
 mod places;
+#[cfg(test)]
+mod tests;
 mod walks;
 
 pub use nodes::{supports, view};

@@ -1,0 +1,225 @@
+ghost use Rattle.std.specs.Prelude.{◌≡◌, IfOk, length};
+ghost use Rattle.wire_base.specs.model.Configuration.{IsSound};
+ghost use Rattle.model_examples.specs.Domains.{ring_a};
+
+use crate::{supports, view};
+use lsp_store::Store;
+use std::alloc::Global;
+use wire_base::{
+    Bsl, End, Entry, Ipv4, Kind, LabelRange, Level, LspId, M, Mac, Memory, Name, Octets, OwnSub,
+    RouterConf, Rows, SubKind, SystemId, Triple, View, ViewEdge,
+};
+
+const UP: [bool; 2] = [true, true];
+
+/// In the settled ring each router has an edge to both neighbours and one label; an end that is down takes its edge away
+/// at both ends.
+#[test]
+fn the_settled_ring(rt: HostRuntime) {
+    let alloc = rt.alloc();
+    let conf = ring_a(alloc).expect(&rt, "memory");
+    let store = ring_database(alloc).expect(&rt, "memory");
+    let seen = view(alloc, &conf, UP.as_slice(), &store).expect(&rt, "memory");
+    assert_eq!(rt; seen.as_slice().len(), 4);
+    assert!(rt; edges(&seen, 0) == [edge(1, 10), edge(3, 10)].as_slice());
+    assert!(rt; edges(&seen, 1) == [edge(0, 10), edge(2, 10)].as_slice());
+    assert!(rt; edges(&seen, 2) == [edge(1, 10), edge(3, 10)].as_slice());
+    assert!(rt; edges(&seen, 3) == [edge(0, 10), edge(2, 10)].as_slice());
+    assert!(rt; supported(&conf, &seen, 3, 0) && !supported(&conf, &seen, 3, 1));
+    let seen = view(alloc, &conf, [true, false].as_slice(), &store).expect(&rt, "memory");
+    assert!(rt; edges(&seen, 0) == [edge(1, 10)].as_slice());
+    assert!(rt; edges(&seen, 3) == [edge(2, 10)].as_slice());
+}
+
+/// What B alone says: its edges, and how many places it and A have.
+#[test]
+fn links_and_places(rt: HostRuntime) {
+    let alloc = rt.alloc();
+    let conf = ring_a(alloc).expect(&rt, "memory");
+    let cases: [(&[u8], &[ViewEdge], usize, usize); 10] = [
+        // no link of B: none from A to it either
+        (b"", &[], 0, 1),
+        // a metric of 0; of 9 and 4; of 16,777,215; to a pseudonode; a cut entry after a whole one
+        (b"\x16\x0b\0\0\0\0\0\x01\0\0\0\0\0", &[edge(0, 1)], 0, 1),
+        (
+            b"\x16\x16\0\0\0\0\0\x01\0\0\0\x09\0\0\0\0\0\0\x01\0\0\0\x04\0",
+            &[edge(0, 4)],
+            0,
+            1,
+        ),
+        (b"\x16\x0b\0\0\0\0\0\x01\0\xff\xff\xff\0", &[], 0, 1),
+        (b"\x16\x0b\0\0\0\0\0\x01\x01\0\0\x07\0", &[], 0, 1),
+        (
+            b"\x16\x0d\0\0\0\0\0\x01\0\0\0\x07\0\0\0",
+            &[edge(0, 7)],
+            0,
+            1,
+        ),
+        // a place; one of an unknown subdomain; two whose labels overlap; the prefix of A
+        (
+            b"\x87\x17\0\0\0\0\x60\x0a\0\0\x02\x0d\x20\x0b\0\0\0\0\x02\x01\x04\0\x10\0\xc8",
+            &[],
+            1,
+            1,
+        ),
+        (
+            b"\x87\x17\0\0\0\0\x60\x0a\0\0\x02\x0d\x20\x0b\0\0\x01\0\x02\x01\x04\0\x10\0\xc8",
+            &[],
+            0,
+            1,
+        ),
+        (
+            b"\x87\x24\0\0\0\0\x60\x0a\0\0\x02\x1a\x20\x0b\0\0\0\0\x02\x01\x04\0\x10\0\xc8\x20\x0b\0\0\x01\0\x02\x01\x04\0\x20\0\xc8",
+            &[],
+            0,
+            1,
+        ),
+        (
+            b"\x87\x17\0\0\0\0\x60\x0a\0\0\x01\x0d\x20\x0b\0\0\0\0\x02\x01\x04\0\x10\0\xc8",
+            &[],
+            0,
+            0,
+        ),
+    ];
+    for (content, expected, places_of_b, places_of_a) in cases {
+        let mut store = Store::new(alloc);
+        put(&mut store, alloc, 2, content).expect(&rt, "memory");
+        let seen = view(alloc, &conf, UP.as_slice(), &store).expect(&rt, "memory");
+        assert!(rt; edges(&seen, 1) == expected);
+        assert_eq!(rt; edges(&seen, 0).len(), expected.len());
+        assert_eq!(rt; places(&seen, 1), places_of_b);
+        assert_eq!(rt; places(&seen, 0), places_of_a);
+    }
+}
+
+fn edge(to: u16, metric: u32) -> ViewEdge {
+    ViewEdge { to, metric }
+}
+
+fn system(n: u8) -> SystemId {
+    SystemId([0, 0, 0, 0, 0, n])
+}
+
+fn edges(seen: &View, place: usize) -> &[ViewEdge] {
+    match seen.as_slice().get(place) {
+        Some(node) => node.edges.as_slice(),
+        None => &[],
+    }
+}
+
+fn places(seen: &View, place: usize) -> usize {
+    match seen.as_slice().get(place) {
+        Some(node) => node.subs.len(),
+        None => 0,
+    }
+}
+
+fn supported(conf: &RouterConf, seen: &View, place: usize, si: u8) -> bool {
+    let triple = Triple {
+        sd: 0,
+        bsl: Bsl::B64,
+        si,
+    };
+    match seen.as_slice().get(place) {
+        Some(node) => supports(conf, node, triple),
+        None => false,
+    }
+}
+
+/// Stores a live fragment 0.
+fn put(store: &mut Store, alloc: Global, n: u8, content: &[u8]) -> M<()> {
+    let entry = Entry {
+        id: LspId {
+            system: system(n),
+            pseudonode: 0,
+            fragment: 0,
+        },
+        seq: 1,
+        life: 1200,
+        hold: 0,
+        sum: 1,
+        flags: 3,
+        content: Octets::from_slice(alloc, content)?,
+    };
+    match store.put(entry) {
+        Ok(()) => Ok(()),
+        Err(_) => Err(Memory),
+    }
+}
+
+/// The own LSPs of the ring's routers but A: two links of metric 10, the prefix and one label.
+fn ring_database(alloc: Global) -> M<Store> {
+    let mut store = Store::new(alloc);
+    put(
+        &mut store,
+        alloc,
+        2,
+        b"\x01\x04\x03\x49\0\x01\x81\x01\xcc\x89\x01B\x16\x16\0\0\0\0\0\x01\0\0\0\x0a\0\0\0\0\0\0\x03\0\0\0\x0a\0\x87\x17\0\0\0\0\x60\x0a\0\0\x02\x0d\x20\x0b\0\0\0\0\x02\x01\x04\0\x10\0\xc8",
+    )?;
+    put(
+        &mut store,
+        alloc,
+        3,
+        b"\x01\x04\x03\x49\0\x01\x81\x01\xcc\x89\x01C\x16\x16\0\0\0\0\0\x02\0\0\0\x0a\0\0\0\0\0\0\x04\0\0\0\x0a\0\x87\x17\0\0\0\0\x60\x0a\0\0\x03\x0d\x20\x0b\0\0\0\0\x03\x01\x04\0\x10\x01\x2c",
+    )?;
+    put(
+        &mut store,
+        alloc,
+        4,
+        b"\x01\x04\x03\x49\0\x01\x81\x01\xcc\x89\x01D\x16\x16\0\0\0\0\0\x03\0\0\0\x0a\0\0\0\0\0\0\x01\0\0\0\x0a\0\x87\x17\0\0\0\0\x60\x0a\0\0\x04\x0d\x20\x0b\0\0\0\0\x04\x01\x04\0\x10\x01\x90",
+    )?;
+    Ok(store)
+}
+
+/// Router A of the ring.
+#[tactic(auto, using(crate::proofs::ExampleLaws::ring_a_sound))]
+fn ring_a(alloc: Global) -> M<RouterConf>
+    ensures sound { IfOk result (λ c. IsSound c) }
+    ensures ends { IfOk result (λ c. length c.ends ≡ 2) }
+{
+    built_ring_a(alloc)
+}
+
+fn built_ring_a(alloc: Global) -> M<RouterConf>
+    ensures { IfOk result (λ c. c ≡ ring_a) }
+{
+    let mut subs = Rows::new(alloc);
+    let range = LabelRange {
+        bsl: Bsl::B64,
+        max_si: 0,
+        label: 100,
+    };
+    subs.push(OwnSub {
+        sd: 0,
+        id: 1,
+        ranges: Rows::from_slice(alloc, &[range])?,
+    })?;
+    let kind = SubKind {
+        sd: 0,
+        kind: Kind::Mpls,
+    };
+    let to_b = End {
+        peer: SystemId([0, 0, 0, 0, 0, 2]),
+        peer_mac: Mac([2, 0, 0, 1, 0, 0]),
+        own_mac: Mac([2, 0, 0, 0, 0, 1]),
+        metric: 10,
+    };
+    let to_d = End {
+        peer: SystemId([0, 0, 0, 0, 0, 4]),
+        peer_mac: Mac([2, 0, 0, 3, 0, 0]),
+        own_mac: Mac([2, 0, 0, 0, 0, 3]),
+        metric: 10,
+    };
+    Ok(RouterConf {
+        level: Level::Two,
+        area: Octets::from_slice(alloc, &[0x49, 0, 1])?,
+        name: Name::from_slice(alloc, b"A")?,
+        system: SystemId([0, 0, 0, 0, 0, 1]),
+        prefix: Ipv4([10, 0, 0, 1]),
+        overload: false,
+        subs,
+        kinds: Rows::from_slice(alloc, &[kind])?,
+        table: Rows::new(alloc),
+        ends: Rows::from_slice(alloc, &[to_b, to_d])?,
+    })
+}
