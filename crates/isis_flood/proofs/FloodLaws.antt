@@ -1,18 +1,19 @@
 -- A table of masks as the rows of a flood state.
-use Rattle.std.proofs.Common.{◌≡◌, ℕ, zero, suc, ◌+◌, ◌<◌, ◌≤◌, Bool, true, false, if◌then◌else◌, List, [], ◌∷◌, length, get_or, set, map, replicate, refl, sym, ap, subst, ◌∙◌, arith}
+use Rattle.std.proofs.Common.{◌≡◌, ℕ, zero, suc, ◌+◌, ◌<◌, ◌≤◌, Bool, true, false, if◌then◌else◌, List, [], ◌∷◌, ◌++◌, length, get_or, set, take, drop, map, replicate, refl, sym, ap, subst, ◌∙◌, arith}
 use mathlib.Core.Bool.{false≢true, true≢false}
 use Rattle.std.specs.declared.cmp.Ordering.{Ordering}
 use Rattle.std.specs.declared.cmp.Ordering.TheVariants.{Less, Equal, Greater}
 use Rattle.std.specs.Ordering.{is_eq, is_lt, is_gt, match_ordering, ordering_then, nat_cmp}
 use Rattle.std.specs.List.{AllByRecursion}
+use Rattle.std.proofs.lemmas.List.{get_or-map, map-set, length-map, take_all, drop_all, append-nil}
 use Rattle.std.proofs.lemmas.Map.Lookups.{exact_bytes, exact_unsigned}
 use Rattle.wire_base.specs.declared.addresses.SystemId.{SystemId}
 use Rattle.wire_base.specs.declared.addresses.LspId.{LspId}
 use Rattle.wire_base.specs.model.Control.{same_id, system_order, id_order, is_below, AreAscending, FlagRow, no_flags, at_row, without_row, srm_in, ssn_in, Flood}
-use Rattle.wire_base.specs.model.Flooding.{mark_all, forget, with_row, no_links, new_flood}
+use Rattle.wire_base.specs.model.Flooding.{mark_all, forget, with_row, no_links, new_flood, link_down, sent_on}
 use Rattle.lsp_store.proofs.OrderLaws.{id_total, tie_is_same, below_trans, below_differs, above_differs, same_turned}
 use Rattle.isis_flood.specs.declared.table.Bits.{Bits}
-use Rattle.isis_flood.specs.Masks.{links_in, row_of, rows_of, row_ids, row_in, no_bits, bits_in, put_bits, without_bits, flood_of, Flooding}
+use Rattle.isis_flood.specs.Masks.{links_in, row_of, rows_of, row_ids, row_in, no_bits, bits_in, put_bits, without_bits, flood_of, Flooding, clears}
 use Rattle.isis_flood.proofs.MaskLaws.{links_none, links_get, links_long}
 
 none_is : (n : ℕ) (id : LspId) → row_of n (no_bits id) ≡ no_flags n id
@@ -171,6 +172,40 @@ module _ (own : SystemId) (n up due spare : ℕ) (rows : List Bits) (now : Flood
       ap (λ m. row_of m b) (sym links_are_n) ∙ changed ∙ ap (λ m. change (row_in m now.flood.rows b.id)) links_are_n ∙ ap (λ (f : Flood). change (row_in n f.rows b.id)) (sym flood_seen)
       )
 
+module _ (own : SystemId) (n up due spare : ℕ) (rows : List Bits) (now : Flooding) (seen : record { flood = flood_of own n up due rows; spare = spare } ≡ now) (link : ℕ) (few : n ≤ 64) (lt : link < length now.flood.up) where
+  there : link < n
+  there = omega (arith, lt, links_are_n own n up due spare rows now seen)
+
+  whole : flood_of own n up due rows ≡ now.flood
+  whole = ap (λ (f : Flooding). f.flood) seen
+
+  pub same_links : (new : ℕ) → length (links_in n new) ≡ length now.flood.up
+  same_links new = links_long n new ∙ sym (links_are_n own n up due spare rows now seen)
+
+  -- a link comes up
+  pub opens : (new_up new_due : ℕ) → ((m : ℕ) → link < m → m ≤ 64 → links_in m new_up ≡ set (links_in m up) link true) → ((m : ℕ) → link < m → m ≤ 64 → links_in m new_due ≡ set (links_in m due) link true) → flood_of own n new_up new_due rows ≡ record now.flood { up = set now.flood.up link true; due = set now.flood.due link true }
+  opens new_up new_due a b =
+      ap (λ (l : List Bool). record { own = own; up = l; due = links_in n new_due; rows = rows_of n rows }) (a n there few)
+      ∙ ap (λ (l : List Bool). record { own = own; up = set (links_in n up) link true; due = l; rows = rows_of n rows }) (b n there few)
+      ∙ ap (λ (f : Flood). record f { up = set f.up link true; due = set f.due link true }) whole
+
+  -- a link goes down
+  pub downs : (new_up new_due : ℕ) (new : List Bits) → ((m : ℕ) → link < m → m ≤ 64 → links_in m new_up ≡ set (links_in m up) link false) → ((m : ℕ) → link < m → m ≤ 64 → links_in m new_due ≡ set (links_in m due) link false) → ((m : ℕ) → link < m → m ≤ 64 → rows_of m new ≡ map (clears true link) (rows_of m rows)) → flood_of own n new_up new_due new ≡ link_down now.flood link
+  unfolding link_down
+  downs new_up new_due new a b c =
+      ap (λ (l : List Bool). record { own = own; up = l; due = links_in n new_due; rows = rows_of n new }) (a n there few)
+      ∙ ap (λ (l : List Bool). record { own = own; up = set (links_in n up) link false; due = l; rows = rows_of n new }) (b n there few)
+      ∙ ap (λ (rs : List FlagRow). record { own = own; up = set (links_in n up) link false; due = set (links_in n due) link false; rows = rs }) (c n there few)
+      ∙ ap (λ (f : Flood). link_down f link) whole
+
+  -- all was sent
+  pub sends : (new_due : ℕ) (new : List Bits) → ((m : ℕ) → link < m → m ≤ 64 → links_in m new_due ≡ set (links_in m due) link false) → ((m : ℕ) → link < m → m ≤ 64 → rows_of m new ≡ map (clears false link) (rows_of m rows)) → flood_of own n up new_due new ≡ sent_on now.flood link
+  unfolding sent_on
+  sends new_due new b c =
+      ap (λ (l : List Bool). record { own = own; up = links_in n up; due = l; rows = rows_of n new }) (b n there few)
+      ∙ ap (λ (rs : List FlagRow). record { own = own; up = links_in n up; due = set (links_in n due) link false; rows = rs }) (c n there few)
+      ∙ ap (λ (f : Flood). sent_on f link) whole
+
 pub up_is : (own : SystemId) (n up due spare : ℕ) (rows : List Bits) (now : Flooding) → record { flood = flood_of own n up due rows; spare = spare } ≡ now → links_in (length now.flood.up) up ≡ now.flood.up
 up_is own n up due spare rows now seen = ap (λ m. links_in m up) (links_are_n own n up due spare rows now seen) ∙ ap (λ (f : Flooding). f.flood.up) seen
 
@@ -192,3 +227,28 @@ pub changed_row : (n : ℕ) (r : Bits) (id : LspId) (srm ssn : ℕ) (there : Fla
 changed_row n r id srm ssn there s t same is a b =
     ap (λ (l : List Bool). record { id = id; srm = l; ssn = links_in n ssn }) a ∙ ap (λ (l : List Bool). record { id = id; srm = s (links_in n r.srm); ssn = l }) b
     ∙ ap (λ (i : LspId). record { id = i; srm = s (links_in n r.srm); ssn = t (links_in n r.ssn) }) (sym same) ∙ ap (λ (row : FlagRow). record row { srm = s row.srm; ssn = t row.ssn }) is
+
+-- ---- every row
+
+pub set_step : (f : FlagRow → FlagRow) (rs : List FlagRow) (i : ℕ) (y d : FlagRow) → i < length rs → y ≡ f (get_or (map f (take i rs) ++ drop i rs) i d) → set (map f (take i rs) ++ drop i rs) i y ≡ map f (take (suc i) rs) ++ drop (suc i) rs
+set_step f [] i y d lt h = absurd (omega (arith, lt))
+set_step f (r ∷ rs) zero y d lt h = ap (λ (x : FlagRow). x ∷ rs) h
+set_step f (r ∷ rs) (suc i) y d lt h = ap (λ (xs : List FlagRow). f r ∷ xs) (set_step f rs i y d (omega (arith, lt)) h)
+
+pub rows_step : (n : ℕ) (f : FlagRow → FlagRow) (rs now : List Bits) (i next : ℕ) (b x : Bits) → next ≡ suc i → i < length rs → length now ≡ length rs → rows_of n now ≡ map f (take i (rows_of n rs)) ++ drop i (rows_of n rs) → x ≡ get_or now i x → row_of n b ≡ f (row_of n x) → rows_of n (set now i b) ≡ map f (take next (rows_of n rs)) ++ drop next (rows_of n rs)
+rows_step n f rs now i next b x step lt long so at changed =
+    let there : get_or (rows_of n now) i (row_of n x) ≡ row_of n x = get_or-map (row_of n) now i x (row_of n x) (omega (arith, lt, long)) ∙ ap (row_of n) (sym at) in
+    rw step (
+    map-set (row_of n) now i b ∙ ap (λ (xs : List FlagRow). set xs i (row_of n b)) so
+    ∙ set_step f (rows_of n rs) i (row_of n b) (row_of n x) (let l = length-map rs (row_of n) in omega (arith, lt, l)) (changed ∙ ap f (sym there ∙ ap (λ (xs : List FlagRow). get_or xs i (row_of n x)) so))
+    )
+
+pub rows_end : (n : ℕ) (f : FlagRow → FlagRow) (rs now : List Bits) (i : ℕ) → length rs ≤ i → rows_of n now ≡ map f (take i (rows_of n rs)) ++ drop i (rows_of n rs) → rows_of n now ≡ map f (rows_of n rs)
+rows_end n f rs now i past so =
+    let l = length-map rs (row_of n) in
+    so ∙ ap (λ (xs : List FlagRow). map f xs ++ drop i (rows_of n rs)) (take_all i (rows_of n rs) (omega (arith, l, past))) ∙ ap (λ (xs : List FlagRow). map f (rows_of n rs) ++ xs) (drop_all i (rows_of n rs) (omega (arith, l, past))) ∙ append-nil (map f (rows_of n rs))
+
+pub ids_kept : (rs : List Bits) (i : ℕ) (b x : Bits) → x ≡ get_or rs i x → b.id ≡ x.id → row_ids (set rs i b) ≡ row_ids rs
+ids_kept [] i b x at h = refl
+ids_kept (r ∷ rs) zero b x at h = ap (λ (id : LspId). id ∷ row_ids rs) (h ∙ ap (λ (y : Bits). y.id) at)
+ids_kept (r ∷ rs) (suc i) b x at h = ap (λ (ids : List LspId). r.id ∷ ids) (ids_kept rs i b x at h)

@@ -5,6 +5,7 @@ use Rattle.std.specs.Ordering.{match_ordering}
 use Rattle.wire_base.specs.declared.addresses.SystemId.{SystemId}
 use Rattle.wire_base.specs.declared.addresses.LspId.{LspId}
 use Rattle.wire_base.specs.model.Control.{id_order, same_id, FlagRow, Flood, no_flags}
+use Rattle.wire_base.specs.model.Flooding.{clear_both, clear_ssn}
 use Rattle.lsp_store.specs.Places.{place_in, stands_at}
 use Rattle.isis_flood.specs.declared.table.Bits.{Bits}
 
@@ -72,3 +73,8 @@ without_bits id (b ∷ rows) = if same_id b.id id then rows else b ∷ without_b
 pub record IsPlace (rows : List Bits) (id : LspId) (there : Bool) (p : ℕ) : Type 0 where
   pub place : p ≡ place_in (row_ids rows) id
   pub stands : stands_at (row_ids rows) p id ≡ there
+
+-- a row without its acknowledgements on a link, or without any flag there
+abbrev pub clears : Bool → ℕ → FlagRow → FlagRow
+clears true link row = clear_both link row
+clears false link row = clear_ssn link row

@@ -1,6 +1,6 @@
-ghost use Rattle.std.specs.Prelude.{◌≡◌, ◌<◌, ◌≤◌, ◌+◌, length, slice_index_or, true, false, IsOk, IfOk, OnOk, OnErr};
+ghost use Rattle.std.specs.Prelude.{◌≡◌, ◌<◌, ◌≤◌, ◌+◌, length, slice_index_or, slice_set, true, false, IsOk, IfOk, OnOk, OnErr};
 ghost use Rattle.wire_base.specs.model.Control.{FlagRow, srm_in, ssn_in, without_row};
-ghost use Rattle.wire_base.specs.model.Flooding.{with_row, send_on, ask_on, set_srm, pass_on, mark_all, forget, new_flood};
+ghost use Rattle.wire_base.specs.model.Flooding.{with_row, send_on, ask_on, set_srm, pass_on, mark_all, forget, link_down, sent_on, new_flood};
 ghost use Rattle.isis_flood.specs.Masks.{links_in, row_of, row_in};
 
 use crate::masks::{has, mask_of, with, without};
@@ -85,6 +85,7 @@ impl Flood {
     pub fn reserve(&mut self, n: usize) -> M<()>
         ensures flood { self.new.flood ≡ self.old.flood }
         ensures ok { OnOk result (n ≤ self.new.spare) }
+        ensures room { n ≤ self.old.spare → IsOk result }
         ensures spare { self.old.spare ≤ self.new.spare }
     {
         self.table.reserve(n)
@@ -227,5 +228,38 @@ impl Flood {
         ensures { result ≡ self.now.flood.own }
     {
         self.own
+    }
+
+    /// A link is up, and a CSNP is due there.
+    pub(crate) fn open(&mut self, link: u16)
+        requires { link < length self.old.flood.up }
+        ensures flood { self.new.flood ≡ record self.old.flood { up = slice_set self.old.flood.up link true; due = slice_set self.old.flood.due link true } }
+        ensures spare { self.new.spare ≡ self.old.spare }
+        ensures links { length self.new.flood.up ≡ length self.old.flood.up }
+    {
+        self.up = with(self.up, link);
+        self.due = with(self.due, link);
+    }
+
+    /// A link goes down, and its flags go.
+    pub fn link_down(&mut self, link: u16)
+        requires { link < length self.old.flood.up }
+        ensures flood { self.new.flood ≡ link_down self.old.flood link }
+        ensures spare { self.new.spare ≡ self.old.spare }
+    {
+        self.up = without(self.up, link);
+        self.due = without(self.due, link);
+        self.table.clear(link, true);
+    }
+
+    /// All that was due on a link was sent: no CSNP is due there, and nothing is to be acknowledged or asked for. An
+    /// acknowledgement alone ends the sending of a link state PDU (ISO/IEC 10589, 7.3.15.4).
+    pub fn sent(&mut self, link: u16)
+        requires { link < length self.old.flood.up }
+        ensures flood { self.new.flood ≡ sent_on self.old.flood link }
+        ensures spare { self.new.spare ≡ self.old.spare }
+    {
+        self.due = without(self.due, link);
+        self.table.clear(link, false);
     }
 }

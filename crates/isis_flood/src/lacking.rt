@@ -1,7 +1,7 @@
 //! What a complete sequence numbers PDU lacks, and what a link that comes up lacks (ISO/IEC 10589, 7.3.15.2 and 7.3.17).
-ghost use Rattle.std.specs.Prelude.{◌≡◌, ◌<◌, ◌≤◌, ◌+◌, length, fold, IsOk};
+ghost use Rattle.std.specs.Prelude.{◌≡◌, ◌<◌, ◌≤◌, ◌+◌, length, fold, IsOk, OnOk, OnErr};
 ghost use Rattle.wire_base.specs.model.Control.{same_id, is_below};
-ghost use Rattle.wire_base.specs.model.Flooding.{lists, lacks, send_lacking, on_csnp};
+ghost use Rattle.wire_base.specs.model.Flooding.{lists, lacks, send_lacking, send_known, on_csnp, link_up};
 ghost use Rattle.wire_base.specs.model.Tlv.{rows_of};
 ghost use Rattle.isis_flood.specs.Answers.{SnpDone};
 
@@ -100,5 +100,42 @@ impl Flood {
         let _entries = store.len();
         self.send_lacking(store, link, &start, &last, rows.as_slice())?;
         Ok(answer)
+    }
+
+    /// All that is known is to be sent on a link; there is the memory for it already.
+    fn send_known(&mut self, store: &Store, link: u16) -> M<()>
+        requires link { link < length self.old.flood.up }
+        requires flags { length store.now.entries ≤ self.old.spare }
+        ensures next { self.new.flood ≡ fold (send_known link) self.old.flood store.now.entries }
+        ensures ok { IsOk result }
+        ensures spare { self.old.spare ≤ self.new.spare + length store.now.entries }
+    {
+        let mut rest = store.as_slice();
+        'entries: loop {
+            match rest {
+                [] => return Ok(()),
+                [e, after @ ..] => {
+                    if e.seq > 0 {
+                        self.want(e.id, link)?;
+                    }
+                    rest = after;
+                }
+            }
+        }
+    }
+
+    /// A link comes up: a CSNP is due there, and all that is known is to be sent (ISO/IEC 10589, 7.3.17). Where there
+    /// is a spare row for each entry it is Ok.
+    #[tactic(auto, unfolding(wire_base::specs::model::Flooding::link_up))]
+    pub fn link_up(&mut self, store: &Store, link: u16) -> M<()>
+        requires { link < length self.old.flood.up }
+        ensures ok { OnOk result (self.new.flood ≡ link_up self.old.flood store.now.entries link) }
+        ensures err { OnErr result (self.new.flood ≡ self.old.flood) }
+        ensures room { length store.now.entries ≤ self.old.spare → IsOk result }
+        ensures spare { self.old.spare ≤ self.new.spare + length store.now.entries }
+    {
+        self.reserve(store.len())?;
+        self.open(link);
+        self.send_known(store, link)
     }
 }

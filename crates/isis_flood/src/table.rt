@@ -1,9 +1,10 @@
-ghost use Rattle.std.specs.Prelude.{◌≡◌, ◌<◌, ◌≤◌, ◌+◌, [], true, false, length, IsOk, IfOk, IfErr, OnOk, OnErr};
+ghost use Rattle.std.specs.Prelude.{◌≡◌, ◌<◌, ◌≤◌, ◌+◌, [], map, ℕ, true, false, length, IsOk, IfOk, IfErr, OnOk, OnErr};
 ghost use Rattle.std.specs.Ordering.{is_gt};
 ghost use Rattle.wire_base.specs.model.Control.{AreAscending, id_order, same_id};
 ghost use Rattle.lsp_store.specs.Places.{place_in, stands_at};
-ghost use Rattle.isis_flood.specs.Masks.{row_ids, bits_in, put_bits, without_bits, IsPlace};
+ghost use Rattle.isis_flood.specs.Masks.{row_of, rows_of, row_ids, bits_in, put_bits, without_bits, clears, IsPlace};
 
+use crate::masks::without;
 use std::alloc::Global;
 use std::marker::Model;
 use wire_base::{LspId, M};
@@ -72,6 +73,33 @@ fn stands_at(rows: &[Bits], place: usize, id: &LspId) -> bool
         return has_id(&rows[place], id);
     }
     false
+}
+
+/// No row is to be acknowledged or asked for on a link; where `both`, none is to be sent there either.
+fn clear_at(rows: &mut [Bits], link: u16, both: bool)
+    requires { link < 64 }
+    ensures ids { row_ids rows.new ≡ row_ids rows.old }
+    ensures rows { (n : ℕ) → link < n → n ≤ 64 → rows_of n rows.new ≡ map (clears both link) (rows_of n rows.old) }
+{
+    'rows: for i in 0..rows.len() {
+        rows[i] = cleared(&rows[i], link, both);
+    }
+}
+
+fn cleared(row: &Bits, link: u16, both: bool) -> Bits
+    requires { link < 64 }
+    ensures id { result.id ≡ row.now.id }
+    ensures row { (n : ℕ) → link < n → n ≤ 64 → row_of n result ≡ clears both link (row_of n row.now) }
+{
+    Bits {
+        id: row.id,
+        srm: if both {
+            without(row.srm, link)
+        } else {
+            row.srm
+        },
+        ssn: without(row.ssn, link),
+    }
 }
 
 impl Table {
@@ -154,9 +182,19 @@ impl Table {
     pub(crate) fn reserve(&mut self, n: usize) -> M<()>
         ensures rows { self.new.rows ≡ self.old.rows }
         ensures ok { OnOk result (n ≤ self.new.spare) }
+        ensures room { n ≤ self.old.spare → IsOk result }
         ensures spare { self.old.spare ≤ self.new.spare }
     {
         self.items.reserve(n)?;
         Ok(())
+    }
+
+    /// No row is to be acknowledged or asked for on a link; where `both`, none is to be sent there either.
+    pub(crate) fn clear(&mut self, link: u16, both: bool)
+        requires { link < 64 }
+        ensures rows { (n : ℕ) → link < n → n ≤ 64 → rows_of n self.new.rows ≡ map (clears both link) (rows_of n self.old.rows) }
+        ensures spare { self.new.spare ≡ self.old.spare }
+    {
+        clear_at(self.items.as_mut_slice(), link, both);
     }
 }
