@@ -5,8 +5,6 @@ mod enter;
 mod fault;
 mod head;
 mod packet;
-#[cfg(test)]
-mod tests;
 
 pub use enter::ingress;
 pub use head::head_of;

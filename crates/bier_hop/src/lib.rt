@@ -3,8 +3,6 @@
 
 mod hop;
 mod out;
-#[cfg(test)]
-mod tests;
 
 pub use hop::Hop;
 pub use out::{Out, Why};
