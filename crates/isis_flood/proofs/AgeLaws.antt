@@ -1,13 +1,12 @@
 -- Whether an identifier is new, by the age of what came.
-use Rattle.std.proofs.Common.{◌≡◌, ℕ, ◌&&◌, Bool, true, false, if◌then◌else◌, List, Option, Some, None, is_none, refl, sym, ap, ◌∙◌}
-use mathlib.Core.Bool.{false≢true, true≢false}
+use Rattle.std.proofs.Common.{◌≡◌, ◌&&◌, Bool, true, false, if◌then◌else◌, List, Option, Some, None, is_none, refl, sym, ap, ◌∙◌}
 use Rattle.std.specs.Prelude.{◌==◌, nat_lt}
 use Rattle.wire_base.specs.declared.entry.Age.{Age}
-use Rattle.wire_base.specs.declared.entry.Age.TheVariants.{Unknown, Newer, Equal, Older, Confused}
+use Rattle.wire_base.specs.declared.entry.Age.TheVariants.{Newer, Equal, Older}
 use Rattle.wire_base.specs.declared.entry.Entry.{Entry}
 use Rattle.wire_base.specs.declared.triple.Summary.{Summary}
 use Rattle.wire_base.specs.model.Control.{age_of, age_by_life, is_unknown, is_full, entry_in}
-use Rattle.lsp_store.specs.Places.{is_new, is_refused}
+use Rattle.lsp_store.specs.Places.{is_refused}
 
 known_age : (e : Entry) (s : Summary) → is_unknown (age_of (Some e) s) ≡ false
 known_age e s = cases (e.seq == s.seq) (s.seq == 0) (nat_lt e.seq s.seq) (e.life == 0) (s.life == 0) (e.sum == s.sum)
@@ -25,7 +24,7 @@ known_age e s = cases (e.seq == s.seq) (s.seq == 0) (nat_lt e.seq s.seq) (e.life
     cases false b true x y z = refl
     cases false b false x y z = refl
 
-unknown_is_none : (o : Option Entry) (s : Summary) → is_unknown (age_of o s) ≡ is_none o
+pub unknown_is_none : (o : Option Entry) (s : Summary) → is_unknown (age_of o s) ≡ is_none o
 unknown_is_none None s = refl
 unknown_is_none (Some e) s = known_age e s
 

@@ -1,20 +1,22 @@
 -- A table of masks as the rows of a flood state.
-use Rattle.std.proofs.Common.{◌≡◌, ℕ, zero, suc, ◌+◌, ◌<◌, ◌≤◌, Bool, true, false, if◌then◌else◌, List, [], ◌∷◌, ◌++◌, length, get_or, set, take, drop, map, replicate, refl, sym, ap, subst, ◌∙◌, arith}
-use mathlib.Core.Bool.{false≢true, true≢false}
+use Rattle.std.proofs.Common.{◌≡◌, ℕ, zero, suc, ◌<◌, ◌≤◌, Bool, true, false, if◌then◌else◌, List, [], ◌∷◌, ◌++◌, length, get_or, set, take, drop, map, replicate, refl, sym, ap, subst, ◌∙◌, arith}
+use mathlib.Core.Bool.{false≢true}
 use Rattle.std.specs.declared.cmp.Ordering.{Ordering}
 use Rattle.std.specs.declared.cmp.Ordering.TheVariants.{Less, Equal, Greater}
 use Rattle.std.specs.Ordering.{is_eq, is_lt, is_gt, match_ordering, ordering_then, nat_cmp}
 use Rattle.std.specs.List.{AllByRecursion}
-use Rattle.std.proofs.lemmas.List.{get_or-map, map-set, length-map, take_all, drop_all, append-nil}
+use Rattle.std.proofs.lemmas.List.{get_or-map, map-set, length-map, set_past, take_all, drop_all, append-nil}
 use Rattle.std.proofs.lemmas.Map.Lookups.{exact_bytes, exact_unsigned}
 use Rattle.wire_base.specs.declared.addresses.SystemId.{SystemId}
 use Rattle.wire_base.specs.declared.addresses.LspId.{LspId}
 use Rattle.wire_base.specs.model.Control.{same_id, system_order, id_order, is_below, AreAscending, FlagRow, no_flags, at_row, without_row, srm_in, ssn_in, Flood}
 use Rattle.wire_base.specs.model.Flooding.{mark_all, forget, with_row, no_links, new_flood, link_down, sent_on}
-use Rattle.lsp_store.proofs.OrderLaws.{id_total, tie_is_same, below_trans, below_differs, above_differs, same_turned}
+use Rattle.lsp_store.proofs.OrderLaws.{tie_is_same, below_trans, below_differs, above_differs, same_turned}
 use Rattle.isis_flood.specs.declared.table.Bits.{Bits}
 use Rattle.isis_flood.specs.Masks.{links_in, row_of, rows_of, row_ids, row_in, no_bits, bits_in, put_bits, without_bits, flood_of, Flooding, clears}
-use Rattle.isis_flood.proofs.MaskLaws.{links_none, links_get, links_long}
+use Rattle.isis_flood.specs.Flags.{has_flags}
+use Rattle.isis_flood.proofs.BusyLaws.{past_rows, rows_same}
+use Rattle.isis_flood.proofs.MaskLaws.{links_none, links_long}
 
 none_is : (n : ℕ) (id : LspId) → row_of n (no_bits id) ≡ no_flags n id
 none_is n id = ap (λ (l : List Bool). record { id = id; srm = l; ssn = l }) (links_none n)
@@ -73,8 +75,8 @@ row_in_id n (row ∷ rows) id = cases (row_in_id n rows id) (id_order id row.id)
 
 -- ---- questions
 
-no_flag : (n k : ℕ) → k < n → get_or (links_in n 0) k false ≡ false
-no_flag n k lt = ap (λ (l : List Bool). get_or l k false) (links_none n) ∙ none n k
+no_flag : (n k : ℕ) → get_or (links_in n 0) k false ≡ false
+no_flag n k = ap (λ (l : List Bool). get_or l k false) (links_none n) ∙ none n k
   where
     none : (n k : ℕ) → get_or (replicate n false) k false ≡ false
     none zero k = refl
@@ -89,21 +91,21 @@ ssn_above : (n k : ℕ) (rs : List Bits) (x id : LspId) → is_below id x ≡ tr
 ssn_above n k [] x id h all = refl
 ssn_above n k (b ∷ rs) x id h all = rw (same_turned b.id id, below_differs id b.id (below_trans id x b.id h all.0)) (ssn_above n k rs x id h all.1)
 
-pub srm_seen : (n k : ℕ) (rs : List Bits) (id : LspId) → k < n → AreAscending (row_ids rs) → get_or (links_in n (bits_in rs id).srm) k false ≡ srm_in (rows_of n rs) id k
-srm_seen n k [] id lt asc = no_flag n k lt
-srm_seen n k (b ∷ rs) id lt asc = cases (srm_seen n k rs id lt asc.1) (id_order id b.id) refl
+pub srm_seen : (n k : ℕ) (rs : List Bits) (id : LspId) → AreAscending (row_ids rs) → get_or (links_in n (bits_in rs id).srm) k false ≡ srm_in (rows_of n rs) id k
+srm_seen n k [] id asc = no_flag n k
+srm_seen n k (b ∷ rs) id asc = cases (srm_seen n k rs id asc.1) (id_order id b.id) refl
   where
     cases : get_or (links_in n (bits_in rs id).srm) k false ≡ srm_in (rows_of n rs) id k → (o : Ordering) → id_order id b.id ≡ o → get_or (links_in n (match_ordering o (no_bits id) b (bits_in rs id)).srm) k false ≡ srm_in (row_of n b ∷ rows_of n rs) id k
-    cases again Less o = rw (same_turned b.id id, below_differs id b.id (ap is_lt o)) (no_flag n k lt ∙ sym (srm_above n k rs b.id id (ap is_lt o) asc.0))
+    cases again Less o = rw (same_turned b.id id, below_differs id b.id (ap is_lt o)) (no_flag n k ∙ sym (srm_above n k rs b.id id (ap is_lt o) asc.0))
     cases again Equal o = rw (same_turned b.id id, sym (tie_is_same id b.id) ∙ ap is_eq o) refl
     cases again Greater o = rw (same_turned b.id id, above_differs id b.id (ap is_gt o)) again
 
-pub ssn_seen : (n k : ℕ) (rs : List Bits) (id : LspId) → k < n → AreAscending (row_ids rs) → get_or (links_in n (bits_in rs id).ssn) k false ≡ ssn_in (rows_of n rs) id k
-ssn_seen n k [] id lt asc = no_flag n k lt
-ssn_seen n k (b ∷ rs) id lt asc = cases (ssn_seen n k rs id lt asc.1) (id_order id b.id) refl
+pub ssn_seen : (n k : ℕ) (rs : List Bits) (id : LspId) → AreAscending (row_ids rs) → get_or (links_in n (bits_in rs id).ssn) k false ≡ ssn_in (rows_of n rs) id k
+ssn_seen n k [] id asc = no_flag n k
+ssn_seen n k (b ∷ rs) id asc = cases (ssn_seen n k rs id asc.1) (id_order id b.id) refl
   where
     cases : get_or (links_in n (bits_in rs id).ssn) k false ≡ ssn_in (rows_of n rs) id k → (o : Ordering) → id_order id b.id ≡ o → get_or (links_in n (match_ordering o (no_bits id) b (bits_in rs id)).ssn) k false ≡ ssn_in (row_of n b ∷ rows_of n rs) id k
-    cases again Less o = rw (same_turned b.id id, below_differs id b.id (ap is_lt o)) (no_flag n k lt ∙ sym (ssn_above n k rs b.id id (ap is_lt o) asc.0))
+    cases again Less o = rw (same_turned b.id id, below_differs id b.id (ap is_lt o)) (no_flag n k ∙ sym (ssn_above n k rs b.id id (ap is_lt o) asc.0))
     cases again Equal o = rw (same_turned b.id id, sym (tie_is_same id b.id) ∙ ap is_eq o) refl
     cases again Greater o = rw (same_turned b.id id, above_differs id b.id (ap is_gt o)) again
 
@@ -116,25 +118,50 @@ module _ (own : SystemId) (n up due spare : ℕ) (rows : List Bits) (now : Flood
   pub links_are_n : length now.flood.up ≡ n
   links_are_n = ap (λ (f : Flood). length f.up) (sym flood_seen) ∙ links_long n up
 
-  pub link_within : (link : ℕ) → n ≤ 64 → link < length now.flood.up → link < 64
-  link_within link few lt = omega (arith, few, lt, links_are_n)
+  pub same_links : (new : ℕ) → length (links_in n new) ≡ length now.flood.up
+  same_links new = links_long n new ∙ sym links_are_n
 
-  link_of : (link : ℕ) → link < length now.flood.up → link < n
+  pub link_of : (link : ℕ) → link < length now.flood.up → link < n
   link_of link lt = omega (arith, lt, links_are_n)
 
-  pub up_seen : (link : ℕ) (answer : Bool) → link < length now.flood.up → ((m : ℕ) → link < m → answer ≡ get_or (links_in m up) link false) → answer ≡ get_or now.flood.up link false
-  up_seen link answer lt is = is n (link_of link lt) ∙ ap (λ (f : Flood). get_or f.up link false) flood_seen
+  pub up_seen : (link : ℕ) (answer : Bool) → answer ≡ get_or (links_in n up) link false → answer ≡ get_or now.flood.up link false
+  up_seen link answer is = is ∙ ap (λ (f : Flood). get_or f.up link false) flood_seen
 
-  pub due_seen : (link : ℕ) (answer : Bool) → link < length now.flood.up → ((m : ℕ) → link < m → answer ≡ get_or (links_in m due) link false) → answer ≡ get_or now.flood.due link false
-  due_seen link answer lt is = is n (link_of link lt) ∙ ap (λ (f : Flood). get_or f.due link false) flood_seen
+  pub due_seen : (link : ℕ) (answer : Bool) → answer ≡ get_or (links_in n due) link false → answer ≡ get_or now.flood.due link false
+  due_seen link answer is = is ∙ ap (λ (f : Flood). get_or f.due link false) flood_seen
 
-  pub srm_is : (link : ℕ) (id : LspId) (b : Bits) (answer : Bool) → link < length now.flood.up → b ≡ bits_in rows id → AreAscending (row_ids rows) → ((m : ℕ) → link < m → answer ≡ get_or (links_in m b.srm) link false) → answer ≡ srm_in now.flood.rows id link
-  srm_is link id b answer lt row asc is =
-      is n (link_of link lt) ∙ ap (λ (r : Bits). get_or (links_in n r.srm) link false) row ∙ srm_seen n link rows id (link_of link lt) asc ∙ ap (λ (f : Flood). srm_in f.rows id link) flood_seen
+  pub srm_is : (link : ℕ) (id : LspId) (b : Bits) (answer : Bool) → b ≡ bits_in rows id → AreAscending (row_ids rows) → answer ≡ get_or (links_in n b.srm) link false → answer ≡ srm_in now.flood.rows id link
+  srm_is link id b answer row asc is =
+      is ∙ ap (λ (r : Bits). get_or (links_in n r.srm) link false) row ∙ srm_seen n link rows id asc ∙ ap (λ (f : Flood). srm_in f.rows id link) flood_seen
 
-  pub ssn_is : (link : ℕ) (id : LspId) (b : Bits) (answer : Bool) → link < length now.flood.up → b ≡ bits_in rows id → AreAscending (row_ids rows) → ((m : ℕ) → link < m → answer ≡ get_or (links_in m b.ssn) link false) → answer ≡ ssn_in now.flood.rows id link
-  ssn_is link id b answer lt row asc is =
-      is n (link_of link lt) ∙ ap (λ (r : Bits). get_or (links_in n r.ssn) link false) row ∙ ssn_seen n link rows id (link_of link lt) asc ∙ ap (λ (f : Flood). ssn_in f.rows id link) flood_seen
+  pub ssn_is : (link : ℕ) (id : LspId) (b : Bits) (answer : Bool) → b ≡ bits_in rows id → AreAscending (row_ids rows) → answer ≡ get_or (links_in n b.ssn) link false → answer ≡ ssn_in now.flood.rows id link
+  ssn_is link id b answer row asc is =
+      is ∙ ap (λ (r : Bits). get_or (links_in n r.ssn) link false) row ∙ ssn_seen n link rows id asc ∙ ap (λ (f : Flood). ssn_in f.rows id link) flood_seen
+
+  -- whether there is a flag on a link
+  pub flags_are : (link : ℕ) (answer : Bool) → answer ≡ has_flags (rows_of n rows) link → answer ≡ has_flags now.flood.rows link
+  flags_are link answer is = is ∙ ap (λ (f : Flood). has_flags f.rows link) flood_seen
+
+  pub past_is : (link : ℕ) → n ≤ link → false ≡ has_flags now.flood.rows link
+  past_is link past = flags_are link false (sym (past_rows n rows link past))
+
+  -- nothing is changed on a link that there isn't
+  pub past_down : (link : ℕ) → n ≤ link → now.flood ≡ link_down now.flood link
+  unfolding link_down
+  past_down link past =
+      subst (λ (f : Flood). f ≡ link_down f link) flood_seen (sym (
+      ap (λ (l : List Bool). record { own = own; up = l; due = set (links_in n due) link false; rows = map (clears true link) (rows_of n rows) }) (set_past (links_in n up) link false (let long = links_long n up in omega (arith, long, past)))
+      ∙ ap (λ (l : List Bool). record { own = own; up = links_in n up; due = l; rows = map (clears true link) (rows_of n rows) }) (set_past (links_in n due) link false (let long = links_long n due in omega (arith, long, past)))
+      ∙ ap (λ (rs : List FlagRow). record { own = own; up = links_in n up; due = links_in n due; rows = rs }) (rows_same true link (rows_of n rows) (past_rows n rows link past))
+      ))
+
+  pub past_sent : (link : ℕ) → n ≤ link → now.flood ≡ sent_on now.flood link
+  unfolding sent_on
+  past_sent link past =
+      subst (λ (f : Flood). f ≡ sent_on f link) flood_seen (sym (
+      ap (λ (l : List Bool). record { own = own; up = links_in n up; due = l; rows = map (clears false link) (rows_of n rows) }) (set_past (links_in n due) link false (let long = links_long n due in omega (arith, long, past)))
+      ∙ ap (λ (rs : List FlagRow). record { own = own; up = links_in n up; due = links_in n due; rows = rs }) (rows_same false link (rows_of n rows) (past_rows n rows link past))
+      ))
 
   pub forgets : (id : LspId) (new : List Bits) → new ≡ without_bits id rows → flood_of own n up due new ≡ forget now.flood id
   unfolding forget
@@ -172,15 +199,9 @@ module _ (own : SystemId) (n up due spare : ℕ) (rows : List Bits) (now : Flood
       ap (λ m. row_of m b) (sym links_are_n) ∙ changed ∙ ap (λ m. change (row_in m now.flood.rows b.id)) links_are_n ∙ ap (λ (f : Flood). change (row_in n f.rows b.id)) (sym flood_seen)
       )
 
-module _ (own : SystemId) (n up due spare : ℕ) (rows : List Bits) (now : Flooding) (seen : record { flood = flood_of own n up due rows; spare = spare } ≡ now) (link : ℕ) (few : n ≤ 64) (lt : link < length now.flood.up) where
-  there : link < n
-  there = omega (arith, lt, links_are_n own n up due spare rows now seen)
-
+module _ (own : SystemId) (n up due spare : ℕ) (rows : List Bits) (now : Flooding) (seen : record { flood = flood_of own n up due rows; spare = spare } ≡ now) (link : ℕ) (few : n ≤ 64) (there : link < n) where
   whole : flood_of own n up due rows ≡ now.flood
   whole = ap (λ (f : Flooding). f.flood) seen
-
-  pub same_links : (new : ℕ) → length (links_in n new) ≡ length now.flood.up
-  same_links new = links_long n new ∙ sym (links_are_n own n up due spare rows now seen)
 
   -- a link comes up
   pub opens : (new_up new_due : ℕ) → ((m : ℕ) → link < m → m ≤ 64 → links_in m new_up ≡ set (links_in m up) link true) → ((m : ℕ) → link < m → m ≤ 64 → links_in m new_due ≡ set (links_in m due) link true) → flood_of own n new_up new_due rows ≡ record now.flood { up = set now.flood.up link true; due = set now.flood.due link true }
@@ -223,8 +244,8 @@ starts own n mask ups rows long is none =
     ap (λ (l : List Bool). record { own = own; up = l; due = l; rows = rows_of n rows }) all ∙ ap (λ (rs : List Bits). record { own = own; up = ups; due = ups; rows = rows_of n rs }) none
 
 -- a row with its masks changed
-pub changed_row : (n : ℕ) (r : Bits) (id : LspId) (srm ssn : ℕ) (there : FlagRow) (s t : List Bool → List Bool) → r.id ≡ id → row_of n r ≡ there → links_in n srm ≡ s (links_in n r.srm) → links_in n ssn ≡ t (links_in n r.ssn) → row_of n (record { id = id; srm = srm; ssn = ssn }) ≡ record there { srm = s there.srm; ssn = t there.ssn }
-changed_row n r id srm ssn there s t same is a b =
+pub changed_row : (n : ℕ) (r : Bits) (id : LspId) (srm ssn : ℕ) (before : FlagRow) (s t : List Bool → List Bool) → r.id ≡ id → row_of n r ≡ before → links_in n srm ≡ s (links_in n r.srm) → links_in n ssn ≡ t (links_in n r.ssn) → row_of n (record { id = id; srm = srm; ssn = ssn }) ≡ record before { srm = s before.srm; ssn = t before.ssn }
+changed_row n r id srm ssn before s t same is a b =
     ap (λ (l : List Bool). record { id = id; srm = l; ssn = links_in n ssn }) a ∙ ap (λ (l : List Bool). record { id = id; srm = s (links_in n r.srm); ssn = l }) b
     ∙ ap (λ (i : LspId). record { id = i; srm = s (links_in n r.srm); ssn = t (links_in n r.ssn) }) (sym same) ∙ ap (λ (row : FlagRow). record row { srm = s row.srm; ssn = t row.ssn }) is
 

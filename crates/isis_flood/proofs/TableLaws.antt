@@ -1,5 +1,5 @@
 -- A table of rows: what stands at the place of an identifier, and what the table becomes there.
-use Rattle.std.proofs.Common.{◌≡◌, ℕ, zero, suc, ◌+◌, ◌<◌, ◌≤◌, Bool, true, false, if◌then◌else◌, List, [], ◌∷◌, ◌++◌, length, get_or, set, take, drop, map, refl, sym, ap, subst, ◌∙◌, arith}
+use Rattle.std.proofs.Common.{◌≡◌, ℕ, zero, suc, ◌<◌, ◌≤◌, Bool, true, false, if◌then◌else◌, List, [], ◌∷◌, length, get_or, set, refl, sym, ap, subst, ◌∙◌, arith}
 use mathlib.Core.Bool.{false≢true, true≢false}
 use Rattle.std.specs.declared.cmp.Ordering.{Ordering}
 use Rattle.std.specs.declared.cmp.Ordering.TheVariants.{Less, Equal, Greater}
@@ -7,9 +7,9 @@ use Rattle.std.specs.Ordering.{is_eq, is_lt, is_gt, match_ordering}
 use Rattle.std.specs.List.{AllByRecursion, insert, remove}
 use Rattle.std.proofs.lemmas.List.{length-map}
 use Rattle.wire_base.specs.declared.addresses.LspId.{LspId}
-use Rattle.wire_base.specs.model.Control.{same_id, id_order, is_below, AreAscending}
+use Rattle.wire_base.specs.model.Control.{id_order, is_below, AreAscending}
 use Rattle.lsp_store.specs.Places.{place_in, stands_at}
-use Rattle.lsp_store.proofs.OrderLaws.{id_total, tie_is_same, below_from_above, above_from_below, below_trans, above_trans, below_differs, above_differs, same_turned}
+use Rattle.lsp_store.proofs.OrderLaws.{id_total, tie_is_same, below_from_above, below_trans, below_differs, above_differs, same_turned}
 use Rattle.lsp_store.proofs.PlaceLaws.{place_within, stands_within}
 use Rattle.isis_flood.specs.declared.table.Bits.{Bits}
 use Rattle.isis_flood.specs.Masks.{row_ids, no_bits, bits_in, put_bits, without_bits, IsPlace}

@@ -1,2 +1,4 @@
 pub mod Answers
+pub mod Flags
+pub mod Kept
 pub mod Masks

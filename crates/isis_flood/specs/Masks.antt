@@ -1,13 +1,14 @@
 -- Masks over links: the truth values that a number of 64 bits stands for, and rows of flags kept as such numbers.
-use Rattle.std.specs.Prelude.{◌≡◌, ℕ, zero, suc, ◌-◌, ◌==◌, Bool, true, false, List, [], ◌∷◌, ◌++◌, map, length, take, drop, if◌then◌else◌}
+use Rattle.std.specs.Prelude.{◌≡◌, ◌<◌, ℕ, zero, suc, ◌==◌, Bool, true, false, List, [], ◌∷◌, map, if◌then◌else◌}
 use Rattle.std.specs.Int.{bit_at}
 use Rattle.std.specs.Ordering.{match_ordering}
 use Rattle.wire_base.specs.declared.addresses.SystemId.{SystemId}
 use Rattle.wire_base.specs.declared.addresses.LspId.{LspId}
-use Rattle.wire_base.specs.model.Control.{id_order, same_id, FlagRow, Flood, no_flags}
+use Rattle.wire_base.specs.model.Control.{id_order, same_id, AreAscending, FlagRow, Flood, no_flags}
 use Rattle.wire_base.specs.model.Flooding.{clear_both, clear_ssn}
 use Rattle.lsp_store.specs.Places.{place_in, stands_at}
 use Rattle.isis_flood.specs.declared.table.Bits.{Bits}
+use Rattle.isis_flood.specs.Flags.{has_flags}
 
 -- the values of a test at n numbers from i on
 abbrev pub spread : (ℕ → Bool) → ℕ → ℕ → List Bool
@@ -73,6 +74,11 @@ without_bits id (b ∷ rows) = if same_id b.id id then rows else b ∷ without_b
 pub record IsPlace (rows : List Bits) (id : LspId) (there : Bool) (p : ℕ) : Type 0 where
   pub place : p ≡ place_in (row_ids rows) id
   pub stands : stands_at (row_ids rows) p id ≡ there
+
+-- what a table of rows keeps: no row has a flag on a link that isn't busy
+pub record IsTable (busy : ℕ) (rows : List Bits) : Type 0 where
+  pub ascends : AreAscending (row_ids rows)
+  pub idle : (i : ℕ) → i < 64 → at_bit busy i ≡ false → has_flags (rows_of 64 rows) i ≡ false
 
 -- a row without its acknowledgements on a link, or without any flag there
 abbrev pub clears : Bool → ℕ → FlagRow → FlagRow

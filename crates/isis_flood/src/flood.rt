@@ -1,9 +1,10 @@
 ghost use Rattle.std.specs.Prelude.{◌≡◌, ◌<◌, ◌≤◌, ◌+◌, length, slice_index_or, slice_set, true, false, IsOk, IfOk, OnOk, OnErr};
 ghost use Rattle.wire_base.specs.model.Control.{FlagRow, srm_in, ssn_in, without_row};
 ghost use Rattle.wire_base.specs.model.Flooding.{with_row, send_on, ask_on, set_srm, pass_on, mark_all, forget, link_down, sent_on, new_flood};
+ghost use Rattle.isis_flood.specs.Flags.{has_flags};
 ghost use Rattle.isis_flood.specs.Masks.{links_in, row_of, row_in};
 
-use crate::masks::{has, mask_of, with, without};
+use crate::masks::{has_of, mask_of, with, without};
 use crate::table::{Bits, Table};
 use std::alloc::Global;
 use std::marker::Model;
@@ -37,7 +38,8 @@ impl Flood {
     pub fn new(alloc: Global, own: SystemId, links: u16, up: &[bool]) -> M<Flood>
         requires links { length up.now ≡ links }
         requires few { links ≤ 64 }
-        ensures { IfOk result (λ f. f.flood ≡ new_flood own up.now) }
+        ensures flood { IfOk result (λ f. f.flood ≡ new_flood own up.now) }
+        ensures links { IfOk result (λ f. length f.flood.up ≡ links) }
     {
         let up = mask_of(up);
         Ok(Flood {
@@ -49,36 +51,43 @@ impl Flood {
         })
     }
 
-    /// Whether a link is up.
+    /// Whether a link is up. A link that the router doesn't have isn't, and has no flag.
     pub fn is_up(&self, link: u16) -> bool
-        requires { link < length self.now.flood.up }
         ensures { result ≡ slice_index_or self.now.flood.up link false }
     {
-        has(self.up, link)
+        has_of(self.up, self.links, link)
     }
 
     /// Whether a CSNP is due on a link.
     pub fn due(&self, link: u16) -> bool
-        requires { link < length self.now.flood.up }
         ensures { result ≡ slice_index_or self.now.flood.due link false }
     {
-        has(self.due, link)
+        has_of(self.due, self.links, link)
     }
 
     /// Whether the link state PDU of an identifier is to be sent on a link.
     pub fn srm(&self, id: LspId, link: u16) -> bool
-        requires { link < length self.now.flood.up }
         ensures { result ≡ srm_in self.now.flood.rows id link }
     {
-        has(self.table.get(&id).srm, link)
+        has_of(self.table.get(&id).srm, self.links, link)
     }
 
     /// Whether the link state PDU of an identifier is to be acknowledged or asked for on a link.
     pub fn ssn(&self, id: LspId, link: u16) -> bool
-        requires { link < length self.now.flood.up }
         ensures { result ≡ ssn_in self.now.flood.rows id link }
     {
-        has(self.table.get(&id).ssn, link)
+        has_of(self.table.get(&id).ssn, self.links, link)
+    }
+
+    /// Whether the link state PDU of some identifier is to be sent, acknowledged or asked for on a link. No row is read
+    /// where none had a flag there when `sent` or `link_down` was last called, and none got one since.
+    pub fn has_flags(&self, link: u16) -> bool
+        ensures { result ≡ has_flags self.now.flood.rows link }
+    {
+        if link >= self.links {
+            return false;
+        }
+        self.table.has_flags(link)
     }
 
     /// Makes room for that many rows more.
@@ -97,6 +106,7 @@ impl Flood {
         ensures err { OnErr result (self.new.flood ≡ self.old.flood) }
         ensures room { 0 < self.old.spare → IsOk result }
         ensures spare { self.old.spare ≤ self.new.spare + 1 }
+        ensures links { length self.new.flood.up ≡ length self.old.flood.up }
     {
         let srm = self.up;
         self.table.put(Bits { id, srm, ssn: 0 })
@@ -106,6 +116,7 @@ impl Flood {
     pub fn forget(&mut self, id: LspId)
         ensures flood { self.new.flood ≡ forget self.old.flood id }
         ensures spare { self.old.spare ≤ self.new.spare }
+        ensures links { length self.new.flood.up ≡ length self.old.flood.up }
     {
         self.table.remove(&id);
     }
@@ -241,12 +252,15 @@ impl Flood {
         self.due = with(self.due, link);
     }
 
-    /// A link goes down, and its flags go.
+    /// A link goes down, and its flags go. Nothing is done where the router doesn't have it.
     pub fn link_down(&mut self, link: u16)
-        requires { link < length self.old.flood.up }
         ensures flood { self.new.flood ≡ link_down self.old.flood link }
         ensures spare { self.new.spare ≡ self.old.spare }
+        ensures links { length self.new.flood.up ≡ length self.old.flood.up }
     {
+        if link >= self.links {
+            return;
+        }
         self.up = without(self.up, link);
         self.due = without(self.due, link);
         self.table.clear(link, true);
@@ -255,10 +269,13 @@ impl Flood {
     /// All that was due on a link was sent: no CSNP is due there, and nothing is to be acknowledged or asked for. An
     /// acknowledgement alone ends the sending of a link state PDU (ISO/IEC 10589, 7.3.15.4).
     pub fn sent(&mut self, link: u16)
-        requires { link < length self.old.flood.up }
         ensures flood { self.new.flood ≡ sent_on self.old.flood link }
         ensures spare { self.new.spare ≡ self.old.spare }
+        ensures links { length self.new.flood.up ≡ length self.old.flood.up }
     {
+        if link >= self.links {
+            return;
+        }
         self.due = without(self.due, link);
         self.table.clear(link, false);
     }

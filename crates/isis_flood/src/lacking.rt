@@ -1,9 +1,10 @@
 //! What a complete sequence numbers PDU lacks, and what a link that comes up lacks (ISO/IEC 10589, 7.3.15.2 and 7.3.17).
-ghost use Rattle.std.specs.Prelude.{◌≡◌, ◌<◌, ◌≤◌, ◌+◌, length, fold, IsOk, OnOk, OnErr};
+ghost use Rattle.std.specs.Prelude.{◌≡◌, ◌<◌, ◌≤◌, ◌+◌, length, filter, fold, IsOk, OnOk, OnErr};
 ghost use Rattle.wire_base.specs.model.Control.{same_id, is_below};
 ghost use Rattle.wire_base.specs.model.Flooding.{lists, lacks, send_lacking, send_known, on_csnp, link_up};
 ghost use Rattle.wire_base.specs.model.Tlv.{rows_of};
 ghost use Rattle.isis_flood.specs.Answers.{SnpDone};
+ghost use Rattle.isis_flood.specs.Kept.{NotLowered};
 
 use crate::flood::Flood;
 use crate::listed::listed;
@@ -56,7 +57,7 @@ impl Flood {
         requires flags { length store.now.entries ≤ self.old.spare }
         ensures next { self.new.flood ≡ fold (send_lacking link start.now last.now rows.now) self.old.flood store.now.entries }
         ensures ok { IsOk result }
-        ensures spare { self.old.spare ≤ self.new.spare + length store.now.entries }
+        ensures spare { self.old.spare ≤ self.new.spare + length (filter (lacks start.now last.now rows.now) store.now.entries) }
     {
         let mut rest = store.as_slice();
         'entries: loop {
@@ -74,7 +75,6 @@ impl Flood {
 
     /// A complete sequence numbers PDU from `start` to `last` that came on a link, with the octets of its TLVs. The
     /// answer is that of a partial one (ISO/IEC 10589, 7.3.15.2). Where memory runs out, all is as it was.
-    #[tactic(auto, unfolding(wire_base::specs::model::Flooding::on_csnp, wire_base::specs::model::Flooding::on_list))]
     pub fn on_csnp(
         &mut self,
         store: &mut Store,
@@ -87,7 +87,29 @@ impl Flood {
         requires link { link < length self.old.flood.up }
         requires tlvs { length tlvs.now ≤ 65535 }
         ensures done { SnpDone result self.old.flood store.old.entries self.new.flood store.new.entries (on_csnp self.old.flood store.old.entries link start last tlvs.now spent) }
-        ensures spare { self.old.spare ≤ self.new.spare + (length (rows_of tlvs.now) + length store.new.entries) }
+        ensures kept { NotLowered store.old.entries store.new.entries }
+        // An entry that the PDU makes the database wait for is none that the PDU lacks.
+        ensures spare { self.old.spare ≤ self.new.spare + (length (rows_of tlvs.now) + length store.old.entries) }
+        ensures links { length self.new.flood.up ≡ length self.old.flood.up }
+    {
+        self.apply_csnp(store, link, &start, &last, tlvs, spent)
+    }
+
+    /// The entries of a complete one, and then what it lacks, once all memory is taken.
+    #[tactic(auto, unfolding(wire_base::specs::model::Flooding::on_csnp, wire_base::specs::model::Flooding::on_list))]
+    fn apply_csnp(
+        &mut self,
+        store: &mut Store,
+        link: u16,
+        start: &LspId,
+        last: &LspId,
+        tlvs: &[u8],
+        spent: bool,
+    ) -> M<SnpOut>
+        requires link { link < length self.old.flood.up }
+        requires tlvs { length tlvs.now ≤ 65535 }
+        ensures done { SnpDone result self.old.flood store.old.entries self.new.flood store.new.entries (on_csnp self.old.flood store.old.entries link start.now last.now tlvs.now spent) }
+        ensures spare { self.old.spare ≤ self.new.spare + (length (rows_of tlvs.now) + length store.old.entries) }
     {
         let rows = listed(store.allocator(), tlvs)?;
         self.reserve(rows.len() + MOST_ENTRIES)?;
@@ -98,7 +120,7 @@ impl Flood {
         };
         self.on_list(store, link, rows.as_slice(), spent, &mut answer)?;
         let _entries = store.len();
-        self.send_lacking(store, link, &start, &last, rows.as_slice())?;
+        self.send_lacking(store, link, start, last, rows.as_slice())?;
         Ok(answer)
     }
 
@@ -109,6 +131,7 @@ impl Flood {
         ensures next { self.new.flood ≡ fold (send_known link) self.old.flood store.now.entries }
         ensures ok { IsOk result }
         ensures spare { self.old.spare ≤ self.new.spare + length store.now.entries }
+        ensures links { length self.new.flood.up ≡ length self.old.flood.up }
     {
         let mut rest = store.as_slice();
         'entries: loop {
@@ -133,6 +156,7 @@ impl Flood {
         ensures err { OnErr result (self.new.flood ≡ self.old.flood) }
         ensures room { length store.now.entries ≤ self.old.spare → IsOk result }
         ensures spare { self.old.spare ≤ self.new.spare + length store.now.entries }
+        ensures links { length self.new.flood.up ≡ length self.old.flood.up }
     {
         self.reserve(store.len())?;
         self.open(link);

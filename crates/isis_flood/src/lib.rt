@@ -12,3 +12,6 @@ mod table;
 
 pub use flood::Flood;
 pub use wire_base::{FloodOut, SnpOut};
+
+#[cfg(test)]
+mod tests;

@@ -8,6 +8,7 @@ ghost use Rattle.wire_base.specs.model.Pdu.{head_summary};
 ghost use Rattle.lsp_store.specs.Places.{is_refused, is_new};
 ghost use Rattle.isis_pdu.specs.Views.{head_of};
 ghost use Rattle.isis_flood.specs.Answers.{LspDone};
+ghost use Rattle.isis_flood.specs.Kept.{NotLowered};
 
 use crate::flood::Flood;
 use isis_pdu::LspHead;
@@ -225,8 +226,26 @@ impl Flood {
     /// answer is what is asked for beside what is done here: that the own one be issued anew, that this one be
     /// acknowledged at once, or that it was dropped, because the database is full or its sequence number is 0
     /// (ISO/IEC 10589, 7.3.15.1 and 7.3.16). Where memory runs out, all is as it was.
-    #[tactic(auto, unfolding(wire_base::specs::model::Flooding::on_lsp))]
     pub fn on_lsp(
+        &mut self,
+        store: &mut Store,
+        link: u16,
+        head: &LspHead,
+        tlvs: &[u8],
+        spent: bool,
+    ) -> M<FloodOut>
+        requires { link < length self.old.flood.up }
+        ensures done { LspDone result self.old.flood store.old.entries self.new.flood store.new.entries (on_lsp self.old.flood store.old.entries link (head_of head.now) tlvs.now spent) }
+        ensures kept { NotLowered store.old.entries store.new.entries }
+        ensures spare { self.old.spare ≤ self.new.spare + 1 }
+        ensures links { length self.new.flood.up ≡ length self.old.flood.up }
+    {
+        self.apply_lsp(store, link, head, tlvs, spent)
+    }
+
+    /// The rules for a link state PDU, the first that holds.
+    #[tactic(auto, unfolding(wire_base::specs::model::Flooding::on_lsp))]
+    fn apply_lsp(
         &mut self,
         store: &mut Store,
         link: u16,

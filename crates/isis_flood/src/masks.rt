@@ -3,7 +3,7 @@ ghost use Rattle.std.specs.Prelude.{◌≡◌, ◌≢◌, ◌<◌, ◌≤◌, �
 ghost use Rattle.isis_flood.specs.Masks.{links_in, at_bit};
 
 /// With a link.
-fn with_bit(mask: u64, link: u16) -> u64
+pub(crate) fn with_bit(mask: u64, link: u16) -> u64
     requires { link < 64 }
     ensures here { at_bit result link ≡ true }
     ensures others { (i : ℕ) → i < 64 → i ≢ link → at_bit result i ≡ at_bit mask i }
@@ -12,7 +12,7 @@ fn with_bit(mask: u64, link: u16) -> u64
 }
 
 /// Without a link.
-fn without_bit(mask: u64, link: u16) -> u64
+pub(crate) fn without_bit(mask: u64, link: u16) -> u64
     requires { link < 64 }
     ensures here { at_bit result link ≡ false }
     ensures others { (i : ℕ) → i < 64 → i ≢ link → at_bit result i ≡ at_bit mask i }
@@ -21,7 +21,7 @@ fn without_bit(mask: u64, link: u16) -> u64
 }
 
 /// Whether the mask has a link.
-fn has_bit(mask: u64, link: u16) -> bool
+pub(crate) fn has_bit(mask: u64, link: u16) -> bool
     requires { link < 64 }
     ensures { result ≡ at_bit mask link }
 {
@@ -50,6 +50,17 @@ pub(crate) fn has(mask: u64, link: u16) -> bool
     ensures { (n : ℕ) → link < n → result ≡ slice_index_or (links_in n mask) link false }
 {
     has_bit(mask, link)
+}
+
+/// Whether the mask has a link of so many.
+pub(crate) fn has_of(mask: u64, links: u16, link: u16) -> bool
+    requires { links ≤ 64 }
+    ensures { result ≡ slice_index_or (links_in links mask) link false }
+{
+    if link >= links {
+        return false;
+    }
+    has(mask, link)
 }
 
 /// The links at which the list has true.

@@ -6,6 +6,7 @@ ghost use Rattle.wire_base.specs.model.Tlv.{rows_of};
 ghost use Rattle.wire_base.specs.declared.entry.Age.TheVariants.{Confused};
 ghost use Rattle.lsp_store.specs.Places.{is_new};
 ghost use Rattle.isis_flood.specs.Answers.{state_of, SnpDone, Becomes};
+ghost use Rattle.isis_flood.specs.Kept.{NotLowered};
 
 use crate::flood::Flood;
 use crate::listed::listed;
@@ -195,8 +196,20 @@ impl Flood {
     /// A partial sequence numbers PDU that came on a link, with the octets of its TLVs. The answer is the sequence
     /// number past which the own link state PDU must be issued, if one was listed that is at odds with it, and how many
     /// entries found no room (ISO/IEC 10589, 7.3.15.2). Where memory runs out, all is as it was.
-    #[tactic(auto, unfolding(wire_base::specs::model::Flooding::on_psnp, wire_base::specs::model::Flooding::on_list))]
     pub fn on_psnp(&mut self, store: &mut Store, link: u16, tlvs: &[u8], spent: bool) -> M<SnpOut>
+        requires link { link < length self.old.flood.up }
+        requires tlvs { length tlvs.now ≤ 65535 }
+        ensures done { SnpDone result self.old.flood store.old.entries self.new.flood store.new.entries (on_psnp self.old.flood store.old.entries link tlvs.now spent) }
+        ensures kept { NotLowered store.old.entries store.new.entries }
+        ensures spare { self.old.spare ≤ self.new.spare + length (rows_of tlvs.now) }
+        ensures links { length self.new.flood.up ≡ length self.old.flood.up }
+    {
+        self.apply_psnp(store, link, tlvs, spent)
+    }
+
+    /// The entries of a partial one, once all memory is taken.
+    #[tactic(auto, unfolding(wire_base::specs::model::Flooding::on_psnp, wire_base::specs::model::Flooding::on_list))]
+    fn apply_psnp(&mut self, store: &mut Store, link: u16, tlvs: &[u8], spent: bool) -> M<SnpOut>
         requires link { link < length self.old.flood.up }
         requires tlvs { length tlvs.now ≤ 65535 }
         ensures done { SnpDone result self.old.flood store.old.entries self.new.flood store.new.entries (on_psnp self.old.flood store.old.entries link tlvs.now spent) }

@@ -1,10 +1,12 @@
-ghost use Rattle.std.specs.Prelude.{◌≡◌, ◌<◌, ◌≤◌, ◌+◌, [], map, ℕ, true, false, length, IsOk, IfOk, IfErr, OnOk, OnErr};
+ghost use Rattle.std.specs.Prelude.{◌≡◌, ◌≢◌, ◌<◌, ◌≤◌, ◌+◌, ◌||◌, [], map, ℕ, true, false, length, vec_len, vec_capacity, IsOk, IfOk, IfErr, OnOk, OnErr};
+ghost use Rattle.std.specs.List.{list_any};
 ghost use Rattle.std.specs.Ordering.{is_gt};
 ghost use Rattle.wire_base.specs.model.Control.{AreAscending, id_order, same_id};
 ghost use Rattle.lsp_store.specs.Places.{place_in, stands_at};
-ghost use Rattle.isis_flood.specs.Masks.{row_of, rows_of, row_ids, bits_in, put_bits, without_bits, clears, IsPlace};
+ghost use Rattle.isis_flood.specs.Flags.{is_flagged, has_flags};
+ghost use Rattle.isis_flood.specs.Masks.{at_bit, row_of, rows_of, row_ids, bits_in, put_bits, without_bits, clears, IsPlace};
 
-use crate::masks::without;
+use crate::masks::{has, has_bit, with_bit, without, without_bit};
 use std::alloc::Global;
 use std::marker::Model;
 use wire_base::{LspId, M};
@@ -18,22 +20,23 @@ pub(crate) struct Bits {
     pub(crate) ssn: u64,
 }
 
-/// Rows of flags in the order of their identifiers, none twice.
+/// Rows of flags in the order of their identifiers, none twice. No row has a flag on a link that isn't busy, so that
+/// what asks for the flags of such a link reads no row.
 #[derive(Drop)]
 pub(crate) struct Table {
     items: Vec<Bits>,
+    busy: u64,
 }
 
 impl Model for Table {
     ghost use Rattle.std.specs.Prelude.{◌-◌, vec_len, vec_capacity};
-    ghost use Rattle.wire_base.specs.model.Control.{AreAscending};
-    ghost use Rattle.isis_flood.specs.Masks.{Held, row_ids};
+    ghost use Rattle.isis_flood.specs.Masks.{Held, IsTable};
 
     ghost Value = { Held };
 
     ghost view = { λ t. record { rows = t.items.items; spare = vec_capacity t.items - vec_len t.items } };
 
-    ghost invariant = { λ t. AreAscending (row_ids t.items.items) };
+    ghost invariant = { λ t. IsTable t.busy t.items.items };
 }
 
 fn is_above(id: &LspId, row: &Bits) -> bool
@@ -102,12 +105,60 @@ fn cleared(row: &Bits, link: u16, both: bool) -> Bits
     }
 }
 
+/// The same in place, of all rows.
+fn clear_rows(rows: &mut Vec<Bits>, link: u16, both: bool)
+    requires { link < 64 }
+    ensures ids { row_ids rows.new.items ≡ row_ids rows.old.items }
+    ensures rows { (n : ℕ) → link < n → n ≤ 64 → rows_of n rows.new.items ≡ map (clears both link) (rows_of n rows.old.items) }
+    ensures len { vec_len rows.new ≡ vec_len rows.old }
+    ensures capacity { vec_capacity rows.new ≡ vec_capacity rows.old }
+{
+    clear_at(rows.as_mut_slice(), link, both);
+}
+
+/// Whether a row has a flag on a link.
+fn is_flagged(row: &Bits, link: u16) -> bool
+    requires { link < 64 }
+    ensures { result ≡ is_flagged link (row_of 64 row.now) }
+{
+    has(row.srm, link) || has(row.ssn, link)
+}
+
+/// Whether some row has a flag on a link.
+fn any_flagged(rows: &[Bits], link: u16) -> bool
+    requires { link < 64 }
+    ensures { result ≡ list_any (λ b. is_flagged link (row_of 64 b)) rows.now }
+{
+    rows.iter().any(|row| is_flagged(row, link))
+}
+
+/// The links that are busy once a row is there.
+fn busy_with(busy: u64, row: &Bits) -> u64
+    ensures { (i : ℕ) → i < 64 → at_bit result i ≡ false → (at_bit busy i ≡ false) × (is_flagged i (row_of 64 row.now) ≡ false) }
+{
+    busy | row.srm | row.ssn
+}
+
+/// The links that are busy once the rows of one were read.
+fn busy_after(busy: u64, rows: &[Bits], link: u16) -> u64
+    requires { link < 64 }
+    ensures here { at_bit result link ≡ list_any (λ b. is_flagged link (row_of 64 b)) rows.now }
+    ensures others { (i : ℕ) → i < 64 → i ≢ link → at_bit result i ≡ at_bit busy i }
+{
+    if any_flagged(rows, link) {
+        with_bit(busy, link)
+    } else {
+        without_bit(busy, link)
+    }
+}
+
 impl Table {
     pub(crate) fn new(alloc: Global) -> Table
         ensures { result.rows ≡ [] }
     {
         Table {
             items: Vec::new(alloc),
+            busy: 0,
         }
     }
 
@@ -155,11 +206,13 @@ impl Table {
     {
         match self.find(&row.id) {
             Ok(place) => {
+                self.busy = busy_with(self.busy, &row);
                 self.items[place] = row;
                 Ok(())
             }
             Err(place) => {
                 self.items.insert(place, row)?;
+                self.busy = busy_with(self.busy, &row);
                 Ok(())
             }
         }
@@ -189,12 +242,28 @@ impl Table {
         Ok(())
     }
 
-    /// No row is to be acknowledged or asked for on a link; where `both`, none is to be sent there either.
+    /// Whether some row has a flag on a link. No row is read where the link isn't busy.
+    pub(crate) fn has_flags(&self, link: u16) -> bool
+        requires { link < 64 }
+        ensures { (n : ℕ) → link < n → n ≤ 64 → result ≡ has_flags (rows_of n self.now.rows) link }
+    {
+        if !has_bit(self.busy, link) {
+            return false;
+        }
+        any_flagged(self.items.as_slice(), link)
+    }
+
+    /// No row is to be acknowledged or asked for on a link; where `both`, none is to be sent there either. No row is
+    /// read where the link isn't busy, and a link that is left without flags is busy no longer.
     pub(crate) fn clear(&mut self, link: u16, both: bool)
         requires { link < 64 }
         ensures rows { (n : ℕ) → link < n → n ≤ 64 → rows_of n self.new.rows ≡ map (clears both link) (rows_of n self.old.rows) }
         ensures spare { self.new.spare ≡ self.old.spare }
     {
-        clear_at(self.items.as_mut_slice(), link, both);
+        if !has_bit(self.busy, link) {
+            return;
+        }
+        clear_rows(&mut self.items, link, both);
+        self.busy = busy_after(self.busy, self.items.as_slice(), link);
     }
 }

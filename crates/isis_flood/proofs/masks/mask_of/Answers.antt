@@ -1,4 +1,4 @@
-use Rattle.std.proofs.Common.{ℕ, ◌≡◌, ◌<◌, ◌≢◌, true, false, refl, sym, ap, subst, ◌∙◌, take, length, get_or, arith}
+use Rattle.std.proofs.Common.{true, false, refl, ap, ◌∙◌, length, get_or, arith}
 use Rattle.std.proofs.lemmas.List.{take_all}
 use Rattle.isis_flood.specs.Masks.{at_bit}
 use Rattle.isis_flood.proofs.MaskLaws.{one_more, none_more, links_are}

@@ -1,4 +1,4 @@
-use Rattle.std.proofs.Common.{◌≡◌, ℕ, ◌∙◌, arith}
+use Rattle.std.proofs.Common.{◌∙◌, arith}
 use Rattle.std.proofs.lemmas.List.{get_or_default}
 use Rattle.isis_flood.specs.Masks.{clears}
 use Rattle.isis_flood.proofs.FloodLaws.{rows_step, ids_kept}

@@ -1,4 +1,4 @@
-use Rattle.std.proofs.Common.{◌≡◌, ℕ, ◌<◌, ◌≤◌, ◌++◌, length, map, take, drop}
+use Rattle.std.proofs.Common.{◌≡◌, ℕ, ◌<◌, ◌≤◌, ◌++◌, map, take, drop}
 use Rattle.isis_flood.specs.Masks.{row_ids, rows_of, clears}
 use Rattle.isis_flood.proofs.table.clear_at.Given as goal
 

@@ -1,4 +1,4 @@
-use Rattle.std.proofs.Common.{◌<◌, List, Bool, true, false, length, set, refl, arith}
+use Rattle.std.proofs.Common.{List, Bool, false, length, set, refl}
 use Rattle.wire_base.specs.model.Flooding.{set_srm}
 use Rattle.isis_flood.specs.Masks.{row_in}
 use Rattle.isis_flood.proofs.FloodLaws.{changed_row}

@@ -1,4 +1,4 @@
-use Rattle.std.proofs.Common.{◌<◌, List, Bool, true, false, length, set, refl, arith}
+use Rattle.std.proofs.Common.{List, Bool, true, false, length, set}
 use Rattle.wire_base.specs.model.Flooding.{ask_on}
 use Rattle.isis_flood.specs.Masks.{row_in}
 use Rattle.isis_flood.proofs.FloodLaws.{changed_row}

@@ -1,4 +1,4 @@
-use Rattle.std.proofs.Common.{◌<◌, List, Bool, true, false, length, set}
+use Rattle.std.proofs.Common.{true, false, length, set}
 use Rattle.wire_base.specs.model.Control.{FlagRow}
 use Rattle.wire_base.specs.model.Flooding.{no_links}
 use Rattle.isis_flood.proofs.FloodLaws.{passed_row}

@@ -1,11 +1,11 @@
-use Rattle.isis_flood.proofs.FloodLaws.{link_within, sends}
+use Rattle.isis_flood.proofs.FloodLaws.{sends, past_sent, same_links}
 use Rattle.isis_flood.proofs.flood.Flood.sent.Goals as goal
 
-pub without-self-inside-requires : goal.without-self-inside-requires
-without-self-inside-requires c = link_within c.self.inside.own c.self.inside.links c.self.inside.up c.self.inside.due c.self.inside.table.spare c.self.inside.table.rows c.args.self.now c.self.view_is c.args.link c.self.invariant c.requires
-
-pub clear-requires : goal.clear-requires
-clear-requires c = link_within c.self.inside.own c.self.inside.links c.self.inside.up c.self.inside.due c.self.inside.table.spare c.self.inside.table.rows c.args.self.now c.self.view_is c.args.link c.self.invariant c.requires
+pub returns-then-link-self-clause-flood : goal.returns-then-link-self-clause-flood
+returns-then-link-self-clause-flood c = past_sent c.self.inside.own c.self.inside.links c.self.inside.up c.self.inside.due c.self.inside.table.spare c.self.inside.table.rows c.args.self.now c.self.view_is c.args.link c.if-link-self.true
 
 pub returns-clause-flood : goal.returns-clause-flood
-returns-clause-flood c = sends c.self.inside.own c.self.inside.links c.self.inside.up c.self.inside.due c.self.inside.table.spare c.self.inside.table.rows c.args.self.now c.self.view_is c.args.link c.self.invariant c.requires c.without-self-inside.result c.clear.new.self.rows c.without-self-inside.ensures c.clear.ensures.rows
+returns-clause-flood c = sends c.self.inside.own c.self.inside.links c.self.inside.up c.self.inside.due c.self.inside.table.spare c.self.inside.table.rows c.args.self.now c.self.view_is c.args.link c.self.invariant c.if-link-self.false c.without-self-inside.result c.clear.new.self.rows c.without-self-inside.ensures c.clear.ensures.rows
+
+pub returns-clause-links : goal.returns-clause-links
+returns-clause-links c = same_links c.self.inside.own c.self.inside.links c.self.inside.up c.self.inside.due c.self.inside.table.spare c.self.inside.table.rows c.args.self.now c.self.view_is c.self.inside.up

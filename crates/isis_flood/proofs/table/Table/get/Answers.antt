@@ -1,4 +1,4 @@
-use Rattle.std.proofs.Common.{true, false, is_ok, sym, ap, ◌∙◌, arith}
+use Rattle.std.proofs.Common.{ap, arith}
 use Rattle.isis_flood.specs.Masks.{Held}
 use Rattle.isis_flood.proofs.TableLaws.{set_within, row_there, row_new}
 use Rattle.isis_flood.proofs.table.Table.get.Goals as goal

@@ -1,0 +1,11 @@
+use Rattle.std.proofs.Common.{ap, length, arith}
+use Rattle.isis_flood.proofs.KeptLaws.{lacking_few}
+use Rattle.isis_flood.proofs.flood.Flood.apply_csnp.Goals as goal
+
+pub returns-clause-spare : goal.returns-clause-spare
+returns-clause-spare c =
+    let few = lacking_few c.args.link c.args.start.now c.args.last.now c.as_slice-2.result.now c.as_slice.result.now c.args.spent _ _ c.on_list.ensures.next in
+    let listed = ap length c.as_slice.ensures in
+    let rows = ap length c.in_ok-rows.ensures.rows in
+    let entries = ap length c.reserve-2.ensures.entries in
+    omega (arith, few, listed, rows, entries, c.reserve.ensures.spare, c.on_list.ensures.spare, c.send_lacking.ensures.spare)
