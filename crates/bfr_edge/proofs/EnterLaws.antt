@@ -1,5 +1,5 @@
 -- The steps of the loops over ids and over sets.
-use Rattle.std.proofs.Common.{◌≡◌, ℕ, suc, ◌+◌, ◌<◌, ◌==◌, ◌||◌, not, Bool, true, false, List, [], ◌∷◌, ◌++◌, length, take, get_or, filter, map, find, nat_lt, Option, Some, None, refl, ap, sym, ◌∙◌, arith, subst}
+use Rattle.std.proofs.Common.{◌≡◌, ℕ, suc, ◌+◌, ◌<◌, ◌==◌, ◌||◌, not, Bool, true, false, List, [], ◌∷◌, ◌++◌, length, take, get_or, filter, map, find, nat_lt, Some, None, refl, ap, sym, ◌∙◌, arith}
 use Rattle.std.specs.List.{AllByRecursion, list_any}
 use Rattle.std.specs.Option.{option_map_or}
 use Rattle.std.proofs.lemmas.Bool.{le-ltb}
@@ -8,7 +8,7 @@ use Rattle.std.proofs.lemmas.List.Folds.{list_any_more}
 use Rattle.wire_base.specs.declared.bsl.Bsl.{Bsl}
 use Rattle.wire_base.specs.declared.triple.Triple.{Triple}
 use Rattle.wire_base.specs.model.BitSet.{has_member, with_member}
-use Rattle.wire_base.specs.model.Ingress.{IngressPacket, sets_of, ids_of_set, packet_for, packets_for, is_large}
+use Rattle.wire_base.specs.model.Ingress.{sets_of, ids_of_set, packet_for, packets_for, is_large}
 use Rattle.wire_base.specs.model.OnFrame.{Positions}
 use Rattle.wire_base.specs.model.Place.{bits_of, bit_position, position_in}
 use Rattle.wire_base.proofs.SetLaws.{has-with}

@@ -1,13 +1,13 @@
 -- Each BFR-id of the list is in one packet, and no other id is in any.
-use Rattle.std.proofs.Common.{◌≡◌, ℕ, zero, suc, ◌+◌, ◌<◌, ◌≤◌, ◌==◌, ◌&&◌, ◌||◌, not, Bool, true, false, List, [], ◌∷◌, filter, map, refl, ap, sym, ◌∙◌, inl, inr, arith}
+use Rattle.std.proofs.Common.{◌≡◌, ℕ, suc, ◌==◌, ◌&&◌, ◌||◌, Bool, true, false, List, [], ◌∷◌, map, refl, ap, ◌∙◌, inl, inr, arith}
 use Rattle.std.specs.List.{list_any}
 use Rattle.std.proofs.Math.Bool.{or-true}
-use Rattle.std.proofs.lemmas.Bool.{cases_Bool, eq-eqb, ne_eqb}
+use Rattle.std.proofs.lemmas.Bool.{eq-eqb}
 use Rattle.std.proofs.lemmas.Bool.Decides.{eqb_tells}
 use Rattle.wire_base.specs.declared.bsl.Bsl.{Bsl}
 use Rattle.wire_base.specs.model.BitSet.{has_member}
 use Rattle.wire_base.specs.model.Hop.{tally, one_if}
-use Rattle.wire_base.specs.model.Ingress.{IngressPacket, id_set, sets_of, ids_of_set, packet_for, packets_for}
+use Rattle.wire_base.specs.model.Ingress.{id_set, sets_of, ids_of_set, packet_for, packets_for}
 use Rattle.wire_base.specs.model.Place.{bits_of, set_identifier}
 use Rattle.wire_base.proofs.SetLaws.{has-filter, has-with}
 use Rattle.bfr_edge.proofs.GroupLaws.{Rises, none-early, has-distinct, sets-rise}

@@ -1,5 +1,5 @@
 -- What an ingress answers.
-use Rattle.std.specs.Prelude.{◌≡◌, ℕ, List, Option, Some}
+use Rattle.std.specs.Prelude.{◌≡◌, Option, Some}
 use Rattle.wire_base.specs.declared.faults.EdgeFault.{EdgeFault}
 use Rattle.wire_base.specs.declared.faults.EdgeFault.TheVariants.{NoEgress, IdZero, SiLarge, NotBfr, BslUnknown, Memory}
 use Rattle.wire_base.specs.model.Ingress.{IngressPacket}

@@ -1,6 +1,7 @@
-ghost use Rattle.std.specs.Prelude.{◌≡◌, ℕ, ◌≤◌, ◌<◌, ◌==◌, None, false, map, find, length, IfOk, IfSome, MatchResult};
+ghost use Rattle.std.specs.Prelude.{◌≡◌, ℕ, ◌≤◌, ◌<◌, ◌==◌, Some, None, true, false, is_some, map, find, length, IfOk, IfSome, MatchResult};
 ghost use Rattle.std.specs.List.{AllByRecursion, list_any};
-ghost use Rattle.wire_base.specs.model.Place.{bits_of, bit_position, position_in};
+ghost use Rattle.wire_base.specs.declared.faults.EdgeFault.TheVariants.{BslUnknown};
+ghost use Rattle.wire_base.specs.model.Place.{bits_of, bit_position, position_in, own_bift};
 ghost use Rattle.wire_base.specs.model.Ingress.{edge_fault, is_large, ids_of_set, packets_for};
 ghost use Rattle.wire_base.specs.model.BitSet.{has_member};
 ghost use Rattle.wire_base.specs.model.Hop.{one_if, tally};
@@ -19,6 +20,7 @@ use wire_base::{Bsl, EdgeFault, M, RouterConf, Rows, Triple};
 /// Refused is, in this order: a list without ids (NoEgress), the id 0 (IdZero), an id whose set identifier is above 255
 /// (SiLarge, with the first such id), a router without a BFR-id in the subdomain (NotBfr), and one that supports no triple
 /// of the subdomain and the length (BslUnknown). Memory may come in place of any answer.
+#[tactic(auto, using(crate::proofs::SupportLaws::unsupported_is, crate::proofs::SupportLaws::supported_is))]
 pub fn ingress(
     alloc: Global,
     conf: &RouterConf,
@@ -27,6 +29,9 @@ pub fn ingress(
     ids: &[u16],
 ) -> Result<Rows<Packet>, EdgeFault>
     ensures refused { MatchResult result (λ _. edge_fault conf.now sd bsl ids.now ≡ None) (λ e. Refuses (edge_fault conf.now sd bsl ids.now) e) }
+    // A length is unknown exactly where no set of it has a BIFT-id.
+    ensures unsupported { edge_fault conf.now sd bsl ids.now ≡ Some BslUnknown → (si : ℕ) → own_bift conf.now (record { sd = sd; bsl = bsl; si = si }) ≡ None }
+    ensures supported { IfOk result (λ _. (si : ℕ) × (is_some (own_bift conf.now (record { sd = sd; bsl = bsl; si = si })) ≡ true)) }
     ensures packets { IfOk result (λ ps. map positions_in ps ≡ map placed (packets_for sd bsl ids.now)) }
     ensures once { IfOk result (λ _. (k : ℕ) → tally (λ p. has_member k p.ids) (packets_for sd bsl ids.now) ≡ one_if (has_member k ids.now)) }
     ensures lengths { IfOk result (λ ps. AllByRecursion (λ p. bsl_of p.bits ≡ p.triple.bsl) ps) }

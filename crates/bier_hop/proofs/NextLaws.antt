@@ -1,8 +1,8 @@
 -- Each outcome of a hop, and the outcomes of what is left after it.
-use Rattle.std.proofs.Common.{◌≡◌, ℕ, zero, suc, ◌+◌, ◌-◌, ◌<◌, ◌≤◌, ◌==◌, ◌&&◌, ◌||◌, not, Bool, true, false, cond, List, [], ◌∷◌, ◌++◌, length, get_or, filter, map, Option, Some, None, is_some, is_none, option_map, MatchOption, IfSome, refl, ap, sym, ◌∙◌, inl, inr, arith, subst}
-use Rattle.std.specs.List.{filter_map, list_any}
-use Rattle.std.proofs.Math.Bool.{or-true, and-false}
-use Rattle.std.proofs.lemmas.Bool.{cases_Bool, cases_lt, true≢false, eqb-true, eq-eqb, ne_eqb}
+use Rattle.std.proofs.Common.{◌≡◌, ℕ, zero, suc, ◌<◌, ◌≤◌, ◌==◌, ◌&&◌, ◌||◌, not, Bool, true, false, List, [], ◌∷◌, ◌++◌, length, get_or, filter, map, Option, Some, None, is_some, option_map, IfSome, refl, ap, sym, ◌∙◌, inl, inr, arith, subst}
+use Rattle.std.specs.List.{filter_map}
+use Rattle.std.proofs.Math.Bool.{and-false}
+use Rattle.std.proofs.lemmas.Bool.{cases_Bool, cases_lt, true≢false, eq-eqb, ne_eqb}
 use Rattle.std.proofs.lemmas.Bool.Decides.{eqb_tells}
 use Rattle.std.proofs.lemmas.Option.{same_Some}
 use Rattle.wire_base.specs.declared.view.First.{First}
@@ -14,9 +14,8 @@ use Rattle.bift_table.specs.Bift.{router_at, leads_to, same_router, mask_of, rou
 use Rattle.bift_table.proofs.BiftLaws.{has-mask, has-routed, same_router-is, same_router-refl}
 use Rattle.bier_hop.specs.declared.out.Out.{Out}
 use Rattle.bier_hop.specs.declared.out.Out.TheVariants.{Local, Copy, Dropped}
-use Rattle.bier_hop.specs.declared.out.Why.{Why}
 use Rattle.bier_hop.specs.declared.out.Why.TheVariants.{NoRow, Ttl}
-use Rattle.bier_hop.specs.Outcomes.{HopState, IsOwn, IsNumbering, left, number_in, choose_in, outcome, positions_of, own_in, drop_of, cost, IsCopy, IsOwnWithin, Gives, IsNext}
+use Rattle.bier_hop.specs.Outcomes.{HopState, IsOwn, IsNumbering, number_in, choose_in, own_in, drop_of, IsCopy, IsNext}
 use Rattle.bier_hop.proofs.CopyLaws.{filter-same, filter-filter, filter-none, filter-every, filter_map-none, filter_map-first, copies-first}
 
 -- ---- hops over any choice

@@ -1,5 +1,5 @@
 -- What a hop over a forwarding table gives, as the outcomes of one hop.
-use Rattle.std.specs.Prelude.{ℕ, suc, ◌≡◌, ◌≤◌, ◌<◌, ◌-◌, ◌==◌, Bool, true, List, [], ◌∷◌, length, Option, Some, None, option_map, is_none, IfSome, MatchOption, if◌then◌else◌}
+use Rattle.std.specs.Prelude.{ℕ, suc, ◌≡◌, ◌≤◌, ◌<◌, ◌==◌, true, List, [], ◌∷◌, length, Option, Some, None, option_map, is_none, IfSome, MatchOption, if◌then◌else◌}
 use Rattle.std.specs.List.{list_any}
 use Rattle.wire_base.specs.declared.view.First.{First}
 use Rattle.wire_base.specs.model.BitSet.{has_member, difference, intersection}

@@ -6,3 +6,6 @@ mod out;
 
 pub use hop::Hop;
 pub use out::{Out, Why};
+
+#[cfg(test)]
+mod tests;

@@ -1,16 +1,15 @@
 -- Laws of forwarding tables: masks by membership, masks of different routers share no position, and together they are the
 -- positions that have a row.
-use Rattle.std.proofs.Common.{◌≡◌, ℕ, zero, suc, ◌+◌, ◌-◌, ◌<◌, ◌≤◌, ◌==◌, ◌&&◌, Bool, true, false, cond, List, [], ◌∷◌, length, get_or, map, filter, Option, Some, None, is_some, refl, sym, ap, ◌∙◌, arith, subst, inl, inr, ◌↔◌}
+use Rattle.std.proofs.Common.{◌≡◌, ℕ, zero, suc, ◌-◌, ◌<◌, ◌≤◌, ◌&&◌, Bool, true, false, List, [], ◌∷◌, length, get_or, map, filter, Option, Some, None, is_some, refl, sym, ap, ◌∙◌, arith, subst, inl, inr, ◌↔◌}
 use Rattle.std.proofs.lemmas.Bool.{cases_Bool, cases_lt, true≢false, eq-eqb, eqb-true}
 use Rattle.std.proofs.lemmas.List.{get_or_past, get_or-map, length-map}
 use Rattle.std.proofs.lemmas.Slice.Eq.{bytes_eq-Decides}
 use Rattle.std.specs.Str.{bytes_eq}
 use Rattle.std.proofs.Math.Bool.{and-false}
 use Rattle.std.proofs.Math.ListN.{get_or-map as any-get_or-map}
-use Rattle.wire_base.specs.declared.addresses.SystemId.{SystemId}
 use Rattle.wire_base.specs.declared.view.First.{First}
 use Rattle.wire_base.specs.model.BitSet.{has_member, IsWithin, intersection, up_to}
-use Rattle.wire_base.proofs.SetLaws.{within-filter, has-filter, has-up_to, has_head, none_below, none_above, within-up_to, has-intersection}
+use Rattle.wire_base.proofs.SetLaws.{within-filter, has-filter, has-up_to, has_head, within-up_to, has-intersection}
 use Rattle.bift_table.specs.Bift.{router_at, same_end, same_router, leads_to, mask_of, routed_of, member_at, table_of}
 
 -- ---- one router

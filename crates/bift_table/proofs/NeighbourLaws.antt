@@ -1,5 +1,5 @@
 -- Routers with their masks stand for a table.
-use Rattle.std.proofs.Common.{◌≡◌, ℕ, zero, suc, ◌+◌, ◌<◌, ◌≤◌, ◌||◌, ◌++◌, Bool, true, false, cond, List, [], ◌∷◌, length, get_or, map, Option, Some, None, option_map, refl, sym, ap, ◌∙◌, arith, subst, inl, inr}
+use Rattle.std.proofs.Common.{◌≡◌, ℕ, zero, suc, ◌+◌, ◌<◌, ◌≤◌, ◌||◌, ◌++◌, true, false, List, [], ◌∷◌, length, get_or, map, Option, Some, None, option_map, refl, sym, ap, ◌∙◌, arith, subst, inl, inr}
 use Rattle.std.specs.List.{list_any}
 use Rattle.std.proofs.lemmas.Bool.{cases_Bool, cases_lt, true≢false}
 use Rattle.std.proofs.lemmas.Option.{same_Some}
@@ -7,9 +7,10 @@ use Rattle.std.proofs.lemmas.List.Folds.{list_any-append}
 use Rattle.std.proofs.Math.Bool.{or-true}
 use Rattle.wire_base.specs.declared.view.First.{First}
 use Rattle.wire_base.specs.model.BitSet.{has_member}
+use Rattle.wire_base.proofs.SetLaws.{has_head}
 use Rattle.bift_table.specs.declared.neighbour.Neighbour.{Neighbour}
 use Rattle.bift_table.specs.Bift.{router_at, same_router, leads_to, mask_of}
-use Rattle.bift_table.specs.Neighbours.{neighbour_at, router_in, routers_from, table_in, AreMasks, AreKnown}
+use Rattle.bift_table.specs.Neighbours.{neighbour_at, router_in, routers_from, table_in, AreMasks, AreKnown, AreUsed}
 use Rattle.bift_table.proofs.BiftLaws.{same_router-is, same_router-refl, router_at-place, router_at-past, has-mask}
 
 -- what is found in the list has the position, and its whole mask
@@ -145,3 +146,35 @@ router-known size ns p f q = elim (cases_lt size p) [
   where
     none-some : {o : Option First} → o ≡ None → o ≡ Some f → ⊥
     none-some a b = cc
+
+-- ---- each of the routers has a position
+
+pub used-push : {w : ℕ} (ns : List (Neighbour w)) (n : Neighbour w) → AreUsed ns → 0 < length n.mask → AreUsed (ns ++ n ∷ [])
+used-push [] n are is = (is, tt)
+used-push (m ∷ ns) n are is = (are.0, used-push ns n are.1 is)
+
+-- a mask with a position is used
+pub mask-used : (table : List (Option First)) (f : First) (p : ℕ) (mask : List ℕ) → mask ≡ mask_of table f → router_at table p ≡ Some f → 0 < length mask
+mask-used table f p mask is at = some mask (ap (has_member p) is ∙ has-mask table f p ∙ ap (λ o. leads_to o f) at ∙ same_router-refl f)
+  where
+    some : (l : List ℕ) → has_member p l ≡ true → 0 < length l
+    some [] h = absurd (true≢false (sym h))
+    some (x ∷ xs) h = omega arith
+
+mask-position : (table : List (Option First)) (f : First) (mask : List ℕ) → mask ≡ mask_of table f → 0 < length mask → (p : ℕ) × (router_at table p ≡ Some f)
+mask-position table f [] is some = absurd (omega (arith, some))
+mask-position table f (p ∷ ps) is some = (p, on (router_at table p) (sym (ap (has_member p) is ∙ has-mask table f p) ∙ has_head p ps))
+  where
+    on : (o : Option First) → leads_to o f ≡ true → o ≡ Some f
+    on None h = absurd (true≢false (sym h))
+    on (Some g) h = ap (λ (x : First). Some x) (same_router-is g f h)
+
+pub router-used : {w : ℕ} (size : ℕ) (ns : List (Neighbour w)) (f : First) → AreMasks (table_in size ns) ns → AreUsed ns → list_any (λ g. same_router g f) (map (λ n. n.to) ns) ≡ true → (p : ℕ) × (router_at (table_in size ns) p ≡ Some f)
+router-used size ns f masks used known = among (table_in size ns) ns masks used known
+  where
+    among : {w : ℕ} (table : List (Option First)) (ns : List (Neighbour w)) → AreMasks table ns → AreUsed ns → list_any (λ g. same_router g f) (map (λ n. n.to) ns) ≡ true → (p : ℕ) × (router_at table p ≡ Some f)
+    among table [] masks used known = absurd (true≢false (sym known))
+    among table (n ∷ ns) masks used known = elim (cases_Bool (same_router n.to f)) [
+      | inl same ↦ (let x = mask-position table n.to n.mask masks.0 used.0 in (x.0, x.1 ∙ ap (λ (g : First). Some g) (same_router-is n.to f same)))
+      | inr other ↦ among table ns masks.1 used.1 (rw other at known)
+    ]

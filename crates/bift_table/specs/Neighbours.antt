@@ -1,5 +1,5 @@
 -- How routers with their masks stand for a table.
-use Rattle.std.specs.Prelude.{ℕ, zero, suc, ◌≡◌, ◌≤◌, List, [], ◌∷◌, Option, Some, None, true, map, option_map, if◌then◌else◌}
+use Rattle.std.specs.Prelude.{ℕ, zero, suc, ◌≡◌, ◌≤◌, ◌<◌, List, [], ◌∷◌, length, Option, Some, None, true, map, option_map, if◌then◌else◌}
 use Rattle.std.specs.List.{AllByRecursion, list_any}
 use Rattle.wire_base.specs.declared.view.First.{First}
 use Rattle.wire_base.specs.model.BitSet.{has_member}
@@ -26,6 +26,10 @@ table_in size ns = routers_from size 1 ns
 abbrev pub AreMasks : {w : ℕ} → List (Option First) → List (Neighbour w) → Type 0
 AreMasks table ns = AllByRecursion (λ n. n.mask ≡ mask_of table n.to) ns
 
+-- each has a position
+abbrev pub AreUsed : {w : ℕ} → List (Neighbour w) → Type 0
+AreUsed ns = AllByRecursion (λ n. 0 < length n.mask) ns
+
 -- each router of the first positions is there
 abbrev pub AreKnown : {w : ℕ} → List (Option First) → ℕ → List (Neighbour w) → Type 0
 AreKnown table count ns = (p : ℕ) (f : First) → p ≤ count → router_at table p ≡ Some f → list_any (λ n. same_router n.to f) ns ≡ true
@@ -33,5 +37,6 @@ AreKnown table count ns = (p : ℕ) (f : First) → p ≤ count → router_at ta
 -- what a table keeps
 pub record IsTable {w : ℕ} (size : ℕ) (ns : List (Neighbour w)) (firsts : List First) (positions : List ℕ) : Type 0 where
   pub masks : AreMasks (table_in size ns) ns
+  pub used : AreUsed ns
   pub listed : firsts ≡ map (λ n. n.to) ns
   pub routed : positions ≡ routed_of (table_in size ns)

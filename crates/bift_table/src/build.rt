@@ -1,7 +1,7 @@
 ghost use Rattle.std.specs.Prelude.{◌≡◌, ◌<◌, ◌+◌, ◌*◌, IfOk, length, IsTrue};
 ghost use Rattle.bier_bits.specs.Sets.{is_width};
 ghost use Rattle.bift_table.specs.Bift.{router_at, leads_to, member_at, mask_of, routed_of, table_of};
-ghost use Rattle.bift_table.specs.Neighbours.{AreMasks, AreKnown};
+ghost use Rattle.bift_table.specs.Neighbours.{AreMasks, AreKnown, AreUsed};
 
 use crate::neighbour::{Neighbour, is_known, is_same_router};
 use bier_bits::BitString;
@@ -18,6 +18,7 @@ pub fn neighbours_in<const W: usize>(
     requires lists { length lists.now ≡ 64 * W }
     ensures masks { IfOk result (λ ns. AreMasks (table_of lists.now class) ns) }
     ensures known { IfOk result (λ ns. AreKnown (table_of lists.now class) (64 * W) ns) }
+    ensures used { IfOk result (λ ns. AreUsed ns) }
 {
     let mut neighbours = Rows::new(alloc);
     for place in 0..lists.len() {

@@ -86,9 +86,10 @@ impl<const W: usize> Table<W> {
         })
     }
 
-    /// A list in which the router of each position is.
+    /// The routers to which positions lead.
     pub fn routers(&self) -> &[First]
-        ensures { (p : ℕ) (f : First) → router_at self.now p ≡ Some f → list_any (λ g. same_router g f) result.now ≡ true }
+        ensures all { (p : ℕ) (f : First) → router_at self.now p ≡ Some f → list_any (λ g. same_router g f) result.now ≡ true }
+        ensures each { (f : First) → list_any (λ g. same_router g f) result.now ≡ true → (p : ℕ) × (router_at self.now p ≡ Some f) }
     {
         self.routers.as_slice()
     }

@@ -1,9 +1,9 @@
-use Rattle.std.proofs.Common.{◌≡◌, ℕ, List, [], ◌∷◌, ◌+◌, map, refl, sym, ◌∙◌, ap, subst, arith}
+use Rattle.std.proofs.Common.{◌≡◌, ◌+◌, map, refl, sym, ◌∙◌, ap, subst, arith}
 use Rattle.std.specs.List.{AllByRecursion}
 use Rattle.bier_bits.specs.Any.{bsl_of, positions_of}
 use Rattle.bfr_edge.specs.declared.packet.Packet.{Packet}
 use Rattle.bfr_edge.specs.Entry.{positions_in}
-use Rattle.bfr_edge.proofs.EnterLaws.{among, packets-none, packets-more, packets-same, packets-whole, lengths-push}
+use Rattle.bfr_edge.proofs.EnterLaws.{packets-none, packets-more, packets-same, packets-whole, lengths-push}
 use Rattle.bfr_edge.proofs.OnceLaws.{each-once}
 use Rattle.bfr_edge.proofs.enter.packets_of.Goals as goal
 use Rattle.bfr_edge.proofs.enter.packets_of.Goals.{then-not-is_empty+in_ok-push, else-not-is_empty}

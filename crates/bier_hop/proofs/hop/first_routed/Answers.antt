@@ -1,5 +1,5 @@
-use Rattle.std.proofs.Common.{◌≡◌, ◌∙◌, ◌*◌, Some, ℕ, ◌≤◌, Option, None, IfSome, true, ap, subst, sym}
-use Rattle.wire_base.specs.model.BitSet.{has_member, first_member, intersection, IsWithin}
+use Rattle.std.proofs.Common.{◌∙◌, ◌*◌, ap, subst}
+use Rattle.wire_base.specs.model.BitSet.{first_member, intersection, IsWithin}
 use Rattle.bift_table.specs.Bift.{routed_of}
 use Rattle.bier_hop.proofs.NextLaws.{IsFirstRouted, first-routed}
 use Rattle.bier_hop.proofs.hop.first_routed.Goals as goal

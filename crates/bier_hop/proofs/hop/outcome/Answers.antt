@@ -1,8 +1,8 @@
-use Rattle.std.proofs.Common.{◌≡◌, ◌*◌, None, ℕ, List, Option, refl, sym, ◌∙◌, ap, arith, subst}
+use Rattle.std.proofs.Common.{◌*◌, refl, sym, ◌∙◌, ap, arith, subst}
 use Rattle.wire_base.specs.model.BitSet.{intersection, first_member}
 use Rattle.bift_table.specs.Bift.{routed_of}
 use Rattle.bier_hop.specs.declared.out.Why.TheVariants.{NoRow, Ttl}
-use Rattle.bier_hop.specs.Outcomes.{HopState, drop_of, own_in, IsNext}
+use Rattle.bier_hop.specs.Outcomes.{HopState, drop_of, IsNext}
 use Rattle.bier_hop.proofs.NextLaws.{expired, delivered, unrouted, last, copied}
 use Rattle.bier_hop.proofs.hop.outcome.Goals as goal
 

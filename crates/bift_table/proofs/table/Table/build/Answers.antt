@@ -15,6 +15,7 @@ whole g c =
 pub invariant_of-result : goal.invariant_of-result
 invariant_of-result g c = record {
   masks = subst (λ t. AreMasks t c.in_ok-neighbours.neighbours) (sym (whole g c)) c.in_ok-neighbours.ensures.masks;
+  used = c.in_ok-neighbours.ensures.used;
   listed = c.in_ok-routers.ensures ∙ ap (λ ns. map (λ n. n.to) ns) c.as_slice.ensures;
   routed = c.routed_in-routed.ensures ∙ ap routed_of (sym (whole g c));
 }

@@ -1,4 +1,4 @@
-use Rattle.std.proofs.Common.{◌≡◌, ℕ, true, sym, ◌∙◌, ap, subst, ◌*◌, ◌↔◌}
+use Rattle.std.proofs.Common.{sym, ◌∙◌, ap, subst, ◌*◌}
 use Rattle.wire_base.specs.model.BitSet.{has_member, IsWithin}
 use Rattle.bift_table.specs.Bift.{routed_of}
 use Rattle.bift_table.proofs.BiftLaws.{routed-union, within-routed}
