@@ -1,0 +1,56 @@
+//! Rings with chords of 40, 250 and 1,000 routers, as one of them sees them: how many edges there are, how far the
+//! farthest router is, how long all distances are together, and how many bits have a row. With the word `time` it says
+//! too how long each part took; `bench/routes` runs it so.
+#![tactic(auto)]
+
+mod conf;
+mod measure;
+mod ring;
+mod stop;
+
+ghost use Rattle.std.specs.Prelude.{◌≤◌};
+
+use measure::measure;
+use std::env;
+use std::process::ExitCode;
+use stop::Stop;
+
+/// Whether the first word asks for times.
+fn asks_for_times(rt: &HostRuntime) -> Result<bool, Stop> {
+    Ok(match env::args(rt)?.nth(1) {
+        Some(word) => word.as_str() == "time",
+        None => false,
+    })
+}
+
+fn show(rt: &HostRuntime, nodes: u16, with_times: bool) -> Result<(), Stop>
+    requires { nodes ≤ 1000 }
+{
+    let (ring, times) = measure(rt, nodes)?;
+    println!(rt;
+        "{nodes} routers: {} edges, farthest {}, together {}, rows {}",
+        ring.edges, ring.farthest, ring.together, ring.rows
+    )?;
+    if with_times {
+        println!(rt;
+            "  view {} us, distances to each {} us, rows {} us",
+            times.view, times.distances, times.rows
+        )?;
+    }
+    Ok(())
+}
+
+fn run(rt: &HostRuntime) -> Result<(), Stop> {
+    let with_times = asks_for_times(rt)?;
+    show(rt, 40, with_times)?;
+    show(rt, 250, with_times)?;
+    show(rt, 1000, with_times)
+}
+
+fn main(rt: HostRuntime) -> ExitCode {
+    match run(&rt) {
+        Ok(()) => ExitCode::from(0),
+        Err(Stop::System) => ExitCode::from(6),
+        Err(Stop::Memory) => ExitCode::from(7),
+    }
+}

@@ -1,0 +1,99 @@
+//! What a ring is like, and how long its parts take.
+ghost use Rattle.std.specs.Prelude.{◌≤◌, length};
+
+use crate::conf::own_conf;
+use crate::ring::database;
+use crate::stop::Stop;
+use birt_rows::rows;
+use path_tree::distances_to;
+use std::alloc::Global;
+use std::time::Instant;
+use view_graph::view;
+use wire_base::{Bsl, M, RouterConf, Triple, View};
+
+/// How many edges a ring has, how far router 1 is from the farthest, the sum of its distances, and how many bits of the
+/// first set of 256 have a row at router 1.
+#[derive(Clone, Copy)]
+pub struct Ring {
+    pub edges: usize,
+    pub farthest: u64,
+    pub together: u64,
+    pub rows: usize,
+}
+
+/// The microseconds that the view took, the distances to each router, and the rows of one set.
+#[derive(Clone, Copy)]
+pub struct Times {
+    pub view: u128,
+    pub distances: u128,
+    pub rows: u128,
+}
+
+pub fn measure(rt: &HostRuntime, nodes: u16) -> Result<(Ring, Times), Stop>
+    requires { nodes ≤ 1000 }
+{
+    let alloc = rt.alloc();
+    let conf = own_conf(alloc)?;
+    let store = database(alloc, nodes)?;
+    let start = Instant::now(rt)?;
+    let seen = view(alloc, &conf, &[true, true], &store)?;
+    let viewed = start.elapsed(rt)?;
+    let start = Instant::now(rt)?;
+    let (farthest, together) = distances(alloc, &seen)?;
+    let searched = start.elapsed(rt)?;
+    let start = Instant::now(rt)?;
+    let rows = routed(alloc, &seen, &conf)?;
+    let routed = start.elapsed(rt)?;
+    let ring = Ring {
+        edges: seen
+            .as_slice()
+            .iter()
+            .map(|node| node.edges.len())
+            .fold(0, usize::saturating_add),
+        farthest,
+        together,
+        rows,
+    };
+    let times = Times {
+        view: viewed.as_micros(),
+        distances: searched.as_micros(),
+        rows: routed.as_micros(),
+    };
+    Ok((ring, times))
+}
+
+/// How far router 1 is from the farthest router, and the sum of its distances: of those to each router in turn.
+fn distances(alloc: Global, seen: &View) -> M<(u64, u64)> {
+    let mut farthest = 0;
+    let mut together: u64 = 0;
+    for d in 0..seen.as_slice().len() {
+        let found = distances_to(alloc, seen, d as u16)?;
+        if let Some(Some(length)) = found.as_slice().first() {
+            farthest = farthest.max(*length);
+            together = together.saturating_add(*length);
+        }
+    }
+    Ok((farthest, together))
+}
+
+/// How many bits of the first set have a row at router 1.
+fn routed(alloc: Global, seen: &View, conf: &RouterConf) -> M<usize>
+    requires { length conf.now.ends ≤ 65536 }
+{
+    let triple = Triple {
+        sd: 0,
+        bsl: Bsl::B256,
+        si: 0,
+    };
+    if seen.as_slice().is_empty() {
+        return Ok(0);
+    }
+    let set = rows(alloc, seen, conf, 0, triple)?;
+    Ok(
+        set.bits
+            .as_slice()
+            .iter()
+            .filter(|row| row.len() > 0)
+            .count(),
+    )
+}
