@@ -1,0 +1,15 @@
+use Rattle.std.proofs.lemmas.Result.{err_from_is_err_and}
+use Rattle.domain_conf.specs.Subdomains.{subdomain_at}
+use Rattle.domain_conf.proofs.EntryLemmas.{turn_fails, turn_goes, turns_end}
+use Rattle.domain_conf.proofs.subdomains.read_subdomains.Goals as goal
+
+pub returns-in_err-next : goal.returns-in_err-next
+returns-in_err-next c =
+    let p = err_from_is_err_and c.from_residual.result c.from_residual.ensures.1 in
+    rw (p.1, p.2) (turn_fails subdomain_at c.loop-place.earlier c.args.values.now c.loop-place.place c.index-values-place.result c.in_err-next.field-0.0 _ c.loop-place-test.true c.index-values-place.is c.in_err-next.ensures c.loop-place.invariant)
+
+pub loop-place-preserved : goal.loop-place-preserved
+loop-place-preserved c = turn_goes subdomain_at c.loop-place.earlier c.push.new.self c.args.values.now c.loop-place.place c.index-values-place.result c.in_ok-next.next _ c.loop-place-test.true c.index-values-place.is c.in_ok-next.ensures c.in_ok-push.ensures.ok c.loop-place.invariant
+
+pub returns : goal.returns
+returns c = turns_end subdomain_at c.loop-place.earlier c.args.values.now c.loop-place.place _ c.loop-place-test.false c.loop-place.invariant

@@ -1,0 +1,17 @@
+pub mod Fault
+pub mod Reading
+pub mod Forms
+pub mod Fields
+pub mod Arrays
+pub mod Subdomains
+pub mod Rows
+pub mod TableIndex
+pub mod Routers
+pub mod RouterIndex
+pub mod ByRouter
+pub mod Bier
+pub mod LabelRanges
+pub mod Links
+pub mod Assembled
+pub mod Domain
+pub mod Views

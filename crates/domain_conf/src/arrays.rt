@@ -1,0 +1,101 @@
+//! The arrays of a domain file.
+ghost use Rattle.std.specs.Prelude.{◌≡◌, ◌<◌, ◌≤◌, Some, length, map, is_some, option_map, IfOk};
+ghost use Rattle.toml.specs.Data.{get_member};
+ghost use Rattle.toml.specs.View.{view, table_view, items_view};
+ghost use Rattle.domain_conf.specs.Reading.{Gives};
+ghost use Rattle.domain_conf.specs.Arrays.{tables_in, tables_of};
+ghost use Rattle.domain_conf.specs.Domain as spec;
+ghost use Rattle.domain_conf.specs.Views.{arrays_view};
+
+use crate::fault::ConfFault;
+use std::alloc::Global;
+use toml::{Table, Value};
+use wire_base::Octets;
+
+/// The entries of the arrays, each array with at most so many as it may have.
+#[derive(Clone, Copy)]
+pub struct Arrays<'a> {
+    pub subdomains: &'a [Value],
+    pub rows: &'a [Value],
+    pub routers: &'a [Value],
+    pub biers: &'a [Value],
+    pub labels: &'a [Value],
+    pub links: &'a [Value],
+}
+
+/// What the top table has at a key.
+pub fn member<'a>(top: &'a Table, key: &str) -> Option<&'a Value>
+    ensures { option_map (λ v. view v.now) result ≡ get_member key.now (table_view top.now) }
+{
+    top.get(key)
+}
+
+fn are_tables(values: &[Value]) -> bool
+    ensures { result ≡ is_some (tables_in (items_view values.now)) }
+{
+    for value in values {
+        if !value.is_table() {
+            return false;
+        }
+    }
+    true
+}
+
+/// The entries of an array of tables.
+fn tables_of(value: &Value) -> Option<&[Value]>
+    ensures { option_map (λ vs. map view vs.now) result ≡ tables_of (view value.now) }
+{
+    let values = value.as_array()?.as_slice();
+    if are_tables(values) {
+        Some(values)
+    } else {
+        None
+    }
+}
+
+#[tactic(auto, unfolding(crate::specs::Arrays::array_at))]
+fn array_of<'a>(
+    alloc: Global,
+    top: &'a Table,
+    name: &str,
+    most: usize,
+) -> Result<&'a [Value], ConfFault>
+    ensures value { Gives (λ vs. map view vs.now) result (spec.array_of name.now most (table_view top.now)) }
+    ensures few { IfOk result (λ vs. length vs.now ≤ most) }
+{
+    let Some(value) = member(top, name) else {
+        return Ok(&[]);
+    };
+    let Some(values) = tables_of(value) else {
+        return Err(ConfFault::Field(Octets::from_slice(alloc, name.as_bytes())?));
+    };
+    if values.len() > most {
+        return Err(ConfFault::Limit(Octets::from_slice(alloc, name.as_bytes())?));
+    }
+    Ok(values)
+}
+
+/// The arrays of a file.
+#[tactic(auto, unfolding(crate::specs::Domain::arrays_of))]
+pub fn arrays_of<'a>(alloc: Global, top: &'a Table) -> Result<Arrays<'a>, ConfFault>
+    ensures value { Gives arrays_view result (spec.arrays_of (table_view top.now)) }
+    ensures few { IfOk result (λ arrays. length arrays.routers.now ≤ 250) }
+{
+    let subdomains = array_of(alloc, top, "subdomain", 8)?;
+    let rows = array_of(alloc, top, "row", 2_048)?;
+    let routers = array_of(alloc, top, "router", 250)?;
+    if routers.is_empty() {
+        return Err(ConfFault::Limit(Octets::from_slice(alloc, b"router")?));
+    }
+    let biers = array_of(alloc, top, "bier", 2_000)?;
+    let labels = array_of(alloc, top, "labels", 14_000)?;
+    let links = array_of(alloc, top, "link", 8_000)?;
+    Ok(Arrays {
+        subdomains,
+        rows,
+        routers,
+        biers,
+        labels,
+        links,
+    })
+}

@@ -1,0 +1,42 @@
+//! The rules of whole routers.
+ghost use Rattle.std.specs.Prelude.{◌≡◌, codes, IfOk};
+ghost use Rattle.std.specs.List.{AllByRecursion};
+ghost use Rattle.domain_conf.specs.Reading.{Gives};
+ghost use Rattle.domain_conf.specs.Fields.{place_path};
+ghost use Rattle.domain_conf.specs.Assembled as spec;
+
+use crate::fault::ConfFault;
+use std::alloc::Global;
+use wire_base::{M, Octets, RouterConf};
+
+const MOST_ENDS: usize = 64;
+
+const MOST_OCTETS: usize = 245;
+
+fn router_path(alloc: Global, place: usize) -> M<Octets>
+    ensures { IfOk result (λ path. path ≡ place_path (codes "router") place) }
+{
+    let text = format!(in alloc; "router[{place}]")?;
+    Octets::from_slice(alloc, text.as_bytes())
+}
+
+fn is_too_large(router: &RouterConf) -> bool
+    requires { spec.HasFewSubs router.now }
+    ensures { result ≡ spec.is_too_large router.now }
+{
+    router.ends.len() > MOST_ENDS || router.sub_octets() > MOST_OCTETS
+}
+
+/// That no router has more than 64 links, or more subdomains than its own link state PDU has room for.
+#[tactic(auto, unfolding(crate::specs::Assembled::within_limits))]
+pub fn within_limits(alloc: Global, routers: &[RouterConf]) -> Result<(), ConfFault>
+    requires { AllByRecursion spec.HasFewSubs routers.now }
+    ensures { Gives (λ _. tt) result (spec.within_limits 0 routers.now) }
+{
+    for (place, router) in routers.iter().enumerate() {
+        if is_too_large(router) {
+            return Err(ConfFault::Limit(router_path(alloc, place)?));
+        }
+    }
+    Ok(())
+}
