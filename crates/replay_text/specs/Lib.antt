@@ -4,3 +4,7 @@ pub mod Tokens
 pub mod Ids
 pub mod Hop
 pub mod Grammar
+pub mod Events
+pub mod Arguments
+pub mod Schedule
+pub mod Payload

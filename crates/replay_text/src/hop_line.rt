@@ -15,9 +15,10 @@ use std::alloc::Global;
 use wire_base::{Bsl, Name};
 
 /// The most octets that a line may have, without its line end.
-const LINE_LIMIT: usize = 16_384;
+pub const LINE_LIMIT: usize = 16_384;
 
-fn length_with(bits: u64) -> Option<Bsl>
+/// The length with that many bits.
+pub fn length_with(bits: u64) -> Option<Bsl>
     ensures { result ≡ bsl_with bits }
 {
     if bits > 4096 {
@@ -136,7 +137,8 @@ fn words_line(
     }
 }
 
-fn is_comment(line: &[u8]) -> bool
+/// Whether a line is a comment.
+pub fn is_comment(line: &[u8]) -> bool
     ensures { result ≡ hop.is_comment line.now }
 {
     match line {

@@ -1,8 +1,9 @@
 //! Single words: numbers and names.
-ghost use Rattle.std.specs.Prelude.{◌≡◌};
+ghost use Rattle.std.specs.Prelude.{◌≡◌, ◌≤◌, IfSome};
 ghost use Rattle.std.specs.List.{list_all};
 ghost use Rattle.replay_text.specs.Tokens.{number_of, is_name};
 ghost use Rattle.replay_text.specs.Tokens as name_chars;
+ghost use Rattle.replay_text.specs.Arguments as arguments;
 
 /// The number that 1 to 10 decimal digits write. None for any other text.
 #[tactic(auto, unfolding(crate::specs::Tokens::number_of))]
@@ -20,6 +21,18 @@ pub fn number(text: &[u8]) -> Option<u64>
         value = value * 10 + u64::from(*octet - b'0');
     }
     Some(value)
+}
+
+/// A number up to the bound.
+pub fn number_to(text: &[u8], bound: u64) -> Option<u64>
+    ensures value { result ≡ arguments.number_to bound text.now }
+    ensures within { IfSome result (λ n. n ≤ bound) }
+{
+    let number = number(text)?;
+    if number > bound {
+        return None;
+    }
+    Some(number)
 }
 
 fn is_name_char(octet: u8) -> bool

@@ -1,0 +1,34 @@
+-- What holds of each event that a line gives, in a domain of so many routers.
+use Rattle.std.specs.Prelude.{ℕ, ◌<◌, ◌≤◌, ◌^◌, List, length}
+use Rattle.replay_text.specs.declared.event.Event.{Event}
+use Rattle.replay_text.specs.declared.event.Event.TheVariants as event
+use Rattle.replay_text.specs.declared.event.Line.{Line}
+use Rattle.replay_text.specs.declared.event.Line.TheVariants as line
+
+-- both routers are in the domain
+pub record LinkFits (count from to : ℕ) : Type 0 where
+  pub from_within : from < count
+  pub to_within : to < count
+
+-- the router is in the domain, and the header and the payload have their ranges (RFC 8296, 2.1.1.1 and 2.1.2)
+pub record InjectFits (count router ttl entropy : ℕ) (payload : List ℕ) : Type 0 where
+  pub within : router < count
+  pub ttl_left : 0 < ttl
+  pub entropy_fits : entropy < 2 ^ 20
+  pub short : length payload ≤ 2000
+
+abbrev pub EventFits : ℕ → Event → Type 0
+EventFits count (event.Inject router sd bsl ids ttl entropy payload) = InjectFits count router ttl entropy payload
+EventFits count (event.Take from to i) = LinkFits count from to
+EventFits count (event.Lose from to i) = LinkFits count from to
+EventFits count (event.Again from to i) = LinkFits count from to
+EventFits count (event.Down from to) = LinkFits count from to
+EventFits count (event.Up from to) = LinkFits count from to
+EventFits count (event.Send from to) = LinkFits count from to
+EventFits count (event.Tick router) = router < count
+EventFits count (event.Restart router) = router < count
+
+abbrev pub LineFits : ℕ → Line → Type 0
+LineFits count line.Empty = Unit {0}
+LineFits count (line.One e) = EventFits count e
+LineFits count (line.Settle rounds) = rounds ≤ 1000

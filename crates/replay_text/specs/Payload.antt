@@ -1,0 +1,17 @@
+-- The text of a payload.
+use Rattle.std.specs.Prelude.{ℕ, ◌≡◌, ◌<◌, ◌≤◌, ◌/◌, ◌%◌, List, [], ◌∷◌, length, slice_index, Some, codes}
+use Rattle.std.specs.List.{flat_map}
+use Rattle.replay_text.specs.Arguments.{payload_of}
+
+-- an octet as two hexadecimal digits, with lower-case letters
+abbrev pub digits_of : ℕ → List ℕ
+digits_of octet = slice_index (codes "0123456789abcdef") (octet / 16) ∷ slice_index (codes "0123456789abcdef") (octet % 16) ∷ []
+
+-- the digits of each octet, or `-` for none
+abbrev pub payload_text : List ℕ → List ℕ
+payload_text [] = 45 ∷ []
+payload_text (octet ∷ octets) = flat_map digits_of (octet ∷ octets)
+
+-- The text of at most 2,000 octets is read as them.
+abbrev pub IsPayloadReadAgain : List ℕ → Type 0
+IsPayloadReadAgain octets = ((i : ℕ) → slice_index octets i < 256) → length octets ≤ 2000 → payload_of (payload_text octets) ≡ Some octets

@@ -1,0 +1,177 @@
+//! One line of a schedule.
+ghost use Rattle.std.specs.Prelude.{◌≡◌, ◌≤◌, ◌<◌, length, IfOk};
+ghost use Rattle.replay_text.specs.Reading.{Gives};
+ghost use Rattle.replay_text.specs.Pieces.{words_of};
+ghost use Rattle.replay_text.specs.Events.{EventFits, LineFits};
+ghost use Rattle.replay_text.specs.Schedule as schedule;
+
+use crate::arguments::{counted, ids_at, length_at, name_at, number_at, payload_at, ttl_at};
+use crate::event::{Event, Line};
+use crate::fault::TextFault;
+use crate::hop_line::{LINE_LIMIT, is_comment};
+use crate::pieces::next_word;
+use std::alloc::Global;
+use wire_base::{Name, Rows};
+
+/// The one router that is named.
+#[tactic(auto, unfolding(crate::specs::Schedule::router_named))]
+fn router_named(names: &Rows<Name>, args: &[u8]) -> Result<u16, TextFault>
+    requires { length names.now ≤ 65536 }
+    ensures value { Gives (λ router. router) result (schedule.router_named names.now (words_of args.now)) }
+    ensures within { IfOk result (λ router. router < length names.now) }
+{
+    let args = counted(args, 1)?;
+    let (router, _) = name_at(names, args)?;
+    Ok(router)
+}
+
+/// The two ends of the link that is named.
+#[tactic(auto, unfolding(crate::specs::Schedule::link_named))]
+fn link_named(names: &Rows<Name>, args: &[u8]) -> Result<(u16, u16), TextFault>
+    requires { length names.now ≤ 65536 }
+    ensures value { Gives (λ found. (found.0, found.1)) result (schedule.link_named names.now (words_of args.now)) }
+    ensures from { IfOk result (λ found. found.0 < length names.now) }
+    ensures to { IfOk result (λ found. found.1 < length names.now) }
+{
+    let args = counted(args, 2)?;
+    let (from, args) = name_at(names, args)?;
+    let (to, _) = name_at(names, args)?;
+    Ok((from, to))
+}
+
+/// The two ends of the link that is named, and the place of a frame on it.
+#[tactic(auto, unfolding(crate::specs::Schedule::frame_named))]
+fn frame_named(names: &Rows<Name>, args: &[u8]) -> Result<(u16, u16, u32), TextFault>
+    requires { length names.now ≤ 65536 }
+    ensures value { Gives (λ found. (found.0, found.1, found.2)) result (schedule.frame_named names.now (words_of args.now)) }
+    ensures from { IfOk result (λ found. found.0 < length names.now) }
+    ensures to { IfOk result (λ found. found.1 < length names.now) }
+{
+    let args = counted(args, 3)?;
+    let (from, args) = name_at(names, args)?;
+    let (to, args) = name_at(names, args)?;
+    let (i, _) = number_at(4_294_967_295, args)?;
+    Ok((from, to, i as u32))
+}
+
+/// What `inject` says with those words after it.
+#[tactic(auto, unfolding(crate::specs::Schedule::inject_event))]
+fn inject_event(alloc: Global, names: &Rows<Name>, args: &[u8]) -> Result<Event, TextFault>
+    requires { length names.now ≤ 65536 }
+    ensures value { Gives (λ event. event) result (schedule.inject_event names.now (words_of args.now)) }
+    ensures fits { IfOk result (EventFits (length names.now)) }
+{
+    let args = counted(args, 7)?;
+    let (router, args) = name_at(names, args)?;
+    let (sd, args) = number_at(255, args)?;
+    let (bsl, args) = length_at(args)?;
+    let (ids, args) = ids_at(alloc, args)?;
+    let (ttl, args) = ttl_at(args)?;
+    let (entropy, args) = number_at(1_048_575, args)?;
+    let (payload, _) = payload_at(alloc, args)?;
+    Ok(Event::Inject {
+        router,
+        sd: sd as u8,
+        bsl,
+        ids,
+        ttl,
+        entropy: entropy as u32,
+        payload,
+    })
+}
+
+/// The event that a word names, with the words after it.
+#[tactic(auto, unfolding(crate::specs::Schedule::event_line))]
+fn event_line(
+    alloc: Global,
+    names: &Rows<Name>,
+    word: &[u8],
+    args: &[u8],
+) -> Result<Event, TextFault>
+    requires { length names.now ≤ 65536 }
+    ensures value { Gives (λ event. event) result (schedule.event_line names.now word.now (words_of args.now)) }
+    ensures fits { IfOk result (EventFits (length names.now)) }
+{
+    if word == b"inject".as_slice() {
+        inject_event(alloc, names, args)
+    } else if word == b"take".as_slice() {
+        let (from, to, i) = frame_named(names, args)?;
+        Ok(Event::Take { from, to, i })
+    } else if word == b"lose".as_slice() {
+        let (from, to, i) = frame_named(names, args)?;
+        Ok(Event::Lose { from, to, i })
+    } else if word == b"again".as_slice() {
+        let (from, to, i) = frame_named(names, args)?;
+        Ok(Event::Again { from, to, i })
+    } else if word == b"down".as_slice() {
+        let (from, to) = link_named(names, args)?;
+        Ok(Event::Down { from, to })
+    } else if word == b"up".as_slice() {
+        let (from, to) = link_named(names, args)?;
+        Ok(Event::Up { from, to })
+    } else if word == b"send".as_slice() {
+        let (from, to) = link_named(names, args)?;
+        Ok(Event::Send { from, to })
+    } else if word == b"tick".as_slice() {
+        let router = router_named(names, args)?;
+        Ok(Event::Tick { router })
+    } else if word == b"restart".as_slice() {
+        let router = router_named(names, args)?;
+        Ok(Event::Restart { router })
+    } else {
+        Err(TextFault::Word)
+    }
+}
+
+/// What `settle` says with those words after it.
+#[tactic(auto, unfolding(crate::specs::Schedule::settle_line))]
+fn settle_line(args: &[u8]) -> Result<u32, TextFault>
+    ensures value { Gives (λ rounds. Line.Settle rounds) result (schedule.settle_line (words_of args.now)) }
+    ensures within { IfOk result (λ rounds. rounds ≤ 1000) }
+{
+    let args = counted(args, 1)?;
+    let (rounds, _) = number_at(1_000, args)?;
+    Ok(rounds as u32)
+}
+
+#[tactic(auto, unfolding(crate::specs::Schedule::schedule_words))]
+fn schedule_words(
+    alloc: Global,
+    names: &Rows<Name>,
+    word: &[u8],
+    args: &[u8],
+) -> Result<Line, TextFault>
+    requires { length names.now ≤ 65536 }
+    ensures value { Gives (λ line. line) result (schedule.schedule_words names.now word.now (words_of args.now)) }
+    ensures fits { IfOk result (LineFits (length names.now)) }
+{
+    if word == b"settle".as_slice() {
+        Ok(Line::Settle(settle_line(args)?))
+    } else {
+        Ok(Line::One(event_line(alloc, names, word, args)?))
+    }
+}
+
+/// What a line of a schedule says in a domain whose routers have those names, in that order. The names differ; a name that
+/// stood twice would name the first router that has it. The line comes without its line end.
+///
+/// Refused, in this order, as `LineLong` where the line has more than 16,384 octets; as `Word` where its first word is unknown
+/// or has the wrong count of words after it; then its arguments from left to right, as `Name`, `Number` or `Hex`. `Memory` may
+/// come in place of any answer. What is given is an event that may be asked of that domain.
+#[tactic(auto, unfolding(crate::specs::Schedule::schedule_line))]
+pub fn read_line(alloc: Global, line: &[u8], names: &Rows<Name>) -> Result<Line, TextFault>
+    requires few { length names.now ≤ 65536 }
+    ensures value { Gives (λ said. said) result (schedule.schedule_line line.now names.now) }
+    ensures fits { IfOk result (LineFits (length names.now)) }
+{
+    if line.len() > LINE_LIMIT {
+        return Err(TextFault::LineLong);
+    }
+    if is_comment(line) {
+        return Ok(Line::Empty);
+    }
+    match next_word(line) {
+        None => Ok(Line::Empty),
+        Some((word, args)) => schedule_words(alloc, names, word, args),
+    }
+}
