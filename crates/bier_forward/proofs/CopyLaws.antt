@@ -1,0 +1,183 @@
+-- A copy: its header, and the way that it goes.
+use Rattle.std.proofs.Common.{◌≡◌, ℕ, suc, ◌+◌, ◌*◌, ◌/◌, ◌%◌, ◌^◌, ◌≤◌, ◌<◌, Bool, true, false, List, [], ◌∷◌, ◌++◌, map, Option, Some, None, option_and_then, option_map, slice_get, refl, sym, ap, subst, ◌∙◌, cond, if◌then◌else◌, arith}
+use Rattle.byteorder.specs.Endian.{big_bytes}
+use Rattle.wire_base.specs.declared.addresses.SystemId.{SystemId}
+use Rattle.wire_base.specs.declared.bsl.Bsl.{Bsl}
+use Rattle.wire_base.specs.declared.cause.Cause.{Cause}
+use Rattle.wire_base.specs.declared.cause.Cause.TheVariants as cause
+use Rattle.wire_base.specs.declared.conf.End.{End}
+use Rattle.wire_base.specs.declared.conf.Kind.{Kind}
+use Rattle.wire_base.specs.declared.conf.RouterConf.{RouterConf}
+use Rattle.wire_base.specs.declared.effects.Got.{Got}
+use Rattle.wire_base.specs.declared.triple.Triple.{Triple}
+use Rattle.wire_base.specs.declared.view.First.{First}
+use Rattle.wire_base.specs.declared.view.ViewNode.{ViewNode}
+use Rattle.wire_base.specs.model.BierHeader.{BierHeader, header_octets, second_word, third_word}
+use Rattle.wire_base.specs.model.BitSet.{IsWithin, octets_of}
+use Rattle.wire_base.specs.model.Control.{same_system}
+use Rattle.wire_base.specs.model.Graph.{node_bift}
+use Rattle.wire_base.specs.model.Hop as hops
+use Rattle.wire_base.specs.model.Item as item
+use Rattle.wire_base.specs.model.Item.{bier_frame}
+use Rattle.wire_base.specs.model.OnFrame.{Effects, Packet, node_place, bift_at, copy_of, delivery, direct_copy, one_drop, one_sent, or_drop, positions_in, sent_on, tunnel_copy}
+use Rattle.wire_base.specs.model.Place.{bits_of, id_at}
+use Rattle.bier_bits.specs.declared.any.AnyBits.{AnyBits}
+use Rattle.bier_bits.specs.Any.{bsl_of, positions_of}
+use Rattle.bier_head.specs.declared.header.Header.{Header}
+use Rattle.bier_head.specs.Views.{header_of}
+use Rattle.bier_hop.specs.declared.out.Out.{Out}
+use Rattle.bier_hop.specs.declared.out.Out.TheVariants.{Dropped}
+use Rattle.bier_hop.specs.declared.out.Why.{Why}
+use Rattle.bier_hop.specs.declared.out.Why.TheVariants.{NoRow, Ttl}
+use Rattle.bier_hop.specs.Outcomes.{drop_outcome, outcome}
+use Rattle.bier_forward.specs.declared.copy.Way.{Way}
+use Rattle.bier_forward.proofs.IdLaws.{bit-at}
+use Rattle.bier_forward.specs.Hops.{IsDirect, bift_toward, cause_of, copy_head, given, node_in, place_of, way_at}
+
+-- ---- the header
+
+pub head_written : (p : Packet) (t : Triple) (kind : Kind) (h x : Header) (payload : List ℕ) (bift ttl : ℕ) (bits : AnyBits) (out : List ℕ)
+    → (let q : Packet = record { triple = t; kind = kind; header = header_of h; payload = payload } in q ≡ p)
+    → bsl_of h.bits ≡ t.bsl → bsl_of bits ≡ p.triple.bsl
+    → header_of x ≡ record (header_of h) { bift = bift; ttl = ttl; bsl = bsl_of bits; positions = positions_of bits }
+    → out ≡ header_octets (header_of x) → out ≡ copy_head p bift (positions_of bits) ttl
+unfolding copy_head
+head_written p t kind h x payload bift ttl bits out view own same header_is out_is =
+    subst (λ (q : Packet). bsl_of bits ≡ q.triple.bsl → out ≡ copy_head q bift (positions_of bits) ttl) view
+    (λ (e : bsl_of bits ≡ t.bsl). out_is ∙ ap header_octets header_is ∙ ap (λ (b : Bsl). header_octets (record (header_of h) { bift = bift; ttl = ttl; bsl = b; positions = positions_of bits })) (e ∙ sym own))
+    same
+
+-- ---- numbers of 20 bits
+
+-- a header has room for the lowest 20 bits of a BIFT-id
+low-word : (b x y z : ℕ) → big_bytes 4 (b * 2 ^ 12 + x + y + z) ≡ big_bytes 4 (b % 2 ^ 20 * 2 ^ 12 + x + y + z)
+low-word b x y z = ap (big_bytes 4) split ∙ high (b % 2 ^ 20 * 2 ^ 12 + x + y + z) (b / 2 ^ 20)
+  where
+    split : b * 2 ^ 12 + x + y + z ≡ b % 2 ^ 20 * 2 ^ 12 + x + y + z + b / 2 ^ 20 * 2 ^ 32
+    split = omega arith
+
+    high : (v q : ℕ) → big_bytes 4 (v + q * 2 ^ 32) ≡ big_bytes 4 v
+    high v q =
+        let one : (v + q * 2 ^ 32) / 16777216 % 256 ≡ v / 16777216 % 256 = omega arith in
+        let two : (v + q * 2 ^ 32) / 65536 % 256 ≡ v / 65536 % 256 = omega arith in
+        let three : (v + q * 2 ^ 32) / 256 % 256 ≡ v / 256 % 256 = omega arith in
+        let four : (v + q * 2 ^ 32) % 256 ≡ v % 256 = omega arith in
+        rw (one, two, three, four) refl
+
+low-head : (p : Packet) (b : ℕ) (ps : List ℕ) (ttl : ℕ) → copy_head p b ps ttl ≡ copy_head p (b % 2 ^ 20) ps ttl
+unfolding copy_head
+low-head p b ps ttl = ap (λ (front : List ℕ). front ++ rest) (low-word b (p.header.tc * 2 ^ 9) ((if p.header.s then 1 else 0) * 2 ^ 8) ttl)
+  where
+    h : BierHeader
+    h = record p.header { bift = b; ttl = ttl; positions = ps }
+
+    rest : List ℕ
+    rest = big_bytes 4 (second_word h) ++ (big_bytes 4 (third_word h) ++ octets_of (bits_of h.bsl / 8) h.positions)
+
+-- ---- nodes
+
+pub node-at-place : (g : List ViewNode) (s : SystemId) → node_in g s ≡ slice_get g (node_place g s)
+node-at-place [] s = refl
+node-at-place (n ∷ g) s = by (same_system n.system s) (node-at-place g s)
+  where
+    by : (b : Bool) → node_in g s ≡ slice_get g (node_place g s) → (if b then Some n else node_in g s) ≡ slice_get (n ∷ g) (if b then 0 else 1 + node_place g s)
+    by true more = refl
+    by false more = let e : suc (node_place g s) ≡ 1 + node_place g s = omega arith in more ∙ ap (λ (k : ℕ). slice_get (n ∷ g) k) e
+
+-- ---- positions
+
+-- the positions of the BFR-ids at positions are these
+pub positions-back : (t : Triple) (low : ℕ) (ps : List ℕ) → IsWithin low (bits_of t.bsl) ps → item.positions_of t (map (id_at t) ps) ≡ ps
+positions-back t low [] within = refl
+positions-back t low (p ∷ ps) within =
+    ap (λ (q : ℕ). q ∷ item.positions_of t (map (id_at t) ps)) (bit-at t.bsl t.si p (omega (arith, within.0)) within.1)
+    ∙ ap (λ (qs : List ℕ). p ∷ qs) (positions-back t p ps within.2)
+
+-- ---- ways
+
+-- what a copy comes to on a way
+done : Packet → List ℕ → ℕ → Option Way → Effects
+done p ps ttl None = one_drop cause.NoRow (Some (record { triple = p.triple; positions = ps }))
+done p ps ttl (Some w) = one_sent w.link (bier_frame w.end.peer_mac w.end.own_mac p.kind (copy_head p w.bift ps ttl ++ p.payload))
+
+over_end : ℕ → ℕ → Option End → Option Way
+over_end b k e = option_map (λ (e : End). record { link = k; end = e; bift = b % 2 ^ 20 }) e
+
+-- a copy to a router that is reached directly
+copy-done : (r : RouterConf) (g : List ViewNode) (p : Packet) (f : First) (ps : List ℕ) (ttl : ℕ) → IsDirect r g f → IsWithin 0 (bits_of p.triple.bsl) ps
+    → given r g p (hops.Copy (place_of g f) ps ttl) ≡ done p ps ttl (way_at r g p.triple f)
+unfolding done over_end copy_head
+copy-done r g p f ps ttl is within =
+    ap (λ (d : Bool). or_drop p ids (option_and_then (λ bift. if d then direct_copy r g p x (copy_of p bift ids ttl) else tunnel_copy r g (node_place g r.system) p x (copy_of p bift ids ttl)) (bift_at r g p.triple x))) is.direct
+    ∙ ap (λ (l : Option ℕ). or_drop p ids (option_and_then (λ bift. sent_on r l (λ e. frame e bift)) (bift_at r g p.triple x))) (sym is.link)
+    ∙ ap (λ (o : Option ViewNode). or_drop p ids (option_and_then (λ bift. sent_on r f.direct (λ e. frame e bift)) (option_and_then (node_bift r.kinds r.table p.triple) o))) (sym (node-at-place g f.system))
+    ∙ by (bift_toward r g p.triple f.system) f.direct
+  where
+    x : ℕ
+    x = place_of g f
+
+    ids : List ℕ
+    ids = map (id_at p.triple) ps
+
+    frame : End → ℕ → List ℕ
+    frame e bift = bier_frame e.peer_mac e.own_mac p.kind (copy_of p bift ids ttl)
+
+    back : item.positions_of p.triple ids ≡ ps
+    back = positions-back p.triple 0 ps within
+
+    none : one_drop cause.NoRow (Some (positions_in p ids)) ≡ done p ps ttl None
+    none = ap (λ (qs : List ℕ). one_drop cause.NoRow (Some (record { triple = p.triple; positions = qs }))) back
+
+    octets : (b : ℕ) → copy_of p b ids ttl ≡ copy_head p (b % 2 ^ 20) ps ttl ++ p.payload
+    octets b = ap (λ (qs : List ℕ). header_octets (record p.header { bift = b; ttl = ttl; positions = qs }) ++ p.payload) back ∙ ap (λ (head : List ℕ). head ++ p.payload) (low-head p b ps ttl)
+
+    at_end : (b k : ℕ) (e : Option End) → or_drop p ids (option_map (λ e. one_sent k (frame e b)) e) ≡ done p ps ttl (over_end b k e)
+    at_end b k None = none
+    at_end b k (Some e) = ap (λ (os : List ℕ). one_sent k (bier_frame e.peer_mac e.own_mac p.kind os)) (octets b)
+
+    by : (o l : Option ℕ) → or_drop p ids (option_and_then (λ bift. sent_on r l (λ e. frame e bift)) o)
+        ≡ done p ps ttl (option_and_then (λ bift. option_and_then (λ link. option_map (λ e. record { link = link; end = e; bift = bift % 2 ^ 20 }) (slice_get r.ends link)) l) o)
+    by None l = none
+    by (Some b) None = none
+    by (Some b) (Some k) = at_end b k (slice_get r.ends k)
+
+pub way-none : (r : RouterConf) (g : List ViewNode) (p : Packet) (f : First) (ps : List ℕ) (ttl : ℕ) (t : Triple) → t ≡ p.triple → IsDirect r g f → IsWithin 0 (bits_of p.triple.bsl) ps
+    → None ≡ way_at r g t f → one_drop cause.NoRow (Some (record { triple = t; positions = ps })) ≡ given r g p (hops.Copy (place_of g f) ps ttl)
+unfolding done
+way-none r g p f ps ttl t same is within none =
+    ap (λ (s : Triple). one_drop cause.NoRow (Some (record { triple = s; positions = ps }))) same
+    ∙ ap (done p ps ttl) (none ∙ ap (λ (s : Triple). way_at r g s f) same)
+    ∙ sym (copy-done r g p f ps ttl is within)
+
+pub way-some : (r : RouterConf) (g : List ViewNode) (p : Packet) (f : First) (ps : List ℕ) (ttl : ℕ) (t : Triple) (w : Way) (octets : List ℕ) → t ≡ p.triple → IsDirect r g f → IsWithin 0 (bits_of p.triple.bsl) ps
+    → Some w ≡ way_at r g t f → octets ≡ bier_frame w.end.peer_mac w.end.own_mac p.kind (copy_head p w.bift ps ttl ++ p.payload)
+    → one_sent w.link octets ≡ given r g p (hops.Copy (place_of g f) ps ttl)
+unfolding done
+way-some r g p f ps ttl t w octets same is within some frame =
+    ap (one_sent w.link) frame
+    ∙ ap (done p ps ttl) (some ∙ ap (λ (s : Triple). way_at r g s f) same)
+    ∙ sym (copy-done r g p f ps ttl is within)
+
+-- ---- drops
+
+-- the positions of a drop are those that are dropped
+drop-back : (r : RouterConf) (g : List ViewNode) (p : Packet) (number : First → ℕ) (set : List ℕ) (why : Why) → IsWithin 0 (bits_of p.triple.bsl) set
+    → one_drop (cause_of why) (Some (record { triple = p.triple; positions = set })) ≡ given r g p (drop_outcome set why)
+drop-back r g p number set NoRow within = ap (λ (qs : List ℕ). one_drop cause.NoRow (Some (record { triple = p.triple; positions = qs }))) (sym (positions-back p.triple 0 set within))
+drop-back r g p number set Ttl within = ap (λ (qs : List ℕ). one_drop cause.Ttl (Some (record { triple = p.triple; positions = qs }))) (sym (positions-back p.triple 0 set within))
+
+pub drop-is : {w : ℕ} (r : RouterConf) (g : List ViewNode) (p : Packet) (number : First → ℕ) (out : Out w) (set ps : List ℕ) (why : Why) (t : Triple) (c : Cause)
+    → out ≡ Dropped set why → t ≡ p.triple → ps ≡ set → IsWithin 0 (bits_of t.bsl) ps → c ≡ cause_of why
+    → one_drop c (Some (record { triple = t; positions = ps })) ≡ given r g p (outcome number out)
+drop-is {w} r g p number out set ps why t c is same positions within why_is =
+    let there = subst (λ (s : Triple). IsWithin 0 (bits_of s.bsl) set) same (subst (IsWithin 0 (bits_of t.bsl)) positions within) in
+    rw (why_is, positions, same) (drop-back r g p number set why there) ∙ ap (λ (o : Out w). given r g p (outcome number o)) (sym is)
+
+-- ---- deliveries
+
+pub got-is : (p : Packet) (t : Triple) (kind : Kind) (h : BierHeader) (payload : List ℕ) (bp id : ℕ) (octets : List ℕ)
+    → (let q : Packet = record { triple = t; kind = kind; header = h; payload = payload } in q ≡ p)
+    → id ≡ id_at t bp → octets ≡ payload
+    → (let got : Got = record { sd = t.sd; id = id; bfir = h.bfir; entropy = h.entropy; proto = h.proto; payload = octets } in got ≡ delivery p (id_at p.triple bp))
+got-is p t kind h payload bp id octets view is same =
+    subst (λ (q : Packet). (let got : Got = record { sd = t.sd; id = id; bfir = h.bfir; entropy = h.entropy; proto = h.proto; payload = octets } in got ≡ delivery q (id_at q.triple bp))) view (rw (is, same) refl)

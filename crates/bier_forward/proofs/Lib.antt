@@ -1,0 +1,11 @@
+pub mod CopyLaws
+pub mod DueLaws
+pub mod EnterLaws
+pub mod ExampleLaws
+pub mod HopLaws
+pub mod IdLaws
+pub mod ImageLaws
+pub mod JoinLaws
+pub mod OwnEdges
+pub mod ReadLaws
+pub mod TableLaws

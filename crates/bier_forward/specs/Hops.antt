@@ -1,0 +1,106 @@
+-- How the parts of a hop stand for it.
+use Rattle.std.specs.Prelude.{◌≡◌, ℕ, ◌≤◌, ◌<◌, ◌-◌, ◌%◌, ◌^◌, Bool, true, List, [], ◌∷◌, ◌++◌, map, is_some, slice_get, slice_index_or, Option, Some, None, option_and_then, option_map, if◌then◌else◌}
+use Rattle.wire_base.specs.declared.addresses.SystemId.{SystemId}
+use Rattle.wire_base.specs.declared.cause.Cause.{Cause}
+use Rattle.wire_base.specs.declared.cause.Cause.TheVariants as cause
+use Rattle.wire_base.specs.declared.conf.RouterConf.{RouterConf}
+use Rattle.wire_base.specs.declared.triple.Triple.{Triple}
+use Rattle.wire_base.specs.declared.view.First.{First}
+use Rattle.wire_base.specs.declared.view.ViewNode.{ViewNode}
+use Rattle.wire_base.specs.model.BierHeader.{header_octets}
+use Rattle.wire_base.specs.model.Choice.{is_direct, row}
+use Rattle.wire_base.specs.model.Control.{same_system}
+use Rattle.wire_base.specs.model.Graph.{node_bift}
+use Rattle.wire_base.specs.model.Hop as hops
+use Rattle.wire_base.specs.model.Hop.{Outcome}
+use Rattle.wire_base.specs.model.Item.{bier_frame}
+use Rattle.wire_base.specs.model.OnFrame.{Effects, Packet, copy_of, link_to, node_place, one_sent, outcome_done}
+use Rattle.wire_base.specs.model.Place.{bits_of, id_at, own_id, position_in}
+use Rattle.bift_table.specs.Bift.{member_at, router_at}
+use Rattle.bier_hop.specs.declared.out.Out.{Out}
+use Rattle.bier_hop.specs.declared.out.Out.TheVariants.{Local, Copy, Dropped}
+use Rattle.bier_hop.specs.declared.out.Why.{Why}
+use Rattle.bier_hop.specs.declared.out.Why.TheVariants.{NoRow, Ttl}
+use Rattle.bier_forward.specs.declared.copy.Way.{Way}
+
+-- effects, and then others
+abbrev pub after : Effects → Effects → Effects
+after a b = record a { sent = a.sent ++ b.sent; got = a.got ++ b.got; drops = a.drops ++ b.drops }
+
+-- an outcome over bit positions as one over BFR-ids
+abbrev pub over_ids : Triple → Outcome → Outcome
+over_ids t (hops.Local p) = hops.Local (id_at t p)
+over_ids t (hops.Copy to ps ttl) = hops.Copy to (map (id_at t) ps) ttl
+over_ids t (hops.Expired ps) = hops.Expired (map (id_at t) ps)
+over_ids t (hops.NoRow ps) = hops.NoRow (map (id_at t) ps)
+
+-- the node of a system
+abbrev pub node_in : List ViewNode → SystemId → Option ViewNode
+node_in [] s = None
+node_in (n ∷ g) s = if same_system n.system s then Some n else node_in g s
+
+-- the place of a router's node, by which it is named
+abbrev pub place_of : List ViewNode → First → ℕ
+place_of g f = node_place g f.system
+
+-- the position of the router's own BFR-id, where it has one in a triple's set
+abbrev pub own_position : RouterConf → Triple → Option ℕ
+own_position r t = option_and_then (position_in t) (own_id r t.sd)
+
+-- what the router does for an outcome over bit positions
+abbrev pub given : RouterConf → List ViewNode → Packet → Outcome → Effects
+given r g p o = outcome_done r g (node_place g r.system) p (over_ids p.triple o)
+
+-- why positions are dropped
+abbrev pub cause_of : Why → Cause
+cause_of NoRow = cause.NoRow
+cause_of Ttl = cause.Ttl
+
+-- ---- routers that are reached directly
+
+-- an entry of the table is a router that is reached directly, with the end that leads to it
+pub record IsDirect (r : RouterConf) (g : List ViewNode) (f : First) : Type 0 where
+  pub direct : is_direct g (node_place g r.system) (place_of g f) ≡ true
+  pub link : f.direct ≡ link_to r g (place_of g f)
+  pub system : option_map (λ n. n.system) (slice_get g (place_of g f)) ≡ Some f.system
+
+abbrev pub AreDirect : RouterConf → List ViewNode → List (Option First) → Type 0
+AreDirect r g table = (p : ℕ) (f : First) → router_at table p ≡ Some f → IsDirect r g f
+
+-- the router of a position, where it is reached directly
+abbrev pub if_direct : Option First → List First
+if_direct None = []
+if_direct (Some f) = if is_some f.direct then f ∷ [] else []
+
+-- at each position of a triple the router of a class
+abbrev pub AreRows : RouterConf → List ViewNode → Triple → ℕ → List (List First) → Type 0
+AreRows r g t class rows =
+    (p : ℕ) → 1 ≤ p → p ≤ bits_of t.bsl
+    → slice_index_or rows (p - 1) [] ≡ if_direct (member_at class (row r.kinds r.table r.ends g t (node_place g r.system) p))
+
+-- what must hold where an outcome is given
+abbrev pub IsDue : {w : ℕ} → RouterConf → List ViewNode → Packet → Out w → Type 0
+IsDue r g p (Local bp) = id_at p.triple bp < 65536
+IsDue r g p (Copy to set ttl) = IsDirect r g to.now
+IsDue r g p (Dropped set why) = Unit {0}
+
+-- ---- copies
+
+-- the BIFT-id that a system's node gives a triple
+abbrev pub bift_toward : RouterConf → List ViewNode → Triple → SystemId → Option ℕ
+bift_toward r g t s = option_and_then (node_bift r.kinds r.table t) (node_in g s)
+
+-- the end on which a copy goes to a router, and the router's BIFT-id, which has 20 bits
+abbrev pub way_at : RouterConf → List ViewNode → Triple → First → Option Way
+way_at r g t f =
+    option_and_then
+    (λ bift. option_and_then (λ link. option_map (λ e. record { link = link; end = e; bift = bift % 2 ^ 20 }) (slice_get r.ends link)) f.direct)
+    (bift_toward r g t f.system)
+
+-- the octets of a copy's header
+unfoldable pub copy_head : Packet → ℕ → List ℕ → ℕ → List ℕ
+copy_head p bift positions ttl = header_octets (record p.header { bift = bift; ttl = ttl; positions = positions })
+
+-- the copy on its way
+abbrev pub sent_by : Packet → List ℕ → ℕ → Way → Effects
+sent_by p ids ttl w = one_sent w.link (bier_frame w.end.peer_mac w.end.own_mac p.kind (copy_of p w.bift ids ttl))

@@ -1,0 +1,107 @@
+//! What a router does to the outside.
+ghost use Rattle.std.specs.Prelude.{◌≡◌, [], ◌∷◌, ◌++◌, OnOk, OnErr, IfOk};
+ghost use Rattle.wire_base.specs.model.OnFrame as on_frame;
+
+use bfr_edge::Packet;
+use std::alloc::Global;
+use std::marker::Model;
+use wire_base::{Cause, Got, M, Rows, Sent};
+
+/// A drop of a frame, or of some of the bit positions of a packet, which are then there.
+#[derive(Drop)]
+pub struct DropNote {
+    pub cause: Cause,
+    pub sets: Option<Packet>,
+}
+
+impl Model for DropNote {
+    ghost use Rattle.wire_base.specs.model.OnFrame.{Drop};
+    ghost use Rattle.bier_forward.specs.Sets.{set_in, HaveLength};
+
+    ghost Value = { Drop };
+
+    ghost view = { λ d. record { cause = d.cause; set = set_in d.sets } };
+
+    ghost invariant = { λ d. HaveLength d.sets };
+}
+
+/// What a router sends, delivers and drops, in order, and whether it passed a frame over.
+#[derive(Drop)]
+pub struct Effects {
+    pub sent: Rows<Sent>,
+    pub got: Rows<Got>,
+    pub drops: Rows<DropNote>,
+    pub passed: bool,
+}
+
+impl Model for Effects {
+    ghost use Rattle.wire_base.specs.model.OnFrame as on_frame;
+
+    ghost Value = { on_frame.Effects };
+
+    ghost view = { λ e. record { sent = e.sent; got = e.got; drops = e.drops; passed = e.passed } };
+}
+
+impl Effects {
+    /// No effects.
+    pub fn nothing(alloc: Global) -> Self
+        ensures { result ≡ on_frame.nothing }
+    {
+        Effects {
+            sent: Rows::new(alloc),
+            got: Rows::new(alloc),
+            drops: Rows::new(alloc),
+            passed: false,
+        }
+    }
+
+    /// A frame was passed over.
+    pub fn passed_over(alloc: Global) -> Self
+        ensures { result ≡ on_frame.passed_over }
+    {
+        Effects {
+            sent: Rows::new(alloc),
+            got: Rows::new(alloc),
+            drops: Rows::new(alloc),
+            passed: true,
+        }
+    }
+
+    /// A frame was dropped as a whole.
+    pub fn dropped(alloc: Global, cause: Cause) -> M<Self>
+        ensures { IfOk result (λ e. e ≡ on_frame.dropped cause) }
+    {
+        let mut effects = Effects::nothing(alloc);
+        effects.note(DropNote { cause, sets: None })?;
+        Ok(effects)
+    }
+
+    /// The allocator that the lists keep.
+    pub fn allocator(&self) -> Global {
+        self.sent.allocator()
+    }
+
+    /// Then a frame is sent on a link; nothing changes where memory is refused.
+    pub fn send(&mut self, sent: Sent) -> M<()>
+        ensures ok { OnOk result (self.new ≡ record self.old { sent = self.old.sent ++ sent ∷ [] }) }
+        ensures err { OnErr result (self.new ≡ self.old) }
+    {
+        self.sent.push(sent)
+    }
+
+    /// Then a packet is delivered; nothing changes where memory is refused.
+    pub fn deliver(&mut self, got: Got) -> M<()>
+        ensures ok { OnOk result (self.new ≡ record self.old { got = self.old.got ++ got ∷ [] }) }
+        ensures err { OnErr result (self.new ≡ self.old) }
+    {
+        self.got.push(got)
+    }
+
+    /// Then something is dropped; nothing changes where memory is refused.
+    pub fn note(&mut self, drop: DropNote) -> M<()>
+        ensures ok { OnOk result (self.new ≡ record self.old { drops = self.old.drops ++ drop ∷ [] }) }
+        ensures err { OnErr result (self.new ≡ self.old) }
+    {
+        self.drops.push(drop)
+    }
+}

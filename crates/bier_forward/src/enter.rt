@@ -1,0 +1,68 @@
+//! Packets that enter the domain at a router.
+ghost use Rattle.std.specs.Prelude.{◌≡◌, ◌<◌, ◌^◌, false, IfOk, List, ℕ, map};
+ghost use Rattle.std.specs.List.{AllByRecursion};
+ghost use Rattle.wire_base.specs.declared.bsl.Bsl.{Bsl};
+ghost use Rattle.wire_base.specs.model.Configuration.{IsSound};
+ghost use Rattle.wire_base.specs.model.Control.{Control};
+ghost use Rattle.wire_base.specs.model.Ingress.{inject_with, packets_for};
+ghost use Rattle.wire_base.specs.model.View.{control_view};
+ghost use Rattle.bfr_edge.specs.Entry.{placed, positions_in};
+ghost use Rattle.bier_forward.specs.Packets.{LeadsToEnds, entered, entering_with};
+ghost use Rattle.bier_forward.specs.Sets.{HasLength};
+
+use crate::effects::Effects;
+use crate::forward::{hop_onto, own_id};
+use crate::incoming::Incoming;
+use bfr_edge::{Packet, head_of};
+use std::alloc::Global;
+use wire_base::{Kind, M, RouterConf, View, kind_of};
+
+/// What a router does with packets that enter the domain at it (RFC 8279, 3; RFC 8296, 3): each gets the ingress's header
+/// and is hopped with one more than the given TTL, so that its copies carry that TTL. The entropy has 20 bits.
+pub fn enter_packets(
+    alloc: Global,
+    conf: &RouterConf,
+    view: &View,
+    packets: &[Packet],
+    ttl: u8,
+    entropy: u32,
+    payload: &[u8],
+) -> M<Effects>
+    requires sound { IsSound conf.now }
+    requires ends { LeadsToEnds conf.now view.now.nodes }
+    requires lengths { AllByRecursion HasLength packets.now }
+    requires entropy { entropy < 2 ^ 20 }
+    ensures exact { IfOk result (λ e. e ≡ entered conf.now view.now.nodes ttl entropy payload.now (map positions_in packets.now)) }
+    ensures injected { IfOk result (λ e. (c : Control) (sd : ℕ) (bsl : Bsl) (ids : List ℕ) → c.conf ≡ conf.now → control_view c ≡ view.now.nodes
+        → map positions_in packets.now ≡ map placed (packets_for sd bsl ids) → e ≡ inject_with false c sd bsl ids ttl entropy payload.now) }
+{
+    let mut effects = Effects::nothing(alloc);
+    for packet in packets {
+        let incoming = entering(conf, packet, ttl, entropy, payload);
+        hop_onto(conf, view, &incoming, u16::from(ttl) + 1, &mut effects)?;
+    }
+    Ok(effects)
+}
+
+/// A packet with the ingress's header; the BIFT-id is that of no router, since only copies are sent.
+#[tactic(auto, unfolding(wire_base::specs::model::Item::ingress_header))]
+fn entering<'a>(
+    conf: &RouterConf,
+    packet: &Packet,
+    ttl: u8,
+    entropy: u32,
+    payload: &'a [u8],
+) -> Incoming<'a>
+    requires length { HasLength packet.now }
+    requires entropy { entropy < 2 ^ 20 }
+    ensures { result ≡ entering_with conf.now ttl entropy payload.now (positions_in packet.now) }
+{
+    let sd = packet.triple.sd;
+    let own = own_id(conf.subs.as_slice(), sd).unwrap_or(0);
+    Incoming {
+        triple: packet.triple,
+        kind: kind_of(conf.kinds.as_slice(), sd).unwrap_or(Kind::Mpls),
+        header: head_of(packet, 0, ttl, entropy, own),
+        payload,
+    }
+}

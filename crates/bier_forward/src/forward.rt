@@ -1,0 +1,210 @@
+//! One hop of a packet, from its header to the frames of its copies.
+ghost use Rattle.std.specs.Prelude.{◌≡◌, ◌≤◌, ◌<◌, ◌*◌, ℕ, Some, IfOk, IsTrue, OnOk, length, map, option_map};
+ghost use Rattle.wire_base.specs.model.Configuration.{IsSound};
+ghost use Rattle.wire_base.specs.model.Hop.{hop};
+ghost use Rattle.wire_base.specs.model.OnFrame as on_frame;
+ghost use Rattle.wire_base.specs.model.OnFrame.{class_of};
+ghost use Rattle.wire_base.specs.model.Place.{bits_of, id_at, id_of, sub_in};
+ghost use Rattle.bier_bits.specs.Sets.{is_width};
+ghost use Rattle.bift_table.specs.Bift.{router_at};
+ghost use Rattle.bier_hop.specs.Outcomes.{IsOwn};
+ghost use Rattle.bier_forward.specs.Hops.{AreDirect, AreRows, after, given, own_position, place_of};
+ghost use Rattle.bier_forward.specs.Packets.{LeadsToEnds, hopped};
+
+use crate::direct::direct_rows;
+use crate::effects::Effects;
+use crate::incoming::Incoming;
+use crate::outcome::give;
+use bier_bits::{AnyBits, BitString};
+use bier_hop::Hop;
+use bift_table::Table;
+use std::alloc::Global;
+use std::marker::Brand;
+use std::sync::ledger::{Blank, Ledger};
+use wire_base::{M, OwnSub, RouterConf, RowSet, Steps, Triple, View, ViewNode};
+
+/// What a router does with a packet that has a TTL of at most 256, by a view of its domain (RFC 8279, 6.5): it delivers the
+/// payload where its own BFR-id is among the packet's, sends one copy to each router to which others lead, and drops those
+/// whose TTL has ended or that lead nowhere. A copy is the packet with the BIFT-id of that router, a TTL one lower and the
+/// positions that lead to it; all else, and the octets after the header, are as they came. A router that no link leads to
+/// directly gets no copy.
+pub fn hop_packet(
+    alloc: Global,
+    conf: &RouterConf,
+    view: &View,
+    packet: &Incoming<'_>,
+    ttl: u16,
+) -> M<Effects>
+    requires sound { IsSound conf.now }
+    requires ends { LeadsToEnds conf.now view.now.nodes }
+    requires ttl { ttl ≤ 256 }
+    ensures { IfOk result (λ e. e ≡ hopped conf.now view.now.nodes packet.now ttl) }
+{
+    let mut effects = Effects::nothing(alloc);
+    hop_onto(conf, view, packet, ttl, &mut effects)?;
+    Ok(effects)
+}
+
+/// The same, after other effects.
+pub(crate) fn hop_onto(
+    conf: &RouterConf,
+    view: &View,
+    packet: &Incoming<'_>,
+    ttl: u16,
+    effects: &mut Effects,
+) -> M<()>
+    requires sound { IsSound conf.now }
+    requires ends { LeadsToEnds conf.now view.now.nodes }
+    requires ttl { ttl ≤ 256 }
+    ensures { OnOk result (effects.new ≡ after effects.old (hopped conf.now view.now.nodes packet.now ttl)) }
+{
+    hop_counted::<Brand>(conf, view, packet, ttl, Blank::new(1), effects)
+}
+
+/// The same, with a ledger for the steps over the table, which nobody reads.
+fn hop_counted<L: Ledger>(
+    conf: &RouterConf,
+    view: &View,
+    packet: &Incoming<'_>,
+    ttl: u16,
+    blank: Blank,
+    effects: &mut Effects,
+) -> M<()>
+    requires name { blank.name ≡ L.name }
+    requires parts { blank.parts ≡ L.parts }
+    requires some { 0 < blank.parts }
+    requires sound { IsSound conf.now }
+    requires ends { LeadsToEnds conf.now view.now.nodes }
+    requires ttl { ttl ≤ 256 }
+    ensures { OnOk result (effects.new ≡ after effects.old (hopped conf.now view.now.nodes packet.now ttl)) }
+{
+    let rows = direct_rows(
+        effects.allocator(),
+        conf,
+        view,
+        packet.triple,
+        class_of(packet),
+    )?;
+    let mut steps = Steps::<L>::new(blank);
+    hop_by_width(conf, view, packet, &rows, ttl, &mut steps, effects)
+}
+
+/// The hop at the width of the packet's BitString.
+fn hop_by_width<L: Ledger>(
+    conf: &RouterConf,
+    view: &View,
+    packet: &Incoming<'_>,
+    rows: &RowSet,
+    ttl: u16,
+    steps: &mut Steps<L>,
+    effects: &mut Effects,
+) -> M<()>
+    requires sound { IsSound conf.now }
+    requires ends { LeadsToEnds conf.now view.now.nodes }
+    requires ttl { ttl ≤ 256 }
+    requires lists { length rows.now.bits ≡ bits_of packet.now.triple.bsl }
+    requires rows { AreRows conf.now view.now.nodes packet.now.triple (class_of packet.now) rows.now.bits }
+    ensures { OnOk result (effects.new ≡ after effects.old (hopped conf.now view.now.nodes packet.now ttl)) }
+{
+    match &packet.header.bits {
+        AnyBits::B64(bits) => hop_over(conf, view, packet, rows, bits, ttl, steps, effects),
+        AnyBits::B128(bits) => hop_over(conf, view, packet, rows, bits, ttl, steps, effects),
+        AnyBits::B256(bits) => hop_over(conf, view, packet, rows, bits, ttl, steps, effects),
+        AnyBits::B512(bits) => hop_over(conf, view, packet, rows, bits, ttl, steps, effects),
+        AnyBits::B1024(bits) => hop_over(conf, view, packet, rows, bits, ttl, steps, effects),
+        AnyBits::B2048(bits) => hop_over(conf, view, packet, rows, bits, ttl, steps, effects),
+        AnyBits::B4096(bits) => hop_over(conf, view, packet, rows, bits, ttl, steps, effects),
+    }
+}
+
+/// The class of a packet, on which the choice between equal ways rests.
+fn class_of(packet: &Incoming<'_>) -> u8
+    ensures value { result ≡ class_of packet.now }
+    ensures below { result < 16 }
+{
+    (packet.header.entropy % 16) as u8
+}
+
+/// The hop over the table of those rows.
+fn hop_over<const W: usize, L: Ledger>(
+    conf: &RouterConf,
+    view: &View,
+    packet: &Incoming<'_>,
+    rows: &RowSet,
+    bits: &BitString<W>,
+    ttl: u16,
+    steps: &mut Steps<L>,
+    effects: &mut Effects,
+) -> M<()>
+    requires width { IsTrue (is_width W) }
+    requires sound { IsSound conf.now }
+    requires ends { LeadsToEnds conf.now view.now.nodes }
+    requires ttl { ttl ≤ 256 }
+    requires bits { bits_of packet.now.triple.bsl ≡ 64 * W }
+    requires set { bits.now ≡ packet.now.header.positions }
+    requires lists { length rows.now.bits ≡ 64 * W }
+    requires rows { AreRows conf.now view.now.nodes packet.now.triple (class_of packet.now) rows.now.bits }
+    ensures { OnOk result (effects.new ≡ after effects.old (hopped conf.now view.now.nodes packet.now ttl)) }
+{
+    let _width = bits.width();
+    let table = Table::build(effects.allocator(), rows, class_of(packet))?;
+    let nodes = view.as_slice();
+    give_all(
+        conf,
+        nodes,
+        packet,
+        &table,
+        bits.copy(),
+        ttl,
+        steps,
+        effects,
+    )
+}
+
+/// Gives the outcomes of a set of positions over a table, one after the other.
+fn give_all<const W: usize, L: Ledger>(
+    conf: &RouterConf,
+    nodes: &[ViewNode],
+    packet: &Incoming<'_>,
+    table: &Table<W>,
+    set: BitString<W>,
+    ttl: u16,
+    steps: &mut Steps<L>,
+    effects: &mut Effects,
+) -> M<()>
+    requires width { IsTrue (is_width W) }
+    requires sound { IsSound conf.now }
+    requires ttl { ttl ≤ 256 }
+    requires bits { bits_of packet.now.triple.bsl ≡ 64 * W }
+    requires direct { AreDirect conf.now nodes.now table.now }
+    ensures { OnOk result (effects.new ≡ after effects.old (on_frame.joined (map (given conf.now nodes.now packet.now)
+        (hop (own_position conf.now packet.now.triple) (λ p. option_map (place_of nodes.now) (router_at table.now p)) set.entry ttl)))) }
+{
+    let own = own_position(conf, packet.triple);
+    let mut hop = Hop::begin(table, own, set, ttl);
+    'outcomes: while let Some(out) = hop.next(steps) {
+        give(conf, nodes, packet, &out, effects)?;
+    }
+    Ok(())
+}
+
+/// The position of the router's own BFR-id in packets of a triple, where it has one in the triple's set.
+fn own_position(conf: &RouterConf, triple: Triple) -> Option<u16>
+    ensures value { result ≡ own_position conf.now triple }
+    ensures own { IsOwn (bits_of triple.bsl) result }
+    ensures id { (p : ℕ) → result ≡ Some p → id_at triple p < 65536 }
+{
+    triple.place(own_id(conf.subs.as_slice(), triple.sd)?)
+}
+
+/// The BFR-id of a router that is in those subdomains; 0 is none.
+pub(crate) fn own_id(subs: &[OwnSub], sd: u8) -> Option<u16>
+    ensures { result ≡ id_of (sub_in subs.now sd) }
+{
+    for sub in subs {
+        if sub.sd == sd {
+            return if sub.id == 0 { None } else { Some(sub.id) };
+        }
+    }
+    None
+}

@@ -1,0 +1,97 @@
+//! A BIER packet as it comes.
+ghost use Rattle.std.specs.Prelude.{◌≡◌, ◌≤◌, Bool, length, drop};
+ghost use Rattle.wire_base.specs.model.Configuration.{IsSound};
+ghost use Rattle.wire_base.specs.model.Control.{Control};
+ghost use Rattle.wire_base.specs.model.OnFrame.{is_not_last, on_packet};
+ghost use Rattle.bier_forward.specs.Packets.{packet_at, packet_done, with_header};
+ghost use Rattle.wire_base.specs.model.BierHeader.{header_at, header_length};
+
+use bier_head::{Header, read_header};
+use std::marker::Model;
+use wire_base::fields::word_at;
+use wire_base::{Bsl, Cause, HeadFault, Kind, RouterConf, Triple};
+
+/// A packet that was read: the triple that its BIFT-id means, how the subdomain gives BIFT-ids, its header, whose BitString
+/// has the triple's length, and the octets after it.
+#[derive(Drop)]
+pub struct Incoming<'a> {
+    pub triple: Triple,
+    pub kind: Kind,
+    pub header: Header,
+    pub payload: &'a [u8],
+}
+
+impl<'a> Model for Incoming<'a> {
+    ghost use Rattle.wire_base.specs.model.OnFrame.{Packet};
+    ghost use Rattle.bier_head.specs.Views.{header_of};
+    ghost use Rattle.bier_forward.specs.Packets.{IsReadable};
+
+    ghost Value = { Packet };
+
+    ghost view = { λ p. record { triple = p.triple; kind = p.kind; header = header_of p.header; payload = p.payload.now } };
+
+    ghost invariant = { λ p. IsReadable p.triple p.header };
+}
+
+/// The packet that octets are, whose BIFT-id is of that kind (RFC 8296, 2.1 and 2.2). The length of its BitString is that of
+/// the triple which the BIFT-id means; the header's own code of a length isn't looked at.
+///
+/// # Errors
+///
+/// Why it is dropped, the first of these that holds: `Head(Short)` where there are fewer than 4 octets, `Label` where the
+/// label isn't the bottom of its stack or the BIFT-id has no meaning at this router, and `Head` with the fault of the header.
+#[tactic(auto, unfolding(crate::specs::Packets::packet_at, wire_base::specs::model::OnFrame::on_packet))]
+pub fn read_packet<'a>(
+    conf: &RouterConf,
+    kind: Kind,
+    octets: &'a [u8],
+) -> Result<Incoming<'a>, Cause>
+    requires sound { IsSound conf.now }
+    ensures exact { result ≡ packet_at conf.now kind octets.now }
+    ensures effects { (tunnels : Bool) (c : Control) → c.conf ≡ conf.now → on_packet tunnels c kind octets.now ≡ packet_done tunnels c result }
+{
+    if octets.len() < 4 {
+        return Err(Cause::Head(HeadFault::Short));
+    }
+    let word = word_at(octets, 0);
+    if is_not_last(kind, word) {
+        return Err(Cause::Label);
+    }
+    match conf.means(kind, word / 4096) {
+        None => Err(Cause::Label),
+        Some(triple) => packet_with(kind, triple, octets),
+    }
+}
+
+// Whether a label isn't the bottom of its stack.
+fn is_not_last(kind: Kind, word: u32) -> bool
+    ensures { result ≡ is_not_last kind word }
+{
+    match kind {
+        Kind::Mpls => word / 256 % 2 == 0,
+        Kind::Configured => false,
+    }
+}
+
+// The packet of a triple.
+fn packet_with<'a>(kind: Kind, triple: Triple, octets: &'a [u8]) -> Result<Incoming<'a>, Cause>
+    ensures { result ≡ with_header kind triple octets.now (header_at kind triple.bsl octets.now) }
+{
+    match read_header(kind, triple.bsl, octets) {
+        Err(fault) => Err(Cause::Head(fault)),
+        Ok(header) => Ok(Incoming {
+            triple,
+            kind,
+            header,
+            payload: after_header(triple.bsl, octets),
+        }),
+    }
+}
+
+// The octets after a header with a BitString of that length.
+fn after_header(bsl: Bsl, octets: &[u8]) -> &[u8]
+    requires { header_length bsl ≤ length octets.now }
+    ensures { result.now ≡ drop (header_length bsl) octets.now }
+{
+    &octets[12 + usize::from(bsl.bits() / 8)..]
+}

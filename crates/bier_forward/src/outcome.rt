@@ -1,0 +1,145 @@
+//! What a router does for one outcome of a hop.
+ghost use Rattle.std.specs.Prelude.{◌≡◌, ◌<◌, ◌*◌, ◌∷◌, [], IsTrue, Some, OnOk};
+ghost use Rattle.wire_base.specs.model.BitSet.{IsWithin};
+ghost use Rattle.wire_base.specs.model.Configuration.{IsSound};
+ghost use Rattle.wire_base.specs.model.Hop as hops;
+ghost use Rattle.wire_base.specs.model.OnFrame as on_frame;
+ghost use Rattle.wire_base.specs.model.OnFrame.{delivery, one_drop};
+ghost use Rattle.wire_base.specs.model.Place.{bits_of, id_at};
+ghost use Rattle.bier_bits.specs.Any.{bsl_of, positions_of};
+ghost use Rattle.bier_bits.specs.Sets.{is_width};
+ghost use Rattle.bier_hop.specs.Outcomes.{outcome};
+ghost use Rattle.bier_forward.specs.Hops.{IsDirect, IsDue, after, cause_of, given, place_of};
+
+use crate::copy::{frame_of, way_to};
+use crate::effects::{DropNote, Effects};
+use crate::incoming::Incoming;
+use bfr_edge::Packet;
+use bier_bits::{AnyBits, BitString};
+use bier_hop::{Out, Why};
+use wire_base::{Bsl, Cause, First, Got, M, Octets, RouterConf, Sent, Triple, ViewNode};
+
+/// Delivers, sends a copy or drops, as the outcome says.
+pub(crate) fn give<const W: usize>(
+    conf: &RouterConf,
+    nodes: &[ViewNode],
+    packet: &Incoming<'_>,
+    out: &Out<'_, W>,
+    effects: &mut Effects,
+) -> M<()>
+    requires width { IsTrue (is_width W) }
+    requires sound { IsSound conf.now }
+    requires bits { bits_of packet.now.triple.bsl ≡ 64 * W }
+    requires due { IsDue conf.now nodes.now packet.now out.now }
+    ensures { OnOk result (effects.new ≡ after effects.old (given conf.now nodes.now packet.now (outcome (place_of nodes.now) out.now))) }
+{
+    let triple = packet.triple;
+    match out {
+        Out::Local(bp) => deliver(packet, *bp, effects),
+        Out::Copy { to, set, ttl } => {
+            send_copy(
+                conf,
+                nodes,
+                packet,
+                **to,
+                any_of(triple.bsl, set),
+                *ttl,
+                effects,
+            )
+        }
+        Out::Dropped { set, why } => drop_set(
+            triple,
+            any_of(triple.bsl, set),
+            cause_of(*why),
+            effects,
+        ),
+    }
+}
+
+/// Delivers the payload for the BFR-id of a position.
+fn deliver(packet: &Incoming<'_>, bp: u16, effects: &mut Effects) -> M<()>
+    requires { id_at packet.now.triple bp < 65536 }
+    ensures { OnOk result (effects.new ≡ after effects.old (record on_frame.nothing { got = delivery packet.now (id_at packet.now.triple bp) ∷ [] })) }
+{
+    let payload = Octets::from_slice(effects.allocator(), packet.payload)?;
+    effects.deliver(Got {
+        sd: packet.triple.sd,
+        id: id_at(packet.triple, bp),
+        bfir: packet.header.bfir,
+        entropy: packet.header.entropy,
+        proto: packet.header.proto,
+        payload,
+    })
+}
+
+/// The BFR-id at a position, where it is one.
+fn id_at(triple: Triple, bp: u16) -> u16
+    requires { id_at triple bp < 65536 }
+    ensures { result ≡ id_at triple bp }
+{
+    (u32::from(triple.si) * u32::from(triple.bsl.bits()) + u32::from(bp)) as u16
+}
+
+/// Sends a copy with those positions to a router that is reached directly; where the router has no BIFT-id for the
+/// triple, drops them.
+fn send_copy(
+    conf: &RouterConf,
+    nodes: &[ViewNode],
+    packet: &Incoming<'_>,
+    to: First,
+    bits: AnyBits,
+    ttl: u8,
+    effects: &mut Effects,
+) -> M<()>
+    requires sound { IsSound conf.now }
+    requires direct { IsDirect conf.now nodes.now to }
+    requires length { bsl_of bits ≡ packet.now.triple.bsl }
+    requires within { IsWithin 0 (bits_of packet.now.triple.bsl) (positions_of bits) }
+    ensures { OnOk result (effects.new ≡ after effects.old (given conf.now nodes.now packet.now (hops.Copy (place_of nodes.now to) (positions_of bits) ttl))) }
+{
+    match way_to(conf, nodes, packet.triple, to) {
+        None => drop_set(packet.triple, bits, Cause::NoRow, effects),
+        Some(way) => {
+            let octets = frame_of(effects.allocator(), packet, way, bits, ttl)?;
+            effects.send(Sent {
+                link: way.link,
+                octets,
+            })
+        }
+    }
+}
+
+/// Drops positions of a triple.
+fn drop_set(triple: Triple, bits: AnyBits, cause: Cause, effects: &mut Effects) -> M<()>
+    requires { bsl_of bits ≡ triple.bsl }
+    ensures { OnOk result (effects.new ≡ after effects.old (one_drop cause (Some (record { triple = triple; positions = positions_of bits })))) }
+{
+    effects.note(DropNote {
+        cause,
+        sets: Some(Packet { triple, bits }),
+    })
+}
+
+/// Why positions are dropped.
+fn cause_of(why: Why) -> Cause
+    ensures { result ≡ cause_of why }
+{
+    match why {
+        Why::NoRow => Cause::NoRow,
+        Why::Ttl => Cause::Ttl,
+    }
+}
+
+/// The positions as a BitString of that length.
+fn any_of<const W: usize>(bsl: Bsl, set: &BitString<W>) -> AnyBits
+    requires width { IsTrue (is_width W) }
+    requires bits { bits_of bsl ≡ 64 * W }
+    ensures positions { positions_of result ≡ set.now }
+    ensures ordered { IsWithin 0 (bits_of bsl) (positions_of result) }
+    ensures bsl { bsl_of result ≡ bsl }
+{
+    let mut octets = [0; 512];
+    let count = usize::from(set.width() / 8);
+    set.to_be_bytes(&mut octets[..count]);
+    AnyBits::read(bsl, &octets[..count])
+}

@@ -1,0 +1,10 @@
+pub mod AgingLaws
+pub mod CountLaws
+pub mod EntryLaws
+pub mod EventLaws
+pub mod FlagLaws
+pub mod KeptLaws
+pub mod OwnLaws
+pub mod ReceivedLaws
+pub mod SendLaws
+pub mod StateLaws

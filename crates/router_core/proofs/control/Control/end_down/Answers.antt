@@ -1,0 +1,34 @@
+use Rattle.std.proofs.Common.{◌≡◌, ◌∙◌, ℕ, ◌<◌, Bool, true, false, List, length, set, ap, sym, subst, arith}
+use Rattle.wire_base.specs.declared.addresses.LspId.{LspId}
+use Rattle.wire_base.specs.model.Control.{Control, entry_in, seq_of}
+use Rattle.wire_base.specs.model.Flooding.{end_down}
+use Rattle.router_core.proofs.OwnLaws.{own_not_refused, made_id}
+use Rattle.router_core.proofs.EventLaws.{down_keeps, down_spent, down_issued_keeps, down_issued_is}
+use Rattle.router_core.proofs.control.Control.end_down.Goals as goal
+
+pub invariant_of-self : goal.invariant_of-self
+invariant_of-self c = down_keeps c.self.inside.conf c.self.inside.flood.flood c.self.inside.store.entries c.self.inside.spent c.self.invariant c.args.link c.link_down.new.self.flood c.link_down.ensures.flood
+
+pub returns-then-self-clause-ok : goal.returns-then-self-clause-ok
+returns-then-self-clause-ok c =
+    down_spent c.self.inside.conf c.self.inside.flood.flood c.self.inside.store.entries c.self.inside.spent c.self.invariant c.args.link c.if-self.true c.link_down.new.self.flood c.link_down.ensures.flood
+    ∙ ap (λ (x : Control). (end_down x c.args.link).control) c.self.view_is
+
+pub link_down_issuing-requires-clause-known : goal.link_down_issuing-requires-clause-known
+link_down_issuing-requires-clause-known c =
+    own_not_refused c.self.inside.conf.system c.self.inside.store.entries c.in_ok-own.own.id (c.self.invariant.own c.if-self.false)
+    (made_id c.self.inside.conf c.self.inside.flood.flood c.self.inside.store.entries c.self.inside.spent c.seq_of-seq.result _ c.in_ok-own.own c.in_ok-own.ensures)
+
+pub invariant_of-self-2 : goal.invariant_of-self-2
+invariant_of-self-2 c =
+    down_issued_keeps c.self.inside.conf c.self.inside.flood.flood c.self.inside.store.entries c.self.inside.spent c.self.invariant c.args.link c.seq_of-seq.result _ c.in_ok-own.own c.in_ok-own.ensures
+    c.link_down_issuing.new.flood.flood c.link_down_issuing.new.store.entries _ c.in_ok-link_down_issuing.ensures.ok.1 c.spent_past-self-inside.ensures c.in_ok-link_down_issuing.ensures.database
+    c.in_ok-link_down_issuing.ensures.ok.0
+
+pub returns-clause-ok : goal.returns-clause-ok
+returns-clause-ok c =
+    down_issued_is c.self.inside.conf c.self.inside.flood.flood c.self.inside.store.entries c.self.inside.spent c.self.invariant c.args.link c.seq_of-seq.result _ c.in_ok-own.own c.in_ok-own.ensures
+    c.link_down_issuing.new.flood.flood c.link_down_issuing.new.store.entries _ c.in_ok-link_down_issuing.ensures.ok.1 c.spent_past-self-inside.ensures c.in_ok-link_down_issuing.ensures.database
+    c.in_ok-link_down_issuing.ensures.ok.0 c.if-self.false (c.seq_of-seq.ensures ∙ ap (λ (i : LspId). seq_of (entry_in c.self.inside.store.entries i)) c.fragment_0.ensures)
+    (c.as_slice.ensures.value ∙ ap (λ (l : List Bool). set l c.from.result false) (c.in_ok-up.ensures ∙ ap (λ (x : Control). x.flood.up) (sym c.self.view_is)) ∙ ap (λ (n : ℕ). set c.self.inside.flood.flood.up n false) c.from.ensures)
+    ∙ ap (λ (x : Control). (end_down x c.args.link).control) c.self.view_is

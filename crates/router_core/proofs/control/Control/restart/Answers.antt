@@ -1,0 +1,16 @@
+use Rattle.std.proofs.Common.{◌≡◌, ◌∙◌, length, ap, sym}
+use Rattle.wire_base.specs.model.Control.{Control}
+use Rattle.router_core.specs.State.{control_of}
+use Rattle.router_core.proofs.EventLaws.{started_is, started_keeps, restart_is}
+use Rattle.router_core.proofs.control.Control.restart.Goals as goal
+
+pub invariant_of-self : goal.invariant_of-self
+invariant_of-self c =
+    started_keeps c.self.inside.conf _ c.in_ok-store.flood.flood c.in_ok-store.store.entries c.in_ok-store.ensures.entries c.in_ok-store.ensures.flood c.self.invariant.sound
+    (ap length (c.as_slice.ensures.value ∙ c.in_ok-up.ensures) ∙ ap (λ (x : Control). length x.flood.up) (sym c.self.view_is) ∙ c.self.invariant.control.links)
+    c.in_ok-store.ensures.database
+
+pub returns-clause-ok : goal.returns-clause-ok
+returns-clause-ok c =
+    started_is c.self.inside.conf _ c.in_ok-store.flood.flood c.in_ok-store.store.entries c.in_ok-store.ensures.entries c.in_ok-store.ensures.flood
+    ∙ restart_is (control_of c.self.inside.conf c.self.inside.flood.flood c.self.inside.store.entries c.self.inside.spent) c.args.self.now _ (c.as_slice.ensures.value ∙ c.in_ok-up.ensures) (ap (λ (x : Control). x.conf) c.self.view_is)

@@ -1,0 +1,5 @@
+pub mod Aging
+pub mod Own
+pub mod Received
+pub mod Sending
+pub mod State

@@ -1,0 +1,46 @@
+-- What contracts see of a router, and what every router keeps.
+use Rattle.std.specs.Prelude.{◌≡◌, ℕ, ◌+◌, ◌≤◌, ◌<◌, Bool, false, List, length, min, Option, Some, slice_index_or}
+use Rattle.std.specs.List.{AllByRecursion}
+use Rattle.wire_base.specs.declared.conf.RouterConf.{RouterConf}
+use Rattle.wire_base.specs.declared.entry.Entry.{Entry}
+use Rattle.wire_base.specs.model.Configuration.{IsSound}
+use Rattle.wire_base.specs.model.Control.{Control, Flood, IsControl, own_entry_in}
+
+-- A router: its control state, and how many frames it has taken.
+pub record RouterState : Type 0 where
+  pub control : Control
+  pub heard : ℕ
+
+-- a link state PDU of that content fits a frame of IS-IS, whose length counts at most 1,500 octets
+abbrev pub most_content : ℕ
+most_content = 1470
+
+abbrev pub IsShort : Entry → Type 0
+IsShort e = length e.content ≤ most_content
+
+-- A router that isn't spent has its own link state PDU, live, and with more than the seconds at which it is issued anew.
+abbrev pub HasOwn : Control → Type 0
+HasOwn c = c.spent ≡ false → (e : Entry) × ((own_entry_in c ≡ Some e) × (300 < e.life))
+
+-- what every router keeps
+pub record IsRouter (c : Control) : Type 0 where
+  pub control : IsControl c
+  pub sound : IsSound c.conf
+  pub short : AllByRecursion IsShort c.entries
+  pub own : HasOwn c
+
+-- a control state by its parts
+abbrev pub control_of : RouterConf → Flood → List Entry → Bool → Control
+control_of conf flood entries spent = record { conf = conf; flood = flood; entries = entries; spent = spent }
+
+-- whether the end at a place is up
+abbrev pub is_up : Control → ℕ → Bool
+is_up c link = slice_index_or c.flood.up link false
+
+-- the last value of the count of frames
+abbrev pub last_count : ℕ
+last_count = 18446744073709551615
+
+-- one more, up to the last value
+abbrev pub counted : ℕ → ℕ
+counted n = min (n + 1) last_count

@@ -1,0 +1,59 @@
+ghost use Rattle.std.specs.Prelude.{◌≡◌, IfOk};
+ghost use Rattle.wire_base.specs.model.View.{control_view};
+ghost use Rattle.router_core.specs.State.{IsRouter, is_up};
+
+use isis_flood::Flood;
+use lsp_store::Store;
+use std::alloc::Global;
+use std::marker::Model;
+use view_graph::view;
+use wire_base::{M, RouterConf, View};
+
+/// The control state of a router: its configuration, its database and what flooding keeps beside it, and whether it has
+/// used the last sequence number.
+#[derive(Drop)]
+pub(crate) struct Control {
+    pub(crate) conf: RouterConf,
+    pub(crate) store: Store,
+    pub(crate) flood: Flood,
+    pub(crate) spent: bool,
+}
+
+impl Model for Control {
+    ghost use Rattle.wire_base.specs.model.Control.{Control as ControlState};
+    ghost use Rattle.router_core.specs.State.{IsRouter, control_of};
+
+    ghost Value = { ControlState };
+
+    ghost view = { λ c. control_of c.conf c.flood.flood c.store.entries c.spent };
+
+    ghost invariant = { λ c. IsRouter (control_of c.conf c.flood.flood c.store.entries c.spent) };
+}
+
+impl Control {
+    pub(crate) fn conf(&self) -> &RouterConf
+        ensures conf { result.now ≡ self.now.conf }
+        ensures keeps { IsRouter self.now }
+    {
+        &self.conf
+    }
+
+    pub(crate) fn is_up(&self, link: u16) -> bool
+        ensures { result ≡ is_up self.now link }
+    {
+        usize::from(link) < self.conf.ends.len() && self.flood.is_up(link)
+    }
+
+    /// The view that the router has now.
+    pub(crate) fn view(&self) -> M<View>
+        ensures nodes { IfOk result (λ v. v.nodes ≡ control_view self.now) }
+    {
+        let up = self.ends_up()?;
+        view(self.allocator(), &self.conf, up.as_slice(), &self.store)
+    }
+
+    /// The allocator that the database keeps.
+    pub(crate) fn allocator(&self) -> Global {
+        self.store.allocator()
+    }
+}

@@ -1,0 +1,20 @@
+//! One router on frames: what it floods, what it forwards and what it delivers (ISO/IEC 10589, 7.3.15 to 7.3.17;
+//! RFC 8279, 6; RFC 8296, 2 and 3; RFC 8401).
+#![tactic(auto)]
+
+mod control;
+mod ends;
+mod entering;
+mod frames;
+mod framing;
+mod own;
+mod pdus;
+mod pending;
+mod router;
+mod seconds;
+mod sending;
+
+pub use bfr_edge::{EdgeFault, Packet};
+pub use bier_forward::{DropNote, Effects};
+pub use router::Router;
+pub use wire_base::{Cause, Got, Sent};

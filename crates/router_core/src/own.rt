@@ -1,0 +1,110 @@
+//! The router's own link state PDU (ISO/IEC 10589, 7.3.6 and 7.3.16.1).
+ghost use Rattle.std.specs.Prelude.{◌≡◌, ◌≤◌, false, length, IfOk, OnOk, OnErr};
+ghost use Rattle.wire_base.specs.model.Configuration.{IsSound};
+ghost use Rattle.wire_base.specs.model.Control.{IsDatabase, fragment_0, put_entry};
+ghost use Rattle.wire_base.specs.model.Flooding.{mark_all, reissue};
+ghost use Rattle.lsp_store.specs.Places.{is_refused};
+ghost use Rattle.router_core.specs.Own.{own_past, spent_past};
+
+use crate::control::Control;
+use isis_flood::Flood;
+use lsp_origin::originate;
+use lsp_store::{Store, purge};
+use std::alloc::Global;
+use wire_base::{Entry, LspId, M, RouterConf, SystemId};
+
+/// The last sequence number.
+const LAST_SEQUENCE: u32 = u32::MAX;
+
+/// The identifier of a system's fragment 0.
+pub(crate) fn fragment_0(system: SystemId) -> LspId
+    ensures { result ≡ fragment_0 system }
+{
+    LspId {
+        system,
+        pseudonode: 0,
+        fragment: 0,
+    }
+}
+
+/// The own link state PDU past a sequence number; past the last one, its purge.
+#[tactic(auto, unfolding(crate::specs::Own::own_past))]
+pub(crate) fn own_past(alloc: Global, conf: &RouterConf, up: &[bool], seq: u32) -> M<Entry>
+    requires sound { IsSound conf.now }
+    requires up { length up.now ≡ length conf.now.ends }
+    ensures { IfOk result (λ e. e ≡ own_past conf.now up.now seq) }
+{
+    if seq == LAST_SEQUENCE {
+        return Ok(purge(alloc, fragment_0(conf.system), seq));
+    }
+    originate(alloc, conf, up, seq + 1)
+}
+
+/// Whether a router is spent that has issued its own link state PDU past a sequence number.
+pub(crate) fn spent_past(spent: bool, seq: u32) -> bool
+    ensures { result ≡ spent_past spent seq }
+{
+    spent || seq == LAST_SEQUENCE
+}
+
+/// Which ends are up.
+pub(crate) fn ends_up(alloc: Global, flood: &Flood, ends: u16) -> M<Vec<bool>>
+    requires { ends ≡ length flood.now.flood.up }
+    ensures { IfOk result (λ up. up.items ≡ flood.now.flood.up) }
+{
+    let mut up = Vec::new(alloc);
+    'ends: for link in 0..ends {
+        up.push(flood.is_up(link))?;
+    }
+    Ok(up)
+}
+
+/// Puts the own link state PDU, and marks it on all links that are up; or all is as it was.
+pub(crate) fn issue(store: &mut Store, flood: &mut Flood, own: Entry) -> M<()>
+    requires { is_refused store.old.entries own.id ≡ false }
+    ensures ok { OnOk result ((flood.new.flood ≡ mark_all flood.old.flood own.id) × (store.new.entries ≡ put_entry own store.old.entries)) }
+    ensures err { OnErr result ((flood.new.flood ≡ flood.old.flood) × (store.new.entries ≡ store.old.entries)) }
+    ensures database { OnOk result (IsDatabase store.new.entries) }
+{
+    store.reserve(1)?;
+    flood.reserve(1)?;
+    issue_within(store, flood, own);
+    Ok(())
+}
+
+/// Puts the own link state PDU, and marks it on all links that are up, where there is the memory for it already.
+#[tactic(auto, using(crate::proofs::OwnLaws::put_is_ok))]
+pub(crate) fn issue_within(store: &mut Store, flood: &mut Flood, own: Entry)
+    requires known { is_refused store.old.entries own.id ≡ false }
+    requires entries { 1 ≤ store.old.spare }
+    requires flags { 1 ≤ flood.old.spare }
+    ensures flood { flood.new.flood ≡ mark_all flood.old.flood own.id }
+    ensures entries { store.new.entries ≡ put_entry own store.old.entries }
+    ensures database { IsDatabase store.new.entries }
+{
+    let id = own.id;
+    store.put(own).unwrap();
+    flood.mark_all(id).unwrap();
+}
+
+impl Control {
+    /// Which ends are up.
+    pub(crate) fn ends_up(&self) -> M<Vec<bool>>
+        ensures { IfOk result (λ up. up.items ≡ self.now.flood.up) }
+    {
+        ends_up(self.allocator(), &self.flood, self.conf.ends.len() as u16)
+    }
+
+    /// Issues the own link state PDU past a sequence number; or all is as it was.
+    pub(crate) fn reissue(&mut self, seq: u32) -> M<()>
+        requires { self.old.spent ≡ false }
+        ensures ok { OnOk result (self.new ≡ reissue self.old seq) }
+        ensures err { OnErr result (self.new ≡ self.old) }
+    {
+        let up = self.ends_up()?;
+        let own = own_past(self.allocator(), &self.conf, up.as_slice(), seq)?;
+        issue(&mut self.store, &mut self.flood, own)?;
+        self.spent = spent_past(self.spent, seq);
+        Ok(())
+    }
+}

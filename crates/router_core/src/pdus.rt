@@ -1,0 +1,172 @@
+//! PDUs of IS-IS that are received (ISO/IEC 10589, 7.3.15 and 7.3.16).
+ghost use Rattle.std.specs.Prelude.{◌≡◌, ◌<◌, ◌≤◌, ◌∷◌, [], ℕ, true, false, length, map, replicate, Some, None, IfOk, OnOk, OnErr};
+ghost use Rattle.wire_base.specs.declared.addresses.SystemId.{SystemId};
+ghost use Rattle.wire_base.specs.declared.cause.Cause.TheVariants as cause;
+ghost use Rattle.wire_base.specs.declared.flood_out.FloodOut.TheVariants as out;
+ghost use Rattle.wire_base.specs.model.Flooding.{on_pdu, psnp_of, answer_lsp, snp_done, reissue_if};
+ghost use Rattle.wire_base.specs.model.OnFrame.{nothing, framed, frames_of, pdu_taken, pdu_read};
+ghost use Rattle.wire_base.specs.model.Pdu.{LspPdu, CsnpPdu, PsnpPdu, pdu_at};
+ghost use Rattle.isis_pdu.specs.Views.{head_of, pdu_of};
+ghost use Rattle.router_core.specs.Received.{HasRoom, full_drop, listed};
+ghost use Rattle.router_core.specs.State.{is_up};
+
+use crate::control::Control;
+use crate::framing::push_psnp;
+use bier_forward::{DropNote, Effects};
+use isis_pdu::{LspHead, Pdu, read_pdu};
+use std::alloc::Global;
+use wire_base::{Cause, FloodOut, LspId, M, Rows, SnpOut, Summary};
+
+/// One drop for each entry that found no room.
+fn full_drops(alloc: Global, full: u32) -> M<Rows<DropNote>>
+    ensures { IfOk result (λ drops. drops ≡ map full_drop (replicate full cause.Full)) }
+{
+    let mut drops = Rows::new(alloc);
+    'drops: while drops.len() < full as usize {
+        drops.push(DropNote {
+            cause: Cause::Full,
+            sets: None,
+        })?;
+    }
+    Ok(drops)
+}
+
+impl Control {
+    /// Issues the own link state PDU past a sequence number, where one is asked for; or all is as it was.
+    fn reissue_if(&mut self, asked: Option<u32>) -> M<()>
+        requires { (s : ℕ) → asked ≡ Some s → self.old.spent ≡ false }
+        ensures ok { OnOk result (self.new ≡ reissue_if self.old asked) }
+        ensures err { OnErr result (self.new ≡ self.old) }
+    {
+        match asked {
+            None => Ok(()),
+            Some(seq) => self.reissue(seq),
+        }
+    }
+
+    /// The PSNP that acknowledges an entry at once.
+    fn acknowledged(&self, link: u16, entry: Summary) -> M<Effects>
+        requires { link < length self.now.conf.ends }
+        ensures { IfOk result (λ e. e ≡ record nothing { sent = frames_of self.now.conf link (psnp_of self.now (entry ∷ []) ∷ []) }) }
+    {
+        let alloc = self.allocator();
+        let mut sent = Rows::new(alloc);
+        push_psnp(&mut sent, &self.conf, link, &[entry])?;
+        Ok(Effects {
+            sent,
+            got: Rows::new(alloc),
+            drops: Rows::new(alloc),
+            passed: false,
+        })
+    }
+
+    /// What a link state PDU asks for beside what flooding has done.
+    #[tactic(auto, unfolding(wire_base::specs::model::OnFrame::framed))]
+    fn answer_lsp(&mut self, link: u16, answer: FloodOut) -> M<Effects>
+        requires link { link < length self.old.conf.ends }
+        requires unspent { (s : ℕ) → answer ≡ out.Reissue s → self.old.spent ≡ false }
+        ensures { IfOk result (λ e. record { control = self.new; effects = e } ≡ framed link (answer_lsp self.old answer)) }
+    {
+        let alloc = self.allocator();
+        match answer {
+            FloodOut::Kept => Ok(Effects::nothing(alloc)),
+            FloodOut::Reissue(seq) => {
+                self.reissue(seq)?;
+                Ok(Effects::nothing(alloc))
+            }
+            FloodOut::Ack(entry) => self.acknowledged(link, entry),
+            FloodOut::Full => Effects::dropped(alloc, Cause::Full),
+            FloodOut::Zero => Effects::dropped(alloc, Cause::Sequence),
+        }
+    }
+
+    /// What a sequence numbers PDU asks for beside what flooding has done.
+    #[tactic(auto, unfolding(wire_base::specs::model::OnFrame::framed))]
+    fn answer_list(&mut self, link: u16, answer: SnpOut) -> M<Effects>
+        requires { (s : ℕ) → answer.reissue ≡ Some s → self.old.spent ≡ false }
+        ensures { IfOk result (λ e. record { control = self.new; effects = e } ≡ framed link (snp_done self.old (listed self.old answer))) }
+    {
+        let alloc = self.allocator();
+        let drops = full_drops(alloc, answer.full)?;
+        self.reissue_if(answer.reissue)?;
+        Ok(Effects {
+            sent: Rows::new(alloc),
+            got: Rows::new(alloc),
+            drops,
+            passed: false,
+        })
+    }
+
+    /// A link state PDU.
+    #[tactic(auto, unfolding(wire_base::specs::model::Flooding::on_pdu))]
+    fn on_lsp(&mut self, link: u16, head: &LspHead, tlvs: &[u8]) -> M<Effects>
+        requires up { is_up self.old link ≡ true }
+        requires short { length tlvs.now ≤ 1470 }
+        ensures { IfOk result (λ e. record { control = self.new; effects = e } ≡ framed link (on_pdu self.old link (LspPdu (head_of head.now) tlvs.now))) }
+    {
+        let answer = self
+            .flood
+            .on_lsp(&mut self.store, link, head, tlvs, self.spent)?;
+        let _entries = self.store.len();
+        self.answer_lsp(link, answer)
+    }
+
+    /// A complete sequence numbers PDU.
+    #[tactic(auto, unfolding(wire_base::specs::model::Flooding::on_pdu))]
+    fn on_csnp(&mut self, link: u16, start: LspId, last: LspId, tlvs: &[u8]) -> M<Effects>
+        requires up { is_up self.old link ≡ true }
+        requires short { length tlvs.now ≤ 1497 }
+        ensures { IfOk result (λ e. (source : SystemId) → record { control = self.new; effects = e } ≡ framed link (on_pdu self.old link (CsnpPdu source start last tlvs.now))) }
+    {
+        let answer = self
+            .flood
+            .on_csnp(&mut self.store, link, start, last, tlvs, self.spent)?;
+        let _entries = self.store.len();
+        self.answer_list(link, answer)
+    }
+
+    /// A partial sequence numbers PDU.
+    #[tactic(auto, unfolding(wire_base::specs::model::Flooding::on_pdu))]
+    fn on_psnp(&mut self, link: u16, tlvs: &[u8]) -> M<Effects>
+        requires up { is_up self.old link ≡ true }
+        requires short { length tlvs.now ≤ 1497 }
+        ensures { IfOk result (λ e. (source : SystemId) → record { control = self.new; effects = e } ≡ framed link (on_pdu self.old link (PsnpPdu source tlvs.now))) }
+    {
+        let answer = self.flood.on_psnp(&mut self.store, link, tlvs, self.spent)?;
+        let _entries = self.store.len();
+        self.answer_list(link, answer)
+    }
+
+    /// A PDU; hellos and other types are passed over.
+    fn take_pdu(&mut self, link: u16, pdu: Pdu<'_>) -> M<Effects>
+        requires up { is_up self.old link ≡ true }
+        requires short { HasRoom (pdu_of pdu) }
+        ensures { IfOk result (λ e. record { control = self.new; effects = e } ≡ pdu_taken self.old link (pdu_of pdu.entry)) }
+    {
+        match pdu {
+            Pdu::Lsp { head, tlvs } => self.on_lsp(link, &head, tlvs),
+            Pdu::Csnp {
+                source: _,
+                start,
+                last,
+                tlvs,
+            } => self.on_csnp(link, start, last, tlvs),
+            Pdu::Psnp { source: _, tlvs } => self.on_psnp(link, tlvs),
+            Pdu::Hello | Pdu::Other(_) => Ok(Effects::passed_over(self.allocator())),
+        }
+    }
+
+    /// The octets of a PDU, as a frame of IS-IS carries them.
+    pub(crate) fn on_pdu(&mut self, link: u16, octets: &[u8]) -> M<Effects>
+        requires up { is_up self.old link ≡ true }
+        requires short { length octets.now ≤ 1497 }
+        ensures { IfOk result (λ e. record { control = self.new; effects = e } ≡ pdu_read self.old link (pdu_at self.old.conf.level octets.now)) }
+    {
+        let level = self.conf().level;
+        let read = read_pdu(level, octets);
+        match read {
+            Err(fault) => Effects::dropped(self.allocator(), Cause::Pdu(fault)),
+            Ok(pdu) => self.take_pdu(link, pdu),
+        }
+    }
+}

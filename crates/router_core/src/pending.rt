@@ -1,0 +1,90 @@
+//! How much is to be sent on a link (ISO/IEC 10589, 7.3.15.4 and 7.3.17).
+ghost use Rattle.std.specs.Prelude.{◌≡◌, ◌+◌, ◌/◌, ◌<◌, ◌≤◌, Bool, true, false, length, max, filter, slice_index_or, if◌then◌else◌};
+ghost use Rattle.wire_base.specs.model.Control.{srm_in, ssn_in};
+ghost use Rattle.wire_base.specs.model.Flooding.{send_of, is_known};
+ghost use Rattle.wire_base.specs.declared.conf.RouterConf.{RouterConf};
+ghost use Rattle.router_core.specs.State.{is_up, control_of};
+
+use crate::control::Control;
+use isis_flood::Flood;
+use lsp_store::Store;
+use wire_base::Entry;
+
+/// The most entries that a sequence numbers PDU lists.
+pub(crate) const MOST_LISTED: usize = 90;
+
+pub(crate) fn is_known(e: &Entry) -> bool
+    ensures { result ≡ is_known e.now }
+{
+    e.seq > 0
+}
+
+/// How many entries a CSNP lists.
+fn known(entries: &[Entry]) -> usize
+    ensures known { result ≡ length (filter is_known entries.now) }
+    ensures few { result ≤ length entries.now }
+{
+    entries.iter().filter(|e| is_known(e)).count()
+}
+
+/// How many entries are to be sent on a link.
+fn marked(entries: &[Entry], flood: &Flood, link: u16) -> usize
+    requires { link < length flood.now.flood.up }
+    ensures marked { result ≡ length (filter (λ e. srm_in flood.now.flood.rows e.id link) entries.now) }
+    ensures few { result ≤ length entries.now }
+{
+    entries.iter().filter(|e| flood.srm(e.id, link)).count()
+}
+
+/// How many entries are to be acknowledged or asked for on a link.
+fn asked(entries: &[Entry], flood: &Flood, link: u16) -> usize
+    requires { link < length flood.now.flood.up }
+    ensures asked { result ≡ length (filter (λ e. ssn_in flood.now.flood.rows e.id link) entries.now) }
+    ensures few { result ≤ length entries.now }
+{
+    entries.iter().filter(|e| flood.ssn(e.id, link)).count()
+}
+
+/// How many sequence numbers PDUs list so many entries.
+fn lists(entries: usize) -> usize
+    requires { entries ≤ 4096 }
+    ensures lists { result ≡ (entries + 89) / 90 }
+    ensures few { result ≤ 46 }
+{
+    (entries + (MOST_LISTED - 1)) / MOST_LISTED
+}
+
+/// How many CSNPs list those entries, where they are due.
+fn csnps(entries: &[Entry], due: bool) -> usize
+    requires { length entries.now ≤ 4096 }
+    ensures csnps { result ≡ (if due then max ((length (filter is_known entries.now) + 89) / 90) 1 else 0) }
+    ensures few { result ≤ 46 }
+{
+    if due {
+        return lists(known(entries)).max(1);
+    }
+    0
+}
+
+/// How many frames are due on a link that is up.
+#[tactic(auto, using(crate::proofs::CountLaws::up_within))]
+pub(crate) fn pending(store: &Store, flood: &Flood, link: u16) -> usize
+    requires { slice_index_or flood.now.flood.up link false ≡ true }
+    ensures { (conf : RouterConf) (spent : Bool) → result ≡ length (send_of (control_of conf flood.now.flood store.now.entries spent) link) }
+{
+    let _few = store.len();
+    let entries = store.as_slice();
+    csnps(entries, flood.due(link))
+        + marked(entries, flood, link)
+        + lists(asked(entries, flood, link))
+}
+
+impl Control {
+    /// How many frames are due on a link that is up.
+    pub(crate) fn pending(&self, link: u16) -> usize
+        requires { is_up self.now link ≡ true }
+        ensures { result ≡ length (send_of self.now link) }
+    {
+        pending(&self.store, &self.flood, link)
+    }
+}

@@ -1,0 +1,213 @@
+//! Sending on a link: the CSNPs that are due, link state PDUs, and PSNPs (ISO/IEC 10589, 7.3.15.4 and 7.3.17).
+ghost use Rattle.std.specs.Prelude.{◌≡◌, ◌<◌, ◌≤◌, ◌++◌, Bool, true, false, length, map, filter, slice_index_or, IfOk, OnOk, OnErr};
+ghost use Rattle.std.specs.List.{AllByRecursion, flat_map};
+ghost use Rattle.wire_base.specs.model.Control.{srm_in, ssn_in, summary_of};
+ghost use Rattle.wire_base.specs.model.Flooding.{csnps, psnp_of, id_after, zero_id, last_id, is_known, due_csnps, send_of, send};
+ghost use Rattle.wire_base.specs.model.Lists.{blocks};
+ghost use Rattle.wire_base.specs.model.OnFrame.{frames_of, framed};
+ghost use Rattle.router_core.specs.Sending.{conf_alone, lsp_frames};
+ghost use Rattle.router_core.specs.State.{IsShort, is_up, control_of};
+
+use crate::control::Control;
+use crate::framing::{push_csnp, push_lsp, push_psnp};
+use crate::pending::{MOST_LISTED, is_known};
+use bier_forward::Effects;
+use byteorder::{BigEndian, ByteOrder};
+use isis_flood::Flood;
+use lsp_store::Store;
+use std::alloc::Global;
+use wire_base::{Entry, LspId, M, RouterConf, Rows, Sent, Summary, SystemId};
+
+/// The least identifier.
+const ZERO_ID: LspId = LspId {
+    system: SystemId([0; 6]),
+    pseudonode: 0,
+    fragment: 0,
+};
+
+/// The greatest identifier.
+const LAST_ID: LspId = LspId {
+    system: SystemId([255; 6]),
+    pseudonode: 255,
+    fragment: 255,
+};
+
+/// What a sequence numbers PDU says of an entry.
+fn summary_of(e: &Entry) -> Summary
+    ensures { result ≡ summary_of e.now }
+{
+    Summary {
+        life: e.life,
+        id: e.id,
+        seq: e.seq,
+        sum: e.sum,
+    }
+}
+
+/// The entries that a CSNP lists.
+fn known_rows(alloc: Global, entries: &[Entry]) -> M<Vec<Summary>>
+    ensures { IfOk result (λ rows. rows.items ≡ map summary_of (filter is_known entries.now)) }
+{
+    Ok(
+        entries
+            .iter()
+            .filter(|e| is_known(e))
+            .map(summary_of)
+            .collect(alloc)?,
+    )
+}
+
+/// The entries to be acknowledged or asked for on a link.
+fn asked_rows(alloc: Global, entries: &[Entry], flood: &Flood, link: u16) -> M<Vec<Summary>>
+    requires { link < length flood.now.flood.up }
+    ensures { IfOk result (λ rows. rows.items ≡ map summary_of (filter (λ e. ssn_in flood.now.flood.rows e.id link) entries.now)) }
+{
+    Ok(
+        entries
+            .iter()
+            .filter(|e| flood.ssn(e.id, link))
+            .map(summary_of)
+            .collect(alloc)?,
+    )
+}
+
+/// The identifier one above; after the greatest one the least.
+#[tactic(auto, unfolding(wire_base::specs::model::Flooding::id_after))]
+fn id_after(id: LspId) -> LspId
+    ensures { result ≡ id_after id }
+{
+    let [a, b, c, d, e, f] = id.system.0;
+    let number = BigEndian::read_u64(&[a, b, c, d, e, f, id.pseudonode, id.fragment]);
+    let [a, b, c, d, e, f, pseudonode, fragment] = number.wrapping_add(1).to_be_bytes();
+    LspId {
+        system: SystemId([a, b, c, d, e, f]),
+        pseudonode,
+        fragment,
+    }
+}
+
+/// Appends the CSNPs that list those entries, in blocks of 90. Together they cover all identifiers: the first begins at the
+/// least, each other one above the one before, and the last ends at the greatest.
+fn push_csnps(out: &mut Rows<Sent>, conf: &RouterConf, link: u16, rows: &[Summary]) -> M<()>
+    requires { link < length conf.now.ends }
+    ensures { OnOk result (out.new ≡ out.old ++ frames_of conf.now link (csnps (conf_alone conf.now) zero_id (blocks 90 rows.now))) }
+{
+    let mut start = ZERO_ID;
+    let mut rest = rows;
+    'cuts: while rest.len() > MOST_LISTED {
+        let (block, after) = rest.split_at(MOST_LISTED);
+        let last = block[MOST_LISTED - 1].id;
+        push_csnp(out, conf, link, start, last, block)?;
+        start = id_after(last);
+        rest = after;
+    }
+    push_csnp(out, conf, link, start, LAST_ID, rest)?;
+    Ok(())
+}
+
+/// Appends the frame of an entry, where it is to be sent on a link.
+fn push_marked(
+    out: &mut Rows<Sent>,
+    conf: &RouterConf,
+    link: u16,
+    flood: &Flood,
+    e: &Entry,
+) -> M<()>
+    requires end { link < length conf.now.ends }
+    requires link { link < length flood.now.flood.up }
+    requires short { length e.now.content ≤ 1470 }
+    ensures { OnOk result (out.new ≡ out.old ++ lsp_frames conf.now flood.now.flood.rows link e.now) }
+{
+    if flood.srm(e.id, link) {
+        return push_lsp(out, conf, link, e);
+    }
+    Ok(())
+}
+
+/// Appends the frames of the entries that are to be sent on a link.
+fn push_lsps(
+    out: &mut Rows<Sent>,
+    conf: &RouterConf,
+    link: u16,
+    flood: &Flood,
+    entries: &[Entry],
+) -> M<()>
+    requires end { link < length conf.now.ends }
+    requires link { link < length flood.now.flood.up }
+    requires short { AllByRecursion IsShort entries.now }
+    ensures { OnOk result (out.new ≡ out.old ++ flat_map (lsp_frames conf.now flood.now.flood.rows link) entries.now) }
+{
+    for e in entries {
+        push_marked(out, conf, link, flood, e)?;
+    }
+    Ok(())
+}
+
+/// Appends the PSNPs that list those entries, in blocks of 90.
+fn push_psnps(out: &mut Rows<Sent>, conf: &RouterConf, link: u16, rows: &[Summary]) -> M<()>
+    requires { link < length conf.now.ends }
+    ensures { OnOk result (out.new ≡ out.old ++ frames_of conf.now link (map (psnp_of (conf_alone conf.now)) (blocks 90 rows.now))) }
+{
+    let mut rest = rows;
+    'cuts: while !rest.is_empty() {
+        let (block, after) = rest.split_at(rest.len().min(MOST_LISTED));
+        push_psnp(out, conf, link, block)?;
+        rest = after;
+    }
+    Ok(())
+}
+
+/// Appends the CSNPs, where they are due.
+fn push_due(
+    out: &mut Rows<Sent>,
+    conf: &RouterConf,
+    link: u16,
+    flood: &Flood,
+    entries: &[Entry],
+) -> M<()>
+    requires end { link < length conf.now.ends }
+    requires link { link < length flood.now.flood.up }
+    ensures { OnOk result (out.new ≡ out.old ++ frames_of conf.now link (due_csnps (control_of conf.now flood.now.flood entries.now false) (slice_index_or flood.now.flood.due link false))) }
+{
+    if flood.due(link) {
+        let rows = known_rows(out.allocator(), entries)?;
+        return push_csnps(out, conf, link, rows.as_slice());
+    }
+    Ok(())
+}
+
+/// The frames to be sent on a link that is up.
+fn due_frames(conf: &RouterConf, store: &Store, flood: &Flood, link: u16) -> M<Rows<Sent>>
+    requires end { link < length conf.now.ends }
+    requires link { link < length flood.now.flood.up }
+    requires short { AllByRecursion IsShort store.now.entries }
+    ensures { (spent : Bool) → IfOk result (λ sent. sent ≡ frames_of conf.now link (send_of (control_of conf.now flood.now.flood store.now.entries spent) link)) }
+{
+    let entries = store.as_slice();
+    let mut out = Rows::new(store.allocator());
+    push_due(&mut out, conf, link, flood, entries)?;
+    push_lsps(&mut out, conf, link, flood, entries)?;
+    let rows = asked_rows(store.allocator(), entries, flood, link)?;
+    push_psnps(&mut out, conf, link, rows.as_slice())?;
+    Ok(out)
+}
+
+impl Control {
+    /// Sends what is due on a link that is up; or all is as it was.
+    #[tactic(auto, unfolding(wire_base::specs::model::Flooding::send, wire_base::specs::model::OnFrame::framed))]
+    pub(crate) fn send(&mut self, link: u16) -> M<Effects>
+        requires { is_up self.old link ≡ true }
+        ensures next { IfOk result (λ e. record { control = self.new; effects = e } ≡ framed link (send self.old link)) }
+        ensures err { OnErr result (self.new ≡ self.old) }
+    {
+        let alloc = self.allocator();
+        let sent = due_frames(&self.conf, &self.store, &self.flood, link)?;
+        self.flood.sent(link);
+        Ok(Effects {
+            sent,
+            got: Rows::new(alloc),
+            drops: Rows::new(alloc),
+            passed: false,
+        })
+    }
+}
