@@ -1,0 +1,17 @@
+pub mod AgedTruth
+pub mod ControlTruth
+pub mod CopyTruth
+pub mod DomainLaws
+pub mod EachLaws
+pub mod EnterTruth
+pub mod FlagLaws
+pub mod FloodTruth
+pub mod HopTruth
+pub mod LinkLaws
+pub mod NamedLaws
+pub mod QueueLaws
+pub mod ReadBack
+pub mod RouterTruth
+pub mod SendTruth
+pub mod ViewTruth
+pub mod WorldTruth

@@ -1,0 +1,6 @@
+pub mod Faults
+pub mod Moves
+pub mod Run
+pub mod Step
+pub mod Truth
+pub mod World

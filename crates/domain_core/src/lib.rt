@@ -1,0 +1,11 @@
+//! A domain at work, as it is defined: its routers' control states and what is on the way on its links, what each event does
+//! and why one isn't allowed, whole runs, and what every event keeps true. No code carries it out yet.
+#![tactic(auto)]
+
+mod fault;
+mod laws;
+mod step_out;
+
+pub use fault::EventFault;
+pub use laws::{a_start_is_truthful, events_keep_the_truth};
+pub use step_out::{DropLine, GotLine, StepOut, WireFrame};

@@ -1,0 +1,54 @@
+-- What makes a PDU, an entry of a database and a copy of a packet such that the octets which stand for them are read
+-- again (ISO/IEC 10589, 8.4 and 9.8 to 9.13; RFC 8296, 2).
+use Rattle.std.specs.Prelude.{◌≡◌, ℕ, ◌+◌, ◌*◌, ◌<◌, ◌≤◌, ◌^◌, Bool, List, length}
+use Rattle.wire_base.specs.declared.conf.RouterConf.{RouterConf}
+use Rattle.wire_base.specs.declared.entry.Entry.{Entry}
+use Rattle.wire_base.specs.model.BitSet.{IsWithin}
+use Rattle.wire_base.specs.model.Control.{fragment_0}
+use Rattle.wire_base.specs.model.Item.{DataItem, item_header}
+use Rattle.wire_base.specs.model.OnFrame.{Packet}
+use Rattle.wire_base.specs.model.OwnLsp.{own_content, own_flags, own_head}
+use Rattle.wire_base.specs.model.Pdu.{Head, lsp_sum, Pdu, LspPdu, CsnpPdu, PsnpPdu, HelloPdu, OtherPdu, LspFits, CsnpFits, PsnpFits}
+use Rattle.wire_base.specs.model.Place.{bits_of}
+
+-- ---- PDUs
+
+-- A PDU that a router sends: it is in the grammar, and with the three octets before it it is at most 1,500 long, so that
+-- the number in the frame is a length (IEEE 802.3, 3.2.6).
+abbrev pub IsSendable : Pdu → Type 0
+IsSendable (LspPdu head tlvs) = LspFits head tlvs × (length tlvs ≤ 1470)
+IsSendable (CsnpPdu source start last tlvs) = CsnpFits source start last tlvs × (length tlvs ≤ 1464)
+IsSendable (PsnpPdu source tlvs) = PsnpFits source tlvs × (length tlvs ≤ 1480)
+IsSendable HelloPdu = ⊥
+IsSendable (OtherPdu number) = ⊥
+
+-- the head of the PDU that an entry is sent as
+abbrev pub head_of : Entry → Head
+head_of e = record { life = e.life; id = e.id; seq = e.seq; sum = e.sum; flags = e.flags }
+
+-- an entry that can be sent
+pub record EntryFits (e : Entry) : Type 0 where
+  pub lsp : LspFits (head_of e) e.content
+  pub short : length e.content ≤ 1470
+
+-- What a router's fragment 0 is in any database: its own content where some of its ends are up, its own flags, the right
+-- checksum, and any sequence number and lifetime.
+pub record IsOwn (r : RouterConf) (up : List Bool) (e : Entry) : Type 0 where
+  pub id : e.id ≡ fragment_0 r.system
+  pub content : e.content ≡ own_content r up
+  pub flags : e.flags ≡ own_flags r
+  pub sum : e.sum ≡ lsp_sum (own_head r e.seq) (own_content r up)
+
+-- ---- copies of packets
+
+-- A copy of a packet: its numbers fit their fields, and its BFR-ids, ascending, are those of its set.
+pub record ItemFits (x : DataItem) : Type 0 where
+  pub bift : x.bift < 2 ^ 20
+  pub ttl : x.ttl < 2 ^ 8
+  pub entropy : x.entropy < 2 ^ 20
+  pub bfir : x.bfir < 2 ^ 16
+  pub ids : IsWithin (x.triple.si * bits_of x.triple.bsl) (x.triple.si * bits_of x.triple.bsl + bits_of x.triple.bsl) x.ids
+
+-- the packet that a copy is
+abbrev pub packet_of : DataItem → Packet
+packet_of x = record { triple = x.triple; kind = x.kind; header = item_header x; payload = x.payload }
