@@ -1,69 +1,26 @@
--- The answer to what was read is the answer to what the source held.
-use Rattle.std.proofs.Common.{◌≡◌, ℕ, ◌+◌, ◌≤◌, Bool, true, false, List, [], ◌∷◌, ◌++◌, length, take, Option, Some, None, Result, Ok, Err, refl, sym, ap, ◌∙◌, arith, inl, inr}
-use Rattle.std.specs.Prelude.{IfOk, ◌⊎◌}
-use Rattle.std.specs.Io.KnownBytes.{Consumes, IsAtEnd}
-use Rattle.std.proofs.lemmas.Bool.{cases_lt, le-leb, lt-leb}
-use Rattle.std.proofs.lemmas.List.{append-nil, length-append, take-append-le, take_all}
-use Rattle.wire_base.specs.declared.status.Status.{Status}
+-- How the answer to a hop text ends.
+use Rattle.std.proofs.Common.{◌≡◌, ℕ, ◌+◌, ◌≤◌, Bool, true, List, [], ◌∷◌, length, Option, Some, None, refl, ap, ◌∙◌, inl, inr}
+use Rattle.std.specs.Prelude.{◌⊎◌}
+use Rattle.std.proofs.lemmas.Bool.{le-leb}
+use Rattle.std.proofs.lemmas.List.{take_all}
 use Rattle.wire_base.specs.declared.status.Status.TheVariants.{Done, InputRefused}
 use Rattle.replay_text.specs.declared.fault.TextFault.{TextFault}
 use Rattle.replay_text.specs.declared.hop.HopState.{HopState}
 use Rattle.replay_text.specs.Pieces.{lines_in}
 use Rattle.replay_text.proofs.Spelled.{line_back}
-use Rattle.replay_run.specs.HopText.{hop_answer, answer_on, is_short, ending, behind, packets_from, refusal_from, fresh, after, AreAllowed, IsAllowed}
-use Rattle.replay_run.specs.Outside.{Held}
+use Rattle.replay_run.specs.Texts.{Ended, Longer, close_of, is_short, within_limit, lines_within}
+use Rattle.replay_run.specs.HopText.{hop_answer, answer_from, ending, packets_from, refusal_from, fresh, after, AreAllowed, IsAllowed}
 
 -- ---- how an answer ends
 
-ending_is : (short : Bool) (lines packets : ℕ) (o : Option (ℕ × TextFault)) → (((ending short lines packets o).0 ≡ Done) × (short ≡ true)) ⊎ ((ending short lines packets o).0 ≡ InputRefused)
-ending_is short lines packets (Some refusal) = inr refl
-ending_is true lines packets None = inl (refl, refl)
-ending_is false lines packets None = inr refl
+-- at the end of a text it is done, unless a line is refused
+pub ended_status : (n k : ℕ) (o : Option (ℕ × TextFault)) → ((ending Ended n k o).0 ≡ Done) ⊎ ((ending Ended n k o).0 ≡ InputRefused)
+ended_status n k (Some refusal) = inr refl
+ended_status n k None = inl refl
 
-answer_ends : (short : Bool) (text : List ℕ) → (((answer_on short text).0 ≡ Done) × (short ≡ true)) ⊎ ((answer_on short text).0 ≡ InputRefused)
-unfolding answer_on
-answer_ends short text = ending_is short _ _ (refusal_from fresh 0 (lines_in short text))
-
-status_of : (status : Status) (report : List ℕ) (front : List ℕ) (answer : Status × List ℕ) → ◌≡◌ {A = Status × List ℕ} (status, report) (behind front answer) → status ≡ answer.0
-status_of status report front answer is = ap (λ (a : Status × List ℕ). a.0) is
-
-pub ended : (short : Bool) (text report front : List ℕ) (status : Status) → ◌≡◌ {A = Status × List ℕ} (status, report) (behind front (answer_on short text)) → (status ≡ Done) ⊎ (status ≡ InputRefused)
-ended short text report front status is = elim (answer_ends short text) [
-  | inl done ↦ inl (status_of status report front (answer_on short text) is ∙ done.0)
-  | inr refused ↦ inr (status_of status report front (answer_on short text) is ∙ refused)
-]
-
-pub done_short : (short : Bool) (text report front : List ℕ) (status : Status) → ◌≡◌ {A = Status × List ℕ} (status, report) (behind front (answer_on short text)) → status ≡ Done → short ≡ true
-done_short short text report front status is done = elim (answer_ends short text) [
-  | inl both ↦ both.1
-  | inr refused ↦ absurd (apart (sym done ∙ status_of status report front (answer_on short text) is ∙ refused))
-]
-  where
-    apart : Done ≡ InputRefused → ⊥
-    apart e = cc
-
--- ---- what was read, and what was held
-
-same_front : (got rest : List ℕ) (left : List ℕ) → left ≡ got ++ rest → (length got ≤ 65536 → rest ≡ []) → answer_on (is_short got) (take 65536 got) ≡ hop_answer left
-unfolding hop_answer
-same_front got rest left is whole = elim (cases_lt 65536 (length got)) [
-  | inr le ↦
-      let all : got ≡ left = sym (append-nil got) ∙ ap (λ (r : List ℕ). got ++ r) (sym (whole le)) ∙ sym is in
-      ap (λ (l : List ℕ). answer_on (is_short l) (take 65536 l)) all
-  | inl gt ↦
-      let long : is_short got ≡ false = lt-leb (length got) 65536 gt in
-      let longer : is_short left ≡ false = lt-leb (length left) 65536 (omega (arith, gt, ap length is, length-append got rest)) in
-      let front : take 65536 got ≡ take 65536 left = sym (take-append-le 65536 got rest (omega (arith, gt))) ∙ ap (take 65536) (sym is) in
-      ap (λ (b : Bool). answer_on b (take 65536 got)) (long ∙ sym longer) ∙ ap (answer_on (is_short left)) front
-]
-
-pub answer_is : (before now : Option (List ℕ)) (got report front : List ℕ) (status : Status) → Consumes before now got → (length got ≤ 65536 → IsAtEnd now) → front ≡ []
-    → ◌≡◌ {A = Status × List ℕ} (status, report) (behind front (answer_on (is_short got) (take 65536 got))) → (octets : List ℕ) × Held before octets × (◌≡◌ {A = Status × List ℕ} (status, report) (hop_answer octets))
-unfolding hop_answer
-answer_is None now got report front status consumed whole none is = (got, tt, is ∙ ap (λ (l : List ℕ). behind l (answer_on (is_short got) (take 65536 got))) none)
-answer_is (Some left) None got report front status consumed whole none is = absurd consumed
-answer_is (Some left) (Some rest) got report front status consumed whole none is =
-    (left, refl, is ∙ ap (λ (l : List ℕ). behind l (answer_on (is_short got) (take 65536 got))) none ∙ same_front got rest left consumed whole)
+pub longer_status : (n k : ℕ) (o : Option (ℕ × TextFault)) → (ending Longer n k o).0 ≡ InputRefused
+longer_status n k (Some refusal) = refl
+longer_status n k None = refl
 
 -- ---- inputs that are allowed
 
@@ -72,18 +29,15 @@ unfolding refusal_from AreAllowed
 none_refused state n [] are = refl
 none_refused state n (text ∷ more) are = rw (line_back text state are.0 are.1, refusal_from) (none_refused (after state are.0) (n + 1) more are.2)
 
+all_lines : (input : List ℕ) → is_short input ≡ true → length input ≤ 67108864 → lines_within input ≡ lines_in true input
+unfolding within_limit
+all_lines input short is = ap (λ (b : Bool). lines_in b (within_limit input)) short ∙ ap (lines_in true) (take_all 67108864 input is)
+
 pub allowed_done : (input : List ℕ) → IsAllowed input → (hop_answer input).0 ≡ Done
-unfolding hop_answer answer_on
+unfolding hop_answer
 allowed_done input is =
-    let short : is_short input ≡ true = le-leb (length input) 65536 is.short in
-    let all : take 65536 input ≡ input = take_all 65536 input is.short in
-    let none : refusal_from fresh 0 (lines_in (is_short input) (take 65536 input)) ≡ None =
-    ap (λ (b : Bool). refusal_from fresh 0 (lines_in b (take 65536 input))) short ∙ ap (λ (l : List ℕ). refusal_from fresh 0 (lines_in true l)) all ∙ none_refused fresh 0 (lines_in true input) is.lines in
-    ap (λ (o : Option (ℕ × TextFault)). (ending (is_short input) (length (lines_in (is_short input) (take 65536 input))) (length (packets_from fresh 0 (lines_in (is_short input) (take 65536 input)))) o).0) none
-    ∙ ap (λ (b : Bool). (ending b (length (lines_in (is_short input) (take 65536 input))) (length (packets_from fresh 0 (lines_in (is_short input) (take 65536 input)))) None).0) short
-
--- ---- the report of an input
-
-pub ended_result : {E : Type 0} (result : Result Status E) (new : List ℕ) (a b : Status × List ℕ) → a ≡ b → IfOk result (λ status. ◌≡◌ {A = Status × List ℕ} (status, new) a) → IfOk result (λ status. ◌≡◌ {A = Status × List ℕ} (status, new) b)
-ended_result (Ok status) new a b same is = is ∙ same
-ended_result (Err e) new a b same is = tt
+    let short : is_short input ≡ true = le-leb (length input) 67108864 is.short in
+    let lines = all_lines input short is.short in
+    ap (λ (b : Bool). (answer_from (close_of b) fresh 0 0 (lines_within input)).0) short
+    ∙ ap (λ (ls : List (List ℕ)). (answer_from Ended fresh 0 0 ls).0) lines
+    ∙ ap (λ (o : Option (ℕ × TextFault)). (ending Ended (0 + length (lines_in true input)) (0 + length (packets_from fresh 0 (lines_in true input))) o).0) (none_refused fresh 0 (lines_in true input) is.lines)

@@ -6,3 +6,7 @@ pub mod Partition
 pub mod Packets
 pub mod Inputs
 pub mod Owed
+pub mod LineLaws
+pub mod HopLoop
+pub mod WayLaws
+pub mod HopWays

@@ -7,7 +7,7 @@ use Rattle.wire_base.specs.declared.status.Status.TheVariants.{Done, Usage, Conf
 use Rattle.replay_run.specs.declared.words.Form.{Form}
 use Rattle.replay_run.specs.declared.words.Form.TheVariants.{Hop, Headers, Unknown}
 use Rattle.replay_run.specs.Words.{usage_text}
-use Rattle.replay_run.specs.HopText.{hop_answer, answer_on, packets_of, IsAllowed}
+use Rattle.replay_run.specs.HopText.{hop_answer, packets_of, IsAllowed}
 use Rattle.replay_run.specs.Partition.{Reports}
 use Rattle.replay_run.specs.Verdict.{Verdict, verdict, IsDecided}
 use Rattle.replay_run.specs.Outside.{Held, Gave, Meets, AppendsFront}
@@ -91,7 +91,7 @@ hop_done CaptureRefused (Some octets) before now reads reads_now writes writes_n
 ]
 
 reports : (octets : List ℕ) (before now : Option (List ℕ)) (result : Status) → Gave (hop_answer octets) result before now → Reports octets before now
-unfolding hop_answer answer_on packets_of
+unfolding hop_answer packets_of
 reports octets before now result gave = record { lines = (_, gave.report); parted = all_parted octets }
 
 pub hop_reports : (left before now : Option (List ℕ)) (result : Status) → ((octets : List ℕ) × Held left octets × Gave (hop_answer octets) result before now) → IfSome left (λ octets. Reports octets before now)

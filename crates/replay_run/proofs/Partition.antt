@@ -16,7 +16,7 @@ use Rattle.replay_run.specs.Partition.{times_in}
 -- ---- groups, by rows and ids
 
 -- whether the row of an id has that name
-abbrev goes_to : List HopRow → List ℕ → ℕ → Bool
+abbrev pub goes_to : List HopRow → List ℕ → ℕ → Bool
 goes_to rows name id = option_map_or (λ found. bytes_eq found name) (name_of rows id) false
 
 group_is : (rows : List HopRow) (name ids : List ℕ) → group_of name (ways rows ids) ≡ filter (goes_to rows name) ids
@@ -26,25 +26,25 @@ group_is rows name (x ∷ ids) = elim (cases_Bool (goes_to rows name x)) [
   | inr fails ↦ rw fails (group_is rows name ids)
 ]
 
-unrouted_is : (rows : List HopRow) (ids : List ℕ) → unrouted (ways rows ids) ≡ filter (λ (id : ℕ). is_none (name_of rows id)) ids
+pub unrouted_is : (rows : List HopRow) (ids : List ℕ) → unrouted (ways rows ids) ≡ filter (λ (id : ℕ). is_none (name_of rows id)) ids
 unrouted_is rows [] = refl
 unrouted_is rows (x ∷ ids) = elim (cases_Bool (is_none (name_of rows x))) [
   | inl holds ↦ rw holds (ap (λ (l : List ℕ). x ∷ l) (unrouted_is rows ids))
   | inr fails ↦ rw fails (unrouted_is rows ids)
 ]
 
-abbrev copy_to : List HopRow → List ℕ → ℕ → Option (List ℕ) → List Outcome
+abbrev pub copy_to : List HopRow → List ℕ → ℕ → Option (List ℕ) → List Outcome
 copy_to rows ids id None = []
 copy_to rows ids id (Some name) = copy_of name id (filter (goes_to rows name) ids)
 
-abbrev copy_at : List HopRow → List ℕ → ℕ → List Outcome
+abbrev pub copy_at : List HopRow → List ℕ → ℕ → List Outcome
 copy_at rows ids id = copy_to rows ids id (name_of rows id)
 
 copy_is : (rows : List HopRow) (ids : List ℕ) (id : ℕ) (o : Option (List ℕ)) → forward.copy_to (ways rows ids) id o ≡ copy_to rows ids id o
 copy_is rows ids id None = refl
 copy_is rows ids id (Some name) = ap (copy_of name id) (group_is rows name ids)
 
-copies_are : (rows : List HopRow) (ids : List ℕ) → copies (ways rows ids) ≡ flat_map (copy_at rows ids) ids
+pub copies_are : (rows : List HopRow) (ids : List ℕ) → copies (ways rows ids) ≡ flat_map (copy_at rows ids) ids
 unfolding copies
 copies_are rows ids =
     flat_map-map (forward.copy_at (ways rows ids)) (way_of rows) ids
@@ -86,7 +86,7 @@ lower : (a low high : ℕ) (xs : List ℕ) → a ≤ low → IsWithin low high x
 lower a low high [] le is = tt
 lower a low high (x ∷ xs) le is = (omega (arith, is.0), is.1, is.2)
 
-within-filter : (p : ℕ → Bool) (low high : ℕ) (xs : List ℕ) → IsWithin low high xs → IsWithin low high (filter p xs)
+pub within-filter : (p : ℕ → Bool) (low high : ℕ) (xs : List ℕ) → IsWithin low high xs → IsWithin low high (filter p xs)
 within-filter p low high [] is = tt
 within-filter p low high (x ∷ xs) is = elim (cases_Bool (p x)) [
   | inl holds ↦ rw holds (is.0, is.1, within-filter p x high xs is.2)

@@ -1,9 +1,9 @@
 -- A hop text: the packets that are reached, and the report of them.
-use Rattle.std.specs.Prelude.{ℕ, ◌+◌, ◌≤◌, Bool, true, false, nat_le, List, [], ◌∷◌, ◌++◌, length, take, Option, Some, None, unwrap_or, Ok, Err, codes}
+use Rattle.std.specs.Prelude.{ℕ, ◌+◌, ◌≤◌, true, false, List, [], ◌∷◌, ◌++◌, length, Option, Some, None, unwrap_or, Ok, Err, codes}
 use Rattle.std.specs.List.{flat_map}
 use Rattle.std.specs.Fmt.{decimal}
 use Rattle.wire_base.specs.declared.status.Status.{Status}
-use Rattle.wire_base.specs.declared.status.Status.TheVariants.{Done, InputRefused}
+use Rattle.wire_base.specs.declared.status.Status.TheVariants.{Done, InputRefused, ReadFault}
 use Rattle.bier_bits.specs.Any.{positions_of}
 use Rattle.replay_text.specs.declared.fault.TextFault.{TextFault}
 use Rattle.replay_text.specs.declared.fault.TextFault.TheVariants as fault
@@ -14,6 +14,7 @@ use Rattle.replay_text.specs.declared.hop.HopLine.TheVariants as line
 use Rattle.replay_text.specs.Pieces.{lines_in}
 use Rattle.replay_text.specs.Hop.{hop_line}
 use Rattle.replay_text.specs.Grammar.{IsLine}
+use Rattle.replay_run.specs.Texts.{Close, Ended, Longer, Cut, close_of, is_short, lines_within}
 use Rattle.replay_run.specs.Forward.{Outcome, outcomes, outcomes_text}
 
 -- ---- lines and what they say
@@ -29,10 +30,6 @@ after state (line.Length bsl) = record state { bsl = Some bsl }
 after state (line.Own own) = record state { own = Some own }
 after state (line.Row row) = record state { rows = state.rows ++ row ∷ [] }
 after state (line.Packet bits) = record state { packets = true }
-
--- An input has at most 65,536 octets. Of a longer one the lines are read that end within them.
-abbrev pub is_short : List ℕ → Bool
-is_short input = nat_le (length input) 65536
 
 -- ---- packets
 
@@ -69,7 +66,7 @@ refusal_from state n (text ∷ more) = elim (hop_line text state) [
 
 -- the packets of an input
 unfoldable pub packets_of : List ℕ → List Packet
-packets_of input = packets_from fresh 0 (lines_in (is_short input) (take 65536 input))
+packets_of input = packets_from fresh 0 (lines_within input)
 
 -- ---- the report
 
@@ -95,27 +92,32 @@ refused_text n why = codes "refused " ++ decimal n ++ codes " text " ++ why ++ 1
 abbrev pub done_text : ℕ → ℕ → List ℕ
 done_text lines packets = codes "done lines " ++ decimal lines ++ codes " packets " ++ decimal packets ++ 10 ∷ []
 
--- How a text ends that has so many lines and packets within the limit: at the first refused line, at its end, or at
--- the line that passes the limit.
-abbrev pub ending : Bool → (lines packets : ℕ) → Option (ℕ × TextFault) → Status × List ℕ
-ending short lines packets (Some refusal) = (InputRefused, refused_text refusal.0 (fault_text refusal.1))
-ending true lines packets None = (Done, done_text lines packets)
-ending false lines packets None = (InputRefused, refused_text (lines + 1) (codes "6 TooLong"))
+-- How a text ends that has so many lines and packets: at the first refused line, at its end, or at the line that passes
+-- the limit. Where its source failed, nothing is said.
+abbrev pub ending : Close → (lines packets : ℕ) → Option (ℕ × TextFault) → Status × List ℕ
+ending close lines packets (Some refusal) = (InputRefused, refused_text refusal.0 (fault_text refusal.1))
+ending Ended lines packets None = (Done, done_text lines packets)
+ending Longer lines packets None = (InputRefused, refused_text (lines + 1) (codes "6 TooLong"))
+ending Cut lines packets None = (ReadFault, [])
 
 -- a text with that in front of its report
 abbrev pub behind : List ℕ → Status × List ℕ → Status × List ℕ
 behind front answer = (answer.0, front ++ answer.1)
 
--- The status and the report of octets that are a whole input or the front of one: the lines of each packet in order,
--- and a last line.
-unfoldable pub answer_on : Bool → List ℕ → Status × List ℕ
-answer_on short text =
-    behind (flat_map packet_text (packets_from fresh 0 (lines_in short text)))
-    (ending short (length (lines_in short text)) (length (packets_from fresh 0 (lines_in short text))) (refusal_from fresh 0 (lines_in short text)))
+-- The status and the report of lines that follow n others with k packets, in a state: the lines of each packet in order, and
+-- a last line.
+abbrev pub answer_from : Close → HopState → (n k : ℕ) → List (List ℕ) → Status × List ℕ
+answer_from close state n k lines =
+    behind (flat_map packet_text (packets_from state n lines))
+    (ending close (n + length lines) (k + length (packets_from state n lines)) (refusal_from state n lines))
 
 -- those of an input
 unfoldable pub hop_answer : List ℕ → Status × List ℕ
-hop_answer input = answer_on (is_short input) (take 65536 input)
+hop_answer input = answer_from (close_of (is_short input)) fresh 0 0 (lines_within input)
+
+-- those of the lines that are whole in octets behind which the source failed
+unfoldable pub hop_cut : List ℕ → Status × List ℕ
+hop_cut octets = answer_from Cut fresh 0 0 (lines_in false octets)
 
 -- ---- inputs that are done to their end
 
@@ -126,5 +128,5 @@ AreAllowed state (text ∷ more) = (said : HopLine) × IsLine state text said ×
 
 -- an input that isn't too long, each line of which is allowed
 pub record IsAllowed (input : List ℕ) : Type 0 where
-  pub short : length input ≤ 65536
+  pub short : length input ≤ 67108864
   pub lines : AreAllowed fresh (lines_in true input)

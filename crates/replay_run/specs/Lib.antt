@@ -7,3 +7,7 @@ pub mod Outside
 pub mod Headers
 pub mod HeadersText
 pub mod Sight
+pub mod Texts
+pub mod Reader
+pub mod HopReached
+pub mod Ways

@@ -13,7 +13,7 @@ ghost use Rattle.replay_run.specs.Outside.{Held, Gave};
 
 mod line;
 
-use crate::whole::{PIECE, buffer, write_all, write_whole};
+use crate::whole::{buffer, flush, write_whole};
 use line::push_record;
 use pcap_frames::Reader;
 use std::alloc::Global;
@@ -170,23 +170,6 @@ fn stop_at_limit(progress: Progress) -> M<(Status, Octets)>
     let mut lines = progress.lines;
     let status = refuse(&mut lines, progress.records + 1, b" 8 TooLong")?;
     Ok((status, lines))
-}
-
-/// Writes the lines out, once there are many.
-fn flush<R: Sink>(report: &mut R, lines: &mut Octets) -> Result<(), Failed>
-    requires faults { R.faults report.old < last_count }
-    requires zeros { R.zeros report.old < last_count }
-    ensures written { OnOk result ((flushed : List ℕ) × Appends (R.written report.old) (R.written report.new) flushed × (lines.old ≡ flushed ++ lines.new)) }
-    ensures quiet { OnOk result (R.faults report.new ≡ R.faults report.old) }
-    ensures no_zeros { OnOk result (R.zeros report.new ≡ R.zeros report.old) }
-    ensures cause { OnErr result ((R.faults report.old < R.faults report.new) ⊎ (R.zeros report.old < R.zeros report.new)) }
-{
-    if lines.len() < PIECE {
-        return Ok(());
-    }
-    write_all(report, lines.as_slice())?;
-    lines.truncate(0);
-    Ok(())
 }
 
 /// Reads a capture and reports its headers, and answers how the run ends, with what is still to be written. Its lines

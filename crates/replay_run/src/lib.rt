@@ -5,6 +5,7 @@
 mod headers;
 mod hop;
 mod law;
+mod reader;
 mod top;
 mod whole;
 mod words;

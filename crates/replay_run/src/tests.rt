@@ -64,7 +64,7 @@ fn reports(rt: HostRuntime) -> Result<(), Fail> {
     let long_comment = with_tail(alloc, ROWS, b'#', 70_000)?;
     let at_the_limit = with_tail(alloc, ROWS, b'\n', 65_536 - ROWS.len())?;
     let long_line = with_tail(alloc, b"bsl 64\n", b' ', 16_385)?;
-    let past_the_limit = vec![in alloc; b'x'; 65_537]?;
+    let long_and_open = vec![in alloc; b'x'; 65_537]?;
     let cases: [(&[u8], &[u8], &[u8], Status); 9] = [
         (ROWS, LINES, b"done lines 6 packets 1\n", Status::Done),
         (
@@ -76,7 +76,7 @@ fn reports(rt: HostRuntime) -> Result<(), Fail> {
         (
             long_comment.as_slice(),
             LINES,
-            b"refused 7 text 6 TooLong\n",
+            b"refused 7 text 5 LineLong\n",
             Status::InputRefused,
         ),
         (
@@ -86,9 +86,9 @@ fn reports(rt: HostRuntime) -> Result<(), Fail> {
             Status::Done,
         ),
         (
-            &past_the_limit,
+            &long_and_open,
             b"",
-            b"refused 1 text 6 TooLong\n",
+            b"refused 1 text 5 LineLong\n",
             Status::InputRefused,
         ),
         (
@@ -132,7 +132,7 @@ fn faults(rt: HostRuntime) -> Result<(), Fail> {
     let whole = joined(alloc, LINES, b"done lines 6 packets 1\n")?;
     let cases: [(&[u32], &[u32], &[u8], Status); 4] = [
         (&[1], &[], b"", Status::ReadFault),
-        (&[2], &[], b"", Status::ReadFault),
+        (&[2], &[], LINES, Status::ReadFault),
         (&[], &[1], b"", Status::WriteFault),
         (&[], &[2], whole.as_slice(), Status::WriteFault),
     ];

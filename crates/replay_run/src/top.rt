@@ -4,12 +4,12 @@ ghost use Rattle.std.specs.Io.KnownBytes.{IsAtEnd, Consumes, Appends};
 ghost use Rattle.wire_base.specs.Causes.{last_count};
 ghost use Rattle.wire_base.specs.declared.status.Status.TheVariants as status;
 ghost use Rattle.replay_run.specs.declared.words.Form.TheVariants as form;
-ghost use Rattle.replay_run.specs.HopText.{IsAllowed};
+ghost use Rattle.replay_run.specs.HopText.{hop_cut, IsAllowed};
 ghost use Rattle.replay_run.specs.HeadersText.{IsRead};
 ghost use Rattle.replay_run.specs.Headers.{IsOpen, lines_of};
 ghost use Rattle.replay_run.specs.Partition.{Reports};
 ghost use Rattle.replay_run.specs.Verdict.{IsDecided, verdict};
-ghost use Rattle.replay_run.specs.Outside.{Held, Meets, AppendsFront};
+ghost use Rattle.replay_run.specs.Outside.{Held, Gave, Meets, AppendsFront};
 ghost use Rattle.replay_run.specs.Words as forms;
 
 use crate::headers::headers;
@@ -86,16 +86,20 @@ pub fn run<D: Source, S: Source, C: Sink, R: Sink>(
         → S.faults input.new ≡ S.faults input.old → R.faults report.new ≡ R.faults report.old → R.zeros report.new ≡ R.zeros report.old
         → (result ≡ status.Done) ⊎ (result ≡ status.Memory)) }
 
-    // What a stop leaves. What was written is finished. In `hop` a fault of a source and want of memory come before
-    // anything is written. Where the source of a capture fails, the records that are whole in what was taken are
-    // reported, no fault of the capture's reader stands in it, and there is no last line. At a fault of a sink a front
-    // of the report is written.
+    // What a stop leaves. What was written is finished. Where the source fails, the lines or records that are whole in what
+    // was taken are reported, none of them is refused, no fault of a capture's reader stands in it, and there is no last
+    // line. At a fault of a sink a front of the report is written, and at want of memory in `hop`.
     ensures finished { IsDecided result → R.unfinished report.new ≡ false }
+    ensures hop_finished { forms.form_of (map (λ word. word.now) words.now) ≡ form.Hop → result ≡ status.ReadFault → R.unfinished report.new ≡ false }
     ensures headers_finished { forms.form_of (map (λ word. word.now) words.now) ≡ form.Headers → result ≡ status.ReadFault → R.unfinished report.new ≡ false }
-    ensures hop_unwritten { forms.form_of (map (λ word. word.now) words.now) ≡ form.Hop → (result ≡ status.ReadFault) ⊎ (result ≡ status.Memory) → report.new ≡ report.old }
+    ensures hop_stopped { forms.form_of (map (λ word. word.now) words.now) ≡ form.Hop → result ≡ status.ReadFault
+        → (octets : List ℕ) × Consumes (S.left input.old) (S.left input.new) octets × Gave (hop_cut octets) result (R.written report.old) (R.written report.new) }
     ensures headers_stopped { forms.form_of (map (λ word. word.now) words.now) ≡ form.Headers → result ≡ status.ReadFault
         → (octets : List ℕ) × Consumes (S.left input.old) (S.left input.new) octets × IsOpen octets × Appends (R.written report.old) (R.written report.new) (lines_of octets) }
     ensures front { forms.form_of (map (λ word. word.now) words.now) ≢ form.Headers → result ≡ status.WriteFault → (octets : List ℕ) × Held (S.left input.old) octets × IfSome (verdict (forms.form_of (map (λ word. word.now) words.now)) (D.left conf.old) (Some octets))
+        (λ owed. AppendsFront (R.written report.old) (R.written report.new) owed.report) }
+
+    ensures hop_memory { forms.form_of (map (λ word. word.now) words.now) ≡ form.Hop → result ≡ status.Memory → (octets : List ℕ) × Held (S.left input.old) octets × IfSome (verdict (forms.form_of (map (λ word. word.now) words.now)) (D.left conf.old) (Some octets))
         (λ owed. AppendsFront (R.written report.old) (R.written report.new) owed.report) }
 
     // What the words don't name is as before. No command reads a domain file or sends frames.

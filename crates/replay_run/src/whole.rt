@@ -1,16 +1,13 @@
-//! Inputs read whole, and texts written whole.
-ghost use Rattle.std.specs.Prelude.{◌≡◌, ◌⊎◌, ◌≤◌, ◌<◌, false, length, take, IfOk, IfErr, OnOk, OnErr};
-ghost use Rattle.std.specs.Io.KnownBytes.{Appends, Consumes, IsAtEnd};
+//! Texts written whole, or from time to time.
+ghost use Rattle.std.specs.Prelude.{◌≡◌, ◌⊎◌, ◌<◌, ◌++◌, ℕ, List, false, length, IfOk, OnOk, OnErr};
+ghost use Rattle.std.specs.Io.KnownBytes.{Appends};
 ghost use Rattle.wire_base.specs.Causes.{last_count};
 ghost use Rattle.wire_base.specs.declared.status.Status.TheVariants as statuses;
 ghost use Rattle.replay_run.specs.Outside.{AppendsFront};
 ghost use Rattle.replay_run.specs.Verdict.{IsDecided};
 
 use std::alloc::Global;
-use wire_base::{Failed, M, Octets, Sink, Source, Status};
-
-/// The most octets of an input that are read as lines.
-pub const LIMIT: usize = 65_536;
+use wire_base::{Failed, M, Octets, Sink, Status};
 
 /// How many octets are asked for at a time.
 pub const PIECE: usize = 65_536;
@@ -20,40 +17,6 @@ pub fn buffer(alloc: Global) -> M<Vec<u8>>
     ensures { IfOk result (λ bytes. 0 < length bytes.items) }
 {
     Ok(vec![in alloc; 0u8; PIECE]?)
-}
-
-/// Reads an input to its end, or until more octets than the limit are there. Each turn takes at least one octet, or
-/// is the last.
-pub fn read_within<S: Source>(alloc: Global, input: &mut S) -> Result<Octets, Status>
-    requires faults { S.faults input.old < last_count }
-    ensures octets { IfOk result (λ octets. Consumes (S.left input.old) (S.left input.new) octets) }
-    ensures all { IfOk result (λ octets. length octets ≤ 65536 → IsAtEnd (S.left input.new)) }
-    ensures quiet { OnOk result (S.faults input.new ≡ S.faults input.old) }
-    ensures failed { IfErr result (λ why. ((why ≡ statuses.ReadFault) × (S.faults input.old < S.faults input.new)) ⊎ ((why ≡ statuses.Memory) × (S.faults input.new ≡ S.faults input.old))) }
-{
-    let mut octets = Octets::new(alloc);
-    let mut buffer = buffer(alloc)?;
-    'pieces: while octets.len() <= LIMIT {
-        let Ok(count) = input.read(&mut buffer) else {
-            return Err(Status::ReadFault);
-        };
-        if count == 0 {
-            return Ok(octets);
-        }
-        octets.append(&buffer[..count])?;
-    }
-    Ok(octets)
-}
-
-/// The octets within the limit.
-pub fn front(octets: &Octets) -> &[u8]
-    ensures { result.now ≡ take 65536 octets.now }
-{
-    if octets.len() <= LIMIT {
-        octets.as_slice()
-    } else {
-        &octets.as_slice()[..LIMIT]
-    }
 }
 
 /// Writes a text whole. A sink that takes nothing of what is left fails it.
@@ -74,6 +37,24 @@ pub fn write_all<R: Sink>(sink: &mut R, text: &[u8]) -> Result<(), Failed>
         }
         done += count;
     }
+    Ok(())
+}
+
+/// Writes lines out, once there are many.
+pub fn flush<R: Sink>(report: &mut R, lines: &mut Octets) -> Result<(), Failed>
+    requires faults { R.faults report.old < last_count }
+    requires zeros { R.zeros report.old < last_count }
+    ensures written { OnOk result ((flushed : List ℕ) × Appends (R.written report.old) (R.written report.new) flushed × (lines.old ≡ flushed ++ lines.new)) }
+    ensures quiet { OnOk result (R.faults report.new ≡ R.faults report.old) }
+    ensures no_zeros { OnOk result (R.zeros report.new ≡ R.zeros report.old) }
+    ensures front { OnErr result (AppendsFront (R.written report.old) (R.written report.new) lines.old) }
+    ensures cause { OnErr result ((R.faults report.old < R.faults report.new) ⊎ (R.zeros report.old < R.zeros report.new)) }
+{
+    if lines.len() < PIECE {
+        return Ok(());
+    }
+    write_all(report, lines.as_slice())?;
+    lines.truncate(0);
     Ok(())
 }
 

@@ -1,42 +1,28 @@
 //! One router's forwarding of a packet on written rows.
-ghost use Rattle.std.specs.Prelude.{◌≡◌, ◌++◌, map, filter, option_map, IfOk, OnOk, is_none, ◌==◌};
+ghost use Rattle.std.specs.Prelude.{◌≡◌, ◌<◌, ◌*◌, ◌++◌, List, IfOk, OnOk, IsTrue};
 ghost use Rattle.std.specs.Fmt.{decimal};
-ghost use Rattle.std.specs.List.{list_any};
-ghost use Rattle.bier_bits.specs.Any.{positions_of};
+ghost use Rattle.wire_base.specs.model.Hop.{hop};
+ghost use Rattle.wire_base.specs.model.Place.{bits_of};
+ghost use Rattle.bier_bits.specs.Any.{positions_of, bsl_of};
+ghost use Rattle.bier_bits.specs.Sets.{is_width};
+ghost use Rattle.bier_hop.specs.Outcomes.{IsNumbering, IsOwn, left, outcome};
+ghost use Rattle.replay_text.specs.Ids.{in_range};
+ghost use Rattle.replay_text.specs.declared.hop.HopRow.{HopRow};
 ghost use Rattle.replay_run.specs.Forward as forward;
+ghost use Rattle.replay_run.specs.Ways.{AreWays, name_at, number_of, seen, chosen, texts, routers_of, length_of};
 
-use bier_bits::AnyBits;
-use replay_text::{HopRow, push_ids};
+use crate::hop::ways::{AnyTable, Ways};
+use bier_bits::{AnyBits, BitString};
+use bier_hop::{Hop, Out};
+use bift_table::Table;
+use replay_text::push_ids;
 use std::alloc::Global;
-use std::marker::Model;
-use wire_base::{M, Octets};
+use std::marker::Brand;
+use std::sync::ledger::{Blank, Ledger};
+use wire_base::{First, M, Name, Octets, Steps};
 
-/// An id of a packet, and the name of its row, where it has one.
-#[derive(Drop)]
-struct Way<'a> {
-    id: u16,
-    name: Option<&'a [u8]>,
-}
-
-impl<'a> Model for Way<'a> {
-    ghost use Rattle.std.specs.Prelude.{option_map};
-    ghost use Rattle.replay_run.specs.Forward as forward;
-
-    ghost Value = { forward.Way };
-
-    ghost view = { λ w. record { id = w.id; name = option_map (λ name. name.now) w.name } };
-}
-
-impl<'a> Way<'a> {
-    fn leads_to(&self, name: &[u8]) -> bool
-        ensures { result ≡ forward.leads_to name.now self.now }
-    {
-        match self.name {
-            None => false,
-            Some(found) => found == name,
-        }
-    }
-}
+/// A TTL with which each copy goes on.
+const TTL: u16 = 255;
 
 /// The positions of a bit string, ascending.
 pub fn positions(alloc: Global, bits: &AnyBits) -> M<Vec<u16>>
@@ -52,59 +38,19 @@ pub fn positions(alloc: Global, bits: &AnyBits) -> M<Vec<u16>>
     Ok(ids)
 }
 
-/// The name of an id's row.
-fn name_of(rows: &[HopRow], id: u16) -> Option<&[u8]>
-    ensures { option_map (λ name. name.now) result ≡ forward.name_of rows.now id }
+/// The positions of a set, ascending.
+fn members<const W: usize>(alloc: Global, bits: &BitString<W>) -> M<Vec<u16>>
+    requires { IsTrue (is_width W) }
+    ensures { IfOk result (λ ids. ids.items ≡ bits.now) }
 {
-    let row = rows.iter().find(|row| row.id == id)?;
-    Some(row.name.as_slice())
-}
-
-/// The way of each id. Each row is looked up once a packet: a group is then found by names alone.
-fn ways<'a>(alloc: Global, rows: &'a [HopRow], ids: &[u16]) -> M<Vec<Way<'a>>>
-    ensures { IfOk result (λ along. along.items ≡ forward.ways rows.now ids.now) }
-{
-    let mut along = Vec::new(alloc);
-    for id in ids {
-        along.push(Way {
-            id: *id,
-            name: name_of(rows, *id),
-        })?;
+    let mut ids = Vec::new(alloc);
+    let length = bits.width();
+    for place in 0..length {
+        if bits.has(place + 1) {
+            ids.push(place + 1)?;
+        }
     }
-    Ok(along)
-}
-
-/// The ids whose rows have that name.
-fn group_of(alloc: Global, along: &[Way<'_>], name: &[u8]) -> M<Vec<u16>>
-    ensures { IfOk result (λ group. group.items ≡ forward.group_of name.now along.now) }
-{
-    Ok(
-        along
-            .iter()
-            .filter(|way| way.leads_to(name))
-            .map(|way| way.id)
-            .collect(alloc)?,
-    )
-}
-
-/// The ids but for the own one.
-fn others(alloc: Global, own: u16, ids: &[u16]) -> M<Vec<u16>>
-    ensures { IfOk result (λ rest. rest.items ≡ forward.others own ids.now) }
-{
-    Ok(ids.iter().copied().filter(|id| *id != own).collect(alloc)?)
-}
-
-/// The ids without a row.
-fn unrouted(alloc: Global, along: &[Way<'_>]) -> M<Vec<u16>>
-    ensures { IfOk result (λ rest. rest.items ≡ forward.unrouted along.now) }
-{
-    Ok(
-        along
-            .iter()
-            .filter(|way| way.name.is_none())
-            .map(|way| way.id)
-            .collect(alloc)?,
-    )
+    Ok(ids)
 }
 
 /// The number of a packet's line, and what follows it.
@@ -115,19 +61,21 @@ fn begin_line(out: &mut Octets, line: u64, what: &[u8]) -> M<()>
     out.append(what)
 }
 
-fn is_among(ids: &[u16], id: u16) -> bool
-    ensures { result ≡ list_any (λ other. other == id) ids.now }
+/// The name of a neighbour.
+fn name_of<'n>(names: &'n [Name], to: &First) -> &'n [u8]
+    ensures { result.now ≡ name_at names.now (number_of to.now) }
 {
-    ids.iter().any(|other| *other == id)
+    let number = to.direct.unwrap_or(0);
+    match names.get(usize::from(number)) {
+        None => &[],
+        Some(name) => name.as_slice(),
+    }
 }
 
-/// The own id is delivered, where it is in the packet.
-fn push_delivered(out: &mut Octets, line: u64, own: u16, ids: &[u16]) -> M<()>
-    ensures { OnOk result (out.new ≡ out.old ++ forward.outcomes_text line (forward.delivered own ids.now)) }
+/// The own id is delivered.
+fn push_local(out: &mut Octets, line: u64, own: u16) -> M<()>
+    ensures { OnOk result (out.new ≡ out.old ++ forward.outcome_text line (forward.Local own)) }
 {
-    if !is_among(ids, own) {
-        return Ok(());
-    }
     begin_line(out, line, b" local ")?;
     out.append_number(u64::from(own))?;
     out.push(b'\n')
@@ -144,66 +92,148 @@ fn push_copy(out: &mut Octets, line: u64, name: &[u8], ids: &[u16]) -> M<()>
     out.push(b'\n')
 }
 
-/// The copy that stands at an id, where one does.
-fn push_copy_at(
+/// The ids without a row are dropped.
+fn push_drop(out: &mut Octets, line: u64, ids: &[u16]) -> M<()>
+    ensures { OnOk result (out.new ≡ out.old ++ forward.outcome_text line (forward.Dropped ids.now)) }
+{
+    begin_line(out, line, b" drop none ")?;
+    push_ids(out, ids)?;
+    out.push(b'\n')
+}
+
+/// The line of an outcome.
+fn push_outcome<const W: usize>(
     alloc: Global,
     out: &mut Octets,
     line: u64,
-    along: &[Way<'_>],
-    way: &Way<'_>,
+    names: &[Name],
+    one: &Out<'_, W>,
 ) -> M<()>
-    ensures { OnOk result (out.new ≡ out.old ++ forward.outcomes_text line (forward.copy_at along.now way.now)) }
+    requires { IsTrue (is_width W) }
+    ensures { OnOk result (out.new ≡ out.old ++ forward.outcome_text line (seen names.now (outcome number_of one.now))) }
 {
-    let Some(name) = way.name else {
-        return Ok(());
-    };
-    let group = group_of(alloc, along, name)?;
-    match group.first() {
-        Some(least) if *least == way.id => push_copy(out, line, name, &group),
-        _ => Ok(()),
+    match one {
+        Out::Local(own) => push_local(out, line, *own),
+        Out::Copy { to, set, .. } => {
+            let ids = members(alloc, set)?;
+            push_copy(out, line, name_of(names, to), &ids)
+        }
+        Out::Dropped { set, .. } => {
+            let ids = members(alloc, set)?;
+            push_drop(out, line, &ids)
+        }
     }
 }
 
-/// The copies: one for each name, by its least id.
-#[tactic(auto, unfolding(crate::specs::Forward::copies))]
-fn push_copies(alloc: Global, out: &mut Octets, line: u64, along: &[Way<'_>]) -> M<()>
-    ensures { OnOk result (out.new ≡ out.old ++ forward.outcomes_text line (forward.copies along.now)) }
+/// The lines of the outcomes that are left of a packet.
+fn push_left<const W: usize, L: Ledger>(
+    alloc: Global,
+    out: &mut Octets,
+    line: u64,
+    names: &[Name],
+    mut hop: Hop<'_, W>,
+    steps: &mut Steps<L>,
+) -> M<()>
+    requires width { IsTrue (is_width W) }
+    requires numbered { IsNumbering hop.table number_of (chosen hop.table) }
+    ensures { OnOk result (out.new ≡ out.old ++ texts line names.now (left (chosen hop.entry.table) hop.entry)) }
 {
-    for way in along {
-        push_copy_at(alloc, out, line, along, way)?;
+    'outcomes: while let Some(one) = hop.next(steps) {
+        push_outcome(alloc, out, line, names, &one)?;
     }
     Ok(())
 }
 
-/// The ids without a row are dropped.
-#[tactic(auto, unfolding(crate::specs::Forward::dropped))]
-fn push_dropped(alloc: Global, out: &mut Octets, line: u64, along: &[Way<'_>]) -> M<()>
-    ensures { OnOk result (out.new ≡ out.old ++ forward.outcomes_text line (forward.dropped along.now)) }
+/// The own id as a position, where it is one.
+fn own_position(own: u16, bits: u16) -> Option<u16>
+    ensures value { result ≡ in_range bits own }
+    ensures own { IsOwn bits result }
 {
-    let ids = unrouted(alloc, along)?;
-    if ids.is_empty() {
-        return Ok(());
+    if own == 0 || own > bits {
+        return None;
     }
-    begin_line(out, line, b" drop none ")?;
-    push_ids(out, &ids)?;
-    out.push(b'\n')
+    Some(own)
 }
 
-/// Appends the lines of a packet: the line's number, and what is done with each id.
-#[tactic(auto, unfolding(crate::specs::Forward::outcomes))]
+/// The lines of a packet at a table.
+fn push_hop<const W: usize, L: Ledger>(
+    alloc: Global,
+    out: &mut Octets,
+    line: u64,
+    names: &[Name],
+    own: u16,
+    table: &Table<W>,
+    set: &BitString<W>,
+    steps: &mut Steps<L>,
+) -> M<()>
+    requires width { IsTrue (is_width W) }
+    requires numbered { IsNumbering table.now number_of (chosen table.now) }
+    ensures { OnOk result (out.new ≡ out.old ++ texts line names.now (hop (in_range (64 * W) own) (chosen table.now) set.now 255)) }
+{
+    let own = own_position(own, set.width());
+    let hop = Hop::begin(table, own, set.copy(), TTL);
+    push_left(alloc, out, line, names, hop, steps)
+}
+
+/// The lines of a packet at a table of its length, with a ledger for the steps, which nobody reads.
+fn push_along<L: Ledger>(
+    alloc: Global,
+    out: &mut Octets,
+    line: u64,
+    own: u16,
+    ways: &Ways,
+    bits: &AnyBits,
+    blank: Blank,
+) -> M<()>
+    requires name { blank.name ≡ L.name }
+    requires parts { blank.parts ≡ L.parts }
+    requires some { 0 < blank.parts }
+    requires length { length_of ways.now.table ≡ bsl_of bits.now }
+    requires numbered { IsNumbering (routers_of ways.now.table) number_of (chosen (routers_of ways.now.table)) }
+    ensures { OnOk result (out.new ≡ out.old ++ texts line ways.now.names (hop (in_range (bits_of (bsl_of bits.now)) own) (chosen (routers_of ways.now.table)) (positions_of bits.now) 255)) }
+{
+    let mut steps = Steps::<L>::new(blank);
+    let names = ways.names.as_slice();
+    match (&ways.table, bits) {
+        (AnyTable::B64(table), AnyBits::B64(set)) => {
+            push_hop(alloc, out, line, names, own, table, set, &mut steps)
+        }
+        (AnyTable::B128(table), AnyBits::B128(set)) => {
+            push_hop(alloc, out, line, names, own, table, set, &mut steps)
+        }
+        (AnyTable::B256(table), AnyBits::B256(set)) => {
+            push_hop(alloc, out, line, names, own, table, set, &mut steps)
+        }
+        (AnyTable::B512(table), AnyBits::B512(set)) => {
+            push_hop(alloc, out, line, names, own, table, set, &mut steps)
+        }
+        (AnyTable::B1024(table), AnyBits::B1024(set)) => {
+            push_hop(alloc, out, line, names, own, table, set, &mut steps)
+        }
+        (AnyTable::B2048(table), AnyBits::B2048(set)) => {
+            push_hop(alloc, out, line, names, own, table, set, &mut steps)
+        }
+        (AnyTable::B4096(table), AnyBits::B4096(set)) => {
+            push_hop(alloc, out, line, names, own, table, set, &mut steps)
+        }
+        _ => unreachable!(),
+    }
+}
+
+/// Appends the lines of a packet: the line's number, and what is done with each id. It is one hop over the table of the rows,
+/// seen by names.
 pub fn push_outcomes(
     alloc: Global,
     out: &mut Octets,
     line: u64,
     own: u16,
-    rows: &[HopRow],
-    ids: &[u16],
+    ways: &Ways,
+    bits: &AnyBits,
 ) -> M<()>
-    ensures { OnOk result (out.new ≡ out.old ++ forward.outcomes_text line (forward.outcomes own rows.now ids.now)) }
+    requires length { length_of ways.now.table ≡ bsl_of bits.now }
+    requires ways { (rows : List HopRow) × AreWays rows ways.now }
+    ensures { (rows : List HopRow) → AreWays rows ways.now → OnOk result (out.new ≡ out.old ++ forward.outcomes_text line (forward.outcomes own rows (positions_of bits.now))) }
 {
-    push_delivered(out, line, own, ids)?;
-    let rest = others(alloc, own, ids)?;
-    let along = ways(alloc, rows, &rest)?;
-    push_copies(alloc, out, line, &along)?;
-    push_dropped(alloc, out, line, &along)
+    let _bsl = bits.bsl();
+    push_along::<Brand>(alloc, out, line, own, ways, bits, Blank::new(1))
 }

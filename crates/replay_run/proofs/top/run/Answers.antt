@@ -1,4 +1,4 @@
-use Rattle.std.proofs.Common.{sym, ◌∙◌}
+use Rattle.std.proofs.Common.{sym, ◌∙◌, inl, inr}
 use Rattle.replay_run.proofs.Owed.{told, no_fault, hop_meets, hop_front, hop_done, hop_reports, headers_meets, headers_done, usage_meets, usage_front}
 use Rattle.replay_run.proofs.top.run.Goals as goal
 
@@ -24,7 +24,10 @@ pub returns-in-Hop-clause-decided : goal.returns-in-Hop-clause-decided
 returns-in-Hop-clause-decided g c conf input frames_faults frames_zeros faults zeros = no_fault c.hop.result _ _ _ _ _ _ c.hop.ensures.read c.hop.ensures.write input faults zeros
 
 pub returns-in-Hop-clause-front : goal.returns-in-Hop-clause-front
-returns-in-Hop-clause-front g c other failed = hop_front _ (g.D.Source.left c.args.conf.now) (g.S.Source.left c.args.input.now) (g.R.Sink.written c.args.report.now) (g.R.Sink.written c.hop.new.report) (sym c.form_of.ensures ∙ c.in-Hop.is) (c.hop.ensures.front failed)
+returns-in-Hop-clause-front g c other failed = hop_front _ (g.D.Source.left c.args.conf.now) (g.S.Source.left c.args.input.now) (g.R.Sink.written c.args.report.now) (g.R.Sink.written c.hop.new.report) (sym c.form_of.ensures ∙ c.in-Hop.is) (c.hop.ensures.front (inl failed))
+
+pub returns-in-Hop-clause-hop_memory : goal.returns-in-Hop-clause-hop_memory
+returns-in-Hop-clause-hop_memory g c is memory = hop_front _ (g.D.Source.left c.args.conf.now) (g.S.Source.left c.args.input.now) (g.R.Sink.written c.args.report.now) (g.R.Sink.written c.hop.new.report) (sym c.form_of.ensures ∙ c.in-Hop.is) (c.hop.ensures.front (inr memory))
 
 pub returns-in-Unknown-clause-front : goal.returns-in-Unknown-clause-front
 returns-in-Unknown-clause-front g c other failed = usage_front _ (g.D.Source.left c.args.conf.now) (g.S.Source.left c.args.input.now) (g.R.Sink.written c.args.report.now) (g.R.Sink.written c.deliver.new.report) (sym c.form_of.ensures ∙ c.in-Unknown.is) (c.deliver.ensures.front failed)
