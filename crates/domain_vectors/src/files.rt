@@ -244,11 +244,10 @@ fn member(alloc: Global, subdomains: usize) -> Result<String, AllocError> {
         )?;
         text.push_str(more.as_str())?;
     }
-    for n in 10..15 {
+    for n in 0..5 {
         for (m, bits) in [64, 128, 256, 512, 1024, 2048, 4096].iter().enumerate() {
             let more = format!(in alloc;
-                "[[labels]]\nrouter='A'\nsd={}\nbsl={bits}\nmax_si=0\nlabel={n}{m}\n",
-                n - 10
+                "[[labels]]\nrouter='A'\nsd={n}\nbsl={bits}\nmax_si=0\nlabel=1{n}{m}\n"
             )?;
             text.push_str(more.as_str())?;
         }
