@@ -1,5 +1,5 @@
 -- What a list of entries asks for is what was told from it beforehand.
-use Rattle.std.proofs.Common.{◌≡◌, ◌∙◌, ℕ, suc, ◌+◌, ◌<◌, ◌≤◌, ◌==◌, ◌&&◌, ◌||◌, not, nat_lt, nat_le, Bool, true, false, if◌then◌else◌, List, [], ◌∷◌, ◌++◌, length, Option, Some, None, is_none, refl, sym, ap, subst, length-append, length-set, arith}
+use Rattle.std.proofs.Common.{◌≡◌, ◌∙◌, ℕ, suc, ◌+◌, ◌≤◌, ◌==◌, ◌&&◌, ◌||◌, not, nat_lt, nat_le, Bool, true, false, if◌then◌else◌, List, [], ◌∷◌, ◌++◌, length, Option, Some, None, is_none, refl, sym, ap, subst, length-append, length-set, arith}
 use Rattle.std.proofs.lemmas.Bool.{false≢true, true≢false, and_parts, eqb-true, leb-true}
 use Rattle.std.proofs.lemmas.List.{length-map}
 use Rattle.std.proofs.lemmas.List.Edits.{length-insert}
@@ -12,7 +12,7 @@ use Rattle.wire_base.specs.declared.entry.Age.TheVariants.{Unknown, Newer, Equal
 use Rattle.wire_base.specs.declared.entry.Entry.{Entry}
 use Rattle.wire_base.specs.declared.triple.Summary.{Summary}
 use Rattle.wire_base.specs.model.Control.{AreAscending, Flood, ids_of, same_id, fragment_0, entry_in, put_entry, purge, seq_of, age_of, age_by_life, is_unknown, is_full, most_entries}
-use Rattle.wire_base.specs.model.Flooding.{SnpAnswer, with_flags, with_row, mark_all, send_on, ask_on, wanted, asks, is_live_summary, listed_aged, on_listed, on_list, nothing_asked}
+use Rattle.wire_base.specs.model.Flooding.{SnpAnswer, with_row, mark_all, ask_on, wanted, asks, is_live_summary, listed_aged, on_listed, on_list, nothing_asked}
 use Rattle.lsp_store.specs.Places.{is_new, stands_at, place_in}
 use Rattle.lsp_store.proofs.PlaceLaws.{put_there, put_new, put_ascends, entry_missing, old_there, place_within}
 use Rattle.isis_flood.proofs.AgeLaws.{unknown_is_none}

@@ -16,9 +16,8 @@ use Rattle.wire_base.specs.declared.entry.Age.TheVariants.{Unknown, Newer, Equal
 use Rattle.wire_base.specs.declared.entry.Entry.{Entry}
 use Rattle.wire_base.specs.declared.flood_out.FloodOut.{FloodOut}
 use Rattle.wire_base.specs.declared.flood_out.FloodOut.TheVariants as out
-use Rattle.wire_base.specs.declared.flood_out.SnpOut.{SnpOut}
 use Rattle.wire_base.specs.declared.triple.Summary.{Summary}
-use Rattle.wire_base.specs.model.Control.{Control, Flood, IsDatabase, fragment_0, entry_in, age_of, is_full, is_unknown}
+use Rattle.wire_base.specs.model.Control.{Control, Flood, IsDatabase, entry_in, age_of, is_full, is_unknown}
 use Rattle.wire_base.specs.model.Ethernet.{IsFrame, IsisPdu}
 use Rattle.wire_base.specs.model.Flooding.{on_pdu, on_lsp, lsp_in, lsp_aged, is_own_ahead, is_stray, on_csnp, on_psnp, snp_done, reissue_if, LspAnswer, SnpAnswer}
 use Rattle.wire_base.specs.model.OnFrame.{Drop, Effects, nothing, framed}

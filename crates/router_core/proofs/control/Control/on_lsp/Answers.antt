@@ -1,4 +1,4 @@
-use Rattle.std.proofs.Common.{◌≡◌, ◌∙◌, get_or, false, ap}
+use Rattle.std.proofs.Common.{◌∙◌, get_or, false, ap}
 use Rattle.std.proofs.lemmas.Result.{on_err_weaker}
 use Rattle.wire_base.specs.model.Control.{Control}
 use Rattle.isis_pdu.specs.Views.{head_of}
