@@ -1,0 +1,75 @@
+//! The routers of a domain, and what is on its way between them.
+ghost use Rattle.std.specs.Prelude.{◌≡◌, length, IfOk};
+ghost use Rattle.domain_core.specs.Held.{world_in};
+ghost use Rattle.domain_core.specs.Network.{seen_of};
+ghost use Rattle.domain_core.specs.World.{link_between, frames_between, first_world};
+
+use crate::flights::Flights;
+use crate::places::link_between;
+use router_core::Router;
+use std::alloc::Global;
+use wire_base::{Domain, M, RouterConf};
+
+/// A domain at work: its routers by place, the frames on their way, how many injections were made, and how many events were
+/// done.
+#[derive(Drop)]
+pub(crate) struct Network {
+    pub(crate) domain: Domain,
+    pub(crate) routers: Vec<Router>,
+    pub(crate) flights: Flights,
+    pub(crate) injections: u32,
+    pub(crate) events: u32,
+}
+
+/// Routers that have just started.
+#[tactic(auto)]
+fn routers_of(alloc: Global, confs: &[RouterConf]) -> M<Vec<Router>>
+    requires { AllByRecursion IsSound confs.now }
+    ensures { IfOk result (λ routers. routers.items ≡ map started confs.now) }
+{
+    let mut routers = Vec::new(alloc);
+    for conf in confs {
+        routers.push(Router::new(alloc, conf.copy()?)?)?;
+    }
+    Ok(routers)
+}
+
+impl Network {
+    /// Each router has just started, with all its ends up, and nothing is on its way.
+    pub(crate) fn new(alloc: Global, domain: Domain) -> M<Network>
+        ensures world { IfOk result (λ n. world_in n ≡ first_world domain) }
+        ensures heard { IfOk result (λ n. heard_in n ≡ map (λ r. 0) domain.routers) }
+    {
+        let routers = routers_of(alloc, domain.routers.as_slice())?;
+        let flights = Flights::new(alloc, domain.routers.as_slice())?;
+        Ok(Network {
+            domain,
+            routers,
+            flights,
+            injections: 0,
+            events: 0,
+        })
+    }
+
+    /// The allocator that the domain keeps.
+    pub(crate) fn allocator(&self) -> Global {
+        self.domain.routers.allocator()
+    }
+
+    /// The end of a router that leads to another, where a link joins the two.
+    pub(crate) fn link(&self, from: u16, to: u16) -> Option<u16>
+        ensures { result ≡ link_between self.now.domain.routers from to }
+    {
+        link_between(self.domain.routers.as_slice(), from, to)
+    }
+
+    /// How many frames are on their way from one router to another.
+    pub(crate) fn frames(&self, from: u16, to: u16) -> usize
+        ensures { result ≡ length (frames_between (world_in self.now) from to) }
+    {
+        match self.link(from, to) {
+            Some(link) => self.flights.len(from, link),
+            None => 0,
+        }
+    }
+}
