@@ -5,6 +5,7 @@ pub mod DomainLaws
 pub mod EachLaws
 pub mod EnterTruth
 pub mod FlagLaws
+pub mod FlightLaws
 pub mod FloodTruth
 pub mod HopTruth
 pub mod LinkLaws

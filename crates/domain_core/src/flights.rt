@@ -1,5 +1,5 @@
 //! Frames on their way: a queue for each end of each router.
-ghost use Rattle.std.specs.Prelude.{◌≡◌, ◌+◌, ◌∷◌, ◌++◌, [], nat_lt, List, length, replicate, slice_get, slice_index_or, slice_set, option_map, OnOk, OnErr, IfOk};
+ghost use Rattle.std.specs.Prelude.{◌≡◌, ◌+◌, ◌∷◌, ◌++◌, [], nat_lt, List, length, map, slice_get, slice_index_or, slice_set, option_map, OnOk, OnErr, IfOk};
 ghost use Rattle.std.specs.List.{remove};
 ghost use Rattle.domain_core.specs.declared.flight.Flight.{Flight};
 ghost use Rattle.domain_core.specs.Flights.{frames_at, push_frame, without_frame, frame_count, no_frames};
@@ -8,7 +8,7 @@ use crate::flight::Flight;
 use std::alloc::Global;
 use std::collections::VecDeque;
 use std::marker::Model;
-use wire_base::{M, Memory, RouterConf};
+use wire_base::{End, M, Memory, RouterConf};
 
 /// The frames on their way over one end, the oldest first.
 #[derive(Drop)]
@@ -79,12 +79,12 @@ impl Model for Queues {
 }
 
 impl Queues {
-    /// An empty queue for each of so many ends.
-    fn new(alloc: Global, ends: usize) -> M<Queues>
-        ensures { IfOk result (λ queues. queues ≡ replicate ends []) }
+    /// An empty queue for each end.
+    fn new(alloc: Global, ends: &[End]) -> M<Queues>
+        ensures { IfOk result (λ queues. queues ≡ map (λ e. []) ends.now) }
     {
         let mut queues = Vec::new(alloc);
-        for _end in 0..ends {
+        for _end in ends {
             queues.push(Queue::new(alloc))?;
         }
         Ok(Queues { ends: queues })
@@ -168,7 +168,7 @@ impl Flights {
     {
         let mut routers = Vec::new(alloc);
         for conf in confs {
-            routers.push(Queues::new(alloc, conf.ends.len())?)?;
+            routers.push(Queues::new(alloc, conf.ends.as_slice())?)?;
         }
         Ok(Flights { routers, count: 0 })
     }
