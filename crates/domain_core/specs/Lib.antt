@@ -1,4 +1,5 @@
 pub mod Faults
+pub mod Framed
 pub mod Moves
 pub mod Run
 pub mod Step
