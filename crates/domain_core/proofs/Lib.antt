@@ -13,6 +13,8 @@ pub mod NamedLaws
 pub mod QueueLaws
 pub mod ReadBack
 pub mod RouterTruth
+pub mod SeenLaws
 pub mod SendTruth
+pub mod SentLaws
 pub mod ViewTruth
 pub mod WorldTruth

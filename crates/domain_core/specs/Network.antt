@@ -4,6 +4,7 @@ use Rattle.std.specs.Prelude.{◌≡◌, ℕ, Bool, true, false, List, map, slic
 use Rattle.std.specs.List.{AllByRecursion}
 use Rattle.wire_base.specs.declared.conf.RouterConf.{RouterConf}
 use Rattle.wire_base.specs.model.Configuration.{DomainConf}
+use Rattle.wire_base.specs.model.Flooding.{first_control}
 use Rattle.router_core.specs.State.{RouterState}
 use Rattle.router_core.specs.State as router
 use Rattle.replay_text.specs.declared.event.Event.{Event}
@@ -73,3 +74,9 @@ heard_after w heard (Up a b) = heard
 heard_after w heard (Send a b) = heard
 heard_after w heard (Tick a) = heard
 heard_after w heard (Restart a) = heard
+
+-- ---- the beginning
+
+-- a router that has just started, and has taken nothing
+abbrev pub started_router : RouterConf → RouterState
+started_router r = record { control = first_control r; heard = 0 }

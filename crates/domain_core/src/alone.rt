@@ -1,16 +1,17 @@
 //! What a router does by itself: its ends change, it sends, a second passes, it starts again, or a payload enters there.
-ghost use Rattle.std.specs.Prelude.{◌≡◌, ◌<◌, ◌≤◌, ◌^◌, true, false, length, None, IfOk, OnOk, OnErr, IfErr, MatchResult};
-ghost use Rattle.wire_base.specs.model.Ingress.{edge_fault};
+ghost use Rattle.std.specs.Prelude.{◌≡◌, ◌<◌, ◌≤◌, ◌^◌, ◌-◌, true, false, length, None, IfOk, OnOk, OnErr, MatchResult};
 ghost use Rattle.replay_text.specs.declared.event.Event.TheVariants as events;
 ghost use Rattle.domain_core.specs.Answers.{entry_refused, Refuses};
-ghost use Rattle.domain_core.specs.Held.{state_of, world_in, heard_in, IsDone};
+ghost use Rattle.domain_core.specs.Held.{state_of, world_in, heard_in, inject_fault, IsDone};
 ghost use Rattle.domain_core.specs.Network.{IsTrueNetwork};
 ghost use Rattle.domain_core.specs.Faults.{event_fault};
 ghost use Rattle.domain_core.specs.Step.{doing};
+ghost use Rattle.domain_core.specs.Truth.{InjectFits};
 
 use crate::fault::EventFault;
 use crate::flight::Load;
 use crate::network::Network;
+use crate::sent::carry;
 use crate::step_out::StepOut;
 use wire_base::{Bsl, EdgeFault, Kind, M, Triple, kind_of};
 
@@ -90,7 +91,8 @@ impl Network {
         let router = &mut self.routers[usize::from(from)];
         let load = Load::Pdu(router.conf().level);
         let effects = router.send(link)?;
-        self.apply(from, load, &effects)
+        let confs = self.domain.routers.as_slice();
+        carry(&mut self.flights, confs, from, load, &effects)
     }
 
     /// A payload enters at a router.
@@ -103,15 +105,25 @@ impl Network {
         ttl: u8,
         entropy: u32,
         payload: &[u8],
-    ) -> Result<StepOut, EventFault> {
+    ) -> Result<StepOut, EventFault>
+        requires truth { IsTrueNetwork (state_of self.old) }
+        requires fits { InjectFits (length self.old.domain.routers) at sd ids.now ttl entropy payload.now }
+        requires room { self.old.injections < 2 ^ 32 - 1 }
+        ensures refused { MatchResult result (λ _. inject_fault self.old at sd bsl ids.now ≡ None) (λ e. Refuses (inject_fault self.old at sd bsl ids.now) e) }
+        ensures done { IfOk result (λ out. IsDone self.old self.new (doing false (world_in self.old) (events.Inject at sd bsl ids.now ttl entropy payload.now)) out) }
+        ensures heard { OnOk result (heard_in self.new ≡ heard_in self.old) }
+        ensures err { OnErr result (state_of self.new ≡ state_of self.old) }
+    {
         let number = self.injections + 1;
         let router = &mut self.routers[usize::from(at)];
         let kind = kind_of(router.conf().kinds.as_slice(), sd).unwrap_or(Kind::Mpls);
         let load = Load::Packet(number, Triple { sd, bsl, si: 0 }, kind);
-        match router.inject(sd, bsl, ids, ttl, entropy, payload) {
+        let entered = router.inject(sd, bsl, ids, ttl, entropy, payload);
+        match entered {
             Err(fault) => Err(entry_refused(fault)),
             Ok(effects) => {
-                let out = self.apply(at, load, &effects)?;
+                let confs = self.domain.routers.as_slice();
+                let out = carry(&mut self.flights, confs, at, load, &effects)?;
                 self.injections = number;
                 Ok(out)
             }

@@ -1,7 +1,9 @@
 //! The routers of a domain, and what is on its way between them.
-ghost use Rattle.std.specs.Prelude.{◌≡◌, length, IfOk};
-ghost use Rattle.domain_core.specs.Held.{world_in};
-ghost use Rattle.domain_core.specs.Network.{seen_of};
+ghost use Rattle.std.specs.Prelude.{◌≡◌, length, map, IfOk};
+ghost use Rattle.std.specs.List.{AllByRecursion};
+ghost use Rattle.wire_base.specs.model.Configuration.{IsSound};
+ghost use Rattle.domain_core.specs.Held.{world_in, heard_in};
+ghost use Rattle.domain_core.specs.Network.{started_router};
 ghost use Rattle.domain_core.specs.World.{link_between, frames_between, first_world};
 
 use crate::flights::Flights;
@@ -22,10 +24,9 @@ pub(crate) struct Network {
 }
 
 /// Routers that have just started.
-#[tactic(auto)]
 fn routers_of(alloc: Global, confs: &[RouterConf]) -> M<Vec<Router>>
     requires { AllByRecursion IsSound confs.now }
-    ensures { IfOk result (λ routers. routers.items ≡ map started confs.now) }
+    ensures { IfOk result (λ routers. routers.items ≡ map started_router confs.now) }
 {
     let mut routers = Vec::new(alloc);
     for conf in confs {

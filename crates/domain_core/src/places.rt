@@ -1,5 +1,5 @@
 //! Where the ends of routers lead.
-ghost use Rattle.std.specs.Prelude.{◌≡◌, ◌≤◌, length, slice_get, option_map};
+ghost use Rattle.std.specs.Prelude.{◌≡◌, ◌≤◌, length, slice_get, option_map, IfSome};
 ghost use Rattle.std.specs.List.{AllByRecursion};
 ghost use Rattle.wire_base.specs.model.Choice.{end_toward, is_system};
 ghost use Rattle.wire_base.specs.model.Configuration.{IsSound};
@@ -9,7 +9,8 @@ use wire_base::{End, RouterConf, SystemId};
 
 /// The configuration of the router at a place.
 pub(crate) fn conf_at(confs: &[RouterConf], place: u16) -> Option<&RouterConf>
-    ensures { option_map (λ r. r.now) result ≡ slice_get confs.now place }
+    ensures conf { option_map (λ r. r.now) result ≡ slice_get confs.now place }
+    ensures sound { AllByRecursion IsSound confs.now → IfSome result (λ r. IsSound r.now) }
 {
     if usize::from(place) < confs.len() {
         Some(&confs[usize::from(place)])
@@ -59,7 +60,7 @@ pub(crate) fn link_between(confs: &[RouterConf], from: u16, to: u16) -> Option<u
 
 /// The place of the router of a system; past the end where there is none.
 fn place_of(confs: &[RouterConf], system: SystemId) -> u16
-    requires { length confs.now ≤ 65535 }
+    requires { length confs.now ≤ 250 }
     ensures { result ≡ place_of confs.now system }
 {
     for place in 0..confs.len() {
@@ -72,7 +73,7 @@ fn place_of(confs: &[RouterConf], system: SystemId) -> u16
 
 /// The place of the router at the other end of a link.
 pub(crate) fn peer_place(confs: &[RouterConf], place: u16, link: u16) -> u16
-    requires { length confs.now ≤ 65535 }
+    requires { length confs.now ≤ 250 }
     ensures { result ≡ peer_place confs.now place link }
 {
     match peer_of(confs, place, link) {

@@ -26,7 +26,7 @@ pub(crate) fn told_of(
     load: Load,
     effects: &Effects,
 ) -> M<StepOut>
-    requires { length confs.now ≤ 65535 }
+    requires { length confs.now ≤ 250 }
     ensures { IfOk result (λ out. out ≡ told_of confs.now at load effects.now) }
 {
     let number = number_of(load);
@@ -48,7 +48,7 @@ fn number_of(load: Load) -> Option<u32>
 }
 
 fn wire_frames(alloc: Global, confs: &[RouterConf], at: u16, sent: &[Sent]) -> M<Rows<WireFrame>>
-    requires { length confs.now ≤ 65535 }
+    requires { length confs.now ≤ 250 }
     ensures { IfOk result (λ frames. frames ≡ map (wire_from confs.now at) sent.now) }
 {
     let mut frames = Rows::new(alloc);

@@ -7,10 +7,9 @@ ghost use Rattle.domain_core.specs.Step.{doing};
 
 use crate::flight::{Flight, Load};
 use crate::network::Network;
-use crate::sent::send_all;
+use crate::sent::carry;
 use crate::step_out::StepOut;
-use crate::told::{lost, told_of};
-use router_core::Effects;
+use crate::told::lost;
 use wire_base::{Cause, M};
 
 impl Network {
@@ -82,23 +81,7 @@ impl Network {
         let load = flight.load;
         let effects = router.frame(back, flight.octets.as_slice())?;
         self.flights.remove(from, link, i as usize);
-        self.apply(to, load, &effects)
-    }
-
-    /// What the router at a place does because of a frame with that note is told, and what it sends is put on its way; or
-    /// all is as it was.
-    pub(crate) fn apply(&mut self, at: u16, load: Load, effects: &Effects) -> M<StepOut>
-    {
-        let alloc = self.allocator();
         let confs = self.domain.routers.as_slice();
-        let out = told_of(alloc, confs, at, load, effects)?;
-        send_all(
-            &mut self.flights,
-            confs,
-            at,
-            load,
-            effects.sent.as_slice(),
-        )?;
-        Ok(out)
+        carry(&mut self.flights, confs, to, load, &effects)
     }
 }
