@@ -134,3 +134,11 @@ none_seen (e ∷ es) = ap (λ (row : List (List Item)). [] ∷ row) (none_seen e
 pub seen_none : (confs : List RouterConf) → items_seen (no_frames confs) ≡ no_flights confs
 seen_none [] = refl
 seen_none (r ∷ rs) = ap (λ (row : List (List Item)). row ∷ items_seen (no_frames rs)) (none_seen r.ends) ∙ ap (λ (rows : List (List (List Item))). map (λ e. []) r.ends ∷ rows) (seen_none rs)
+
+-- ---- what stands at a place
+
+pub none_seen_at : (flights : List (List (List Flight))) (a link i : ℕ) → None ≡ slice_get (frames_at flights a link) i → slice_get (queue_at (items_seen flights) a link) i ≡ None
+none_seen_at flights a link i h = seen_got flights a link i ∙ ap (option_map item_seen) (sym h)
+
+pub some_seen_at : (flights : List (List (List Flight))) (a link i : ℕ) (f : Flight) → Some f ≡ slice_get (frames_at flights a link) i → slice_get (queue_at (items_seen flights) a link) i ≡ Some (item_seen f)
+some_seen_at flights a link i f h = seen_got flights a link i ∙ ap (option_map item_seen) (sym h)

@@ -1,9 +1,14 @@
 -- What one event answers.
-use Rattle.std.specs.Prelude.{◌≡◌, ℕ, not, nat_le, Bool, true, false, List, map, Option, Some, None, Result, Ok, Err}
+use Rattle.std.specs.Prelude.{◌≡◌, ℕ, nat_le, Bool, true, false, List, [], map, drop, Option, Some, None, Result, Ok, Err}
+use Rattle.wire_base.specs.declared.conf.Kind.{Kind}
 use Rattle.wire_base.specs.declared.conf.RouterConf.{RouterConf}
 use Rattle.wire_base.specs.declared.faults.EdgeFault.{EdgeFault}
 use Rattle.wire_base.specs.declared.faults.EdgeFault.TheVariants as edge
+use Rattle.wire_base.specs.declared.faults.HeadFault.{HeadFault}
+use Rattle.wire_base.specs.declared.triple.Triple.{Triple}
+use Rattle.wire_base.specs.model.BierHeader.{BierHeader, header_at}
 use Rattle.wire_base.specs.model.OnFrame.{Effects}
+use Rattle.wire_base.specs.model.Place.{id_at}
 use Rattle.replay_text.specs.declared.event.Event.{Event}
 use Rattle.replay_text.specs.declared.event.Event.TheVariants.{Inject, Take, Lose, Again, Down, Up, Send, Tick, Restart}
 use Rattle.domain_core.specs.declared.fault.EventFault.{EventFault}
@@ -39,11 +44,6 @@ Stays same (faults.NoFrame i n) = same
 Stays same faults.NotControl = same
 Stays same (faults.Edge fault) = same
 Stays same faults.Memory = Unit {0}
-
--- an end isn't in the state that it is to be in
-abbrev pub is_wrong : Bool → Bool → Bool
-is_wrong true up = not up
-is_wrong false up = up
 
 -- what an event's own rules say, but for what a router says of an injection
 abbrev pub early_rule : WorldState → Event → Option EventFault
@@ -83,3 +83,12 @@ told_of confs a load e =
       got = map (got_line a (number_of load)) e.got;
       drops = map (drop_line a (number_of load)) e.drops;
     }
+
+-- the BFR-ids of a header; octets that are none have no ids
+abbrev pub ids_read : Triple → Result BierHeader HeadFault → List ℕ
+ids_read t (Ok h) = map (id_at t) h.positions
+ids_read t (Err fault) = []
+
+-- the BFR-ids of a packet in a frame
+abbrev pub ids_carried : Triple → Kind → List ℕ → List ℕ
+ids_carried t kind octets = ids_read t (header_at kind t.bsl (drop 14 octets))

@@ -27,7 +27,7 @@ world_in n = world_of (state_of n)
 pub record IsDone (old new : Network) (n : Happened) (out : StepOut) : Type 0 where
   pub world : world_in new ≡ n.world
   pub frames : AreFramesOver old.domain.routers new.flights
-  pub out : out ≡ told old.domain.routers n.made
+  pub answer : out ≡ told old.domain.routers n.made
 
 abbrev pub heard_in : Network → List ℕ
 heard_in n = (seen_of (state_of n)).heard

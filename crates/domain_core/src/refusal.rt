@@ -1,14 +1,15 @@
 //! Why an event isn't allowed, but for what a router says of an injection.
-ghost use Rattle.std.specs.Prelude.{◌≡◌, ◌<◌, length, not, slice_get, None};
-ghost use Rattle.domain_core.specs.declared.fault.EventFault.TheVariants as faults;
-ghost use Rattle.domain_core.specs.Answers.{early_fault, early_rule, is_wrong};
-ghost use Rattle.domain_core.specs.Faults.{first_fault, unless_joined, unless_room, is_up_toward, frame_fault, repeat_fault};
+ghost use Rattle.std.specs.Prelude.{◌≡◌, ℕ, ◌<◌, nat_le, length, slice_get, Some, None};
+ghost use Rattle.replay_text.specs.declared.event.Event.TheVariants as events;
+ghost use Rattle.domain_core.specs.Answers.{early_fault, early_rule};
+ghost use Rattle.domain_core.specs.Faults.{most_in_flight, unless_room, up_over, frame_fault, repeat_fault, rule_fault};
+ghost use Rattle.domain_core.specs.Flights.{item_seen};
 ghost use Rattle.domain_core.specs.Held.{world_in};
 ghost use Rattle.domain_core.specs.Truth.{EventFits};
-ghost use Rattle.domain_core.specs.World.{frames_between, queue_at};
+ghost use Rattle.domain_core.specs.World.{queue_at, in_flight};
 
 use crate::fault::EventFault;
-use crate::flight::Load;
+use crate::flight::{Flight, Load};
 use crate::network::Network;
 use replay_text::Event;
 
@@ -41,54 +42,36 @@ impl Network {
             Event::Take { from, to, i } => self.take_fault(*from, *to, *i),
             Event::Lose { from, to, i } => self.lose_fault(*from, *to, *i),
             Event::Again { from, to, i } => self.again_fault(*from, *to, *i),
-            Event::Down { from, to } => self.end_fault(*from, *to, true),
-            Event::Up { from, to } => self.end_fault(*from, *to, false),
+            Event::Down { from, to } => self.down_fault(*from, *to),
+            Event::Up { from, to } => self.up_fault(*from, *to),
             Event::Send { from, to } => self.send_fault(*from, *to),
             Event::Tick { .. } | Event::Restart { .. } => None,
         }
     }
 
-    /// Nothing more may be sent.
-    fn room_fault(&self) -> Option<EventFault>
-        ensures { result ≡ unless_room (world_in self.now) None }
+    /// So much is on its way that nothing more may be sent.
+    #[tactic(auto, using(crate::proofs::SeenLaws::seen_count))]
+    fn is_full(&self) -> bool
+        ensures { result ≡ nat_le most_in_flight (in_flight (world_in self.now).flights) }
     {
-        if self.flights.count() >= MOST_IN_FLIGHT {
-            Some(EventFault::InFlight)
-        } else {
-            None
-        }
+        self.flights.count() >= MOST_IN_FLIGHT
+    }
+
+    /// Whether the end at a place is up.
+    fn is_end_up(&self, place: u16, link: u16) -> bool
+        requires { place < length self.now.routers.items }
+        ensures { result ≡ up_over (slice_get (world_in self.now).routers place) (Some link) }
+    {
+        self.routers[usize::from(place)].is_up(link)
     }
 
     /// There is no such frame over an end.
     fn frame_fault(&self, from: u16, link: u16, i: u32) -> Option<EventFault>
         ensures { result ≡ frame_fault (slice_get (queue_at (world_in self.now).flights from link) i) i (length (queue_at (world_in self.now).flights from link)) }
     {
-        let count = self.flights.len(from, link);
-        if i as usize >= count {
-            Some(EventFault::NoFrame(i, count))
-        } else {
-            None
-        }
-    }
-
-    fn take_fault(&self, from: u16, to: u16, i: u32) -> Option<EventFault>
-        ensures { result ≡ unless_joined (world_in self.now) from to (unless_room (world_in self.now) (frame_fault (slice_get (frames_between (world_in self.now) from to) i) i (length (frames_between (world_in self.now) from to)))) }
-    {
-        let Some(link) = self.link(from, to) else {
-            return Some(EventFault::NoLink);
-        };
-        match self.room_fault() {
-            Some(fault) => Some(fault),
-            None => self.frame_fault(from, link, i),
-        }
-    }
-
-    fn lose_fault(&self, from: u16, to: u16, i: u32) -> Option<EventFault>
-        ensures { result ≡ unless_joined (world_in self.now) from to (frame_fault (slice_get (frames_between (world_in self.now) from to) i) i (length (frames_between (world_in self.now) from to))) }
-    {
-        match self.link(from, to) {
-            Some(link) => self.frame_fault(from, link, i),
-            None => Some(EventFault::NoLink),
+        match self.flights.get(from, link, i) {
+            None => Some(EventFault::NoFrame(i, self.flights.len(from, link))),
+            Some(_) => None,
         }
     }
 
@@ -98,51 +81,99 @@ impl Network {
     {
         match self.flights.get(from, link, i) {
             None => Some(EventFault::NoFrame(i, self.flights.len(from, link))),
-            Some(flight) => packet_fault(flight.load),
+            Some(flight) => packet_fault(flight),
+        }
+    }
+
+    fn take_fault(&self, from: u16, to: u16, i: u32) -> Option<EventFault>
+        ensures { result ≡ rule_fault (world_in self.now) (events.Take from to i) }
+    {
+        let Some(link) = self.link(from, to) else {
+            return Some(EventFault::NoLink);
+        };
+        if self.is_full() {
+            return Some(EventFault::InFlight);
+        }
+        self.frame_fault(from, link, i)
+    }
+
+    fn lose_fault(&self, from: u16, to: u16, i: u32) -> Option<EventFault>
+        ensures { result ≡ rule_fault (world_in self.now) (events.Lose from to i) }
+    {
+        match self.link(from, to) {
+            Some(link) => self.frame_fault(from, link, i),
+            None => Some(EventFault::NoLink),
         }
     }
 
     fn again_fault(&self, from: u16, to: u16, i: u32) -> Option<EventFault>
-        ensures { result ≡ unless_joined (world_in self.now) from to (unless_room (world_in self.now) (repeat_fault (slice_get (frames_between (world_in self.now) from to) i) i (length (frames_between (world_in self.now) from to)))) }
+        ensures { result ≡ rule_fault (world_in self.now) (events.Again from to i) }
     {
         let Some(link) = self.link(from, to) else {
             return Some(EventFault::NoLink);
         };
-        match self.room_fault() {
-            Some(fault) => Some(fault),
-            None => self.repeat_fault(from, link, i),
+        if self.is_full() {
+            return Some(EventFault::InFlight);
+        }
+        self.repeat_fault(from, link, i)
+    }
+
+    fn down_fault(&self, from: u16, to: u16) -> Option<EventFault>
+        requires { from < length self.now.routers.items }
+        ensures { result ≡ rule_fault (world_in self.now) (events.Down from to) }
+    {
+        match self.link(from, to) {
+            None => Some(EventFault::NoLink),
+            Some(link) => if self.is_end_up(from, link) {
+                None
+            } else {
+                Some(EventFault::EndState)
+            },
         }
     }
 
-    /// No link joins the two routers, or its end isn't in that state.
-    fn end_fault(&self, from: u16, to: u16, up: bool) -> Option<EventFault>
+    fn up_fault(&self, from: u16, to: u16) -> Option<EventFault>
         requires { from < length self.now.routers.items }
-        ensures { result ≡ unless_joined (world_in self.now) from to (first_fault (is_wrong up (is_up_toward (world_in self.now) from to)) faults.EndState None) }
+        ensures { result ≡ rule_fault (world_in self.now) (events.Up from to) }
     {
-        let Some(link) = self.link(from, to) else {
-            return Some(EventFault::NoLink);
-        };
-        if self.routers[usize::from(from)].is_up(link) == up {
-            None
-        } else {
-            Some(EventFault::EndState)
+        match self.link(from, to) {
+            None => Some(EventFault::NoLink),
+            Some(link) => if self.is_end_up(from, link) {
+                Some(EventFault::EndState)
+            } else {
+                None
+            },
         }
     }
 
     fn send_fault(&self, from: u16, to: u16) -> Option<EventFault>
         requires { from < length self.now.routers.items }
-        ensures { result ≡ unless_joined (world_in self.now) from to (first_fault (not (is_up_toward (world_in self.now) from to)) faults.EndState (unless_room (world_in self.now) None)) }
+        ensures { result ≡ rule_fault (world_in self.now) (events.Send from to) }
     {
-        match self.end_fault(from, to, true) {
-            Some(fault) => Some(fault),
-            None => self.room_fault(),
+        let Some(link) = self.link(from, to) else {
+            return Some(EventFault::NoLink);
+        };
+        if !self.is_end_up(from, link) {
+            return Some(EventFault::EndState);
         }
+        self.room_fault()
+    }
+
+    fn room_fault(&self) -> Option<EventFault>
+        ensures { result ≡ unless_room (world_in self.now) None }
+    {
+        if self.is_full() {
+            return Some(EventFault::InFlight);
+        }
+        None
     }
 }
 
 /// What carries a packet doesn't come again.
-fn packet_fault(load: Load) -> Option<EventFault> {
-    match load {
+fn packet_fault(flight: &Flight) -> Option<EventFault>
+    ensures { (i n : ℕ) → result ≡ repeat_fault (Some (item_seen flight.now)) i n }
+{
+    match flight.load {
         Load::Pdu(_) => None,
         Load::Packet(..) => Some(EventFault::NotControl),
     }

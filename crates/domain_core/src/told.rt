@@ -1,10 +1,10 @@
 //! What is told of what a router does.
-ghost use Rattle.std.specs.Prelude.{◌≡◌, ◌≤◌, [], ◌∷◌, length, map, IfOk};
+ghost use Rattle.std.specs.Prelude.{◌≡◌, ◌≤◌, [], length, map, drop, IfOk};
 ghost use Rattle.wire_base.specs.model.Place.{id_at};
 ghost use Rattle.bfr_edge.specs.Entry.{positions_in};
 ghost use Rattle.bier_bits.specs.Any.{bsl_of, positions_of};
 ghost use Rattle.bier_forward.specs.Sets.{set_in, HasLength, HaveLength};
-ghost use Rattle.domain_core.specs.Answers.{told_of};
+ghost use Rattle.domain_core.specs.Answers.{told_of, ids_carried};
 ghost use Rattle.domain_core.specs.Flights.{item_seen, number_of};
 ghost use Rattle.domain_core.specs.Framed.{wire_from, got_line, drop_line, ids_dropped};
 ghost use Rattle.domain_core.specs.Moves.{item_lost, listed};
@@ -154,7 +154,7 @@ pub(crate) fn lost(alloc: Global, at: u16, cause: Cause, flight: &Flight) -> M<S
 
 /// The BFR-ids of a packet in a frame.
 fn ids_carried(alloc: Global, triple: Triple, kind: Kind, octets: &[u8]) -> M<Rows<u16>>
-    ensures { IfOk result (λ ids. ids ≡ listed (ids_of triple kind octets.now)) }
+    ensures { IfOk result (λ ids. ids ≡ listed (ids_carried triple kind octets.now)) }
 {
     match read_header(kind, triple.bsl, behind(octets, 14)) {
         Ok(header) => ids_listed(alloc, triple, &header.bits),
