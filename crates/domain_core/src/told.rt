@@ -1,6 +1,7 @@
 //! What is told of what a router does.
-ghost use Rattle.std.specs.Prelude.{◌≡◌, ◌≤◌, [], length, map, drop, IfOk};
-ghost use Rattle.wire_base.specs.model.Place.{id_at};
+ghost use Rattle.std.specs.Prelude.{◌≡◌, ◌≤◌, ◌++◌, ◌∷◌, [], length, map, filter, drop, IfOk, OnOk};
+ghost use Rattle.wire_base.specs.model.BitSet.{has_member};
+ghost use Rattle.wire_base.specs.model.Place.{bits_of, id_at};
 ghost use Rattle.bfr_edge.specs.Entry.{positions_in};
 ghost use Rattle.bier_bits.specs.Any.{bsl_of, positions_of};
 ghost use Rattle.bier_forward.specs.Sets.{set_in, HasLength, HaveLength};
@@ -119,14 +120,23 @@ fn ids_listed(alloc: Global, triple: Triple, bits: &AnyBits) -> M<Rows<u16>>
     ensures { IfOk result (λ ids. ids ≡ listed (map (id_at triple) (positions_of bits.now))) }
 {
     let mut ids = Rows::new(alloc);
-    let base = u32::from(triple.si) * u32::from(triple.bsl.bits());
     for position in 0..bits.bsl().bits() {
-        let id = base + u32::from(position) + 1;
-        if bits.has(position + 1) && id <= 65535 {
-            ids.push(id as u16)?;
-        }
+        push_id(&mut ids, triple, bits, position + 1)?;
     }
     Ok(ids)
+}
+
+/// Appends the BFR-id of a bit position, where the BitString has it and it is one.
+fn push_id(ids: &mut Rows<u16>, triple: Triple, bits: &AnyBits, position: u16) -> M<()>
+    requires low { 1 ≤ position }
+    requires high { position ≤ bits_of (bsl_of bits.now) }
+    ensures { OnOk result (ids.new ≡ ids.old ++ listed (map (id_at triple) (filter (λ p. has_member p (positions_of bits.now)) (position ∷ [])))) }
+{
+    let id = u32::from(triple.si) * u32::from(triple.bsl.bits()) + u32::from(position);
+    if bits.has(position) && id <= 65535 {
+        ids.push(id as u16)?;
+    }
+    Ok(())
 }
 
 /// What is told of a frame that the router at a place drops as a whole.
