@@ -6,6 +6,11 @@ pub mod EachLaws
 pub mod EnterTruth
 pub mod FlagLaws
 pub mod FloodTruth
+pub mod FramedBack
+pub mod FramedCopies
+pub mod FramedHop
+pub mod FramedPdus
+pub mod FramedWorld
 pub mod HopTruth
 pub mod LinkLaws
 pub mod NamedLaws
