@@ -3,9 +3,11 @@
 #![tactic(auto)]
 
 mod fault;
+mod frame_laws;
 mod laws;
 mod step_out;
 
 pub use fault::EventFault;
+pub use frame_laws::{frames_do_what_items_do, sent_frames_are_items};
 pub use laws::{a_start_is_truthful, events_keep_the_truth};
 pub use step_out::{DropLine, GotLine, StepOut, WireFrame};
