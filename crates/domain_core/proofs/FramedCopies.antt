@@ -1,11 +1,9 @@
 -- Copies of packets are read off their frames again, and a router does on the frame of a copy, and where a payload enters,
 -- what is made of the items.
-use Rattle.std.proofs.Common.{◌≡◌, ℕ, ◌+◌, ◌*◌, ◌/◌, ◌<◌, ◌≤◌, ◌^◌, Bool, true, false, List, [], ◌∷◌, ◌++◌, length, map, drop, slice_get, Option, Some, None, unwrap_or, refl, sym, ap, subst, ◌∙◌, arith}
-use Rattle.std.specs.List.{AllByRecursion}
+use Rattle.std.proofs.Common.{◌≡◌, ℕ, ◌+◌, ◌*◌, ◌/◌, ◌≤◌, true, false, List, ◌++◌, length, drop, slice_get, Option, Some, None, unwrap_or, refl, sym, ap, subst, ◌∙◌, arith}
 use Rattle.std.proofs.lemmas.List.{length-append}
 use Rattle.byteorder.specs.Endian.{big_bytes, big_number}
 use Rattle.byteorder.specs.Numbers.{big_number-reads_back}
-use Rattle.wire_base.specs.declared.addresses.Mac.{Mac}
 use Rattle.wire_base.specs.declared.bsl.Bsl.{Bsl}
 use Rattle.wire_base.specs.declared.bsl.Bsl.TheVariants.{B64, B128, B256, B512, B1024, B2048, B4096}
 use Rattle.wire_base.specs.declared.cause.Cause.TheVariants as cause
@@ -19,9 +17,9 @@ use Rattle.wire_base.specs.model.Configuration.{DomainConf, IsValid, IsEnd}
 use Rattle.wire_base.specs.model.Control.{Control}
 use Rattle.wire_base.specs.model.Ethernet.{ethernet}
 use Rattle.wire_base.specs.model.Ingress.{IngressPacket, packets_for, edge_fault, ingress_kind, entering, inject_with, inject_directly}
-use Rattle.wire_base.specs.model.Item.{Item, PacketItem, DataItem, Outer, outer_target, packet_frame, bier_frame, ingress_header, item_header, item_packet, frame_of}
+use Rattle.wire_base.specs.model.Item.{PacketItem, DataItem, Outer, outer_target, packet_frame, ingress_header, item_header, item_packet, frame_of}
 use Rattle.wire_base.specs.model.OnFrame.{Effects, Next, dropped, unchanged, node_place, hop_in, on_frame_with, on_frame_directly}
-use Rattle.wire_base.specs.model.Place.{bits_of, means}
+use Rattle.wire_base.specs.model.Place.{means}
 use Rattle.wire_base.specs.model.Tunnel.{protocol_of}
 use Rattle.wire_base.specs.model.View.{control_view}
 use Rattle.wire_base.proofs.HeaderLaws.{length-header_octets}

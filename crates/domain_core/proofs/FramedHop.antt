@@ -11,7 +11,7 @@ use Rattle.wire_base.specs.declared.conf.Kind.{Kind}
 use Rattle.wire_base.specs.declared.conf.RouterConf.{RouterConf}
 use Rattle.wire_base.specs.declared.view.ViewNode.{ViewNode}
 use Rattle.wire_base.specs.model.Choice.{is_direct}
-use Rattle.wire_base.specs.model.Hop.{Outcome, Local, Copy, Expired, NoRow, has, distinct, is_this, copies, unless_empty, forward, local, hop}
+use Rattle.wire_base.specs.model.Hop.{Outcome, Local, Copy, Expired, NoRow, has, distinct, is_this, unless_empty, forward, local, hop}
 use Rattle.wire_base.specs.model.Item.{PacketItem, DataItem, ingress_header, bier_frame, ip_frame, frame_of}
 use Rattle.wire_base.specs.model.OnFrame.{Effects, one_sent, one_drop, joined, link_to, next_link, bift_at, prefix_of, ids_in, positions_in, copy_of, sent_on, direct_copy, outer_ttl, tunnel_for, tunnel_copy, copy_sent, or_drop, copied, outcome_done, choice_of, hop_at}
 use Rattle.wire_base.specs.model.Place.{bits_of, own_id}

@@ -1,6 +1,6 @@
 -- PDUs are read off their frames again, and a router does on the frame of a PDU, and where it sends what is due, what flooding
 -- does with the items.
-use Rattle.std.proofs.Common.{◌≡◌, ◌⊎◌, inl, inr, ℕ, ◌+◌, ◌<◌, ◌≤◌, ◌^◌, Bool, true, false, List, [], ◌∷◌, ◌++◌, length, map, slice_get, Option, Some, None, refl, sym, ap, subst, ◌∙◌, arith}
+use Rattle.std.proofs.Common.{◌≡◌, ◌⊎◌, inl, inr, ℕ, ◌+◌, ◌<◌, ◌≤◌, ◌^◌, true, false, List, [], ◌∷◌, ◌++◌, length, map, slice_get, Option, Some, None, refl, sym, ap, subst, ◌∙◌, arith}
 use Rattle.std.specs.List.{AllByRecursion}
 use Rattle.std.proofs.lemmas.List.{length-append}
 use Rattle.byteorder.specs.Endian.{big_bytes}
@@ -19,8 +19,8 @@ use Rattle.wire_base.specs.model.Ethernet.{ethernet}
 use Rattle.wire_base.specs.model.Flooding.{Reply, on_pdu, send}
 use Rattle.wire_base.specs.model.Item.{ControlItem, all_routers, frame_of}
 use Rattle.wire_base.specs.model.OnFrame.{Effects, Next, Drop, pdu_frame, frames_of, framed, on_frame_with, on_frame_directly}
-use Rattle.wire_base.specs.model.OwnLsp.{own_content, own_flags, own_head}
-use Rattle.wire_base.specs.model.Pdu.{Head, Pdu, LspPdu, CsnpPdu, PsnpPdu, HelloPdu, OtherPdu, LspFits, lsp_sum, tlvs_pass, pdu, row_tlvs}
+use Rattle.wire_base.specs.model.OwnLsp.{own_flags}
+use Rattle.wire_base.specs.model.Pdu.{Head, Pdu, LspPdu, CsnpPdu, PsnpPdu, HelloPdu, OtherPdu, lsp_sum, tlvs_pass, pdu}
 use Rattle.wire_base.specs.model.Tlv.{SummaryFits}
 use Rattle.format_laws.proofs.TlvListLaws.{row_tlvs_pass, passes_are}
 use Rattle.item_laws.specs.Fits.{IsSendable, EntryFits}
@@ -30,8 +30,8 @@ use Rattle.item_laws.proofs.OwnLaws.{own_fits, dead_fits}
 use Rattle.item_laws.proofs.RowLaws.{rows_short}
 use Rattle.domain_core.specs.declared.step_out.DropLine.{DropLine}
 use Rattle.domain_core.specs.World.{is_up, link_between}
-use Rattle.domain_core.specs.Moves.{Sending, over_end, control_lost, replied}
-use Rattle.domain_core.specs.Truth.{IsAmong, IsOwnLsp, IsDeadLsp, IsTrueLsp, IsTrueRow, IsTrueList, IsSource, IsTruePdu, IsTrueControl}
+use Rattle.domain_core.specs.Moves.{over_end, control_lost, replied}
+use Rattle.domain_core.specs.Truth.{IsAmong, IsOwnLsp, IsDeadLsp, IsTrueLsp, IsTrueRow, IsSource, IsTruePdu, IsTrueControl}
 use Rattle.domain_core.specs.Framed.{frame_over, sent_of, pdu_sent, drop_line, IsFramed, IsFlooded}
 use Rattle.domain_core.proofs.EachLaws.{each_weaker, each_mapped, each_got}
 use Rattle.domain_core.proofs.DomainLaws.{sound_of, alike}

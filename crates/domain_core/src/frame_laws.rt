@@ -43,5 +43,5 @@ pub fn sent_frames_are_items()
     ensures entered { (w : WorldState) (a sd : ℕ) (bsl : Bsl) (ks : List ℕ) (ttl entropy : ℕ) (payload : List ℕ) (other : Triple) (c : Control) → IsTruthful w → slice_get w.routers a ≡ Some c
         → InjectFits (length w.domain.routers) a sd ks ttl entropy payload → edge_fault c.conf sd bsl ks ≡ None
         → IsFramed w.domain.routers a (Some (w.injections + 1)) (packet_sent w.domain.routers a (w.injections + 1) (ingress_kind c.conf sd) other)
-            (inject_directly c sd bsl ks ttl entropy payload) (inject_made false w.domain.routers a c (w.injections + 1) sd bsl ks ttl entropy payload) }
+        (inject_directly c sd bsl ks ttl entropy payload) (inject_made false w.domain.routers a c (w.injections + 1) sd bsl ks ttl entropy payload) }
 {}
