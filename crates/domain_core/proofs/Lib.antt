@@ -7,6 +7,11 @@ pub mod EnterTruth
 pub mod FlagLaws
 pub mod FlightLaws
 pub mod FloodTruth
+pub mod FramedBack
+pub mod FramedCopies
+pub mod FramedHop
+pub mod FramedPdus
+pub mod FramedWorld
 pub mod HopTruth
 pub mod IdLaws
 pub mod LinkLaws

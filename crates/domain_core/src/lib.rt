@@ -7,6 +7,7 @@ mod events;
 mod fault;
 mod flight;
 mod flights;
+mod frame_laws;
 mod laws;
 mod network;
 mod places;
@@ -18,6 +19,7 @@ mod transit;
 mod world;
 
 pub use fault::EventFault;
+pub use frame_laws::{frames_do_what_items_do, sent_frames_are_items};
 pub use laws::{a_start_is_truthful, events_keep_the_truth};
 pub use step_out::{DropLine, GotLine, StepOut, WireFrame};
 pub use world::World;
