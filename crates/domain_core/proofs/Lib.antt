@@ -22,5 +22,6 @@ pub mod RouterTruth
 pub mod SeenLaws
 pub mod SendTruth
 pub mod SentLaws
+pub mod TurnLaws
 pub mod ViewTruth
 pub mod WorldTruth
