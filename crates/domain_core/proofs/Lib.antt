@@ -18,6 +18,7 @@ pub mod LinkLaws
 pub mod NamedLaws
 pub mod QueueLaws
 pub mod ReadBack
+pub mod RefusalLaws
 pub mod RouterTruth
 pub mod SeenLaws
 pub mod SendTruth

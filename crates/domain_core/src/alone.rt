@@ -19,32 +19,36 @@ impl Network {
     /// The end of a router toward another, which is up, goes down.
     pub(crate) fn down(&mut self, from: u16, to: u16) -> M<StepOut>
         requires truth { IsTrueNetwork (state_of self.old) }
+        requires place { from < length self.old.routers.items }
         requires allowed { event_fault (world_in self.old) (events.Down from to) ≡ None }
         ensures done { IfOk result (λ out. IsDone self.old self.new (doing false (world_in self.old) (events.Down from to)) out) }
         ensures heard { OnOk result (heard_in self.new ≡ heard_in self.old) }
         ensures err { OnErr result (state_of self.new ≡ state_of self.old) }
     {
         let alloc = self.allocator();
-        if let Some(link) = self.link(from, to) {
-            let router = &mut self.routers[usize::from(from)];
-            router.end_down(link)?;
-        }
+        let Some(link) = self.link(from, to) else {
+            return Ok(StepOut::nothing(alloc));
+        };
+        let router = &mut self.routers[usize::from(from)];
+        router.end_down(link)?;
         Ok(StepOut::nothing(alloc))
     }
 
     /// The end of a router toward another, which is down, comes up.
     pub(crate) fn up(&mut self, from: u16, to: u16) -> M<StepOut>
         requires truth { IsTrueNetwork (state_of self.old) }
+        requires place { from < length self.old.routers.items }
         requires allowed { event_fault (world_in self.old) (events.Up from to) ≡ None }
         ensures done { IfOk result (λ out. IsDone self.old self.new (doing false (world_in self.old) (events.Up from to)) out) }
         ensures heard { OnOk result (heard_in self.new ≡ heard_in self.old) }
         ensures err { OnErr result (state_of self.new ≡ state_of self.old) }
     {
         let alloc = self.allocator();
-        if let Some(link) = self.link(from, to) {
-            let router = &mut self.routers[usize::from(from)];
-            router.end_up(link)?;
-        }
+        let Some(link) = self.link(from, to) else {
+            return Ok(StepOut::nothing(alloc));
+        };
+        let router = &mut self.routers[usize::from(from)];
+        router.end_up(link)?;
         Ok(StepOut::nothing(alloc))
     }
 
@@ -79,6 +83,7 @@ impl Network {
     /// A router sends what is due toward another, over an end that is up.
     pub(crate) fn send(&mut self, from: u16, to: u16) -> M<StepOut>
         requires truth { IsTrueNetwork (state_of self.old) }
+        requires place { from < length self.old.routers.items }
         requires allowed { event_fault (world_in self.old) (events.Send from to) ≡ None }
         ensures done { IfOk result (λ out. IsDone self.old self.new (doing false (world_in self.old) (events.Send from to)) out) }
         ensures heard { OnOk result (heard_in self.new ≡ heard_in self.old) }
