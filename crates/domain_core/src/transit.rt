@@ -46,11 +46,12 @@ impl Network {
         let Some(flight) = self.flights.get(from, link, i) else {
             return Ok(StepOut::nothing(alloc));
         };
-        if let Load::Pdu(level) = flight.load {
-            let octets = flight.octets.copy()?;
-            let load = Load::Pdu(level);
-            self.flights.push(from, link, Flight { octets, load })?;
-        }
+        let Load::Pdu(level) = flight.load else {
+            return Ok(StepOut::nothing(alloc));
+        };
+        let octets = flight.octets.copy()?;
+        let load = Load::Pdu(level);
+        self.flights.push(from, link, Flight { octets, load })?;
         Ok(StepOut::nothing(alloc))
     }
 
