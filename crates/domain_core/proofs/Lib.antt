@@ -23,6 +23,7 @@ pub mod RouterTruth
 pub mod SeenLaws
 pub mod SendTruth
 pub mod SentLaws
+pub mod StartLaws
 pub mod TransitLaws
 pub mod TurnLaws
 pub mod ViewTruth

@@ -2,8 +2,8 @@
 ghost use Rattle.std.specs.Prelude.{◌≡◌, length, map, IfOk};
 ghost use Rattle.std.specs.List.{AllByRecursion};
 ghost use Rattle.wire_base.specs.model.Configuration.{IsSound};
-ghost use Rattle.domain_core.specs.Held.{world_in, heard_in};
-ghost use Rattle.domain_core.specs.Network.{started_router};
+ghost use Rattle.domain_core.specs.Held.{state_of, world_in, heard_in};
+ghost use Rattle.domain_core.specs.Network.{started_router, IsTrueNetwork};
 ghost use Rattle.domain_core.specs.World.{link_between, frames_between, first_world};
 
 use crate::flights::Flights;
@@ -40,6 +40,7 @@ impl Network {
     pub(crate) fn new(alloc: Global, domain: Domain) -> M<Network>
         ensures world { IfOk result (λ n. world_in n ≡ first_world domain) }
         ensures heard { IfOk result (λ n. heard_in n ≡ map (λ r. 0) domain.routers) }
+        ensures kept { IfOk result (λ n. IsTrueNetwork (state_of n)) }
     {
         let routers = routers_of(alloc, domain.routers.as_slice())?;
         let flights = Flights::new(alloc, domain.routers.as_slice())?;
