@@ -28,3 +28,4 @@ pub mod TransitLaws
 pub mod TurnLaws
 pub mod ViewTruth
 pub mod WorldTruth
+mod CarriedLaws

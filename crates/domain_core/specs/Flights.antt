@@ -9,7 +9,7 @@ use Rattle.item_laws.specs.Read.{control_in, packet_in}
 use Rattle.domain_core.specs.declared.flight.Flight.{Flight}
 use Rattle.domain_core.specs.declared.flight.Load.{Load}
 use Rattle.domain_core.specs.declared.flight.Load.TheVariants.{Pdu, Packet}
-use Rattle.domain_core.specs.World.{peer_place}
+use Rattle.domain_core.specs.World.{peer_place, carried}
 use Rattle.domain_core.specs.Framed.{triple_in}
 
 -- ---- the item of a frame
@@ -43,6 +43,10 @@ without_frame flights place link i = with_frames flights place link (remove (fra
 -- how many there are in all
 abbrev pub frame_count : List (List (List Flight)) → ℕ
 frame_count flights = sum_by (λ row. sum_by (λ queue. length queue) row) flights
+
+-- how many BFR-ids they have
+abbrev pub ids_carried_by : List (List (List Flight)) → ℕ
+ids_carried_by flights = sum_by (λ row. sum_by (λ queue. sum_by (λ f. carried (item_seen f)) queue) row) flights
 
 -- nothing is on the way
 abbrev pub no_frames : List RouterConf → List (List (List Flight))

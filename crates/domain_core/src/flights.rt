@@ -1,9 +1,11 @@
 //! Frames on their way: a queue for each end of each router.
-ghost use Rattle.std.specs.Prelude.{◌≡◌, ◌+◌, ◌∷◌, ◌++◌, [], nat_lt, List, length, map, slice_get, slice_index_or, slice_set, option_map, OnOk, OnErr, IfOk};
+ghost use Rattle.std.specs.Prelude.{◌≡◌, ◌+◌, ◌∷◌, ◌++◌, [], nat_lt, List, length, map, slice_get, slice_index_or, slice_set, option_map, sum_by, OnOk, OnErr, IfOk};
 ghost use Rattle.std.specs.List.{remove};
 ghost use Rattle.domain_core.specs.declared.flight.Flight.{Flight};
-ghost use Rattle.domain_core.specs.Flights.{frames_at, push_frame, without_frame, frame_count, no_frames};
+ghost use Rattle.domain_core.specs.Flights.{item_seen, frames_at, push_frame, without_frame, frame_count, ids_carried_by, no_frames};
+ghost use Rattle.domain_core.specs.World.{carried};
 
+use crate::carried::{count_of, sum};
 use crate::flight::Flight;
 use std::alloc::Global;
 use std::collections::VecDeque;
@@ -44,6 +46,17 @@ impl Queue {
         ensures { option_map (λ f. f.now) result ≡ slice_get self.now i }
     {
         self.frames.get(i)
+    }
+
+    /// How many BFR-ids its frames have.
+    fn ids(&self) -> M<u64>
+        ensures { IfOk result (λ count. count ≡ sum_by (λ f. carried (item_seen f)) self.now) }
+    {
+        let mut total = 0;
+        for flight in self.frames.iter() {
+            total = sum(total, count_of(flight))?;
+        }
+        Ok(total)
     }
 
     fn push(&mut self, flight: Flight) -> M<()>
@@ -99,6 +112,17 @@ impl Queues {
         } else {
             0
         }
+    }
+
+    /// How many BFR-ids the frames of all ends have.
+    fn ids(&self) -> M<u64>
+        ensures { IfOk result (λ count. count ≡ sum_by (λ queue. sum_by (λ f. carried (item_seen f)) queue) self.now) }
+    {
+        let mut total = 0;
+        for queue in &self.ends {
+            total = sum(total, queue.ids()?)?;
+        }
+        Ok(total)
     }
 
     fn get(&self, link: usize, i: usize) -> Option<&Flight>
@@ -178,6 +202,17 @@ impl Flights {
         ensures { result ≡ frame_count self.now }
     {
         self.count
+    }
+
+    /// How many BFR-ids all frames have.
+    pub(crate) fn ids(&self) -> M<u64>
+        ensures { IfOk result (λ count. count ≡ ids_carried_by self.now) }
+    {
+        let mut total = 0;
+        for queues in &self.routers {
+            total = sum(total, queues.ids()?)?;
+        }
+        Ok(total)
     }
 
     /// How many are on their way in a direction; 0 where there is no such direction.

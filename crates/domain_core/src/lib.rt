@@ -3,6 +3,7 @@
 #![tactic(auto)]
 
 mod alone;
+mod carried;
 mod events;
 mod fault;
 mod flight;

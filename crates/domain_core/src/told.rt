@@ -173,7 +173,7 @@ fn ids_carried(alloc: Global, triple: Triple, kind: Kind, octets: &[u8]) -> M<Ro
 }
 
 /// What stands behind so many octets.
-fn behind(octets: &[u8], count: usize) -> &[u8]
+pub(crate) fn behind(octets: &[u8], count: usize) -> &[u8]
     ensures { result.now ≡ drop count octets.now }
 {
     if octets.len() < count {

@@ -5,7 +5,7 @@ ghost use Rattle.domain_core.specs.Faults.{event_fault};
 ghost use Rattle.domain_core.specs.Network.{heard_after};
 ghost use Rattle.domain_core.specs.Step.{happens};
 ghost use Rattle.domain_core.specs.Truth.{EventFits, AreWorldDrops};
-ghost use Rattle.domain_core.specs.World.{first_world, frames_between};
+ghost use Rattle.domain_core.specs.World.{first_world, frames_between, ids_in_flight};
 
 use crate::fault::EventFault;
 use crate::network::Network;
@@ -72,6 +72,13 @@ impl World {
         ensures { result ≡ length (frames_between self.now.world from to) }
     {
         self.network.frames(from, to)
+    }
+
+    /// How many BFR-ids are on their way: those of all copies of packets in flight.
+    pub fn ids_in_flight(&self) -> M<u64>
+        ensures { IfOk result (λ count. count ≡ ids_in_flight self.now.world.flights) }
+    {
+        self.network.ids_in_flight()
     }
 
     /// The router at a place.
