@@ -29,3 +29,4 @@ pub mod TurnLaws
 pub mod ViewTruth
 pub mod WorldTruth
 mod CarriedLaws
+mod ShortLaws

@@ -1,5 +1,5 @@
 -- What one event answers.
-use Rattle.std.specs.Prelude.{◌≡◌, ℕ, nat_le, Bool, true, false, List, [], map, drop, Option, Some, None, Result, Ok, Err}
+use Rattle.std.specs.Prelude.{◌≡◌, ℕ, ◌<◌, nat_le, Bool, true, false, List, [], length, map, drop, Option, Some, None, Result, Ok, Err}
 use Rattle.wire_base.specs.declared.conf.Kind.{Kind}
 use Rattle.wire_base.specs.declared.conf.RouterConf.{RouterConf}
 use Rattle.wire_base.specs.declared.faults.EdgeFault.{EdgeFault}
@@ -15,6 +15,7 @@ use Rattle.domain_core.specs.declared.fault.EventFault.{EventFault}
 use Rattle.domain_core.specs.declared.fault.EventFault.TheVariants as faults
 use Rattle.domain_core.specs.declared.flight.Load.{Load}
 use Rattle.domain_core.specs.declared.step_out.StepOut.{StepOut}
+use Rattle.domain_core.specs.declared.step_out.WireFrame.{WireFrame}
 use Rattle.domain_core.specs.Faults.{most_events, first_fault, unless_room, rule_fault}
 use Rattle.domain_core.specs.Flights.{number_of}
 use Rattle.domain_core.specs.Framed.{wire_of, wire_from, got_line, drop_line}
@@ -74,6 +75,10 @@ entry_refused edge.Memory = faults.Memory
 -- what was sent, as frames, delivered and dropped
 abbrev pub told : List RouterConf → Made → StepOut
 told confs m = record { sent = map (wire_of confs) m.sent; got = m.got; drops = m.drops }
+
+-- a frame that fits a record of a capture
+abbrev pub IsShortFrame : WireFrame → Type 0
+IsShortFrame f = length f.octets < 65536
 
 -- the same of what the router at place a did because of a frame with that note
 abbrev pub told_of : List RouterConf → ℕ → Load → Effects → StepOut
