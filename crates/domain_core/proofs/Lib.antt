@@ -1,4 +1,5 @@
 pub mod AgedTruth
+pub mod CarryLaws
 pub mod ControlTruth
 pub mod CopyTruth
 pub mod DomainLaws

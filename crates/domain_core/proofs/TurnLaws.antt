@@ -1,5 +1,5 @@
 -- A router of a domain at work turns into another state.
-use Rattle.std.proofs.Common.{◌≡◌, ℕ, ◌<◌, List, [], length, map, slice_get, slice_set, slice_index_or, Option, Some, refl, sym, ap, subst, ◌∙◌, arith}
+use Rattle.std.proofs.Common.{◌≡◌, ℕ, ◌<◌, List, [], length, map, slice_get, slice_set, slice_index_or, Option, Some, Result, Ok, Err, OnErr, refl, sym, ap, subst, ◌∙◌, arith}
 use Rattle.std.proofs.lemmas.List.{map-set}
 use Rattle.std.proofs.lemmas.Option.{slice_get_read}
 use Rattle.wire_base.specs.declared.conf.RouterConf.{RouterConf}
@@ -13,6 +13,11 @@ use Rattle.domain_core.specs.Network.{NetworkState, world_of}
 use Rattle.domain_core.specs.Step.{Happened, same_world, with_router, turns, changes, changes_end, sends}
 use Rattle.domain_core.specs.World.{WorldState}
 use Rattle.domain_core.proofs.QueueLaws.{get_mapped, map_set}
+
+-- what holds anyway holds after a failure
+pub on_err : {T E : Type 0} (r : Result T E) (P : Type 0) → P → OnErr r P
+on_err (Ok x) P p = tt
+on_err (Err e) P p = p
 
 -- the router at a place, as it is read
 pub router_there : (routers : List RouterState) (i a : ℕ) (r : RouterState) → i ≡ a → a < length routers → r ≡ slice_index_or routers i r → slice_get routers a ≡ Some r

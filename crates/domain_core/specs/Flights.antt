@@ -2,6 +2,7 @@
 -- its octets don't tell. And the items that they are.
 use Rattle.std.specs.Prelude.{ℕ, ◌≤◌, List, [], ◌∷◌, ◌++◌, length, map, slice_get, slice_index_or, slice_set, sum_by, Option, Some, None}
 use Rattle.std.specs.List.{fold, remove}
+use Rattle.wire_base.specs.declared.conf.Level.{Level}
 use Rattle.wire_base.specs.declared.conf.RouterConf.{RouterConf}
 use Rattle.wire_base.specs.declared.effects.Sent.{Sent}
 use Rattle.wire_base.specs.model.Item.{Item}
@@ -83,3 +84,8 @@ number_of (Packet number triple kind) = Some number
 -- behind the first 14 octets there is a number of 32 bits
 abbrev pub IsLong : Sent → Type 0
 IsLong s = 18 ≤ length s.octets
+
+-- what is noted of what a router of that level does because of a frame: its own level of a PDU, and all of a packet
+abbrev pub load_at : Level → Load → Load
+load_at level (Pdu other) = Pdu level
+load_at level (Packet number triple kind) = Packet number triple kind

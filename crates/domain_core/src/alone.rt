@@ -11,6 +11,7 @@ ghost use Rattle.domain_core.specs.Truth.{InjectFits};
 use crate::fault::EventFault;
 use crate::flight::Load;
 use crate::network::Network;
+use crate::places::confs_of;
 use crate::sent::carry;
 use crate::step_out::StepOut;
 use wire_base::{Bsl, EdgeFault, Kind, M, Triple, kind_of};
@@ -96,8 +97,9 @@ impl Network {
         let router = &mut self.routers[usize::from(from)];
         let load = Load::Pdu(router.conf().level);
         let effects = router.send(link)?;
-        let confs = self.domain.routers.as_slice();
-        carry(&mut self.flights, confs, from, load, &effects)
+        let confs = confs_of(&self.domain);
+        let out = carry(&mut self.flights, confs, from, load, &effects)?;
+        Ok(out)
     }
 
     /// A payload enters at a router.
@@ -127,7 +129,7 @@ impl Network {
         match entered {
             Err(fault) => Err(entry_refused(fault)),
             Ok(effects) => {
-                let confs = self.domain.routers.as_slice();
+                let confs = confs_of(&self.domain);
                 let out = carry(&mut self.flights, confs, at, load, &effects)?;
                 self.injections = number;
                 Ok(out)

@@ -7,7 +7,7 @@ ghost use Rattle.domain_core.specs.Network.{started_router, IsTrueNetwork};
 ghost use Rattle.domain_core.specs.World.{link_between, frames_between, first_world, ids_in_flight};
 
 use crate::flights::Flights;
-use crate::places::link_between;
+use crate::places::{confs_of, link_between};
 use router_core::Router;
 use std::alloc::Global;
 use wire_base::{Domain, M, RouterConf};
@@ -42,8 +42,8 @@ impl Network {
         ensures heard { IfOk result (λ n. heard_in n ≡ map (λ r. 0) domain.routers) }
         ensures kept { IfOk result (λ n. IsTrueNetwork (state_of n)) }
     {
-        let routers = routers_of(alloc, domain.routers.as_slice())?;
-        let flights = Flights::new(alloc, domain.routers.as_slice())?;
+        let routers = routers_of(alloc, confs_of(&domain))?;
+        let flights = Flights::new(alloc, confs_of(&domain))?;
         Ok(Network {
             domain,
             routers,
@@ -62,7 +62,7 @@ impl Network {
     pub(crate) fn link(&self, from: u16, to: u16) -> Option<u16>
         ensures { result ≡ link_between self.now.domain.routers from to }
     {
-        link_between(self.domain.routers.as_slice(), from, to)
+        link_between(confs_of(&self.domain), from, to)
     }
 
     /// How many frames are on their way from one router to another.

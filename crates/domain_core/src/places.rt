@@ -5,7 +5,16 @@ ghost use Rattle.wire_base.specs.model.Choice.{end_toward, is_system};
 ghost use Rattle.wire_base.specs.model.Configuration.{IsSound};
 ghost use Rattle.domain_core.specs.World.{place_of, end_at, peer_place, link_between};
 
-use wire_base::{End, RouterConf, SystemId};
+use wire_base::{Domain, End, RouterConf, SystemId};
+
+/// The configurations of a domain's routers, by place.
+pub(crate) fn confs_of(domain: &Domain) -> &[RouterConf]
+    ensures confs { result.now ≡ domain.now.routers }
+    ensures sound { AllByRecursion IsSound result.now }
+    ensures few { length result.now ≤ 250 }
+{
+    domain.routers.as_slice()
+}
 
 /// The configuration of the router at a place.
 pub(crate) fn conf_at(confs: &[RouterConf], place: u16) -> Option<&RouterConf>

@@ -1,16 +1,18 @@
 //! What arrives, is lost or comes again.
 ghost use Rattle.std.specs.Prelude.{◌≡◌, ◌<◌, false, length, IfOk, OnOk, OnErr};
 ghost use Rattle.replay_text.specs.declared.event.Event.TheVariants as events;
+ghost use Rattle.domain_core.specs.Flights.{load_at};
 ghost use Rattle.domain_core.specs.Held.{state_of, world_in, heard_in, IsDone};
 ghost use Rattle.domain_core.specs.Network.{IsTrueNetwork, heard_after};
 ghost use Rattle.domain_core.specs.Step.{doing};
 
 use crate::flight::{Flight, Load};
 use crate::network::Network;
+use crate::places::confs_of;
 use crate::sent::carry;
 use crate::step_out::StepOut;
 use crate::told::lost;
-use wire_base::{Cause, M};
+use wire_base::{Cause, Level, M};
 
 impl Network {
     /// A frame is lost: the router that it was for drops it.
@@ -79,10 +81,21 @@ impl Network {
             self.flights.remove(from, link, i as usize);
             return Ok(out);
         }
-        let load = flight.load;
+        let load = load_at(router.conf().level, flight.load);
         let effects = router.frame(back, flight.octets.as_slice())?;
         self.flights.remove(from, link, i as usize);
-        let confs = self.domain.routers.as_slice();
-        carry(&mut self.flights, confs, to, load, &effects)
+        let confs = confs_of(&self.domain);
+        let out = carry(&mut self.flights, confs, to, load, &effects)?;
+        Ok(out)
+    }
+}
+
+/// What is noted of what a router of that level does because of a frame.
+fn load_at(level: Level, load: Load) -> Load
+    ensures { result ≡ load_at level load }
+{
+    match load {
+        Load::Pdu(_) => Load::Pdu(level),
+        Load::Packet(number, triple, kind) => Load::Packet(number, triple, kind),
     }
 }
