@@ -11,7 +11,7 @@ use Rattle.wire_base.specs.model.Choice.{end_toward}
 use Rattle.wire_base.specs.model.Configuration.{DomainConf}
 use Rattle.wire_base.specs.model.Control.{same_system, Control}
 use Rattle.wire_base.specs.model.Flooding.{first_control}
-use Rattle.wire_base.specs.model.Item.{Item}
+use Rattle.wire_base.specs.model.Item.{Item, ControlItem, PacketItem}
 
 -- The domain; its routers' control states, by place; for each router and each of its ends what is on the way over that
 -- end to the router at the other end, the oldest first; how many injections were made and how many events were done.
@@ -82,6 +82,15 @@ frames_between w a b = queue_over w.flights a (link_between w.domain.routers a b
 -- how much is on the way in all
 unfoldable pub in_flight : List (List (List Item)) → ℕ
 in_flight flights = sum_by (λ queues. sum_by (λ queue. length queue) queues) flights
+
+-- the BFR-ids of an item
+abbrev pub carried : Item → ℕ
+carried (ControlItem p) = 0
+carried (PacketItem x) = length x.ids
+
+-- how many BFR-ids are on the way
+unfoldable pub ids_in_flight : List (List (List Item)) → ℕ
+ids_in_flight flights = sum_by (λ queues. sum_by (λ queue. sum_by carried queue) queues) flights
 
 -- ---- the beginning
 
