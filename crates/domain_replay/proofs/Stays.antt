@@ -1,13 +1,14 @@
 -- What no event changes: the domain and the number of its routers; and how the number of injections grows.
-use Rattle.std.proofs.Common.{◌≡◌, ℕ, zero, suc, ◌+◌, ◌<◌, Bool, true, false, List, length, slice_get, slice_set, length-set, Option, Some, None, if◌then◌else◌, refl, arith}
+use Rattle.std.proofs.Common.{◌≡◌, ℕ, zero, suc, ◌+◌, ◌<◌, Bool, true, false, List, [], ◌∷◌, length, slice_get, slice_set, length-set, Option, Some, None, if◌then◌else◌, refl, arith}
 use Rattle.wire_base.specs.model.Control.{Control}
 use Rattle.wire_base.specs.model.Flooding.{Reply, end_up, end_down, send, tick, restart}
 use Rattle.wire_base.specs.model.Item.{Item, ControlItem, PacketItem}
 use Rattle.replay_text.specs.declared.event.Event.{Event}
 use Rattle.replay_text.specs.declared.event.Event.TheVariants.{Inject, Take, Lose, Again, Down, Up, Send, Tick, Restart}
 use Rattle.domain_core.specs.World.{WorldState, is_up, link_between, queue_at}
-use Rattle.domain_core.specs.Moves.{Made, inject_made}
-use Rattle.domain_core.specs.Step.{Happened, arrives, comes, takes, takes_over, loses, loses_over, repeats, repeats_over, injects, changes_end, sends, changes, doing, happens}
+use Rattle.domain_core.specs.Moves.{Made, item_lost, inject_made}
+use Rattle.wire_base.specs.declared.cause.Cause.TheVariants as cause
+use Rattle.domain_core.specs.Step.{Happened, makes, arrives, comes, takes, takes_over, loses, loses_over, repeats, repeats_over, injects, changes_end, sends, changes, doing, happens_with, happens}
 use Rattle.domain_replay.specs.Counting.{injected_by}
 use Rattle.domain_replay.specs.Telling.{IsEntered}
 
@@ -27,7 +28,7 @@ arrives_stays w b back c (PacketItem x) = record { domain = refl; routers = refl
 comes_stays : (w : WorldState) (b back : ℕ) (c : Control) (x : Item) → Stays 0 w (comes false w b back c x)
 comes_stays w b back c x = by (is_up c back)
   where
-    by : (up : Bool) → Stays 0 w (if up then arrives false w b back c x else _)
+    by : (up : Bool) → Stays 0 w (if up then arrives false w b back c x else makes w (item_lost b cause.Link x))
     by true = arrives_stays w b back c x
     by false = record { domain = refl; routers = refl; injections = none_more w.injections }
 
@@ -93,4 +94,5 @@ doing_stays w (Tick a) there = changes_stays w a tick (slice_get w.routers a)
 doing_stays w (Restart a) there = changes_stays w a restart (slice_get w.routers a)
 
 pub happens_stays : (w : WorldState) (e : Event) → IsEntered (length w.routers) e → Stays (injected_by e) w (happens w e)
+unfolding happens_with
 happens_stays w e there = let s = doing_stays w e there in record { domain = s.domain; routers = s.routers; injections = s.injections }

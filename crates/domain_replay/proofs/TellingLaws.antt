@@ -1,5 +1,6 @@
 -- What is told of a run is told event by event.
-use Rattle.std.proofs.Common.{◌≡◌, ℕ, zero, suc, ◌+◌, filter, List, [], ◌∷◌, ◌++◌, length, map, Option, Some, None, refl, sym, ap, subst, ◌∙◌, append_assoc, append-nil, length-append, length-map, arith}
+use Rattle.std.proofs.Common.{◌≡◌, ℕ, zero, suc, ◌+◌, filter, List, [], ◌∷◌, ◌++◌, length, map, Option, Some, None, refl, sym, ap, subst, ◌∙◌, append_assoc, append-nil, length-append, arith}
+use Rattle.std.proofs.lemmas.List.{length-map}
 use Rattle.std.specs.Prelude.{flat_map, sum_by}
 use Rattle.std.specs.List.{fold, AllByRecursion}
 use Rattle.std.proofs.lemmas.Grind.{fold-append, flat_map-append}
@@ -7,6 +8,7 @@ use Rattle.std.proofs.lemmas.List.Sums.{sum_by-append, sum_by-cons}
 use Rattle.wire_base.specs.declared.conf.RouterConf.{RouterConf}
 use Rattle.wire_base.specs.model.Capture.{written_header}
 use Rattle.wire_base.specs.model.Configuration.{DomainConf}
+use Rattle.wire_base.specs.model.Flooding.{first_control}
 use Rattle.replay_text.specs.declared.event.Event.{Event}
 use Rattle.replay_text.specs.declared.event.Event.TheVariants.{Send, Take}
 use Rattle.replay_text.specs.declared.event.Line.{Line}
@@ -29,10 +31,9 @@ use Rattle.domain_replay.proofs.Stays.{Stays, happens_stays}
 
 -- ---- one event more
 
-unfolding events_text
-
 text_more : (w : WorldState) (es : List (ℕ × Event)) (e : ℕ × Event) →
     events_text w (es ++ e ∷ []) ≡ events_text w es ++ made_text (world_after_all w es).domain.routers e.0 (happens (world_after_all w es) e.1).made
+unfolding events_text
 text_more w [] e = append-nil _
 text_more w (x ∷ es) e =
     ap (λ (l : List ℕ). made_text w.domain.routers x.0 (happens w x.1).made ++ l) (text_more (happens w x.1).world es e)
@@ -51,10 +52,9 @@ same_telling : (w : WorldState) (c k : Counts) (f g r s : List ℕ) → c ≡ k 
     ◌≡◌ {A = Telling} (record { world = w; counts = c; frames = f; report = r }) (record { world = w; counts = k; frames = g; report = s })
 same_telling w c k f g r s h i j = rw (h, i, j) refl
 
-unfolding goes_on
-
 counts_more : (r : Run) (line : ℕ) (e : Event) → (happens r.world e).world.injections ≡ r.world.injections + injected_by e →
     counted (counts_of r) e (happens r.world e).made.got (happens r.world e).made.drops ≡ counts_of (goes_on r (line, e))
+unfolding goes_on
 counts_more r line e grown =
     same_counts _ _ _ _ _ _ _ _
     (sym grown)
@@ -70,10 +70,9 @@ counts_more r line e grown =
         last : (n : ℕ) → n + sum_by named_by [] ≡ n
         last n = omega arith
 
-unfolding goes_on tells capture_text run_text
-
 told_more : (d : DomainConf) (r : Run) (line : ℕ) (e : Event) → IsRunOf d r → IsEntered (length d.routers) e →
     tells line (telling_of d r) e ≡ telling_of d (goes_on r (line, e))
+unfolding goes_on tells capture_text run_text
 told_more d r line e is there =
     let s : Stays (injected_by e) r.world (happens r.world e) = happens_stays r.world e (subst (λ (n : ℕ). IsEntered n e) (sym is.routers) there) in
     let same : r.world.domain.routers ≡ d.routers = ap (λ (x : DomainConf). x.routers) is.domain in
@@ -85,9 +84,8 @@ told_more d r line e is there =
     (ap (λ (w : WorldState). events_text (first_world d) r.events ++ made_text w.domain.routers line (happens w e).made) is.world
     ∙ sym (text_more (first_world d) r.events (line, e)))
 
-unfolding goes_on
-
 goes_further : (d : DomainConf) (r : Run) (line : ℕ) (e : Event) → IsRunOf d r → IsEntered (length d.routers) e → IsRunOf d (goes_on r (line, e))
+unfolding goes_on
 goes_further d r line e is there =
     let s : Stays (injected_by e) r.world (happens r.world e) = happens_stays r.world e (subst (λ (n : ℕ). IsEntered n e) (sym is.routers) there) in
     record {
@@ -103,9 +101,8 @@ tries_so : (d : DomainConf) (line : ℕ) (r : Run) (e : Event) → IsRunOf d r �
 tries_so d line r e is there None = record { run = goes_further d r line e is there; telling = told_more d r line e is there; refused = refl }
 tries_so d line r e is there (Some why) = record { run = is; telling = refl; refused = refl }
 
-unfolding does tells_on
-
 told_on : (d : DomainConf) (line : ℕ) (e : Event) → IsEntered (length d.routers) e → (p : Progress) (t : Told) → IsToldSo d line p t → IsToldSo d line (does line p e) (tells_on line t e)
+unfolding does tells_on
 told_on d line e there p t so = by p.refused t.refused so.refused
   where
     by : (o : Option (ℕ × EventFault)) (q : Option EventFault) → o ≡ at_line line q → IsToldSo d line (goes_unless p line e o) (tells_unless line t e q)
@@ -116,9 +113,8 @@ told_on d line e there p t so = by p.refused t.refused so.refused
     by (Some refused) None h = absurd cc
     by (Some refused) (Some why) h = so
 
-unfolding tells_all
-
 told_all : (d : DomainConf) (line : ℕ) (es : List Event) → AllByRecursion (IsEntered (length d.routers)) es → (p : Progress) (t : Told) → IsToldSo d line p t → IsToldSo d line (fold (does line) p es) (tells_all line t es)
+unfolding tells_all
 told_all d line [] each p t so = so
 told_all d line (e ∷ es) each p t so = told_all d line es each.1 (does line p e) (tells_on line t e) (told_on d line e each.0 p t so)
 
@@ -131,17 +127,15 @@ takes_enter n w (d ∷ ds) =
     (each_repeated (IsEntered n) (length (frames_between w d.from d.to)) (Take d.from d.to 0) tt)
     (takes_enter n (world_after w (taken_now w d)) ds)
 
-unfolding round_events
-
 round_enters : (n : ℕ) (w : WorldState) → AllByRecursion (IsEntered n) (round_events w)
+unfolding round_events directions
 round_enters n w =
     each_joined (IsEntered n) (round_sends w) (round_takes (world_after w (round_sends w)) (directions w.domain.routers))
     (each_mapped (IsEntered n) (λ (d : Direction). Send d.from d.to) (filter (may_send w) (directions w.domain.routers)) (each_from (λ (d : Direction). Unit {0}) (λ d. tt) (filter (may_send w) (directions w.domain.routers))))
     (takes_enter n (world_after w (round_sends w)) (directions w.domain.routers))
 
-unfolding settle_events
-
 settle_enters : (n : ℕ) (w : WorldState) (rounds : ℕ) → AllByRecursion (IsEntered n) (settle_events w rounds)
+unfolding settle_events
 settle_enters n w zero = tt
 settle_enters n w (suc rounds) =
     each_joined (IsEntered n) (round_events w) (settle_events (world_after w (round_events w)) rounds) (round_enters n w) (settle_enters n (world_after w (round_events w)) rounds)
@@ -151,15 +145,13 @@ line_enters n w Empty there = tt
 line_enters n w (One e) there = (there, tt)
 line_enters n w (Settle rounds) there = settle_enters n w rounds
 
-unfolding line_done tells_line
-
 pub line_told : (d : DomainConf) (line : ℕ) (r : Run) (l : Line) → IsRunOf d r → LineEnters (length d.routers) l →
     IsToldSo d line (line_done line (record { run = r; refused = None }) l) (tells_line line (telling_of d r) l)
+unfolding line_done tells_line tells_all
 line_told d line r l is there =
     told_all d line (line_events r.world l) (line_enters (length d.routers) r.world l there) (record { run = r; refused = None }) (told (telling_of d r))
     (record { run = is; telling = refl; refused = refl })
 
-unfolding first_run first_world capture_text run_text events_text
-
 pub start_told : (d : DomainConf) → IsRunOf d (first_run d) × (first_telling d ≡ telling_of d (first_run d))
-start_told d = (record { world = refl; domain = refl; routers = length-map d.routers first_control }, ?)
+unfolding first_run first_world capture_text run_text events_text
+start_told d = (record { world = refl; domain = refl; routers = length-map d.routers first_control }, same_telling (first_world d) _ _ _ _ _ _ refl (sym (append-nil written_header)) refl)

@@ -8,12 +8,12 @@ use Rattle.domain_core.specs.Moves.{Sending}
 use Rattle.domain_core.specs.Framed.{frame_over}
 
 -- A frame is recorded with the line of its event as the second, and no microseconds.
-abbrev pub frame_record : ℕ → List ℕ → List ℕ
+unfoldable pub frame_record : ℕ → List ℕ → List ℕ
 frame_record line octets = written_record line 0 octets
 
--- the records of an event's frames
-abbrev pub frame_records : ℕ → List WireFrame → List ℕ
-frame_records line frames = flat_map (λ (f : WireFrame). frame_record line f.octets) frames
+-- the record of a frame that is told
+abbrev pub wire_record : ℕ → WireFrame → List ℕ
+wire_record line f = frame_record line f.octets
 
 -- the record of an item that a router sent, with its line
 abbrev pub sending_record : List RouterConf → ℕ × Sending → List ℕ

@@ -1,20 +1,30 @@
 //! What routers send, as records of a capture.
-ghost use Rattle.std.specs.Prelude.{◌≡◌, ◌++◌, length, take, OnOk, OnErr};
-ghost use Rattle.domain_replay.specs.Captures.{frame_records, AreShort};
+ghost use Rattle.std.specs.Prelude.{◌≡◌, ◌<◌, ◌++◌, length, take, OnOk, OnErr, flat_map};
+ghost use Rattle.domain_replay.specs.Captures.{wire_record, AreShort};
 
 use domain_core::WireFrame;
 use pcap_frames::write_cap_record;
 use wire_base::{M, Octets};
 
-/// The same, but for what stands behind the old end where memory is refused.
+/// Appends the record of a frame.
+#[tactic(auto, unfolding(crate::specs::Captures::frame_record))]
+fn push_frame(out: &mut Octets, line: u32, frame: &WireFrame) -> M<()>
+    requires { length frame.now.octets < 65536 }
+    ensures ok { OnOk result (out.new ≡ out.old ++ wire_record line frame.now) }
+    ensures err { OnErr result (out.new ≡ out.old) }
+{
+    write_cap_record(out, line, 0, frame.octets.as_slice())
+}
+
+/// The same as `push_frames`, but for what stands behind the old end where memory is refused.
 #[tactic(auto, using(replay_text::proofs::Appended::front, replay_text::proofs::Appended::front_of_front))]
 fn push_each(out: &mut Octets, line: u32, frames: &[WireFrame]) -> M<()>
     requires { AreShort frames.now }
-    ensures ok { OnOk result (out.new ≡ out.old ++ frame_records line frames.now) }
+    ensures ok { OnOk result (out.new ≡ out.old ++ flat_map (wire_record line) frames.now) }
     ensures err { OnErr result (take (length out.old) out.new ≡ out.old) }
 {
     for frame in frames {
-        write_cap_record(out, line, 0, frame.octets.as_slice())?;
+        push_frame(out, line, frame)?;
     }
     Ok(())
 }
@@ -23,7 +33,7 @@ fn push_each(out: &mut Octets, line: u32, frames: &[WireFrame]) -> M<()>
 /// nothing is appended.
 pub fn push_frames(out: &mut Octets, line: u32, frames: &[WireFrame]) -> M<()>
     requires { AreShort frames.now }
-    ensures ok { OnOk result (out.new ≡ out.old ++ frame_records line frames.now) }
+    ensures ok { OnOk result (out.new ≡ out.old ++ flat_map (wire_record line) frames.now) }
     ensures err { OnErr result (out.new ≡ out.old) }
 {
     let len = out.len();

@@ -1,12 +1,11 @@
 //! The causes of drops, as a report says them.
 ghost use Rattle.std.specs.Prelude.{◌≡◌, ◌++◌, OnOk, OnErr, codes};
-ghost use Rattle.std.specs.Fmt.{decimal};
 ghost use Rattle.domain_replay.specs.Causes.{cause_text, head_rule, frame_rule, ip_rule, pdu_rule};
 
 use wire_base::{Cause, FrameFault, HeadFault, IpFault, M, Octets, PduFault};
 
 fn head_word(fault: HeadFault) -> &'static [u8]
-    ensures { result.now ≡ codes "head-" ++ decimal (head_rule fault) }
+    ensures { result.now ≡ codes "head-" ++ head_rule fault }
 {
     match fault {
         HeadFault::Short => b"head-1",
@@ -17,7 +16,7 @@ fn head_word(fault: HeadFault) -> &'static [u8]
 }
 
 fn frame_word(fault: FrameFault) -> &'static [u8]
-    ensures { result.now ≡ codes "frame-" ++ decimal (frame_rule fault) }
+    ensures { result.now ≡ codes "frame-" ++ frame_rule fault }
 {
     match fault {
         FrameFault::Short => b"frame-1",
@@ -26,7 +25,7 @@ fn frame_word(fault: FrameFault) -> &'static [u8]
 }
 
 fn ip_word(fault: IpFault) -> &'static [u8]
-    ensures { result.now ≡ codes "ip-" ++ decimal (ip_rule fault) }
+    ensures { result.now ≡ codes "ip-" ++ ip_rule fault }
 {
     match fault {
         IpFault::Short => b"ip-1",
@@ -43,7 +42,7 @@ fn ip_word(fault: IpFault) -> &'static [u8]
 }
 
 fn pdu_word(fault: PduFault) -> &'static [u8]
-    ensures { result.now ≡ codes "pdu-" ++ decimal (pdu_rule fault) }
+    ensures { result.now ≡ codes "pdu-" ++ pdu_rule fault }
 {
     match fault {
         PduFault::Short => b"pdu-1",

@@ -1,6 +1,8 @@
 //! The lines of a report: what each event delivered and dropped, and the last line.
 ghost use Rattle.std.specs.Prelude.{◌≡◌, ◌++◌, ◌∷◌, [], IfOk, OnOk, OnErr, flat_map};
 ghost use Rattle.std.specs.Fmt.{decimal};
+ghost use Rattle.replay_text.specs.Ids.{ids_text};
+ghost use Rattle.domain_replay.specs.Causes.{cause_text};
 ghost use Rattle.domain_replay.specs.Lines as spec;
 
 use crate::cause::push_cause;
@@ -8,7 +10,7 @@ use crate::counts::Counts;
 use domain_core::{DropLine, GotLine, StepOut};
 use replay_text::{push_ids, push_payload};
 use std::alloc::Global;
-use wire_base::{M, Octets, RouterConf};
+use wire_base::{Cause, M, Octets, RouterConf};
 
 /// The name of the router at a place; none of another place.
 fn name_at(routers: &[RouterConf], place: u16) -> &[u8]
@@ -30,15 +32,21 @@ fn push_front(out: &mut Octets, line: u32, what: &[u8], router: &[u8]) -> M<()>
     out.push(b' ')
 }
 
+/// Appends a number, with a blank behind.
+fn push_number(out: &mut Octets, number: u32) -> M<()>
+    ensures { OnOk result (out.new ≡ out.old ++ (decimal number ++ 32 ∷ [])) }
+{
+    out.append_number(u64::from(number))?;
+    out.push(b' ')
+}
+
 /// Appends the line of a delivery.
 fn push_got(out: &mut Octets, routers: &[RouterConf], line: u32, got: &GotLine) -> M<()>
     ensures { OnOk result (out.new ≡ out.old ++ spec.got_text routers.now line got.now) }
 {
     push_front(out, line, b" got ", name_at(routers, got.router))?;
-    out.append_number(u64::from(got.injection))?;
-    out.push(b' ')?;
-    out.append_number(u64::from(got.id))?;
-    out.push(b' ')?;
+    push_number(out, got.injection)?;
+    push_number(out, u32::from(got.id))?;
     push_payload(out, got.payload.as_slice())?;
     out.push(b'\n')
 }
@@ -53,6 +61,16 @@ fn push_injection(out: &mut Octets, injection: Option<u32>) -> M<()>
     }
 }
 
+/// Appends a cause and BFR-ids, which end a line.
+fn push_loss(out: &mut Octets, cause: &Cause, ids: &[u16]) -> M<()>
+    ensures { OnOk result (out.new ≡ out.old ++ (cause_text cause.now ++ 32 ∷ (ids_text ids.now ++ 10 ∷ []))) }
+{
+    push_cause(out, cause)?;
+    out.push(b' ')?;
+    push_ids(out, ids)?;
+    out.push(b'\n')
+}
+
 /// Appends the line of a drop.
 fn push_drop(out: &mut Octets, routers: &[RouterConf], line: u32, dropped: &DropLine) -> M<()>
     ensures { OnOk result (out.new ≡ out.old ++ spec.drop_text routers.now line dropped.now) }
@@ -60,10 +78,7 @@ fn push_drop(out: &mut Octets, routers: &[RouterConf], line: u32, dropped: &Drop
     push_front(out, line, b" drop ", name_at(routers, dropped.router))?;
     push_injection(out, dropped.injection)?;
     out.push(b' ')?;
-    push_cause(out, &dropped.cause)?;
-    out.push(b' ')?;
-    push_ids(out, dropped.ids.as_slice())?;
-    out.push(b'\n')
+    push_loss(out, &dropped.cause, dropped.ids.as_slice())
 }
 
 fn push_gots(out: &mut Octets, routers: &[RouterConf], line: u32, gots: &[GotLine]) -> M<()>
