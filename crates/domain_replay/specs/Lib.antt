@@ -1,0 +1,6 @@
+pub mod Causes
+pub mod Lines
+pub mod Captures
+pub mod Counting
+pub mod Texts
+pub mod Telling

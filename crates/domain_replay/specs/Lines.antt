@@ -1,0 +1,102 @@
+-- The lines of a report on a run.
+use Rattle.std.specs.Prelude.{ℕ, List, [], ◌∷◌, ◌++◌, flat_map, slice_get, option_map, unwrap_or, Option, Some, None, codes}
+use Rattle.std.specs.Fmt.{decimal}
+use Rattle.wire_base.specs.declared.conf.RouterConf.{RouterConf}
+use Rattle.wire_base.specs.declared.faults.EdgeFault.{EdgeFault}
+use Rattle.wire_base.specs.declared.faults.EdgeFault.TheVariants as edge
+use Rattle.replay_text.specs.declared.fault.TextFault.{TextFault}
+use Rattle.replay_text.specs.declared.fault.TextFault.TheVariants as text
+use Rattle.replay_text.specs.Ids.{ids_text}
+use Rattle.replay_text.specs.Payload.{payload_text}
+use Rattle.domain_conf.specs.declared.fault.ConfFault.{ConfFault}
+use Rattle.domain_conf.specs.Fault as conf
+use Rattle.domain_core.specs.declared.fault.EventFault.{EventFault}
+use Rattle.domain_core.specs.declared.fault.EventFault.TheVariants as event
+use Rattle.domain_core.specs.declared.step_out.GotLine.{GotLine}
+use Rattle.domain_core.specs.declared.step_out.DropLine.{DropLine}
+use Rattle.domain_replay.specs.declared.counts.Counts.{Counts}
+use Rattle.domain_replay.specs.Causes.{cause_text}
+
+-- A line is words with a blank between them, and LF.
+abbrev pub line_of : List (List ℕ) → List ℕ
+line_of [] = 10 ∷ []
+line_of (word ∷ []) = word ++ 10 ∷ []
+line_of (word ∷ next ∷ more) = word ++ 32 ∷ line_of (next ∷ more)
+
+-- ---- what an event did
+
+-- the name of the router at a place
+abbrev pub name_at : List RouterConf → ℕ → List ℕ
+name_at routers place = unwrap_or (option_map (λ r. r.name) (slice_get routers place)) []
+
+-- the number of an injection, or `-` for what carries no packet
+abbrev pub injection_text : Option ℕ → List ℕ
+injection_text None = 45 ∷ []
+injection_text (Some number) = decimal number
+
+-- `LINE got ROUTER INJECTION ID PAYLOAD`
+abbrev pub got_text : List RouterConf → ℕ → GotLine → List ℕ
+got_text routers line got =
+    line_of (decimal line ∷ codes "got" ∷ name_at routers got.router ∷ decimal got.injection ∷ decimal got.id ∷ payload_text got.payload ∷ [])
+
+-- `LINE drop ROUTER INJECTION CAUSE IDS`
+abbrev pub drop_text : List RouterConf → ℕ → DropLine → List ℕ
+drop_text routers line dropped =
+    line_of (decimal line ∷ codes "drop" ∷ name_at routers dropped.router ∷ injection_text dropped.injection ∷ cause_text dropped.cause ∷ ids_text dropped.ids ∷ [])
+
+-- the deliveries of an event, and then its drops
+abbrev pub event_text : List RouterConf → ℕ → List GotLine → List DropLine → List ℕ
+event_text routers line gots drops = flat_map (got_text routers line) gots ++ flat_map (drop_text routers line) drops
+
+-- ---- the last line
+
+-- `done lines L injected I named N got G dropped D flight F`
+abbrev pub done_text : ℕ → Counts → ℕ → List ℕ
+done_text lines counts flight =
+    line_of (codes "done" ∷ codes "lines" ∷ decimal lines ∷ codes "injected" ∷ decimal counts.injected ∷ codes "named" ∷ decimal counts.named
+    ∷ codes "got" ∷ decimal counts.got ∷ codes "dropped" ∷ decimal counts.dropped ∷ codes "flight" ∷ decimal flight ∷ [])
+
+-- `refused conf N NAME PATH`
+abbrev pub conf_refused_text : ConfFault → List ℕ
+conf_refused_text why = line_of (codes "refused" ∷ codes "conf" ∷ decimal (conf.number_of why) ∷ conf.name_of why ∷ conf.path_of why ∷ [])
+
+-- the number and the name of a rule that a line breaks; want of memory is no rule
+abbrev pub text_fault : TextFault → List ℕ
+text_fault text.Word = codes "1 Word"
+text_fault text.Number = codes "2 Number"
+text_fault text.Name = codes "3 Name"
+text_fault text.Hex = codes "4 Hex"
+text_fault text.LineLong = codes "5 LineLong"
+text_fault text.Memory = []
+
+-- the rule that a text of more than 67,108,864 octets breaks
+abbrev pub too_long : List ℕ
+too_long = codes "6 TooLong"
+
+-- `refused LINE text N NAME`
+abbrev pub text_refused_text : ℕ → List ℕ → List ℕ
+text_refused_text line why = line_of (codes "refused" ∷ decimal line ∷ codes "text" ∷ why ∷ [])
+
+-- why a router makes no packets, with the BFR-id whose set identifier is too large; want of memory is no reason
+abbrev pub edge_fault : EdgeFault → List ℕ
+edge_fault edge.NoEgress = codes "1 NoEgress"
+edge_fault edge.IdZero = codes "2 IdZero"
+edge_fault (edge.SiLarge id) = codes "3 SiLarge " ++ decimal id
+edge_fault edge.NotBfr = codes "4 NotBfr"
+edge_fault edge.BslUnknown = codes "5 BslUnknown"
+edge_fault edge.Memory = []
+
+-- the number and the name of the reason why an event isn't allowed, with its values; want of memory is no reason
+abbrev pub event_fault : EventFault → List ℕ
+event_fault event.Events = codes "1 Events"
+event_fault event.NoLink = codes "2 NoLink"
+event_fault event.EndState = codes "3 EndState"
+event_fault event.InFlight = codes "4 InFlight"
+event_fault (event.NoFrame place count) = codes "5 NoFrame " ++ decimal place ++ codes " " ++ decimal count
+event_fault event.NotControl = codes "6 NotControl"
+event_fault (event.Edge why) = codes "7 Edge " ++ edge_fault why
+event_fault event.Memory = []
+
+-- `refused LINE event N NAME`
+abbrev pub event_refused_text : ℕ → EventFault → List ℕ
+event_refused_text line why = line_of (codes "refused" ∷ decimal line ∷ codes "event" ∷ event_fault why ∷ [])

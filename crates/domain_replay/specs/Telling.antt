@@ -1,0 +1,122 @@
+-- A run as it is told: event by event the world goes on, the counts grow, and both texts gain what the event made.
+use Rattle.std.specs.Prelude.{ℕ, ◌≡◌, ◌<◌, ◌++◌, List, [], flat_map, length, Option, Some, None, option_map}
+use Rattle.std.specs.List.{fold}
+use Rattle.wire_base.specs.declared.conf.RouterConf.{RouterConf}
+use Rattle.wire_base.specs.model.Capture.{written_header}
+use Rattle.wire_base.specs.model.Configuration.{DomainConf}
+use Rattle.replay_text.specs.declared.event.Event.{Event}
+use Rattle.replay_text.specs.declared.event.Event.TheVariants as event
+use Rattle.replay_text.specs.declared.event.Line.{Line}
+use Rattle.replay_text.specs.declared.event.Line.TheVariants as line
+use Rattle.domain_core.specs.declared.fault.EventFault.{EventFault}
+use Rattle.domain_core.specs.World.{WorldState, first_world}
+use Rattle.domain_core.specs.Moves.{Sending}
+use Rattle.domain_core.specs.Step.{Happened, happens}
+use Rattle.domain_core.specs.Faults.{event_fault}
+use Rattle.domain_core.specs.Run.{Run, Progress, line_events, on_line}
+use Rattle.domain_replay.specs.declared.counts.Counts.{Counts}
+use Rattle.domain_replay.specs.Captures.{sending_record}
+use Rattle.domain_replay.specs.Counting.{no_counts, counted, counts_of, NamesOnce}
+use Rattle.domain_replay.specs.Texts.{world_after_all, made_text, capture_text, run_text}
+
+-- The world now, what was counted, the capture so far, and the lines of the report so far.
+pub record Telling : Type 0 where
+  pub world : WorldState
+  pub counts : Counts
+  pub frames : List ℕ
+  pub report : List ℕ
+
+-- nothing was done
+abbrev pub first_telling : DomainConf → Telling
+first_telling d = record { world = first_world d; counts = no_counts; frames = written_header; report = [] }
+
+-- the records of what an event sent
+abbrev pub sent_records : List RouterConf → ℕ → List Sending → List ℕ
+sent_records routers line sendings = flat_map (sending_record routers) (on_line line sendings)
+
+abbrev pub tells_made : ℕ → Telling → Event → Happened → Telling
+tells_made line t e n =
+    record {
+      world = n.world;
+      counts = counted t.counts e n.made.got n.made.drops;
+      frames = t.frames ++ sent_records t.world.domain.routers line n.made.sent;
+      report = t.report ++ made_text t.world.domain.routers line n.made;
+    }
+
+-- one event more, of a line
+unfoldable pub tells : ℕ → Telling → Event → Telling
+tells line t e = tells_made line t e (happens t.world e)
+
+-- ---- lines
+
+-- What was told, and why the event after it isn't allowed, where one isn't.
+pub record Told : Type 0 where
+  pub telling : Telling
+  pub refused : Option EventFault
+
+abbrev pub told : Telling → Told
+told t = record { telling = t; refused = None }
+
+abbrev pub tells_or : ℕ → Telling → Event → Option EventFault → Told
+tells_or line t e None = told (tells line t e)
+tells_or line t e (Some why) = record { telling = t; refused = Some why }
+
+abbrev pub tells_unless : ℕ → Told → Event → Option EventFault → Told
+tells_unless line t e None = tells_or line t.telling e (event_fault t.telling.world e)
+tells_unless line t e (Some why) = t
+
+-- one event more; after one that isn't allowed nothing is done
+unfoldable pub tells_on : ℕ → Told → Event → Told
+tells_on line t e = tells_unless line t e t.refused
+
+unfoldable pub tells_all : ℕ → Told → List Event → Told
+tells_all line t es = fold (tells_on line) t es
+
+-- the events of a line
+unfoldable pub tells_line : ℕ → Telling → Line → Told
+tells_line line t said = tells_all line (told t) (line_events t.world said)
+
+-- ---- of a run
+
+-- what is told of a run: its world, its counts and its texts
+abbrev pub telling_of : DomainConf → Run → Telling
+telling_of d r = record { world = r.world; counts = counts_of r; frames = capture_text d r; report = run_text d r }
+
+-- What every run of a domain keeps: its events led to its world, and the domain and its routers are there.
+pub record IsRunOf (d : DomainConf) (r : Run) : Type 0 where
+  pub world : r.world ≡ world_after_all (first_world d) r.events
+  pub domain : r.world.domain ≡ d
+  pub routers : length r.world.routers ≡ length d.routers
+
+-- an injection is at a router that is there
+abbrev pub IsEntered : ℕ → Event → Type 0
+IsEntered count (event.Inject router sd bsl ids ttl entropy payload) = router < count
+IsEntered count (event.Take from to i) = Unit {0}
+IsEntered count (event.Lose from to i) = Unit {0}
+IsEntered count (event.Again from to i) = Unit {0}
+IsEntered count (event.Down from to) = Unit {0}
+IsEntered count (event.Up from to) = Unit {0}
+IsEntered count (event.Send from to) = Unit {0}
+IsEntered count (event.Tick router) = Unit {0}
+IsEntered count (event.Restart router) = Unit {0}
+
+abbrev pub LineEnters : ℕ → Line → Type 0
+LineEnters count line.Empty = Unit {0}
+LineEnters count (line.One e) = IsEntered count e
+LineEnters count (line.Settle rounds) = Unit {0}
+
+-- no BFR-id is named twice in a line
+abbrev pub LineNamesOnce : Line → Type 0
+LineNamesOnce line.Empty = Unit {0}
+LineNamesOnce (line.One e) = NamesOnce e
+LineNamesOnce (line.Settle rounds) = Unit {0}
+
+-- the line that was refused, where one was
+abbrev pub at_line : ℕ → Option EventFault → Option (ℕ × EventFault)
+at_line line refused = option_map (λ why. (line, why)) refused
+
+-- A line that is told is a line that is done: as far, and refused for the same reason.
+pub record IsToldSo (d : DomainConf) (line : ℕ) (p : Progress) (t : Told) : Type 0 where
+  pub run : IsRunOf d p.run
+  pub telling : t.telling ≡ telling_of d p.run
+  pub refused : p.refused ≡ at_line line t.refused

@@ -1,0 +1,17 @@
+//! What a domain did over a schedule, as texts: the capture of what its routers sent, and the report of what they delivered and
+//! dropped.
+#![tactic(auto)]
+
+mod capture;
+mod cause;
+mod counts;
+mod laws;
+mod lines;
+mod refused;
+
+pub use capture::push_frames;
+pub use cause::push_cause;
+pub use counts::Counts;
+pub use laws::{a_start_is_told, each_line_is_told};
+pub use lines::{push_done, push_event};
+pub use refused::{push_conf_refused, push_event_refused, push_text_refused, push_too_long};

@@ -1,0 +1,11 @@
+//! The texts of a run tried on small domains: each function computes nothing, and what it ensures is proved by computing the
+//! definition.
+#![tactic(auto)]
+
+mod packets;
+mod pdus;
+mod refusals;
+
+pub use packets::packets_in_the_ring;
+pub use pdus::{a_lost_pdu, nothing_happens, pair_sends};
+pub use refusals::{lines_of_refusals, refused_lines};
