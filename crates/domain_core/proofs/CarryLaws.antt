@@ -79,7 +79,7 @@ module _ (n : NetworkState) (t : IsTrueNetwork n) (a b link : ℕ) (r : RouterSt
 
 -- ---- what arrives
 
-set_same : {X : Type 0} (xs : List X) (i : ℕ) (x : X) → slice_get xs i ≡ Some x → slice_set xs i x ≡ xs
+pub set_same : {X : Type 0} (xs : List X) (i : ℕ) (x : X) → slice_get xs i ≡ Some x → slice_set xs i x ≡ xs
 set_same [] i x h = refl
 set_same {X} (y ∷ ys) zero x h = ap (λ (z : X). z ∷ ys) (sym (same_Some y x h))
 set_same {X} (y ∷ ys) (suc i) x h = ap (λ (zs : List X). y ∷ zs) (set_same ys i x h)
@@ -112,7 +112,7 @@ module _ (n : NetworkState) (t : IsTrueNetwork n) (a b link back i : ℕ) (r : R
     left_true : IsTruthful (world_of left)
     left_true = subst IsTruthful (sym left_world) (gone_true false (world_of n) t.truth a link i)
 
-    left_frames : AreFramesOver n.domain.routers flights
+    pub left_frames : AreFramesOver n.domain.routers flights
     left_frames = same_frames n.domain.routers flights (without_frame n.flights a link i) gone (frames_left (IsFrameOver n.domain.routers) n.flights a link i t.frames)
 
     conf : slice_get n.domain.routers b ≡ Some r.control.conf

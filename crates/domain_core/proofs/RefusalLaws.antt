@@ -26,7 +26,7 @@ not_false true h = refl
 not_false false h = absurd (true≢false h)
 
 module _ (w : WorldState) (a b link : ℕ) (c : Control) (at : slice_get w.routers a ≡ Some c) (joined : link_between w.domain.routers a b ≡ Some link) where
-  toward : is_up_toward w a b ≡ is_up c link
+  pub toward : is_up_toward w a b ≡ is_up c link
   toward = ap (λ (o : Option Control). up_over o (link_between w.domain.routers a b)) at ∙ ap (up_over (Some c)) joined
 
   ruled : (next : Option EventFault) → unless_joined w a b next ≡ None → next ≡ None
