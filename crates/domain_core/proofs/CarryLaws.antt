@@ -23,7 +23,7 @@ use Rattle.domain_core.specs.Flights.{item_of, item_seen, items_seen, load_at, f
 use Rattle.domain_core.specs.Framed.{frame_over, pdu_sent, packet_sent, IsFramed, IsFlooded, IsHopped}
 use Rattle.domain_core.specs.Moves.{Sending, Made, replied, packet_taken, inject_made}
 use Rattle.domain_core.specs.Network.{NetworkState, world_of, IsFrameOver, AreFramesOver, IsTrueNetwork}
-use Rattle.domain_core.specs.Step.{Happened, makes, push_all, with_router, sends, taken_off, arrives}
+use Rattle.domain_core.specs.Step.{Happened, makes, push_all, with_router, sends, injects, taken_off, arrives}
 use Rattle.domain_core.specs.Truth.{IsTrueControl, IsTruePdu, IsTrueCopy, IsTrueItem, IsTruthful, InjectFits}
 use Rattle.domain_core.specs.World.{WorldState, is_up, link_between, queue_at}
 use Rattle.domain_core.proofs.EachLaws.{each_got}
@@ -168,3 +168,27 @@ module _ (n : NetworkState) (t : IsTrueNetwork n) (a b link back i : ℕ) (r : R
         by (noted.Packet number triple kind) h =
             subst (λ (l : Load). IsArrival n left a link i b back r.control f (load_at level l) next e) (sym h)
             (packet_arrival number triple kind (ap (λ (l : Load). item_of l f.octets) h))
+
+-- ---- what enters
+
+module _ (n : NetworkState) (t : IsTrueNetwork n) (a : ℕ) (r : RouterState) (at : slice_get n.routers a ≡ Some r) (sd : ℕ) (bsl : Bsl) (ks : List ℕ) (ttl entropy : ℕ) (payload : List ℕ) where
+  abbrev entered : Control → Made
+  entered c = inject_made false n.domain.routers a c (n.injections + 1) sd bsl ks ttl entropy payload
+
+  pub inject_is : injects false (world_of n) a entered (slice_get (world_of n).routers a) ≡ makes (record (world_of n) { injections = n.injections + 1 }) (entered r.control)
+  inject_is = ap (injects false (world_of n) a entered) (control_at n a r at)
+
+  pub inject_carried : InjectFits (length n.domain.routers) a sd ks ttl entropy payload → edge_fault r.control.conf sd bsl ks ≡ None → (other : Triple) (kind : Kind) → kind ≡ ingress_kind r.control.conf sd → (e : Effects) → e ≡ inject_directly r.control sd bsl ks ttl entropy payload
+      → IsCarried n.domain.routers a (noted.Packet (n.injections + 1) other kind) n.flights e (entered r.control)
+  inject_carried fits ok other kind same e done =
+      let c = control_at n a r at in
+      carried n.domain.routers a (noted.Packet (n.injections + 1) other kind) n.flights e (entered r.control) t.frames
+      (subst (λ (k : Kind). IsFramed n.domain.routers a (Some (n.injections + 1)) (packet_sent n.domain.routers a (n.injections + 1) k other) e (entered r.control)) (sym same)
+      (inject_framed n.domain t.truth.valid a r.control (conf_there (world_of n) t.truth a r.control c) (control_there (world_of n) t.truth a r.control c) n.injections sd bsl ks ttl entropy payload other fits ok e done))
+
+  pub inject_world : (routers : List RouterState) (flights : List (List (List Flight))) (m : Made) (h : Happened) → routers ≡ n.routers → items_seen flights ≡ push_all (items_seen n.flights) m.sent → h ≡ makes (record (world_of n) { injections = n.injections + 1 }) m
+      → world_of (record n { routers = routers; flights = flights; injections = n.injections + 1 }) ≡ h.world
+  inject_world routers flights m h same seen happened =
+      ap (λ (rs : List RouterState). world_of (record n { routers = rs; flights = flights; injections = n.injections + 1 })) same
+      ∙ ap (λ (xs : List (List (List Item))). record (world_of n) { flights = xs; injections = n.injections + 1 }) seen
+      ∙ sym (ap (λ (x : Happened). x.world) happened)
