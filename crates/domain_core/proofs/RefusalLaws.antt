@@ -14,7 +14,7 @@ use Rattle.domain_core.proofs.FramedWorld.{conf_there}
 use Rattle.domain_core.proofs.LinkLaws.{join_of, end_found}
 use Rattle.domain_core.proofs.QueueLaws.{got_within}
 
-none_first : (b : Bool) (reason : EventFault) (next : Option EventFault) → first_fault b reason next ≡ None → (b ≡ false) × (next ≡ None)
+pub none_first : (b : Bool) (reason : EventFault) (next : Option EventFault) → first_fault b reason next ≡ None → (b ≡ false) × (next ≡ None)
 none_first true reason next h = absurd (some_none reason h)
   where
     some_none : (e : EventFault) → Some e ≡ None → ⊥

@@ -1,0 +1,72 @@
+-- What is left to be asked of an event once its own rules allow it.
+use Rattle.std.proofs.Common.{◌≡◌, ℕ, nat_le, Bool, true, false, List, slice_get, Option, Some, None, refl, sym, ap, subst, ◌∙◌}
+use Rattle.wire_base.specs.declared.bsl.Bsl.{Bsl}
+use Rattle.replay_text.specs.declared.event.Event.{Event}
+use Rattle.replay_text.specs.declared.event.Event.TheVariants.{Inject, Take, Lose, Again, Down, Up, Send, Tick, Restart}
+use Rattle.domain_core.specs.declared.fault.EventFault.{EventFault}
+use Rattle.domain_core.specs.declared.fault.EventFault.TheVariants as faults
+use Rattle.domain_core.specs.declared.network.Network.{Network}
+use Rattle.domain_core.specs.Answers.{early_fault, early_rule}
+use Rattle.domain_core.specs.Faults.{most_events, most_in_flight, first_fault, unless_room, entry_fault, rule_fault, event_fault}
+use Rattle.domain_core.specs.Held.{state_of}
+use Rattle.domain_core.specs.Network.{NetworkState, IsTrueNetwork}
+use Rattle.domain_core.specs.World.{WorldState, in_flight}
+use Rattle.domain_core.proofs.RefusalLaws.{none_first}
+
+-- what a router says of an injection; of all else nothing
+abbrev pub late_fault : WorldState → Event → Option EventFault
+late_fault w (Inject a sd bsl ks ttl entropy payload) = entry_fault (slice_get w.routers a) sd bsl ks
+late_fault w (Take a b i) = None
+late_fault w (Lose a b i) = None
+late_fault w (Again a b i) = None
+late_fault w (Down a b) = None
+late_fault w (Up a b) = None
+late_fault w (Send a b) = None
+late_fault w (Tick a) = None
+late_fault w (Restart a) = None
+
+ruled_late : (w : WorldState) (e : Event) → early_rule w e ≡ None → rule_fault w e ≡ late_fault w e
+ruled_late w (Inject a sd bsl ks ttl entropy payload) h =
+    ap (λ (b : Bool). first_fault b faults.InFlight (entry_fault (slice_get w.routers a) sd bsl ks)) (none_first (nat_le most_in_flight (in_flight w.flights)) faults.InFlight None h).0
+ruled_late w (Take a b i) h = h
+ruled_late w (Lose a b i) h = h
+ruled_late w (Again a b i) h = h
+ruled_late w (Down a b) h = h
+ruled_late w (Up a b) h = h
+ruled_late w (Send a b) h = h
+ruled_late w (Tick a) h = h
+ruled_late w (Restart a) h = h
+
+pub late_is : (w : WorldState) (e : Event) → early_fault w e ≡ None → event_fault w e ≡ late_fault w e
+unfolding event_fault
+late_is w e h =
+    let k = none_first (nat_le most_events w.events) faults.Events (early_rule w e) h in
+    ap (λ (b : Bool). first_fault b faults.Events (rule_fault w e)) k.0 ∙ ruled_late w e k.1
+
+-- a fault that is found early is the first
+ruled_early : (w : WorldState) (e : Event) (f : EventFault) → early_rule w e ≡ Some f → rule_fault w e ≡ Some f
+ruled_early w (Inject a sd bsl ks ttl entropy payload) f h = by (nat_le most_in_flight (in_flight w.flights)) h
+  where
+    by : (b : Bool) → first_fault b faults.InFlight None ≡ Some f → first_fault b faults.InFlight (entry_fault (slice_get w.routers a) sd bsl ks) ≡ Some f
+    by true k = k
+    by false k = cc
+ruled_early w (Take a b i) f h = h
+ruled_early w (Lose a b i) f h = h
+ruled_early w (Again a b i) f h = h
+ruled_early w (Down a b) f h = h
+ruled_early w (Up a b) f h = h
+ruled_early w (Send a b) f h = h
+ruled_early w (Tick a) f h = h
+ruled_early w (Restart a) f h = h
+
+pub early_is : (w : WorldState) (e : Event) (f : EventFault) → early_fault w e ≡ Some f → event_fault w e ≡ Some f
+unfolding event_fault
+early_is w e f h = by (nat_le most_events w.events) h
+  where
+    by : (b : Bool) → first_fault b faults.Events (early_rule w e) ≡ Some f → first_fault b faults.Events (rule_fault w e) ≡ Some f
+    by true k = k
+    by false k = ruled_early w e f k
+
+-- what is as it was is true still
+pub still_true : (old new : Network) → state_of new ≡ state_of old → IsTrueNetwork (state_of old) → IsTrueNetwork (state_of new)
+still_true old new same true_before = subst IsTrueNetwork (sym same) true_before
