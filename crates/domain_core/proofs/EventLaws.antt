@@ -1,17 +1,26 @@
 -- What is left to be asked of an event once its own rules allow it.
-use Rattle.std.proofs.Common.{◌≡◌, ℕ, nat_le, Bool, true, false, List, slice_get, Option, Some, None, refl, sym, ap, subst, ◌∙◌}
+use Rattle.std.proofs.Common.{◌≡◌, ℕ, ◌+◌, ◌≤◌, nat_le, Bool, true, false, List, length, map, slice_get, Option, Some, None, refl, sym, ap, subst, ◌∙◌}
+use Rattle.std.proofs.lemmas.List.{length-map}
 use Rattle.wire_base.specs.declared.bsl.Bsl.{Bsl}
+use Rattle.wire_base.specs.declared.conf.RouterConf.{RouterConf}
+use Rattle.wire_base.specs.model.Configuration.{DomainConf}
+use Rattle.wire_base.specs.model.Control.{Control}
+use Rattle.router_core.specs.State.{RouterState}
 use Rattle.replay_text.specs.declared.event.Event.{Event}
 use Rattle.replay_text.specs.declared.event.Event.TheVariants.{Inject, Take, Lose, Again, Down, Up, Send, Tick, Restart}
 use Rattle.domain_core.specs.declared.fault.EventFault.{EventFault}
 use Rattle.domain_core.specs.declared.fault.EventFault.TheVariants as faults
 use Rattle.domain_core.specs.declared.network.Network.{Network}
-use Rattle.domain_core.specs.Answers.{early_fault, early_rule}
+use Rattle.domain_core.specs.declared.step_out.StepOut.{StepOut}
+use Rattle.domain_core.specs.Answers.{early_fault, early_rule, told}
 use Rattle.domain_core.specs.Faults.{most_events, most_in_flight, first_fault, unless_room, entry_fault, rule_fault, event_fault}
-use Rattle.domain_core.specs.Held.{state_of}
-use Rattle.domain_core.specs.Network.{NetworkState, IsTrueNetwork}
+use Rattle.domain_core.specs.Held.{state_of, world_in, IsDone}
+use Rattle.domain_core.specs.Network.{NetworkState, AreFramesOver, IsTrueNetwork}
+use Rattle.domain_core.specs.Step.{doing, happens, happens_with}
+use Rattle.domain_core.specs.Truth.{IsTruthful, EventFits, AreWorldDrops}
 use Rattle.domain_core.specs.World.{WorldState, in_flight}
 use Rattle.domain_core.proofs.RefusalLaws.{none_first}
+use Rattle.domain_core.proofs.WorldTruth.{happens_true}
 
 -- what a router says of an injection; of all else nothing
 abbrev pub late_fault : WorldState → Event → Option EventFault
@@ -70,3 +79,36 @@ early_is w e f h = by (nat_le most_events w.events) h
 -- what is as it was is true still
 pub still_true : (old new : Network) → state_of new ≡ state_of old → IsTrueNetwork (state_of old) → IsTrueNetwork (state_of new)
 still_true old new same true_before = subst IsTrueNetwork (sym same) true_before
+
+-- ---- an event that is done is counted
+
+pub record IsCounted (old new : Network) (e : Event) (out : StepOut) : Type 0 where
+  pub world : world_in (record new { events = new.events + 1 }) ≡ (happens (world_in old) e).world
+  pub answer : out ≡ told old.domain.routers (happens (world_in old) e).made
+  pub drops : AreWorldDrops out.drops
+  pub kept : IsTrueNetwork (state_of (record new { events = new.events + 1 }))
+  pub low : new.events + 1 ≤ most_events
+
+pub counted_done : (old new : Network) (e : Event) (out : StepOut) → IsTrueNetwork (state_of old) → EventFits (length old.domain.routers) e → event_fault (world_in old) e ≡ None → IsDone old new (doing false (world_in old) e) out → IsCounted old new e out
+unfolding happens_with
+counted_done old new e out t fits ok done =
+    let w = world_in old in
+    let k = happens_true false w e t.truth fits ok in
+    let world : world_in (record new { events = new.events + 1 }) ≡ (happens w e).world = ap (λ (v : WorldState). record v { events = v.events + 1 }) done.world in
+    let same : new.domain ≡ old.domain = ap (λ (v : WorldState). v.domain) world ∙ k.domain in
+    let count : new.events + 1 ≡ (happens w e).world.events = ap (λ (v : WorldState). v.events) world in
+    record {
+      world = world;
+      answer = done.answer;
+      drops = subst AreWorldDrops (sym (ap (λ (o : StepOut). o.drops) done.answer)) k.made.drops;
+      kept = record {
+        truth = subst IsTruthful (sym world) k.truth;
+        frames = subst (λ (d : DomainConf). AreFramesOver d.routers new.flights) (sym same) done.frames;
+      };
+      low = subst (λ (m : ℕ). m ≤ most_events) (sym count) k.truth.events;
+    }
+
+-- each router is one of the domain's
+pub as_many : (n : Network) → IsTrueNetwork (state_of n) → length n.routers.items ≡ length n.domain.routers
+as_many n t =
+    sym (length-map (map (λ (r : RouterState). r.control) n.routers.items) (λ (c : Control). c.conf) ∙ length-map n.routers.items (λ (r : RouterState). r.control)) ∙ ap (λ (rs : List RouterConf). length rs) t.truth.confs

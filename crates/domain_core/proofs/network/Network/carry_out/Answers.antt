@@ -1,28 +1,26 @@
-use Rattle.std.proofs.Common.{rules, ◌≡◌, false, length, None, IfOk, OnOk, OnErr, IfErr, MatchResult, ℕ, ◌+◌, ◌-◌, ◌*◌, ◌<◌, ◌≤◌, ◌/◌, ◌%◌, Bool, true, nat_eq, nat_lt, List, [], ◌∷◌, ◌++◌, slice_index_or, slice_set, bit_and, bit_or, Fits, w8, w32, w64, Bor, MutBor}
-use Rattle.domain_core.specs.Answers.{early_fault, Refuses, Stays, told}
-use Rattle.domain_core.specs.Faults.{event_fault}
-use Rattle.domain_core.specs.Held.{state_of, world_in, heard_in, IsDone}
-use Rattle.domain_core.specs.Network.{IsTrueNetwork, heard_after}
-use Rattle.domain_core.specs.Step.{doing, happens}
-use Rattle.domain_core.specs.Truth.{EventFits, AreWorldDrops}
+use Rattle.std.proofs.Common.{arith}
+use Rattle.domain_core.proofs.EventLaws.{IsCounted, counted_done, as_many}
 use Rattle.domain_core.proofs.network.Network.carry_out.Goals as goal
 
--- src/events.rt:30:9
+pub dispatch-requires-clause-routers : goal.dispatch-requires-clause-routers
+dispatch-requires-clause-routers c = as_many c.args.self.now c.requires.truth
+
 pub overflow_add-self : goal.overflow_add-self
-overflow_add-self c = ?
+overflow_add-self c =
+    let k = counted_done c.args.self.now c.dispatch.new.self c.args.event.now c.in_ok-out.out c.requires.truth c.requires.fits c.in_ok-out.ensures.refused c.in_ok-out.ensures.done in
+    omega (arith, k.low)
 
--- src/events.rt:17:5
+counted : (c : goal.After-self-1) → IsCounted c.args.self.now c.dispatch.new.self c.args.event.now c.in_ok-out.out
+counted c = counted_done c.args.self.now c.dispatch.new.self c.args.event.now c.in_ok-out.out c.requires.truth c.requires.fits c.in_ok-out.ensures.refused c.in_ok-out.ensures.done
+
 pub returns-clause-world : goal.returns-clause-world
-returns-clause-world c = ?
+returns-clause-world c = (counted c).world
 
--- src/events.rt:17:5
 pub returns-clause-told : goal.returns-clause-told
-returns-clause-told c = ?
+returns-clause-told c = (counted c).answer
 
--- src/events.rt:17:5
 pub returns-clause-drops : goal.returns-clause-drops
-returns-clause-drops c = ?
+returns-clause-drops c = (counted c).drops
 
--- src/events.rt:17:5
 pub returns-clause-kept : goal.returns-clause-kept
-returns-clause-kept c = ?
+returns-clause-kept c = (counted c).kept
