@@ -129,10 +129,10 @@ module _ (n : NetworkState) (t : IsTrueNetwork n) (a b link back i : ℕ) (r : R
         record {
           made = m;
           happened = ap (λ (w : WorldState). arrives false w b back r.control (item_seen f)) (sym left_world)
-            ∙ ap (arrives false (world_of left) b back r.control) is
-            ∙ ap (λ (c : Control). makes (with_router (world_of left) b c) m) (sym flooded.control);
+              ∙ ap (arrives false (world_of left) b back r.control) is
+              ∙ ap (λ (c : Control). makes (with_router (world_of left) b c) m) (sym flooded.control);
           carries = carried n.domain.routers b (noted.Pdu level) flights e m left_frames
-            (subst (λ (l : Level). IsFramed n.domain.routers b None (pdu_sent l) e m) (sym same) flooded.framed);
+              (subst (λ (l : Level). IsFramed n.domain.routers b None (pdu_sent l) e m) (sym same) flooded.framed);
           kept = subst (λ (c : Control). IsTruthful (with_router (world_of left) b c)) (sym flooded.control) (pdu_turned false (world_of left) left_true b back r.control p (control_at n b r at) up says);
         }
 
@@ -145,16 +145,16 @@ module _ (n : NetworkState) (t : IsTrueNetwork n) (a b link back i : ℕ) (r : R
         let hopped = packet_framed n.domain t.truth.valid b r.control conf state n.injections a link back x joined copy up next e (done ∙ ap (on_frame_directly r.control back) (over_its_end ∙ ap (frame_over n.domain.routers a link) seen)) in
         let m = packet_taken false n.domain.routers b r.control x x.outer in
         let same : with_router (world_of left) b next ≡ world_of left =
-          ap (with_router (world_of left) b) hopped.control ∙ ap (λ (cs : List Control). record (world_of left) { routers = cs }) (set_same (world_of left).routers b r.control (control_at n b r at)) in
+        ap (with_router (world_of left) b) hopped.control ∙ ap (λ (cs : List Control). record (world_of left) { routers = cs }) (set_same (world_of left).routers b r.control (control_at n b r at)) in
         record {
           made = m;
           happened = ap (λ (w : WorldState). arrives false w b back r.control (item_seen f)) (sym left_world)
-            ∙ ap (arrives false (world_of left) b back r.control) seen
-            ∙ ap (λ (w : WorldState). makes w m) (sym same);
+              ∙ ap (arrives false (world_of left) b back r.control) seen
+              ∙ ap (λ (w : WorldState). makes w m) (sym same);
           carries = carried n.domain.routers b (noted.Packet number triple kind) flights e m left_frames
-            (subst (λ (k : ℕ). IsFramed n.domain.routers b (Some k) (packet_sent n.domain.routers b k kind triple) e m) s.number_is
-            (subst (λ (k : Kind). IsFramed n.domain.routers b (Some x.number) (packet_sent n.domain.routers b x.number k triple) e m) s.kind_is
-            (subst (λ (k : Triple). IsFramed n.domain.routers b (Some x.number) (packet_sent n.domain.routers b x.number x.kind k) e m) s.triple_is hopped.framed)));
+              (subst (λ (k : ℕ). IsFramed n.domain.routers b (Some k) (packet_sent n.domain.routers b k kind triple) e m) s.number_is
+              (subst (λ (k : Kind). IsFramed n.domain.routers b (Some x.number) (packet_sent n.domain.routers b x.number k triple) e m) s.kind_is
+              (subst (λ (k : Triple). IsFramed n.domain.routers b (Some x.number) (packet_sent n.domain.routers b x.number x.kind k) e m) s.triple_is hopped.framed)));
           kept = subst IsTruthful (sym same) left_true;
         }
 

@@ -12,7 +12,7 @@ use Rattle.domain_core.specs.declared.fault.EventFault.{EventFault}
 use Rattle.domain_core.specs.declared.fault.EventFault.TheVariants as faults
 use Rattle.domain_core.specs.declared.network.Network.{Network}
 use Rattle.domain_core.specs.declared.step_out.StepOut.{StepOut}
-use Rattle.domain_core.specs.Answers.{early_fault, early_rule, told}
+use Rattle.domain_core.specs.Answers.{early_fault, early_rule, Refuses, told}
 use Rattle.domain_core.specs.Faults.{most_events, most_in_flight, first_fault, unless_room, entry_fault, rule_fault, event_fault}
 use Rattle.domain_core.specs.Held.{state_of, world_in, IsDone}
 use Rattle.domain_core.specs.Network.{NetworkState, AreFramesOver, IsTrueNetwork}
@@ -112,3 +112,13 @@ counted_done old new e out t fits ok done =
 pub as_many : (n : Network) → IsTrueNetwork (state_of n) → length n.routers.items ≡ length n.domain.routers
 as_many n t =
     sym (length-map (map (λ (r : RouterState). r.control) n.routers.items) (λ (c : Control). c.conf) ∙ length-map n.routers.items (λ (r : RouterState). r.control)) ∙ ap (λ (rs : List RouterConf). length rs) t.truth.confs
+
+pub refuses_first : (o : Option EventFault) (f : EventFault) → o ≡ Some f → Refuses o f
+refuses_first o faults.Events h = h
+refuses_first o faults.NoLink h = h
+refuses_first o faults.EndState h = h
+refuses_first o faults.InFlight h = h
+refuses_first o (faults.NoFrame i n) h = h
+refuses_first o faults.NotControl h = h
+refuses_first o (faults.Edge fault) h = h
+refuses_first o faults.Memory h = tt

@@ -24,10 +24,10 @@ pub ids_more : (t : Triple) (xs : List ℕ) (n : ℕ) → ids_up_to t xs n ++ li
 ids_more t xs n =
     let test : ℕ → Bool = λ p. has_member p xs in
     sym (ap (λ (m : ℕ). ids_up_to t xs m) (add-one n)
-      ∙ ap (λ (l : List ℕ). listed (map (id_at t) l)) (kept_joined test (up_to n) (suc n ∷ []))
-      ∙ ap listed (map-append (id_at t) (filter test (up_to n)) (filter test (suc n ∷ [])))
-      ∙ kept_joined (λ k. nat_le k 65535) (map (id_at t) (filter test (up_to n))) (map (id_at t) (filter test (suc n ∷ [])))
-      ∙ ap (λ (m : ℕ). ids_up_to t xs n ++ listed (map (id_at t) (filter test (m ∷ [])))) (sym (add-one n)))
+    ∙ ap (λ (l : List ℕ). listed (map (id_at t) l)) (kept_joined test (up_to n) (suc n ∷ []))
+    ∙ ap listed (map-append (id_at t) (filter test (up_to n)) (filter test (suc n ∷ [])))
+    ∙ kept_joined (λ k. nat_le k 65535) (map (id_at t) (filter test (up_to n))) (map (id_at t) (filter test (suc n ∷ [])))
+    ∙ ap (λ (m : ℕ). ids_up_to t xs n ++ listed (map (id_at t) (filter test (m ∷ [])))) (sym (add-one n)))
 
 -- all positions
 pub ids_all : (t : Triple) (xs : List ℕ) (n : ℕ) → IsWithin 0 n xs → ids_up_to t xs n ≡ listed (map (id_at t) xs)

@@ -2,7 +2,7 @@
 ghost use Rattle.std.specs.Prelude.{◌≡◌, ◌≤◌, length, slice_get, option_map, IfSome};
 ghost use Rattle.std.specs.List.{AllByRecursion};
 ghost use Rattle.wire_base.specs.model.Choice.{end_toward, is_system};
-ghost use Rattle.wire_base.specs.model.Configuration.{IsSound};
+ghost use Rattle.wire_base.specs.model.Configuration.{IsSound, IsValid};
 ghost use Rattle.domain_core.specs.World.{place_of, end_at, peer_place, link_between};
 
 use wire_base::{Domain, End, RouterConf, SystemId};
@@ -10,6 +10,7 @@ use wire_base::{Domain, End, RouterConf, SystemId};
 /// The configurations of a domain's routers, by place.
 pub(crate) fn confs_of(domain: &Domain) -> &[RouterConf]
     ensures confs { result.now ≡ domain.now.routers }
+    ensures valid { IsValid domain.now }
     ensures sound { AllByRecursion IsSound result.now }
     ensures few { length result.now ≤ 250 }
 {

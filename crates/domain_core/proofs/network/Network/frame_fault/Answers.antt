@@ -11,7 +11,7 @@ use Rattle.domain_core.proofs.network.Network.frame_fault.Goals as goal
 pub returns-in-None : goal.returns-in-None
 returns-in-None c =
     sym (ap (λ (o : Option Item). frame_fault o c.args.i (length (queue_at (items_seen c.args.self.now.flights) c.args.from c.args.link))) (none_seen_at c.args.self.now.flights c.args.from c.args.link c.args.i c.in-None.ensures)
-      ∙ ap (λ (n : ℕ). Some (faults.NoFrame c.args.i n)) (seen_length c.args.self.now.flights c.args.from c.args.link ∙ sym c.len.ensures))
+    ∙ ap (λ (n : ℕ). Some (faults.NoFrame c.args.i n)) (seen_length c.args.self.now.flights c.args.from c.args.link ∙ sym c.len.ensures))
 
 pub returns-in-Some : goal.returns-in-Some
 returns-in-Some c = sym (ap (λ (o : Option Item). frame_fault o c.args.i (length (queue_at (items_seen c.args.self.now.flights) c.args.from c.args.link))) (some_seen_at c.args.self.now.flights c.args.from c.args.link c.args.i c.in-Some.field-0.now c.in-Some.ensures))

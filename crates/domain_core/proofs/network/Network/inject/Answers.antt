@@ -29,7 +29,7 @@ carry-requires-clause-long c =
     let there = router_there n.routers c.from.result c.args.at r c.from.ensures c.requires.place c.index_mut-router.ensures.value in
     let other : Triple = record { sd = c.args.sd; bsl = c.args.bsl; si = 0 } in
     let kind : c.unwrap_or-kind.result ≡ ingress_kind r.control.conf c.args.sd =
-      c.unwrap_or-kind.ensures ∙ ap (λ (o : Option Kind). unwrap_or o Mpls) (c.kind_of.ensures ∙ ap (λ (l : List SubKind). kind_of l c.args.sd) (c.as_slice.ensures ∙ ap (λ (q : RouterConf). q.kinds) c.conf.ensures.conf)) in
+    c.unwrap_or-kind.ensures ∙ ap (λ (o : Option Kind). unwrap_or o Mpls) (c.kind_of.ensures ∙ ap (λ (l : List SubKind). kind_of l c.args.sd) (c.as_slice.ensures ∙ ap (λ (q : RouterConf). q.kinds) c.conf.ensures.conf)) in
     (inject_carried n c.requires.truth c.args.at r there c.args.sd c.args.bsl c.args.ids.now c.args.ttl c.args.entropy c.args.payload.now c.requires.fits c.in-Ok.ensures.refused other c.unwrap_or-kind.result kind c.in-Ok.effects c.in-Ok.ensures.effects).long
 
 pub returns-clause-refused : goal.returns-clause-refused
@@ -47,17 +47,17 @@ returns-clause-done c =
     let there = router_there n.routers c.from.result c.args.at r c.from.ensures c.requires.place c.index_mut-router.ensures.value in
     let other : Triple = record { sd = c.args.sd; bsl = c.args.bsl; si = 0 } in
     let kind : c.unwrap_or-kind.result ≡ ingress_kind r.control.conf c.args.sd =
-      c.unwrap_or-kind.ensures ∙ ap (λ (o : Option Kind). unwrap_or o Mpls) (c.kind_of.ensures ∙ ap (λ (l : List SubKind). kind_of l c.args.sd) (c.as_slice.ensures ∙ ap (λ (q : RouterConf). q.kinds) c.conf.ensures.conf)) in
+    c.unwrap_or-kind.ensures ∙ ap (λ (o : Option Kind). unwrap_or o Mpls) (c.kind_of.ensures ∙ ap (λ (l : List SubKind). kind_of l c.args.sd) (c.as_slice.ensures ∙ ap (λ (q : RouterConf). q.kinds) c.conf.ensures.conf)) in
     let k = inject_carried n c.requires.truth c.args.at r there c.args.sd c.args.bsl c.args.ids.now c.args.ttl c.args.entropy c.args.payload.now c.requires.fits c.in-Ok.ensures.refused other c.unwrap_or-kind.result kind c.in-Ok.effects c.in-Ok.ensures.effects in
     let happened = inject_is n c.requires.truth c.args.at r there c.args.sd c.args.bsl c.args.ids.now c.args.ttl c.args.entropy c.args.payload.now in
     let load : Load = noted.Packet (n.injections + 1) other c.unwrap_or-kind.result in
     let sent : c.carry.new.flights ≡ push_all_sent n.domain.routers c.args.at load n.flights c.in-Ok.effects.sent =
-      c.in_ok-out.ensures.ok ∙ ap (λ (cs : List RouterConf). push_all_sent cs c.args.at load n.flights c.in-Ok.effects.sent) c.confs_of-confs.ensures.confs in
+    c.in_ok-out.ensures.ok ∙ ap (λ (cs : List RouterConf). push_all_sent cs c.args.at load n.flights c.in-Ok.effects.sent) c.confs_of-confs.ensures.confs in
     let routers : slice_set n.routers c.from.result c.inject-entered.new.self ≡ n.routers =
-      ap (slice_set n.routers c.from.result) c.in-Ok.ensures.state ∙ ap (λ (i : ℕ). slice_set n.routers i r) c.from.ensures ∙ set_same n.routers c.args.at r there in
+    ap (slice_set n.routers c.from.result) c.in-Ok.ensures.state ∙ ap (λ (i : ℕ). slice_set n.routers i r) c.from.ensures ∙ set_same n.routers c.args.at r there in
     record {
       world = inject_world n c.requires.truth c.args.at r there c.args.sd c.args.bsl c.args.ids.now c.args.ttl c.args.entropy c.args.payload.now _ c.carry.new.flights _ _ routers (ap items_seen sent ∙ k.seen) happened;
       frames = same_frames n.domain.routers c.carry.new.flights _ sent k.frames;
       answer = c.in_ok-out.ensures.out ∙ ap (λ (cs : List RouterConf). told_of cs c.args.at load c.in-Ok.effects) c.confs_of-confs.ensures.confs
-        ∙ k.out ∙ sym (ap (λ (h : Happened). told n.domain.routers h.made) happened);
+          ∙ k.out ∙ sym (ap (λ (h : Happened). told n.domain.routers h.made) happened);
     }

@@ -52,12 +52,12 @@ returns-clause-done c =
     let next = send_control n c.requires.truth c.args.from c.args.to c.in-Some.link r there within c.send.new.self.control c.in_ok-effects.effects c.in_ok-effects.ensures.next in
     let happened = send_is n c.requires.truth c.args.from c.args.to c.in-Some.link r there (sym c.in-Some.ensures) in
     let sent : c.carry.new.flights ≡ push_all_sent n.domain.routers c.args.from (Pdu c.conf.result.now.level) n.flights c.in_ok-effects.effects.sent =
-      c.in_ok-out.ensures.ok ∙ ap (λ (cs : List RouterConf). push_all_sent cs c.args.from (Pdu c.conf.result.now.level) n.flights c.in_ok-effects.effects.sent) c.confs_of-confs.ensures.confs in
+    c.in_ok-out.ensures.ok ∙ ap (λ (cs : List RouterConf). push_all_sent cs c.args.from (Pdu c.conf.result.now.level) n.flights c.in_ok-effects.effects.sent) c.confs_of-confs.ensures.confs in
     record {
       world = carried_world n c.args.from r there c.from.result c.from.ensures c.send.new.self c.carry.new.flights (send r.control c.in-Some.link).control (replied n.domain.routers c.args.from c.in-Some.link (send r.control c.in-Some.link)) _ next (ap items_seen sent ∙ k.seen) happened;
       frames = same_frames n.domain.routers c.carry.new.flights _ sent k.frames;
       answer = c.in_ok-out.ensures.out ∙ ap (λ (cs : List RouterConf). told_of cs c.args.from (Pdu c.conf.result.now.level) c.in_ok-effects.effects) c.confs_of-confs.ensures.confs
-        ∙ k.out ∙ sym (ap (λ (h : Happened). told n.domain.routers h.made) happened);
+          ∙ k.out ∙ sym (ap (λ (h : Happened). told n.domain.routers h.made) happened);
     }
 
 pub returns-clause-heard : goal.returns-clause-heard

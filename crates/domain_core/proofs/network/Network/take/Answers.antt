@@ -32,7 +32,7 @@ pub returns-in_default-get-clause-heard : goal.returns-in_default-get-clause-hea
 returns-in_default-get-clause-heard c =
     let w = world_in c.args.self.now in
     sym (none_heard w (heard_in c.args.self.now) c.args.from c.args.to c.args.i
-      (ap (λ (l : Option ℕ). slice_get (queue_over w.flights c.args.from l) c.args.i) (sym c.in-Some.ensures) ∙ none_seen_at c.args.self.now.flights c.args.from c.in-Some.link c.args.i c.in_default-get.ensures))
+    (ap (λ (l : Option ℕ). slice_get (queue_over w.flights c.args.from l) c.args.i) (sym c.in-Some.ensures) ∙ none_seen_at c.args.self.now.flights c.args.from c.in-Some.link c.args.i c.in_default-get.ensures))
 
 pub returns-then-not-is_up-clause-done : goal.returns-then-not-is_up-clause-done
 returns-then-not-is_up-clause-done c =
@@ -46,11 +46,11 @@ returns-then-not-is_up-clause-done c =
     let happened = down_taken w c.args.from c.args.to c.args.i c.in-Some.link (sym c.in-Some.ensures) c.in-Some-link.back (sym c.in-Some-link.ensures) x r.control (some_seen_at n.flights c.args.from c.in-Some.link c.args.i f c.in-Some-get.ensures) (control_at n c.args.to r there) down in
     record {
       world = ap (λ (rs : List RouterState). world_of (record n { routers = rs; flights = c.remove.new.self })) (ap (λ (k : ℕ). slice_set n.routers k r) c.from.ensures ∙ set_same n.routers c.args.to r there)
-        ∙ gone_world n c.remove.new.self c.args.from c.in-Some.link c.args.i c.remove.ensures
-        ∙ sym (ap (λ (h : Happened). h.world) happened ∙ lost_world (taken_off w c.args.from c.in-Some.link c.args.i) c.args.to cause.Link x);
+          ∙ gone_world n c.remove.new.self c.args.from c.in-Some.link c.args.i c.remove.ensures
+          ∙ sym (ap (λ (h : Happened). h.world) happened ∙ lost_world (taken_off w c.args.from c.in-Some.link c.args.i) c.args.to cause.Link x);
       frames = same_frames n.domain.routers c.remove.new.self _ c.remove.ensures (frames_left (IsFrameOver n.domain.routers) n.flights c.args.from c.in-Some.link c.args.i c.requires.truth.frames);
       answer = lost_told n.domain.routers c.args.to cause.Link x c.in_ok-out.out c.in_ok-out.ensures.0 c.in_ok-out.ensures.1 c.in_ok-out.ensures.2
-        ∙ sym (ap (λ (h : Happened). told n.domain.routers h.made) happened);
+          ∙ sym (ap (λ (h : Happened). told n.domain.routers h.made) happened);
     }
 
 pub returns-then-not-is_up-clause-heard : goal.returns-then-not-is_up-clause-heard
@@ -62,7 +62,7 @@ returns-then-not-is_up-clause-heard c =
     let down : is_up r.control c.in-Some-link.back ≡ false = sym c.if-not-is_up.ensures in
     same_heard n c.args.to r there c.from.result r c.from.ensures refl
     ∙ sym (unheard (world_in c.args.self.now) (heard_in c.args.self.now) c.args.from c.args.to c.args.i
-      (toward (world_in c.args.self.now) c.args.to c.args.from c.in-Some-link.back r.control (control_at n c.args.to r there) (sym c.in-Some-link.ensures) ∙ down))
+    (toward (world_in c.args.self.now) c.args.to c.args.from c.in-Some-link.back r.control (control_at n c.args.to r there) (sym c.in-Some-link.ensures) ∙ down))
 
 pub frame-requires-clause-short : goal.frame-requires-clause-short
 frame-requires-clause-short c =
@@ -107,19 +107,19 @@ returns-clause-done c =
     let done = c.in_ok-effects.ensures.next ∙ ap (λ (octets : List ℕ). on_frame_directly r.control c.in-Some-link.back octets) c.as_slice.ensures in
     let arrived = arrival n c.requires.truth c.args.from c.args.to c.in-Some.link c.in-Some-link.back c.args.i r there (sym c.in-Some.ensures) up f c.in-Some-get.ensures c.remove-2.new.self c.remove-2.ensures c.frame.new.self.control c.in_ok-effects.effects done c.conf.result.now.level (ap (λ (q : RouterConf). q.level) c.conf.ensures.conf) in
     let happened = up_taken (world_in c.args.self.now) c.args.from c.args.to c.args.i c.in-Some.link (sym c.in-Some.ensures) c.in-Some-link.back (sym c.in-Some-link.ensures) (item_seen f) r.control
-      (some_seen_at n.flights c.args.from c.in-Some.link c.args.i f c.in-Some-get.ensures) (control_at n c.args.to r there) up ∙ arrived.happened in
+    (some_seen_at n.flights c.args.from c.in-Some.link c.args.i f c.in-Some-get.ensures) (control_at n c.args.to r there) up ∙ arrived.happened in
     let load = load_at c.conf.result.now.level f.load in
     let sent : c.carry.new.flights ≡ push_all_sent n.domain.routers c.args.to load c.remove-2.new.self c.in_ok-effects.effects.sent =
-      c.in_ok-out-2.ensures.ok
-      ∙ ap (λ (cs : List RouterConf). push_all_sent cs c.args.to c.load_at-load.result c.remove-2.new.self c.in_ok-effects.effects.sent) c.confs_of-confs.ensures.confs
-      ∙ ap (λ (l : Load). push_all_sent n.domain.routers c.args.to l c.remove-2.new.self c.in_ok-effects.effects.sent) c.load_at-load.ensures in
+    c.in_ok-out-2.ensures.ok
+    ∙ ap (λ (cs : List RouterConf). push_all_sent cs c.args.to c.load_at-load.result c.remove-2.new.self c.in_ok-effects.effects.sent) c.confs_of-confs.ensures.confs
+    ∙ ap (λ (l : Load). push_all_sent n.domain.routers c.args.to l c.remove-2.new.self c.in_ok-effects.effects.sent) c.load_at-load.ensures in
     record {
       world = carried_world (record n { flights = c.remove-2.new.self }) c.args.to r there c.from.result c.from.ensures c.frame.new.self c.carry.new.flights c.frame.new.self.control arrived.made _ refl (ap items_seen sent ∙ arrived.carries.seen) happened;
       frames = same_frames n.domain.routers c.carry.new.flights _ sent arrived.carries.frames;
       answer = c.in_ok-out-2.ensures.out
-        ∙ ap (λ (cs : List RouterConf). told_of cs c.args.to c.load_at-load.result c.in_ok-effects.effects) c.confs_of-confs.ensures.confs
-        ∙ ap (λ (l : Load). told_of n.domain.routers c.args.to l c.in_ok-effects.effects) c.load_at-load.ensures
-        ∙ arrived.carries.out ∙ sym (ap (λ (h : Happened). told n.domain.routers h.made) happened);
+          ∙ ap (λ (cs : List RouterConf). told_of cs c.args.to c.load_at-load.result c.in_ok-effects.effects) c.confs_of-confs.ensures.confs
+          ∙ ap (λ (l : Load). told_of n.domain.routers c.args.to l c.in_ok-effects.effects) c.load_at-load.ensures
+          ∙ arrived.carries.out ∙ sym (ap (λ (h : Happened). told n.domain.routers h.made) happened);
     }
 
 pub returns-clause-heard : goal.returns-clause-heard
@@ -132,5 +132,5 @@ returns-clause-heard c =
     let w = world_in c.args.self.now in
     counted_heard n c.args.to r there c.from.result c.frame.new.self c.from.ensures c.in_ok-effects.ensures.heard
     ∙ sym (one_heard w (heard_in c.args.self.now) c.args.from c.args.to c.args.i (item_seen f)
-      (toward w c.args.to c.args.from c.in-Some-link.back r.control (control_at n c.args.to r there) (sym c.in-Some-link.ensures) ∙ up)
-      (ap (λ (l : Option ℕ). slice_get (queue_over w.flights c.args.from l) c.args.i) (sym c.in-Some.ensures) ∙ some_seen_at n.flights c.args.from c.in-Some.link c.args.i f c.in-Some-get.ensures))
+    (toward w c.args.to c.args.from c.in-Some-link.back r.control (control_at n c.args.to r there) (sym c.in-Some-link.ensures) ∙ up)
+    (ap (λ (l : Option ℕ). slice_get (queue_over w.flights c.args.from l) c.args.i) (sym c.in-Some.ensures) ∙ some_seen_at n.flights c.args.from c.in-Some.link c.args.i f c.in-Some-get.ensures))
