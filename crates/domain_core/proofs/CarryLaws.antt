@@ -1,17 +1,14 @@
 -- What a router did on octets, put on its way, is what happens in the world.
-use Rattle.std.proofs.Common.{◌≡◌, ℕ, zero, suc, ◌+◌, ◌<◌, ◌≤◌, false, true, List, [], ◌∷◌, length, map, drop, slice_get, slice_set, slice_index_or, Option, Some, None, refl, sym, ap, subst, ◌∙◌}
-use Rattle.std.specs.List.{AllByRecursion}
-use Rattle.std.proofs.lemmas.List.{map-set}
+use Rattle.std.proofs.Common.{◌≡◌, ℕ, zero, suc, ◌+◌, ◌<◌, ◌≤◌, false, true, List, [], ◌∷◌, length, drop, slice_get, slice_set, Option, Some, None, refl, sym, ap, subst, ◌∙◌}
 use Rattle.std.proofs.lemmas.Option.{same_Some}
 use Rattle.wire_base.specs.declared.bsl.Bsl.{Bsl}
 use Rattle.wire_base.specs.declared.conf.Kind.{Kind}
 use Rattle.wire_base.specs.declared.conf.Level.{Level}
-use Rattle.wire_base.specs.declared.conf.RouterConf.{RouterConf}
 use Rattle.wire_base.specs.declared.triple.Triple.{Triple}
 use Rattle.wire_base.specs.model.Control.{Control}
-use Rattle.wire_base.specs.model.Flooding.{Reply, on_pdu, send}
+use Rattle.wire_base.specs.model.Flooding.{on_pdu, send}
 use Rattle.wire_base.specs.model.Ingress.{edge_fault, ingress_kind, inject_directly}
-use Rattle.wire_base.specs.model.Item.{Item, ControlItem, PacketItem, DataItem}
+use Rattle.wire_base.specs.model.Item.{Item, ControlItem, PacketItem}
 use Rattle.wire_base.specs.model.OnFrame.{Effects, Next, framed, on_frame_directly}
 use Rattle.wire_base.specs.model.Pdu.{Pdu, pdu_at}
 use Rattle.item_laws.specs.Read.{pdu_or_hello, packet_in}
@@ -19,13 +16,13 @@ use Rattle.router_core.specs.State.{RouterState}
 use Rattle.domain_core.specs.declared.flight.Flight.{Flight}
 use Rattle.domain_core.specs.declared.flight.Load.{Load}
 use Rattle.domain_core.specs.declared.flight.Load.TheVariants as noted
-use Rattle.domain_core.specs.Flights.{item_of, item_seen, items_seen, load_at, frames_at, without_frame, push_all_sent}
-use Rattle.domain_core.specs.Framed.{frame_over, pdu_sent, packet_sent, IsFramed, IsFlooded, IsHopped}
-use Rattle.domain_core.specs.Moves.{Sending, Made, replied, packet_taken, inject_made}
+use Rattle.domain_core.specs.Flights.{item_of, item_seen, items_seen, load_at, frames_at, without_frame}
+use Rattle.domain_core.specs.Framed.{frame_over, pdu_sent, packet_sent, IsFramed, IsFlooded}
+use Rattle.domain_core.specs.Moves.{Made, replied, packet_taken, inject_made}
 use Rattle.domain_core.specs.Network.{NetworkState, world_of, IsFrameOver, AreFramesOver, IsTrueNetwork}
 use Rattle.domain_core.specs.Step.{Happened, makes, push_all, with_router, sends, injects, taken_off, arrives}
 use Rattle.domain_core.specs.Truth.{IsTrueControl, IsTruePdu, IsTrueCopy, IsTrueItem, IsTruthful, InjectFits}
-use Rattle.domain_core.specs.World.{WorldState, is_up, link_between, queue_at}
+use Rattle.domain_core.specs.World.{WorldState, is_up, link_between}
 use Rattle.domain_core.proofs.EachLaws.{each_got}
 use Rattle.domain_core.proofs.FramedWorld.{conf_there, control_there, item_there, frame_short}
 use Rattle.domain_core.proofs.FramedPdus.{pdu_framed, send_framed}

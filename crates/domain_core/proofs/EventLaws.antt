@@ -1,7 +1,6 @@
 -- What is left to be asked of an event once its own rules allow it.
-use Rattle.std.proofs.Common.{◌≡◌, ℕ, ◌+◌, ◌≤◌, nat_le, Bool, true, false, List, length, map, slice_get, Option, Some, None, refl, sym, ap, subst, ◌∙◌}
+use Rattle.std.proofs.Common.{◌≡◌, ℕ, ◌+◌, ◌≤◌, nat_le, Bool, true, false, List, length, map, slice_get, Option, Some, None, sym, ap, subst, ◌∙◌}
 use Rattle.std.proofs.lemmas.List.{length-map}
-use Rattle.wire_base.specs.declared.bsl.Bsl.{Bsl}
 use Rattle.wire_base.specs.declared.conf.RouterConf.{RouterConf}
 use Rattle.wire_base.specs.model.Configuration.{DomainConf}
 use Rattle.wire_base.specs.model.Control.{Control}
@@ -13,9 +12,9 @@ use Rattle.domain_core.specs.declared.fault.EventFault.TheVariants as faults
 use Rattle.domain_core.specs.declared.network.Network.{Network}
 use Rattle.domain_core.specs.declared.step_out.StepOut.{StepOut}
 use Rattle.domain_core.specs.Answers.{early_fault, early_rule, Refuses, told}
-use Rattle.domain_core.specs.Faults.{most_events, most_in_flight, first_fault, unless_room, entry_fault, rule_fault, event_fault}
+use Rattle.domain_core.specs.Faults.{most_events, most_in_flight, first_fault, entry_fault, rule_fault, event_fault}
 use Rattle.domain_core.specs.Held.{state_of, world_in, IsDone}
-use Rattle.domain_core.specs.Network.{NetworkState, AreFramesOver, IsTrueNetwork}
+use Rattle.domain_core.specs.Network.{AreFramesOver, IsTrueNetwork}
 use Rattle.domain_core.specs.Step.{doing, happens, happens_with}
 use Rattle.domain_core.specs.Truth.{IsTruthful, EventFits, AreWorldDrops}
 use Rattle.domain_core.specs.World.{WorldState, in_flight}

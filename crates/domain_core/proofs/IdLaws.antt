@@ -1,10 +1,9 @@
 -- The BFR-ids of bit positions, position by position.
-use Rattle.std.proofs.Common.{◌≡◌, ℕ, zero, suc, ◌+◌, ◌≤◌, nat_le, Bool, true, false, List, [], ◌∷◌, ◌++◌, map, filter, add-one, refl, sym, ap, subst, ◌∙◌}
+use Rattle.std.proofs.Common.{◌≡◌, ℕ, suc, ◌+◌, nat_le, Bool, true, false, List, [], ◌∷◌, ◌++◌, map, filter, add-one, refl, sym, ap, ◌∙◌}
 use Rattle.std.proofs.lemmas.List.{map-append}
-use Rattle.wire_base.specs.declared.bsl.Bsl.{Bsl}
 use Rattle.wire_base.specs.declared.triple.Triple.{Triple}
 use Rattle.wire_base.specs.model.BitSet.{has_member, up_to, IsWithin}
-use Rattle.wire_base.specs.model.Place.{bits_of, id_at}
+use Rattle.wire_base.specs.model.Place.{id_at}
 use Rattle.wire_base.proofs.SetLaws.{filter-is}
 use Rattle.domain_core.specs.Moves.{listed}
 

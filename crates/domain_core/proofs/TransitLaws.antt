@@ -1,5 +1,5 @@
 -- What arrives, is lost or comes again, of the frames that are held.
-use Rattle.std.proofs.Common.{◌≡◌, ℕ, ◌+◌, Bool, true, false, if◌then◌else◌, List, [], ◌∷◌, map, drop, slice_get, Option, Some, None, Ok, Err, Result, refl, sym, ap, subst, ◌∙◌}
+use Rattle.std.proofs.Common.{◌≡◌, ℕ, ◌+◌, Bool, true, false, if◌then◌else◌, List, [], drop, slice_get, Option, Some, None, Ok, Err, Result, refl, sym, ap, subst, ◌∙◌}
 use Rattle.wire_base.specs.declared.cause.Cause.{Cause}
 use Rattle.wire_base.specs.declared.cause.Cause.TheVariants as cause
 use Rattle.wire_base.specs.declared.conf.Kind.{Kind}
@@ -14,17 +14,16 @@ use Rattle.item_laws.specs.Read.{control_in, packet_in, packet_read}
 use Rattle.replay_text.specs.declared.event.Event.TheVariants.{Take}
 use Rattle.domain_core.specs.declared.flight.Flight.{Flight}
 use Rattle.domain_core.specs.declared.flight.Load.{Load}
-use Rattle.domain_core.specs.declared.flight.Load.TheVariants.{Pdu, Packet}
 use Rattle.domain_core.specs.declared.step_out.DropLine.{DropLine}
 use Rattle.domain_core.specs.declared.step_out.GotLine.{GotLine}
 use Rattle.domain_core.specs.declared.step_out.StepOut.{StepOut}
 use Rattle.domain_core.specs.declared.step_out.WireFrame.{WireFrame}
 use Rattle.domain_core.specs.Answers.{told}
-use Rattle.domain_core.specs.Faults.{up_over, is_up_toward}
-use Rattle.domain_core.specs.Flights.{item_seen, items_seen, frames_at, push_frame, without_frame}
-use Rattle.domain_core.specs.Moves.{Made, item_lost}
+use Rattle.domain_core.specs.Faults.{is_up_toward}
+use Rattle.domain_core.specs.Flights.{item_seen, items_seen, push_frame, without_frame}
+use Rattle.domain_core.specs.Moves.{item_lost}
 use Rattle.domain_core.specs.Network.{NetworkState, world_of, AreFramesOver, heard_at, heard_of, heard_after}
-use Rattle.domain_core.specs.Step.{Happened, same_world, makes, taken_off, arrives, comes, takes, takes_over, loses, loses_over, repeats, repeats_over}
+use Rattle.domain_core.specs.Step.{same_world, makes, taken_off, arrives, comes, takes, takes_over, loses, loses_over, repeats, repeats_over}
 use Rattle.domain_core.specs.World.{WorldState, is_up, link_between, frames_between, queue_at, push_item}
 use Rattle.domain_core.proofs.SeenLaws.{seen_pushed, seen_removed}
 

@@ -1,5 +1,5 @@
 -- A router of a domain at work turns into another state.
-use Rattle.std.proofs.Common.{◌≡◌, ℕ, ◌<◌, List, [], length, map, slice_get, slice_set, slice_index_or, Option, Some, Result, Ok, Err, OnErr, refl, sym, ap, subst, ◌∙◌, arith}
+use Rattle.std.proofs.Common.{◌≡◌, ℕ, ◌<◌, List, [], length, map, slice_get, slice_set, slice_index_or, Option, Some, Result, Ok, Err, OnErr, refl, sym, ap, ◌∙◌}
 use Rattle.std.proofs.lemmas.List.{map-set}
 use Rattle.std.proofs.lemmas.Option.{slice_get_read, get_or_from_slice_get}
 use Rattle.wire_base.specs.declared.conf.RouterConf.{RouterConf}
@@ -10,8 +10,7 @@ use Rattle.domain_core.specs.declared.step_out.StepOut.{StepOut}
 use Rattle.domain_core.specs.Answers.{told}
 use Rattle.domain_core.specs.Moves.{Made, none_made}
 use Rattle.domain_core.specs.Network.{NetworkState, world_of, heard_at}
-use Rattle.domain_core.specs.Step.{Happened, same_world, with_router, turns, changes, changes_end, sends}
-use Rattle.domain_core.specs.World.{WorldState}
+use Rattle.domain_core.specs.Step.{Happened, with_router, turns, changes, changes_end}
 use Rattle.domain_core.proofs.QueueLaws.{get_mapped, map_set}
 
 -- what holds anyway holds after a failure

@@ -1,5 +1,4 @@
 use Rattle.std.proofs.Common.{◌≡◌, ◌∙◌, Some, sym, ap}
-use Rattle.wire_base.specs.model.Item.{PacketItem}
 use Rattle.domain_core.specs.declared.flight.Flight.{Flight}
 use Rattle.domain_core.specs.declared.flight.Load.{Load}
 use Rattle.domain_core.specs.declared.flight.Load.TheVariants.{Pdu}

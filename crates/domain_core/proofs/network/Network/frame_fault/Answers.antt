@@ -1,6 +1,5 @@
-use Rattle.std.proofs.Common.{◌≡◌, ◌∙◌, ℕ, length, Option, Some, None, sym, ap}
+use Rattle.std.proofs.Common.{◌∙◌, ℕ, length, Option, Some, sym, ap}
 use Rattle.wire_base.specs.model.Item.{Item}
-use Rattle.domain_core.specs.declared.fault.EventFault.{EventFault}
 use Rattle.domain_core.specs.declared.fault.EventFault.TheVariants as faults
 use Rattle.domain_core.specs.Faults.{frame_fault}
 use Rattle.domain_core.specs.Flights.{items_seen}

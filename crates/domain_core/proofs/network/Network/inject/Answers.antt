@@ -1,4 +1,4 @@
-use Rattle.std.proofs.Common.{◌≡◌, ◌∙◌, ◌+◌, ℕ, List, length, slice_get, slice_set, Option, Some, None, option_map, unwrap_or, sym, ap, subst}
+use Rattle.std.proofs.Common.{◌≡◌, ◌∙◌, ◌+◌, ℕ, List, slice_set, Option, option_map, unwrap_or, sym, ap}
 use Rattle.wire_base.specs.declared.conf.Kind.{Kind}
 use Rattle.wire_base.specs.declared.conf.Kind.TheVariants.{Mpls}
 use Rattle.wire_base.specs.declared.conf.RouterConf.{RouterConf}
@@ -8,14 +8,13 @@ use Rattle.wire_base.specs.declared.triple.Triple.{Triple}
 use Rattle.wire_base.specs.model.Control.{Control}
 use Rattle.wire_base.specs.model.Ingress.{ingress_kind}
 use Rattle.wire_base.specs.model.Place.{kind_of}
-use Rattle.router_core.specs.State.{RouterState}
 use Rattle.domain_core.specs.declared.fault.EventFault.TheVariants as faults
 use Rattle.domain_core.specs.declared.flight.Load.{Load}
 use Rattle.domain_core.specs.declared.flight.Load.TheVariants as noted
 use Rattle.domain_core.specs.Answers.{told, told_of}
 use Rattle.domain_core.specs.Faults.{entry_fault}
 use Rattle.domain_core.specs.Flights.{items_seen, push_all_sent}
-use Rattle.domain_core.specs.Held.{state_of, world_in}
+use Rattle.domain_core.specs.Held.{state_of}
 use Rattle.domain_core.specs.Step.{Happened}
 use Rattle.domain_core.proofs.CarryLaws.{set_same, inject_is, inject_carried, inject_world}
 use Rattle.domain_core.proofs.TransitLaws.{same_frames}

@@ -1,12 +1,10 @@
-use Rattle.std.proofs.Common.{◌≡◌, ◌∙◌, [], Some, sym, ap}
+use Rattle.std.proofs.Common.{◌∙◌, sym, ap}
 use Rattle.wire_base.specs.declared.cause.Cause.TheVariants as cause
 use Rattle.domain_core.specs.Answers.{told}
-use Rattle.domain_core.specs.Flights.{item_seen, without_frame}
+use Rattle.domain_core.specs.Flights.{item_seen}
 use Rattle.domain_core.specs.Held.{state_of, world_in}
-use Rattle.domain_core.specs.Moves.{Made, item_lost}
-use Rattle.domain_core.specs.Network.{IsFrameOver, AreFramesOver}
-use Rattle.domain_core.specs.Step.{Happened, makes, taken_off}
-use Rattle.domain_core.specs.World.{WorldState}
+use Rattle.domain_core.specs.Network.{IsFrameOver}
+use Rattle.domain_core.specs.Step.{Happened, taken_off}
 use Rattle.domain_core.proofs.SeenLaws.{none_seen_at, some_seen_at, frames_left}
 use Rattle.domain_core.proofs.TransitLaws.{gone_world, lost_world, lost_told, none_lost, some_lost, same_frames}
 use Rattle.domain_core.proofs.TurnLaws.{nothing_told}

@@ -1,8 +1,6 @@
-use Rattle.std.proofs.Common.{◌≡◌, ◌∙◌, ◌<◌, length, List, slice_get, Some, sym, ap}
+use Rattle.std.proofs.Common.{◌≡◌, ◌∙◌, List, slice_get, Some, sym, ap}
 use Rattle.wire_base.specs.declared.conf.RouterConf.{RouterConf}
-use Rattle.wire_base.specs.model.Control.{Control}
 use Rattle.wire_base.specs.model.Flooding.{send}
-use Rattle.router_core.specs.State.{RouterState}
 use Rattle.domain_core.specs.declared.flight.Load.TheVariants.{Pdu}
 use Rattle.domain_core.specs.Answers.{told, told_of}
 use Rattle.domain_core.specs.Flights.{items_seen, push_all_sent}
@@ -11,7 +9,6 @@ use Rattle.domain_core.specs.Moves.{replied}
 use Rattle.domain_core.specs.Step.{Happened}
 use Rattle.domain_core.proofs.CarryLaws.{carried_world, cut_short, send_is, send_control, send_carried, send_true_still}
 use Rattle.domain_core.proofs.RefusalLaws.{up_at_send, link_within}
-use Rattle.domain_core.proofs.SentLaws.{IsCarried}
 use Rattle.domain_core.proofs.TransitLaws.{same_frames}
 use Rattle.domain_core.proofs.TurnLaws.{on_err, router_there, control_at, same_heard}
 use Rattle.domain_core.proofs.network.Network.send.Goals as goal

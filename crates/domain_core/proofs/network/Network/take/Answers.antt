@@ -1,14 +1,13 @@
-use Rattle.std.proofs.Common.{◌≡◌, ◌∙◌, ◌≤◌, ℕ, Bool, true, false, not, List, length, slice_get, slice_set, Option, Some, None, refl, sym, ap, subst}
+use Rattle.std.proofs.Common.{◌≡◌, ◌∙◌, ◌≤◌, ℕ, true, false, List, length, slice_get, slice_set, Option, refl, sym, ap, subst}
 use Rattle.wire_base.specs.declared.cause.Cause.TheVariants as cause
 use Rattle.wire_base.specs.declared.conf.RouterConf.{RouterConf}
 use Rattle.wire_base.specs.model.OnFrame.{on_frame_directly}
 use Rattle.router_core.specs.State.{RouterState}
-use Rattle.domain_core.specs.declared.flight.Flight.{Flight}
 use Rattle.domain_core.specs.declared.flight.Load.{Load}
 use Rattle.domain_core.specs.Answers.{told, told_of}
 use Rattle.domain_core.specs.Flights.{item_seen, items_seen, load_at, push_all_sent}
 use Rattle.domain_core.specs.Held.{state_of, world_in, heard_in}
-use Rattle.domain_core.specs.Network.{NetworkState, world_of, IsFrameOver}
+use Rattle.domain_core.specs.Network.{world_of, IsFrameOver}
 use Rattle.domain_core.specs.Step.{Happened, taken_off}
 use Rattle.domain_core.specs.World.{is_up, queue_over}
 use Rattle.domain_core.proofs.CarryLaws.{set_same, carried_world, cut_short, is_short, left_frames, arrival}

@@ -1,8 +1,7 @@
-use Rattle.std.proofs.Common.{◌≡◌, ◌∙◌, Some, sym, ap}
+use Rattle.std.proofs.Common.{◌∙◌, sym, ap}
 use Rattle.domain_core.specs.Faults.{event_fault}
 use Rattle.domain_core.specs.Held.{world_in}
 use Rattle.domain_core.specs.Network.{Seen}
-use Rattle.domain_core.specs.World.{WorldState}
 use Rattle.domain_core.proofs.EventLaws.{early_is, refuses_first}
 use Rattle.domain_core.proofs.world.World.step.Goals as goal
 
