@@ -1,10 +1,9 @@
 -- The BFR-ids of bit positions, position by position.
-use Rattle.std.proofs.Common.{◌≡◌, ℕ, zero, suc, ◌+◌, ◌≤◌, nat_le, Bool, true, false, List, [], ◌∷◌, ◌++◌, map, filter, add-one, refl, sym, ap, subst, ◌∙◌}
+use Rattle.std.proofs.Common.{◌≡◌, ℕ, suc, ◌+◌, nat_le, Bool, true, false, List, [], ◌∷◌, ◌++◌, map, filter, add-one, refl, sym, ap, ◌∙◌}
 use Rattle.std.proofs.lemmas.List.{map-append}
-use Rattle.wire_base.specs.declared.bsl.Bsl.{Bsl}
 use Rattle.wire_base.specs.declared.triple.Triple.{Triple}
 use Rattle.wire_base.specs.model.BitSet.{has_member, up_to, IsWithin}
-use Rattle.wire_base.specs.model.Place.{bits_of, id_at}
+use Rattle.wire_base.specs.model.Place.{id_at}
 use Rattle.wire_base.proofs.SetLaws.{filter-is}
 use Rattle.domain_core.specs.Moves.{listed}
 
@@ -24,10 +23,10 @@ pub ids_more : (t : Triple) (xs : List ℕ) (n : ℕ) → ids_up_to t xs n ++ li
 ids_more t xs n =
     let test : ℕ → Bool = λ p. has_member p xs in
     sym (ap (λ (m : ℕ). ids_up_to t xs m) (add-one n)
-      ∙ ap (λ (l : List ℕ). listed (map (id_at t) l)) (kept_joined test (up_to n) (suc n ∷ []))
-      ∙ ap listed (map-append (id_at t) (filter test (up_to n)) (filter test (suc n ∷ [])))
-      ∙ kept_joined (λ k. nat_le k 65535) (map (id_at t) (filter test (up_to n))) (map (id_at t) (filter test (suc n ∷ [])))
-      ∙ ap (λ (m : ℕ). ids_up_to t xs n ++ listed (map (id_at t) (filter test (m ∷ [])))) (sym (add-one n)))
+    ∙ ap (λ (l : List ℕ). listed (map (id_at t) l)) (kept_joined test (up_to n) (suc n ∷ []))
+    ∙ ap listed (map-append (id_at t) (filter test (up_to n)) (filter test (suc n ∷ [])))
+    ∙ kept_joined (λ k. nat_le k 65535) (map (id_at t) (filter test (up_to n))) (map (id_at t) (filter test (suc n ∷ [])))
+    ∙ ap (λ (m : ℕ). ids_up_to t xs n ++ listed (map (id_at t) (filter test (m ∷ [])))) (sym (add-one n)))
 
 -- all positions
 pub ids_all : (t : Triple) (xs : List ℕ) (n : ℕ) → IsWithin 0 n xs → ids_up_to t xs n ≡ listed (map (id_at t) xs)

@@ -5,6 +5,7 @@ pub mod CopyTruth
 pub mod DomainLaws
 pub mod EachLaws
 pub mod EnterTruth
+pub mod EventLaws
 pub mod FlagLaws
 pub mod FlightLaws
 pub mod FloodTruth

@@ -1,5 +1,5 @@
 -- What is known where an event is allowed.
-use Rattle.std.proofs.Common.{◌≡◌, ℕ, ◌<◌, not, nat_le, Bool, true, false, List, length, slice_get, is_none, Option, Some, None, refl, sym, ap, subst, ◌∙◌, arith}
+use Rattle.std.proofs.Common.{◌≡◌, ℕ, ◌<◌, not, nat_le, Bool, true, false, length, slice_get, is_none, Option, Some, None, refl, sym, ap, subst, ◌∙◌}
 use mathlib.Core.Bool.{true≢false}
 use Rattle.std.proofs.lemmas.Option.{same_Some}
 use Rattle.wire_base.specs.declared.conf.RouterConf.{RouterConf}
@@ -14,7 +14,7 @@ use Rattle.domain_core.proofs.FramedWorld.{conf_there}
 use Rattle.domain_core.proofs.LinkLaws.{join_of, end_found}
 use Rattle.domain_core.proofs.QueueLaws.{got_within}
 
-none_first : (b : Bool) (reason : EventFault) (next : Option EventFault) → first_fault b reason next ≡ None → (b ≡ false) × (next ≡ None)
+pub none_first : (b : Bool) (reason : EventFault) (next : Option EventFault) → first_fault b reason next ≡ None → (b ≡ false) × (next ≡ None)
 none_first true reason next h = absurd (some_none reason h)
   where
     some_none : (e : EventFault) → Some e ≡ None → ⊥
@@ -26,7 +26,7 @@ not_false true h = refl
 not_false false h = absurd (true≢false h)
 
 module _ (w : WorldState) (a b link : ℕ) (c : Control) (at : slice_get w.routers a ≡ Some c) (joined : link_between w.domain.routers a b ≡ Some link) where
-  toward : is_up_toward w a b ≡ is_up c link
+  pub toward : is_up_toward w a b ≡ is_up c link
   toward = ap (λ (o : Option Control). up_over o (link_between w.domain.routers a b)) at ∙ ap (up_over (Some c)) joined
 
   ruled : (next : Option EventFault) → unless_joined w a b next ≡ None → next ≡ None

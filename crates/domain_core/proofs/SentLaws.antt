@@ -1,5 +1,5 @@
 -- What a router sends on octets is what is sent in items.
-use Rattle.std.proofs.Common.{◌≡◌, ℕ, List, [], ◌∷◌, ◌++◌, map, fold, refl, sym, ap, subst, ◌∙◌}
+use Rattle.std.proofs.Common.{◌≡◌, ℕ, List, [], ◌∷◌, map, refl, sym, ap, ◌∙◌}
 use Rattle.std.specs.List.{AllByRecursion}
 use Rattle.wire_base.specs.declared.conf.RouterConf.{RouterConf}
 use Rattle.wire_base.specs.declared.effects.Sent.{Sent}
@@ -9,15 +9,13 @@ use Rattle.domain_core.specs.declared.flight.Flight.{Flight}
 use Rattle.domain_core.specs.declared.flight.Load.{Load}
 use Rattle.domain_core.specs.declared.step_out.DropLine.{DropLine}
 use Rattle.domain_core.specs.declared.step_out.GotLine.{GotLine}
-use Rattle.domain_core.specs.declared.step_out.StepOut.{StepOut}
 use Rattle.domain_core.specs.declared.step_out.WireFrame.{WireFrame}
 use Rattle.domain_core.specs.Answers.{told, told_of}
-use Rattle.domain_core.specs.Flights.{items_seen, frames_at, push_frame, item_sent, flight_of, push_sent, push_all_sent, number_of, IsLong}
-use Rattle.domain_core.specs.Framed.{frame_over, sending_of, wire_of, wire_from, got_line, drop_line, IsItemFrame, IsFramed}
+use Rattle.domain_core.specs.Flights.{items_seen, item_sent, flight_of, push_sent, push_all_sent, number_of, IsLong}
+use Rattle.domain_core.specs.Framed.{sending_of, wire_of, got_line, drop_line, IsItemFrame, IsFramed}
 use Rattle.domain_core.specs.Moves.{Sending, Made}
 use Rattle.domain_core.specs.Network.{IsFrameOver, AreFramesOver}
-use Rattle.domain_core.specs.Step.{push_sending, push_all}
-use Rattle.domain_core.specs.World.{push_item}
+use Rattle.domain_core.specs.Step.{push_all}
 use Rattle.domain_core.proofs.EachLaws.{each_weaker}
 use Rattle.domain_core.proofs.SeenLaws.{seen_pushed, frames_pushed}
 

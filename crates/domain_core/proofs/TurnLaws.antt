@@ -1,17 +1,16 @@
 -- A router of a domain at work turns into another state.
-use Rattle.std.proofs.Common.{◌≡◌, ℕ, ◌<◌, List, [], length, map, slice_get, slice_set, slice_index_or, Option, Some, Result, Ok, Err, OnErr, refl, sym, ap, subst, ◌∙◌, arith}
+use Rattle.std.proofs.Common.{◌≡◌, ℕ, ◌<◌, List, [], length, map, slice_get, slice_set, slice_index_or, Option, Some, Result, Ok, Err, OnErr, refl, sym, ap, ◌∙◌}
 use Rattle.std.proofs.lemmas.List.{map-set}
-use Rattle.std.proofs.lemmas.Option.{slice_get_read}
+use Rattle.std.proofs.lemmas.Option.{slice_get_read, get_or_from_slice_get}
 use Rattle.wire_base.specs.declared.conf.RouterConf.{RouterConf}
 use Rattle.wire_base.specs.model.Control.{Control}
 use Rattle.wire_base.specs.model.Flooding.{Reply}
-use Rattle.router_core.specs.State.{RouterState}
+use Rattle.router_core.specs.State.{RouterState, counted}
 use Rattle.domain_core.specs.declared.step_out.StepOut.{StepOut}
 use Rattle.domain_core.specs.Answers.{told}
 use Rattle.domain_core.specs.Moves.{Made, none_made}
-use Rattle.domain_core.specs.Network.{NetworkState, world_of}
-use Rattle.domain_core.specs.Step.{Happened, same_world, with_router, turns, changes, changes_end, sends}
-use Rattle.domain_core.specs.World.{WorldState}
+use Rattle.domain_core.specs.Network.{NetworkState, world_of, heard_at}
+use Rattle.domain_core.specs.Step.{Happened, with_router, turns, changes, changes_end}
 use Rattle.domain_core.proofs.QueueLaws.{get_mapped, map_set}
 
 -- what holds anyway holds after a failure
@@ -38,6 +37,13 @@ module _ (n : NetworkState) (a : ℕ) (r : RouterState) (at : slice_get n.router
 
   pub same_heard : (i : ℕ) (next : RouterState) → i ≡ a → next.heard ≡ r.heard → map (λ (x : RouterState). x.heard) (slice_set n.routers i next) ≡ map (λ (x : RouterState). x.heard) n.routers
   same_heard i next same is = ap (λ (k : ℕ). map (λ (x : RouterState). x.heard) (slice_set n.routers k next)) same ∙ map_set (λ (x : RouterState). x.heard) n.routers a next r at is
+
+  -- it has taken one frame more
+  pub counted_heard : (i : ℕ) (next : RouterState) → i ≡ a → next.heard ≡ counted r.heard → map (λ (x : RouterState). x.heard) (slice_set n.routers i next) ≡ heard_at (map (λ (x : RouterState). x.heard) n.routers) a
+  counted_heard i next same is =
+      let heard = map (λ (x : RouterState). x.heard) n.routers in
+      ap (λ (k : ℕ). map (λ (x : RouterState). x.heard) (slice_set n.routers k next)) same ∙ map-set (λ (x : RouterState). x.heard) n.routers a next
+      ∙ ap (slice_set heard a) (is ∙ ap counted (sym (get_or_from_slice_get heard a r.heard 0 (get_mapped (λ (x : RouterState). x.heard) n.routers a r at))))
 
   pub change_is : (change : Control → Reply) → changes (world_of n) a change (slice_get (world_of n).routers a) ≡ turns (world_of n) a (change r.control)
   change_is change = ap (changes (world_of n) a change) control_at

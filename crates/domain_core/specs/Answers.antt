@@ -1,5 +1,5 @@
 -- What one event answers.
-use Rattle.std.specs.Prelude.{◌≡◌, ℕ, ◌<◌, nat_le, Bool, true, false, List, [], length, map, drop, Option, Some, None, Result, Ok, Err}
+use Rattle.std.specs.Prelude.{◌≡◌, ℕ, ◌<◌, nat_le, List, [], length, map, drop, Option, Some, None, Result, Ok, Err}
 use Rattle.wire_base.specs.declared.conf.Kind.{Kind}
 use Rattle.wire_base.specs.declared.conf.RouterConf.{RouterConf}
 use Rattle.wire_base.specs.declared.faults.EdgeFault.{EdgeFault}

@@ -1,16 +1,17 @@
 -- A domain at work as it is held: routers with their counts of frames, and frames with what is noted beside them. And as it
 -- is seen: a world, and each router's count.
-use Rattle.std.specs.Prelude.{◌≡◌, ℕ, Bool, true, false, List, map, slice_get, slice_index_or, slice_set, Option, Some, None, if◌then◌else◌}
+use Rattle.std.specs.Prelude.{◌≡◌, ℕ, Bool, List, map, slice_get, slice_index_or, slice_set, Option, Some, None, if◌then◌else◌}
 use Rattle.std.specs.List.{AllByRecursion}
 use Rattle.wire_base.specs.declared.conf.RouterConf.{RouterConf}
 use Rattle.wire_base.specs.model.Configuration.{DomainConf}
 use Rattle.wire_base.specs.model.Flooding.{first_control}
+use Rattle.wire_base.specs.model.Item.{Item}
 use Rattle.router_core.specs.State.{RouterState}
 use Rattle.router_core.specs.State as router
 use Rattle.replay_text.specs.declared.event.Event.{Event}
 use Rattle.replay_text.specs.declared.event.Event.TheVariants.{Inject, Take, Lose, Again, Down, Up, Send, Tick, Restart}
 use Rattle.domain_core.specs.declared.flight.Flight.{Flight}
-use Rattle.domain_core.specs.World.{WorldState, link_between}
+use Rattle.domain_core.specs.World.{WorldState, frames_between}
 use Rattle.domain_core.specs.Faults.{is_up_toward}
 use Rattle.domain_core.specs.Flights.{item_seen, items_seen, frames_at}
 use Rattle.domain_core.specs.Framed.{frame_over}
@@ -63,9 +64,14 @@ pub record IsTrueNetwork (n : NetworkState) : Type 0 where
 abbrev pub heard_at : List ℕ → ℕ → List ℕ
 heard_at heard b = slice_set heard b (router.counted (slice_index_or heard b 0))
 
+-- one that arrives is taken where the end is up
+abbrev pub heard_of : List ℕ → ℕ → Bool → Option Item → List ℕ
+heard_of heard b up None = heard
+heard_of heard b up (Some x) = if up then heard_at heard b else heard
+
 -- A router takes a frame where one arrives at an end that is up, and at no other event.
 abbrev pub heard_after : WorldState → List ℕ → Event → List ℕ
-heard_after w heard (Take a b i) = if is_up_toward w b a then heard_at heard b else heard
+heard_after w heard (Take a b i) = heard_of heard b (is_up_toward w b a) (slice_get (frames_between w a b) i)
 heard_after w heard (Inject a sd bsl ks ttl entropy payload) = heard
 heard_after w heard (Lose a b i) = heard
 heard_after w heard (Again a b i) = heard

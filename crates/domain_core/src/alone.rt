@@ -114,6 +114,7 @@ impl Network {
         payload: &[u8],
     ) -> Result<StepOut, EventFault>
         requires truth { IsTrueNetwork (state_of self.old) }
+        requires place { at < length self.old.routers.items }
         requires fits { InjectFits (length self.old.domain.routers) at sd ids.now ttl entropy payload.now }
         requires room { self.old.injections < 2 ^ 32 - 1 }
         ensures refused { MatchResult result (λ _. inject_fault self.old at sd bsl ids.now ≡ None) (λ e. Refuses (inject_fault self.old at sd bsl ids.now) e) }
@@ -126,15 +127,14 @@ impl Network {
         let kind = kind_of(router.conf().kinds.as_slice(), sd).unwrap_or(Kind::Mpls);
         let load = Load::Packet(number, Triple { sd, bsl, si: 0 }, kind);
         let entered = router.inject(sd, bsl, ids, ttl, entropy, payload);
-        match entered {
-            Err(fault) => Err(entry_refused(fault)),
-            Ok(effects) => {
-                let confs = confs_of(&self.domain);
-                let out = carry(&mut self.flights, confs, at, load, &effects)?;
-                self.injections = number;
-                Ok(out)
-            }
-        }
+        let effects = match entered {
+            Ok(effects) => effects,
+            Err(fault) => return Err(entry_refused(fault)),
+        };
+        let confs = confs_of(&self.domain);
+        let out = carry(&mut self.flights, confs, at, load, &effects)?;
+        self.injections = number;
+        Ok(out)
     }
 }
 

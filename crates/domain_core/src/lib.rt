@@ -22,5 +22,6 @@ mod world;
 pub use fault::EventFault;
 pub use frame_laws::{frames_do_what_items_do, sent_frames_are_items};
 pub use laws::{a_start_is_truthful, events_keep_the_truth};
+pub use places::{confs_of, peer_place};
 pub use step_out::{DropLine, GotLine, StepOut, WireFrame};
 pub use world::World;

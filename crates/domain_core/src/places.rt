@@ -2,14 +2,15 @@
 ghost use Rattle.std.specs.Prelude.{◌≡◌, ◌≤◌, length, slice_get, option_map, IfSome};
 ghost use Rattle.std.specs.List.{AllByRecursion};
 ghost use Rattle.wire_base.specs.model.Choice.{end_toward, is_system};
-ghost use Rattle.wire_base.specs.model.Configuration.{IsSound};
+ghost use Rattle.wire_base.specs.model.Configuration.{IsSound, IsValid};
 ghost use Rattle.domain_core.specs.World.{place_of, end_at, peer_place, link_between};
 
 use wire_base::{Domain, End, RouterConf, SystemId};
 
 /// The configurations of a domain's routers, by place.
-pub(crate) fn confs_of(domain: &Domain) -> &[RouterConf]
+pub fn confs_of(domain: &Domain) -> &[RouterConf]
     ensures confs { result.now ≡ domain.now.routers }
+    ensures valid { IsValid domain.now }
     ensures sound { AllByRecursion IsSound result.now }
     ensures few { length result.now ≤ 250 }
 {
@@ -81,7 +82,7 @@ fn place_of(confs: &[RouterConf], system: SystemId) -> u16
 }
 
 /// The place of the router at the other end of a link.
-pub(crate) fn peer_place(confs: &[RouterConf], place: u16, link: u16) -> u16
+pub fn peer_place(confs: &[RouterConf], place: u16, link: u16) -> u16
     requires { length confs.now ≤ 250 }
     ensures { result ≡ peer_place confs.now place link }
 {

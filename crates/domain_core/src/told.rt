@@ -78,12 +78,7 @@ fn got_lines(alloc: Global, at: u16, number: Option<u32>, got: &[Got]) -> M<Rows
     Ok(lines)
 }
 
-fn drop_lines(
-    alloc: Global,
-    at: u16,
-    number: Option<u32>,
-    drops: &[DropNote],
-) -> M<Rows<DropLine>>
+fn drop_lines(alloc: Global, at: u16, number: Option<u32>, drops: &[DropNote]) -> M<Rows<DropLine>>
     ensures { IfOk result (λ lines. lines ≡ map (drop_line at number) drops.now) }
 {
     let mut lines = Rows::new(alloc);

@@ -1,6 +1,7 @@
 //! A domain at work.
 ghost use Rattle.std.specs.Prelude.{◌≡◌, ◌<◌, length, map, slice_get, Option, Some, None, IfOk, OnOk, IfErr, MatchResult};
-ghost use Rattle.domain_core.specs.Answers.{Refuses, Stays, told};
+ghost use Rattle.std.specs.List.{AllByRecursion};
+ghost use Rattle.domain_core.specs.Answers.{IsShortFrame, Refuses, Stays, told};
 ghost use Rattle.domain_core.specs.Faults.{event_fault};
 ghost use Rattle.domain_core.specs.Network.{heard_after};
 ghost use Rattle.domain_core.specs.Step.{happens};
@@ -58,6 +59,7 @@ impl World {
         ensures world { OnOk result (self.new.world ≡ (happens self.old.world event.now).world) }
         ensures told { IfOk result (λ out. out ≡ told self.old.world.domain.routers (happens self.old.world event.now).made) }
         ensures drops { IfOk result (λ out. AreWorldDrops out.drops) }
+        ensures short { IfOk result (λ out. AllByRecursion IsShortFrame out.sent) }
         ensures heard { OnOk result (self.new.heard ≡ heard_after self.old.world self.old.heard event.now) }
         ensures stays { IfErr result (λ e. Stays (self.new ≡ self.old) e) }
     {

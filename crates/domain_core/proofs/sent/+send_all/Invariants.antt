@@ -1,4 +1,4 @@
-use Rattle.std.proofs.Common.{ℕ, length}
+use Rattle.std.proofs.Common.{length}
 use Rattle.domain_core.proofs.sent.+send_all.Given as goal
 
 abbrev pub decreases-send_all : goal.decreases-send_all

@@ -1,4 +1,4 @@
-use Rattle.std.proofs.Common.{◌≡◌, ◌∙◌, ◌+◌, ◌++◌, ◌∷◌, [], ℕ, List, map, filter, ap, subst, arith}
+use Rattle.std.proofs.Common.{◌≡◌, ◌∙◌, ◌+◌, ◌++◌, ◌∷◌, [], ℕ, List, map, filter, ap, arith}
 use Rattle.wire_base.specs.model.BitSet.{has_member}
 use Rattle.wire_base.specs.model.Place.{bits_of, id_at}
 use Rattle.bier_bits.specs.Any.{positions_of}

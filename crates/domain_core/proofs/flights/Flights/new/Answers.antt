@@ -1,4 +1,4 @@
-use Rattle.std.proofs.Common.{◌≡◌, ◌∙◌, List, sym, ap, take}
+use Rattle.std.proofs.Common.{◌∙◌, List, sym, ap, take}
 use Rattle.domain_core.specs.declared.flight.Flight.{Flight}
 use Rattle.domain_core.specs.Flights.{frame_count}
 use Rattle.domain_core.proofs.FlightLaws.{none_counted}

@@ -1,6 +1,5 @@
-use Rattle.std.proofs.Common.{◌≡◌, ◌∙◌, ◌-◌, ℕ, List, length, sym, ap, arith}
-use Rattle.domain_core.specs.declared.flight.Flight.{Flight}
-use Rattle.domain_core.specs.Flights.{frames_at, without_frame}
+use Rattle.std.proofs.Common.{◌∙◌, ◌-◌, ℕ, ap, arith}
+use Rattle.domain_core.specs.Flights.{without_frame}
 use Rattle.domain_core.proofs.FlightLaws.{taken_back, none_put}
 use Rattle.domain_core.proofs.flights.Flights.pop.Goals as goal
 

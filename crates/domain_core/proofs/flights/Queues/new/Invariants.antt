@@ -1,5 +1,4 @@
-use Rattle.std.proofs.Common.{◌≡◌, List, [], map, take}
-use Rattle.domain_core.specs.declared.flight.Flight.{Flight}
+use Rattle.std.proofs.Common.{◌≡◌, [], map, take}
 use Rattle.domain_core.proofs.flights.Queues.new.Given as goal
 
 abbrev pub invariant-loop-end : goal.invariant-loop-end

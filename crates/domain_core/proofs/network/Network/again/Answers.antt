@@ -1,5 +1,4 @@
 use Rattle.std.proofs.Common.{◌≡◌, ◌∙◌, Some, sym, ap}
-use Rattle.wire_base.specs.model.Item.{PacketItem}
 use Rattle.domain_core.specs.declared.flight.Flight.{Flight}
 use Rattle.domain_core.specs.declared.flight.Load.{Load}
 use Rattle.domain_core.specs.declared.flight.Load.TheVariants.{Pdu}
@@ -46,7 +45,7 @@ returns-clause-done c =
     record {
       world = more_world n c.push.new.self c.args.from c.in-Some.link f pushed ∙ sym (ap (λ (h : Happened). h.world) happened);
       frames = same_frames n.domain.routers c.push.new.self _ pushed
-        (frames_pushed (IsFrameOver n.domain.routers) n.flights c.args.from c.in-Some.link f
-        (each_got (IsFrameOver n.domain.routers c.args.from c.in-Some.link) (frames_at n.flights c.args.from c.in-Some.link) c.args.i f (c.requires.frames c.args.from c.in-Some.link) (sym c.in-Some-get.ensures)) c.requires.frames);
+          (frames_pushed (IsFrameOver n.domain.routers) n.flights c.args.from c.in-Some.link f
+          (each_got (IsFrameOver n.domain.routers c.args.from c.in-Some.link) (frames_at n.flights c.args.from c.in-Some.link) c.args.i f (c.requires.frames c.args.from c.in-Some.link) (sym c.in-Some-get.ensures)) c.requires.frames);
       answer = nothing_told n.domain.routers c.nothing-2.result _ c.nothing-2.ensures (ap (λ (h : Happened). h.made) happened);
     }

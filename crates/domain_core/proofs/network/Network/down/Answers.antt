@@ -1,5 +1,4 @@
 use Rattle.std.proofs.Common.{◌≡◌, slice_get, Some, sym, ap}
-use Rattle.router_core.specs.State.{RouterState}
 use Rattle.wire_base.specs.model.Flooding.{end_down}
 use Rattle.domain_core.specs.Held.{state_of, world_in}
 use Rattle.domain_core.specs.Step.{Happened}

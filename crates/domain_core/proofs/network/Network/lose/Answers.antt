@@ -1,12 +1,10 @@
-use Rattle.std.proofs.Common.{◌≡◌, ◌∙◌, [], Some, sym, ap}
+use Rattle.std.proofs.Common.{◌∙◌, sym, ap}
 use Rattle.wire_base.specs.declared.cause.Cause.TheVariants as cause
 use Rattle.domain_core.specs.Answers.{told}
-use Rattle.domain_core.specs.Flights.{item_seen, without_frame}
+use Rattle.domain_core.specs.Flights.{item_seen}
 use Rattle.domain_core.specs.Held.{state_of, world_in}
-use Rattle.domain_core.specs.Moves.{Made, item_lost}
-use Rattle.domain_core.specs.Network.{IsFrameOver, AreFramesOver}
-use Rattle.domain_core.specs.Step.{Happened, makes, taken_off}
-use Rattle.domain_core.specs.World.{WorldState}
+use Rattle.domain_core.specs.Network.{IsFrameOver}
+use Rattle.domain_core.specs.Step.{Happened, taken_off}
 use Rattle.domain_core.proofs.SeenLaws.{none_seen_at, some_seen_at, frames_left}
 use Rattle.domain_core.proofs.TransitLaws.{gone_world, lost_world, lost_told, none_lost, some_lost, same_frames}
 use Rattle.domain_core.proofs.TurnLaws.{nothing_told}
@@ -30,8 +28,8 @@ returns-clause-done c =
     let happened = some_lost w c.args.from c.args.to c.args.i c.in-Some.link (sym c.in-Some.ensures) x (some_seen_at n.flights c.args.from c.in-Some.link c.args.i c.in-Some-get.flight.now c.in-Some-get.ensures) in
     record {
       world = gone_world n c.remove.new.self c.args.from c.in-Some.link c.args.i c.remove.ensures
-        ∙ sym (ap (λ (h : Happened). h.world) happened ∙ lost_world (taken_off w c.args.from c.in-Some.link c.args.i) c.args.to cause.Lost x);
+          ∙ sym (ap (λ (h : Happened). h.world) happened ∙ lost_world (taken_off w c.args.from c.in-Some.link c.args.i) c.args.to cause.Lost x);
       frames = same_frames n.domain.routers c.remove.new.self _ c.remove.ensures (frames_left (IsFrameOver n.domain.routers) n.flights c.args.from c.in-Some.link c.args.i c.requires.frames);
       answer = lost_told n.domain.routers c.args.to cause.Lost x c.in_ok-out.out c.in_ok-out.ensures.0 c.in_ok-out.ensures.1 c.in_ok-out.ensures.2
-        ∙ sym (ap (λ (h : Happened). told n.domain.routers h.made) happened);
+          ∙ sym (ap (λ (h : Happened). told n.domain.routers h.made) happened);
     }

@@ -1,8 +1,6 @@
-use Rattle.std.proofs.Common.{◌≡◌, ◌∙◌, ◌<◌, length, List, slice_get, Some, sym, ap}
+use Rattle.std.proofs.Common.{◌≡◌, ◌∙◌, List, slice_get, Some, sym, ap}
 use Rattle.wire_base.specs.declared.conf.RouterConf.{RouterConf}
-use Rattle.wire_base.specs.model.Control.{Control}
 use Rattle.wire_base.specs.model.Flooding.{send}
-use Rattle.router_core.specs.State.{RouterState}
 use Rattle.domain_core.specs.declared.flight.Load.TheVariants.{Pdu}
 use Rattle.domain_core.specs.Answers.{told, told_of}
 use Rattle.domain_core.specs.Flights.{items_seen, push_all_sent}
@@ -11,7 +9,6 @@ use Rattle.domain_core.specs.Moves.{replied}
 use Rattle.domain_core.specs.Step.{Happened}
 use Rattle.domain_core.proofs.CarryLaws.{carried_world, cut_short, send_is, send_control, send_carried, send_true_still}
 use Rattle.domain_core.proofs.RefusalLaws.{up_at_send, link_within}
-use Rattle.domain_core.proofs.SentLaws.{IsCarried}
 use Rattle.domain_core.proofs.TransitLaws.{same_frames}
 use Rattle.domain_core.proofs.TurnLaws.{on_err, router_there, control_at, same_heard}
 use Rattle.domain_core.proofs.network.Network.send.Goals as goal
@@ -52,12 +49,12 @@ returns-clause-done c =
     let next = send_control n c.requires.truth c.args.from c.args.to c.in-Some.link r there within c.send.new.self.control c.in_ok-effects.effects c.in_ok-effects.ensures.next in
     let happened = send_is n c.requires.truth c.args.from c.args.to c.in-Some.link r there (sym c.in-Some.ensures) in
     let sent : c.carry.new.flights ≡ push_all_sent n.domain.routers c.args.from (Pdu c.conf.result.now.level) n.flights c.in_ok-effects.effects.sent =
-      c.in_ok-out.ensures.ok ∙ ap (λ (cs : List RouterConf). push_all_sent cs c.args.from (Pdu c.conf.result.now.level) n.flights c.in_ok-effects.effects.sent) c.confs_of-confs.ensures.confs in
+    c.in_ok-out.ensures.ok ∙ ap (λ (cs : List RouterConf). push_all_sent cs c.args.from (Pdu c.conf.result.now.level) n.flights c.in_ok-effects.effects.sent) c.confs_of-confs.ensures.confs in
     record {
       world = carried_world n c.args.from r there c.from.result c.from.ensures c.send.new.self c.carry.new.flights (send r.control c.in-Some.link).control (replied n.domain.routers c.args.from c.in-Some.link (send r.control c.in-Some.link)) _ next (ap items_seen sent ∙ k.seen) happened;
       frames = same_frames n.domain.routers c.carry.new.flights _ sent k.frames;
       answer = c.in_ok-out.ensures.out ∙ ap (λ (cs : List RouterConf). told_of cs c.args.from (Pdu c.conf.result.now.level) c.in_ok-effects.effects) c.confs_of-confs.ensures.confs
-        ∙ k.out ∙ sym (ap (λ (h : Happened). told n.domain.routers h.made) happened);
+          ∙ k.out ∙ sym (ap (λ (h : Happened). told n.domain.routers h.made) happened);
     }
 
 pub returns-clause-heard : goal.returns-clause-heard

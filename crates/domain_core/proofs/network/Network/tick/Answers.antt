@@ -1,5 +1,4 @@
 use Rattle.std.proofs.Common.{◌≡◌, slice_get, Some, ap}
-use Rattle.router_core.specs.State.{RouterState}
 use Rattle.wire_base.specs.model.Flooding.{tick}
 use Rattle.domain_core.specs.Held.{state_of}
 use Rattle.domain_core.specs.Step.{Happened}
