@@ -1,9 +1,11 @@
 -- Each frame that a domain sends fits a record of a capture.
-use Rattle.std.proofs.Common.{◌≡◌, ℕ, false, List, [], ◌∷◌, length, map, None, arith}
+use Rattle.std.proofs.Common.{◌≡◌, ℕ, false, List, [], ◌∷◌, length, map, None, Result, Ok, Err, IfOk, MatchResult, sym, subst, arith}
 use Rattle.std.specs.List.{AllByRecursion}
 use Rattle.wire_base.specs.model.Configuration.{DomainConf, IsValid}
 use Rattle.replay_text.specs.declared.event.Event.{Event}
-use Rattle.domain_core.specs.Answers.{IsShortFrame, told}
+use Rattle.domain_core.specs.declared.fault.EventFault.{EventFault}
+use Rattle.domain_core.specs.declared.step_out.StepOut.{StepOut}
+use Rattle.domain_core.specs.Answers.{IsShortFrame, Refuses, told}
 use Rattle.domain_core.specs.World.{WorldState, peer_place}
 use Rattle.domain_core.specs.Moves.{Sending}
 use Rattle.domain_core.specs.Faults.{event_fault}
@@ -24,3 +26,10 @@ pub sent_short : (w : WorldState) → IsTruthful w → (e : Event) → EventFits
 sent_short w t e fits ok =
     let keeps = happens_true false w e t fits ok in
     wires_short w.domain t.valid (happens w e).world.injections (happens w e).made.sent keeps.made.sent
+
+-- what a step answers
+pub step_short : (result : Result StepOut EventFault) (w : WorldState) → IsTruthful w → (e : Event) → EventFits (length w.domain.routers) e
+    → MatchResult result (λ _. event_fault w e ≡ None) (λ f. Refuses (event_fault w e) f) → IfOk result (λ out. out ≡ told w.domain.routers (happens w e).made)
+    → IfOk result (λ out. AllByRecursion IsShortFrame out.sent)
+step_short (Ok out) w t e fits allowed is = subst (λ (o : StepOut). AllByRecursion IsShortFrame o.sent) (sym is) (sent_short w t e fits allowed)
+step_short (Err f) w t e fits refused is = tt
