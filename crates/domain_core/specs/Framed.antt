@@ -3,7 +3,7 @@
 --
 -- What the octets don't tell is given beside them: that they carry a PDU; or the number of the injection, and how the
 -- subdomain gives BIFT-ids. The triple of a packet is what its BIFT-id means at the router that it goes to.
-use Rattle.std.specs.Prelude.{◌≡◌, ℕ, ◌<◌, ◌≤◌, ◌/◌, List, [], length, map, drop, slice_get, Option, Some, None, unwrap_or}
+use Rattle.std.specs.Prelude.{◌≡◌, ℕ, ◌<◌, ◌≤◌, ◌/◌, false, List, [], length, map, drop, slice_get, Option, Some, None, unwrap_or}
 use Rattle.std.specs.List.{AllByRecursion}
 use Rattle.byteorder.specs.Endian.{big_number}
 use Rattle.wire_base.specs.declared.conf.End.{End}
@@ -13,7 +13,9 @@ use Rattle.wire_base.specs.declared.conf.RouterConf.{RouterConf}
 use Rattle.wire_base.specs.declared.effects.Sent.{Sent}
 use Rattle.wire_base.specs.declared.effects.Got.{Got}
 use Rattle.wire_base.specs.declared.triple.Triple.{Triple}
-use Rattle.wire_base.specs.model.Item.{Item, frame_of}
+use Rattle.wire_base.specs.model.Control.{Control}
+use Rattle.wire_base.specs.model.Flooding.{Reply}
+use Rattle.wire_base.specs.model.Item.{Item, DataItem, frame_of}
 use Rattle.wire_base.specs.model.OnFrame.{Positions, Drop, Effects}
 use Rattle.wire_base.specs.model.Place.{id_at, means}
 use Rattle.item_laws.specs.Read.{control_in, packet_in}
@@ -21,7 +23,7 @@ use Rattle.domain_core.specs.declared.step_out.GotLine.{GotLine}
 use Rattle.domain_core.specs.declared.step_out.DropLine.{DropLine}
 use Rattle.domain_core.specs.declared.step_out.WireFrame.{WireFrame}
 use Rattle.domain_core.specs.World.{peer_place}
-use Rattle.domain_core.specs.Moves.{Sending, Made, over_end, listed}
+use Rattle.domain_core.specs.Moves.{Sending, Made, over_end, listed, replied, packet_taken}
 
 -- ---- frames
 
@@ -107,3 +109,13 @@ pub record IsFramed (confs : List RouterConf) (a : ℕ) (number : Option ℕ) (r
   pub wires : map (wire_of confs) m.sent ≡ map (wire_from confs a) e.sent
   pub got : m.got ≡ map (got_line a number) e.got
   pub drops : m.drops ≡ map (drop_line a number) e.drops
+
+-- What flooding answers to octets, or sends: the router's next state, and PDUs over one end.
+pub record IsFlooded (confs : List RouterConf) (a link : ℕ) (c : Control) (r : Reply) (next : Control) (e : Effects) : Type 0 where
+  pub control : next ≡ r.control
+  pub framed : IsFramed confs a None (pdu_sent c.conf.level) e (replied confs a link r)
+
+-- A router takes the octets of a copy of a packet: it stays as it is, and hops the copy.
+pub record IsHopped (confs : List RouterConf) (a : ℕ) (c : Control) (x : DataItem) (next : Control) (e : Effects) : Type 0 where
+  pub control : next ≡ c
+  pub framed : IsFramed confs a (Some x.number) (packet_sent confs a x.number x.kind x.triple) e (packet_taken false confs a c x x.outer)

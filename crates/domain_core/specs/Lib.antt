@@ -1,6 +1,10 @@
+pub mod Answers
 pub mod Faults
+pub mod Flights
 pub mod Framed
+pub mod Held
 pub mod Moves
+pub mod Network
 pub mod Run
 pub mod Step
 pub mod Truth

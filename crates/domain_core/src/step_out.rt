@@ -1,4 +1,7 @@
 //! What an event does to the outside. Routers are named by their places in the domain.
+ghost use Rattle.std.specs.Prelude.{◌≡◌, []};
+
+use std::alloc::Global;
 use wire_base::{Cause, Octets, Rows};
 
 /// A frame that a router sends to another.
@@ -34,4 +37,17 @@ pub struct StepOut {
     pub sent: Rows<WireFrame>,
     pub got: Rows<GotLine>,
     pub drops: Rows<DropLine>,
+}
+
+impl StepOut {
+    /// Nothing was sent, delivered or dropped.
+    pub(crate) fn nothing(alloc: Global) -> Self
+        ensures { result ≡ record { sent = []; got = []; drops = [] } }
+    {
+        StepOut {
+            sent: Rows::new(alloc),
+            got: Rows::new(alloc),
+            drops: Rows::new(alloc),
+        }
+    }
 }

@@ -7,7 +7,6 @@ use Rattle.std.specs.List.{fold, filter_map, cons_option}
 use Rattle.wire_base.specs.declared.entry.Aged.{Aged}
 use Rattle.wire_base.specs.declared.entry.Aged.TheVariants.{Live, Expired, Held, Removed}
 use Rattle.wire_base.specs.declared.entry.Entry.{Entry}
-use Rattle.wire_base.specs.declared.addresses.LspId.{LspId}
 use Rattle.wire_base.specs.model.Control.{Flood, aged, aged_to, after_second}
 use Rattle.wire_base.specs.model.Flooding.{flags_aged, flood_aged}
 use Rattle.lsp_store.specs.Places.{IsSecondAt}

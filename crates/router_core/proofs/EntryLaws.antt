@@ -1,16 +1,15 @@
 -- What a database has of an identifier after an entry is put, and after a second.
-use Rattle.std.proofs.Common.{◌≡◌, ◌∙◌, ℕ, zero, suc, ◌-◌, ◌<◌, ◌≤◌, Bool, true, false, List, [], ◌∷◌, ◌++◌, length, map, Option, Some, None, if◌then◌else◌, refl, sym, ap, subst, arith}
-use Rattle.std.specs.Prelude.{option_and_then, option_to_list}
+use Rattle.std.proofs.Common.{◌≡◌, ◌∙◌, ℕ, Bool, true, false, List, [], ◌∷◌, Option, Some, if◌then◌else◌, refl, sym, ap}
 use Rattle.std.proofs.lemmas.Bool.{false≢true, true≢false, and_from, eq-eqb}
 use Rattle.std.specs.declared.cmp.Ordering.{Ordering}
 use Rattle.std.specs.declared.cmp.Ordering.TheVariants.{Less, Equal, Greater}
-use Rattle.std.specs.Ordering.{is_eq, is_lt, is_gt, match_ordering}
+use Rattle.std.specs.Ordering.{is_eq, is_gt, match_ordering}
 use Rattle.std.specs.List.{AllByRecursion}
 use Rattle.std.specs.Str.{bytes_eq}
 use Rattle.wire_base.specs.declared.addresses.LspId.{LspId}
 use Rattle.wire_base.specs.declared.entry.Entry.{Entry}
-use Rattle.wire_base.specs.model.Control.{same_id, id_order, is_below, AreAscending, ids_of, entry_in, put_entry, FlagRow, HasEntry}
-use Rattle.lsp_store.proofs.OrderLaws.{tie_is_same, below_differs, above_differs, same_turned}
+use Rattle.wire_base.specs.model.Control.{same_id, id_order, entry_in, put_entry, FlagRow, HasEntry}
+use Rattle.lsp_store.proofs.OrderLaws.{tie_is_same, above_differs}
 use Rattle.isis_flood.proofs.FloodLaws.{same_from_tie}
 
 -- ---- equal identifiers

@@ -1,28 +1,27 @@
 -- Events as the code does them: what the parts become is what the event makes of the control state, and a router stays one.
-use Rattle.std.proofs.Common.{◌≡◌, ◌∙◌, ℕ, zero, suc, ◌+◌, ◌-◌, ◌<◌, ◌≤◌, ◌==◌, nat_lt, nat_le, Bool, true, false, List, [], ◌∷◌, ◌++◌, length, set, replicate, Option, Some, None, if◌then◌else◌, refl, sym, ap, subst, length-set, arith}
+use Rattle.std.proofs.Common.{◌≡◌, ◌∙◌, ℕ, ◌-◌, ◌<◌, ◌==◌, nat_lt, nat_le, Bool, true, false, List, [], ◌∷◌, length, set, replicate, Option, Some, None, if◌then◌else◌, refl, sym, ap, subst, length-set, arith}
 use Rattle.std.specs.Prelude.{option_and_then}
 use Rattle.std.proofs.lemmas.Bool.Decides.{nat_tests}
-use Rattle.std.proofs.lemmas.Bool.{false≢true, true≢false}
+use Rattle.std.proofs.lemmas.Bool.{false≢true}
 use Rattle.std.specs.List.{AllByRecursion, fold, filter_map, cons_option}
-use Rattle.wire_base.specs.declared.addresses.SystemId.{SystemId}
 use Rattle.wire_base.specs.declared.addresses.LspId.{LspId}
 use Rattle.wire_base.specs.declared.conf.RouterConf.{RouterConf}
 use Rattle.wire_base.specs.declared.entry.Aged.{Aged}
 use Rattle.wire_base.specs.declared.entry.Aged.TheVariants.{Live, Expired, Held, Removed}
 use Rattle.wire_base.specs.declared.entry.Entry.{Entry}
 use Rattle.wire_base.specs.model.Configuration.{IsSound}
-use Rattle.wire_base.specs.model.Control.{Control, Flood, IsDatabase, AreAscending, ids_of, is_below, same_id, fragment_0, entry_in, put_entry, seq_of, own_entry_in, purge, aged, aged_to, after_second}
-use Rattle.wire_base.specs.model.Flooding.{mark_all, link_up, link_down, sent_on, reissue, reissue_unless_spent, end_up, end_down, flood_aged, aged_all, refreshed, is_stale, tick, started, first_control, restart, new_flood}
+use Rattle.wire_base.specs.model.Control.{Control, Flood, IsDatabase, AreAscending, ids_of, is_below, same_id, fragment_0, entry_in, put_entry, seq_of, purge, aged, aged_to, after_second}
+use Rattle.wire_base.specs.model.Flooding.{mark_all, link_up, link_down, sent_on, reissue, reissue_unless_spent, end_up, end_down, flood_aged, aged_all, is_stale, tick, started, first_control, restart, new_flood}
 use Rattle.wire_base.specs.model.OwnLsp.{own_lsp}
 use Rattle.lsp_store.specs.Places.{is_refused}
 use Rattle.lsp_store.proofs.OrderLaws.{below_differs, same_turned}
 use Rattle.router_core.specs.Aging.{is_near}
 use Rattle.router_core.specs.Own.{own_past, spent_past}
 use Rattle.router_core.specs.State.{IsRouter, control_of}
-use Rattle.router_core.proofs.EntryLaws.{HasId, same_is, id_self}
+use Rattle.router_core.proofs.EntryLaws.{same_is}
 use Rattle.router_core.proofs.KeptLaws.{Kept, OwnStands}
 use Rattle.router_core.proofs.StateLaws.{up_kept, down_kept, sent_kept, all_aged, issue_kept, new_kept}
-use Rattle.router_core.proofs.OwnLaws.{known_not_refused, past_id, past_short, past_live, kept_of, router_of, reissued_is, reissued_keeps, made_id}
+use Rattle.router_core.proofs.OwnLaws.{known_not_refused, past_id, past_short, past_live, kept_of, router_of, reissued_is, reissued_keeps}
 
 -- ---- a start
 

@@ -6,8 +6,8 @@ use Rattle.std.specs.Ordering.{is_lt, is_gt, match_ordering}
 use Rattle.std.specs.List.{AllByRecursion}
 use Rattle.wire_base.specs.declared.addresses.LspId.{LspId}
 use Rattle.wire_base.specs.model.Control.{id_order, is_below, same_id, AreAscending, FlagRow, no_flags, at_row, without_row, IsWithinLinks, IsFlagRow}
-use Rattle.wire_base.specs.model.Flooding.{send_on, ask_on, set_srm, clear_ssn, clear_both}
-use Rattle.lsp_store.proofs.OrderLaws.{id_total, below_from_above, below_trans, below_differs, same_turned}
+use Rattle.wire_base.specs.model.Flooding.{send_on, ask_on, set_srm, clear_ssn}
+use Rattle.lsp_store.proofs.OrderLaws.{below_from_above, below_trans}
 
 -- ---- links
 

@@ -1,6 +1,6 @@
 -- What every event keeps of flags and database: flags at links that are up alone, and at entries that are there; contents
 -- that fit a frame; and the router's own link state PDU, live.
-use Rattle.std.proofs.Common.{◌≡◌, ◌∙◌, ℕ, ◌+◌, ◌<◌, ◌≤◌, ◌&&◌, ◌||◌, not, ◌==◌, nat_lt, Bool, true, false, List, [], ◌∷◌, ◌++◌, length, map, set, get_or, Option, Some, None, is_none, if◌then◌else◌, refl, sym, ap, subst, arith}
+use Rattle.std.proofs.Common.{◌≡◌, ◌∙◌, ℕ, ◌+◌, ◌<◌, ◌≤◌, ◌&&◌, ◌||◌, not, ◌==◌, nat_lt, Bool, true, false, List, [], ◌∷◌, length, set, get_or, Option, Some, None, if◌then◌else◌, refl, sym, ap, subst, arith}
 use Rattle.std.proofs.lemmas.Bool.{false≢true, true≢false}
 use Rattle.std.specs.List.{AllByRecursion, fold}
 use Rattle.wire_base.specs.declared.addresses.SystemId.{SystemId}
@@ -12,8 +12,8 @@ use Rattle.wire_base.specs.declared.flood_out.FloodOut.{FloodOut}
 use Rattle.wire_base.specs.declared.flood_out.FloodOut.TheVariants as out
 use Rattle.wire_base.specs.declared.triple.Summary.{Summary}
 use Rattle.wire_base.specs.model.Pdu.{Head, head_summary}
-use Rattle.wire_base.specs.model.Control.{same_id, same_system, fragment_0, entry_in, put_entry, purge, seq_of, age_of, age_by_life, is_unknown, is_newer, is_full, FlagRow, no_flags, at_row, Flood, IsFlood, IsFlagRow, HasEntry, IsWithinLinks}
-use Rattle.wire_base.specs.model.Flooding.{with_row, no_links, send_on, ask_on, set_srm, mark_all, pass_on, kept, stores, puts_marked, only_says, flags_alone, lsp_aged, is_stray, is_own_ahead, lsp_in, on_lsp, LspAnswer, SnpAnswer, with_flags, wanted, asks, is_live_summary, listed_aged, on_listed, on_list, lacks, send_lacking, on_csnp, on_psnp}
+use Rattle.wire_base.specs.model.Control.{same_id, same_system, fragment_0, entry_in, put_entry, purge, seq_of, age_of, age_by_life, is_unknown, is_newer, is_full, FlagRow, no_flags, Flood, IsFlood, IsFlagRow, HasEntry}
+use Rattle.wire_base.specs.model.Flooding.{with_row, no_links, send_on, ask_on, set_srm, mark_all, kept, stores, puts_marked, only_says, flags_alone, lsp_aged, is_stray, is_own_ahead, lsp_in, on_lsp, LspAnswer, SnpAnswer, with_flags, wanted, asks, is_live_summary, listed_aged, on_listed, on_list, lacks, send_lacking, on_csnp, on_psnp}
 use Rattle.wire_base.specs.model.Tlv.{rows_of}
 use Rattle.router_core.specs.State.{IsShort}
 use Rattle.router_core.proofs.EntryLaws.{HasId, same_is, put_reads, put_has, put_keeps, put_other, rows_named, all_put, all_have}

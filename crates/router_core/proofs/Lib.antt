@@ -3,6 +3,7 @@ pub mod CountLaws
 pub mod EntryLaws
 pub mod EventLaws
 pub mod FlagLaws
+pub mod ForecastLaws
 pub mod KeptLaws
 pub mod OwnLaws
 pub mod ReceivedLaws

@@ -1,6 +1,6 @@
 -- The router's own link state PDU, as it is issued.
-use Rattle.std.proofs.Common.{◌≡◌, ◌∙◌, ℕ, ◌+◌, ◌<◌, ◌≤◌, ◌==◌, ◌&&◌, ◌||◌, Bool, true, false, List, length, Option, Some, None, is_none, Result, Ok, Err, IsOk, rules, if◌then◌else◌, refl, sym, ap, subst, arith}
-use Rattle.std.proofs.lemmas.Bool.{false≢true, true≢false}
+use Rattle.std.proofs.Common.{◌≡◌, ◌∙◌, ℕ, ◌+◌, ◌<◌, ◌≤◌, ◌==◌, ◌&&◌, ◌||◌, Bool, true, false, List, length, Option, is_none, Result, Ok, Err, IsOk, rules, if◌then◌else◌, refl, sym, ap, subst, arith}
+use Rattle.std.proofs.lemmas.Bool.{true≢false}
 use Rattle.wire_base.specs.declared.addresses.SystemId.{SystemId}
 use Rattle.wire_base.specs.declared.addresses.LspId.{LspId}
 use Rattle.wire_base.specs.declared.conf.RouterConf.{RouterConf}
@@ -18,13 +18,13 @@ use Rattle.router_core.proofs.EntryLaws.{HasId}
 use Rattle.router_core.proofs.KeptLaws.{Kept, OwnStands}
 use Rattle.router_core.proofs.StateLaws.{issue_kept}
 
--- where there is room, an entry that isn't refused is put
-pub put_is_ok : (entries : List Entry) (spare : ℕ) (id : LspId) (answer : Result (Unit {0}) PutFault) → PutAnswers entries spare id answer → is_refused entries id ≡ false → 1 ≤ spare → IsOk answer
+-- an entry that isn't refused is put, where there is room for it or its identifier is there
+pub put_is_ok : (entries : List Entry) (spare : ℕ) (id : LspId) (answer : Result (Unit {0}) PutFault) → PutAnswers entries spare id answer → is_refused entries id ≡ false → (is_new entries id ≡ true → 1 ≤ spare) → IsOk answer
 put_is_ok entries spare id answer says known room = cases answer (subst (λ (b : Bool). AnswersWhere b entries spare id answer) known says)
   where
     cases : (r : Result (Unit {0}) PutFault) → AnswersWhere false entries spare id r → IsOk r
     cases (Ok u) h = search rules
-    cases (Err f) h = absurd (omega (arith, h.2, room))
+    cases (Err f) h = let more = room h.1 in absurd (omega (arith, h.2, more))
 
 pub known_not_refused : (entries : List Entry) (id : LspId) → HasId entries id → is_refused entries id ≡ false
 known_not_refused entries id (e, is) = ap (λ (o : Option Entry). is_none o && is_full entries) is

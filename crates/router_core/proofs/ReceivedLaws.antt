@@ -1,25 +1,37 @@
--- What comes in frames finds room in frames, and a router stays one when it takes a PDU.
-use Rattle.std.proofs.Common.{◌≡◌, ◌∙◌, ℕ, ◌+◌, ◌≤◌, Bool, true, false, List, [], ◌∷◌, ◌++◌, length, take, get_or, Option, Some, refl, sym, ap, subst, length-append, arith}
+-- What comes in frames finds room in frames, and a router stays one when it takes a PDU: what the PDU makes of it is what
+-- the code does, with all that it asks for made ready before.
+use Rattle.std.proofs.Common.{◌≡◌, ◌∙◌, ℕ, ◌+◌, ◌≤◌, ◌==◌, ◌&&◌, Bool, true, false, List, [], ◌∷◌, ◌++◌, length, map, take, replicate, get_or, Option, Some, None, is_none, IfSome, if◌then◌else◌, refl, sym, ap, subst, length-append, arith}
+use Rattle.std.proofs.lemmas.Bool.{true≢false}
 use Rattle.std.proofs.lemmas.List.{length-take-le}
+use Rattle.std.specs.Prelude.{option_map}
 use Rattle.byteorder.specs.Endian.{big_bytes}
 use Rattle.byteorder.specs.Numbers.{length-bytes_high_first}
 use Rattle.wire_base.specs.declared.addresses.SystemId.{SystemId}
 use Rattle.wire_base.specs.declared.addresses.LspId.{LspId}
+use Rattle.wire_base.specs.declared.cause.Cause.TheVariants as cause
 use Rattle.wire_base.specs.declared.conf.Level.{Level}
 use Rattle.wire_base.specs.declared.conf.RouterConf.{RouterConf}
+use Rattle.wire_base.specs.declared.entry.Age.{Age}
+use Rattle.wire_base.specs.declared.entry.Age.TheVariants.{Unknown, Newer, Equal, Older, Confused}
 use Rattle.wire_base.specs.declared.entry.Entry.{Entry}
 use Rattle.wire_base.specs.declared.flood_out.FloodOut.{FloodOut}
 use Rattle.wire_base.specs.declared.flood_out.FloodOut.TheVariants as out
-use Rattle.wire_base.specs.declared.flood_out.SnpOut.{SnpOut}
-use Rattle.wire_base.specs.model.Control.{Flood, IsDatabase}
+use Rattle.wire_base.specs.declared.triple.Summary.{Summary}
+use Rattle.wire_base.specs.model.Control.{Control, Flood, IsDatabase, entry_in, age_of, is_full, is_unknown}
 use Rattle.wire_base.specs.model.Ethernet.{IsFrame, IsisPdu}
-use Rattle.wire_base.specs.model.Flooding.{on_lsp, on_csnp, on_psnp, LspAnswer, SnpAnswer}
-use Rattle.wire_base.specs.model.Pdu.{Head, Pdu, LspPdu, CsnpPdu, PsnpPdu, HelloPdu, OtherPdu, IsPdu, lsp_type, csnp_type, psnp_type, shaped, shape, lsp_body, csnp_body, psnp_body, lsp_covered}
-use Rattle.wire_base.specs.model.Tlv.{lsp_id}
-use Rattle.router_core.specs.Received.{HasRoom}
-use Rattle.router_core.specs.State.{IsRouter, control_of}
-use Rattle.router_core.proofs.KeptLaws.{Kept, LspKept, SnpKept, lsp_kept, csnp_kept, psnp_kept}
-use Rattle.router_core.proofs.OwnLaws.{kept_of, router_of}
+use Rattle.wire_base.specs.model.Flooding.{on_pdu, on_lsp, lsp_in, lsp_aged, is_own_ahead, is_stray, on_csnp, on_psnp, snp_done, reissue_if, LspAnswer, SnpAnswer}
+use Rattle.wire_base.specs.model.OnFrame.{Drop, Effects, nothing, framed}
+use Rattle.wire_base.specs.model.Pdu.{Head, head_summary, Pdu, LspPdu, CsnpPdu, PsnpPdu, HelloPdu, OtherPdu, IsPdu, lsp_type, csnp_type, psnp_type, shaped, shape, lsp_body, csnp_body, psnp_body, lsp_covered}
+use Rattle.wire_base.specs.model.Tlv.{lsp_id, rows_of}
+use Rattle.lsp_store.specs.Places.{is_new}
+use Rattle.router_core.specs.declared.forecast.Ready.{Ready}
+use Rattle.router_core.specs.Forecast.{spent_if, flags_issued, entries_issued, count_full, past_of, IsReady}
+use Rattle.router_core.specs.Own.{own_past}
+use Rattle.router_core.specs.Received.{HasRoom, full_drop, is_kept}
+use Rattle.router_core.specs.State.{IsRouter, is_up, control_of}
+use Rattle.router_core.proofs.ForecastLaws.{past_is, full_is}
+use Rattle.router_core.proofs.KeptLaws.{Kept, OwnStands, LspKept, SnpKept, lsp_kept, csnp_kept, psnp_kept}
+use Rattle.router_core.proofs.OwnLaws.{past_id, kept_of, router_of, reissued_is, reissued_keeps}
 
 -- ---- lengths
 
@@ -58,6 +70,32 @@ pdu_short level octets (OtherPdu number) is short = tt
 
 -- ---- what flooding leaves
 
+-- what isn't kept changes nothing
+abbrev Unchanged : Flood → List Entry → LspAnswer → Type 0
+Unchanged f es a = is_kept a.answer ≡ false → (a.flood ≡ f) × (a.entries ≡ es)
+
+lsp_if : (f : Flood) (es : List Entry) (b : Bool) (x y : LspAnswer) → Unchanged f es x → Unchanged f es y → Unchanged f es (if b then x else y)
+lsp_if f es true x y h k = h
+lsp_if f es false x y h k = k
+
+aged_changes : (f : Flood) (es : List Entry) (link : ℕ) (h : Head) (tlvs : List ℕ) (age : Age) → Unchanged f es (lsp_aged f es link h tlvs age)
+aged_changes f es link h tlvs Unknown q = lsp_if f es (h.life == 0) _ _ (λ _. (refl, refl)) (lsp_if f es (is_full es) _ _ (λ _. (refl, refl)) (λ q. absurd (true≢false q))) q
+aged_changes f es link h tlvs Newer q = absurd (true≢false q)
+aged_changes f es link h tlvs Confused q = absurd (true≢false q)
+aged_changes f es link h tlvs Equal q = absurd (true≢false q)
+aged_changes f es link h tlvs Older q = absurd (true≢false q)
+
+lsp_changes : (f : Flood) (es : List Entry) (link : ℕ) (h : Head) (tlvs : List ℕ) (spent : Bool) → Unchanged f es (on_lsp f es link h tlvs spent)
+unfolding on_lsp
+lsp_changes f es link h tlvs spent = by_age (age_of (entry_in es h.id) (head_summary h))
+  where
+    by_age : (age : Age) → Unchanged f es (lsp_in f es link h tlvs spent age)
+    by_age age =
+        lsp_if f es (h.seq == 0) _ _ (λ _. (refl, refl))
+        (lsp_if f es (is_own_ahead f h.id spent age) _ _ (λ _. (refl, refl))
+        (lsp_if f es (is_stray f h age) _ _ (lsp_if f es (is_unknown age && is_full es) _ _ (λ _. (refl, refl)) (λ q. absurd (true≢false q)))
+        (aged_changes f es link h tlvs age)))
+
 module _ (r : RouterConf) (f : Flood) (es : List Entry) (spent : Bool) (k : IsRouter (control_of r f es spent)) (link : ℕ) (open_ : get_or f.up link false ≡ true) where
   whole : Kept r.system f.up spent f es
   whole = kept_of (control_of r f es spent) k
@@ -75,22 +113,102 @@ module _ (r : RouterConf) (f : Flood) (es : List Entry) (spent : Bool) (k : IsRo
     pub lsp_asks : (s : ℕ) → answer ≡ out.Reissue s → spent ≡ false
     lsp_asks = lsp_is.asked
 
-  module _ (start last : LspId) (tlvs : List ℕ) (f' : Flood) (es' : List Entry) (answer : SnpOut) (is : on_csnp f es link start last tlvs spent ≡ record { flood = f'; entries = es'; answer = answer }) where
-    csnp_is : SnpKept r.system f.up spent (record { flood = f'; entries = es'; answer = answer })
-    csnp_is = subst (λ (a : SnpAnswer). SnpKept r.system f.up spent a) is (csnp_kept r.system f.up spent link open_ f es start last tlvs whole)
+    pub lsp_unchanged : is_kept answer ≡ false → control_of r f' es' spent ≡ control_of r f es spent
+    lsp_unchanged asks =
+        let same = subst (λ (a : LspAnswer). Unchanged f es a) is (lsp_changes f es link h tlvs spent) asks in
+        ap (λ (g : Flood). control_of r g es' spent) same.0 ∙ ap (λ (l : List Entry). control_of r f l spent) same.1
 
-    pub csnp_keeps : IsDatabase es' → IsRouter (control_of r f' es' spent)
-    csnp_keeps database = stays f' es' csnp_is.kept database
+-- ---- lists of entries
 
-    pub csnp_asks : (s : ℕ) → answer.reissue ≡ Some s → spent ≡ false
-    csnp_asks = csnp_is.asked
+-- what a list of entries leaves of a router, and what it asks for, is what was told of it
+pub record IsListed (c : Control) (rows : List Summary) (a : SnpAnswer) : Type 0 where
+  pub kept : SnpKept c.conf.system c.flood.up c.spent a
+  pub asked : a.answer.reissue ≡ past_of c rows
+  pub counted : a.answer.full ≡ count_full c.entries rows
 
-  module _ (tlvs : List ℕ) (f' : Flood) (es' : List Entry) (answer : SnpOut) (is : on_psnp f es link tlvs spent ≡ record { flood = f'; entries = es'; answer = answer }) where
-    psnp_is : SnpKept r.system f.up spent (record { flood = f'; entries = es'; answer = answer })
-    psnp_is = subst (λ (a : SnpAnswer). SnpKept r.system f.up spent a) is (psnp_kept r.system f.up spent link open_ f es tlvs whole)
+-- `before` is the router, whose parts are c; f are its flags once rows are reserved
+module _ (c before : Control) (k : IsRouter c) (is : c ≡ before) (link : ℕ) (up : is_up before link ≡ true) (f : Flood) (reserved : f ≡ c.flood) (a : SnpAnswer) where
+  open_ : get_or c.flood.up link false ≡ true
+  open_ = ap (λ (x : Control). get_or x.flood.up link false) is ∙ up
 
-    pub psnp_keeps : IsDatabase es' → IsRouter (control_of r f' es' spent)
-    psnp_keeps database = stays f' es' psnp_is.kept database
+  module _ (start last : LspId) (tlvs : List ℕ) (done : on_csnp f c.entries link start last tlvs c.spent ≡ a) where
+    csnp_done : on_csnp c.flood c.entries link start last tlvs c.spent ≡ a
+    csnp_done = ap (λ (g : Flood). on_csnp g c.entries link start last tlvs c.spent) (sym reserved) ∙ done
 
-    pub psnp_asks : (s : ℕ) → answer.reissue ≡ Some s → spent ≡ false
-    psnp_asks = psnp_is.asked
+    pub csnp_listed : IsListed c (rows_of tlvs) a
+    unfolding on_csnp
+    csnp_listed =
+        subst (λ (x : SnpAnswer). IsListed c (rows_of tlvs) x) csnp_done
+        (record {
+          kept = csnp_kept c.conf.system c.flood.up c.spent link open_ c.flood c.entries start last tlvs (kept_of c k);
+          asked = past_is link c.conf.system c.spent c.flood c.entries (rows_of tlvs) k.control.own k.own;
+          counted = full_is link c.spent c.flood c.entries (rows_of tlvs) k.control.entries.in_order;
+        })
+
+    pub csnp_framed : (source : SystemId) → framed link (snp_done c a) ≡ framed link (on_pdu before link (CsnpPdu source start last tlvs))
+    unfolding on_pdu
+    csnp_framed source = ap (λ (x : SnpAnswer). framed link (snp_done c x)) (sym csnp_done) ∙ ap (λ (x : Control). framed link (on_pdu x link (CsnpPdu source start last tlvs))) is
+
+  module _ (tlvs : List ℕ) (done : on_psnp f c.entries link tlvs c.spent ≡ a) where
+    psnp_done : on_psnp c.flood c.entries link tlvs c.spent ≡ a
+    psnp_done = ap (λ (g : Flood). on_psnp g c.entries link tlvs c.spent) (sym reserved) ∙ done
+
+    pub psnp_listed : IsListed c (rows_of tlvs) a
+    unfolding on_psnp
+    psnp_listed =
+        subst (λ (x : SnpAnswer). IsListed c (rows_of tlvs) x) psnp_done
+        (record {
+          kept = psnp_kept c.conf.system c.flood.up c.spent link open_ c.flood c.entries tlvs (kept_of c k);
+          asked = past_is link c.conf.system c.spent c.flood c.entries (rows_of tlvs) k.control.own k.own;
+          counted = full_is link c.spent c.flood c.entries (rows_of tlvs) k.control.entries.in_order;
+        })
+
+    pub psnp_framed : (source : SystemId) → framed link (snp_done c a) ≡ framed link (on_pdu before link (PsnpPdu source tlvs))
+    unfolding on_pdu
+    psnp_framed source = ap (λ (x : SnpAnswer). framed link (snp_done c x)) (sym psnp_done) ∙ ap (λ (x : Control). framed link (on_pdu x link (PsnpPdu source tlvs))) is
+
+-- what was made ready is all that the list asks for
+module _ (c before : Control) (k : IsRouter c) (is : c ≡ before) (rows : List Summary) (a : SnpAnswer) (l : IsListed c rows a) (ready : Ready) (told : IsReady before rows ready) where
+  h : IsReady c rows ready
+  h = subst (λ (x : Control). IsReady x rows ready) (sym is) told
+
+  pub ready_known : IfSome ready.own (λ e. is_new a.entries e.id ≡ false)
+  ready_known = subst (λ (o : Option Entry). IfSome o (λ e. is_new a.entries e.id ≡ false)) (sym h.own) (cases (past_of c rows) l.asked)
+    where
+      there : (s : ℕ) → OwnStands c.conf.system a.entries → is_new a.entries (own_past c.conf c.flood.up s).id ≡ false
+      there s (e, (is, more)) = ap is_none (ap (λ (i : LspId). entry_in a.entries i) (past_id c.conf c.flood.up s) ∙ is)
+
+      cases : (o : Option ℕ) → a.answer.reissue ≡ o → IfSome (option_map (own_past c.conf c.flood.up) o) (λ e. is_new a.entries e.id ≡ false)
+      cases None q = tt
+      cases (Some s) q = there s (l.kept.kept.stands (l.kept.asked s q))
+
+  module _ (f : Flood) (es : List Entry) (flags : f ≡ flags_issued ready.own a.flood) (put : es ≡ entries_issued ready.own a.entries) where
+    abbrev Issued : Option ℕ → Type 0
+    Issued o = (f ≡ flags_issued (option_map (own_past c.conf c.flood.up) o) a.flood) × (es ≡ entries_issued (option_map (own_past c.conf c.flood.up) o) a.entries) × (ready.spent ≡ spent_if c.spent o)
+
+    issued : Issued (past_of c rows)
+    issued = (flags ∙ ap (λ (o : Option Entry). flags_issued o a.flood) h.own, put ∙ ap (λ (o : Option Entry). entries_issued o a.entries) h.own, h.spent)
+
+    pub ready_keeps : IsDatabase es → IsRouter (control_of c.conf f es ready.spent)
+    ready_keeps database = cases (past_of c rows) issued
+      where
+        cases : (o : Option ℕ) → Issued o → IsRouter (control_of c.conf f es ready.spent)
+        cases None (x, y, z) =
+            router_of c.conf c.flood.up ready.spent f es k.sound k.control.links
+            (subst (λ (b : Bool). Kept c.conf.system c.flood.up b f es) (sym z) (subst (λ (g : Flood). Kept c.conf.system c.flood.up c.spent g es) (sym x) (subst (λ (es' : List Entry). Kept c.conf.system c.flood.up c.spent a.flood es') (sym y) l.kept.kept)))
+            database
+        cases (Some s) (x, y, z) = reissued_keeps c.conf a.flood a.entries c.spent s c.flood.up (own_past c.conf c.flood.up s) refl f es ready.spent x y z c.flood.up c.spent k.sound k.control.links l.kept.kept database
+
+    ready_is : control_of c.conf f es ready.spent ≡ reissue_if (control_of c.conf a.flood a.entries c.spent) a.answer.reissue
+    ready_is = cases (past_of c rows) issued ∙ ap (λ (o : Option ℕ). reissue_if (control_of c.conf a.flood a.entries c.spent) o) (sym l.asked)
+      where
+        cases : (o : Option ℕ) → Issued o → control_of c.conf f es ready.spent ≡ reissue_if (control_of c.conf a.flood a.entries c.spent) o
+        cases None (x, y, z) = ap (λ (g : Flood). control_of c.conf g es ready.spent) x ∙ ap (λ (es' : List Entry). control_of c.conf a.flood es' ready.spent) y ∙ ap (λ (b : Bool). control_of c.conf a.flood a.entries b) z
+        cases (Some s) (x, y, z) = reissued_is c.conf a.flood a.entries c.spent s c.flood.up (own_past c.conf c.flood.up s) refl f es ready.spent x y z (sym l.kept.kept.up_is)
+
+    pub ready_framed : (e : Effects) (link : ℕ) → e ≡ record nothing { drops = ready.drops } → record { control = control_of c.conf f es ready.spent; effects = e } ≡ framed link (snp_done c a)
+    unfolding framed
+    ready_framed e link dropped =
+        ap (λ (x : Control). record { control = x; effects = e }) ready_is
+        ∙ ap (λ (x : Effects). record { control = reissue_if (control_of c.conf a.flood a.entries c.spent) a.answer.reissue; effects = x }) dropped
+        ∙ ap (λ (d : List Drop). record { control = reissue_if (control_of c.conf a.flood a.entries c.spent) a.answer.reissue; effects = record nothing { drops = d } }) (h.drops ∙ ap (λ n. map full_drop (replicate n cause.Full)) (sym l.counted))

@@ -1,5 +1,5 @@
 -- How long the PDUs are that a router sends, and how lists are cut into them.
-use Rattle.std.proofs.Common.{◌≡◌, ◌∙◌, ℕ, zero, suc, ◌+◌, ◌-◌, ◌*◌, ◌/◌, ◌<◌, ◌≤◌, Bool, true, false, List, [], ◌∷◌, ◌++◌, length, get_or, take, drop, map, filter, min, slice_get, if◌then◌else◌, slice_index_or, refl, sym, ap, subst, append_assoc, length-append, length-take, length-drop, arith}
+use Rattle.std.proofs.Common.{◌≡◌, ◌∙◌, ℕ, zero, suc, ◌+◌, ◌*◌, ◌/◌, ◌<◌, ◌≤◌, Bool, true, false, List, [], ◌∷◌, ◌++◌, length, get_or, take, drop, map, filter, min, slice_get, if◌then◌else◌, slice_index_or, refl, sym, ap, append_assoc, length-append, length-take, length-drop, arith}
 use Rattle.std.proofs.lemmas.List.{append-nil, length-take-le, take_all, drop_all, map-append}
 use Rattle.std.specs.List.{AllByRecursion, flat_map}
 use Rattle.byteorder.specs.Endian.{big_bytes}
@@ -11,12 +11,12 @@ use Rattle.wire_base.specs.declared.conf.RouterConf.{RouterConf}
 use Rattle.wire_base.specs.declared.effects.Sent.{Sent}
 use Rattle.wire_base.specs.declared.entry.Entry.{Entry}
 use Rattle.wire_base.specs.declared.triple.Summary.{Summary}
-use Rattle.wire_base.specs.model.Tlv.{tlv, row, lsp_id, SummaryFits, LspIdFits}
+use Rattle.wire_base.specs.model.Tlv.{tlv, lsp_id, SummaryFits}
 use Rattle.wire_base.specs.model.Control.{Control, Flood, srm_in, ssn_in, summary_of}
 use Rattle.wire_base.specs.model.Flooding.{csnps, csnp_of, psnp_of, lsp_of, id_after, last_listed, last_id, zero_id, is_known, due_csnps, send_of}
 use Rattle.wire_base.specs.model.Lists.{blocks}
 use Rattle.wire_base.specs.model.OnFrame.{frames_of, pdu_frame}
-use Rattle.wire_base.specs.model.Pdu.{Pdu, CsnpPdu, Head, row_tlv, row_tlvs, lsp, csnp, psnp, blocks_within}
+use Rattle.wire_base.specs.model.Pdu.{Pdu, CsnpPdu, row_tlv, row_tlvs, csnp, psnp, blocks_within}
 use Rattle.format_laws.proofs.TlvListLaws.{length_rows}
 use Rattle.lsp_origin.proofs.ContentLaws.{all_taken, all_dropped, blocks_step}
 use Rattle.router_core.specs.Sending.{conf_alone, lsp_frames}

@@ -1,22 +1,21 @@
 -- What links that come up and go down, a second, a start and the router's own link state PDU keep.
-use Rattle.std.proofs.Common.{◌≡◌, ◌∙◌, ℕ, zero, suc, ◌+◌, ◌-◌, ◌<◌, ◌≤◌, Bool, true, false, List, [], ◌∷◌, ◌++◌, length, map, set, get_or, Option, Some, None, if◌then◌else◌, nat_lt, ◌==◌, refl, sym, ap, subst, append_assoc, length-set, arith}
-use Rattle.std.specs.Prelude.{option_to_list, option_and_then}
+use Rattle.std.proofs.Common.{◌≡◌, ◌∙◌, ℕ, ◌-◌, ◌<◌, ◌≤◌, Bool, true, false, List, [], ◌∷◌, ◌++◌, length, set, get_or, Option, Some, None, if◌then◌else◌, nat_lt, refl, sym, ap, subst, append_assoc, length-set, arith}
+use Rattle.std.specs.Prelude.{option_to_list}
 use Rattle.std.proofs.lemmas.Bool.{false≢true, true≢false}
 use Rattle.std.proofs.lemmas.List.{get_or-set_same}
 use Rattle.std.specs.List.{AllByRecursion, fold, filter_map, cons_option}
 use Rattle.wire_base.specs.declared.addresses.SystemId.{SystemId}
 use Rattle.wire_base.specs.declared.addresses.LspId.{LspId}
-use Rattle.wire_base.specs.declared.conf.RouterConf.{RouterConf}
 use Rattle.wire_base.specs.declared.entry.Aged.{Aged}
 use Rattle.wire_base.specs.declared.entry.Aged.TheVariants.{Live, Expired, Held, Removed}
 use Rattle.wire_base.specs.declared.entry.Entry.{Entry}
-use Rattle.wire_base.specs.model.Control.{same_id, is_below, AreAscending, ids_of, fragment_0, entry_in, put_entry, purge, aged, aged_to, after_second, FlagRow, without_row, Flood, IsFlood, IsFlagRow, HasEntry, IsWithinLinks}
+use Rattle.wire_base.specs.model.Control.{same_id, is_below, AreAscending, fragment_0, entry_in, put_entry, purge, aged, aged_to, after_second, FlagRow, without_row, Flood, IsFlagRow, HasEntry}
 use Rattle.wire_base.specs.model.Flooding.{with_row, mark_all, forget, set_srm, clear_both, clear_ssn, send_known, link_up, link_down, sent_on, new_flood, flags_aged, flood_aged}
 use Rattle.lsp_store.proofs.OrderLaws.{below_differs, same_turned}
 use Rattle.router_core.specs.State.{IsShort}
 use Rattle.router_core.proofs.EntryLaws.{HasId, same_is, id_self, put_reads, put_has, put_keeps, rows_named, all_put, all_have}
-use Rattle.router_core.proofs.FlagLaws.{KeepsRow, keeps_srm, flag_cleared, link_opened, both_set, both_cleared, row_ids, ids_kept, each_changed, all_left, left_ascend, within_self}
-use Rattle.router_core.proofs.KeptLaws.{Kept, OwnStands, row_kept, mark_kept, put_kept}
+use Rattle.router_core.proofs.FlagLaws.{keeps_srm, flag_cleared, link_opened, both_set, both_cleared, row_ids, ids_kept, each_changed, all_left, left_ascend, within_self}
+use Rattle.router_core.proofs.KeptLaws.{Kept, row_kept, mark_kept}
 
 -- ---- links
 

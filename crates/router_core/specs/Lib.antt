@@ -1,4 +1,5 @@
 pub mod Aging
+pub mod Forecast
 pub mod Own
 pub mod Received
 pub mod Sending

@@ -1,9 +1,8 @@
 -- PDUs that are received.
-use Rattle.std.specs.Prelude.{◌≤◌, length, None}
+use Rattle.std.specs.Prelude.{◌≤◌, Bool, true, false, length, None}
 use Rattle.wire_base.specs.declared.cause.Cause.{Cause}
-use Rattle.wire_base.specs.declared.flood_out.SnpOut.{SnpOut}
-use Rattle.wire_base.specs.model.Control.{Control}
-use Rattle.wire_base.specs.model.Flooding.{SnpAnswer}
+use Rattle.wire_base.specs.declared.flood_out.FloodOut.{FloodOut}
+use Rattle.wire_base.specs.declared.flood_out.FloodOut.TheVariants as out
 use Rattle.wire_base.specs.model.OnFrame.{Drop}
 use Rattle.wire_base.specs.model.Pdu.{Pdu, LspPdu, CsnpPdu, PsnpPdu, HelloPdu, OtherPdu}
 
@@ -19,6 +18,10 @@ HasRoom (OtherPdu number) = Unit {0}
 abbrev pub full_drop : Cause → Drop
 full_drop why = record { cause = why; set = None }
 
--- what a sequence number PDU asks for, once flags and database are as it leaves them
-abbrev pub listed : Control → SnpOut → SnpAnswer
-listed c answer = record { flood = c.flood; entries = c.entries; answer = answer }
+-- whether flooding has done all that a link state PDU asks for; else it has changed nothing
+abbrev pub is_kept : FloodOut → Bool
+is_kept out.Kept = true
+is_kept (out.Reissue s) = false
+is_kept (out.Ack s) = false
+is_kept out.Full = false
+is_kept out.Zero = false

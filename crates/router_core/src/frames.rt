@@ -1,5 +1,5 @@
 //! Frames that are taken, class by class (ISO/IEC 10589, 7.3.15; RFC 8279, 6; RFC 8296, 2 and 3).
-ghost use Rattle.std.specs.Prelude.{◌≡◌, ◌≤◌, true, false, length, IfOk};
+ghost use Rattle.std.specs.Prelude.{◌≡◌, ◌≤◌, true, false, length, IfOk, OnErr};
 ghost use Rattle.wire_base.specs.model.Ethernet.{IsFrame};
 ghost use Rattle.wire_base.specs.model.OnFrame.{on_packet, carried_taken, on_frame_directly};
 ghost use Rattle.link_frame.specs.Frames.{carried, HasPlaces};
@@ -33,12 +33,13 @@ impl Control {
         }
     }
 
-    /// What a frame carries, by its class. What comes in a tunnel is passed over.
+    /// What a frame carries, by its class; or all is as it was. What comes in a tunnel is passed over.
     fn take_class(&mut self, link: u16, class: Class, bytes: &[u8]) -> M<Effects>
         requires up { is_up self.old link ≡ true }
         requires places { HasPlaces (length bytes.now) class }
         requires found { IsFrame bytes.now (carried bytes.now class) }
-        ensures { IfOk result (λ e. record { control = self.new; effects = e } ≡ carried_taken false self.old link (carried bytes.now class)) }
+        ensures next { IfOk result (λ e. record { control = self.new; effects = e } ≡ carried_taken false self.old link (carried bytes.now class)) }
+        ensures err { OnErr result (self.new ≡ self.old) }
     {
         match class {
             Class::Isis { from, to } => self.on_pdu(link, &bytes[from..to]),
@@ -48,10 +49,11 @@ impl Control {
         }
     }
 
-    /// A frame that came on a link.
+    /// A frame that came on a link; or all is as it was.
     #[tactic(auto, unfolding(wire_base::specs::model::OnFrame::on_frame_with))]
     pub(crate) fn frame(&mut self, link: u16, bytes: &[u8]) -> M<Effects>
-        ensures { IfOk result (λ e. record { control = self.new; effects = e } ≡ on_frame_directly self.old link bytes.now) }
+        ensures next { IfOk result (λ e. record { control = self.new; effects = e } ≡ on_frame_directly self.old link bytes.now) }
+        ensures err { OnErr result (self.new ≡ self.old) }
     {
         if !self.is_up(link) {
             return Effects::dropped(self.allocator(), Cause::Link);

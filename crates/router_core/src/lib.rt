@@ -5,8 +5,10 @@
 mod control;
 mod ends;
 mod entering;
+mod forecast;
 mod frames;
 mod framing;
+mod listed;
 mod own;
 mod pdus;
 mod pending;

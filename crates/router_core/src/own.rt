@@ -1,9 +1,9 @@
 //! The router's own link state PDU (ISO/IEC 10589, 7.3.6 and 7.3.16.1).
-ghost use Rattle.std.specs.Prelude.{◌≡◌, ◌≤◌, false, length, IfOk, OnOk, OnErr};
+ghost use Rattle.std.specs.Prelude.{◌≡◌, ◌≤◌, true, false, length, IfOk, OnOk, OnErr};
 ghost use Rattle.wire_base.specs.model.Configuration.{IsSound};
 ghost use Rattle.wire_base.specs.model.Control.{IsDatabase, fragment_0, put_entry};
 ghost use Rattle.wire_base.specs.model.Flooding.{mark_all, reissue};
-ghost use Rattle.lsp_store.specs.Places.{is_refused};
+ghost use Rattle.lsp_store.specs.Places.{is_new, is_refused};
 ghost use Rattle.router_core.specs.Own.{own_past, spent_past};
 
 use crate::control::Control;
@@ -72,11 +72,12 @@ pub(crate) fn issue(store: &mut Store, flood: &mut Flood, own: Entry) -> M<()>
     Ok(())
 }
 
-/// Puts the own link state PDU, and marks it on all links that are up, where there is the memory for it already.
+/// Puts the own link state PDU, and marks it on all links that are up, where there is the memory for it already. It needs
+/// none in the database where it stands there.
 #[tactic(auto, using(crate::proofs::OwnLaws::put_is_ok))]
 pub(crate) fn issue_within(store: &mut Store, flood: &mut Flood, own: Entry)
     requires known { is_refused store.old.entries own.id ≡ false }
-    requires entries { 1 ≤ store.old.spare }
+    requires entries { is_new store.old.entries own.id ≡ true → 1 ≤ store.old.spare }
     requires flags { 1 ≤ flood.old.spare }
     ensures flood { flood.new.flood ≡ mark_all flood.old.flood own.id }
     ensures entries { store.new.entries ≡ put_entry own store.old.entries }

@@ -1,49 +1,35 @@
 //! PDUs of IS-IS that are received (ISO/IEC 10589, 7.3.15 and 7.3.16).
-ghost use Rattle.std.specs.Prelude.{◌≡◌, ◌<◌, ◌≤◌, ◌∷◌, [], ℕ, true, false, length, map, replicate, Some, None, IfOk, OnOk, OnErr};
+ghost use Rattle.std.specs.Prelude.{◌≡◌, ◌<◌, ◌≤◌, ◌∷◌, [], ℕ, true, false, length, IfOk, OnErr};
 ghost use Rattle.wire_base.specs.declared.addresses.SystemId.{SystemId};
-ghost use Rattle.wire_base.specs.declared.cause.Cause.TheVariants as cause;
 ghost use Rattle.wire_base.specs.declared.flood_out.FloodOut.TheVariants as out;
-ghost use Rattle.wire_base.specs.model.Flooding.{on_pdu, psnp_of, answer_lsp, snp_done, reissue_if};
+ghost use Rattle.wire_base.specs.model.Flooding.{on_pdu, psnp_of, answer_lsp};
 ghost use Rattle.wire_base.specs.model.OnFrame.{nothing, framed, frames_of, pdu_taken, pdu_read};
 ghost use Rattle.wire_base.specs.model.Pdu.{LspPdu, CsnpPdu, PsnpPdu, pdu_at};
 ghost use Rattle.isis_pdu.specs.Views.{head_of, pdu_of};
-ghost use Rattle.router_core.specs.Received.{HasRoom, full_drop, listed};
+ghost use Rattle.router_core.specs.Received.{HasRoom, is_kept};
 ghost use Rattle.router_core.specs.State.{is_up};
 
 use crate::control::Control;
+use crate::forecast::issue_ready;
 use crate::framing::push_psnp;
 use bier_forward::{DropNote, Effects};
 use isis_pdu::{LspHead, Pdu, read_pdu};
-use std::alloc::Global;
-use wire_base::{Cause, FloodOut, LspId, M, Rows, SnpOut, Summary};
+use wire_base::{Cause, FloodOut, LspId, M, Rows, Summary};
 
-/// One drop for each entry that found no room.
-fn full_drops(alloc: Global, full: u32) -> M<Rows<DropNote>>
-    ensures { IfOk result (λ drops. drops ≡ map full_drop (replicate full cause.Full)) }
+/// Nothing is sent or delivered, and those entries are dropped.
+fn dropped_each(drops: Rows<DropNote>) -> Effects
+    ensures { result ≡ record nothing { drops = drops } }
 {
-    let mut drops = Rows::new(alloc);
-    'drops: while drops.len() < full as usize {
-        drops.push(DropNote {
-            cause: Cause::Full,
-            sets: None,
-        })?;
+    let alloc = drops.allocator();
+    Effects {
+        sent: Rows::new(alloc),
+        got: Rows::new(alloc),
+        drops,
+        passed: false,
     }
-    Ok(drops)
 }
 
 impl Control {
-    /// Issues the own link state PDU past a sequence number, where one is asked for; or all is as it was.
-    fn reissue_if(&mut self, asked: Option<u32>) -> M<()>
-        requires { (s : ℕ) → asked ≡ Some s → self.old.spent ≡ false }
-        ensures ok { OnOk result (self.new ≡ reissue_if self.old asked) }
-        ensures err { OnErr result (self.new ≡ self.old) }
-    {
-        match asked {
-            None => Ok(()),
-            Some(seq) => self.reissue(seq),
-        }
-    }
-
     /// The PSNP that acknowledges an entry at once.
     fn acknowledged(&self, link: u16, entry: Summary) -> M<Effects>
         requires { link < length self.now.conf.ends }
@@ -60,12 +46,13 @@ impl Control {
         })
     }
 
-    /// What a link state PDU asks for beside what flooding has done.
+    /// What a link state PDU asks for beside what flooding has done; or all is as it was, and flooding has done nothing.
     #[tactic(auto, unfolding(wire_base::specs::model::OnFrame::framed))]
     fn answer_lsp(&mut self, link: u16, answer: FloodOut) -> M<Effects>
         requires link { link < length self.old.conf.ends }
         requires unspent { (s : ℕ) → answer ≡ out.Reissue s → self.old.spent ≡ false }
-        ensures { IfOk result (λ e. record { control = self.new; effects = e } ≡ framed link (answer_lsp self.old answer)) }
+        ensures next { IfOk result (λ e. record { control = self.new; effects = e } ≡ framed link (answer_lsp self.old answer)) }
+        ensures err { OnErr result ((is_kept answer ≡ false) × (self.new ≡ self.old)) }
     {
         let alloc = self.allocator();
         match answer {
@@ -80,29 +67,13 @@ impl Control {
         }
     }
 
-    /// What a sequence numbers PDU asks for beside what flooding has done.
-    #[tactic(auto, unfolding(wire_base::specs::model::OnFrame::framed))]
-    fn answer_list(&mut self, link: u16, answer: SnpOut) -> M<Effects>
-        requires { (s : ℕ) → answer.reissue ≡ Some s → self.old.spent ≡ false }
-        ensures { IfOk result (λ e. record { control = self.new; effects = e } ≡ framed link (snp_done self.old (listed self.old answer))) }
-    {
-        let alloc = self.allocator();
-        let drops = full_drops(alloc, answer.full)?;
-        self.reissue_if(answer.reissue)?;
-        Ok(Effects {
-            sent: Rows::new(alloc),
-            got: Rows::new(alloc),
-            drops,
-            passed: false,
-        })
-    }
-
-    /// A link state PDU.
+    /// A link state PDU; or all is as it was. Where flooding has changed something, nothing is asked for that takes memory.
     #[tactic(auto, unfolding(wire_base::specs::model::Flooding::on_pdu))]
     fn on_lsp(&mut self, link: u16, head: &LspHead, tlvs: &[u8]) -> M<Effects>
         requires up { is_up self.old link ≡ true }
         requires short { length tlvs.now ≤ 1470 }
-        ensures { IfOk result (λ e. record { control = self.new; effects = e } ≡ framed link (on_pdu self.old link (LspPdu (head_of head.now) tlvs.now))) }
+        ensures next { IfOk result (λ e. record { control = self.new; effects = e } ≡ framed link (on_pdu self.old link (LspPdu (head_of head.now) tlvs.now))) }
+        ensures err { OnErr result (self.new ≡ self.old) }
     {
         let answer = self
             .flood
@@ -111,37 +82,43 @@ impl Control {
         self.answer_lsp(link, answer)
     }
 
-    /// A complete sequence numbers PDU.
-    #[tactic(auto, unfolding(wire_base::specs::model::Flooding::on_pdu))]
+    /// A complete sequence numbers PDU; or all is as it was. What it asks for is made ready before anything changes.
     fn on_csnp(&mut self, link: u16, start: LspId, last: LspId, tlvs: &[u8]) -> M<Effects>
         requires up { is_up self.old link ≡ true }
         requires short { length tlvs.now ≤ 1497 }
-        ensures { IfOk result (λ e. (source : SystemId) → record { control = self.new; effects = e } ≡ framed link (on_pdu self.old link (CsnpPdu source start last tlvs.now))) }
+        ensures next { IfOk result (λ e. (source : SystemId) → record { control = self.new; effects = e } ≡ framed link (on_pdu self.old link (CsnpPdu source start last tlvs.now))) }
+        ensures err { OnErr result (self.new ≡ self.old) }
     {
-        let answer = self
-            .flood
+        let ready = self.ready(tlvs)?;
+        self.flood.reserve(ready.listed + self.store.len() + 1)?;
+        self.flood
             .on_csnp(&mut self.store, link, start, last, tlvs, self.spent)?;
-        let _entries = self.store.len();
-        self.answer_list(link, answer)
+        issue_ready(&mut self.store, &mut self.flood, ready.own);
+        self.spent = ready.spent;
+        Ok(dropped_each(ready.drops))
     }
 
-    /// A partial sequence numbers PDU.
-    #[tactic(auto, unfolding(wire_base::specs::model::Flooding::on_pdu))]
+    /// A partial sequence numbers PDU; or all is as it was. What it asks for is made ready before anything changes.
     fn on_psnp(&mut self, link: u16, tlvs: &[u8]) -> M<Effects>
         requires up { is_up self.old link ≡ true }
         requires short { length tlvs.now ≤ 1497 }
-        ensures { IfOk result (λ e. (source : SystemId) → record { control = self.new; effects = e } ≡ framed link (on_pdu self.old link (PsnpPdu source tlvs.now))) }
+        ensures next { IfOk result (λ e. (source : SystemId) → record { control = self.new; effects = e } ≡ framed link (on_pdu self.old link (PsnpPdu source tlvs.now))) }
+        ensures err { OnErr result (self.new ≡ self.old) }
     {
-        let answer = self.flood.on_psnp(&mut self.store, link, tlvs, self.spent)?;
-        let _entries = self.store.len();
-        self.answer_list(link, answer)
+        let ready = self.ready(tlvs)?;
+        self.flood.reserve(ready.listed + 1)?;
+        self.flood.on_psnp(&mut self.store, link, tlvs, self.spent)?;
+        issue_ready(&mut self.store, &mut self.flood, ready.own);
+        self.spent = ready.spent;
+        Ok(dropped_each(ready.drops))
     }
 
-    /// A PDU; hellos and other types are passed over.
+    /// A PDU; hellos and other types are passed over. Or all is as it was.
     fn take_pdu(&mut self, link: u16, pdu: Pdu<'_>) -> M<Effects>
         requires up { is_up self.old link ≡ true }
         requires short { HasRoom (pdu_of pdu) }
-        ensures { IfOk result (λ e. record { control = self.new; effects = e } ≡ pdu_taken self.old link (pdu_of pdu.entry)) }
+        ensures next { IfOk result (λ e. record { control = self.new; effects = e } ≡ pdu_taken self.old link (pdu_of pdu.entry)) }
+        ensures err { OnErr result (self.new ≡ self.old) }
     {
         match pdu {
             Pdu::Lsp { head, tlvs } => self.on_lsp(link, &head, tlvs),
@@ -156,11 +133,12 @@ impl Control {
         }
     }
 
-    /// The octets of a PDU, as a frame of IS-IS carries them.
+    /// The octets of a PDU, as a frame of IS-IS carries them; or all is as it was.
     pub(crate) fn on_pdu(&mut self, link: u16, octets: &[u8]) -> M<Effects>
         requires up { is_up self.old link ≡ true }
         requires short { length octets.now ≤ 1497 }
-        ensures { IfOk result (λ e. record { control = self.new; effects = e } ≡ pdu_read self.old link (pdu_at self.old.conf.level octets.now)) }
+        ensures next { IfOk result (λ e. record { control = self.new; effects = e } ≡ pdu_read self.old link (pdu_at self.old.conf.level octets.now)) }
+        ensures err { OnErr result (self.new ≡ self.old) }
     {
         let level = self.conf().level;
         let read = read_pdu(level, octets);

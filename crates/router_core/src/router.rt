@@ -75,13 +75,13 @@ impl Router {
     /// Takes a frame of at most 65,000 octets that came on a link. It has no refusal: what isn't taken is a drop with its
     /// cause. An IS-IS PDU is flooded, a BIER packet is delivered and forwarded by the view that the router has now; a
     /// frame of another class, IPv4 among them, a hello and a PDU of another type are passed over
-    /// (ISO/IEC 10589, 7.3.15; RFC 8279, 6).
+    /// (ISO/IEC 10589, 7.3.15; RFC 8279, 6). Where memory runs out, all is as it was.
     pub fn frame(&mut self, link: u16, bytes: &[u8]) -> M<Effects>
         requires link { link < length self.old.control.conf.ends }
         requires short { length bytes.now ≤ 65000 }
         ensures next { IfOk result (λ e. record { control = self.new.control; effects = e } ≡ on_frame_directly self.old.control link bytes.now) }
         ensures heard { OnOk result (self.new.heard ≡ counted self.old.heard) }
-        ensures unheard { OnErr result (self.new.heard ≡ self.old.heard) }
+        ensures err { OnErr result (self.new ≡ self.old) }
     {
         let effects = self.control.frame(link, bytes)?;
         self.heard = self.heard.saturating_add(1);

@@ -1,7 +1,6 @@
-use Rattle.std.proofs.Common.{◌≡◌, ◌∙◌, ◌++◌, List, ap, slice_index_or, false}
+use Rattle.std.proofs.Common.{◌∙◌, ◌++◌, List, ap, slice_index_or, false}
 use Rattle.wire_base.specs.declared.effects.Sent.{Sent}
 use Rattle.wire_base.specs.declared.entry.Entry.{Entry}
-use Rattle.wire_base.specs.declared.triple.Summary.{Summary}
 use Rattle.wire_base.specs.model.Flooding.{due_csnps, send_of}
 use Rattle.wire_base.specs.model.OnFrame.{frames_of}
 use Rattle.router_core.specs.State.{control_of}

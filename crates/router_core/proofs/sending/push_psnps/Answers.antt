@@ -1,7 +1,7 @@
 use Rattle.std.proofs.Common.{arith}
 use Rattle.std.proofs.lemmas.Bool.Decides.{nat_tests}
 use Rattle.router_core.specs.Sending.{conf_alone}
-use Rattle.router_core.proofs.SendLaws.{psnp_step, psnp_end}
+use Rattle.router_core.proofs.SendLaws.{psnp_step}
 use Rattle.router_core.proofs.sending.push_psnps.Goals as goal
 
 pub cuts-preserved : goal.cuts-preserved

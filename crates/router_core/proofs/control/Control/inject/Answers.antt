@@ -1,6 +1,5 @@
-use Rattle.std.proofs.Common.{◌≡◌, ◌∙◌, List, sym, ap, subst}
+use Rattle.std.proofs.Common.{◌∙◌, List, sym, ap, subst}
 use Rattle.wire_base.specs.declared.view.ViewNode.{ViewNode}
-use Rattle.wire_base.specs.model.Control.{Control}
 use Rattle.wire_base.specs.model.View.{control_view}
 use Rattle.bier_forward.specs.Packets.{LeadsToEnds}
 use Rattle.bier_forward.proofs.OwnEdges.{own_edges}

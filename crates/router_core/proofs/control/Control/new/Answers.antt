@@ -1,4 +1,4 @@
-use Rattle.std.proofs.Common.{◌≡◌, ◌∙◌, ℕ, true, length, replicate, ap}
+use Rattle.std.proofs.Common.{◌∙◌, ℕ, true, length, replicate, ap}
 use Rattle.std.proofs.lemmas.List.{length-replicate}
 use Rattle.router_core.proofs.EventLaws.{started_is, started_keeps, first_is}
 use Rattle.router_core.proofs.control.Control.new.Goals as goal

@@ -1,14 +1,22 @@
-use Rattle.std.proofs.Common.{◌≡◌, ◌∙◌, get_or, false, ap}
-use Rattle.wire_base.specs.model.Control.{Control}
-use Rattle.router_core.proofs.ReceivedLaws.{csnp_keeps, csnp_asks}
+use Rattle.router_core.proofs.ReceivedLaws.{csnp_listed, csnp_framed, ready_known, ready_keeps, ready_framed}
+use Rattle.std.proofs.Common.{◌∙◌}
 use Rattle.router_core.proofs.control.Control.on_csnp.Goals as goal
+
+pub issue_ready-requires-clause-known : goal.issue_ready-requires-clause-known
+issue_ready-requires-clause-known c =
+    ready_known _ c.args.self.now c.self.invariant c.self.view_is _ _
+    (csnp_listed _ c.args.self.now c.self.invariant c.self.view_is c.args.link c.requires.up _ c.reserve.ensures.flood _ c.args.start c.args.last c.args.tlvs.now c.in_ok-on_csnp.ensures.done)
+    c.in_ok-ready.ready c.in_ok-ready.ensures.ready
 
 pub invariant_of-self-2 : goal.invariant_of-self-2
 invariant_of-self-2 c =
-    csnp_keeps c.self.inside.conf c.self.inside.flood.flood c.self.inside.store.entries c.self.inside.spent c.self.invariant c.args.link (ap (λ (x : Control). get_or x.flood.up c.args.link false) c.self.view_is ∙ c.requires.up)
-    c.args.start c.args.last c.args.tlvs.now c.on_csnp.new.self.flood c.on_csnp.new.store.entries c.in_ok-answer.answer c.in_ok-answer.ensures.done c.len-entries.ensures.database
+    ready_keeps _ c.args.self.now c.self.invariant c.self.view_is _ _
+    (csnp_listed _ c.args.self.now c.self.invariant c.self.view_is c.args.link c.requires.up _ c.reserve.ensures.flood _ c.args.start c.args.last c.args.tlvs.now c.in_ok-on_csnp.ensures.done)
+    c.in_ok-ready.ready c.in_ok-ready.ensures.ready _ _ c.issue_ready.ensures.flood c.issue_ready.ensures.entries c.issue_ready.ensures.database
 
-pub answer_list-requires : goal.answer_list-requires
-answer_list-requires c =
-    csnp_asks c.self.inside.conf c.self.inside.flood.flood c.self.inside.store.entries c.self.inside.spent c.self.invariant c.args.link (ap (λ (x : Control). get_or x.flood.up c.args.link false) c.self.view_is ∙ c.requires.up)
-    c.args.start c.args.last c.args.tlvs.now c.on_csnp.new.self.flood c.on_csnp.new.store.entries c.in_ok-answer.answer c.in_ok-answer.ensures.done
+pub returns-clause-next : goal.returns-clause-next
+returns-clause-next c source =
+    ready_framed _ c.args.self.now c.self.invariant c.self.view_is _ _
+    (csnp_listed _ c.args.self.now c.self.invariant c.self.view_is c.args.link c.requires.up _ c.reserve.ensures.flood _ c.args.start c.args.last c.args.tlvs.now c.in_ok-on_csnp.ensures.done)
+    c.in_ok-ready.ready c.in_ok-ready.ensures.ready _ _ c.issue_ready.ensures.flood c.issue_ready.ensures.entries c.dropped_each.result c.args.link c.dropped_each.ensures
+    ∙ csnp_framed _ c.args.self.now c.self.invariant c.self.view_is c.args.link c.requires.up _ c.reserve.ensures.flood _ c.args.start c.args.last c.args.tlvs.now c.in_ok-on_csnp.ensures.done source

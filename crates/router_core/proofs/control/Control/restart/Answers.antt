@@ -1,4 +1,4 @@
-use Rattle.std.proofs.Common.{◌≡◌, ◌∙◌, length, ap, sym}
+use Rattle.std.proofs.Common.{◌∙◌, length, ap, sym}
 use Rattle.wire_base.specs.model.Control.{Control}
 use Rattle.router_core.specs.State.{control_of}
 use Rattle.router_core.proofs.EventLaws.{started_is, started_keeps, restart_is}

@@ -1,4 +1,4 @@
-use Rattle.std.proofs.Common.{◌≡◌, ◌∙◌, Bool, true, false, ap, sym}
+use Rattle.std.proofs.Common.{◌∙◌, ap, sym}
 use Rattle.wire_base.specs.model.Control.{Control, entry_in, seq_of}
 use Rattle.wire_base.specs.model.Flooding.{tick}
 use Rattle.wire_base.specs.declared.addresses.LspId.{LspId}

@@ -1,0 +1,77 @@
+-- What a router does on octets is told in the words of items, where each item that is sent is read off its frame again.
+use Rattle.std.proofs.Common.{◌≡◌, ℕ, zero, suc, ◌<◌, Bool, true, false, List, [], ◌∷◌, length, map, fold, slice_get, slice_index_or, Option, Some, refl, sym, ap, subst, ◌∙◌, arith}
+use mathlib.Core.Bool.{false≢true}
+use Rattle.std.specs.List.{AllByRecursion}
+use Rattle.wire_base.specs.declared.conf.End.{End}
+use Rattle.wire_base.specs.declared.conf.RouterConf.{RouterConf}
+use Rattle.wire_base.specs.declared.effects.Sent.{Sent}
+use Rattle.wire_base.specs.model.Item.{Item, frame_of}
+use Rattle.wire_base.specs.model.OnFrame.{Effects}
+use Rattle.domain_core.specs.declared.step_out.WireFrame.{WireFrame}
+use Rattle.domain_core.specs.World.{push_item}
+use Rattle.domain_core.specs.Moves.{Sending, Made}
+use Rattle.domain_core.specs.Step.{push_all}
+use Rattle.domain_core.specs.Framed.{frame_on, frame_from, frame_over, sent_of, wire_of, wire_from, sending_of, got_line, drop_line, ends_of, IsItemFrame, IsFramed}
+use Rattle.domain_core.proofs.EachLaws.{each_weaker, each_mapped}
+use Rattle.domain_core.proofs.QueueLaws.{got_within}
+
+-- ---- words on lists
+
+self_mapped : {X Y : Type 0} (f : X → Y) (g : Y → X) (xs : List X) → AllByRecursion (λ x. g (f x) ≡ x) xs → xs ≡ map g (map f xs)
+self_mapped f g [] all = refl
+self_mapped {X} f g (x ∷ xs) all = ap (λ (y : X). y ∷ xs) (sym all.0) ∙ ap (λ (l : List X). g (f x) ∷ l) (self_mapped f g xs all.1)
+
+both_mapped : {X Y Z : Type 0} (f : X → Y) (g : Y → Z) (h : X → Z) (xs : List X) → AllByRecursion (λ x. h x ≡ g (f x)) xs → map h xs ≡ map g (map f xs)
+both_mapped f g h [] all = refl
+both_mapped {X} {Y} {Z} f g h (x ∷ xs) all = ap (λ (z : Z). z ∷ map h xs) all.0 ∙ ap (λ (l : List Z). g (f x) ∷ l) (both_mapped f g h xs all.1)
+
+pub got_some : {X : Type 0} (xs : List X) (i : ℕ) → i < length xs → (x : X) × (slice_get xs i ≡ Some x)
+got_some [] i h = absurd (omega (arith, h))
+got_some (x ∷ xs) zero h = (x, refl)
+got_some (x ∷ xs) (suc i) h = got_some xs i (omega (arith, h))
+
+pub up_within : (up : List Bool) (i : ℕ) → slice_index_or up i false ≡ true → i < length up
+up_within [] i h = absurd (false≢true h)
+up_within (u ∷ up) zero h = omega arith
+up_within (u ∷ up) (suc i) h = let k = up_within up i h in omega (arith, k)
+
+-- ---- frames over an end
+
+pub over_at : (confs : List RouterConf) (a : ℕ) (r : RouterConf) (link : ℕ) (e : End) (x : Item) → slice_get confs a ≡ Some r → slice_get r.ends link ≡ Some e → frame_over confs a link x ≡ frame_of r.level e x
+over_at confs a r link e x at there = ap (λ (o : Option RouterConf). frame_from o link x) at ∙ ap (λ (o : Option End). frame_on r.level o x) there
+
+pub end_within : (confs : List RouterConf) (a : ℕ) (r : RouterConf) (link : ℕ) (e : End) → slice_get confs a ≡ Some r → slice_get r.ends link ≡ Some e → link < length (ends_of (slice_get confs a))
+end_within confs a r link e at there = subst (λ (o : Option RouterConf). link < length (ends_of o)) (sym at) (got_within r.ends link e there)
+
+-- ---- what is read back
+
+-- the frame of what is sent is a frame of the item, which is read off it
+pub record IsReadBack (confs : List RouterConf) (a : ℕ) (read : Sent → Item) (s : Sending) : Type 0 where
+  pub frame : IsItemFrame confs a read (sent_of confs s)
+  pub is : sending_of confs a read (sent_of confs s) ≡ s
+
+told : (confs : List RouterConf) (a : ℕ) (read : Sent → Item) (s : Sending) → IsReadBack confs a read s → wire_of confs s ≡ wire_from confs a (sent_of confs s)
+told confs a read s k = ap one (sym k.is)
+  where
+    one : Sending → WireFrame
+    one z = record { from = z.from; to = z.to; octets = frame_over confs s.from s.link s.item }
+
+pub framed_by : (confs : List RouterConf) (a : ℕ) (number : Option ℕ) (read : Sent → Item) (e : Effects) (m : Made) → e.sent ≡ map (sent_of confs) m.sent → AllByRecursion (IsReadBack confs a read) m.sent → m.got ≡ map (got_line a number) e.got → m.drops ≡ map (drop_line a number) e.drops → IsFramed confs a number read e m
+framed_by confs a number read e m sent back got drops =
+    record {
+      frames = subst (AllByRecursion (IsItemFrame confs a read)) (sym sent)
+          (each_mapped (IsItemFrame confs a read) (sent_of confs) m.sent (each_weaker (IsReadBack confs a read) (λ s. IsItemFrame confs a read (sent_of confs s)) (λ s k. k.frame) m.sent back));
+      sent = self_mapped (sent_of confs) (sending_of confs a read) m.sent (each_weaker (IsReadBack confs a read) (λ s. sending_of confs a read (sent_of confs s) ≡ s) (λ s k. k.is) m.sent back)
+          ∙ ap (map (sending_of confs a read)) (sym sent);
+      wires = both_mapped (sent_of confs) (wire_from confs a) (wire_of confs) m.sent (each_weaker (IsReadBack confs a read) (λ s. wire_of confs s ≡ wire_from confs a (sent_of confs s)) (told confs a read) m.sent back)
+          ∙ ap (map (wire_from confs a)) (sym sent);
+      got = got;
+      drops = drops;
+    }
+
+-- ---- what is pushed
+
+pub pushed_read : (confs : List RouterConf) (a : ℕ) (read : Sent → Item) (flights : List (List (List Item))) (sents : List Sent)
+    → push_all flights (map (sending_of confs a read) sents) ≡ fold (λ f s. push_item f a s.link (read s)) flights sents
+pushed_read confs a read flights [] = refl
+pushed_read confs a read flights (s ∷ sents) = pushed_read confs a read (push_item flights a s.link (read s)) sents

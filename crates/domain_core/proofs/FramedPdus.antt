@@ -1,0 +1,208 @@
+-- PDUs are read off their frames again, and a router does on the frame of a PDU, and where it sends what is due, what flooding
+-- does with the items.
+use Rattle.std.proofs.Common.{◌≡◌, ◌⊎◌, inl, inr, ℕ, ◌+◌, ◌<◌, ◌≤◌, ◌^◌, true, false, List, [], ◌∷◌, ◌++◌, length, map, slice_get, Option, Some, None, refl, sym, ap, subst, ◌∙◌, arith}
+use Rattle.std.specs.List.{AllByRecursion}
+use Rattle.std.proofs.lemmas.List.{length-append}
+use Rattle.byteorder.specs.Endian.{big_bytes}
+use Rattle.wire_base.specs.declared.addresses.LspId.{LspId}
+use Rattle.wire_base.specs.declared.addresses.SystemId.{SystemId}
+use Rattle.wire_base.specs.declared.cause.Cause.{Cause}
+use Rattle.wire_base.specs.declared.conf.End.{End}
+use Rattle.wire_base.specs.declared.conf.Level.{Level}
+use Rattle.wire_base.specs.declared.conf.RouterConf.{RouterConf}
+use Rattle.wire_base.specs.declared.effects.Sent.{Sent}
+use Rattle.wire_base.specs.declared.entry.Entry.{Entry}
+use Rattle.wire_base.specs.declared.triple.Summary.{Summary}
+use Rattle.wire_base.specs.model.Configuration.{DomainConf, IsValid, IsSound, IsEnd}
+use Rattle.wire_base.specs.model.Control.{Control, fragment_0}
+use Rattle.wire_base.specs.model.Ethernet.{ethernet}
+use Rattle.wire_base.specs.model.Flooding.{Reply, on_pdu, send}
+use Rattle.wire_base.specs.model.Item.{ControlItem, all_routers, frame_of}
+use Rattle.wire_base.specs.model.OnFrame.{Effects, Next, Drop, pdu_frame, frames_of, framed, on_frame_with, on_frame_directly}
+use Rattle.wire_base.specs.model.OwnLsp.{own_flags}
+use Rattle.wire_base.specs.model.Pdu.{Head, Pdu, LspPdu, CsnpPdu, PsnpPdu, HelloPdu, OtherPdu, lsp_sum, tlvs_pass, pdu}
+use Rattle.wire_base.specs.model.Tlv.{SummaryFits}
+use Rattle.format_laws.proofs.TlvListLaws.{row_tlvs_pass, passes_are}
+use Rattle.item_laws.specs.Fits.{IsSendable, EntryFits}
+use Rattle.item_laws.specs.Read.{control_in}
+use Rattle.item_laws.proofs.ControlFrames.{sendable_short, control_back, control_taken}
+use Rattle.item_laws.proofs.OwnLaws.{own_fits, dead_fits}
+use Rattle.item_laws.proofs.RowLaws.{rows_short}
+use Rattle.domain_core.specs.declared.step_out.DropLine.{DropLine}
+use Rattle.domain_core.specs.World.{is_up, link_between}
+use Rattle.domain_core.specs.Moves.{over_end, control_lost, replied}
+use Rattle.domain_core.specs.Truth.{IsAmong, IsOwnLsp, IsDeadLsp, IsTrueLsp, IsTrueRow, IsSource, IsTruePdu, IsTrueControl}
+use Rattle.domain_core.specs.Framed.{frame_over, sent_of, pdu_sent, drop_line, IsFramed, IsFlooded}
+use Rattle.domain_core.proofs.EachLaws.{each_weaker, each_mapped, each_got}
+use Rattle.domain_core.proofs.DomainLaws.{sound_of, alike}
+use Rattle.domain_core.proofs.LinkLaws.{join_of, end_found}
+use Rattle.domain_core.proofs.ControlTruth.{IsTrueReply, state_of, named_fits, row_fits, on_pdu_true}
+use Rattle.domain_core.proofs.SendTruth.{send_true}
+use Rattle.domain_core.proofs.FramedBack.{got_some, up_within, over_at, end_within, IsReadBack, framed_by}
+
+-- ---- a true PDU can be sent
+
+module _ (confs : List RouterConf) (sound : AllByRecursion IsSound confs) where
+  sound_among : (r : RouterConf) → IsAmong confs r → IsSound r
+  sound_among r among = each_got IsSound confs among.place r sound among.there
+
+  lsp_fits : (h : Head) (tlvs : List ℕ) → IsTrueLsp confs h tlvs → EntryFits (record { id = h.id; seq = h.seq; life = h.life; hold = 0; sum = h.sum; flags = h.flags; content = tlvs })
+  lsp_fits h tlvs t = by t.says
+    where
+      e : Entry
+      e = record { id = h.id; seq = h.seq; life = h.life; hold = 0; sum = h.sum; flags = h.flags; content = tlvs }
+
+      by : IsOwnLsp confs h tlvs ⊎ IsDeadLsp h tlvs → EntryFits e
+      by (inl own) =
+          let r = own.router in
+          let low : h.seq < 2 ^ 32 = omega (arith, t.seq) in
+          let fresh : h.life < 2 ^ 16 = omega (arith, own.fresh) in
+          own_fits r own.up e (sound_among r own.among)
+          (record {
+            id = own.is;
+            content = own.content;
+            flags = own.flags;
+            sum = own.sum ∙ ap (λ (i : LspId). lsp_sum (record { life = 0; id = i; seq = h.seq; sum = 0; flags = h.flags }) tlvs) own.is
+                ∙ ap (λ (f : ℕ). lsp_sum (record { life = 0; id = fragment_0 r.system; seq = h.seq; sum = 0; flags = f }) tlvs) own.flags
+                ∙ ap (λ (l : List ℕ). lsp_sum (record { life = 0; id = fragment_0 r.system; seq = h.seq; sum = 0; flags = own_flags r }) l) own.content;
+          })
+          low fresh
+      by (inr dead) =
+          let low : h.seq < 2 ^ 32 = omega (arith, t.seq) in
+          let sum : h.sum < 2 ^ 16 = omega (arith, dead.sum) in
+          let flags : h.flags < 256 = omega (arith, dead.flags) in
+          dead_fits e (named_fits confs h.id sound t.named) low dead.dead sum flags dead.empty
+
+  source_six : (s : SystemId) → IsSource confs s → length s.0 ≡ 6
+  source_six s t = ap (λ (i : SystemId). length i.0) t.is ∙ (sound_among t.router t.among).system.long
+
+  fits_each : (rows : List Summary) → AllByRecursion (IsTrueRow confs) rows → AllByRecursion SummaryFits rows
+  fits_each rows all = each_weaker (IsTrueRow confs) SummaryFits (row_fits confs sound) rows all
+
+  pub true_sendable : (p : Pdu) → IsTruePdu confs p → IsSendable p
+  true_sendable (LspPdu h tlvs) t = let k = lsp_fits h tlvs t.says in (k.lsp, k.short)
+  true_sendable (CsnpPdu source start last tlvs) t =
+      let fits = fits_each t.lists.rows t.lists.each in
+      let short = rows_short t.lists.rows fits t.lists.few in
+      let l = ap (λ (o : List ℕ). length o) t.lists.spelled in
+      let room : length tlvs ≤ 1464 = omega (arith, l, short) in
+      (record { source_long = source_six source t.source; start_fits = t.start_fits; last_fits = t.last_fits; size = omega (arith, room); tlvs_are = passes_are true tlvs (ap (tlvs_pass true) t.lists.spelled ∙ row_tlvs_pass t.lists.rows fits) }, room)
+  true_sendable (PsnpPdu source tlvs) t =
+      let fits = fits_each t.lists.rows t.lists.each in
+      let short = rows_short t.lists.rows fits t.lists.few in
+      let l = ap (λ (o : List ℕ). length o) t.lists.spelled in
+      let room : length tlvs ≤ 1480 = omega (arith, l, short) in
+      (record { source_long = source_six source t.source; size = omega (arith, room); tlvs_are = passes_are true tlvs (ap (tlvs_pass true) t.lists.spelled ∙ row_tlvs_pass t.lists.rows fits) }, room)
+  true_sendable HelloPdu t = absurd t
+  true_sendable (OtherPdu number) t = absurd t
+
+-- ---- the frame of a PDU
+
+pdu_some : (level : Level) (p : Pdu) → IsSendable p → 1 ≤ length (pdu level p)
+pdu_some level (LspPdu h tlvs) is = omega arith
+pdu_some level (CsnpPdu source start last tlvs) is = omega arith
+pdu_some level (PsnpPdu source tlvs) is = omega arith
+pdu_some level HelloPdu is = absurd is
+pdu_some level (OtherPdu number) is = absurd is
+
+frame_length : (level : Level) (e : End) (p : Pdu) → length e.own_mac.0 ≡ 6 → length (frame_of level e (ControlItem p)) ≡ 17 + length (pdu level p)
+unfolding frame_of
+frame_length level e p six =
+    let octets = pdu level p in
+    let number = 3 + length octets in
+    omega (
+      arith,
+      length-append (ethernet all_routers e.own_mac.0 number) (254 ∷ 254 ∷ 3 ∷ octets),
+      length-append all_routers (e.own_mac.0 ++ big_bytes 2 number),
+      length-append e.own_mac.0 (big_bytes 2 number),
+      six,
+    )
+
+abbrev over_link : ℕ → List ℕ → Sent
+over_link link octets = record { link = link; octets = octets }
+
+abbrev whole : Cause → Drop
+whole why = record { cause = why; set = None }
+
+framed_control : (link : ℕ) (r : Reply) → (framed link r).control ≡ r.control
+unfolding framed
+framed_control link r = refl
+
+module _ (d : DomainConf) (valid : IsValid d) where
+  end_is : (r : RouterConf) (link : ℕ) (e : End) → IsAmong d.routers r → slice_get r.ends link ≡ Some e → IsEnd e
+  end_is r link e among there = each_got IsEnd r.ends link e (sound_of d valid r among).ends there
+
+  pub pdu_short : (a : ℕ) (r : RouterConf) (link : ℕ) (e : End) (p : Pdu) → slice_get d.routers a ≡ Some r → slice_get r.ends link ≡ Some e → IsTruePdu d.routers p → length (frame_over d.routers a link (ControlItem p)) ≤ 65000
+  pdu_short a r link e p at there t =
+      let end_fits = end_is r link e (record { place = a; there = at }) there in
+      let l = ap (λ (octets : List ℕ). length octets) (over_at d.routers a r link e (ControlItem p) at there) in
+      let m = frame_length r.level e p end_fits.own_mac.octets_are.long in
+      let s = sendable_short r.level p (true_sendable d.routers valid.sound p t) in
+      omega (arith, l, m, s)
+
+-- ---- what a router sends and does
+
+module _ (d : DomainConf) (valid : IsValid d) (b : ℕ) (c : Control) (at : slice_get d.routers b ≡ Some c.conf) (t : IsTrueControl d.routers c) where
+  pdu_back : (link : ℕ) (e : End) (p : Pdu) → slice_get c.conf.ends link ≡ Some e → IsTruePdu d.routers p → IsReadBack d.routers b (pdu_sent c.conf.level) (over_end d.routers b link (ControlItem p))
+  pdu_back link e p there true_pdu =
+      let end_fits = end_is d valid c.conf link e t.among there in
+      let six = end_fits.own_mac.octets_are.long in
+      let sendable = true_sendable d.routers valid.sound p true_pdu in
+      let octets = frame_over d.routers b link (ControlItem p) in
+      let over : octets ≡ frame_of c.conf.level e (ControlItem p) = over_at d.routers b c.conf link e (ControlItem p) at there in
+      let item : pdu_sent c.conf.level (sent_of d.routers (over_end d.routers b link (ControlItem p))) ≡ ControlItem p = ap (λ (l : List ℕ). control_in c.conf.level l) over ∙ control_back c.conf.level e p sendable six in
+      let long = ap (λ (l : List ℕ). length l) over ∙ frame_length c.conf.level e p six in
+      let some = pdu_some c.conf.level p sendable in
+      record {
+        frame = record { within = end_within d.routers b c.conf link e at there; long = omega (arith, long, some); is = ap (frame_over d.routers b link) (sym item) };
+        is = ap (over_end d.routers b link) item;
+      }
+
+  frame_same : (r : RouterConf) (link : ℕ) (e : End) (p : Pdu) → slice_get d.routers b ≡ Some r → slice_get r.ends link ≡ Some e → pdu_frame r (slice_get r.ends link) p ≡ frame_over d.routers b link (ControlItem p)
+  unfolding frame_of
+  frame_same r link e p here there = ap (λ (o : Option End). pdu_frame r o p) there ∙ sym (over_at d.routers b r link e (ControlItem p) here there)
+
+  frames_same : (r : RouterConf) (link : ℕ) (e : End) → slice_get d.routers b ≡ Some r → slice_get r.ends link ≡ Some e → (pdus : List Pdu) → frames_of r link pdus ≡ map (sent_of d.routers) (map (λ p. over_end d.routers b link (ControlItem p)) pdus)
+  frames_same r link e here there [] = refl
+  frames_same r link e here there (p ∷ pdus) =
+      ap (λ (octets : List ℕ). over_link link octets ∷ frames_of r link pdus) (frame_same r link e p here there)
+      ∙ ap (λ (l : List Sent). sent_of d.routers (over_end d.routers b link (ControlItem p)) ∷ l) (frames_same r link e here there pdus)
+
+  drops_same : (drops : List Cause) → map (control_lost b) drops ≡ map (drop_line b None) (map whole drops)
+  drops_same [] = refl
+  drops_same (why ∷ drops) = ap (λ (l : List DropLine). control_lost b why ∷ l) (drops_same drops)
+
+  reply_framed : (link : ℕ) (e : End) (r : Reply) → slice_get c.conf.ends link ≡ Some e → IsTrueReply d.routers c r → IsFramed d.routers b None (pdu_sent c.conf.level) (framed link r).effects (replied d.routers b link r)
+  unfolding framed
+  reply_framed link e r there true_reply =
+      framed_by d.routers b None (pdu_sent c.conf.level) (framed link r).effects (replied d.routers b link r)
+      (ap (λ (q : RouterConf). frames_of q link r.sent) true_reply.next.conf ∙ frames_same c.conf link e at there r.sent)
+      (each_mapped (IsReadBack d.routers b (pdu_sent c.conf.level)) (λ p. over_end d.routers b link (ControlItem p)) r.sent
+      (each_weaker (IsTruePdu d.routers) (λ p. IsReadBack d.routers b (pdu_sent c.conf.level) (over_end d.routers b link (ControlItem p))) (λ p h. pdu_back link e p there h) r.sent true_reply.says))
+      refl (drops_same r.drops)
+
+  flooded : (link : ℕ) (e : End) (r : Reply) → slice_get c.conf.ends link ≡ Some e → IsTrueReply d.routers c r → (next : Control) (f : Effects) → ◌≡◌ {A = Next} (record { control = next; effects = f }) (framed link r) → IsFlooded d.routers b link c r next f
+  flooded link e r there true_reply next f q = record {
+    control = ap (λ (k : Next). k.control) q ∙ framed_control link r;
+    framed = subst (λ (g : Effects). IsFramed d.routers b None (pdu_sent c.conf.level) g (replied d.routers b link r)) (sym (ap (λ (k : Next). k.effects) q)) (reply_framed link e r there true_reply);
+  }
+
+  -- a PDU that arrives
+  pub pdu_framed : (a link back : ℕ) (p : Pdu) → link_between d.routers a b ≡ Some link → IsTruePdu d.routers p → is_up c back ≡ true
+      → (next : Control) (f : Effects) → ◌≡◌ {A = Next} (record { control = next; effects = f }) (on_frame_directly c back (frame_over d.routers a link (ControlItem p))) → IsFlooded d.routers b back c (on_pdu c back p) next f
+  pdu_framed a link back p joined true_pdu up next f q =
+      let j = join_of d.routers a b link joined in
+      let far = end_found j.near.ends j.far.system link j.toward in
+      let among : IsAmong d.routers j.near = record { place = a; there = j.near_at } in
+      let end_fits = end_is d valid j.near link far.at among far.there in
+      let level : j.near.level ≡ c.conf.level = sym (alike d valid j.near c.conf among t.among).level in
+      let over = over_at d.routers a j.near link far.at (ControlItem p) j.near_at far.there ∙ ap (λ (l : Level). frame_of l far.at (ControlItem p)) level in
+      let near = got_some c.conf.ends back (subst (λ (n : ℕ). back < n) t.kept.control.links (up_within c.flood.up back up)) in
+      flooded back near.0 (on_pdu c back p) near.1 (on_pdu_true d.routers valid.few valid.sound c t.among t.kept.control.links (state_of d.routers c t) back p true_pdu) next f
+      (q ∙ ap (on_frame_with false c back) over ∙ control_taken false c back far.at p (true_sendable d.routers valid.sound p true_pdu) end_fits.own_mac.octets_are.long up)
+
+  -- what is due
+  pub send_framed : (link : ℕ) → link < length c.conf.ends → (next : Control) (f : Effects) → ◌≡◌ {A = Next} (record { control = next; effects = f }) (framed link (send c link)) → IsFlooded d.routers b link c (send c link) next f
+  send_framed link within next f q =
+      let near = got_some c.conf.ends link within in
+      flooded link near.0 (send c link) near.1 (send_true d.routers valid.sound c t.among (state_of d.routers c t) link) next f q

@@ -1,0 +1,144 @@
+-- What is done with frames on their way is done with their items.
+use Rattle.std.proofs.Common.{◌≡◌, inl, inr, ℕ, zero, suc, List, [], ◌∷◌, ◌++◌, length, map, take, drop, sum_by, slice_get, slice_set, slice_index_or, Some, None, option_map, refl, sym, ap, subst, ◌∙◌, arith}
+use Rattle.std.specs.List.{AllByRecursion, remove}
+use Rattle.std.proofs.Math.ListN.{get_or-map}
+use Rattle.std.proofs.lemmas.List.{map-append, map-set, length-map}
+use Rattle.std.proofs.lemmas.List.Sums.{sum_by-cons}
+use Rattle.std.proofs.lemmas.Option.{slice_get-map}
+use Rattle.wire_base.specs.declared.conf.End.{End}
+use Rattle.wire_base.specs.declared.conf.RouterConf.{RouterConf}
+use Rattle.wire_base.specs.model.Item.{Item}
+use Rattle.domain_core.specs.declared.flight.Flight.{Flight}
+use Rattle.domain_core.specs.World.{queue_at, with_queue, push_item, without_item, in_flight, no_flights}
+use Rattle.domain_core.specs.Flights.{item_seen, items_seen, frames_at, with_frames, push_frame, without_frame, frame_count, no_frames}
+use Rattle.domain_core.proofs.EachLaws.{each_joined, each_left}
+use Rattle.domain_core.proofs.QueueLaws.{set_read}
+
+-- ---- lists
+
+take_mapped : {X Y : Type 0} (f : X → Y) (n : ℕ) (xs : List X) → map f (take n xs) ≡ take n (map f xs)
+take_mapped f zero xs = refl
+take_mapped f (suc n) [] = refl
+take_mapped {X} {Y} f (suc n) (x ∷ xs) = ap (λ (ys : List Y). f x ∷ ys) (take_mapped f n xs)
+
+drop_mapped : {X Y : Type 0} (f : X → Y) (n : ℕ) (xs : List X) → map f (drop n xs) ≡ drop n (map f xs)
+drop_mapped f zero xs = refl
+drop_mapped f (suc n) [] = refl
+drop_mapped f (suc n) (x ∷ xs) = drop_mapped f n xs
+
+remove_mapped : {X Y : Type 0} (f : X → Y) (xs : List X) (i : ℕ) → map f (remove xs i) ≡ remove (map f xs) i
+remove_mapped {X} {Y} f xs i =
+    map-append f (take i xs) (drop (suc i) xs) ∙ ap (λ (ys : List Y). ys ++ map f (drop (suc i) xs)) (take_mapped f i xs) ∙ ap (λ (ys : List Y). take i (map f xs) ++ ys) (drop_mapped f (suc i) xs)
+
+-- ---- queues
+
+abbrev queue_seen : List Flight → List Item
+queue_seen queue = map item_seen queue
+
+abbrev row_seen : List (List Flight) → List (List Item)
+row_seen row = map queue_seen row
+
+pub seen_at : (flights : List (List (List Flight))) (a link : ℕ) → queue_at (items_seen flights) a link ≡ map item_seen (frames_at flights a link)
+seen_at flights a link =
+    ap (λ (row : List (List Item)). slice_index_or row link []) (get_or-map row_seen flights a []) ∙ get_or-map queue_seen (slice_index_or flights a []) link []
+
+seen_with : (flights : List (List (List Flight))) (a link : ℕ) (queue : List Flight) → items_seen (with_frames flights a link queue) ≡ with_queue (items_seen flights) a link (map item_seen queue)
+seen_with flights a link queue =
+    map-set row_seen flights a (slice_set (slice_index_or flights a []) link queue)
+    ∙ ap (slice_set (items_seen flights) a) (map-set queue_seen (slice_index_or flights a []) link queue
+    ∙ ap (λ (row : List (List Item)). slice_set row link (map item_seen queue)) (sym (get_or-map row_seen flights a [])))
+
+pub seen_pushed : (flights : List (List (List Flight))) (a link : ℕ) (f : Flight) → items_seen (push_frame flights a link f) ≡ push_item (items_seen flights) a link (item_seen f)
+seen_pushed flights a link f =
+    seen_with flights a link (frames_at flights a link ++ f ∷ [])
+    ∙ ap (with_queue (items_seen flights) a link) (map-append item_seen (frames_at flights a link) (f ∷ []) ∙ ap (λ (xs : List Item). xs ++ item_seen f ∷ []) (sym (seen_at flights a link)))
+
+pub seen_removed : (flights : List (List (List Flight))) (a link i : ℕ) → items_seen (without_frame flights a link i) ≡ without_item (items_seen flights) a link i
+seen_removed flights a link i =
+    seen_with flights a link (remove (frames_at flights a link) i)
+    ∙ ap (with_queue (items_seen flights) a link) (remove_mapped item_seen (frames_at flights a link) i ∙ ap (λ (xs : List Item). remove xs i) (sym (seen_at flights a link)))
+
+pub seen_got : (flights : List (List (List Flight))) (a link i : ℕ) → slice_get (queue_at (items_seen flights) a link) i ≡ option_map item_seen (slice_get (frames_at flights a link) i)
+seen_got flights a link i = ap (λ (xs : List Item). slice_get xs i) (seen_at flights a link) ∙ slice_get-map item_seen (frames_at flights a link) i
+
+pub seen_length : (flights : List (List (List Flight))) (a link : ℕ) → length (queue_at (items_seen flights) a link) ≡ length (frames_at flights a link)
+seen_length flights a link = ap (λ (xs : List Item). length xs) (seen_at flights a link) ∙ length-map (frames_at flights a link) item_seen
+
+-- ---- how many there are
+
+row_count : (row : List (List Flight)) → sum_by (λ (queue : List Item). length queue) (map queue_seen row) ≡ sum_by (λ (queue : List Flight). length queue) row
+row_count [] = refl
+row_count (q ∷ qs) =
+    let n = row_count qs in
+    let l = length-map q item_seen in
+    let s = sum_by-cons (λ (queue : List Item). length queue) (queue_seen q) (map queue_seen qs) in
+    let t = sum_by-cons (λ (queue : List Flight). length queue) q qs in
+    omega (arith, n, l, s, t)
+
+pub seen_count : (flights : List (List (List Flight))) → in_flight (items_seen flights) ≡ frame_count flights
+unfolding in_flight
+seen_count [] = refl
+seen_count (r ∷ rs) =
+    let n = seen_count rs in
+    let l = row_count r in
+    let s = sum_by-cons (λ (row : List (List Item)). sum_by (λ queue. length queue) row) (row_seen r) (items_seen rs) in
+    let t = sum_by-cons (λ (row : List (List Flight)). sum_by (λ queue. length queue) row) r rs in
+    omega (arith, n, l, s, t)
+
+-- ---- what holds of each frame
+
+abbrev pub AllFrames : (ℕ → ℕ → Flight → Type 0) → List (List (List Flight)) → Type 0
+AllFrames P flights = (a link : ℕ) → AllByRecursion (P a link) (frames_at flights a link)
+
+frames_set : (P : ℕ → ℕ → Flight → Type 0) (flights : List (List (List Flight))) (a link : ℕ) (queue : List Flight) → AllByRecursion (P a link) queue → AllFrames P flights → AllFrames P (with_frames flights a link queue)
+frames_set P flights a link queue new all b m =
+    elim (set_read flights a b (slice_set (slice_index_or flights a []) link queue) []) [
+      | inl same ↦ subst (λ (row : List (List Flight)). AllByRecursion (P b m) (slice_index_or row m [])) (sym same) (all b m)
+      | inr row ↦
+          elim (set_read (slice_index_or flights a []) link m queue []) [
+            | inl same ↦
+                let old : slice_index_or (slice_index_or (with_frames flights a link queue) b []) m [] ≡ frames_at flights b m =
+                ap (λ (r : List (List Flight)). slice_index_or r m []) row.1 ∙ same ∙ ap (λ (n : ℕ). frames_at flights n m) row.0 in
+                subst (AllByRecursion (P b m)) (sym old) (all b m)
+            | inr at ↦
+                let put : slice_index_or (slice_index_or (with_frames flights a link queue) b []) m [] ≡ queue = ap (λ (r : List (List Flight)). slice_index_or r m []) row.1 ∙ at.1 in
+                let here : AllByRecursion (P b m) queue = subst (λ (n : ℕ). AllByRecursion (P n m) queue) row.0 (subst (λ (n : ℕ). AllByRecursion (P a n) queue) at.0 new) in
+                subst (AllByRecursion (P b m)) (sym put) here
+          ]
+    ]
+
+pub frames_pushed : (P : ℕ → ℕ → Flight → Type 0) (flights : List (List (List Flight))) (a link : ℕ) (f : Flight) → P a link f → AllFrames P flights → AllFrames P (push_frame flights a link f)
+frames_pushed P flights a link f h all = frames_set P flights a link (frames_at flights a link ++ f ∷ []) (each_joined (P a link) (frames_at flights a link) (f ∷ []) (all a link) (h, tt)) all
+
+pub frames_left : (P : ℕ → ℕ → Flight → Type 0) (flights : List (List (List Flight))) (a link i : ℕ) → AllFrames P flights → AllFrames P (without_frame flights a link i)
+frames_left P flights a link i all = frames_set P flights a link (remove (frames_at flights a link) i) (each_left (P a link) (frames_at flights a link) i (all a link)) all
+
+-- nothing is on the way
+pub none_on_the_way : (P : ℕ → ℕ → Flight → Type 0) (confs : List RouterConf) → AllFrames P (no_frames confs)
+none_on_the_way P confs a link = row confs a
+  where
+    queue : (es : List End) (n : ℕ) → AllByRecursion (P a link) (slice_index_or (map (λ (e : End). []) es) n [])
+    queue [] n = tt
+    queue (e ∷ es) zero = tt
+    queue (e ∷ es) (suc n) = queue es n
+
+    row : (rs : List RouterConf) (n : ℕ) → AllByRecursion (P a link) (slice_index_or (slice_index_or (no_frames rs) n []) link [])
+    row [] n = tt
+    row (r ∷ rs) zero = queue r.ends link
+    row (r ∷ rs) (suc n) = row rs n
+
+none_seen : (ends : List End) → map queue_seen (map (λ e. []) ends) ≡ map (λ e. []) ends
+none_seen [] = refl
+none_seen (e ∷ es) = ap (λ (row : List (List Item)). [] ∷ row) (none_seen es)
+
+pub seen_none : (confs : List RouterConf) → items_seen (no_frames confs) ≡ no_flights confs
+seen_none [] = refl
+seen_none (r ∷ rs) = ap (λ (row : List (List Item)). row ∷ items_seen (no_frames rs)) (none_seen r.ends) ∙ ap (λ (rows : List (List (List Item))). map (λ e. []) r.ends ∷ rows) (seen_none rs)
+
+-- ---- what stands at a place
+
+pub none_seen_at : (flights : List (List (List Flight))) (a link i : ℕ) → None ≡ slice_get (frames_at flights a link) i → slice_get (queue_at (items_seen flights) a link) i ≡ None
+none_seen_at flights a link i h = seen_got flights a link i ∙ ap (option_map item_seen) (sym h)
+
+pub some_seen_at : (flights : List (List (List Flight))) (a link i : ℕ) (f : Flight) → Some f ≡ slice_get (frames_at flights a link) i → slice_get (queue_at (items_seen flights) a link) i ≡ Some (item_seen f)
+some_seen_at flights a link i f h = seen_got flights a link i ∙ ap (option_map item_seen) (sym h)

@@ -1,0 +1,31 @@
+use Rattle.std.proofs.Common.{◌≡◌, slice_get, Some, sym, ap}
+use Rattle.wire_base.specs.model.Flooding.{end_down}
+use Rattle.domain_core.specs.Held.{state_of, world_in}
+use Rattle.domain_core.specs.Step.{Happened}
+use Rattle.domain_core.specs.World.{link_between}
+use Rattle.domain_core.proofs.RefusalLaws.{up_at_down}
+use Rattle.domain_core.proofs.TurnLaws.{router_there, nothing_told, control_at, end_change_is, turn_world, same_heard}
+use Rattle.domain_core.proofs.network.Network.down.Goals as goal
+
+here : (c : goal.After-index_mut-router) → slice_get c.args.self.now.routers.items c.args.from ≡ Some c.index_mut-router.result.now
+here c = router_there c.args.self.now.routers.items c.from.result c.args.from c.index_mut-router.result.now c.from.ensures c.requires.place c.index_mut-router.ensures.value
+
+pub end_down-requires : goal.end_down-requires
+end_down-requires c =
+    up_at_down (world_in c.args.self.now) c.args.from c.args.to c.in-Some.link c.index_mut-router.result.now.control (control_at (state_of c.args.self.now) c.args.from c.index_mut-router.result.now (here c)) (sym c.in-Some.ensures) c.requires.allowed
+
+there : (c : goal.After-nothing-2) → slice_get c.args.self.now.routers.items c.args.from ≡ Some c.index_mut-router.result.now
+there c = router_there c.args.self.now.routers.items c.from.result c.args.from c.index_mut-router.result.now c.from.ensures c.requires.place c.index_mut-router.ensures.value
+
+pub returns-clause-done : goal.returns-clause-done
+returns-clause-done c =
+    let n = state_of c.args.self.now in
+    let happened = end_change_is n c.args.from c.index_mut-router.result.now (there c) end_down c.in-Some.link (link_between n.domain.routers c.args.from c.args.to) (sym c.in-Some.ensures) in
+    record {
+      world = turn_world n c.args.from c.index_mut-router.result.now (there c) c.from.result c.end_down.new.self _ (end_down c.index_mut-router.result.now.control c.in-Some.link) c.from.ensures c.in_ok-end_down.ensures.control happened;
+      frames = c.requires.truth.frames;
+      answer = nothing_told n.domain.routers c.nothing-2.result _ c.nothing-2.ensures (ap (λ (x : Happened). x.made) happened);
+    }
+
+pub returns-clause-heard : goal.returns-clause-heard
+returns-clause-heard c = same_heard (state_of c.args.self.now) c.args.from c.index_mut-router.result.now (there c) c.from.result c.end_down.new.self c.from.ensures c.end_down.ensures.heard

@@ -1,0 +1,94 @@
+-- What one event answers.
+use Rattle.std.specs.Prelude.{◌≡◌, ℕ, nat_le, List, [], map, drop, Option, Some, None, Result, Ok, Err}
+use Rattle.wire_base.specs.declared.conf.Kind.{Kind}
+use Rattle.wire_base.specs.declared.conf.RouterConf.{RouterConf}
+use Rattle.wire_base.specs.declared.faults.EdgeFault.{EdgeFault}
+use Rattle.wire_base.specs.declared.faults.EdgeFault.TheVariants as edge
+use Rattle.wire_base.specs.declared.faults.HeadFault.{HeadFault}
+use Rattle.wire_base.specs.declared.triple.Triple.{Triple}
+use Rattle.wire_base.specs.model.BierHeader.{BierHeader, header_at}
+use Rattle.wire_base.specs.model.OnFrame.{Effects}
+use Rattle.wire_base.specs.model.Place.{id_at}
+use Rattle.replay_text.specs.declared.event.Event.{Event}
+use Rattle.replay_text.specs.declared.event.Event.TheVariants.{Inject, Take, Lose, Again, Down, Up, Send, Tick, Restart}
+use Rattle.domain_core.specs.declared.fault.EventFault.{EventFault}
+use Rattle.domain_core.specs.declared.fault.EventFault.TheVariants as faults
+use Rattle.domain_core.specs.declared.flight.Load.{Load}
+use Rattle.domain_core.specs.declared.step_out.StepOut.{StepOut}
+use Rattle.domain_core.specs.Faults.{most_events, first_fault, unless_room, rule_fault}
+use Rattle.domain_core.specs.Flights.{number_of}
+use Rattle.domain_core.specs.Framed.{wire_of, wire_from, got_line, drop_line}
+use Rattle.domain_core.specs.Moves.{Made}
+use Rattle.domain_core.specs.World.{WorldState}
+
+-- ---- refusals
+
+-- A refusal is the first reason that holds, or memory was refused.
+abbrev pub Refuses : Option EventFault → EventFault → Type 0
+Refuses first faults.Events = first ≡ Some faults.Events
+Refuses first faults.NoLink = first ≡ Some faults.NoLink
+Refuses first faults.EndState = first ≡ Some faults.EndState
+Refuses first faults.InFlight = first ≡ Some faults.InFlight
+Refuses first (faults.NoFrame i n) = first ≡ Some (faults.NoFrame i n)
+Refuses first faults.NotControl = first ≡ Some faults.NotControl
+Refuses first (faults.Edge fault) = first ≡ Some (faults.Edge fault)
+Refuses first faults.Memory = Unit {0}
+
+-- a refusal for any other reason than memory leaves all as it was
+abbrev pub Stays : Type 0 → EventFault → Type 0
+Stays same faults.Events = same
+Stays same faults.NoLink = same
+Stays same faults.EndState = same
+Stays same faults.InFlight = same
+Stays same (faults.NoFrame i n) = same
+Stays same faults.NotControl = same
+Stays same (faults.Edge fault) = same
+Stays same faults.Memory = Unit {0}
+
+-- what an event's own rules say, but for what a router says of an injection
+abbrev pub early_rule : WorldState → Event → Option EventFault
+early_rule w (Inject a sd bsl ks ttl entropy payload) = unless_room w None
+early_rule w (Take a b i) = rule_fault w (Take a b i)
+early_rule w (Lose a b i) = rule_fault w (Lose a b i)
+early_rule w (Again a b i) = rule_fault w (Again a b i)
+early_rule w (Down a b) = rule_fault w (Down a b)
+early_rule w (Up a b) = rule_fault w (Up a b)
+early_rule w (Send a b) = rule_fault w (Send a b)
+early_rule w (Tick a) = rule_fault w (Tick a)
+early_rule w (Restart a) = rule_fault w (Restart a)
+
+abbrev pub early_fault : WorldState → Event → Option EventFault
+early_fault w e = first_fault (nat_le most_events w.events) faults.Events (early_rule w e)
+
+-- the refusal of an injection that a router refuses
+abbrev pub entry_refused : EdgeFault → EventFault
+entry_refused edge.NoEgress = faults.Edge edge.NoEgress
+entry_refused edge.IdZero = faults.Edge edge.IdZero
+entry_refused (edge.SiLarge k) = faults.Edge (edge.SiLarge k)
+entry_refused edge.NotBfr = faults.Edge edge.NotBfr
+entry_refused edge.BslUnknown = faults.Edge edge.BslUnknown
+entry_refused edge.Memory = faults.Memory
+
+-- ---- what is told
+
+-- what was sent, as frames, delivered and dropped
+abbrev pub told : List RouterConf → Made → StepOut
+told confs m = record { sent = map (wire_of confs) m.sent; got = m.got; drops = m.drops }
+
+-- the same of what the router at place a did because of a frame with that note
+abbrev pub told_of : List RouterConf → ℕ → Load → Effects → StepOut
+told_of confs a load e =
+    record {
+      sent = map (wire_from confs a) e.sent;
+      got = map (got_line a (number_of load)) e.got;
+      drops = map (drop_line a (number_of load)) e.drops;
+    }
+
+-- the BFR-ids of a header; octets that are none have no ids
+abbrev pub ids_read : Triple → Result BierHeader HeadFault → List ℕ
+ids_read t (Ok h) = map (id_at t) h.positions
+ids_read t (Err fault) = []
+
+-- the BFR-ids of a packet in a frame
+abbrev pub ids_carried : Triple → Kind → List ℕ → List ℕ
+ids_carried t kind octets = ids_read t (header_at kind t.bsl (drop 14 octets))

@@ -1,0 +1,37 @@
+-- How a domain at work is held, and what one event does to it.
+use Rattle.std.specs.Prelude.{◌≡◌, ℕ, List, slice_get, Option}
+use Rattle.wire_base.specs.declared.bsl.Bsl.{Bsl}
+use Rattle.domain_core.specs.declared.fault.EventFault.{EventFault}
+use Rattle.domain_core.specs.declared.network.Network.{Network}
+use Rattle.domain_core.specs.declared.step_out.StepOut.{StepOut}
+use Rattle.domain_core.specs.Answers.{told}
+use Rattle.domain_core.specs.Faults.{entry_fault}
+use Rattle.domain_core.specs.Network.{NetworkState, seen_of, world_of, AreFramesOver}
+use Rattle.domain_core.specs.Step.{Happened}
+use Rattle.domain_core.specs.World.{WorldState}
+
+abbrev pub state_of : Network → NetworkState
+state_of n =
+    record {
+      domain = n.domain;
+      routers = n.routers.items;
+      flights = n.flights;
+      injections = n.injections;
+      events = n.events;
+    }
+
+abbrev pub world_in : Network → WorldState
+world_in n = world_of (state_of n)
+
+-- What happened in a world is what was done, in frames of its items, and what is told.
+pub record IsDone (old new : Network) (n : Happened) (out : StepOut) : Type 0 where
+  pub world : world_in new ≡ n.world
+  pub frames : AreFramesOver old.domain.routers new.flights
+  pub answer : out ≡ told old.domain.routers n.made
+
+abbrev pub heard_in : Network → List ℕ
+heard_in n = (seen_of (state_of n)).heard
+
+-- what a router says of an injection
+abbrev pub inject_fault : Network → ℕ → ℕ → Bsl → List ℕ → Option EventFault
+inject_fault n a sd bsl ks = entry_fault (slice_get (world_in n).routers a) sd bsl ks

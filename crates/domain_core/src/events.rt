@@ -1,0 +1,74 @@
+//! One event, whichever it is.
+ghost use Rattle.std.specs.Prelude.{◌≡◌, false, length, None, IfOk, OnOk, OnErr, IfErr, MatchResult};
+ghost use Rattle.domain_core.specs.Answers.{early_fault, Refuses, Stays, told};
+ghost use Rattle.domain_core.specs.Faults.{event_fault};
+ghost use Rattle.domain_core.specs.Held.{state_of, world_in, heard_in, IsDone};
+ghost use Rattle.domain_core.specs.Network.{IsTrueNetwork, heard_after};
+ghost use Rattle.domain_core.specs.Step.{doing, happens};
+ghost use Rattle.domain_core.specs.Truth.{EventFits, AreWorldDrops};
+
+use crate::fault::EventFault;
+use crate::network::Network;
+use crate::step_out::StepOut;
+use replay_text::Event;
+
+impl Network {
+    /// Does an event that its own rules allow, and counts it; or a router refuses it, or memory is refused.
+    pub(crate) fn carry_out(&mut self, event: &Event) -> Result<StepOut, EventFault>
+        requires truth { IsTrueNetwork (state_of self.old) }
+        requires fits { EventFits (length self.old.domain.routers) event.now }
+        requires allowed { early_fault (world_in self.old) event.now ≡ None }
+        ensures refused { MatchResult result (λ _. event_fault (world_in self.old) event.now ≡ None) (λ e. Refuses (event_fault (world_in self.old) event.now) e) }
+        ensures world { OnOk result (world_in self.new ≡ (happens (world_in self.old) event.now).world) }
+        ensures told { IfOk result (λ out. out ≡ told self.old.domain.routers (happens (world_in self.old) event.now).made) }
+        ensures drops { IfOk result (λ out. AreWorldDrops out.drops) }
+        ensures heard { OnOk result (heard_in self.new ≡ heard_after (world_in self.old) (heard_in self.old) event.now) }
+        ensures kept { IsTrueNetwork (state_of self.new) }
+        ensures stays { IfErr result (λ e. Stays (state_of self.new ≡ state_of self.old) e) }
+    {
+        let out = self.dispatch(event)?;
+        self.events += 1;
+        Ok(out)
+    }
+
+    /// Does an event, but doesn't count it.
+    fn dispatch(&mut self, event: &Event) -> Result<StepOut, EventFault>
+        requires truth { IsTrueNetwork (state_of self.old) }
+        requires routers { length self.old.routers.items ≡ length self.old.domain.routers }
+        requires fits { EventFits (length self.old.domain.routers) event.now }
+        requires allowed { early_fault (world_in self.old) event.now ≡ None }
+        ensures refused { MatchResult result (λ _. event_fault (world_in self.old) event.now ≡ None) (λ e. Refuses (event_fault (world_in self.old) event.now) e) }
+        ensures done { IfOk result (λ out. IsDone self.old self.new (doing false (world_in self.old) event.now) out) }
+        ensures heard { OnOk result (heard_in self.new ≡ heard_after (world_in self.old) (heard_in self.old) event.now) }
+        ensures kept { OnErr result (IsTrueNetwork (state_of self.new)) }
+        ensures stays { IfErr result (λ e. Stays (state_of self.new ≡ state_of self.old) e) }
+    {
+        match event {
+            Event::Inject {
+                router,
+                sd,
+                bsl,
+                ids,
+                ttl,
+                entropy,
+                payload,
+            } => self.inject(
+                *router,
+                *sd,
+                *bsl,
+                ids.as_slice(),
+                *ttl,
+                *entropy,
+                payload.as_slice(),
+            ),
+            Event::Take { from, to, i } => Ok(self.take(*from, *to, *i)?),
+            Event::Lose { from, to, i } => Ok(self.lose(*from, *to, *i)?),
+            Event::Again { from, to, i } => Ok(self.again(*from, *to, *i)?),
+            Event::Down { from, to } => Ok(self.down(*from, *to)?),
+            Event::Up { from, to } => Ok(self.up(*from, *to)?),
+            Event::Send { from, to } => Ok(self.send(*from, *to)?),
+            Event::Tick { router } => Ok(self.tick(*router)?),
+            Event::Restart { router } => Ok(self.restart(*router)?),
+        }
+    }
+}

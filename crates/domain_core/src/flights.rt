@@ -1,0 +1,254 @@
+//! Frames on their way: a queue for each end of each router.
+ghost use Rattle.std.specs.Prelude.{◌≡◌, ◌+◌, ◌∷◌, ◌++◌, [], nat_lt, List, length, map, slice_get, slice_index_or, slice_set, option_map, OnOk, OnErr, IfOk};
+ghost use Rattle.std.specs.List.{remove};
+ghost use Rattle.domain_core.specs.declared.flight.Flight.{Flight};
+ghost use Rattle.domain_core.specs.Flights.{frames_at, push_frame, without_frame, frame_count, no_frames};
+
+use crate::flight::Flight;
+use std::alloc::Global;
+use std::collections::VecDeque;
+use std::marker::Model;
+use wire_base::{End, M, Memory, RouterConf};
+
+/// The frames on their way over one end, the oldest first.
+#[derive(Drop)]
+struct Queue {
+    frames: VecDeque<Flight>,
+}
+
+impl Model for Queue {
+    ghost use Rattle.std.specs.Prelude.{List};
+    ghost use Rattle.domain_core.specs.declared.flight.Flight.{Flight};
+
+    ghost Value = { List Flight };
+
+    ghost view = { λ q. q.frames.items };
+}
+
+impl Queue {
+    fn new(alloc: Global) -> Queue
+        ensures { result ≡ [] }
+    {
+        Queue {
+            frames: VecDeque::new(alloc),
+        }
+    }
+
+    fn len(&self) -> usize
+        ensures { result ≡ length self.now }
+    {
+        self.frames.len()
+    }
+
+    fn get(&self, i: usize) -> Option<&Flight>
+        ensures { option_map (λ f. f.now) result ≡ slice_get self.now i }
+    {
+        self.frames.get(i)
+    }
+
+    fn push(&mut self, flight: Flight) -> M<()>
+        ensures ok { OnOk result (self.new ≡ self.old ++ flight ∷ []) }
+        ensures err { OnErr result (self.new ≡ self.old) }
+    {
+        self.frames.push_back(flight)?;
+        Ok(())
+    }
+
+    /// Whether there was a frame at that place, which is gone then.
+    fn remove(&mut self, i: usize) -> bool
+        ensures rest { self.new ≡ remove self.old i }
+        ensures gone { result ≡ nat_lt i (length self.old) }
+    {
+        self.frames.remove(i).is_some()
+    }
+}
+
+/// The queues of one router, by its ends.
+#[derive(Drop)]
+struct Queues {
+    ends: Vec<Queue>,
+}
+
+impl Model for Queues {
+    ghost use Rattle.std.specs.Prelude.{List};
+    ghost use Rattle.domain_core.specs.declared.flight.Flight.{Flight};
+
+    ghost Value = { List (List Flight) };
+
+    ghost view = { λ q. q.ends.items };
+}
+
+impl Queues {
+    /// An empty queue for each end.
+    fn new(alloc: Global, ends: &[End]) -> M<Queues>
+        ensures { IfOk result (λ queues. queues ≡ map (λ e. []) ends.now) }
+    {
+        let mut queues = Vec::new(alloc);
+        for _end in ends {
+            queues.push(Queue::new(alloc))?;
+        }
+        Ok(Queues { ends: queues })
+    }
+
+    /// How many frames are on their way over an end; 0 where there is no such end.
+    fn len(&self, link: usize) -> usize
+        ensures { result ≡ length (slice_index_or self.now link []) }
+    {
+        if link < self.ends.len() {
+            self.ends[link].len()
+        } else {
+            0
+        }
+    }
+
+    fn get(&self, link: usize, i: usize) -> Option<&Flight>
+        ensures { option_map (λ f. f.now) result ≡ slice_get (slice_index_or self.now link []) i }
+    {
+        if link < self.ends.len() {
+            let queue = &self.ends[link];
+            queue.get(i)
+        } else {
+            None
+        }
+    }
+
+    /// Puts a frame behind those on their way over an end, and says whether there is such an end.
+    fn push(&mut self, link: usize, flight: Flight) -> M<bool>
+        ensures ok { OnOk result (self.new ≡ slice_set self.old link (slice_index_or self.old link [] ++ flight ∷ [])) }
+        ensures added { IfOk result (λ added. added ≡ nat_lt link (length self.old)) }
+        ensures err { OnErr result (self.new ≡ self.old) }
+    {
+        if link < self.ends.len() {
+            let queue = &mut self.ends[link];
+            queue.push(flight)?;
+            return Ok(true);
+        }
+        Ok(false)
+    }
+
+    /// Whether there was a frame at that place of those over an end, which is gone then.
+    fn remove(&mut self, link: usize, i: usize) -> bool
+        ensures rest { self.new ≡ slice_set self.old link (remove (slice_index_or self.old link []) i) }
+        ensures gone { result ≡ nat_lt i (length (slice_index_or self.old link [])) }
+    {
+        if link < self.ends.len() {
+            let queue = &mut self.ends[link];
+            queue.remove(i)
+        } else {
+            false
+        }
+    }
+}
+
+/// All frames on their way. A direction of a link is named by the place of the router that sends there and its end.
+///
+/// Their number is kept, so that nothing is counted when it is asked for.
+#[derive(Drop)]
+pub(crate) struct Flights {
+    routers: Vec<Queues>,
+    count: usize,
+}
+
+impl Model for Flights {
+    ghost use Rattle.std.specs.Prelude.{◌≡◌, List};
+    ghost use Rattle.domain_core.specs.declared.flight.Flight.{Flight};
+    ghost use Rattle.domain_core.specs.Flights.{frame_count};
+
+    ghost Value = { List (List (List Flight)) };
+
+    ghost view = { λ f. f.routers.items };
+
+    ghost invariant = { λ f. f.count ≡ frame_count f.routers.items };
+}
+
+impl Flights {
+    /// Nothing is on its way in a domain of those routers.
+    pub(crate) fn new(alloc: Global, confs: &[RouterConf]) -> M<Flights>
+        ensures { IfOk result (λ flights. flights ≡ no_frames confs.now) }
+    {
+        let mut routers = Vec::new(alloc);
+        for conf in confs {
+            routers.push(Queues::new(alloc, conf.ends.as_slice())?)?;
+        }
+        Ok(Flights { routers, count: 0 })
+    }
+
+    /// How many frames there are in all.
+    pub(crate) fn count(&self) -> usize
+        ensures { result ≡ frame_count self.now }
+    {
+        self.count
+    }
+
+    /// How many are on their way in a direction; 0 where there is no such direction.
+    pub(crate) fn len(&self, place: u16, link: u16) -> usize
+        ensures { result ≡ length (frames_at self.now place link) }
+    {
+        if usize::from(place) < self.routers.len() {
+            self.routers[usize::from(place)].len(usize::from(link))
+        } else {
+            0
+        }
+    }
+
+    /// The frame at a place of those in a direction, from 0.
+    pub(crate) fn get(&self, place: u16, link: u16, i: u32) -> Option<&Flight>
+        ensures { option_map (λ f. f.now) result ≡ slice_get (frames_at self.now place link) i }
+    {
+        if usize::from(place) < self.routers.len() {
+            let queues = &self.routers[usize::from(place)];
+            queues.get(usize::from(link), i as usize)
+        } else {
+            None
+        }
+    }
+
+    /// Puts a frame at the end of a direction. Where there is no such direction nothing changes.
+    pub(crate) fn push(&mut self, place: u16, link: u16, flight: Flight) -> M<()>
+        ensures ok { OnOk result (self.new ≡ push_frame self.old place link flight) }
+        ensures err { OnErr result (self.new ≡ self.old) }
+    {
+        if usize::from(place) < self.routers.len() {
+            let count = one_more(self.count)?;
+            let queues = &mut self.routers[usize::from(place)];
+            let added = queues.push(usize::from(link), flight)?;
+            if added {
+                self.count = count;
+            }
+        }
+        Ok(())
+    }
+
+    /// The frame at a place of those in a direction is gone. Where there is no such frame nothing changes.
+    pub(crate) fn remove(&mut self, place: u16, link: u16, i: usize)
+        ensures { self.new ≡ without_frame self.old place link i }
+    {
+        if usize::from(place) < self.routers.len() {
+            let queues = &mut self.routers[usize::from(place)];
+            let gone = queues.remove(usize::from(link), i);
+            if gone {
+                self.count -= 1;
+            }
+        }
+    }
+
+    /// The frame that was last put at the end of a direction is gone.
+    pub(crate) fn pop(&mut self, place: u16, link: u16)
+        ensures { (f : Flight) (before : List (List (List Flight))) → self.old ≡ push_frame before place link f → self.new ≡ before }
+    {
+        let count = self.len(place, link);
+        if count > 0 {
+            self.remove(place, link, count - 1);
+        }
+    }
+}
+
+/// One more; there is no memory for more frames than can be counted.
+fn one_more(count: usize) -> M<usize>
+    ensures { IfOk result (λ more. more ≡ count + 1) }
+{
+    match count.checked_add(1) {
+        Some(more) => Ok(more),
+        None => Err(Memory),
+    }
+}

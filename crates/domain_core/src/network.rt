@@ -1,0 +1,77 @@
+//! The routers of a domain, and what is on its way between them.
+ghost use Rattle.std.specs.Prelude.{◌≡◌, length, map, IfOk};
+ghost use Rattle.std.specs.List.{AllByRecursion};
+ghost use Rattle.wire_base.specs.model.Configuration.{IsSound};
+ghost use Rattle.domain_core.specs.Held.{state_of, world_in, heard_in};
+ghost use Rattle.domain_core.specs.Network.{started_router, IsTrueNetwork};
+ghost use Rattle.domain_core.specs.World.{link_between, frames_between, first_world};
+
+use crate::flights::Flights;
+use crate::places::{confs_of, link_between};
+use router_core::Router;
+use std::alloc::Global;
+use wire_base::{Domain, M, RouterConf};
+
+/// A domain at work: its routers by place, the frames on their way, how many injections were made, and how many events were
+/// done.
+#[derive(Drop)]
+pub(crate) struct Network {
+    pub(crate) domain: Domain,
+    pub(crate) routers: Vec<Router>,
+    pub(crate) flights: Flights,
+    pub(crate) injections: u32,
+    pub(crate) events: u32,
+}
+
+/// Routers that have just started.
+fn routers_of(alloc: Global, confs: &[RouterConf]) -> M<Vec<Router>>
+    requires { AllByRecursion IsSound confs.now }
+    ensures { IfOk result (λ routers. routers.items ≡ map started_router confs.now) }
+{
+    let mut routers = Vec::new(alloc);
+    for conf in confs {
+        routers.push(Router::new(alloc, conf.copy()?)?)?;
+    }
+    Ok(routers)
+}
+
+impl Network {
+    /// Each router has just started, with all its ends up, and nothing is on its way.
+    pub(crate) fn new(alloc: Global, domain: Domain) -> M<Network>
+        ensures world { IfOk result (λ n. world_in n ≡ first_world domain) }
+        ensures heard { IfOk result (λ n. heard_in n ≡ map (λ r. 0) domain.routers) }
+        ensures kept { IfOk result (λ n. IsTrueNetwork (state_of n)) }
+    {
+        let routers = routers_of(alloc, confs_of(&domain))?;
+        let flights = Flights::new(alloc, confs_of(&domain))?;
+        Ok(Network {
+            domain,
+            routers,
+            flights,
+            injections: 0,
+            events: 0,
+        })
+    }
+
+    /// The allocator that the domain keeps.
+    pub(crate) fn allocator(&self) -> Global {
+        self.domain.routers.allocator()
+    }
+
+    /// The end of a router that leads to another, where a link joins the two.
+    pub(crate) fn link(&self, from: u16, to: u16) -> Option<u16>
+        ensures { result ≡ link_between self.now.domain.routers from to }
+    {
+        link_between(confs_of(&self.domain), from, to)
+    }
+
+    /// How many frames are on their way from one router to another.
+    pub(crate) fn frames(&self, from: u16, to: u16) -> usize
+        ensures { result ≡ length (frames_between (world_in self.now) from to) }
+    {
+        match self.link(from, to) {
+            Some(link) => self.flights.len(from, link),
+            None => 0,
+        }
+    }
+}

@@ -1,0 +1,180 @@
+//! Why an event isn't allowed, but for what a router says of an injection.
+ghost use Rattle.std.specs.Prelude.{◌≡◌, ℕ, ◌<◌, nat_le, length, slice_get, Some, None};
+ghost use Rattle.replay_text.specs.declared.event.Event.TheVariants as events;
+ghost use Rattle.domain_core.specs.Answers.{early_fault, early_rule};
+ghost use Rattle.domain_core.specs.Faults.{most_in_flight, unless_room, up_over, frame_fault, repeat_fault, rule_fault};
+ghost use Rattle.domain_core.specs.Flights.{item_seen};
+ghost use Rattle.domain_core.specs.Held.{world_in};
+ghost use Rattle.domain_core.specs.Truth.{EventFits};
+ghost use Rattle.domain_core.specs.World.{queue_at, in_flight};
+
+use crate::fault::EventFault;
+use crate::flight::{Flight, Load};
+use crate::network::Network;
+use replay_text::Event;
+
+/// So many events are done at most.
+const MOST_EVENTS: u32 = 1_000_000;
+
+/// With so many frames on their way nothing more is sent.
+const MOST_IN_FLIGHT: usize = 500_000;
+
+impl Network {
+    /// The first reason for which the event isn't allowed, but for what a router says of an injection.
+    pub(crate) fn fault(&self, event: &Event) -> Option<EventFault>
+        requires routers { length self.now.routers.items ≡ length self.now.domain.routers }
+        requires fits { EventFits (length self.now.domain.routers) event.now }
+        ensures { result ≡ early_fault (world_in self.now) event.now }
+    {
+        if self.events >= MOST_EVENTS {
+            return Some(EventFault::Events);
+        }
+        self.rule_fault(event)
+    }
+
+    fn rule_fault(&self, event: &Event) -> Option<EventFault>
+        requires routers { length self.now.routers.items ≡ length self.now.domain.routers }
+        requires fits { EventFits (length self.now.domain.routers) event.now }
+        ensures { result ≡ early_rule (world_in self.now) event.now }
+    {
+        match event {
+            Event::Inject { .. } => self.room_fault(),
+            Event::Take { from, to, i } => self.take_fault(*from, *to, *i),
+            Event::Lose { from, to, i } => self.lose_fault(*from, *to, *i),
+            Event::Again { from, to, i } => self.again_fault(*from, *to, *i),
+            Event::Down { from, to } => self.down_fault(*from, *to),
+            Event::Up { from, to } => self.up_fault(*from, *to),
+            Event::Send { from, to } => self.send_fault(*from, *to),
+            Event::Tick { .. } | Event::Restart { .. } => None,
+        }
+    }
+
+    /// So much is on its way that nothing more may be sent.
+    #[tactic(auto, using(crate::proofs::SeenLaws::seen_count))]
+    fn is_full(&self) -> bool
+        ensures { result ≡ nat_le most_in_flight (in_flight (world_in self.now).flights) }
+    {
+        self.flights.count() >= MOST_IN_FLIGHT
+    }
+
+    /// Whether the end at a place is up.
+    fn is_end_up(&self, place: u16, link: u16) -> bool
+        requires { place < length self.now.routers.items }
+        ensures { result ≡ up_over (slice_get (world_in self.now).routers place) (Some link) }
+    {
+        self.routers[usize::from(place)].is_up(link)
+    }
+
+    /// There is no such frame over an end.
+    fn frame_fault(&self, from: u16, link: u16, i: u32) -> Option<EventFault>
+        ensures { result ≡ frame_fault (slice_get (queue_at (world_in self.now).flights from link) i) i (length (queue_at (world_in self.now).flights from link)) }
+    {
+        match self.flights.get(from, link, i) {
+            None => Some(EventFault::NoFrame(i, self.flights.len(from, link))),
+            Some(_) => None,
+        }
+    }
+
+    /// There is no such frame over an end, or it carries a packet.
+    fn repeat_fault(&self, from: u16, link: u16, i: u32) -> Option<EventFault>
+        ensures { result ≡ repeat_fault (slice_get (queue_at (world_in self.now).flights from link) i) i (length (queue_at (world_in self.now).flights from link)) }
+    {
+        match self.flights.get(from, link, i) {
+            None => Some(EventFault::NoFrame(i, self.flights.len(from, link))),
+            Some(flight) => packet_fault(flight),
+        }
+    }
+
+    fn take_fault(&self, from: u16, to: u16, i: u32) -> Option<EventFault>
+        ensures { result ≡ rule_fault (world_in self.now) (events.Take from to i) }
+    {
+        let Some(link) = self.link(from, to) else {
+            return Some(EventFault::NoLink);
+        };
+        if self.is_full() {
+            return Some(EventFault::InFlight);
+        }
+        self.frame_fault(from, link, i)
+    }
+
+    fn lose_fault(&self, from: u16, to: u16, i: u32) -> Option<EventFault>
+        ensures { result ≡ rule_fault (world_in self.now) (events.Lose from to i) }
+    {
+        match self.link(from, to) {
+            Some(link) => self.frame_fault(from, link, i),
+            None => Some(EventFault::NoLink),
+        }
+    }
+
+    fn again_fault(&self, from: u16, to: u16, i: u32) -> Option<EventFault>
+        ensures { result ≡ rule_fault (world_in self.now) (events.Again from to i) }
+    {
+        let Some(link) = self.link(from, to) else {
+            return Some(EventFault::NoLink);
+        };
+        if self.is_full() {
+            return Some(EventFault::InFlight);
+        }
+        self.repeat_fault(from, link, i)
+    }
+
+    fn down_fault(&self, from: u16, to: u16) -> Option<EventFault>
+        requires { from < length self.now.routers.items }
+        ensures { result ≡ rule_fault (world_in self.now) (events.Down from to) }
+    {
+        match self.link(from, to) {
+            None => Some(EventFault::NoLink),
+            Some(link) => if self.is_end_up(from, link) {
+                None
+            } else {
+                Some(EventFault::EndState)
+            },
+        }
+    }
+
+    fn up_fault(&self, from: u16, to: u16) -> Option<EventFault>
+        requires { from < length self.now.routers.items }
+        ensures { result ≡ rule_fault (world_in self.now) (events.Up from to) }
+    {
+        match self.link(from, to) {
+            None => Some(EventFault::NoLink),
+            Some(link) => if self.is_end_up(from, link) {
+                Some(EventFault::EndState)
+            } else {
+                None
+            },
+        }
+    }
+
+    fn send_fault(&self, from: u16, to: u16) -> Option<EventFault>
+        requires { from < length self.now.routers.items }
+        ensures { result ≡ rule_fault (world_in self.now) (events.Send from to) }
+    {
+        let Some(link) = self.link(from, to) else {
+            return Some(EventFault::NoLink);
+        };
+        if !self.is_end_up(from, link) {
+            return Some(EventFault::EndState);
+        }
+        self.room_fault()
+    }
+
+    fn room_fault(&self) -> Option<EventFault>
+        ensures { result ≡ unless_room (world_in self.now) None }
+    {
+        if self.is_full() {
+            return Some(EventFault::InFlight);
+        }
+        None
+    }
+}
+
+/// What carries a packet doesn't come again.
+fn packet_fault(flight: &Flight) -> Option<EventFault>
+    ensures { (i n : ℕ) → result ≡ repeat_fault (Some (item_seen flight.now)) i n }
+{
+    match flight.load {
+        Load::Pdu(_) => None,
+        Load::Packet(..) => Some(EventFault::NotControl),
+    }
+}

@@ -1,0 +1,92 @@
+//! A domain at work.
+ghost use Rattle.std.specs.Prelude.{◌≡◌, ◌<◌, length, map, slice_get, Option, Some, None, IfOk, OnOk, IfErr, MatchResult};
+ghost use Rattle.domain_core.specs.Answers.{Refuses, Stays, told};
+ghost use Rattle.domain_core.specs.Faults.{event_fault};
+ghost use Rattle.domain_core.specs.Network.{heard_after};
+ghost use Rattle.domain_core.specs.Step.{happens};
+ghost use Rattle.domain_core.specs.Truth.{EventFits, AreWorldDrops};
+ghost use Rattle.domain_core.specs.World.{first_world, frames_between};
+
+use crate::fault::EventFault;
+use crate::network::Network;
+use crate::step_out::StepOut;
+use replay_text::Event;
+use router_core::Router;
+use std::alloc::Global;
+use std::marker::Model;
+use wire_base::{Domain, M};
+
+/// A domain at work: its routers, and the frames on their way between them. Contracts see the world that it is, with an item
+/// for each frame, and how many frames each router has taken.
+///
+/// It keeps that the world is truthful, and that each frame on its way is that of its item.
+#[derive(Drop)]
+pub struct World {
+    network: Network,
+}
+
+impl Model for World {
+    ghost use Rattle.domain_core.specs.Held.{state_of};
+    ghost use Rattle.domain_core.specs.Network.{Seen, seen_of, IsTrueNetwork};
+
+    ghost Value = { Seen };
+
+    ghost view = { λ w. seen_of (state_of w.network) };
+
+    ghost invariant = { λ w. IsTrueNetwork (state_of w.network) };
+}
+
+impl World {
+    /// Each router has just started, with all its ends up, and nothing is on its way (ISO/IEC 10589, 7.3.17).
+    pub fn new(alloc: Global, domain: Domain) -> M<World>
+        ensures world { IfOk result (λ w. w.world ≡ first_world domain) }
+        ensures heard { IfOk result (λ w. w.heard ≡ map (λ r. 0) domain.routers) }
+    {
+        Ok(World {
+            network: Network::new(alloc, domain)?,
+        })
+    }
+
+    /// One event.
+    ///
+    /// What is told of it is what was sent, as frames with the places of both routers, what was delivered and what was
+    /// dropped, each in order. An event that isn't allowed is refused for the first reason that holds, and changes nothing;
+    /// Memory may come in place of any answer. Only a frame that arrives at an end that is up is taken by a router.
+    pub fn step(&mut self, event: &Event) -> Result<StepOut, EventFault>
+        requires { EventFits (length self.old.world.domain.routers) event.now }
+        ensures refused { MatchResult result (λ _. event_fault self.old.world event.now ≡ None) (λ e. Refuses (event_fault self.old.world event.now) e) }
+        ensures world { OnOk result (self.new.world ≡ (happens self.old.world event.now).world) }
+        ensures told { IfOk result (λ out. out ≡ told self.old.world.domain.routers (happens self.old.world event.now).made) }
+        ensures drops { IfOk result (λ out. AreWorldDrops out.drops) }
+        ensures heard { OnOk result (self.new.heard ≡ heard_after self.old.world self.old.heard event.now) }
+        ensures stays { IfErr result (λ e. Stays (self.new ≡ self.old) e) }
+    {
+        if let Some(fault) = self.network.fault(event) {
+            return Err(fault);
+        }
+        self.network.carry_out(event)
+    }
+
+    /// How many frames are on their way from one router to another, each named by its place; 0 where no link joins them.
+    pub fn frames(&self, from: u16, to: u16) -> usize
+        ensures { result ≡ length (frames_between self.now.world from to) }
+    {
+        self.network.frames(from, to)
+    }
+
+    /// The router at a place.
+    pub fn router(&self, place: u16) -> &Router
+        requires { place < length self.now.world.domain.routers }
+        ensures control { slice_get self.now.world.routers place ≡ Some result.now.control }
+        ensures heard { slice_get self.now.heard place ≡ Some result.now.heard }
+    {
+        &self.network.routers[usize::from(place)]
+    }
+
+    /// The domain that its routers and links are those of.
+    pub fn domain(&self) -> &Domain
+        ensures { result.now ≡ self.now.world.domain }
+    {
+        &self.network.domain
+    }
+}
