@@ -1,2 +1,6 @@
 pub mod Stays
 pub mod TellingLaws
+pub mod TellsLaws
+pub mod DirectionLaws
+pub mod EventTells
+pub mod SendLaws

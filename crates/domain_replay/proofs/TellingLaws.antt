@@ -48,7 +48,7 @@ same_counts : (a b c e m n p q : ℕ) → a ≡ m → b ≡ n → c ≡ p → e 
     ◌≡◌ {A = Counts} (record { injected = a; named = b; got = c; dropped = e }) (record { injected = m; named = n; got = p; dropped = q })
 same_counts a b c e m n p q h i j k = rw (h, i, j, k) refl
 
-same_telling : (w : WorldState) (c k : Counts) (f g r s : List ℕ) → c ≡ k → f ≡ g → r ≡ s →
+pub same_telling : (w : WorldState) (c k : Counts) (f g r s : List ℕ) → c ≡ k → f ≡ g → r ≡ s →
     ◌≡◌ {A = Telling} (record { world = w; counts = c; frames = f; report = r }) (record { world = w; counts = k; frames = g; report = s })
 same_telling w c k f g r s h i j = rw (h, i, j) refl
 

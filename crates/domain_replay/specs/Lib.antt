@@ -4,3 +4,4 @@ pub mod Captures
 pub mod Counting
 pub mod Texts
 pub mod Telling
+pub mod Replaying

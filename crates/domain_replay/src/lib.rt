@@ -5,9 +5,12 @@
 mod capture;
 mod cause;
 mod counts;
+mod direction;
 mod laws;
 mod lines;
 mod refused;
+mod replay;
+mod texts;
 
 pub use capture::push_frames;
 pub use cause::push_cause;
@@ -15,3 +18,4 @@ pub use counts::Counts;
 pub use laws::{a_start_is_told, each_line_is_told};
 pub use lines::{push_done, push_event};
 pub use refused::{push_conf_refused, push_event_refused, push_text_refused, push_too_long};
+pub use replay::Replay;

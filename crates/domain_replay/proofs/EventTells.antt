@@ -1,0 +1,65 @@
+-- One event that a domain does, or refuses, as it is told.
+use Rattle.std.proofs.Common.{◌≡◌, ℕ, List, [], ◌∷◌, ◌++◌, map, Option, Some, None, Result, Ok, Err, refl, sym, ap, subst, ◌∙◌}
+use Rattle.std.specs.Prelude.{flat_map}
+use Rattle.wire_base.specs.declared.conf.RouterConf.{RouterConf}
+use Rattle.replay_text.specs.declared.event.Event.{Event}
+use Rattle.domain_core.specs.declared.fault.EventFault.{EventFault}
+use Rattle.domain_core.specs.declared.fault.EventFault.TheVariants as faults
+use Rattle.domain_core.specs.declared.step_out.StepOut.{StepOut}
+use Rattle.domain_core.specs.Answers as answer
+use Rattle.domain_core.specs.Answers.{Refuses, Stays}
+use Rattle.domain_core.specs.Faults.{event_fault}
+use Rattle.domain_core.specs.Framed.{wire_of}
+use Rattle.domain_core.specs.Moves.{Sending}
+use Rattle.domain_core.specs.Network.{Seen}
+use Rattle.domain_core.specs.Step.{happens}
+use Rattle.domain_core.specs.World.{WorldState}
+use Rattle.domain_replay.specs.declared.counts.Counts.{Counts}
+use Rattle.domain_replay.specs.Captures.{wire_record, frame_record, sending_record}
+use Rattle.domain_replay.specs.Counting.{counted}
+use Rattle.domain_replay.specs.Lines.{event_text}
+use Rattle.domain_replay.specs.Telling.{Telling, Told, told, tells, tells_or, tells_on, sent_records}
+use Rattle.domain_replay.specs.Replaying.{Tells, ends_with}
+use Rattle.domain_replay.proofs.TellingLaws.{same_telling}
+
+records_same : (routers : List RouterConf) (line : ℕ) (sent : List Sending) → flat_map (wire_record line) (map (wire_of routers) sent) ≡ sent_records routers line sent
+records_same routers line [] = refl
+records_same routers line (s ∷ sent) = ap (λ (l : List ℕ). wire_record line (wire_of routers s) ++ l) (records_same routers line sent)
+
+-- it was done
+pub event_told : (line : ℕ) (t : Telling) (e : Event) (w : WorldState) (c : Counts) (f r : List ℕ) (made : StepOut) → event_fault t.world e ≡ None → w ≡ (happens t.world e).world →
+    made ≡ answer.told t.world.domain.routers (happens t.world e).made → c ≡ counted t.counts e made.got made.drops →
+    f ≡ t.frames ++ flat_map (wire_record line) made.sent → (routers : List RouterConf) → routers ≡ t.world.domain.routers → r ≡ t.report ++ event_text routers line made.got made.drops →
+    tells_on line (told t) e ≡ told (record { world = w; counts = c; frames = f; report = r })
+unfolding tells_on tells
+event_told line t e w c f r made allowed world is counts frames routers same report =
+    let n = happens t.world e in
+    let out = answer.told t.world.domain.routers n.made in
+    ap (tells_or line t e) allowed
+    ∙ ap told (same_telling n.world _ c _ f _ r
+    (ap (λ (m : StepOut). counted t.counts e m.got m.drops) (sym is) ∙ sym counts)
+    (ap (λ (l : List ℕ). t.frames ++ l) (sym (records_same t.world.domain.routers line n.made.sent) ∙ ap (λ (m : StepOut). flat_map (wire_record line) m.sent) (sym is)) ∙ sym frames)
+    (ap (λ (m : StepOut). t.report ++ event_text t.world.domain.routers line m.got m.drops) (sym is) ∙ ap (λ (rs : List RouterConf). t.report ++ event_text rs line made.got made.drops) (sym same) ∙ sym report))
+    ∙ ap (λ (v : WorldState). told (record { world = v; counts = c; frames = f; report = r })) (sym world)
+
+abbrev of : Counts → List ℕ → List ℕ → Seen → Telling
+of c f r s = record { world = s.world; counts = c; frames = f; report = r }
+
+-- it was refused
+pub event_refused : (line : ℕ) (t : Telling) (old new : Seen) (c : Counts) (f r : List ℕ) (e : Event) (why : EventFault) → of c f r old ≡ t → Refuses (event_fault old.world e) why → Stays (new ≡ old) why →
+    Tells (tells_on line (told t) e) (of c f r new) (Err why)
+unfolding tells_on
+event_refused line t old new c f r e why view refuses stays = subst (λ (u : Telling). Tells (tells_on line (told u) e) (of c f r new) (Err why)) view (by why refuses stays)
+  where
+    because : (why : EventFault) → event_fault old.world e ≡ Some why → new ≡ old → tells_on line (told (of c f r old)) e ≡ ends_with (of c f r new) why
+    because why is same = ap (tells_or line (of c f r old) e) is ∙ ap (λ (s : Seen). ends_with (of c f r s) why) (sym same)
+
+    by : (why : EventFault) → Refuses (event_fault old.world e) why → Stays (new ≡ old) why → Tells (tells_on line (told (of c f r old)) e) (of c f r new) (Err why)
+    by faults.Events r s = because faults.Events r s
+    by faults.NoLink r s = because faults.NoLink r s
+    by faults.EndState r s = because faults.EndState r s
+    by faults.InFlight r s = because faults.InFlight r s
+    by (faults.NoFrame i n) r s = because (faults.NoFrame i n) r s
+    by faults.NotControl r s = because faults.NotControl r s
+    by (faults.Edge why) r s = because (faults.Edge why) r s
+    by faults.Memory r s = tt

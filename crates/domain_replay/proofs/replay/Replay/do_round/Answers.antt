@@ -1,0 +1,25 @@
+use Rattle.std.proofs.Common.{◌≡◌, ◌∙◌, ap, subst, sym, List}
+use Rattle.std.proofs.lemmas.Result.{err_from_is_err_and}
+use Rattle.wire_base.specs.model.Configuration.{DomainConf}
+use Rattle.replay_text.specs.declared.event.Event.{Event}
+use Rattle.domain_core.specs.Run.{directions, round_sends, round_takes, world_after}
+use Rattle.domain_replay.specs.Telling.{Telling, Told, told, tells_all}
+use Rattle.domain_replay.specs.Replaying.{Tells}
+use Rattle.domain_replay.proofs.TellsLaws.{err_at, round_split, round_left}
+use Rattle.domain_replay.proofs.replay.Replay.do_round.Goals as goal
+
+pub returns-in_err-do_events-clause-told : goal.returns-in_err-do_events-clause-told
+returns-in_err-do_events-clause-told c =
+    let p = err_from_is_err_and c.from_residual-in_err-do_events.result c.from_residual-in_err-do_events.ensures.1 in
+    rw (p.1, p.2) (err_at c.args.line _ _ (round_takes (world_after c.args.self.now.world (round_sends c.args.self.now.world)) (directions c.args.self.now.world.domain.routers)) _ _
+    (round_split c.args.line c.args.self.now ∙ ap (λ (es : List Event). tells_all c.args.line (tells_all c.args.line (told c.args.self.now) es) (round_takes (world_after c.args.self.now.world (round_sends c.args.self.now.world)) (directions c.args.self.now.world.domain.routers))) (sym (c.as_slice.ensures ∙ c.in_ok-sends.ensures.events)))
+    c.in_err-do_events.ensures.told)
+
+pub returns-clause-told : goal.returns-clause-told
+returns-clause-told c =
+    let now : Telling = c.do_events.new.self in
+    let h : tells_all c.args.line (told c.args.self.now) (round_sends c.args.self.now.world) ≡ told now =
+    subst (λ (es : List Event). tells_all c.args.line (told c.args.self.now) es ≡ told now) (c.as_slice.ensures ∙ c.in_ok-sends.ensures.events) c.in_ok-do_events.ensures.told in
+    subst (λ (t : Told). Tells t c.do_takes.new.self c.do_takes.result)
+    (sym (round_left c.args.line c.args.self.now now h ∙ ap (λ (d : DomainConf). tells_all c.args.line (told now) (round_takes now.world (directions d.routers))) (sym c.in_ok-do_events.ensures.domain)))
+    c.do_takes.ensures.told

@@ -1,0 +1,22 @@
+use Rattle.std.proofs.Common.{◌≡◌, ap, ◌∙◌, ◌+◌, ◌-◌, replicate}
+use Rattle.std.proofs.lemmas.Result.{err_from_is_err_and}
+use Rattle.domain_replay.specs.Telling.{Told, told, tells_on, tells_all}
+use Rattle.domain_replay.proofs.TellsLaws.{err_at, times_first, times_none}
+use Rattle.domain_replay.proofs.replay.Replay.do_times.Goals as goal
+
+pub returns-in_err-do_event-clause-told : goal.returns-in_err-do_event-clause-told
+returns-in_err-do_event-clause-told c =
+    let p = err_from_is_err_and c.from_residual.result c.from_residual.ensures.1 in
+    rw (p.1, p.2) (err_at c.args.line _ _ (replicate (c.args.count - (c.loop-time._time + 1)) c.args.event.now) _ _
+    (c.loop-time.invariant.left ∙ times_first c.args.line (told c.loop-time.self) c.args.event.now c.args.count c.loop-time._time c.loop-time-test.true) c.in_err-do_event.ensures.told)
+
+pub loop-time-preserved : goal.loop-time-preserved
+loop-time-preserved c = record {
+  left = c.loop-time.invariant.left
+      ∙ times_first c.args.line (told c.loop-time.self) c.args.event.now c.args.count c.loop-time._time c.loop-time-test.true
+      ∙ ap (λ (t : Told). tells_all c.args.line t (replicate (c.args.count - (c.loop-time._time + 1)) c.args.event.now)) c.in_ok-do_event.ensures.told;
+  domain = c.in_ok-do_event.ensures.domain ∙ c.loop-time.invariant.domain;
+}
+
+pub returns-clause-told : goal.returns-clause-told
+returns-clause-told c = c.loop-time.invariant.left ∙ times_none c.args.line (told c.loop-time.self) c.args.event.now c.args.count c.loop-time._time c.loop-time-test.false

@@ -1,0 +1,10 @@
+use Rattle.std.proofs.Common.{◌≡◌, ◌-◌, replicate}
+use Rattle.domain_replay.specs.Telling.{told, tells_all}
+use Rattle.domain_replay.proofs.replay.Replay.do_times.Given as goal
+
+abbrev pub invariant-loop-time : goal.invariant-loop-time
+invariant-loop-time l =
+    record {
+      left : tells_all l.line (told l.fn.self) (replicate l.count l.event) ≡ tells_all l.line (told l.self) (replicate (l.count - l._time) l.event);
+      domain : l.self.world.domain ≡ l.fn.self.world.domain;
+    }

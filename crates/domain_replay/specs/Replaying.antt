@@ -1,0 +1,51 @@
+-- What the calls of a replay do.
+use Rattle.std.specs.Prelude.{ℕ, ◌≡◌, ◌<◌, List, [], ◌∷◌, Option, Some, Result, Ok, Err, if◌then◌else◌}
+use Rattle.wire_base.specs.model.Configuration.{DomainConf}
+use Rattle.replay_text.specs.declared.event.Event.{Event}
+use Rattle.replay_text.specs.declared.event.Line.{Line}
+use Rattle.replay_text.specs.declared.event.Line.TheVariants as line
+use Rattle.domain_core.specs.declared.fault.EventFault.{EventFault}
+use Rattle.domain_core.specs.declared.fault.EventFault.TheVariants as faults
+use Rattle.replay_text.specs.declared.event.Event.TheVariants.{Send}
+use Rattle.domain_core.specs.World.{WorldState}
+use Rattle.domain_core.specs.Run.{Direction, may_send}
+use Rattle.domain_core.specs.Truth.{EventFits}
+use Rattle.domain_replay.specs.Counting.{NamesOnce}
+use Rattle.domain_replay.specs.Telling.{Telling, Told, told}
+
+-- the events that were told ended with that reason
+abbrev pub ends_with : Telling → EventFault → Told
+ends_with t why = record { telling = t; refused = Some why }
+
+-- What a call answers that was to tell so much: it is what stands now, all of it or up to the event that isn't allowed. Want of
+-- memory may come in place of any answer.
+abbrev pub Tells : Told → Telling → Result (Unit {0}) EventFault → Type 0
+Tells all now (Ok u) = all ≡ told now
+Tells all now (Err faults.Events) = all ≡ ends_with now faults.Events
+Tells all now (Err faults.NoLink) = all ≡ ends_with now faults.NoLink
+Tells all now (Err faults.EndState) = all ≡ ends_with now faults.EndState
+Tells all now (Err faults.InFlight) = all ≡ ends_with now faults.InFlight
+Tells all now (Err (faults.NoFrame i n)) = all ≡ ends_with now (faults.NoFrame i n)
+Tells all now (Err faults.NotControl) = all ≡ ends_with now faults.NotControl
+Tells all now (Err (faults.Edge why)) = all ≡ ends_with now (faults.Edge why)
+Tells all now (Err faults.Memory) = Unit {0}
+
+-- an event that a replay may be asked for, in a domain of so many routers
+pub record IsAsked (count : ℕ) (e : Event) : Type 0 where
+  pub fits : EventFits count e
+  pub once : NamesOnce e
+
+-- and a line
+abbrev pub LineIsAsked : ℕ → Line → Type 0
+LineIsAsked count line.Empty = Unit {0}
+LineIsAsked count (line.One e) = IsAsked count e
+LineIsAsked count (line.Settle rounds) = Unit {0}
+
+-- both routers of a direction are there
+pub record IsJoining (count : ℕ) (d : Direction) : Type 0 where
+  pub from : d.from < count
+  pub to : d.to < count
+
+-- what the end sends over which a direction leaves: nothing where it is down
+abbrev pub sends_of : WorldState → Direction → List Event
+sends_of w d = if may_send w d then Send d.from d.to ∷ [] else []

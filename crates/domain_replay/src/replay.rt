@@ -1,0 +1,232 @@
+//! A domain over a schedule.
+ghost use Rattle.std.specs.Prelude.{◌≡◌, ◌++◌, length, IfOk, OnOk, [], replicate};
+ghost use Rattle.std.specs.List.{AllByRecursion};
+ghost use Rattle.domain_core.specs.Run as run;
+ghost use Rattle.domain_core.specs.Run.{taken_now, round_sends, round_events};
+ghost use Rattle.domain_replay.specs.Telling.{first_telling, told, tells_on, tells_all, tells_line};
+ghost use Rattle.domain_replay.specs.Replaying.{Tells, IsAsked, IsJoining, sends_of, LineIsAsked};
+
+use crate::counts::Counts;
+use crate::direction::{Direction, directions};
+use crate::texts::Texts;
+use domain_core::{EventFault, World, confs_of};
+use replay_text::{Event, Line};
+use std::alloc::Global;
+use std::marker::Model;
+use wire_base::{Domain, M, Rows};
+
+/// A domain at work, and what is told of it: how much was done, its capture, and the lines of its report. Contracts see all that
+/// was told; what was written out already may be let go.
+#[derive(Drop)]
+pub struct Replay {
+    world: World,
+    directions: Rows<Direction>,
+    texts: Texts,
+}
+
+impl Model for Replay {
+    ghost use Rattle.std.specs.Prelude.{◌≡◌};
+    ghost use Rattle.domain_core.specs.Run as run;
+    ghost use Rattle.domain_replay.specs.Telling.{Telling};
+
+    ghost Value = { Telling };
+
+    ghost view = { λ r. record { world = r.world.world; counts = r.texts.counts; frames = r.texts.frames; report = r.texts.report } };
+
+    ghost invariant = { λ r. r.directions ≡ run.directions r.world.world.domain.routers };
+}
+
+impl Replay {
+    /// Nothing is done yet: the capture is its header, and the report is empty.
+    pub fn new(alloc: Global, domain: Domain) -> M<Self>
+        ensures { IfOk result (λ replay. replay ≡ first_telling domain) }
+    {
+        let directions = directions(alloc, confs_of(&domain))?;
+        Ok(Replay {
+            world: World::new(alloc, domain)?,
+            directions,
+            texts: Texts::new(alloc)?,
+        })
+    }
+
+    /// One event, of a line.
+    fn do_event(&mut self, alloc: Global, line: u32, event: &Event) -> Result<(), EventFault>
+        requires { IsAsked (length self.old.world.domain.routers) event.now }
+        ensures told { Tells (tells_on line (told self.old) event.now) self.new result }
+        ensures domain { self.new.world.domain ≡ self.old.world.domain }
+    {
+        let made = self.world.step(event)?;
+        let routers = self.world.domain().routers.as_slice();
+        self.texts.tell(alloc, routers, line, event, &made)?;
+        Ok(())
+    }
+
+    /// Events in their order, up to one that isn't allowed.
+    fn do_events(&mut self, alloc: Global, line: u32, events: &[Event]) -> Result<(), EventFault>
+        requires { AllByRecursion (IsAsked (length self.old.world.domain.routers)) events.now }
+        ensures told { Tells (tells_all line (told self.old) events.now) self.new result }
+        ensures domain { self.new.world.domain ≡ self.old.world.domain }
+    {
+        for event in events {
+            self.do_event(alloc, line, event)?;
+        }
+        Ok(())
+    }
+
+    /// So many events alike, up to one that isn't allowed.
+    fn do_times(
+        &mut self,
+        alloc: Global,
+        line: u32,
+        event: &Event,
+        count: usize,
+    ) -> Result<(), EventFault>
+        requires { IsAsked (length self.old.world.domain.routers) event.now }
+        ensures told { Tells (tells_all line (told self.old) (replicate count event.now)) self.new result }
+        ensures domain { self.new.world.domain ≡ self.old.world.domain }
+    {
+        for _time in 0..count {
+            self.do_event(alloc, line, event)?;
+        }
+        Ok(())
+    }
+
+    /// The directions of the domain's links, each of which joins two routers.
+    fn directions(&self) -> &[Direction]
+        ensures value { result.now ≡ run.directions self.now.world.domain.routers }
+        ensures joins { AllByRecursion (IsJoining (length self.now.world.domain.routers)) result.now }
+    {
+        // The domain is valid, so the routers are there.
+        let _routers = self.world.domain().routers.as_slice();
+        self.directions.as_slice()
+    }
+
+    /// Whether the end is up over which a direction leaves.
+    fn may_send(&self, direction: Direction) -> bool
+        requires { IsJoining (length self.now.world.domain.routers) direction }
+        ensures { result ≡ run.may_send self.now.world direction }
+    {
+        self.world.router(direction.from).is_up(direction.link)
+    }
+
+    /// Appends what the end sends over which a direction leaves, where it is up.
+    fn push_send(&self, events: &mut Rows<Event>, direction: Direction) -> M<()>
+        requires { IsJoining (length self.now.world.domain.routers) direction }
+        ensures { OnOk result (events.new ≡ events.old ++ sends_of self.now.world direction) }
+    {
+        if self.may_send(direction) {
+            events.push(Event::Send {
+                from: direction.from,
+                to: direction.to,
+            })?;
+        }
+        Ok(())
+    }
+
+    /// What each end that is up sends in a round.
+    fn sends(&self, alloc: Global) -> M<Rows<Event>>
+        ensures events { IfOk result (λ events. events ≡ round_sends self.now.world) }
+        ensures asked { IfOk result (λ events. AllByRecursion (IsAsked (length self.now.world.domain.routers)) events) }
+    {
+        let mut events = Rows::new(alloc);
+        for direction in self.directions() {
+            self.push_send(&mut events, *direction)?;
+        }
+        Ok(events)
+    }
+
+    /// As many frames arrive as are on their way in a direction now.
+    fn take_now(&mut self, alloc: Global, line: u32, direction: Direction) -> Result<(), EventFault>
+        requires { IsJoining (length self.old.world.domain.routers) direction }
+        ensures told { Tells (tells_all line (told self.old) (taken_now self.old.world direction)) self.new result }
+        ensures domain { self.new.world.domain ≡ self.old.world.domain }
+    {
+        let Direction { from, to, .. } = direction;
+        let count = self.world.frames(from, to);
+        self.do_times(alloc, line, &Event::Take { from, to, i: 0 }, count)
+    }
+
+    /// All routers take what is on its way to them, direction by direction.
+    fn do_takes(&mut self, alloc: Global, line: u32) -> Result<(), EventFault>
+        ensures told { Tells (tells_all line (told self.old) (run.round_takes self.old.world (run.directions self.old.world.domain.routers))) self.new result }
+        ensures domain { self.new.world.domain ≡ self.old.world.domain }
+    {
+        let count = self.directions().len();
+        for at in 0..count {
+            let direction = self.directions()[at];
+            self.take_now(alloc, line, direction)?;
+        }
+        Ok(())
+    }
+
+    /// All routers send what is due, and then all take.
+    fn do_round(&mut self, alloc: Global, line: u32) -> Result<(), EventFault>
+        ensures told { Tells (tells_all line (told self.old) (round_events self.old.world)) self.new result }
+        ensures domain { self.new.world.domain ≡ self.old.world.domain }
+    {
+        let sends = self.sends(alloc)?;
+        self.do_events(alloc, line, sends.as_slice())?;
+        self.do_takes(alloc, line)
+    }
+
+    /// So many rounds.
+    fn do_rounds(&mut self, alloc: Global, line: u32, rounds: u32) -> Result<(), EventFault>
+        ensures { Tells (tells_all line (told self.old) (run.settle_events self.old.world rounds)) self.new result }
+    {
+        for _round in 0..rounds {
+            self.do_round(alloc, line)?;
+        }
+        Ok(())
+    }
+
+    /// Does what a line of the schedule says, up to an event that isn't allowed, and tells it with the number of the line.
+    ///
+    /// Refused by the first event of the line that isn't allowed; those before it were done. Memory may come in place of any
+    /// answer.
+    #[tactic(auto, unfolding(crate::specs::Telling::tells_line, crate::specs::Telling::tells_all))]
+    pub fn do_line(&mut self, alloc: Global, line: u32, said: &Line) -> Result<(), EventFault>
+        requires { LineIsAsked (length self.old.world.domain.routers) said.now }
+        ensures { Tells (tells_line line self.old said.now) self.new result }
+    {
+        match said {
+            Line::Empty => Ok(()),
+            Line::One(event) => self.do_event(alloc, line, event),
+            Line::Settle(rounds) => self.do_rounds(alloc, line, *rounds),
+        }
+    }
+
+    /// What was counted so far.
+    pub fn counts(&self) -> Counts
+        ensures { result ≡ self.now.counts }
+    {
+        self.texts.counts
+    }
+
+    /// The capture so far, but for what was let go.
+    pub fn frames(&self) -> &[u8]
+        ensures { result.now ≡ self.now.frames }
+    {
+        self.texts.frames.as_slice()
+    }
+
+    /// The lines of the report so far, but for what was let go.
+    pub fn report(&self) -> &[u8]
+        ensures { result.now ≡ self.now.report }
+    {
+        self.texts.report.as_slice()
+    }
+
+    /// Lets go of the capture so far.
+    pub fn clear_frames(&mut self)
+        ensures { self.new ≡ record self.old { frames = [] } }
+    {
+        self.texts.frames.truncate(0);
+    }
+
+    /// Lets go of the lines of the report so far.
+    pub fn clear_report(&mut self)
+        ensures { self.new ≡ record self.old { report = [] } }
+    {
+        self.texts.report.truncate(0);
+    }
+}
