@@ -1,6 +1,8 @@
 //! The program: real files and standard output under the top call. Nothing is written to standard error.
 #![tactic(auto)]
 
+ghost use Rattle.std.specs.Prelude.{◌≡◌, ◌∷◌, [], length, drop};
+
 mod files;
 
 use files::{FileSink, FileSource, StdoutSink};
@@ -13,19 +15,44 @@ use wire_base::Status;
 #[cfg(test)]
 mod tests;
 
-/// The path of the input, where words of that count name one.
-fn input_path<'a>(words: &[&'a str]) -> &'a str {
+/// The paths of the files that words name; empty where they name none.
+#[derive(Clone, Copy)]
+struct Paths<'a> {
+    conf: &'a str,
+    input: &'a str,
+    frames: &'a str,
+}
+
+/// The paths that words of that count name.
+fn paths_in<'a>(words: &[&'a str]) -> Paths<'a>
+    ensures replay { length words.now ≡ 4 → result.conf ∷ result.input ∷ result.frames ∷ [] ≡ drop 1 words.now }
+    ensures one_input { length words.now ≡ 2 → result.input ∷ [] ≡ drop 1 words.now }
+{
     match words {
-        [_, input] => *input,
-        _ => "",
+        [_, conf, schedule, frames] => Paths {
+            conf: *conf,
+            input: *schedule,
+            frames: *frames,
+        },
+        [_, input] => Paths {
+            conf: "",
+            input: *input,
+            frames: "",
+        },
+        _ => Paths {
+            conf: "",
+            input: "",
+            frames: "",
+        },
     }
 }
 
 /// Runs on those words. An object that they don't name has an empty path, which is never opened.
 fn run_words(rt: &HostRuntime, words: &[&str]) -> Status {
-    let mut conf = FileSource::new(rt, "");
-    let mut input = FileSource::new(rt, input_path(words));
-    let mut frames = FileSink::new(rt, "");
+    let paths = paths_in(words);
+    let mut conf = FileSource::new(rt, paths.conf);
+    let mut input = FileSource::new(rt, paths.input);
+    let mut frames = FileSink::new(rt, paths.frames);
     let mut report = StdoutSink::new(rt);
     run(
         rt.alloc(),

@@ -4,3 +4,4 @@ pub mod TellsLaws
 pub mod DirectionLaws
 pub mod EventTells
 pub mod SendLaws
+mod LineTells

@@ -1,5 +1,6 @@
 -- What a round sends, direction by direction, and that it may be asked for.
-use Rattle.std.proofs.Common.{◌≡◌, ℕ, ◌+◌, ◌<◌, ◌≤◌, Bool, true, false, List, [], ◌∷◌, ◌++◌, length, map, filter, drop, slice_index_or, add-one, drop-cons, append_assoc, append-nil, refl, sym, ap, subst, ◌∙◌, if◌then◌else◌}
+use Rattle.std.proofs.Common.{◌≡◌, ℕ, ◌+◌, ◌<◌, ◌≤◌, Bool, true, false, List, [], ◌∷◌, ◌++◌, length, map, filter, drop, slice_index_or, add-one, drop-cons, append_assoc, append-nil, Result, Ok, Err, refl, sym, ap, subst, ◌∙◌, if◌then◌else◌}
+use Rattle.std.specs.Prelude.{IfOk}
 use Rattle.std.specs.List.{AllByRecursion}
 use Rattle.std.proofs.lemmas.List.{drop_all}
 use Rattle.wire_base.specs.declared.conf.RouterConf.{RouterConf}
@@ -44,3 +45,8 @@ pub joins_of : (d e : DomainConf) (ds : List Direction) → IsValid d → d ≡ 
 joins_of d e ds valid same is =
     subst (λ (l : List Direction). AllByRecursion (IsJoining (length e.routers)) l) (sym is)
     (subst (λ (x : DomainConf). AllByRecursion (IsJoining (length x.routers)) (directions x.routers)) same (directions_join d valid))
+
+pub joins_ok : {E : Type 0} (d e : DomainConf) (rs : List RouterConf) (r : Result (List Direction) E) → IsValid d → d ≡ e → rs ≡ e.routers → IfOk r (λ all. all ≡ directions rs) →
+    IfOk r (λ all. AllByRecursion (IsJoining (length e.routers)) all)
+joins_ok d e rs (Err why) valid same routers is = tt
+joins_ok d e rs (Ok all) valid same routers is = joins_of d e all valid same (is ∙ ap directions routers)

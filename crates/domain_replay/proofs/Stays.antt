@@ -96,3 +96,20 @@ doing_stays w (Restart a) there = changes_stays w a restart (slice_get w.routers
 pub happens_stays : (w : WorldState) (e : Event) → IsEntered (length w.routers) e → Stays (injected_by e) w (happens w e)
 unfolding happens_with
 happens_stays w e there = let s = doing_stays w e there in record { domain = s.domain; routers = s.routers; injections = s.injections }
+
+-- the domain, whatever the event
+pub happens_domain : (w : WorldState) (e : Event) → (happens w e).world.domain ≡ w.domain
+unfolding happens_with
+happens_domain w (Inject a sd bsl ks ttl entropy payload) = by (slice_get w.routers a)
+  where
+    by : (q : Option Control) → (injects false w a (λ c. inject_made false w.domain.routers a c (w.injections + 1) sd bsl ks ttl entropy payload) q).world.domain ≡ w.domain
+    by None = refl
+    by (Some c) = refl
+happens_domain w (Take a b i) = (let s = doing_stays w (Take a b i) tt in s.domain)
+happens_domain w (Lose a b i) = (let s = doing_stays w (Lose a b i) tt in s.domain)
+happens_domain w (Again a b i) = (let s = doing_stays w (Again a b i) tt in s.domain)
+happens_domain w (Down a b) = (let s = doing_stays w (Down a b) tt in s.domain)
+happens_domain w (Up a b) = (let s = doing_stays w (Up a b) tt in s.domain)
+happens_domain w (Send a b) = (let s = doing_stays w (Send a b) tt in s.domain)
+happens_domain w (Tick a) = (let s = doing_stays w (Tick a) tt in s.domain)
+happens_domain w (Restart a) = (let s = doing_stays w (Restart a) tt in s.domain)

@@ -1,7 +1,6 @@
 -- What a run did, in numbers of BFR-ids.
 use Rattle.std.specs.Prelude.{ℕ, ◌≡◌, ◌+◌, List, [], length, sum_by}
 use Rattle.wire_base.specs.model.Hop.{distinct}
-use Rattle.wire_base.specs.model.Item.{Item, ControlItem, PacketItem}
 use Rattle.replay_text.specs.declared.event.Event.{Event}
 use Rattle.replay_text.specs.declared.event.Event.TheVariants as event
 use Rattle.domain_core.specs.declared.step_out.GotLine.{GotLine}
@@ -70,12 +69,3 @@ counts_of r =
       got = length r.got;
       dropped = sum_by (λ (d : ℕ × DropLine). dropped_ids d.1) r.drops;
     }
-
--- the BFR-ids of an item
-abbrev pub carried : Item → ℕ
-carried (ControlItem p) = 0
-carried (PacketItem x) = length x.ids
-
--- the BFR-ids that are on the way
-unfoldable pub ids_in_flight : List (List (List Item)) → ℕ
-ids_in_flight flights = sum_by (λ queues. sum_by (λ queue. sum_by carried queue) queues) flights

@@ -1,12 +1,10 @@
 -- What the calls of a replay do.
-use Rattle.std.specs.Prelude.{ℕ, ◌≡◌, ◌<◌, List, [], ◌∷◌, Option, Some, Result, Ok, Err, if◌then◌else◌}
-use Rattle.wire_base.specs.model.Configuration.{DomainConf}
+use Rattle.std.specs.Prelude.{ℕ, ◌≡◌, ◌<◌, ◌^◌, List, [], ◌∷◌, Option, Some, Result, Ok, Err, if◌then◌else◌}
+use Rattle.std.specs.List.{AllByRecursion}
 use Rattle.replay_text.specs.declared.event.Event.{Event}
-use Rattle.replay_text.specs.declared.event.Line.{Line}
-use Rattle.replay_text.specs.declared.event.Line.TheVariants as line
 use Rattle.domain_core.specs.declared.fault.EventFault.{EventFault}
 use Rattle.domain_core.specs.declared.fault.EventFault.TheVariants as faults
-use Rattle.replay_text.specs.declared.event.Event.TheVariants.{Send}
+use Rattle.replay_text.specs.declared.event.Event.TheVariants.{Inject, Take, Lose, Again, Down, Up, Send, Tick, Restart}
 use Rattle.domain_core.specs.World.{WorldState}
 use Rattle.domain_core.specs.Run.{Direction, may_send}
 use Rattle.domain_core.specs.Truth.{EventFits}
@@ -35,11 +33,22 @@ pub record IsAsked (count : ℕ) (e : Event) : Type 0 where
   pub fits : EventFits count e
   pub once : NamesOnce e
 
--- and a line
-abbrev pub LineIsAsked : ℕ → Line → Type 0
-LineIsAsked count line.Empty = Unit {0}
-LineIsAsked count (line.One e) = IsAsked count e
-LineIsAsked count (line.Settle rounds) = Unit {0}
+-- What the types of an event's fields say of its numbers.
+pub record InjectNumbers (sd : ℕ) (ids : List ℕ) (ttl : ℕ) : Type 0 where
+  pub sd_fits : sd < 2 ^ 8
+  pub bfr_ids : AllByRecursion (λ k. k < 2 ^ 16) ids
+  pub ttl_fits : ttl < 2 ^ 8
+
+abbrev pub NumbersFit : Event → Type 0
+NumbersFit (Inject router sd bsl ids ttl entropy payload) = InjectNumbers sd ids ttl
+NumbersFit (Take from to i) = Unit {0}
+NumbersFit (Lose from to i) = Unit {0}
+NumbersFit (Again from to i) = Unit {0}
+NumbersFit (Down from to) = Unit {0}
+NumbersFit (Up from to) = Unit {0}
+NumbersFit (Send from to) = Unit {0}
+NumbersFit (Tick router) = Unit {0}
+NumbersFit (Restart router) = Unit {0}
 
 -- both routers of a direction are there
 pub record IsJoining (count : ℕ) (d : Direction) : Type 0 where

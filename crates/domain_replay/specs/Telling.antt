@@ -16,7 +16,7 @@ use Rattle.domain_core.specs.Faults.{event_fault}
 use Rattle.domain_core.specs.Run.{Run, Progress, line_events, on_line}
 use Rattle.domain_replay.specs.declared.counts.Counts.{Counts}
 use Rattle.domain_replay.specs.Captures.{sending_record}
-use Rattle.domain_replay.specs.Counting.{no_counts, counted, counts_of}
+use Rattle.domain_replay.specs.Counting.{no_counts, counted, counts_of, NamesOnce}
 use Rattle.domain_replay.specs.Texts.{world_after_all, made_text, capture_text, run_text}
 
 -- The world now, what was counted, the capture so far, and the lines of the report so far.
@@ -104,6 +104,12 @@ abbrev pub LineEnters : ℕ → Line → Type 0
 LineEnters count line.Empty = Unit {0}
 LineEnters count (line.One e) = IsEntered count e
 LineEnters count (line.Settle rounds) = Unit {0}
+
+-- no BFR-id is named twice in a line
+abbrev pub LineNamesOnce : Line → Type 0
+LineNamesOnce line.Empty = Unit {0}
+LineNamesOnce (line.One e) = NamesOnce e
+LineNamesOnce (line.Settle rounds) = Unit {0}
 
 -- the line that was refused, where one was
 abbrev pub at_line : ℕ → Option EventFault → Option (ℕ × EventFault)

@@ -8,13 +8,13 @@ use Rattle.replay_text.specs.declared.event.Line.{Line}
 use Rattle.replay_text.specs.declared.fault.TextFault.{TextFault}
 use Rattle.replay_text.specs.Schedule.{schedule_line}
 use Rattle.domain_core.specs.declared.fault.EventFault.{EventFault}
-use Rattle.domain_core.specs.World.{WorldState, first_world}
+use Rattle.domain_core.specs.World.{WorldState, first_world, ids_in_flight}
 use Rattle.domain_core.specs.Moves.{Made}
 use Rattle.domain_core.specs.Step.{happens}
 use Rattle.domain_core.specs.Run.{Run, first_run, Progress, line_done}
 use Rattle.domain_replay.specs.Captures.{capture_of}
 use Rattle.domain_replay.specs.Lines.{event_text, done_text, text_refused_text, event_refused_text, text_fault, too_long}
-use Rattle.domain_replay.specs.Counting.{counts_of, ids_in_flight}
+use Rattle.domain_replay.specs.Counting.{counts_of}
 
 -- ---- of a run
 

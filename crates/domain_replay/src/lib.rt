@@ -2,6 +2,7 @@
 //! dropped.
 #![tactic(auto)]
 
+mod asked;
 mod capture;
 mod cause;
 mod counts;

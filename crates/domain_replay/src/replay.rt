@@ -1,16 +1,24 @@
 //! A domain over a schedule.
-ghost use Rattle.std.specs.Prelude.{◌≡◌, ◌++◌, length, IfOk, OnOk, [], replicate};
+ghost use Rattle.std.specs.Prelude.{◌≡◌, ◌≢◌, ◌++◌, length, Some, IfOk, IfErr, OnOk, OnErr, [], replicate};
 ghost use Rattle.std.specs.List.{AllByRecursion};
+ghost use Rattle.replay_text.specs.Events.{LineFits};
+ghost use Rattle.replay_text.specs.declared.fault.TextFault.TheVariants as texts;
+ghost use Rattle.domain_core.specs.declared.fault.EventFault.TheVariants as fault;
+ghost use Rattle.domain_core.specs.World.{ids_in_flight};
 ghost use Rattle.domain_core.specs.Run as run;
 ghost use Rattle.domain_core.specs.Run.{taken_now, round_sends, round_events};
-ghost use Rattle.domain_replay.specs.Telling.{first_telling, told, tells_on, tells_all, tells_line};
-ghost use Rattle.domain_replay.specs.Replaying.{Tells, IsAsked, IsJoining, sends_of, LineIsAsked};
+ghost use Rattle.domain_replay.specs.Lines.{done_text, text_refused_text, text_fault, event_refused_text, too_long};
+ghost use Rattle.domain_replay.specs.Telling.{first_telling, told, tells_on, tells_all, tells_line, LineNamesOnce};
+ghost use Rattle.domain_replay.specs.Replaying.{Tells, IsAsked, IsJoining, sends_of};
 
+use crate::asked::numbers_fit;
 use crate::counts::Counts;
 use crate::direction::{Direction, directions};
+use crate::lines::push_done;
+use crate::refused::{push_event_refused, push_text_refused, push_too_long};
 use crate::texts::Texts;
 use domain_core::{EventFault, World, confs_of};
-use replay_text::{Event, Line};
+use replay_text::{Event, Line, TextFault};
 use std::alloc::Global;
 use std::marker::Model;
 use wire_base::{Domain, M, Rows};
@@ -20,20 +28,15 @@ use wire_base::{Domain, M, Rows};
 #[derive(Drop)]
 pub struct Replay {
     world: World,
-    directions: Rows<Direction>,
     texts: Texts,
 }
 
 impl Model for Replay {
-    ghost use Rattle.std.specs.Prelude.{◌≡◌};
-    ghost use Rattle.domain_core.specs.Run as run;
     ghost use Rattle.domain_replay.specs.Telling.{Telling};
 
     ghost Value = { Telling };
 
     ghost view = { λ r. record { world = r.world.world; counts = r.texts.counts; frames = r.texts.frames; report = r.texts.report } };
-
-    ghost invariant = { λ r. r.directions ≡ run.directions r.world.world.domain.routers };
 }
 
 impl Replay {
@@ -41,10 +44,8 @@ impl Replay {
     pub fn new(alloc: Global, domain: Domain) -> M<Self>
         ensures { IfOk result (λ replay. replay ≡ first_telling domain) }
     {
-        let directions = directions(alloc, confs_of(&domain))?;
         Ok(Replay {
             world: World::new(alloc, domain)?,
-            directions,
             texts: Texts::new(alloc)?,
         })
     }
@@ -53,7 +54,7 @@ impl Replay {
     fn do_event(&mut self, alloc: Global, line: u32, event: &Event) -> Result<(), EventFault>
         requires { IsAsked (length self.old.world.domain.routers) event.now }
         ensures told { Tells (tells_on line (told self.old) event.now) self.new result }
-        ensures domain { self.new.world.domain ≡ self.old.world.domain }
+        ensures domain { OnOk result (self.new.world.domain ≡ self.old.world.domain) }
     {
         let made = self.world.step(event)?;
         let routers = self.world.domain().routers.as_slice();
@@ -65,7 +66,7 @@ impl Replay {
     fn do_events(&mut self, alloc: Global, line: u32, events: &[Event]) -> Result<(), EventFault>
         requires { AllByRecursion (IsAsked (length self.old.world.domain.routers)) events.now }
         ensures told { Tells (tells_all line (told self.old) events.now) self.new result }
-        ensures domain { self.new.world.domain ≡ self.old.world.domain }
+        ensures domain { OnOk result (self.new.world.domain ≡ self.old.world.domain) }
     {
         for event in events {
             self.do_event(alloc, line, event)?;
@@ -83,7 +84,7 @@ impl Replay {
     ) -> Result<(), EventFault>
         requires { IsAsked (length self.old.world.domain.routers) event.now }
         ensures told { Tells (tells_all line (told self.old) (replicate count event.now)) self.new result }
-        ensures domain { self.new.world.domain ≡ self.old.world.domain }
+        ensures domain { OnOk result (self.new.world.domain ≡ self.old.world.domain) }
     {
         for _time in 0..count {
             self.do_event(alloc, line, event)?;
@@ -92,13 +93,14 @@ impl Replay {
     }
 
     /// The directions of the domain's links, each of which joins two routers.
-    fn directions(&self) -> &[Direction]
-        ensures value { result.now ≡ run.directions self.now.world.domain.routers }
-        ensures joins { AllByRecursion (IsJoining (length self.now.world.domain.routers)) result.now }
+    fn directions(&self, alloc: Global) -> M<Rows<Direction>>
+        ensures value { IfOk result (λ all. all ≡ run.directions self.now.world.domain.routers) }
+        ensures joins { IfOk result (λ all. AllByRecursion (IsJoining (length self.now.world.domain.routers)) all) }
     {
+        let domain = self.world.domain();
         // The domain is valid, so the routers are there.
-        let _routers = self.world.domain().routers.as_slice();
-        self.directions.as_slice()
+        let _routers = domain.routers.as_slice();
+        directions(alloc, confs_of(domain))
     }
 
     /// Whether the end is up over which a direction leaves.
@@ -124,12 +126,14 @@ impl Replay {
     }
 
     /// What each end that is up sends in a round.
-    fn sends(&self, alloc: Global) -> M<Rows<Event>>
+    fn sends(&self, alloc: Global, all: &[Direction]) -> M<Rows<Event>>
+        requires value { all.now ≡ run.directions self.now.world.domain.routers }
+        requires joins { AllByRecursion (IsJoining (length self.now.world.domain.routers)) all.now }
         ensures events { IfOk result (λ events. events ≡ round_sends self.now.world) }
         ensures asked { IfOk result (λ events. AllByRecursion (IsAsked (length self.now.world.domain.routers)) events) }
     {
         let mut events = Rows::new(alloc);
-        for direction in self.directions() {
+        for direction in all {
             self.push_send(&mut events, *direction)?;
         }
         Ok(events)
@@ -139,7 +143,7 @@ impl Replay {
     fn take_now(&mut self, alloc: Global, line: u32, direction: Direction) -> Result<(), EventFault>
         requires { IsJoining (length self.old.world.domain.routers) direction }
         ensures told { Tells (tells_all line (told self.old) (taken_now self.old.world direction)) self.new result }
-        ensures domain { self.new.world.domain ≡ self.old.world.domain }
+        ensures domain { OnOk result (self.new.world.domain ≡ self.old.world.domain) }
     {
         let Direction { from, to, .. } = direction;
         let count = self.world.frames(from, to);
@@ -147,52 +151,106 @@ impl Replay {
     }
 
     /// All routers take what is on its way to them, direction by direction.
-    fn do_takes(&mut self, alloc: Global, line: u32) -> Result<(), EventFault>
-        ensures told { Tells (tells_all line (told self.old) (run.round_takes self.old.world (run.directions self.old.world.domain.routers))) self.new result }
-        ensures domain { self.new.world.domain ≡ self.old.world.domain }
+    fn do_takes(&mut self, alloc: Global, line: u32, all: &[Direction]) -> Result<(), EventFault>
+        requires { AllByRecursion (IsJoining (length self.old.world.domain.routers)) all.now }
+        ensures told { Tells (tells_all line (told self.old) (run.round_takes self.old.world all.now)) self.new result }
+        ensures domain { OnOk result (self.new.world.domain ≡ self.old.world.domain) }
     {
-        let count = self.directions().len();
-        for at in 0..count {
-            let direction = self.directions()[at];
-            self.take_now(alloc, line, direction)?;
+        for direction in all {
+            self.take_now(alloc, line, *direction)?;
         }
         Ok(())
     }
 
     /// All routers send what is due, and then all take.
-    fn do_round(&mut self, alloc: Global, line: u32) -> Result<(), EventFault>
+    fn do_round(&mut self, alloc: Global, line: u32, all: &[Direction]) -> Result<(), EventFault>
+        requires value { all.now ≡ run.directions self.old.world.domain.routers }
+        requires joins { AllByRecursion (IsJoining (length self.old.world.domain.routers)) all.now }
         ensures told { Tells (tells_all line (told self.old) (round_events self.old.world)) self.new result }
-        ensures domain { self.new.world.domain ≡ self.old.world.domain }
+        ensures domain { OnOk result (self.new.world.domain ≡ self.old.world.domain) }
     {
-        let sends = self.sends(alloc)?;
+        let sends = self.sends(alloc, all)?;
         self.do_events(alloc, line, sends.as_slice())?;
-        self.do_takes(alloc, line)
+        self.do_takes(alloc, line, all)
     }
 
     /// So many rounds.
     fn do_rounds(&mut self, alloc: Global, line: u32, rounds: u32) -> Result<(), EventFault>
         ensures { Tells (tells_all line (told self.old) (run.settle_events self.old.world rounds)) self.new result }
     {
+        let all = self.directions(alloc)?;
         for _round in 0..rounds {
-            self.do_round(alloc, line)?;
+            self.do_round(alloc, line, all.as_slice())?;
         }
         Ok(())
+    }
+
+    /// The events of what a line says.
+    #[tactic(auto, using(crate::proofs::LineTells::event_asked), unfolding(crate::specs::Telling::tells_line, crate::specs::Telling::tells_all))]
+    fn do_line(&mut self, alloc: Global, line: u32, said: &Line) -> Result<(), EventFault>
+        requires fits { LineFits (length self.old.world.domain.routers) said.now }
+        requires once { LineNamesOnce said.now }
+        ensures { Tells (tells_line line self.old said.now) self.new result }
+    {
+        match said {
+            Line::Empty => Ok(()),
+            Line::One(event) => {
+                numbers_fit(event);
+                self.do_event(alloc, line, event)
+            }
+            Line::Settle(rounds) => self.do_rounds(alloc, line, *rounds),
+        }
     }
 
     /// Does what a line of the schedule says, up to an event that isn't allowed, and tells it with the number of the line.
     ///
     /// Refused by the first event of the line that isn't allowed; those before it were done. Memory may come in place of any
     /// answer.
-    #[tactic(auto, unfolding(crate::specs::Telling::tells_line, crate::specs::Telling::tells_all))]
-    pub fn do_line(&mut self, alloc: Global, line: u32, said: &Line) -> Result<(), EventFault>
-        requires { LineIsAsked (length self.old.world.domain.routers) said.now }
-        ensures { Tells (tells_line line self.old said.now) self.new result }
+    #[tactic(auto, using(crate::proofs::LineTells::tells_ok, crate::proofs::LineTells::tells_refused))]
+    pub fn line(&mut self, alloc: Global, line: u32, said: &Line) -> Result<(), EventFault>
+        requires fits { LineFits (length self.old.world.domain.routers) said.now }
+        requires once { LineNamesOnce said.now }
+        ensures ok { OnOk result (tells_line line self.old said.now ≡ told self.new) }
+        ensures refused { IfErr result (λ e. e ≢ fault.Memory → tells_line line self.old said.now ≡ record { telling = self.new; refused = Some e }) }
     {
-        match said {
-            Line::Empty => Ok(()),
-            Line::One(event) => self.do_event(alloc, line, event),
-            Line::Settle(rounds) => self.do_rounds(alloc, line, *rounds),
-        }
+        self.do_line(alloc, line, said)
+    }
+
+    /// Appends the last line of the report on a schedule of so many lines, all of which were done; or nothing, where memory is
+    /// refused.
+    pub fn done(&mut self, alloc: Global, lines: u64) -> M<()>
+        ensures ok { OnOk result (self.new ≡ record self.old { report = self.old.report ++ done_text lines self.old.counts (ids_in_flight self.old.world.flights) }) }
+        ensures err { OnErr result (self.new ≡ self.old) }
+    {
+        let flight = self.world.ids_in_flight()?;
+        let counts = self.texts.counts;
+        push_done(alloc, &mut self.texts.report, lines, &counts, flight)
+    }
+
+    /// Appends the line on a line of the schedule that isn't in the grammar; or nothing, where memory is refused.
+    pub fn refuse_text(&mut self, alloc: Global, line: u64, why: TextFault) -> M<()>
+        ensures ok { OnOk result (self.new ≡ record self.old { report = self.old.report ++ text_refused_text line (text_fault why) }) }
+        ensures known { OnOk result (why ≢ texts.Memory) }
+        ensures err { OnErr result (self.new ≡ self.old) }
+    {
+        push_text_refused(alloc, &mut self.texts.report, line, why)
+    }
+
+    /// Appends the line on an event that isn't allowed; or nothing, where memory is refused.
+    pub fn refuse_event(&mut self, alloc: Global, line: u64, why: EventFault) -> M<()>
+        ensures ok { OnOk result (self.new ≡ record self.old { report = self.old.report ++ event_refused_text line why }) }
+        ensures known { OnOk result (why ≢ fault.Memory) }
+        ensures err { OnErr result (self.new ≡ self.old) }
+    {
+        push_event_refused(alloc, &mut self.texts.report, line, why)
+    }
+
+    /// Appends the line on the line that makes a schedule too long; or nothing, where memory is refused.
+    pub fn refuse_length(&mut self, alloc: Global, line: u64) -> M<()>
+        ensures ok { OnOk result (self.new ≡ record self.old { report = self.old.report ++ text_refused_text line too_long }) }
+        ensures err { OnErr result (self.new ≡ self.old) }
+    {
+        push_too_long(alloc, &mut self.texts.report, line)
     }
 
     /// What was counted so far.

@@ -52,15 +52,15 @@ stands_past taken given reader more stands =
     let ended = is_short (taken ++ more) in
     (lines_in ended (reader.unread ++ grown.0), ap (lines_in ended) grown.1 ∙ stands.lines ended grown.0)
 
-whole_lines : (taken : List ℕ) → is_short taken ≡ true → within_limit taken ≡ taken → lines_within taken ≡ lines_in true taken
+pub whole_lines : (taken : List ℕ) → is_short taken ≡ true → within_limit taken ≡ taken → lines_within taken ≡ lines_in true taken
 whole_lines taken short same = ap (λ (b : Bool). lines_in b (within_limit taken)) short ∙ ap (lines_in true) same
 
-within_short : (taken : List ℕ) → length taken ≤ 67108864 → within_limit taken ≡ taken
+pub within_short : (taken : List ℕ) → length taken ≤ 67108864 → within_limit taken ≡ taken
 unfolding within_limit
 within_short taken short = take_all 67108864 taken short
 
 -- of a text that is too long the octets behind the limit don't count
-long_lines : (taken more : List ℕ) → is_short taken ≡ false → (is_short (taken ++ more) ≡ false) × (lines_within (taken ++ more) ≡ lines_in false (within_limit taken))
+pub long_lines : (taken more : List ℕ) → is_short taken ≡ false → (is_short (taken ++ more) ≡ false) × (lines_within (taken ++ more) ≡ lines_in false (within_limit taken))
 unfolding within_limit
 long_lines taken more long =
     let over = past taken long in

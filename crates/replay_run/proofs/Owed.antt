@@ -1,32 +1,64 @@
 -- What a command did is what a run owes.
 use Rattle.std.proofs.Common.{◌≡◌, ℕ, ◌<◌, List, [], Option, Some, None, refl, sym, subst, ◌∙◌, arith, append-nil, inl, inr}
-use Rattle.std.specs.Prelude.{IfSome, ◌⊎◌}
+use Rattle.std.specs.Prelude.{IfSome, ◌⊎◌, Result, Ok, Err}
 use Rattle.std.specs.Io.KnownBytes.{Appends}
 use Rattle.wire_base.specs.declared.status.Status.{Status}
 use Rattle.wire_base.specs.declared.status.Status.TheVariants.{Done, Usage, ConfRefused, InputRefused, ReadFault, WriteFault, Memory, CaptureRefused}
+use Rattle.wire_base.specs.model.Configuration.{DomainConf}
+use Rattle.domain_conf.specs.Domain.{domain_of}
+use Rattle.domain_conf.specs.declared.fault.ConfFault.{ConfFault}
 use Rattle.replay_run.specs.declared.words.Form.{Form}
-use Rattle.replay_run.specs.declared.words.Form.TheVariants.{Hop, Headers, Unknown}
+use Rattle.replay_run.specs.declared.words.Form.TheVariants.{Replay, Hop, Headers, Unknown}
 use Rattle.replay_run.specs.Words.{usage_text}
 use Rattle.replay_run.specs.HopText.{hop_answer, packets_of, IsAllowed}
 use Rattle.replay_run.specs.Partition.{Reports}
-use Rattle.replay_run.specs.Verdict.{Verdict, verdict, IsDecided}
+use Rattle.replay_run.specs.Answer.{Verdict}
+use Rattle.replay_run.specs.Verdict.{verdict, reported, replay_on, IsDecided}
+use Rattle.replay_run.specs.Judged.{OnHeld}
 use Rattle.replay_run.specs.Outside.{Held, Gave, Meets, AppendsFront}
 use Rattle.replay_run.proofs.Packets.{all_parted}
 use Rattle.replay_run.specs.HeadersText.{headers_answer, IsRead}
 use Rattle.replay_run.proofs.Inputs.{allowed_done}
 use Rattle.replay_run.proofs.Captures.{read_done}
 
-nothing_more : (known : Option (List ℕ)) → Appends known known []
+pub nothing_more : (known : Option (List ℕ)) → Appends known known []
 nothing_more None = tt
 nothing_more (Some xs) = sym (append-nil xs)
 
--- the verdict on octets that the source may have held is that on what it told
-pub told : (form : Form) (conf left : Option (List ℕ)) (P : Verdict → Type 0) → ((octets : List ℕ) × Held left octets × IfSome (verdict form conf (Some octets)) P) → IfSome (verdict form conf left) P
+-- nothing is the front of each text
+pub no_front : (known : Option (List ℕ)) (text : List ℕ) → AppendsFront known known text
+no_front known text = (0, nothing_more known)
+
+-- a source may have held something
+pub held_some : (left : Option (List ℕ)) → (octets : List ℕ) × Held left octets
+held_some None = ([], tt)
+held_some (Some octets) = (octets, refl)
+
+-- ---- verdicts on what was held
+
+-- a domain file that is refused has its verdict without a schedule
+no_schedule : (read : Result DomainConf ConfFault) (octets : List ℕ) (Holds : Verdict → Type 0) → IfSome (replay_on read (Some octets)) Holds → IfSome (replay_on read None) Holds
+no_schedule (Err why) octets Holds holds = holds
+no_schedule (Ok d) octets Holds holds = tt
+
+-- the verdict on octets that the sources may have held is that on what they told
+pub told : (form : Form) (conf left : Option (List ℕ)) (Holds : Verdict → Type 0) → OnHeld form conf left Holds → IfSome (verdict form conf left) Holds
 unfolding verdict
-told form conf (Some held) P some = subst (λ (octets : List ℕ). IfSome (verdict form conf (Some octets)) P) (sym some.1) some.2
-told Hop conf None P some = tt
-told Headers conf None P some = tt
-told Unknown conf None P some = some.2
+told Replay None left Holds (file, octets, of_conf, of_input, holds) = tt
+told Replay (Some told_file) None Holds (file, octets, of_conf, of_input, holds) =
+    subst (λ (f : List ℕ). IfSome (replay_on (domain_of f) None) Holds) (sym of_conf) (no_schedule (domain_of file) octets Holds holds)
+told Replay (Some told_file) (Some told_octets) Holds (file, octets, of_conf, of_input, holds) =
+    subst (λ (f : List ℕ). IfSome (replay_on (domain_of f) (Some told_octets)) Holds) (sym of_conf)
+    (subst (λ (o : List ℕ). IfSome (replay_on (domain_of file) (Some o)) Holds) (sym of_input) holds)
+told Hop conf None Holds some = tt
+told Hop conf (Some held) Holds (file, octets, of_conf, of_input, holds) = subst (λ (o : List ℕ). Holds (reported (hop_answer o))) (sym of_input) holds
+told Headers conf None Holds some = tt
+told Headers conf (Some held) Holds (file, octets, of_conf, of_input, holds) = subst (λ (o : List ℕ). Holds (reported (headers_answer o))) (sym of_input) holds
+told Unknown conf left Holds (file, octets, of_conf, of_input, holds) = holds
+
+-- of a form that is known
+pub in_form : (form known : Form) (conf left : Option (List ℕ)) (Holds : Verdict → Type 0) → form ≡ known → OnHeld known conf left Holds → OnHeld form conf left Holds
+in_form form known conf left Holds is holds = subst (λ (f : Form). OnHeld f conf left Holds) (sym is) holds
 
 -- without a count that rose there is no fault
 pub no_fault : (result : Status) (reads reads_now writes writes_now takes takes_now : ℕ)
@@ -46,16 +78,22 @@ no_fault WriteFault reads reads_now writes writes_now takes takes_now read write
 
 -- ---- `hop`
 
-pub hop_meets : (form : Form) (conf left before now frames : Option (List ℕ)) (result : Status) → form ≡ Hop → ((octets : List ℕ) × Held left octets × Gave (hop_answer octets) result before now)
-    → (octets : List ℕ) × Held left octets × IfSome (verdict form conf (Some octets)) (λ owed. Meets owed result before now frames frames)
+pub hop_holds : (conf left : Option (List ℕ)) (Holds : Verdict → Type 0) → ((octets : List ℕ) × Held left octets × Holds (reported (hop_answer octets))) → OnHeld Hop conf left Holds
 unfolding verdict
-hop_meets form conf left before now frames result is gave =
-    (gave.0, gave.1, rw is (record { status = gave.2.status; report = gave.2.report; frames = nothing_more frames }))
+hop_holds conf left Holds some =
+    let file = held_some conf in
+    (file.0, some.0, file.1, some.1, some.2)
 
-pub hop_front : (form : Form) (conf left before now : Option (List ℕ)) → form ≡ Hop → ((octets : List ℕ) × Held left octets × AppendsFront before now (hop_answer octets).1)
-    → (octets : List ℕ) × Held left octets × IfSome (verdict form conf (Some octets)) (λ owed. AppendsFront before now owed.report)
-unfolding verdict
-hop_front form conf left before now is front = (front.0, front.1, rw is front.2)
+pub hop_meets : (conf left before now frames : Option (List ℕ)) (result : Status) → ((octets : List ℕ) × Held left octets × Gave (hop_answer octets) result before now)
+    → OnHeld Hop conf left (λ owed. Meets owed result before now frames frames)
+hop_meets conf left before now frames result gave =
+    hop_holds conf left (λ owed. Meets owed result before now frames frames)
+    (gave.0, gave.1, record { status = gave.2.status; report = gave.2.report; frames = nothing_more frames })
+
+pub hop_front : (conf left before now frames : Option (List ℕ)) → ((octets : List ℕ) × Held left octets × AppendsFront before now (hop_answer octets).1)
+    → OnHeld Hop conf left (λ owed. AppendsFront before now owed.report × AppendsFront frames frames owed.frames)
+hop_front conf left before now frames front =
+    hop_holds conf left (λ owed. AppendsFront before now owed.report × AppendsFront frames frames owed.frames) (front.0, front.1, (front.2, no_front frames []))
 
 pub hop_done : (result : Status) (left before now : Option (List ℕ)) (reads reads_now writes writes_now takes takes_now : ℕ)
     → (IsDecided result → (result ≡ Done) ⊎ (result ≡ InputRefused))
@@ -100,11 +138,12 @@ hop_reports (Some octets) before now result gave = subst (λ (o : List ℕ). Rep
 
 -- ---- `headers`
 
-pub headers_meets : (form : Form) (conf left before now frames : Option (List ℕ)) (result : Status) → form ≡ Headers → ((octets : List ℕ) × Held left octets × Gave (headers_answer octets) result before now)
-    → (octets : List ℕ) × Held left octets × IfSome (verdict form conf (Some octets)) (λ owed. Meets owed result before now frames frames)
+pub headers_meets : (conf left before now frames : Option (List ℕ)) (result : Status) → ((octets : List ℕ) × Held left octets × Gave (headers_answer octets) result before now)
+    → OnHeld Headers conf left (λ owed. Meets owed result before now frames frames)
 unfolding verdict
-headers_meets form conf left before now frames result is gave =
-    (gave.0, gave.1, rw is (record { status = gave.2.status; report = gave.2.report; frames = nothing_more frames }))
+headers_meets conf left before now frames result gave =
+    let file = held_some conf in
+    (file.0, gave.0, file.1, gave.1, record { status = gave.2.status; report = gave.2.report; frames = nothing_more frames })
 
 pub headers_done : (result : Status) (left before now : Option (List ℕ)) (reads reads_now writes writes_now takes takes_now : ℕ)
     → (IsDecided result → (result ≡ Done) ⊎ (result ≡ CaptureRefused))
@@ -122,24 +161,31 @@ headers_done result (Some octets) before now reads reads_now writes writes_now t
 
 -- ---- words of no form
 
-held_some : (left : Option (List ℕ)) → (octets : List ℕ) × Held left octets
-held_some None = ([], tt)
-held_some (Some octets) = (octets, refl)
-
-pub usage_front : (form : Form) (conf left before now : Option (List ℕ)) → form ≡ Unknown → AppendsFront before now usage_text
-    → (octets : List ℕ) × Held left octets × IfSome (verdict form conf (Some octets)) (λ owed. AppendsFront before now owed.report)
+pub usage_holds : (conf left : Option (List ℕ)) (Holds : Verdict → Type 0) → Holds (reported (Usage, usage_text)) → OnHeld Unknown conf left Holds
 unfolding verdict
-usage_front form conf left before now is front =
-    let some = held_some left in
-    (some.0, some.1, rw is front)
+usage_holds conf left Holds holds =
+    let file = held_some conf in
+    let octets = held_some left in
+    (file.0, octets.0, file.1, octets.1, holds)
 
-pub usage_meets : (form : Form) (conf left before now frames : Option (List ℕ)) (result : Status) → form ≡ Unknown → IsDecided result → (result ≡ Usage) ⊎ (result ≡ WriteFault) → Appends before now usage_text
-    → (octets : List ℕ) × Held left octets × IfSome (verdict form conf (Some octets)) (λ owed. Meets owed result before now frames frames)
-unfolding verdict
-usage_meets form conf left before now frames result is decided ended written =
-    let some = held_some left in
-    (some.0, some.1, rw is (record { status = usage result decided ended; report = written; frames = nothing_more frames }))
-  where
-    usage : (s : Status) → IsDecided s → (s ≡ Usage) ⊎ (s ≡ WriteFault) → s ≡ Usage
-    usage s decided (inl e) = e
-    usage s decided (inr e) = absurd (subst IsDecided e decided)
+-- of a call that ends so or with a write fault
+pub ended_so : (wanted s : Status) → IsDecided s → (s ≡ wanted) ⊎ (s ≡ WriteFault) → s ≡ wanted
+ended_so wanted s decided (inl e) = e
+ended_so wanted s decided (inr e) = absurd (subst IsDecided e decided)
+
+-- and a call that takes no memory stops at a fault of its sink alone
+pub write_fault : (wanted s : Status) → IsDecided wanted → (s ≡ wanted) ⊎ (s ≡ WriteFault) → (s ≡ WriteFault) ⊎ (s ≡ Memory) → s ≡ WriteFault
+write_fault wanted s decided (inr e) stopped = e
+write_fault wanted s decided (inl e) (inl failed) = failed
+write_fault wanted s decided (inl e) (inr memory) = absurd (subst IsDecided (sym e ∙ memory) decided)
+
+pub usage_meets : (conf left before now frames : Option (List ℕ)) (result : Status) → IsDecided result → (result ≡ Usage) ⊎ (result ≡ WriteFault) → Appends before now usage_text
+    → OnHeld Unknown conf left (λ owed. Meets owed result before now frames frames)
+usage_meets conf left before now frames result decided ended written =
+    usage_holds conf left (λ owed. Meets owed result before now frames frames)
+    (record { status = ended_so Usage result decided ended; report = written; frames = nothing_more frames })
+
+pub usage_front : (conf left before now frames : Option (List ℕ)) → AppendsFront before now usage_text
+    → OnHeld Unknown conf left (λ owed. AppendsFront before now owed.report × AppendsFront frames frames owed.frames)
+usage_front conf left before now frames front =
+    usage_holds conf left (λ owed. AppendsFront before now owed.report × AppendsFront frames frames owed.frames) (front, no_front frames [])

@@ -1,4 +1,5 @@
 pub mod Words
+pub mod Answer
 pub mod Verdict
 pub mod Forward
 pub mod HopText
@@ -10,4 +11,9 @@ pub mod Sight
 pub mod Texts
 pub mod Reader
 pub mod HopReached
+pub mod ScheduleText
+pub mod DomainFile
+pub mod Judged
+pub mod Replayed
+pub mod Scheduling
 pub mod Ways

@@ -2,7 +2,7 @@
 use Rattle.std.specs.Prelude.{ℕ, ◌≡◌, List, take, Option, Some, None}
 use Rattle.std.specs.Io.KnownBytes.{Appends}
 use Rattle.wire_base.specs.declared.status.Status.{Status}
-use Rattle.replay_run.specs.Verdict.{Verdict}
+use Rattle.replay_run.specs.Answer.{Verdict}
 
 -- those octets are what a source held, where it tells it
 abbrev pub Held : Option (List ℕ) → List ℕ → Type 0

@@ -1,24 +1,39 @@
--- What a run owes: its status, and the octets that its sinks gain.
-use Rattle.std.specs.Prelude.{ℕ, List, [], Option, Some, option_map}
+-- What a run owes on its words and on what its sources hold.
+use Rattle.std.specs.Prelude.{ℕ, List, [], Option, Some, None, IfSome, option_map, Result, Ok, Err}
 use Rattle.wire_base.specs.declared.status.Status.{Status}
 use Rattle.wire_base.specs.declared.status.Status.TheVariants as status
+use Rattle.wire_base.specs.model.Configuration.{DomainConf}
+use Rattle.domain_conf.specs.Domain.{domain_of}
+use Rattle.domain_conf.specs.declared.fault.ConfFault.{ConfFault}
+use Rattle.domain_replay.specs.Lines.{conf_refused_text}
+use Rattle.replay_run.specs.Answer.{Verdict}
 use Rattle.replay_run.specs.declared.words.Form.{Form}
-use Rattle.replay_run.specs.declared.words.Form.TheVariants.{Hop, Headers, Unknown}
+use Rattle.replay_run.specs.declared.words.Form.TheVariants.{Replay, Hop, Headers, Unknown}
 use Rattle.replay_run.specs.Words.{usage_text}
 use Rattle.replay_run.specs.HopText.{hop_answer}
 use Rattle.replay_run.specs.HeadersText.{headers_answer}
-
-pub record Verdict : Type 0 where
-  pub status : Status
-  pub report : List ℕ
-  pub frames : List ℕ
+use Rattle.replay_run.specs.ScheduleText.{schedule_answer}
 
 -- a status and a report, where no frame is written
 abbrev pub reported : Status × List ℕ → Verdict
 reported answer = record { status = answer.0; report = answer.1; frames = [] }
 
+-- on a domain file that breaks a rule
+abbrev pub conf_refused : ConfFault → Verdict
+conf_refused why = reported (status.ConfRefused, conf_refused_text why)
+
+-- on what a domain file says: where it breaks a rule, the schedule doesn't matter
+abbrev pub replay_on : Result DomainConf ConfFault → (schedule : Option (List ℕ)) → Option Verdict
+replay_on (Err why) schedule = Some (conf_refused why)
+replay_on (Ok d) schedule = option_map (λ (octets : List ℕ). schedule_answer d octets) schedule
+
+abbrev pub replay_verdict : (conf schedule : Option (List ℕ)) → Option Verdict
+replay_verdict None schedule = None
+replay_verdict (Some file) schedule = replay_on (domain_of file) schedule
+
 -- the verdict on what the two sources hold, where those that the form reads tell it
 unfoldable pub verdict : Form → (conf input : Option (List ℕ)) → Option Verdict
+verdict Replay conf input = replay_verdict conf input
 verdict Hop conf input = option_map (λ (octets : List ℕ). reported (hop_answer octets)) input
 verdict Headers conf input = option_map (λ (octets : List ℕ). reported (headers_answer octets)) input
 verdict Unknown conf input = Some (reported (status.Usage, usage_text))

@@ -2,14 +2,16 @@
 use Rattle.std.specs.Prelude.{ℕ, List, [], ◌∷◌, codes, if◌then◌else◌}
 use Rattle.std.specs.Str.{bytes_eq}
 use Rattle.replay_run.specs.declared.words.Form.{Form}
-use Rattle.replay_run.specs.declared.words.Form.TheVariants.{Hop, Headers, Unknown}
+use Rattle.replay_run.specs.declared.words.Form.TheVariants.{Replay, Hop, Headers, Unknown}
 
--- `hop INPUT` and `headers CAPTURE` are forms, whatever the second word
+-- `replay CONF SCHEDULE FRAMES`, `hop INPUT` and `headers CAPTURE` are forms, whatever the words after the first
 unfoldable pub form_of : List (List ℕ) → Form
 form_of [] = Unknown
 form_of (word ∷ []) = Unknown
 form_of (word ∷ input ∷ []) = if bytes_eq word (codes "hop") then Hop else if bytes_eq word (codes "headers") then Headers else Unknown
-form_of (word ∷ input ∷ more ∷ rest) = Unknown
+form_of (word ∷ conf ∷ schedule ∷ []) = Unknown
+form_of (word ∷ conf ∷ schedule ∷ frames ∷ []) = if bytes_eq word (codes "replay") then Replay else Unknown
+form_of (word ∷ conf ∷ schedule ∷ frames ∷ more ∷ rest) = Unknown
 
 -- the line on words of no form
 abbrev pub usage_text : List ℕ

@@ -2,10 +2,12 @@
 //! with a definition of what it owes.
 #![tactic(auto)]
 
+mod domain_file;
 mod headers;
 mod hop;
 mod law;
 mod reader;
+mod replay;
 mod top;
 mod whole;
 mod words;

@@ -1,30 +1,86 @@
 //! The top call.
-ghost use Rattle.std.specs.Prelude.{◌≡◌, ◌⊎◌, ◌<◌, ◌≢◌, ◌↔◌, ℕ, List, Some, false, map, IfSome};
+ghost use Rattle.std.specs.Prelude.{◌≡◌, ◌⊎◌, ◌<◌, ◌≢◌, ◌↔◌, ℕ, List, false, map, IfSome};
 ghost use Rattle.std.specs.Io.KnownBytes.{IsAtEnd, Consumes, Appends};
 ghost use Rattle.wire_base.specs.Causes.{last_count};
 ghost use Rattle.wire_base.specs.declared.status.Status.TheVariants as status;
+ghost use Rattle.wire_base.specs.model.Configuration.{DomainConf};
 ghost use Rattle.replay_run.specs.declared.words.Form.TheVariants as form;
+ghost use Rattle.replay_run.specs.DomainFile.{Says};
 ghost use Rattle.replay_run.specs.HopText.{hop_cut, IsAllowed};
 ghost use Rattle.replay_run.specs.HeadersText.{IsRead};
 ghost use Rattle.replay_run.specs.Headers.{IsOpen, lines_of};
+ghost use Rattle.replay_run.specs.Judged.{OnHeld};
 ghost use Rattle.replay_run.specs.Partition.{Reports};
+ghost use Rattle.replay_run.specs.Replayed.{IsReplayed};
+ghost use Rattle.replay_run.specs.ScheduleText.{schedule_cut};
 ghost use Rattle.replay_run.specs.Verdict.{IsDecided, verdict};
-ghost use Rattle.replay_run.specs.Outside.{Held, Gave, Meets, AppendsFront};
+ghost use Rattle.replay_run.specs.Outside.{Gave, Meets, AppendsFront};
 ghost use Rattle.replay_run.specs.Words as forms;
 
+use crate::domain_file::{NoDomain, domain_in};
 use crate::headers::headers;
 use crate::hop::hop;
 use crate::law::packets_are_parted;
+use crate::replay::play;
 use crate::whole::deliver;
 use crate::words::{Form, USAGE, form_of};
 use std::alloc::Global;
 use wire_base::{Sink, Source, Status};
 
+/// All that the program does on the words `replay CONF SCHEDULE FRAMES`: where the domain file breaks a rule, it reports that;
+/// else it does the schedule in the domain.
+fn replay<D: Source, S: Source, C: Sink, R: Sink>(
+    alloc: Global,
+    conf: &mut D,
+    input: &mut S,
+    frames: &mut C,
+    report: &mut R,
+) -> Status
+    requires conf_faults { D.faults conf.old < last_count }
+    requires input_faults { S.faults input.old < last_count }
+    requires frames_faults { C.faults frames.old < last_count }
+    requires frames_zeros { C.zeros frames.old < last_count }
+    requires report_faults { R.faults report.old < last_count }
+    requires report_zeros { R.zeros report.old < last_count }
+
+    // The verdict on what the sources hold, whether or not they tell it.
+    ensures answer { IsDecided result → OnHeld form.Replay (D.left conf.old) (S.left input.old) (λ owed. Meets owed result (R.written report.old) (R.written report.new) (C.written frames.old) (C.written frames.new)) }
+    ensures statuses { IsDecided result → (result ≡ status.Done) ⊎ ((result ≡ status.ConfRefused) ⊎ (result ≡ status.InputRefused)) }
+    ensures all { result ≡ status.Done → IsAtEnd (S.left input.new) }
+
+    // A fault is answered only where its count rose.
+    ensures read { result ≡ status.ReadFault → (D.faults conf.old < D.faults conf.new) ⊎ (S.faults input.old < S.faults input.new) }
+    ensures write { result ≡ status.WriteFault → (C.faults frames.old < C.faults frames.new) ⊎ ((C.zeros frames.old < C.zeros frames.new) ⊎ ((R.faults report.old < R.faults report.new) ⊎ (R.zeros report.old < R.zeros report.new))) }
+    ensures conf_quiet { result ≢ status.ReadFault → result ≢ status.WriteFault → D.faults conf.new ≡ D.faults conf.old }
+    ensures input_quiet { result ≢ status.ReadFault → result ≢ status.WriteFault → S.faults input.new ≡ S.faults input.old }
+    ensures frames_quiet { result ≢ status.WriteFault → C.faults frames.new ≡ C.faults frames.old }
+    ensures frames_take { result ≢ status.WriteFault → C.zeros frames.new ≡ C.zeros frames.old }
+    ensures report_quiet { result ≢ status.WriteFault → R.faults report.new ≡ R.faults report.old }
+    ensures report_takes { result ≢ status.WriteFault → R.zeros report.new ≡ R.zeros report.old }
+
+    // What a stop leaves.
+    ensures accepted { ((input.new ≡ input.old) × (frames.new ≡ frames.old)) ⊎ ((D.faults conf.new ≡ D.faults conf.old) × ((domain : DomainConf) × Says (D.left conf.old) domain)) }
+    ensures refused { result ≡ status.ConfRefused → (input.new ≡ input.old) × (frames.new ≡ frames.old) }
+    ensures frames_finished { result ≢ status.WriteFault → result ≢ status.Memory → (frames.new ≡ frames.old) ⊎ (C.unfinished frames.new ≡ false) }
+    ensures report_finished { result ≢ status.WriteFault → result ≢ status.Memory → (report.new ≡ report.old) ⊎ (R.unfinished report.new ≡ false) }
+    ensures finished { IsDecided result → R.unfinished report.new ≡ false }
+    ensures stopped { result ≡ status.ReadFault → ((D.faults conf.old < D.faults conf.new) × (input.new ≡ input.old) × (frames.new ≡ frames.old) × (report.new ≡ report.old))
+        ⊎ ((D.faults conf.new ≡ D.faults conf.old) × ((domain : DomainConf) × Says (D.left conf.old) domain × ((octets : List ℕ) × Consumes (S.left input.old) (S.left input.new) octets
+            × Meets (schedule_cut domain octets) result (R.written report.old) (R.written report.new) (C.written frames.old) (C.written frames.new)))) }
+    ensures front { (result ≡ status.WriteFault) ⊎ (result ≡ status.Memory) → OnHeld form.Replay (D.left conf.old) (S.left input.old) (λ owed. AppendsFront (R.written report.old) (R.written report.new) owed.report × AppendsFront (C.written frames.old) (C.written frames.new) owed.frames) }
+{
+    match domain_in(alloc, conf) {
+        Ok(domain) => play(alloc, domain, input, frames, report),
+        Err(NoDomain::Refused(line)) => deliver(report, Status::ConfRefused, line.as_slice()),
+        Err(NoDomain::Stopped(why)) => why,
+    }
+}
+
 /// All that the program does: it takes its words, which name a command, and the objects that it reads and writes:
 /// the domain file, the schedule, capture or other input, the frames that it sends, and its report. It answers its
 /// exit status.
 ///
-/// The words are `hop INPUT` or `headers CAPTURE`; on any other words the report is the usage line.
+/// The words are `replay CONF SCHEDULE FRAMES`, `hop INPUT` or `headers CAPTURE`; on any other words the report is the usage line.
 pub fn run<D: Source, S: Source, C: Sink, R: Sink>(
     alloc: Global,
     words: &[&str],
@@ -45,20 +101,20 @@ pub fn run<D: Source, S: Source, C: Sink, R: Sink>(
     // held of which this is the verdict.
     ensures verdict { IsDecided result → IfSome (verdict (forms.form_of (map (λ word. word.now) words.now)) (D.left conf.old) (S.left input.old))
         (λ owed. Meets owed result (R.written report.old) (R.written report.new) (C.written frames.old) (C.written frames.new)) }
-    ensures some_input { IsDecided result → (octets : List ℕ) × Held (S.left input.old) octets × IfSome (verdict (forms.form_of (map (λ word. word.now) words.now)) (D.left conf.old) (Some octets))
+    ensures some_held { IsDecided result → OnHeld (forms.form_of (map (λ word. word.now) words.now)) (D.left conf.old) (S.left input.old)
         (λ owed. Meets owed result (R.written report.old) (R.written report.new) (C.written frames.old) (C.written frames.new)) }
 
     // Where no count rose, the answer is the verdict's or want of memory.
     ensures decided { D.faults conf.new ≡ D.faults conf.old → S.faults input.new ≡ S.faults input.old → C.faults frames.new ≡ C.faults frames.old → C.zeros frames.new ≡ C.zeros frames.old
         → R.faults report.new ≡ R.faults report.old → R.zeros report.new ≡ R.zeros report.old → IsDecided result ⊎ (result ≡ status.Memory) }
 
-    // When each status comes. No command reads a domain file yet.
-    ensures done { result ≡ status.Done → (forms.form_of (map (λ word. word.now) words.now) ≡ form.Hop) ⊎ (forms.form_of (map (λ word. word.now) words.now) ≡ form.Headers) }
+    // When each status comes.
+    ensures done { result ≡ status.Done → forms.form_of (map (λ word. word.now) words.now) ≢ form.Unknown }
     ensures done_whole { result ≡ status.Done → IsAtEnd (S.left input.new) }
     ensures usage { IsDecided result → ((result ≡ status.Usage) ↔ (forms.form_of (map (λ word. word.now) words.now) ≡ form.Unknown)) }
     ensures usage_or_fault { forms.form_of (map (λ word. word.now) words.now) ≡ form.Unknown → (result ≡ status.Usage) ⊎ (result ≡ status.WriteFault) }
-    ensures input_refused { result ≡ status.InputRefused → forms.form_of (map (λ word. word.now) words.now) ≡ form.Hop }
-    ensures no_conf_refused { result ≢ status.ConfRefused }
+    ensures conf_refused { result ≡ status.ConfRefused → forms.form_of (map (λ word. word.now) words.now) ≡ form.Replay }
+    ensures input_refused { result ≡ status.InputRefused → (forms.form_of (map (λ word. word.now) words.now) ≡ form.Replay) ⊎ (forms.form_of (map (λ word. word.now) words.now) ≡ form.Hop) }
     ensures capture_refused { result ≡ status.CaptureRefused → forms.form_of (map (λ word. word.now) words.now) ≡ form.Headers }
     ensures read_fault { result ≡ status.ReadFault → (D.faults conf.old < D.faults conf.new) ⊎ (S.faults input.old < S.faults input.new) }
     ensures write_fault { result ≡ status.WriteFault → (C.faults frames.old < C.faults frames.new) ⊎ ((C.zeros frames.old < C.zeros frames.new) ⊎ ((R.faults report.old < R.faults report.new) ⊎ (R.zeros report.old < R.zeros report.new))) }
@@ -71,6 +127,12 @@ pub fn run<D: Source, S: Source, C: Sink, R: Sink>(
     ensures frames_take { result ≢ status.WriteFault → C.zeros frames.new ≡ C.zeros frames.old }
     ensures report_quiet { result ≢ status.WriteFault → R.faults report.new ≡ R.faults report.old }
     ensures report_takes { result ≢ status.WriteFault → R.zeros report.new ≡ R.zeros report.old }
+
+    // `replay` is done wherever the domain file is valid, each line of the schedule is in the grammar, each of its events is
+    // allowed, and no count rose.
+    ensures replay_complete { forms.form_of (map (λ word. word.now) words.now) ≡ form.Replay → IfSome (D.left conf.old) (λ file. IfSome (S.left input.old) (λ octets. IsReplayed file octets
+        → D.faults conf.new ≡ D.faults conf.old → S.faults input.new ≡ S.faults input.old → C.faults frames.new ≡ C.faults frames.old → C.zeros frames.new ≡ C.zeros frames.old
+        → R.faults report.new ≡ R.faults report.old → R.zeros report.new ≡ R.zeros report.old → (result ≡ status.Done) ⊎ (result ≡ status.Memory))) }
 
     // `hop` is done wherever its input is in the grammar, each line may stand where it stands, and no count rose.
     ensures hop_complete { forms.form_of (map (λ word. word.now) words.now) ≡ form.Hop → IfSome (S.left input.old) (λ octets. IsAllowed octets
@@ -87,28 +149,34 @@ pub fn run<D: Source, S: Source, C: Sink, R: Sink>(
         → (result ≡ status.Done) ⊎ (result ≡ status.Memory)) }
 
     // What a stop leaves. What was written is finished. Where the source fails, the lines or records that are whole in what
-    // was taken are reported, none of them is refused, no fault of a capture's reader stands in it, and there is no last
-    // line. At a fault of a sink a front of the report is written, and at want of memory in `hop`.
+    // was taken are done and reported, none of them is refused, no fault of a capture's reader stands in it, and there is no
+    // last line. Where the domain file's source fails, nothing else is touched. At a fault of a sink a front of each text is
+    // written, and at want of memory, but in `headers`.
     ensures finished { IsDecided result → R.unfinished report.new ≡ false }
+    ensures replay_finished { forms.form_of (map (λ word. word.now) words.now) ≡ form.Replay → result ≢ status.WriteFault → result ≢ status.Memory → (report.new ≡ report.old) ⊎ (R.unfinished report.new ≡ false) }
+    ensures frames_finished { result ≢ status.WriteFault → result ≢ status.Memory → (frames.new ≡ frames.old) ⊎ (C.unfinished frames.new ≡ false) }
     ensures hop_finished { forms.form_of (map (λ word. word.now) words.now) ≡ form.Hop → result ≡ status.ReadFault → R.unfinished report.new ≡ false }
     ensures headers_finished { forms.form_of (map (λ word. word.now) words.now) ≡ form.Headers → result ≡ status.ReadFault → R.unfinished report.new ≡ false }
+    ensures replay_stopped { forms.form_of (map (λ word. word.now) words.now) ≡ form.Replay → result ≡ status.ReadFault → ((D.faults conf.old < D.faults conf.new) × (input.new ≡ input.old) × (frames.new ≡ frames.old) × (report.new ≡ report.old))
+        ⊎ ((D.faults conf.new ≡ D.faults conf.old) × ((domain : DomainConf) × Says (D.left conf.old) domain × ((octets : List ℕ) × Consumes (S.left input.old) (S.left input.new) octets
+            × Meets (schedule_cut domain octets) result (R.written report.old) (R.written report.new) (C.written frames.old) (C.written frames.new)))) }
     ensures hop_stopped { forms.form_of (map (λ word. word.now) words.now) ≡ form.Hop → result ≡ status.ReadFault
         → (octets : List ℕ) × Consumes (S.left input.old) (S.left input.new) octets × Gave (hop_cut octets) result (R.written report.old) (R.written report.new) }
     ensures headers_stopped { forms.form_of (map (λ word. word.now) words.now) ≡ form.Headers → result ≡ status.ReadFault
         → (octets : List ℕ) × Consumes (S.left input.old) (S.left input.new) octets × IsOpen octets × Appends (R.written report.old) (R.written report.new) (lines_of octets) }
-    ensures front { forms.form_of (map (λ word. word.now) words.now) ≢ form.Headers → result ≡ status.WriteFault → (octets : List ℕ) × Held (S.left input.old) octets × IfSome (verdict (forms.form_of (map (λ word. word.now) words.now)) (D.left conf.old) (Some octets))
-        (λ owed. AppendsFront (R.written report.old) (R.written report.new) owed.report) }
+    ensures front { forms.form_of (map (λ word. word.now) words.now) ≢ form.Headers → (result ≡ status.WriteFault) ⊎ (result ≡ status.Memory) → OnHeld (forms.form_of (map (λ word. word.now) words.now)) (D.left conf.old) (S.left input.old)
+        (λ owed. AppendsFront (R.written report.old) (R.written report.new) owed.report × AppendsFront (C.written frames.old) (C.written frames.new) owed.frames) }
 
-    ensures hop_memory { forms.form_of (map (λ word. word.now) words.now) ≡ form.Hop → result ≡ status.Memory → (octets : List ℕ) × Held (S.left input.old) octets × IfSome (verdict (forms.form_of (map (λ word. word.now) words.now)) (D.left conf.old) (Some octets))
-        (λ owed. AppendsFront (R.written report.old) (R.written report.new) owed.report) }
-
-    // What the words don't name is as before. No command reads a domain file or sends frames.
-    ensures conf { conf.new ≡ conf.old }
-    ensures frames { frames.new ≡ frames.old }
+    // What the words don't name is as before, and so are the schedule and the frames where the domain file isn't accepted.
+    ensures accepted { forms.form_of (map (λ word. word.now) words.now) ≡ form.Replay → ((input.new ≡ input.old) × (frames.new ≡ frames.old)) ⊎ ((D.faults conf.new ≡ D.faults conf.old) × ((domain : DomainConf) × Says (D.left conf.old) domain)) }
+    ensures refused { result ≡ status.ConfRefused → (input.new ≡ input.old) × (frames.new ≡ frames.old) }
+    ensures conf { forms.form_of (map (λ word. word.now) words.now) ≢ form.Replay → conf.new ≡ conf.old }
+    ensures frames { forms.form_of (map (λ word. word.now) words.now) ≢ form.Replay → frames.new ≡ frames.old }
     ensures unread { forms.form_of (map (λ word. word.now) words.now) ≡ form.Unknown → input.new ≡ input.old }
 {
     packets_are_parted();
     match form_of(words) {
+        Form::Replay => replay(alloc, conf, input, frames, report),
         Form::Hop => hop(alloc, input, report),
         Form::Headers => headers(alloc, input, report),
         Form::Unknown => deliver(report, Status::Usage, USAGE),

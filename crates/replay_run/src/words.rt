@@ -5,6 +5,8 @@ ghost use Rattle.replay_run.specs.Words as words;
 /// The forms of words.
 #[derive(Clone, Copy, Debug, PartialEq, Eq)]
 pub enum Form {
+    /// `replay CONF SCHEDULE FRAMES`
+    Replay,
     /// `hop INPUT`
     Hop,
     /// `headers CAPTURE`
@@ -23,6 +25,7 @@ pub fn form_of(given: &[&str]) -> Form
     ensures { result ≡ words.form_of (map (λ word. word.now) given.now) }
 {
     match given {
+        [word, _, _, _] if *word == "replay" => Form::Replay,
         [word, _] if *word == "hop" => Form::Hop,
         [word, _] if *word == "headers" => Form::Headers,
         _ => Form::Unknown,

@@ -1,6 +1,8 @@
 use Rattle.std.proofs.Common.{◌≡◌, ap, sym, subst, ◌∙◌}
 use Rattle.std.proofs.lemmas.Result.{err_from_is_err_and}
 use Rattle.wire_base.specs.model.Configuration.{DomainConf}
+use Rattle.domain_core.specs.World.{WorldState}
+use Rattle.domain_replay.proofs.Stays.{happens_domain}
 use Rattle.domain_replay.specs.Telling.{Telling, told, tells_on}
 use Rattle.domain_replay.specs.Replaying.{Tells}
 use Rattle.domain_replay.proofs.EventTells.{event_told, event_refused}
@@ -15,4 +17,8 @@ pub returns-clause-told : goal.returns-clause-told
 returns-clause-told c =
     ap (λ (t : Telling). tells_on c.args.line (told t) c.args.event.now) (sym c.self.view_is)
     ∙ event_told c.args.line _ c.args.event.now _ _ _ _ c.in_ok-made.made c.in_ok-made.ensures.refused c.in_ok-made.ensures.world c.in_ok-made.ensures.told c.in_ok-tell.ensures.counts c.in_ok-tell.ensures.frames _
-    (c.as_slice-routers.ensures ∙ ap (λ (d : DomainConf). d.routers) (c.behind-self.view_is ∙ c.domain.ensures ∙ c.step.ensures.domain)) c.in_ok-tell.ensures.report
+    (c.as_slice-routers.ensures ∙ ap (λ (d : DomainConf). d.routers) (c.behind-self.view_is ∙ c.domain.ensures ∙ ap (λ (w : WorldState). w.domain) c.in_ok-made.ensures.world ∙ happens_domain c.self.inside.world.world c.args.event.now)) c.in_ok-tell.ensures.report
+
+pub returns-clause-domain : goal.returns-clause-domain
+returns-clause-domain c =
+    ap (λ (w : WorldState). w.domain) c.in_ok-made.ensures.world ∙ happens_domain c.self.inside.world.world c.args.event.now ∙ ap (λ (t : Telling). t.world.domain) c.self.view_is

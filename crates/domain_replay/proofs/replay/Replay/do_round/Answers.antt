@@ -1,8 +1,7 @@
 use Rattle.std.proofs.Common.{◌≡◌, ◌∙◌, ap, subst, sym, List}
 use Rattle.std.proofs.lemmas.Result.{err_from_is_err_and}
-use Rattle.wire_base.specs.model.Configuration.{DomainConf}
 use Rattle.replay_text.specs.declared.event.Event.{Event}
-use Rattle.domain_core.specs.Run.{directions, round_sends, round_takes, world_after}
+use Rattle.domain_core.specs.Run.{Direction, directions, round_sends, round_takes, world_after}
 use Rattle.domain_replay.specs.Telling.{Telling, Told, told, tells_all}
 use Rattle.domain_replay.specs.Replaying.{Tells}
 use Rattle.domain_replay.proofs.TellsLaws.{err_at, round_split, round_left}
@@ -21,5 +20,5 @@ returns-clause-told c =
     let h : tells_all c.args.line (told c.args.self.now) (round_sends c.args.self.now.world) ≡ told now =
     subst (λ (es : List Event). tells_all c.args.line (told c.args.self.now) es ≡ told now) (c.as_slice.ensures ∙ c.in_ok-sends.ensures.events) c.in_ok-do_events.ensures.told in
     subst (λ (t : Told). Tells t c.do_takes.new.self c.do_takes.result)
-    (sym (round_left c.args.line c.args.self.now now h ∙ ap (λ (d : DomainConf). tells_all c.args.line (told now) (round_takes now.world (directions d.routers))) (sym c.in_ok-do_events.ensures.domain)))
+    (sym (round_left c.args.line c.args.self.now now h ∙ ap (λ (ds : List Direction). tells_all c.args.line (told now) (round_takes now.world ds)) (sym c.requires.value)))
     c.do_takes.ensures.told

@@ -4,4 +4,8 @@ use Rattle.domain_replay.specs.Telling.{told, tells_all}
 use Rattle.domain_replay.proofs.replay.Replay.do_rounds.Given as goal
 
 abbrev pub invariant-loop-round : goal.invariant-loop-round
-invariant-loop-round l = tells_all l.line (told l.fn.self) (settle_events l.fn.self.world l.rounds) ≡ tells_all l.line (told l.self) (settle_events l.self.world (l.rounds - l._round))
+invariant-loop-round l =
+    record {
+      left : tells_all l.line (told l.fn.self) (settle_events l.fn.self.world l.rounds) ≡ tells_all l.line (told l.self) (settle_events l.self.world (l.rounds - l._round));
+      domain : l.self.world.domain ≡ l.fn.self.world.domain;
+    }

@@ -8,17 +8,17 @@ use Rattle.domain_replay.proofs.replay.Replay.sends.Goals as goal
 
 pub loop-direction-preserved : goal.loop-direction-preserved
 loop-direction-preserved c =
-    ap (λ (es : List Event). es ++ sends_in c.args.self.now.world (drop (c.loop-direction.direction-index + 1) c.directions-direction-items.result.now)) c.in_ok-push_send.ensures
-    ∙ sym (sends_first c.args.self.now.world c.loop-direction.events c.directions-direction-items.result.now c.loop-direction.direction-index c.direction-item.result c.loop-direction-test.true c.direction-item.is)
+    ap (λ (es : List Event). es ++ sends_in c.args.self.now.world (drop (c.loop-direction.direction-index + 1) c.args.all.now)) c.in_ok-push_send.ensures
+    ∙ sym (sends_first c.args.self.now.world c.loop-direction.events c.args.all.now c.loop-direction.direction-index c.direction-item.result c.loop-direction-test.true c.direction-item.is)
     ∙ c.loop-direction.invariant
 
 pub returns-clause-events : goal.returns-clause-events
 returns-clause-events c =
-    sym (sends_none c.args.self.now.world c.loop-direction.events c.directions-direction-items.result.now c.loop-direction.direction-index c.loop-direction-test.false)
-    ∙ c.loop-direction.invariant ∙ ap (λ (ds : List Direction). sends_in c.args.self.now.world ds) c.directions-direction-items.ensures.value
+    sym (sends_none c.args.self.now.world c.loop-direction.events c.args.all.now c.loop-direction.direction-index c.loop-direction-test.false)
+    ∙ c.loop-direction.invariant ∙ ap (λ (ds : List Direction). sends_in c.args.self.now.world ds) c.requires.value
 
 pub returns-clause-asked : goal.returns-clause-asked
 returns-clause-asked c =
     subst (λ (es : List Event). AllByRecursion (IsAsked (length c.args.self.now.world.domain.routers)) es)
-    (sym c.loop-direction.invariant ∙ sends_none c.args.self.now.world c.loop-direction.events c.directions-direction-items.result.now c.loop-direction.direction-index c.loop-direction-test.false)
-    (each_asked c.args.self.now.world (length c.args.self.now.world.domain.routers) c.directions-direction-items.result.now c.directions-direction-items.ensures.joins)
+    (sym c.loop-direction.invariant ∙ sends_none c.args.self.now.world c.loop-direction.events c.args.all.now c.loop-direction.direction-index c.loop-direction-test.false)
+    (each_asked c.args.self.now.world (length c.args.self.now.world.domain.routers) c.args.all.now c.requires.joins)

@@ -1,0 +1,35 @@
+//! What the types of an event's fields say of its numbers. Nothing is done here.
+ghost use Rattle.std.specs.Prelude.{◌<◌, ◌^◌};
+ghost use Rattle.std.specs.List.{AllByRecursion};
+ghost use Rattle.domain_replay.specs.Replaying.{NumbersFit};
+
+use replay_text::Event;
+
+fn ids_fit(ids: &[u16])
+    ensures { AllByRecursion (λ k. k < 2 ^ 16) ids.now }
+{
+    for id in ids {
+        let _id = *id;
+    }
+}
+
+/// The numbers of an event fit their types.
+pub(crate) fn numbers_fit(event: &Event)
+    ensures { NumbersFit event.now }
+{
+    match event {
+        Event::Inject { sd, ids, ttl, .. } => {
+            let _sd = *sd;
+            let _ttl = *ttl;
+            ids_fit(ids.as_slice());
+        }
+        Event::Take { .. } => (),
+        Event::Lose { .. } => (),
+        Event::Again { .. } => (),
+        Event::Down { .. } => (),
+        Event::Up { .. } => (),
+        Event::Send { .. } => (),
+        Event::Tick { .. } => (),
+        Event::Restart { .. } => (),
+    }
+}

@@ -1,0 +1,144 @@
+-- What `replay` did is what a run owes.
+use Rattle.std.proofs.Common.{◌≡◌, ℕ, ◌+◌, ◌<◌, ◌≤◌, Bool, true, List, [], ◌∷◌, length, Option, Some, None, Ok, Err, refl, sym, ap, subst, ◌∙◌, arith, inl, inr}
+use Rattle.std.specs.Prelude.{IfSome, ◌⊎◌, Result}
+use Rattle.std.specs.List.{fold}
+use Rattle.std.proofs.lemmas.Bool.{le-leb}
+use Rattle.std.proofs.lemmas.List.{take_all}
+use Rattle.std.specs.Io.KnownBytes.{Appends}
+use Rattle.wire_base.specs.declared.status.Status.{Status}
+use Rattle.wire_base.specs.declared.status.Status.TheVariants.{Done, Usage, ConfRefused, InputRefused, ReadFault, WriteFault, Memory, CaptureRefused}
+use Rattle.wire_base.specs.model.Configuration.{DomainConf}
+use Rattle.replay_text.specs.declared.event.Event.{Event}
+use Rattle.replay_text.specs.Pieces.{lines_in}
+use Rattle.domain_core.specs.World.{WorldState}
+use Rattle.domain_core.specs.Faults.{event_fault}
+use Rattle.domain_core.specs.Run.{Run, Progress, first_run, goes_on, tries, does, line_done, line_events, world_after}
+use Rattle.domain_conf.specs.Domain.{domain_of}
+use Rattle.domain_conf.specs.declared.fault.ConfFault.{ConfFault}
+use Rattle.domain_replay.specs.Texts.{Refusal, names_of, lines_reach, schedule_reaches}
+use Rattle.replay_run.specs.declared.words.Form.TheVariants.{Replay}
+use Rattle.replay_run.specs.Answer.{Verdict}
+use Rattle.replay_run.specs.DomainFile.{Says, IsRefused}
+use Rattle.replay_run.specs.Judged.{OnHeld}
+use Rattle.replay_run.specs.Replayed.{AreAllowed, AreDone, IsDone, IsReplayed}
+use Rattle.replay_run.specs.ScheduleText.{schedule_answer, answer_to, ending}
+use Rattle.replay_run.specs.Texts.{Ended, close_of, is_short, within_limit, lines_within}
+use Rattle.replay_run.specs.Verdict.{verdict, replay_on, IsDecided}
+use Rattle.replay_run.specs.Outside.{Held, Meets, AppendsFront}
+use Rattle.replay_run.proofs.Owed.{nothing_more, no_front, held_some, ended_so, told}
+
+-- where the domain file says a domain, the verdict is the schedule's
+pub played : (conf left : Option (List ℕ)) (d : DomainConf) (Holds : Verdict → Type 0) → Says conf d → ((octets : List ℕ) × Held left octets × Holds (schedule_answer d octets)) → OnHeld Replay conf left Holds
+unfolding verdict
+played conf left d Holds says answer = (says.0, answer.0, says.1, answer.1, rw says.2 answer.2)
+
+-- where it breaks a rule, that says so
+pub refused_meets : (conf left before now frames : Option (List ℕ)) (result : Status) (line : List ℕ) → IsRefused conf line → IsDecided result → (result ≡ ConfRefused) ⊎ (result ≡ WriteFault) → Appends before now line
+    → OnHeld Replay conf left (λ owed. Meets owed result before now frames frames)
+unfolding verdict
+refused_meets conf left before now frames result line (file, of_conf, (why, breaks, is)) decided ended written =
+    let octets = held_some left in
+    (file, octets.0, of_conf, octets.1,
+        rw breaks (record { status = ended_so ConfRefused result decided ended; report = rw (← is) written; frames = nothing_more frames }))
+
+pub refused_front : (conf left before now frames : Option (List ℕ)) (line : List ℕ) → IsRefused conf line → AppendsFront before now line
+    → OnHeld Replay conf left (λ owed. AppendsFront before now owed.report × AppendsFront frames frames owed.frames)
+unfolding verdict
+refused_front conf left before now frames line (file, of_conf, (why, breaks, is)) front =
+    let octets = held_some left in
+    (file, octets.0, of_conf, octets.1, rw breaks (rw (← is) front, no_front frames []))
+
+-- what holds of each verdict holds of one
+any_holds : (owed : Option Verdict) (Holds : Verdict → Type 0) → ((v : Verdict) → Holds v) → IfSome owed Holds
+any_holds None Holds all = tt
+any_holds (Some v) Holds all = all v
+
+-- before anything is written, fronts are
+pub none_front : (conf left report frames : Option (List ℕ)) → OnHeld Replay conf left (λ owed. AppendsFront report report owed.report × AppendsFront frames frames owed.frames)
+none_front conf left report frames =
+    let file = held_some conf in
+    let octets = held_some left in
+    (file.0, octets.0, file.1, octets.1,
+        any_holds (verdict Replay (Some file.0) (Some octets.0)) (λ owed. AppendsFront report report owed.report × AppendsFront frames frames owed.frames)
+        (λ v. (no_front report v.report, no_front frames v.frames)))
+
+-- ---- schedules that are done
+
+-- an event that is allowed is done
+does_allowed : (line : ℕ) (r : Run) (e : Event) → event_fault r.world e ≡ None → does line (record { run = r; refused = None }) e ≡ record { run = goes_on r (line, e); refused = None }
+unfolding does
+does_allowed line r e allowed = ap (tries r line e) allowed
+
+-- so are events, each of which is, and they lead to the world that they lead to
+all_done : (line : ℕ) (r : Run) (es : List Event) → AreAllowed r.world es
+    → ((fold (does line) (record { run = r; refused = None }) es).refused ≡ None) × ((fold (does line) (record { run = r; refused = None }) es).run.world ≡ world_after r.world es)
+unfolding AreAllowed goes_on
+all_done line r [] are = (refl, refl)
+all_done line r (e ∷ es) (allowed, more) =
+    subst (λ (p : Progress). ((fold (does line) p es).refused ≡ None) × ((fold (does line) p es).run.world ≡ world_after r.world (e ∷ es))) (sym (does_allowed line r e allowed)) (all_done line (goes_on r (line, e)) es more)
+
+-- lines that are done reach no refusal
+none_refused : (names : List (List ℕ)) (line : ℕ) (r : Run) (texts : List (List ℕ)) → AreDone names r.world texts → (lines_reach names line r texts).refused ≡ None
+unfolding AreDone lines_reach line_done
+none_refused names line r [] are = refl
+none_refused names line r (text ∷ more) (said, says, allowed, rest) =
+    let p = line_done line (record { run = r; refused = None }) said in
+    let done = all_done line r (line_events r.world said) allowed in
+    rw (says, done.0) (none_refused names (line + 1) p.run more (subst (λ (w : WorldState). AreDone names w more) (sym done.1) rest))
+
+all_lines : (input : List ℕ) → is_short input ≡ true → length input ≤ 67108864 → lines_within input ≡ lines_in true input
+unfolding within_limit
+all_lines input short is = ap (λ (b : Bool). lines_in b (within_limit input)) short ∙ ap (lines_in true) (take_all 67108864 input is)
+
+-- such a schedule is done
+schedule_done : (d : DomainConf) (octets : List ℕ) → IsDone d octets → (schedule_answer d octets).status ≡ Done
+unfolding schedule_answer schedule_reaches first_run
+schedule_done d octets is =
+    let short : is_short octets ≡ true = le-leb (length octets) 67108864 is.short in
+    let lines = all_lines octets short is.short in
+    ap (λ (b : Bool). (answer_to (close_of b) d (lines_within octets)).status) short
+    ∙ ap (λ (ls : List (List ℕ)). (answer_to Ended d ls).status) lines
+    ∙ ap (λ (o : Option (ℕ × Refusal)). (ending Ended (length (lines_in true octets)) (schedule_reaches d (lines_in true octets)).run o).0) (none_refused (names_of d) 1 (first_run d) (lines_in true octets) is.lines)
+
+-- ---- completeness
+
+pub no_fault_of_four : (result : Status) (conf conf_now input input_now sent sent_now none_sent none_sent_now told told_now none_told none_told_now : ℕ)
+    → (result ≡ ReadFault → (conf < conf_now) ⊎ (input < input_now))
+    → (result ≡ WriteFault → (sent < sent_now) ⊎ ((none_sent < none_sent_now) ⊎ ((told < told_now) ⊎ (none_told < none_told_now))))
+    → conf_now ≡ conf → input_now ≡ input → sent_now ≡ sent → none_sent_now ≡ none_sent → told_now ≡ told → none_told_now ≡ none_told → IsDecided result ⊎ (result ≡ Memory)
+no_fault_of_four Done conf conf_now input input_now sent sent_now none_sent none_sent_now told told_now none_told none_told_now read write a b c d e f = inl tt
+no_fault_of_four Usage conf conf_now input input_now sent sent_now none_sent none_sent_now told told_now none_told none_told_now read write a b c d e f = inl tt
+no_fault_of_four ConfRefused conf conf_now input input_now sent sent_now none_sent none_sent_now told told_now none_told none_told_now read write a b c d e f = inl tt
+no_fault_of_four InputRefused conf conf_now input input_now sent sent_now none_sent none_sent_now told told_now none_told none_told_now read write a b c d e f = inl tt
+no_fault_of_four CaptureRefused conf conf_now input input_now sent sent_now none_sent none_sent_now told told_now none_told none_told_now read write a b c d e f = inl tt
+no_fault_of_four Memory conf conf_now input input_now sent sent_now none_sent none_sent_now told told_now none_told none_told_now read write a b c d e f = inr refl
+no_fault_of_four ReadFault conf conf_now input input_now sent sent_now none_sent none_sent_now told told_now none_told none_told_now read write a b c d e f = elim (read refl) [
+  | inl rose ↦ absurd (omega (arith, rose, a))
+  | inr rose ↦ absurd (omega (arith, rose, b))
+]
+no_fault_of_four WriteFault conf conf_now input input_now sent sent_now none_sent none_sent_now told told_now none_told none_told_now read write a b c d e f = elim (write refl) [
+  | inl rose ↦ absurd (omega (arith, rose, c))
+  | inr more ↦ elim more [
+    | inl rose ↦ absurd (omega (arith, rose, d))
+    | inr last ↦ elim last [
+      | inl rose ↦ absurd (omega (arith, rose, e))
+      | inr rose ↦ absurd (omega (arith, rose, f))
+    ]
+  ]
+]
+
+pub replay_done : (conf left before now frames frames_now : Option (List ℕ)) (result : Status) (A B C D E F : Type 0)
+    → (A → B → C → D → E → F → IsDecided result ⊎ (result ≡ Memory))
+    → (IsDecided result → OnHeld Replay conf left (λ owed. Meets owed result before now frames frames_now))
+    → IfSome conf (λ file. IfSome left (λ octets. IsReplayed file octets → A → B → C → D → E → F → (result ≡ Done) ⊎ (result ≡ Memory)))
+unfolding verdict
+replay_done None left before now frames frames_now result A B C D E F decided answer = tt
+replay_done (Some file) None before now frames frames_now result A B C D E F decided answer = tt
+replay_done (Some file) (Some octets) before now frames frames_now result A B C D E F decided answer = λ is a b c d e f. elim (decided a b c d e f) [
+  | inr memory ↦ inr memory
+  | inl known ↦
+      let met = told Replay (Some file) (Some octets) (λ owed. Meets owed result before now frames frames_now) (answer known) in
+      let played : IfSome (replay_on (Ok is.domain) (Some octets)) (λ owed. Meets owed result before now frames frames_now) = 
+          subst (λ (read : Result DomainConf ConfFault). IfSome (replay_on read (Some octets)) (λ owed. Meets owed result before now frames frames_now)) is.says met in
+      inl (played.status ∙ schedule_done is.domain octets is.schedule)
+]

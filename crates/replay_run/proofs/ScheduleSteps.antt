@@ -1,0 +1,237 @@
+-- A schedule, line by line.
+use Rattle.std.proofs.Common.{◌≡◌, ◌≢◌, ℕ, ◌+◌, ◌<◌, List, [], ◌∷◌, ◌++◌, length, Option, Some, None, Result, Ok, Err, refl, sym, ap, subst, ◌∙◌, append_assoc, append-nil, arith}
+use Rattle.std.specs.Prelude.{IfOk, OnOk}
+use Rattle.std.specs.List.{fold}
+use Rattle.std.proofs.lemmas.Bool.{lt-ltb}
+use Rattle.std.proofs.lemmas.List.{length-map}
+use Rattle.wire_base.specs.declared.conf.RouterConf.{RouterConf}
+use Rattle.wire_base.specs.declared.status.Status.{Status}
+use Rattle.wire_base.specs.declared.status.Status.TheVariants.{InputRefused}
+use Rattle.wire_base.specs.model.Configuration.{DomainConf}
+use Rattle.replay_text.specs.declared.event.Event.{Event}
+use Rattle.replay_text.specs.declared.event.Event.TheVariants as event
+use Rattle.replay_text.specs.declared.event.Line.{Line}
+use Rattle.replay_text.specs.declared.event.Line.TheVariants as line
+use Rattle.replay_text.specs.declared.fault.TextFault.{TextFault}
+use Rattle.replay_text.specs.declared.fault.TextFault.TheVariants as fault
+use Rattle.replay_text.specs.Events.{EventFits, LineFits}
+use Rattle.replay_text.specs.Reading.{Fails}
+use Rattle.replay_text.specs.Schedule.{schedule_line}
+use Rattle.domain_core.specs.declared.fault.EventFault.{EventFault}
+use Rattle.domain_core.specs.World.{WorldState, ids_in_flight}
+use Rattle.domain_core.specs.Faults.{event_fault}
+use Rattle.domain_core.specs.Step.{happens}
+use Rattle.domain_core.specs.Run.{Run, Progress, line_done, line_events, on_line}
+use Rattle.domain_replay.specs.declared.counts.Counts.{Counts}
+use Rattle.domain_replay.specs.Counting.{counts_of}
+use Rattle.domain_replay.specs.Lines.{done_text, event_refused_text, text_refused_text, text_fault}
+use Rattle.domain_replay.specs.Telling.{Telling, Told, told, sent_records, tells, tells_made, tells_or, tells_unless, tells_on, tells_all, tells_line, telling_of, at_line, IsEntered, LineEnters, IsToldSo}
+use Rattle.domain_replay.specs.Texts.{Refusal, BadText, BadEvent, Reached, made_text, run_text, capture_text, run_done_text, refusal_text, reached_so, reached_by, line_reaches, lines_reach, goes_further, and_further, names_of}
+use Rattle.domain_replay.proofs.TellingLaws.{line_told}
+use Rattle.replay_run.specs.Answer.{Verdict}
+use Rattle.replay_run.specs.Texts.{Close, Ended}
+use Rattle.replay_run.specs.ScheduleText.{ending, ends_so, answer_by}
+use Rattle.replay_run.specs.Scheduling.{Course, past, IsAt, owed, gained, Reaches, said_reaches, next_reaches, EndsWith}
+
+-- ---- what is told doesn't hang on what stands before both texts
+
+abbrev past_told : (frames report : List ℕ) → Told → Told
+past_told frames report t = record { telling = past frames report t.telling; refused = t.refused }
+
+tells_past : (line : ℕ) (f g : List ℕ) (t : Telling) (e : Event) → tells line (past f g t) e ≡ past f g (tells line t e)
+unfolding tells
+tells_past line f g t e =
+    let n = happens t.world e in
+    let frames = append_assoc f t.frames (sent_records t.world.domain.routers line n.made.sent) in
+    let report = append_assoc g t.report (made_text t.world.domain.routers line n.made) in
+    λ i. record { world = (tells line t e).world; counts = (tells line t e).counts; frames = frames i; report = report i }
+
+or_past : (line : ℕ) (f g : List ℕ) (t : Telling) (e : Event) (o : Option EventFault) → tells_or line (past f g t) e o ≡ past_told f g (tells_or line t e o)
+or_past line f g t e None = ap told (tells_past line f g t e)
+or_past line f g t e (Some why) = refl
+
+on_past : (line : ℕ) (f g : List ℕ) (t : Told) (e : Event) → tells_on line (past_told f g t) e ≡ past_told f g (tells_on line t e)
+unfolding tells_on
+on_past line f g t e = by t.refused
+  where
+    by : (o : Option EventFault) → tells_unless line (past_told f g t) e o ≡ past_told f g (tells_unless line t e o)
+    by None = or_past line f g t.telling e (event_fault t.telling.world e)
+    by (Some why) = refl
+
+all_past : (line : ℕ) (f g : List ℕ) (t : Told) (es : List Event) → tells_all line (past_told f g t) es ≡ past_told f g (tells_all line t es)
+unfolding tells_all
+all_past line f g t [] = refl
+all_past line f g t (e ∷ es) = ap (λ (x : Told). fold (tells_on line) x es) (on_past line f g t e) ∙ all_past line f g (tells_on line t e) es
+
+line_past : (line : ℕ) (f g : List ℕ) (t : Telling) (said : Line) → tells_line line (past f g t) said ≡ past_told f g (tells_line line t said)
+unfolding tells_line
+line_past line f g t said = all_past line f g (told t) (line_events t.world said)
+
+-- ---- an end of both texts
+
+pub ends_there : (course : Course) (r : Run) (now later : Telling) (end : Status × List ℕ) → IsAt (record course { run = r }) now → later.frames ≡ now.frames → later.report ≡ now.report ++ end.1
+    → ends_so course.domain r end ≡ gained course end.0 later
+ends_there course r now later end at frames report =
+    let whole : run_text course.domain r ++ end.1 ≡ course.report ++ later.report =
+        ap (λ (t : Telling). t.report ++ end.1) at.telling ∙ append_assoc course.report now.report end.1 ∙ ap (λ (l : List ℕ). course.report ++ l) (sym report) in
+    let capture : capture_text course.domain r ≡ course.frames ++ later.frames = ap (λ (t : Telling). t.frames) at.telling ∙ ap (λ (l : List ℕ). course.frames ++ l) (sym frames) in
+    λ i. record { status = end.0; report = whole i; frames = capture i }
+
+-- ---- a line that says something
+
+run_reached : (r : Run) (o : Option (ℕ × EventFault)) → (reached_so r o).run ≡ r
+run_reached r None = refl
+run_reached r (Some why) = refl
+
+abbrev after : Course → (line : ℕ) → Line → Progress
+after course line said = line_done line (record { run = course.run; refused = None }) said
+
+module _ (course : Course) (line : ℕ) (said : Line) (old now : Telling) (why : Option EventFault) (at : IsAt course old) (enters : LineEnters (length course.domain.routers) said)
+    (tells : tells_line line old said ≡ record { telling = now; refused = why }) where
+  so : IsToldSo course.domain line (after course line said) (tells_line line (telling_of course.domain course.run) said)
+  so = line_told course.domain line course.run said at.run enters
+
+  told_as : tells_line line (telling_of course.domain course.run) said ≡ record { telling = past course.frames course.report now; refused = why }
+  told_as = ap (λ (t : Telling). tells_line line t said) at.telling ∙ line_past line course.frames course.report old said ∙ ap (past_told course.frames course.report) tells
+
+  refused_as : (after course line said).refused ≡ at_line line why
+  refused_as = so.refused ∙ ap (λ (t : Told). at_line line t.refused) told_as
+
+  at_run : IsAt (record course { run = (after course line said).run }) now
+  at_run = record { run = so.run; telling = sym so.telling ∙ ap (λ (t : Told). t.telling) told_as }
+
+pub said_done : (course : Course) (line : ℕ) (said : Line) (old now : Telling) → IsAt course old → LineEnters (length course.domain.routers) said
+    → tells_line line old said ≡ told now → Reaches (said_reaches line course said) course now None
+said_done course line said old now at enters is =
+    let q = after course line said in
+    let none = refused_as course line said old now None at enters is in
+    (ap (λ (o : Option (ℕ × EventFault)). (reached_so q.run o).refused) none,
+    subst (λ (r : Run). IsAt (record course { run = r }) now) (sym (run_reached q.run q.refused)) (at_run course line said old now None at enters is))
+
+pub said_refused : (course : Course) (line : ℕ) (said : Line) (old now later : Telling) (why : EventFault) → IsAt course old → LineEnters (length course.domain.routers) said
+    → tells_line line old said ≡ record { telling = now; refused = Some why } → later.frames ≡ now.frames → later.report ≡ now.report ++ event_refused_text line why
+    → Reaches (said_reaches line course said) course later (Some InputRefused)
+said_refused course line said old now later why at enters is frames report =
+    let q = after course line said in
+    let some = refused_as course line said old now (Some why) at enters is in
+    let end : Status × List ℕ = (InputRefused, event_refused_text line why) in
+    ((line, BadEvent why),
+    ap (λ (o : Option (ℕ × EventFault)). (reached_so q.run o).refused) some,
+    ap (λ (r : Run). ends_so course.domain r end) (run_reached q.run q.refused)
+    ∙ ends_there course q.run now later end (at_run course line said old now (Some why) at enters is) frames report)
+
+-- an event that fits a domain is at a router that is there
+pub fits_enters : (n m : ℕ) (said : Line) → n ≡ m → LineFits n said → LineEnters m said
+fits_enters n m said same fits = subst (λ (k : ℕ). LineEnters k said) same (by said fits)
+  where
+    event_by : (e : Event) → EventFits n e → IsEntered n e
+    event_by (event.Inject router sd bsl ids ttl entropy payload) fits = fits.within
+    event_by (event.Take from to i) fits = tt
+    event_by (event.Lose from to i) fits = tt
+    event_by (event.Again from to i) fits = tt
+    event_by (event.Down from to) fits = tt
+    event_by (event.Up from to) fits = tt
+    event_by (event.Send from to) fits = tt
+    event_by (event.Tick router) fits = tt
+    event_by (event.Restart router) fits = tt
+
+    by : (l : Line) → LineFits n l → LineEnters n l
+    by line.Empty fits = tt
+    by (line.One e) fits = event_by e fits
+    by (line.Settle rounds) fits = tt
+
+-- the domain at which a replay stands
+pub domain_at : (course : Course) (now : Telling) → IsAt course now → now.world.domain ≡ course.domain
+domain_at course now at = ap (λ (t : Telling). t.world.domain) (sym at.telling) ∙ at.run.domain
+
+-- ---- a line that says nothing
+
+is_fault : {X : Type 0} (why : TextFault) (read : Result X TextFault) → Fails why read → why ≢ fault.Memory → read ≡ Err why
+is_fault fault.Word read is known = is
+is_fault fault.Number read is known = is
+is_fault fault.Name read is known = is
+is_fault fault.Hex read is known = is
+is_fault fault.LineLong read is known = is
+is_fault fault.Memory read is known = absurd (known refl)
+
+pub text_refused : (course : Course) (n : ℕ) (line : List ℕ) (names : List (List ℕ)) (old later : Telling) (why : TextFault) (ended : Status) → IsAt course old → names ≡ names_of old.world.domain
+    → Fails why (schedule_line line names) → why ≢ fault.Memory → ended ≡ InputRefused → later ≡ record old { report = old.report ++ text_refused_text (n + 1) (text_fault why) }
+    → Reaches (next_reaches n course line) course later (Some ended)
+text_refused course n line names old later why ended at named fails known is grown =
+    let same : names ≡ names_of course.domain = named ∙ ap names_of (domain_at course old at) in
+    let reads : schedule_line line (names_of course.domain) ≡ Err why = subst (λ (l : List (List ℕ)). schedule_line line l ≡ Err why) same (is_fault why (schedule_line line names) fails known) in
+    let reached : next_reaches n course line ≡ record { run = course.run; refused = Some (n + 1, BadText why) } = ap (line_reaches (n + 1) course.run) reads in
+    let end : Status × List ℕ = (InputRefused, text_refused_text (n + 1) (text_fault why)) in
+    ((n + 1, BadText why),
+    ap (λ (x : Reached). x.refused) reached,
+    ap (λ (x : Reached). ends_so course.domain x.run end) reached
+    ∙ ends_there course course.run old later end at (ap (λ (x : Telling). x.frames) grown) (ap (λ (x : Telling). x.report) grown)
+    ∙ ap (λ (s : Status). gained course s later) (sym is))
+
+pub long_line : (long : List ℕ) (names : List (List ℕ)) → 16384 < length long → schedule_line long names ≡ Err fault.LineLong
+unfolding schedule_line
+long_line long names is = rw (lt-ltb 16384 (length long) is) refl
+
+line_long : fault.LineLong ≡ fault.Memory → ⊥
+line_long e = cc
+
+pub long_refused : {E : Type 0} (n : ℕ) (old later : Telling) (result : Result Status E) → IfOk result (λ ended. ended ≡ InputRefused)
+    → OnOk result (later ≡ record old { report = old.report ++ text_refused_text (n + 1) (text_fault fault.LineLong) })
+    → IfOk result (λ ended. (course : Course) → IsAt course old → (long : List ℕ) → 16384 < length long → Reaches (next_reaches n course long) course later (Some ended))
+long_refused n old later (Ok ended) is grown = λ course at long lt.
+    text_refused course n long (names_of old.world.domain) old later fault.LineLong ended at refl (long_line long (names_of old.world.domain) lt) line_long is grown
+long_refused n old later (Err e) is grown = tt
+
+-- what a line reaches that says that
+pub said_next : (course : Course) (n : ℕ) (line : List ℕ) (names : List (List ℕ)) (old later : Telling) (said : Line) (ended : Option Status) → IsAt course old → names ≡ names_of old.world.domain
+    → schedule_line line names ≡ Ok said → Reaches (said_reaches (n + 1) course said) course later ended → Reaches (next_reaches n course line) course later ended
+said_next course n line names old later said ended at named reads reaches =
+    let same : names ≡ names_of course.domain = named ∙ ap names_of (domain_at course old at) in
+    let next : next_reaches n course line ≡ said_reaches (n + 1) course said = ap (line_reaches (n + 1) course.run) (subst (λ (l : List (List ℕ)). schedule_line line l ≡ Ok said) same reads) in
+    subst (λ (x : Reached). Reaches x course later ended) (sym next) reaches
+
+-- ---- the lines after it
+
+pub reaches_goes : (close : Close) (n : ℕ) (line : List ℕ) (more : List (List ℕ)) (course : Course) (now : Telling) → Reaches (next_reaches n course line) course now None
+    → owed close n (line ∷ more) course ≡ owed close (n + 1) more (record course { run = (next_reaches n course line).run })
+unfolding lines_reach
+reaches_goes close n line more course now reaches =
+    let reached = next_reaches n course line in
+    let rest : Run → Reached = λ next. lines_reach (names_of course.domain) (n + 1 + 1) next more in
+    let lines : n + length (line ∷ more) ≡ n + 1 + length more = omega arith in
+    ap (λ (m : ℕ). answer_by close course.domain m (goes_further rest reached.run reached.refused)) lines
+    ∙ ap (λ (o : Option (ℕ × Refusal)). answer_by close course.domain (n + 1 + length more) (goes_further rest reached.run o)) reaches.0
+
+pub reaches_ends : (close : Close) (n : ℕ) (line : List ℕ) (more : List (List ℕ)) (course : Course) (now : Telling) (ended : Status) → Reaches (next_reaches n course line) course now (Some ended)
+    → EndsWith close n (line ∷ more) course now (Some ended)
+unfolding lines_reach
+reaches_ends close n line more course now ended reaches =
+    let reached = next_reaches n course line in
+    let rest : Run → Reached = λ next. lines_reach (names_of course.domain) (n + 1 + 1) next more in
+    ap (λ (o : Option (ℕ × Refusal)). answer_by close course.domain (n + length (line ∷ more)) (goes_further rest reached.run o)) reaches.1 ∙ reaches.2
+
+-- ---- the end of the lines
+
+none_left : (close : Close) (n : ℕ) (course : Course) → owed close n [] course ≡ ends_so course.domain course.run (ending close n course.run None)
+unfolding lines_reach
+none_left close n course =
+    let lines : n + 0 ≡ n = omega arith in
+    ap (λ (m : ℕ). ends_so course.domain course.run (ending close m course.run None)) lines
+
+pub ends : (close : Close) (n : ℕ) (course : Course) (old later : Telling) (end : Status × List ℕ) → IsAt course old → ending close n course.run None ≡ end → later.frames ≡ old.frames → later.report ≡ old.report ++ end.1
+    → EndsWith close n [] course later (Some end.0)
+ends close n course old later end at is frames report =
+    none_left close n course ∙ ap (ends_so course.domain course.run) is ∙ ends_there course course.run old later end at frames report
+
+-- what the last line of a report says of the run
+pub done_at : (course : Course) (n : ℕ) (old : Telling) → IsAt course old → run_done_text course.run n ≡ done_text n old.counts (ids_in_flight old.world.flights)
+done_at course n old at = ap (λ (t : Telling). done_text n t.counts (ids_in_flight t.world.flights)) at.telling
+
+-- the last line was done, and then the schedule ends
+pub then_ends : {E : Type 0} (n : ℕ) (line : List ℕ) (old mid later : Telling) (result : Result Status E)
+    → ((course : Course) → IsAt course old → Reaches (next_reaches n course line) course mid None) → IfOk result (λ ended. (course : Course) → IsAt course mid → EndsWith Ended (n + 1) [] course later (Some ended))
+    → IfOk result (λ ended. (course : Course) → IsAt course old → EndsWith Ended n (line ∷ []) course later (Some ended))
+then_ends n line old mid later (Ok ended) goes is = λ course at.
+    let reaches = goes course at in
+    reaches_goes Ended n line [] course mid reaches ∙ is (record course { run = (next_reaches n course line).run }) reaches.1
+then_ends n line old mid later (Err e) goes is = tt

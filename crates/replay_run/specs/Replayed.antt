@@ -1,0 +1,35 @@
+-- Domain files and schedules that are done to their end.
+use Rattle.std.specs.Prelude.{ℕ, ◌≡◌, ◌≤◌, true, List, [], ◌∷◌, length, None, Ok}
+use Rattle.wire_base.specs.model.Configuration.{DomainConf}
+use Rattle.replay_text.specs.declared.event.Event.{Event}
+use Rattle.replay_text.specs.declared.event.Line.{Line}
+use Rattle.replay_text.specs.Pieces.{lines_in}
+use Rattle.replay_text.specs.Schedule.{schedule_line}
+use Rattle.domain_core.specs.World.{WorldState, first_world}
+use Rattle.domain_core.specs.Step.{happens}
+use Rattle.domain_core.specs.Faults.{event_fault}
+use Rattle.domain_core.specs.Run.{line_events, world_after}
+use Rattle.domain_conf.specs.Domain.{domain_of}
+use Rattle.domain_replay.specs.Texts.{names_of}
+
+-- each event is allowed in the world before it
+unfoldable pub AreAllowed : WorldState → List Event → Type 0
+AreAllowed w [] = Unit {0}
+AreAllowed w (e ∷ es) = (event_fault w e ≡ None) × AreAllowed (happens w e).world es
+
+-- each line is in the grammar, and each of its events is allowed
+unfoldable pub AreDone : (names : List (List ℕ)) → WorldState → List (List ℕ) → Type 0
+AreDone names w [] = Unit {0}
+AreDone names w (text ∷ more) =
+    (said : Line) × (schedule_line text names ≡ Ok said) × AreAllowed w (line_events w said) × AreDone names (world_after w (line_events w said)) more
+
+-- a schedule that isn't too long, each line of which is done in that domain
+pub record IsDone (d : DomainConf) (schedule : List ℕ) : Type 0 where
+  pub short : length schedule ≤ 67108864
+  pub lines : AreDone (names_of d) (first_world d) (lines_in true schedule)
+
+-- a valid domain file, and such a schedule for its domain
+pub record IsReplayed (file octets : List ℕ) : Type 0 where
+  pub domain : DomainConf
+  pub says : domain_of file ≡ Ok domain
+  pub schedule : IsDone domain octets

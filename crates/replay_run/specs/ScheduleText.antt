@@ -1,0 +1,38 @@
+-- A schedule: the texts of a domain's run over its lines, and how they end.
+use Rattle.std.specs.Prelude.{ℕ, ◌+◌, false, List, [], ◌++◌, length, Option, Some, None}
+use Rattle.wire_base.specs.declared.status.Status.{Status}
+use Rattle.wire_base.specs.declared.status.Status.TheVariants.{Done, InputRefused, ReadFault}
+use Rattle.wire_base.specs.model.Configuration.{DomainConf}
+use Rattle.replay_text.specs.Pieces.{lines_in}
+use Rattle.domain_core.specs.Run.{Run}
+use Rattle.domain_replay.specs.Texts.{Refusal, TooLong, Reached, capture_text, run_text, run_done_text, refusal_text, schedule_reaches}
+use Rattle.replay_run.specs.Answer.{Verdict}
+use Rattle.replay_run.specs.Texts.{Close, Ended, Longer, Cut, close_of, is_short, lines_within}
+
+-- How the report on so many lines ends: where one was refused, at the end of the schedule, or at the line that passes the limit.
+-- Where the schedule's source failed, nothing is said.
+abbrev pub ending : Close → (lines : ℕ) → Run → Option (ℕ × Refusal) → Status × List ℕ
+ending close lines r (Some refused) = (InputRefused, refusal_text refused.0 refused.1)
+ending Ended lines r None = (Done, run_done_text r lines)
+ending Longer lines r None = (InputRefused, refusal_text (lines + 1) TooLong)
+ending Cut lines r None = (ReadFault, [])
+
+-- the capture of a run, and its report with that end
+abbrev pub ends_so : DomainConf → Run → Status × List ℕ → Verdict
+ends_so d r end = record { status = end.0; report = run_text d r ++ end.1; frames = capture_text d r }
+
+-- what so many lines reached, with the end of the report
+abbrev pub answer_by : Close → DomainConf → (lines : ℕ) → Reached → Verdict
+answer_by close d lines reached = ends_so d reached.run (ending close lines reached.run reached.refused)
+
+-- the status and the texts of a schedule that has those lines and closes so
+abbrev pub answer_to : Close → DomainConf → List (List ℕ) → Verdict
+answer_to close d lines = answer_by close d (length lines) (schedule_reaches d lines)
+
+-- those of a schedule
+unfoldable pub schedule_answer : DomainConf → List ℕ → Verdict
+schedule_answer d schedule = answer_to (close_of (is_short schedule)) d (lines_within schedule)
+
+-- those of the lines that are whole in octets behind which the source failed
+unfoldable pub schedule_cut : DomainConf → List ℕ → Verdict
+schedule_cut d octets = answer_to Cut d (lines_in false octets)

@@ -1,0 +1,88 @@
+-- How far a schedule was done.
+use Rattle.std.specs.Prelude.{ℕ, ◌≡◌, ◌<◌, ◌+◌, List, [], ◌∷◌, ◌++◌, length, Option, Some, None}
+use Rattle.std.specs.Io.KnownBytes.{Appends}
+use Rattle.wire_base.specs.declared.status.Status.{Status}
+use Rattle.wire_base.specs.declared.status.Status.TheVariants.{InputRefused}
+use Rattle.wire_base.specs.model.Configuration.{DomainConf}
+use Rattle.replay_text.specs.declared.event.Line.{Line}
+use Rattle.replay_text.specs.Schedule.{schedule_line}
+use Rattle.domain_core.specs.Run.{Run, line_done}
+use Rattle.domain_replay.specs.Telling.{Telling, telling_of, IsRunOf}
+use Rattle.domain_replay.specs.Texts.{Refusal, Reached, refusal_text, reached_by, line_reaches, lines_reach, names_of}
+use Rattle.replay_run.specs.declared.reader.Found.{Found}
+use Rattle.replay_run.specs.declared.reader.Found.TheVariants as found
+use Rattle.replay_run.specs.Answer.{Verdict}
+use Rattle.replay_run.specs.Texts.{Close, Ended, Longer, Cut}
+use Rattle.replay_run.specs.HopReached.{Begins}
+use Rattle.replay_run.specs.ScheduleText.{ends_so, answer_by}
+
+-- A run on its way: the run of a domain so far, and the fronts of its texts that are written out.
+pub record Course : Type 0 where
+  pub domain : DomainConf
+  pub run : Run
+  pub frames : List ℕ
+  pub report : List ℕ
+
+-- what is told, with those fronts before both texts
+abbrev pub past : (frames report : List ℕ) → Telling → Telling
+past frames report t = record { world = t.world; counts = t.counts; frames = frames ++ t.frames; report = report ++ t.report }
+
+-- A replay stands at a run on its way: with the fronts that are written out its texts are the run's.
+pub record IsAt (course : Course) (now : Telling) : Type 0 where
+  pub run : IsRunOf course.domain course.run
+  pub telling : telling_of course.domain course.run ≡ past course.frames course.report now
+
+-- the verdict on a run on its way, where those lines follow n others and the schedule closes so
+abbrev pub owed : Close → (n : ℕ) → List (List ℕ) → Course → Verdict
+owed close n lines course = answer_by close course.domain (n + length lines) (lines_reach (names_of course.domain) (n + 1) course.run lines)
+
+-- a status, and the texts with what stands in a replay
+abbrev pub gained : Course → Status → Telling → Verdict
+gained course ended now = record { status = ended; report = course.report ++ now.report; frames = course.frames ++ now.frames }
+
+-- ---- a line
+
+-- What a line reaches was done: the run goes on, or the line is refused, and both texts say so.
+abbrev pub Reaches : Reached → Course → Telling → Option Status → Type 0
+Reaches reached course now None = (reached.refused ≡ None) × IsAt (record course { run = reached.run }) now
+Reaches reached course now (Some ended) =
+    (why : ℕ × Refusal) × (reached.refused ≡ Some why)
+    × (ends_so course.domain reached.run (InputRefused, refusal_text why.0 why.1) ≡ gained course ended now)
+
+-- what a line with a number says
+abbrev pub said_reaches : ℕ → Course → Line → Reached
+said_reaches line course said = reached_by (line_done line (record { run = course.run; refused = None }) said)
+
+-- what a line reaches that follows n others
+abbrev pub next_reaches : ℕ → Course → List ℕ → Reached
+next_reaches n course line = line_reaches (n + 1) course.run (schedule_line line (names_of course.domain))
+
+-- the texts end
+abbrev pub EndsWith : Close → ℕ → List (List ℕ) → Course → Telling → Option Status → Type 0
+EndsWith close n lines course now None = ⊥
+EndsWith close n lines course now (Some ended) = owed close n lines course ≡ gained course ended now
+
+-- What was done where a reader found that, with n lines done.
+abbrev pub Turns : Found → ℕ → List ℕ → Course → Telling → Option Status → Type 0
+Turns found.Line n line course now ended = Reaches (next_reaches n course line) course now ended
+Turns found.Last n line course now ended = EndsWith Ended n (line ∷ []) course now ended
+Turns found.Long n line course now ended = (long : List ℕ) → 16384 < length long → Reaches (next_reaches n course long) course now ended
+Turns found.LongLast n line course now ended = (long : List ℕ) → 16384 < length long → Reaches (next_reaches n course long) course now ended
+Turns found.End n line course now ended = EndsWith Ended n [] course now ended
+Turns found.TooLong n line course now ended = EndsWith Longer n [] course now ended
+Turns found.Failed n line course now ended = EndsWith Cut n [] course now ended
+
+-- ---- both sinks
+
+-- With what stands in a replay both sinks gain what is owed.
+pub record Owing (owing : Verdict) (ended : Status) (now : Telling) (report_before report_now frames_before frames_now : Option (List ℕ)) : Type 0 where
+  pub report : List ℕ
+  pub frames : List ℕ
+  pub report_written : Appends report_before report_now report
+  pub frames_written : Appends frames_before frames_now frames
+  pub is : owing ≡ record { status = ended; report = report ++ now.report; frames = frames ++ now.frames }
+
+-- and here fronts of it
+pub record Begun (owing : Verdict) (now : Telling) (report_before report_now frames_before frames_now : Option (List ℕ)) : Type 0 where
+  pub report : Begins report_before report_now now.report owing.report
+  pub frames : Begins frames_before frames_now now.frames owing.frames

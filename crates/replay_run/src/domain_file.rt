@@ -1,0 +1,87 @@
+//! The domain file, which is read whole.
+ghost use Rattle.std.specs.Prelude.{◌≡◌, ◌≢◌, ◌<◌, IfOk, IfErr, OnOk};
+ghost use Rattle.wire_base.specs.Causes.{last_count};
+ghost use Rattle.wire_base.specs.declared.status.Status.TheVariants as status;
+ghost use Rattle.domain_conf.specs.declared.fault.ConfFault.TheVariants as faults;
+ghost use Rattle.replay_run.specs.declared.domain_file.NoDomain.TheVariants as no;
+ghost use Rattle.domain_replay.specs.Lines.{conf_refused_text};
+ghost use Rattle.replay_run.specs.DomainFile.{Says, ReadsAs, StoppedBy, HasNone};
+
+use crate::whole::buffer;
+use domain_conf::{ConfFault, read_domain};
+use domain_replay::push_conf_refused;
+use std::alloc::Global;
+use wire_base::{Domain, M, Memory, Octets, Source, Status};
+
+/// How many octets a domain file may have. Of a longer one no more is read than shows it.
+const MOST: usize = 4_194_304;
+
+/// Why there is no domain.
+#[derive(Drop)]
+pub enum NoDomain {
+    /// The file breaks a rule, and this is the line that says so.
+    Refused(Octets),
+    /// The source failed, or memory ran out.
+    Stopped(Status),
+}
+
+impl From<Memory> for NoDomain {
+    ghost from_gives = { λ _ e. e ≡ no.Stopped status.Memory };
+
+    fn from(_: Memory) -> Self {
+        NoDomain::Stopped(Status::Memory)
+    }
+}
+
+impl From<Status> for NoDomain {
+    ghost from_gives = { λ why e. e ≡ no.Stopped why };
+
+    fn from(why: Status) -> Self {
+        NoDomain::Stopped(why)
+    }
+}
+
+/// All that a source holds; or its front, where that alone is too long for a domain file.
+fn read_whole<D: Source>(alloc: Global, conf: &mut D) -> Result<Octets, Status>
+    requires faults { D.faults conf.old < last_count }
+    ensures text { IfOk result (λ text. ReadsAs (D.left conf.old) text) }
+    ensures quiet { OnOk result (D.faults conf.new ≡ D.faults conf.old) }
+    ensures stopped { IfErr result (λ why. StoppedBy (D.faults conf.old) (D.faults conf.new) why) }
+{
+    let mut buffer = buffer(alloc)?;
+    let mut text = Octets::new(alloc);
+    'pieces: while text.len() <= MOST {
+        let Ok(count) = conf.read(&mut buffer) else {
+            return Err(Status::ReadFault);
+        };
+        if count == 0 {
+            return Ok(text);
+        }
+        text.append(&buffer[..count])?;
+    }
+    Ok(text)
+}
+
+/// The line on a file that breaks a rule.
+fn refused_line(alloc: Global, why: &ConfFault) -> M<Octets>
+    ensures known { OnOk result (why.now ≢ faults.Memory) }
+    ensures text { IfOk result (λ line. line ≡ conf_refused_text why.now) }
+{
+    let mut line = Octets::new(alloc);
+    push_conf_refused(alloc, &mut line, why)?;
+    Ok(line)
+}
+
+/// The domain of a domain file, or why there is none.
+pub fn domain_in<D: Source>(alloc: Global, conf: &mut D) -> Result<Domain, NoDomain>
+    requires faults { D.faults conf.old < last_count }
+    ensures domain { IfOk result (λ domain. Says (D.left conf.old) domain) }
+    ensures quiet { OnOk result (D.faults conf.new ≡ D.faults conf.old) }
+    ensures none { IfErr result (λ why. HasNone (D.left conf.old) (D.faults conf.old) (D.faults conf.new) why) }
+{
+    let text = read_whole(alloc, conf)?;
+    match read_domain(alloc, text.as_slice()) {
+        Ok(domain) => Ok(domain),
+        Err(why) => Err(NoDomain::Refused(refused_line(alloc, &why)?)),
+    }
+}

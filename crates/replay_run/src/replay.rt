@@ -1,0 +1,202 @@
+//! The command `replay`: a domain over a schedule.
+ghost use Rattle.std.specs.Prelude.{◌≡◌, ◌⊎◌, ◌<◌, ◌≢◌, ◌++◌, ℕ, List, false, IfOk, IfErr, OnOk, OnErr};
+ghost use Rattle.std.specs.Io.KnownBytes.{IsAtEnd, Consumes, Appends};
+ghost use Rattle.wire_base.specs.Causes.{last_count};
+ghost use Rattle.wire_base.specs.declared.status.Status.TheVariants as status;
+ghost use Rattle.replay_run.specs.ScheduleText.{schedule_answer, schedule_cut};
+ghost use Rattle.replay_run.specs.Scheduling.{Owing, Begun};
+ghost use Rattle.replay_run.specs.Verdict.{IsDecided};
+ghost use Rattle.replay_run.specs.Outside.{Held, Meets, AppendsFront};
+
+mod lines;
+
+use crate::reader::LineReader;
+use crate::whole::{PIECE, write_all, write_whole};
+use domain_replay::Replay;
+use lines::{names_in, take_found};
+use std::alloc::Global;
+use wire_base::{Domain, Failed, Sink, Source, Status};
+
+/// Writes the capture out, once there is much of it.
+fn flush_frames<C: Sink>(frames: &mut C, replay: &mut Replay) -> Result<(), Failed>
+    requires faults { C.faults frames.old < last_count }
+    requires zeros { C.zeros frames.old < last_count }
+    ensures written { OnOk result ((flushed : List ℕ) × Appends (C.written frames.old) (C.written frames.new) flushed × (replay.old.frames ≡ flushed ++ replay.new.frames)) }
+    ensures rest { OnOk result (replay.new ≡ record replay.old { frames = replay.new.frames }) }
+    ensures quiet { OnOk result (C.faults frames.new ≡ C.faults frames.old) }
+    ensures no_zeros { OnOk result (C.zeros frames.new ≡ C.zeros frames.old) }
+    ensures front { OnErr result (AppendsFront (C.written frames.old) (C.written frames.new) replay.old.frames) }
+    ensures cause { OnErr result ((C.faults frames.old < C.faults frames.new) ⊎ (C.zeros frames.old < C.zeros frames.new)) }
+{
+    if replay.frames().len() < PIECE {
+        return Ok(());
+    }
+    write_all(frames, replay.frames())?;
+    replay.clear_frames();
+    Ok(())
+}
+
+/// Writes the report out, once there is much of it.
+fn flush_report<R: Sink>(report: &mut R, replay: &mut Replay) -> Result<(), Failed>
+    requires faults { R.faults report.old < last_count }
+    requires zeros { R.zeros report.old < last_count }
+    ensures written { OnOk result ((flushed : List ℕ) × Appends (R.written report.old) (R.written report.new) flushed × (replay.old.report ≡ flushed ++ replay.new.report)) }
+    ensures rest { OnOk result (replay.new ≡ record replay.old { report = replay.new.report }) }
+    ensures quiet { OnOk result (R.faults report.new ≡ R.faults report.old) }
+    ensures no_zeros { OnOk result (R.zeros report.new ≡ R.zeros report.old) }
+    ensures front { OnErr result (AppendsFront (R.written report.old) (R.written report.new) replay.old.report) }
+    ensures cause { OnErr result ((R.faults report.old < R.faults report.new) ⊎ (R.zeros report.old < R.zeros report.new)) }
+{
+    if replay.report().len() < PIECE {
+        return Ok(());
+    }
+    write_all(report, replay.report())?;
+    replay.clear_report();
+    Ok(())
+}
+
+/// Writes both texts out, each once there is much of it.
+fn flush_both<C: Sink, R: Sink>(
+    frames: &mut C,
+    report: &mut R,
+    replay: &mut Replay,
+) -> Result<(), Failed>
+    requires frames_faults { C.faults frames.old < last_count }
+    requires frames_zeros { C.zeros frames.old < last_count }
+    requires report_faults { R.faults report.old < last_count }
+    requires report_zeros { R.zeros report.old < last_count }
+    ensures frames { OnOk result ((flushed : List ℕ) × Appends (C.written frames.old) (C.written frames.new) flushed × (replay.old.frames ≡ flushed ++ replay.new.frames)) }
+    ensures report { OnOk result ((flushed : List ℕ) × Appends (R.written report.old) (R.written report.new) flushed × (replay.old.report ≡ flushed ++ replay.new.report)) }
+    ensures rest { OnOk result (replay.new ≡ record replay.old { frames = replay.new.frames; report = replay.new.report }) }
+    ensures frames_quiet { OnOk result (C.faults frames.new ≡ C.faults frames.old) }
+    ensures frames_take { OnOk result (C.zeros frames.new ≡ C.zeros frames.old) }
+    ensures report_quiet { OnOk result (R.faults report.new ≡ R.faults report.old) }
+    ensures report_takes { OnOk result (R.zeros report.new ≡ R.zeros report.old) }
+    ensures frames_front { OnErr result (AppendsFront (C.written frames.old) (C.written frames.new) replay.old.frames) }
+    ensures report_front { OnErr result (AppendsFront (R.written report.old) (R.written report.new) replay.old.report) }
+    ensures cause { OnErr result ((C.faults frames.old < C.faults frames.new) ⊎ ((C.zeros frames.old < C.zeros frames.new) ⊎ ((R.faults report.old < R.faults report.new) ⊎ (R.zeros report.old < R.zeros report.new)))) }
+{
+    flush_frames(frames, replay)?;
+    flush_report(report, replay)
+}
+
+/// Writes what is left of both texts, and finishes both sinks.
+fn write_both<C: Sink, R: Sink>(
+    frames: &mut C,
+    report: &mut R,
+    replay: &Replay,
+) -> Result<(), Failed>
+    requires frames_faults { C.faults frames.old < last_count }
+    requires frames_zeros { C.zeros frames.old < last_count }
+    requires report_faults { R.faults report.old < last_count }
+    requires report_zeros { R.zeros report.old < last_count }
+    ensures frames { OnOk result (Appends (C.written frames.old) (C.written frames.new) replay.now.frames) }
+    ensures report { OnOk result (Appends (R.written report.old) (R.written report.new) replay.now.report) }
+    ensures frames_finished { OnOk result (C.unfinished frames.new ≡ false) }
+    ensures report_finished { OnOk result (R.unfinished report.new ≡ false) }
+    ensures frames_quiet { OnOk result (C.faults frames.new ≡ C.faults frames.old) }
+    ensures frames_take { OnOk result (C.zeros frames.new ≡ C.zeros frames.old) }
+    ensures report_quiet { OnOk result (R.faults report.new ≡ R.faults report.old) }
+    ensures report_takes { OnOk result (R.zeros report.new ≡ R.zeros report.old) }
+    ensures frames_front { OnErr result (AppendsFront (C.written frames.old) (C.written frames.new) replay.now.frames) }
+    ensures report_front { OnErr result (AppendsFront (R.written report.old) (R.written report.new) replay.now.report) }
+    ensures cause { OnErr result ((C.faults frames.old < C.faults frames.new) ⊎ ((C.zeros frames.old < C.zeros frames.new) ⊎ ((R.faults report.old < R.faults report.new) ⊎ (R.zeros report.old < R.zeros report.new)))) }
+{
+    write_whole(frames, replay.frames())?;
+    write_whole(report, replay.report())
+}
+
+/// Does a schedule in a domain, and answers how the run ends, with what of both texts is still to be written.
+fn do_schedule<S: Source, C: Sink, R: Sink>(
+    alloc: Global,
+    domain: Domain,
+    input: &mut S,
+    frames: &mut C,
+    report: &mut R,
+) -> Result<(Status, Replay), Status>
+    requires input_faults { S.faults input.old < last_count }
+    requires frames_faults { C.faults frames.old < last_count }
+    requires frames_zeros { C.zeros frames.old < last_count }
+    requires report_faults { R.faults report.old < last_count }
+    requires report_zeros { R.zeros report.old < last_count }
+    ensures answer { IfOk result (λ a. a.0 ≢ status.ReadFault → (octets : List ℕ) × Held (S.left input.old) octets
+        × Owing (schedule_answer domain octets) a.0 a.1 (R.written report.old) (R.written report.new) (C.written frames.old) (C.written frames.new)) }
+    ensures stopped { IfOk result (λ a. a.0 ≡ status.ReadFault → (octets : List ℕ) × Consumes (S.left input.old) (S.left input.new) octets
+        × Owing (schedule_cut domain octets) a.0 a.1 (R.written report.old) (R.written report.new) (C.written frames.old) (C.written frames.new)) }
+    ensures begun { IfOk result (λ a. (octets : List ℕ) × Held (S.left input.old) octets
+        × Begun (schedule_answer domain octets) a.1 (R.written report.old) (R.written report.new) (C.written frames.old) (C.written frames.new)) }
+    ensures ends { IfOk result (λ a. (a.0 ≡ status.Done) ⊎ ((a.0 ≡ status.InputRefused) ⊎ (a.0 ≡ status.ReadFault))) }
+    ensures all { IfOk result (λ a. a.0 ≡ status.Done → IsAtEnd (S.left input.new)) }
+    ensures input_quiet { IfOk result (λ a. a.0 ≢ status.ReadFault → S.faults input.new ≡ S.faults input.old) }
+    ensures input_failed { IfOk result (λ a. a.0 ≡ status.ReadFault → S.faults input.old < S.faults input.new) }
+    ensures frames_quiet { OnOk result (C.faults frames.new ≡ C.faults frames.old) }
+    ensures frames_take { OnOk result (C.zeros frames.new ≡ C.zeros frames.old) }
+    ensures report_quiet { OnOk result (R.faults report.new ≡ R.faults report.old) }
+    ensures report_takes { OnOk result (R.zeros report.new ≡ R.zeros report.old) }
+    ensures failed { IfErr result (λ why. ((why ≡ status.WriteFault) × ((C.faults frames.old < C.faults frames.new) ⊎ ((C.zeros frames.old < C.zeros frames.new) ⊎ ((R.faults report.old < R.faults report.new) ⊎ (R.zeros report.old < R.zeros report.new)))))
+        ⊎ ((why ≡ status.Memory) × ((C.faults frames.new ≡ C.faults frames.old) × ((C.zeros frames.new ≡ C.zeros frames.old) × ((R.faults report.new ≡ R.faults report.old) × (R.zeros report.new ≡ R.zeros report.old)))))) }
+    ensures failed_quiet { OnErr result (S.faults input.new ≡ S.faults input.old) }
+    ensures front { OnErr result ((octets : List ℕ) × Held (S.left input.old) octets
+        × (AppendsFront (R.written report.old) (R.written report.new) (schedule_answer domain octets).report × AppendsFront (C.written frames.old) (C.written frames.new) (schedule_answer domain octets).frames)) }
+{
+    let names = names_in(alloc, &domain)?;
+    let mut replay = Replay::new(alloc, domain)?;
+    let mut reader = LineReader::new(alloc)?;
+    'lines: loop {
+        let before = reader.number();
+        let what = reader.next(input)?;
+        let ended = take_found(alloc, &mut replay, &names, what, before, reader.line())?;
+        if let Some(status) = ended {
+            return Ok((status, replay));
+        }
+        let Ok(()) = flush_both(frames, report, &mut replay) else {
+            return Err(Status::WriteFault);
+        };
+    }
+}
+
+/// All that the program does on the words `replay CONF SCHEDULE FRAMES`, once the domain file is read: it does the schedule's
+/// lines in the domain, up to its end or to the first line that is refused, and writes the capture of what the routers sent and the
+/// report of what they delivered and dropped. Both are written out from time to time, so that neither is held whole.
+pub(crate) fn play<S: Source, C: Sink, R: Sink>(
+    alloc: Global,
+    domain: Domain,
+    input: &mut S,
+    frames: &mut C,
+    report: &mut R,
+) -> Status
+    requires input_faults { S.faults input.old < last_count }
+    requires frames_faults { C.faults frames.old < last_count }
+    requires frames_zeros { C.zeros frames.old < last_count }
+    requires report_faults { R.faults report.old < last_count }
+    requires report_zeros { R.zeros report.old < last_count }
+
+    // The status and both texts are those of the schedule, whether or not the source tells it.
+    ensures statuses { IsDecided result → (result ≡ status.Done) ⊎ (result ≡ status.InputRefused) }
+    ensures answer { IsDecided result → (octets : List ℕ) × Held (S.left input.old) octets × Meets (schedule_answer domain octets) result (R.written report.old) (R.written report.new) (C.written frames.old) (C.written frames.new) }
+    ensures all { result ≡ status.Done → IsAtEnd (S.left input.new) }
+
+    // A fault is answered only where its count rose.
+    ensures read { result ≡ status.ReadFault → S.faults input.old < S.faults input.new }
+    ensures write { result ≡ status.WriteFault → (C.faults frames.old < C.faults frames.new) ⊎ ((C.zeros frames.old < C.zeros frames.new) ⊎ ((R.faults report.old < R.faults report.new) ⊎ (R.zeros report.old < R.zeros report.new))) }
+    ensures input_quiet { result ≢ status.ReadFault → result ≢ status.WriteFault → S.faults input.new ≡ S.faults input.old }
+    ensures frames_quiet { result ≢ status.WriteFault → C.faults frames.new ≡ C.faults frames.old }
+    ensures frames_take { result ≢ status.WriteFault → C.zeros frames.new ≡ C.zeros frames.old }
+    ensures report_quiet { result ≢ status.WriteFault → R.faults report.new ≡ R.faults report.old }
+    ensures report_takes { result ≢ status.WriteFault → R.zeros report.new ≡ R.zeros report.old }
+
+    // What a stop leaves.
+    ensures frames_finished { result ≢ status.WriteFault → result ≢ status.Memory → C.unfinished frames.new ≡ false }
+    ensures report_finished { result ≢ status.WriteFault → result ≢ status.Memory → R.unfinished report.new ≡ false }
+    ensures stopped { result ≡ status.ReadFault → (octets : List ℕ) × Consumes (S.left input.old) (S.left input.new) octets × Meets (schedule_cut domain octets) result (R.written report.old) (R.written report.new) (C.written frames.old) (C.written frames.new) }
+    ensures front { (result ≡ status.WriteFault) ⊎ (result ≡ status.Memory) → (octets : List ℕ) × Held (S.left input.old) octets
+        × (AppendsFront (R.written report.old) (R.written report.new) (schedule_answer domain octets).report × AppendsFront (C.written frames.old) (C.written frames.new) (schedule_answer domain octets).frames) }
+{
+    match do_schedule(alloc, domain, input, frames, report) {
+        Err(why) => why,
+        Ok((status, replay)) => match write_both(frames, report, &replay) {
+            Ok(()) => status,
+            Err(Failed) => Status::WriteFault,
+        },
+    }
+}
