@@ -25,6 +25,7 @@ impl Network {
         ensures heard { OnOk result (heard_in self.new ≡ heard_after (world_in self.old) (heard_in self.old) event.now) }
         ensures kept { IsTrueNetwork (state_of self.new) }
         ensures stays { IfErr result (λ e. Stays (state_of self.new ≡ state_of self.old) e) }
+        ensures domain { self.new.domain ≡ self.old.domain }
     {
         let out = self.dispatch(event)?;
         self.events += 1;
@@ -42,6 +43,7 @@ impl Network {
         ensures heard { OnOk result (heard_in self.new ≡ heard_after (world_in self.old) (heard_in self.old) event.now) }
         ensures kept { OnErr result (IsTrueNetwork (state_of self.new)) }
         ensures stays { IfErr result (λ e. Stays (state_of self.new ≡ state_of self.old) e) }
+        ensures domain { self.new.domain ≡ self.old.domain }
     {
         match event {
             Event::Inject {

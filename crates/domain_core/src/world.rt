@@ -4,7 +4,7 @@ ghost use Rattle.domain_core.specs.Answers.{Refuses, Stays, told};
 ghost use Rattle.domain_core.specs.Faults.{event_fault};
 ghost use Rattle.domain_core.specs.Network.{heard_after};
 ghost use Rattle.domain_core.specs.Step.{happens};
-ghost use Rattle.domain_core.specs.Truth.{EventFits, AreWorldDrops};
+ghost use Rattle.domain_core.specs.Truth.{IsTruthful, EventFits, AreWorldDrops};
 ghost use Rattle.domain_core.specs.World.{first_world, frames_between};
 
 use crate::fault::EventFault;
@@ -41,6 +41,7 @@ impl World {
     pub fn new(alloc: Global, domain: Domain) -> M<World>
         ensures world { IfOk result (λ w. w.world ≡ first_world domain) }
         ensures heard { IfOk result (λ w. w.heard ≡ map (λ r. 0) domain.routers) }
+        ensures truth { IfOk result (λ w. IsTruthful w.world) }
     {
         Ok(World {
             network: Network::new(alloc, domain)?,
@@ -60,6 +61,10 @@ impl World {
         ensures drops { IfOk result (λ out. AreWorldDrops out.drops) }
         ensures heard { OnOk result (self.new.heard ≡ heard_after self.old.world self.old.heard event.now) }
         ensures stays { IfErr result (λ e. Stays (self.new ≡ self.old) e) }
+
+        // Whatever is answered, the world is truthful, and one of the same domain.
+        ensures truth { IsTruthful self.new.world }
+        ensures domain { self.new.world.domain ≡ self.old.world.domain }
     {
         if let Some(fault) = self.network.fault(event) {
             return Err(fault);
@@ -85,7 +90,8 @@ impl World {
 
     /// The domain that its routers and links are those of.
     pub fn domain(&self) -> &Domain
-        ensures { result.now ≡ self.now.world.domain }
+        ensures domain { result.now ≡ self.now.world.domain }
+        ensures truth { IsTruthful self.now.world }
     {
         &self.network.domain
     }
