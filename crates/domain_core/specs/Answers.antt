@@ -46,6 +46,19 @@ Stays same faults.NotControl = same
 Stays same (faults.Edge fault) = same
 Stays same faults.Memory = Unit {0}
 
+-- Where memory is refused, all is as it was too, but at the two events at which a router floods and sends: there it may
+-- have turned, and what it answered isn't on its way.
+abbrev pub StaysAt : Type 0 → Event → Type 0
+StaysAt same (Take a b i) = Unit {0}
+StaysAt same (Send a b) = Unit {0}
+StaysAt same (Inject a sd bsl ks ttl entropy payload) = same
+StaysAt same (Lose a b i) = same
+StaysAt same (Again a b i) = same
+StaysAt same (Down a b) = same
+StaysAt same (Up a b) = same
+StaysAt same (Tick a) = same
+StaysAt same (Restart a) = same
+
 -- what an event's own rules say, but for what a router says of an injection
 abbrev pub early_rule : WorldState → Event → Option EventFault
 early_rule w (Inject a sd bsl ks ttl entropy payload) = unless_room w None

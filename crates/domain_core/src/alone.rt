@@ -25,6 +25,7 @@ impl Network {
         ensures done { IfOk result (λ out. IsDone self.old self.new (doing false (world_in self.old) (events.Down from to)) out) }
         ensures heard { OnOk result (heard_in self.new ≡ heard_in self.old) }
         ensures err { OnErr result (state_of self.new ≡ state_of self.old) }
+        ensures domain { self.new.domain ≡ self.old.domain }
     {
         let alloc = self.allocator();
         let Some(link) = self.link(from, to) else {
@@ -43,6 +44,7 @@ impl Network {
         ensures done { IfOk result (λ out. IsDone self.old self.new (doing false (world_in self.old) (events.Up from to)) out) }
         ensures heard { OnOk result (heard_in self.new ≡ heard_in self.old) }
         ensures err { OnErr result (state_of self.new ≡ state_of self.old) }
+        ensures domain { self.new.domain ≡ self.old.domain }
     {
         let alloc = self.allocator();
         let Some(link) = self.link(from, to) else {
@@ -60,6 +62,7 @@ impl Network {
         ensures done { IfOk result (λ out. IsDone self.old self.new (doing false (world_in self.old) (events.Tick at)) out) }
         ensures heard { OnOk result (heard_in self.new ≡ heard_in self.old) }
         ensures err { OnErr result (state_of self.new ≡ state_of self.old) }
+        ensures domain { self.new.domain ≡ self.old.domain }
     {
         let alloc = self.allocator();
         let router = &mut self.routers[usize::from(at)];
@@ -74,6 +77,7 @@ impl Network {
         ensures done { IfOk result (λ out. IsDone self.old self.new (doing false (world_in self.old) (events.Restart at)) out) }
         ensures heard { OnOk result (heard_in self.new ≡ heard_in self.old) }
         ensures err { OnErr result (state_of self.new ≡ state_of self.old) }
+        ensures domain { self.new.domain ≡ self.old.domain }
     {
         let alloc = self.allocator();
         let router = &mut self.routers[usize::from(at)];
@@ -89,6 +93,7 @@ impl Network {
         ensures done { IfOk result (λ out. IsDone self.old self.new (doing false (world_in self.old) (events.Send from to)) out) }
         ensures heard { OnOk result (heard_in self.new ≡ heard_in self.old) }
         ensures kept { OnErr result (IsTrueNetwork (state_of self.new)) }
+        ensures domain { self.new.domain ≡ self.old.domain }
     {
         let alloc = self.allocator();
         let Some(link) = self.link(from, to) else {
@@ -121,6 +126,7 @@ impl Network {
         ensures done { IfOk result (λ out. IsDone self.old self.new (doing false (world_in self.old) (events.Inject at sd bsl ids.now ttl entropy payload.now)) out) }
         ensures heard { OnOk result (heard_in self.new ≡ heard_in self.old) }
         ensures err { OnErr result (state_of self.new ≡ state_of self.old) }
+        ensures domain { self.new.domain ≡ self.old.domain }
     {
         let number = self.injections + 1;
         let router = &mut self.routers[usize::from(at)];

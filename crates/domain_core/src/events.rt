@@ -1,6 +1,6 @@
 //! One event, whichever it is.
 ghost use Rattle.std.specs.Prelude.{◌≡◌, false, length, None, IfOk, OnOk, OnErr, IfErr, MatchResult};
-ghost use Rattle.domain_core.specs.Answers.{early_fault, Refuses, Stays, told};
+ghost use Rattle.domain_core.specs.Answers.{early_fault, Refuses, Stays, StaysAt, told};
 ghost use Rattle.domain_core.specs.Faults.{event_fault};
 ghost use Rattle.domain_core.specs.Held.{state_of, world_in, heard_in, IsDone};
 ghost use Rattle.domain_core.specs.Network.{IsTrueNetwork, heard_after};
@@ -25,6 +25,8 @@ impl Network {
         ensures heard { OnOk result (heard_in self.new ≡ heard_after (world_in self.old) (heard_in self.old) event.now) }
         ensures kept { IsTrueNetwork (state_of self.new) }
         ensures stays { IfErr result (λ e. Stays (state_of self.new ≡ state_of self.old) e) }
+        ensures whole { OnErr result (StaysAt (state_of self.new ≡ state_of self.old) event.now) }
+        ensures domain { self.new.domain ≡ self.old.domain }
     {
         let out = self.dispatch(event)?;
         self.events += 1;
@@ -42,6 +44,8 @@ impl Network {
         ensures heard { OnOk result (heard_in self.new ≡ heard_after (world_in self.old) (heard_in self.old) event.now) }
         ensures kept { OnErr result (IsTrueNetwork (state_of self.new)) }
         ensures stays { IfErr result (λ e. Stays (state_of self.new ≡ state_of self.old) e) }
+        ensures whole { OnErr result (StaysAt (state_of self.new ≡ state_of self.old) event.now) }
+        ensures domain { self.new.domain ≡ self.old.domain }
     {
         match event {
             Event::Inject {

@@ -21,6 +21,7 @@ impl Network {
         ensures done { IfOk result (λ out. IsDone self.old self.new (doing false (world_in self.old) (events.Lose from to i)) out) }
         ensures heard { OnOk result (heard_in self.new ≡ heard_in self.old) }
         ensures err { OnErr result (state_of self.new ≡ state_of self.old) }
+        ensures domain { self.new.domain ≡ self.old.domain }
     {
         let alloc = self.allocator();
         let Some(link) = self.link(from, to) else {
@@ -40,6 +41,7 @@ impl Network {
         ensures done { IfOk result (λ out. IsDone self.old self.new (doing false (world_in self.old) (events.Again from to i)) out) }
         ensures heard { OnOk result (heard_in self.new ≡ heard_in self.old) }
         ensures err { OnErr result (state_of self.new ≡ state_of self.old) }
+        ensures domain { self.new.domain ≡ self.old.domain }
     {
         let alloc = self.allocator();
         let Some(link) = self.link(from, to) else {
@@ -64,6 +66,7 @@ impl Network {
         ensures done { IfOk result (λ out. IsDone self.old self.new (doing false (world_in self.old) (events.Take from to i)) out) }
         ensures heard { OnOk result (heard_in self.new ≡ heard_after (world_in self.old) (heard_in self.old) (events.Take from to i)) }
         ensures kept { OnErr result (IsTrueNetwork (state_of self.new)) }
+        ensures domain { self.new.domain ≡ self.old.domain }
     {
         let alloc = self.allocator();
         let Some(link) = self.link(from, to) else {

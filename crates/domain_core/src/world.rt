@@ -1,11 +1,11 @@
 //! A domain at work.
-ghost use Rattle.std.specs.Prelude.{◌≡◌, ◌<◌, length, map, slice_get, Option, Some, None, IfOk, OnOk, IfErr, MatchResult};
+ghost use Rattle.std.specs.Prelude.{◌≡◌, ◌<◌, length, map, slice_get, Option, Some, None, IfOk, OnOk, OnErr, IfErr, MatchResult};
 ghost use Rattle.std.specs.List.{AllByRecursion};
-ghost use Rattle.domain_core.specs.Answers.{IsShortFrame, Refuses, Stays, told};
+ghost use Rattle.domain_core.specs.Answers.{IsShortFrame, Refuses, Stays, StaysAt, told};
 ghost use Rattle.domain_core.specs.Faults.{event_fault};
 ghost use Rattle.domain_core.specs.Network.{heard_after};
 ghost use Rattle.domain_core.specs.Step.{happens};
-ghost use Rattle.domain_core.specs.Truth.{EventFits, AreWorldDrops};
+ghost use Rattle.domain_core.specs.Truth.{IsTruthful, EventFits, AreWorldDrops};
 ghost use Rattle.domain_core.specs.World.{first_world, frames_between, ids_in_flight};
 
 use crate::fault::EventFault;
@@ -42,6 +42,7 @@ impl World {
     pub fn new(alloc: Global, domain: Domain) -> M<World>
         ensures world { IfOk result (λ w. w.world ≡ first_world domain) }
         ensures heard { IfOk result (λ w. w.heard ≡ map (λ r. 0) domain.routers) }
+        ensures truth { IfOk result (λ w. IsTruthful w.world) }
     {
         Ok(World {
             network: Network::new(alloc, domain)?,
@@ -51,8 +52,10 @@ impl World {
     /// One event.
     ///
     /// What is told of it is what was sent, as frames with the places of both routers, what was delivered and what was
-    /// dropped, each in order. An event that isn't allowed is refused for the first reason that holds, and changes nothing;
-    /// Memory may come in place of any answer. Only a frame that arrives at an end that is up is taken by a router.
+    /// dropped, each in order. An event that isn't allowed is refused for the first reason that holds, and changes nothing.
+    /// Memory may come in place of any answer, and changes nothing either, but where a frame was to arrive or a router to
+    /// send: there the router may have turned, the frame may be gone, and what the router answered is lost. Only a frame that
+    /// arrives at an end that is up is taken by a router.
     pub fn step(&mut self, event: &Event) -> Result<StepOut, EventFault>
         requires { EventFits (length self.old.world.domain.routers) event.now }
         ensures refused { MatchResult result (λ _. event_fault self.old.world event.now ≡ None) (λ e. Refuses (event_fault self.old.world event.now) e) }
@@ -62,6 +65,11 @@ impl World {
         ensures short { IfOk result (λ out. AllByRecursion IsShortFrame out.sent) }
         ensures heard { OnOk result (self.new.heard ≡ heard_after self.old.world self.old.heard event.now) }
         ensures stays { IfErr result (λ e. Stays (self.new ≡ self.old) e) }
+        ensures whole { OnErr result (StaysAt (self.new ≡ self.old) event.now) }
+
+        // Whatever is answered, the world is truthful, and one of the same domain.
+        ensures truth { IsTruthful self.new.world }
+        ensures domain { self.new.world.domain ≡ self.old.world.domain }
     {
         if let Some(fault) = self.network.fault(event) {
             return Err(fault);
@@ -94,7 +102,8 @@ impl World {
 
     /// The domain that its routers and links are those of.
     pub fn domain(&self) -> &Domain
-        ensures { result.now ≡ self.now.world.domain }
+        ensures domain { result.now ≡ self.now.world.domain }
+        ensures truth { IsTruthful self.now.world }
     {
         &self.network.domain
     }
