@@ -1,5 +1,5 @@
 -- A run that goes on has the texts of the run before it in front of its own.
-use Rattle.std.proofs.Common.{◌≡◌, ℕ, ◌+◌, List, [], ◌∷◌, ◌++◌, length, Option, Some, None, Result, Ok, Err, refl, sym, ap, subst, ◌∙◌, append_assoc, append-nil}
+use Rattle.std.proofs.Common.{◌≡◌, ℕ, ◌+◌, List, [], ◌∷◌, ◌++◌, Option, Some, None, Result, Ok, Err, refl, sym, ap, ◌∙◌, append_assoc, append-nil}
 use Rattle.std.specs.Prelude.{flat_map}
 use Rattle.std.specs.List.{fold}
 use Rattle.std.proofs.lemmas.Grind.{flat_map-append}
@@ -102,8 +102,9 @@ report_grown d before now grown =
 pub frames_grown : (d : DomainConf) (before now : Run) → Grown before now → (rest : List ℕ) × (capture_text d now ≡ capture_text d before ++ rest)
 unfolding capture_text
 frames_grown d before now grown =
-    let records = flat_map (sending_record d.routers) in
-    (records grown.sent,
-    ap (λ (l : List (ℕ × Sending)). written_header ++ records l) grown.sent_are
-    ∙ ap (λ (l : List ℕ). written_header ++ l) (flat_map-append (sending_record d.routers) before.sent grown.sent)
-    ∙ sym (append_assoc written_header (records before.sent) (records grown.sent)))
+    let records = flat_map (sending_record d.routers) in (
+      records grown.sent,
+      ap (λ (l : List (ℕ × Sending)). written_header ++ records l) grown.sent_are
+          ∙ ap (λ (l : List ℕ). written_header ++ l) (flat_map-append (sending_record d.routers) before.sent grown.sent)
+          ∙ sym (append_assoc written_header (records before.sent) (records grown.sent)),
+    )

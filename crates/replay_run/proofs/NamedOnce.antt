@@ -8,11 +8,10 @@ use Rattle.wire_base.specs.model.Fields.{◌>>=◌}
 use Rattle.wire_base.specs.model.Hop.{distinct}
 use Rattle.bier_hop.proofs.CopyLaws.{filter-filter}
 use Rattle.replay_text.specs.declared.event.Event.{Event}
-use Rattle.replay_text.specs.declared.event.Event.TheVariants as event
 use Rattle.replay_text.specs.declared.event.Line.{Line}
 use Rattle.replay_text.specs.declared.event.Line.TheVariants as line
 use Rattle.replay_text.specs.declared.fault.TextFault.{TextFault}
-use Rattle.replay_text.specs.declared.fault.TextFault.TheVariants.{Word, Number, LineLong}
+use Rattle.replay_text.specs.declared.fault.TextFault.TheVariants.{Number, LineLong}
 use Rattle.replay_text.specs.Reading.{or_fault}
 use Rattle.replay_text.specs.Pieces.{pieces, words_of}
 use Rattle.replay_text.specs.Arguments.{counted, and_words, name_at, number_at, length_at, ids_at, ttl_at, payload_at, listed_ids, numbers_to}

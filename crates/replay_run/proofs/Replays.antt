@@ -1,5 +1,5 @@
 -- What `replay` did is what a run owes.
-use Rattle.std.proofs.Common.{◌≡◌, ℕ, ◌+◌, ◌<◌, ◌≤◌, Bool, true, List, [], ◌∷◌, length, Option, Some, None, Ok, Err, refl, sym, ap, subst, ◌∙◌, arith, inl, inr}
+use Rattle.std.proofs.Common.{◌≡◌, ℕ, ◌+◌, ◌<◌, ◌≤◌, Bool, true, List, [], ◌∷◌, length, Option, Some, None, Ok, refl, sym, ap, subst, ◌∙◌, arith, inl, inr}
 use Rattle.std.specs.Prelude.{IfSome, ◌⊎◌, Result}
 use Rattle.std.specs.List.{fold}
 use Rattle.std.proofs.lemmas.Bool.{le-leb}
@@ -13,7 +13,6 @@ use Rattle.replay_text.specs.Pieces.{lines_in}
 use Rattle.domain_core.specs.World.{WorldState}
 use Rattle.domain_core.specs.Faults.{event_fault}
 use Rattle.domain_core.specs.Run.{Run, Progress, first_run, goes_on, tries, does, line_done, line_events, world_after}
-use Rattle.domain_conf.specs.Domain.{domain_of}
 use Rattle.domain_conf.specs.declared.fault.ConfFault.{ConfFault}
 use Rattle.domain_replay.specs.Texts.{Refusal, names_of, lines_reach, schedule_reaches}
 use Rattle.replay_run.specs.declared.words.Form.TheVariants.{Replay}
@@ -37,9 +36,13 @@ pub refused_meets : (conf left before now frames : Option (List ℕ)) (result : 
     → OnHeld Replay conf left (λ owed. Meets owed result before now frames frames)
 unfolding verdict
 refused_meets conf left before now frames result line (file, of_conf, (why, breaks, is)) decided ended written =
-    let octets = held_some left in
-    (file, octets.0, of_conf, octets.1,
-        rw breaks (record { status = ended_so ConfRefused result decided ended; report = rw (← is) written; frames = nothing_more frames }))
+    let octets = held_some left in (
+      file,
+      octets.0,
+      of_conf,
+      octets.1,
+      rw breaks (record { status = ended_so ConfRefused result decided ended; report = rw (← is) written; frames = nothing_more frames }),
+    )
 
 pub refused_front : (conf left before now frames : Option (List ℕ)) (line : List ℕ) → IsRefused conf line → AppendsFront before now line
     → OnHeld Replay conf left (λ owed. AppendsFront before now owed.report × AppendsFront frames frames owed.frames)
@@ -57,10 +60,14 @@ any_holds (Some v) Holds all = all v
 pub none_front : (conf left report frames : Option (List ℕ)) → OnHeld Replay conf left (λ owed. AppendsFront report report owed.report × AppendsFront frames frames owed.frames)
 none_front conf left report frames =
     let file = held_some conf in
-    let octets = held_some left in
-    (file.0, octets.0, file.1, octets.1,
-        any_holds (verdict Replay (Some file.0) (Some octets.0)) (λ owed. AppendsFront report report owed.report × AppendsFront frames frames owed.frames)
-        (λ v. (no_front report v.report, no_front frames v.frames)))
+    let octets = held_some left in (
+      file.0,
+      octets.0,
+      file.1,
+      octets.1,
+      any_holds (verdict Replay (Some file.0) (Some octets.0)) (λ owed. AppendsFront report report owed.report × AppendsFront frames frames owed.frames)
+          (λ v. (no_front report v.report, no_front frames v.frames)),
+    )
 
 -- ---- schedules that are done
 
@@ -138,7 +145,7 @@ replay_done (Some file) (Some octets) before now frames frames_now result A B C 
   | inr memory ↦ inr memory
   | inl known ↦
       let met = told Replay (Some file) (Some octets) (λ owed. Meets owed result before now frames frames_now) (answer known) in
-      let played : IfSome (replay_on (Ok is.domain) (Some octets)) (λ owed. Meets owed result before now frames frames_now) = 
-          subst (λ (read : Result DomainConf ConfFault). IfSome (replay_on read (Some octets)) (λ owed. Meets owed result before now frames frames_now)) is.says met in
+      let played : IfSome (replay_on (Ok is.domain) (Some octets)) (λ owed. Meets owed result before now frames frames_now) =
+      subst (λ (read : Result DomainConf ConfFault). IfSome (replay_on read (Some octets)) (λ owed. Meets owed result before now frames frames_now)) is.says met in
       inl (played.status ∙ schedule_done is.domain octets is.schedule)
 ]

@@ -1,5 +1,5 @@
 -- What a run owes on its words and on what its sources hold.
-use Rattle.std.specs.Prelude.{ℕ, List, [], Option, Some, None, IfSome, option_map, Result, Ok, Err}
+use Rattle.std.specs.Prelude.{ℕ, List, [], Option, Some, None, option_map, Result, Ok, Err}
 use Rattle.wire_base.specs.declared.status.Status.{Status}
 use Rattle.wire_base.specs.declared.status.Status.TheVariants as status
 use Rattle.wire_base.specs.model.Configuration.{DomainConf}

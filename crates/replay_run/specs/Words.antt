@@ -1,5 +1,6 @@
 -- The forms of the program's words.
-use Rattle.std.specs.Prelude.{ℕ, List, [], ◌∷◌, codes, if◌then◌else◌}
+use Rattle.std.specs.Prelude.{ℕ, List, [], ◌∷◌, map, codes, if◌then◌else◌}
+use Rattle.std.specs.Borrow.{Bor}
 use Rattle.std.specs.Str.{bytes_eq}
 use Rattle.replay_run.specs.declared.words.Form.{Form}
 use Rattle.replay_run.specs.declared.words.Form.TheVariants.{Replay, Hop, Headers, Unknown}
@@ -12,6 +13,10 @@ form_of (word ∷ input ∷ []) = if bytes_eq word (codes "hop") then Hop else i
 form_of (word ∷ conf ∷ schedule ∷ []) = Unknown
 form_of (word ∷ conf ∷ schedule ∷ frames ∷ []) = if bytes_eq word (codes "replay") then Replay else Unknown
 form_of (word ∷ conf ∷ schedule ∷ frames ∷ more ∷ rest) = Unknown
+
+-- the form of words that a call is handed
+abbrev pub form_in : List (Bor (List ℕ)) → Form
+form_in words = form_of (map (λ word. word.now) words)
 
 -- the line on words of no form
 abbrev pub usage_text : List ℕ

@@ -1,5 +1,5 @@
 //! The top call.
-ghost use Rattle.std.specs.Prelude.{◌≡◌, ◌⊎◌, ◌<◌, ◌≢◌, ◌↔◌, ℕ, List, false, map, IfSome};
+ghost use Rattle.std.specs.Prelude.{◌≡◌, ◌⊎◌, ◌<◌, ◌≢◌, ◌↔◌, ℕ, List, false, IfSome};
 ghost use Rattle.std.specs.Io.KnownBytes.{IsAtEnd, Consumes, Appends};
 ghost use Rattle.wire_base.specs.Causes.{last_count};
 ghost use Rattle.wire_base.specs.declared.status.Status.TheVariants as status;
@@ -15,7 +15,7 @@ ghost use Rattle.replay_run.specs.Replayed.{IsReplayed};
 ghost use Rattle.replay_run.specs.ScheduleText.{schedule_cut};
 ghost use Rattle.replay_run.specs.Verdict.{IsDecided, verdict};
 ghost use Rattle.replay_run.specs.Outside.{Gave, Meets, AppendsFront};
-ghost use Rattle.replay_run.specs.Words as forms;
+ghost use Rattle.replay_run.specs.Words.{form_in};
 
 use crate::domain_file::{NoDomain, domain_in};
 use crate::headers::headers;
@@ -61,12 +61,13 @@ fn replay<D: Source, S: Source, C: Sink, R: Sink>(
     // What a stop leaves.
     ensures accepted { ((input.new ≡ input.old) × (frames.new ≡ frames.old)) ⊎ ((D.faults conf.new ≡ D.faults conf.old) × ((domain : DomainConf) × Says (D.left conf.old) domain)) }
     ensures refused { result ≡ status.ConfRefused → (input.new ≡ input.old) × (frames.new ≡ frames.old) }
+    ensures capture_finished { (result ≡ status.Done) ⊎ (result ≡ status.InputRefused) → C.unfinished frames.new ≡ false }
     ensures frames_finished { result ≢ status.WriteFault → result ≢ status.Memory → (frames.new ≡ frames.old) ⊎ (C.unfinished frames.new ≡ false) }
     ensures report_finished { result ≢ status.WriteFault → result ≢ status.Memory → (report.new ≡ report.old) ⊎ (R.unfinished report.new ≡ false) }
     ensures finished { IsDecided result → R.unfinished report.new ≡ false }
     ensures stopped { result ≡ status.ReadFault → ((D.faults conf.old < D.faults conf.new) × (input.new ≡ input.old) × (frames.new ≡ frames.old) × (report.new ≡ report.old))
         ⊎ ((D.faults conf.new ≡ D.faults conf.old) × ((domain : DomainConf) × Says (D.left conf.old) domain × ((octets : List ℕ) × Consumes (S.left input.old) (S.left input.new) octets
-            × Meets (schedule_cut domain octets) result (R.written report.old) (R.written report.new) (C.written frames.old) (C.written frames.new)))) }
+        × Meets (schedule_cut domain octets) result (R.written report.old) (R.written report.new) (C.written frames.old) (C.written frames.new)))) }
     ensures front { (result ≡ status.WriteFault) ⊎ (result ≡ status.Memory) → OnHeld form.Replay (D.left conf.old) (S.left input.old) (λ owed. AppendsFront (R.written report.old) (R.written report.new) owed.report × AppendsFront (C.written frames.old) (C.written frames.new) owed.frames) }
 {
     match domain_in(alloc, conf) {
@@ -99,9 +100,9 @@ pub fn run<D: Source, S: Source, C: Sink, R: Sink>(
 
     // The verdict on the sources that tell what they hold. Where one tells nothing, there are octets that it may have
     // held of which this is the verdict.
-    ensures verdict { IsDecided result → IfSome (verdict (forms.form_of (map (λ word. word.now) words.now)) (D.left conf.old) (S.left input.old))
+    ensures verdict { IsDecided result → IfSome (verdict (form_in words.now) (D.left conf.old) (S.left input.old))
         (λ owed. Meets owed result (R.written report.old) (R.written report.new) (C.written frames.old) (C.written frames.new)) }
-    ensures some_held { IsDecided result → OnHeld (forms.form_of (map (λ word. word.now) words.now)) (D.left conf.old) (S.left input.old)
+    ensures some_held { IsDecided result → OnHeld (form_in words.now) (D.left conf.old) (S.left input.old)
         (λ owed. Meets owed result (R.written report.old) (R.written report.new) (C.written frames.old) (C.written frames.new)) }
 
     // Where no count rose, the answer is the verdict's or want of memory.
@@ -109,13 +110,13 @@ pub fn run<D: Source, S: Source, C: Sink, R: Sink>(
         → R.faults report.new ≡ R.faults report.old → R.zeros report.new ≡ R.zeros report.old → IsDecided result ⊎ (result ≡ status.Memory) }
 
     // When each status comes.
-    ensures done { result ≡ status.Done → forms.form_of (map (λ word. word.now) words.now) ≢ form.Unknown }
+    ensures done { result ≡ status.Done → form_in words.now ≢ form.Unknown }
     ensures done_whole { result ≡ status.Done → IsAtEnd (S.left input.new) }
-    ensures usage { IsDecided result → ((result ≡ status.Usage) ↔ (forms.form_of (map (λ word. word.now) words.now) ≡ form.Unknown)) }
-    ensures usage_or_fault { forms.form_of (map (λ word. word.now) words.now) ≡ form.Unknown → (result ≡ status.Usage) ⊎ (result ≡ status.WriteFault) }
-    ensures conf_refused { result ≡ status.ConfRefused → forms.form_of (map (λ word. word.now) words.now) ≡ form.Replay }
-    ensures input_refused { result ≡ status.InputRefused → (forms.form_of (map (λ word. word.now) words.now) ≡ form.Replay) ⊎ (forms.form_of (map (λ word. word.now) words.now) ≡ form.Hop) }
-    ensures capture_refused { result ≡ status.CaptureRefused → forms.form_of (map (λ word. word.now) words.now) ≡ form.Headers }
+    ensures usage { IsDecided result → ((result ≡ status.Usage) ↔ (form_in words.now ≡ form.Unknown)) }
+    ensures usage_or_fault { form_in words.now ≡ form.Unknown → (result ≡ status.Usage) ⊎ (result ≡ status.WriteFault) }
+    ensures conf_refused { result ≡ status.ConfRefused → form_in words.now ≡ form.Replay }
+    ensures input_refused { result ≡ status.InputRefused → (form_in words.now ≡ form.Replay) ⊎ (form_in words.now ≡ form.Hop) }
+    ensures capture_refused { result ≡ status.CaptureRefused → form_in words.now ≡ form.Headers }
     ensures read_fault { result ≡ status.ReadFault → (D.faults conf.old < D.faults conf.new) ⊎ (S.faults input.old < S.faults input.new) }
     ensures write_fault { result ≡ status.WriteFault → (C.faults frames.old < C.faults frames.new) ⊎ ((C.zeros frames.old < C.zeros frames.new) ⊎ ((R.faults report.old < R.faults report.new) ⊎ (R.zeros report.old < R.zeros report.new))) }
 
@@ -130,21 +131,21 @@ pub fn run<D: Source, S: Source, C: Sink, R: Sink>(
 
     // `replay` is done wherever the domain file is valid, each line of the schedule is in the grammar, each of its events is
     // allowed, and no count rose.
-    ensures replay_complete { forms.form_of (map (λ word. word.now) words.now) ≡ form.Replay → IfSome (D.left conf.old) (λ file. IfSome (S.left input.old) (λ octets. IsReplayed file octets
+    ensures replay_complete { form_in words.now ≡ form.Replay → IfSome (D.left conf.old) (λ file. IfSome (S.left input.old) (λ octets. IsReplayed file octets
         → D.faults conf.new ≡ D.faults conf.old → S.faults input.new ≡ S.faults input.old → C.faults frames.new ≡ C.faults frames.old → C.zeros frames.new ≡ C.zeros frames.old
         → R.faults report.new ≡ R.faults report.old → R.zeros report.new ≡ R.zeros report.old → (result ≡ status.Done) ⊎ (result ≡ status.Memory))) }
 
     // `hop` is done wherever its input is in the grammar, each line may stand where it stands, and no count rose.
-    ensures hop_complete { forms.form_of (map (λ word. word.now) words.now) ≡ form.Hop → IfSome (S.left input.old) (λ octets. IsAllowed octets
+    ensures hop_complete { form_in words.now ≡ form.Hop → IfSome (S.left input.old) (λ octets. IsAllowed octets
         → S.faults input.new ≡ S.faults input.old → R.faults report.new ≡ R.faults report.old → R.zeros report.new ≡ R.zeros report.old
         → (result ≡ status.Done) ⊎ (result ≡ status.Memory)) }
 
     // Each id of each packet of the input stands in exactly one of the lines that are reported of that packet.
-    ensures hop_parts { forms.form_of (map (λ word. word.now) words.now) ≡ form.Hop → IsDecided result → IfSome (S.left input.old)
+    ensures hop_parts { form_in words.now ≡ form.Hop → IsDecided result → IfSome (S.left input.old)
         (λ octets. Reports octets (R.written report.old) (R.written report.new)) }
 
     // `headers` is done wherever its input is a capture that isn't too long, and no count rose.
-    ensures headers_complete { forms.form_of (map (λ word. word.now) words.now) ≡ form.Headers → IfSome (S.left input.old) (λ octets. IsRead octets
+    ensures headers_complete { form_in words.now ≡ form.Headers → IfSome (S.left input.old) (λ octets. IsRead octets
         → S.faults input.new ≡ S.faults input.old → R.faults report.new ≡ R.faults report.old → R.zeros report.new ≡ R.zeros report.old
         → (result ≡ status.Done) ⊎ (result ≡ status.Memory)) }
 
@@ -153,26 +154,27 @@ pub fn run<D: Source, S: Source, C: Sink, R: Sink>(
     // last line. Where the domain file's source fails, nothing else is touched. At a fault of a sink a front of each text is
     // written, and at want of memory, but in `headers`.
     ensures finished { IsDecided result → R.unfinished report.new ≡ false }
-    ensures replay_finished { forms.form_of (map (λ word. word.now) words.now) ≡ form.Replay → result ≢ status.WriteFault → result ≢ status.Memory → (report.new ≡ report.old) ⊎ (R.unfinished report.new ≡ false) }
+    ensures replay_finished { form_in words.now ≡ form.Replay → result ≢ status.WriteFault → result ≢ status.Memory → (report.new ≡ report.old) ⊎ (R.unfinished report.new ≡ false) }
+    ensures capture_finished { form_in words.now ≡ form.Replay → (result ≡ status.Done) ⊎ (result ≡ status.InputRefused) → C.unfinished frames.new ≡ false }
     ensures frames_finished { result ≢ status.WriteFault → result ≢ status.Memory → (frames.new ≡ frames.old) ⊎ (C.unfinished frames.new ≡ false) }
-    ensures hop_finished { forms.form_of (map (λ word. word.now) words.now) ≡ form.Hop → result ≡ status.ReadFault → R.unfinished report.new ≡ false }
-    ensures headers_finished { forms.form_of (map (λ word. word.now) words.now) ≡ form.Headers → result ≡ status.ReadFault → R.unfinished report.new ≡ false }
-    ensures replay_stopped { forms.form_of (map (λ word. word.now) words.now) ≡ form.Replay → result ≡ status.ReadFault → ((D.faults conf.old < D.faults conf.new) × (input.new ≡ input.old) × (frames.new ≡ frames.old) × (report.new ≡ report.old))
+    ensures hop_finished { form_in words.now ≡ form.Hop → result ≡ status.ReadFault → R.unfinished report.new ≡ false }
+    ensures headers_finished { form_in words.now ≡ form.Headers → result ≡ status.ReadFault → R.unfinished report.new ≡ false }
+    ensures replay_stopped { form_in words.now ≡ form.Replay → result ≡ status.ReadFault → ((D.faults conf.old < D.faults conf.new) × (input.new ≡ input.old) × (frames.new ≡ frames.old) × (report.new ≡ report.old))
         ⊎ ((D.faults conf.new ≡ D.faults conf.old) × ((domain : DomainConf) × Says (D.left conf.old) domain × ((octets : List ℕ) × Consumes (S.left input.old) (S.left input.new) octets
-            × Meets (schedule_cut domain octets) result (R.written report.old) (R.written report.new) (C.written frames.old) (C.written frames.new)))) }
-    ensures hop_stopped { forms.form_of (map (λ word. word.now) words.now) ≡ form.Hop → result ≡ status.ReadFault
+        × Meets (schedule_cut domain octets) result (R.written report.old) (R.written report.new) (C.written frames.old) (C.written frames.new)))) }
+    ensures hop_stopped { form_in words.now ≡ form.Hop → result ≡ status.ReadFault
         → (octets : List ℕ) × Consumes (S.left input.old) (S.left input.new) octets × Gave (hop_cut octets) result (R.written report.old) (R.written report.new) }
-    ensures headers_stopped { forms.form_of (map (λ word. word.now) words.now) ≡ form.Headers → result ≡ status.ReadFault
+    ensures headers_stopped { form_in words.now ≡ form.Headers → result ≡ status.ReadFault
         → (octets : List ℕ) × Consumes (S.left input.old) (S.left input.new) octets × IsOpen octets × Appends (R.written report.old) (R.written report.new) (lines_of octets) }
-    ensures front { forms.form_of (map (λ word. word.now) words.now) ≢ form.Headers → (result ≡ status.WriteFault) ⊎ (result ≡ status.Memory) → OnHeld (forms.form_of (map (λ word. word.now) words.now)) (D.left conf.old) (S.left input.old)
+    ensures front { form_in words.now ≢ form.Headers → (result ≡ status.WriteFault) ⊎ (result ≡ status.Memory) → OnHeld (form_in words.now) (D.left conf.old) (S.left input.old)
         (λ owed. AppendsFront (R.written report.old) (R.written report.new) owed.report × AppendsFront (C.written frames.old) (C.written frames.new) owed.frames) }
 
     // What the words don't name is as before, and so are the schedule and the frames where the domain file isn't accepted.
-    ensures accepted { forms.form_of (map (λ word. word.now) words.now) ≡ form.Replay → ((input.new ≡ input.old) × (frames.new ≡ frames.old)) ⊎ ((D.faults conf.new ≡ D.faults conf.old) × ((domain : DomainConf) × Says (D.left conf.old) domain)) }
+    ensures accepted { form_in words.now ≡ form.Replay → ((input.new ≡ input.old) × (frames.new ≡ frames.old)) ⊎ ((D.faults conf.new ≡ D.faults conf.old) × ((domain : DomainConf) × Says (D.left conf.old) domain)) }
     ensures refused { result ≡ status.ConfRefused → (input.new ≡ input.old) × (frames.new ≡ frames.old) }
-    ensures conf { forms.form_of (map (λ word. word.now) words.now) ≢ form.Replay → conf.new ≡ conf.old }
-    ensures frames { forms.form_of (map (λ word. word.now) words.now) ≢ form.Replay → frames.new ≡ frames.old }
-    ensures unread { forms.form_of (map (λ word. word.now) words.now) ≡ form.Unknown → input.new ≡ input.old }
+    ensures conf { form_in words.now ≢ form.Replay → conf.new ≡ conf.old }
+    ensures frames { form_in words.now ≢ form.Replay → frames.new ≡ frames.old }
+    ensures unread { form_in words.now ≡ form.Unknown → input.new ≡ input.old }
 {
     packets_are_parted();
     match form_of(words) {

@@ -1,6 +1,6 @@
 //! The words of the program.
-ghost use Rattle.std.specs.Prelude.{◌≡◌, map};
-ghost use Rattle.replay_run.specs.Words as words;
+ghost use Rattle.std.specs.Prelude.{◌≡◌};
+ghost use Rattle.replay_run.specs.Words.{form_in};
 
 /// The forms of words.
 #[derive(Clone, Copy, Debug, PartialEq, Eq)]
@@ -22,7 +22,7 @@ pub const USAGE: &[u8] =
 /// The form that the words have. Each is compared exactly; there are no options.
 #[tactic(auto, unfolding(crate::specs::Words::form_of))]
 pub fn form_of(given: &[&str]) -> Form
-    ensures { result ≡ words.form_of (map (λ word. word.now) given.now) }
+    ensures { result ≡ form_in given.now }
 {
     match given {
         [word, _, _, _] if *word == "replay" => Form::Replay,

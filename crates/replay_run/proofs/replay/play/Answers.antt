@@ -4,18 +4,24 @@ use Rattle.replay_run.proofs.replay.play.Goals as goal
 
 pub returns-in-Ok-write_both-clause-answer : goal.returns-in-Ok-write_both-clause-answer
 returns-in-Ok-write_both-clause-answer g c decided =
-    let owed = c.in-Ok.ensures.answer (decided_known c.in-Ok.status decided) in
-    (owed.0, owed.1, met_whole (schedule_answer c.args.domain owed.0)
-    (record { left = g.S.Source.left c.args.input.now; report = g.R.Sink.written c.args.report.now; frames = g.C.Sink.written c.args.frames.now })
-    (record { left = g.S.Source.left c.do_schedule.new.input; report = g.R.Sink.written c.do_schedule.new.report; frames = g.C.Sink.written c.do_schedule.new.frames })
-    (record { left = g.S.Source.left c.do_schedule.new.input; report = g.R.Sink.written c.write_both.new.report; frames = g.C.Sink.written c.write_both.new.frames })
-    c.in-Ok.status c.in-Ok.replay owed.2 c.in-Ok-write_both.ensures.report c.in-Ok-write_both.ensures.frames)
+    let owed = c.in-Ok.ensures.answer (decided_known c.in-Ok.status decided) in (
+      owed.0,
+      owed.1,
+      met_whole (schedule_answer c.args.domain owed.0)
+          (record { left = g.S.Source.left c.args.input.now; report = g.R.Sink.written c.args.report.now; frames = g.C.Sink.written c.args.frames.now })
+          (record { left = g.S.Source.left c.do_schedule.new.input; report = g.R.Sink.written c.do_schedule.new.report; frames = g.C.Sink.written c.do_schedule.new.frames })
+          (record { left = g.S.Source.left c.do_schedule.new.input; report = g.R.Sink.written c.write_both.new.report; frames = g.C.Sink.written c.write_both.new.frames })
+          c.in-Ok.status c.in-Ok.replay owed.2 c.in-Ok-write_both.ensures.report c.in-Ok-write_both.ensures.frames,
+    )
 
 pub returns-clause-front : goal.returns-clause-front
 returns-clause-front g c failed =
-    let begun = c.in-Ok.ensures.begun in
-    (begun.0, begun.1, both_front
-    (record { left = g.S.Source.left c.args.input.now; report = g.R.Sink.written c.args.report.now; frames = g.C.Sink.written c.args.frames.now })
-    (record { left = g.S.Source.left c.do_schedule.new.input; report = g.R.Sink.written c.do_schedule.new.report; frames = g.C.Sink.written c.do_schedule.new.frames })
-    (record { left = g.S.Source.left c.do_schedule.new.input; report = g.R.Sink.written c.write_both.new.report; frames = g.C.Sink.written c.write_both.new.frames })
-    (schedule_answer c.args.domain begun.0) c.in-Ok.replay begun.2 c.in-Err-write_both.ensures.report_front c.in-Err-write_both.ensures.frames_front)
+    let begun = c.in-Ok.ensures.begun in (
+      begun.0,
+      begun.1,
+      both_front
+          (record { left = g.S.Source.left c.args.input.now; report = g.R.Sink.written c.args.report.now; frames = g.C.Sink.written c.args.frames.now })
+          (record { left = g.S.Source.left c.do_schedule.new.input; report = g.R.Sink.written c.do_schedule.new.report; frames = g.C.Sink.written c.do_schedule.new.frames })
+          (record { left = g.S.Source.left c.do_schedule.new.input; report = g.R.Sink.written c.write_both.new.report; frames = g.C.Sink.written c.write_both.new.frames })
+          (schedule_answer c.args.domain begun.0) c.in-Ok.replay begun.2 c.in-Err-write_both.ensures.report_front c.in-Err-write_both.ensures.frames_front,
+    )

@@ -1,4 +1,4 @@
-use Rattle.std.proofs.Common.{sym, ◌∙◌, inl, inr, ◌⊎◌}
+use Rattle.std.proofs.Common.{sym, ◌∙◌}
 use Rattle.replay_run.specs.declared.words.Form.TheVariants as form
 use Rattle.replay_run.specs.Outside.{Meets, AppendsFront}
 use Rattle.replay_run.proofs.Owed.{told, in_form, no_fault, hop_meets, hop_front, hop_done, hop_reports, headers_meets, headers_done, usage_meets, usage_front, write_fault}

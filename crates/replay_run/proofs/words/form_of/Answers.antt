@@ -1,5 +1,4 @@
-use Rattle.std.proofs.Common.{◌∙◌, sym, ap, Bool, if◌then◌else◌}
-use Rattle.replay_run.specs.declared.words.Form.TheVariants.{Replay, Unknown}
+use Rattle.std.proofs.Common.{◌∙◌, sym}
 use Rattle.replay_run.proofs.FourWords.{of_four}
 use Rattle.replay_run.proofs.words.form_of.Goals as goal
 
