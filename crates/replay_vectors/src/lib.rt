@@ -1,0 +1,5 @@
+//! Schedules on small domains, with their whole reports and what their captures hold. There is nothing here but tests.
+#![tactic(auto)]
+
+#[cfg(test)]
+mod replays;
