@@ -10,5 +10,5 @@ use Rattle.domain_replay.proofs.replay.Replay.directions.Goals as goal
 pub returns-clause-joins : goal.returns-clause-joins
 returns-clause-joins c =
     subst (λ (t : Telling). IfOk c.directions.result (λ all. AllByRecursion (IsJoining (length t.world.domain.routers)) all)) c.self.view_is
-    (joins_ok _ c.self.inside.world.world.domain c.confs_of.result.now c.directions.result c.domain.invariant (c.domain.view_is ∙ c.domain-domain.ensures)
-      (c.confs_of.ensures.confs ∙ ap (λ (d : DomainConf). d.routers) c.domain-domain.ensures) c.directions.ensures)
+    (joins_ok _ c.self.inside.world.world.domain c.confs_of.result.now c.directions.result c.domain.invariant (c.domain.view_is ∙ c.domain-domain.ensures.domain)
+      (c.confs_of.ensures.confs ∙ ap (λ (d : DomainConf). d.routers) c.domain-domain.ensures.domain) c.directions.ensures)

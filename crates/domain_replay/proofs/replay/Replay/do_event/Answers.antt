@@ -17,7 +17,7 @@ pub returns-clause-told : goal.returns-clause-told
 returns-clause-told c =
     ap (λ (t : Telling). tells_on c.args.line (told t) c.args.event.now) (sym c.self.view_is)
     ∙ event_told c.args.line _ c.args.event.now _ _ _ _ c.in_ok-made.made c.in_ok-made.ensures.refused c.in_ok-made.ensures.world c.in_ok-made.ensures.told c.in_ok-tell.ensures.counts c.in_ok-tell.ensures.frames _
-    (c.as_slice-routers.ensures ∙ ap (λ (d : DomainConf). d.routers) (c.behind-self.view_is ∙ c.domain.ensures ∙ ap (λ (w : WorldState). w.domain) c.in_ok-made.ensures.world ∙ happens_domain c.self.inside.world.world c.args.event.now)) c.in_ok-tell.ensures.report
+    (c.as_slice-routers.ensures ∙ ap (λ (d : DomainConf). d.routers) (c.behind-self.view_is ∙ c.domain.ensures.domain ∙ ap (λ (w : WorldState). w.domain) c.in_ok-made.ensures.world ∙ happens_domain c.self.inside.world.world c.args.event.now)) c.in_ok-tell.ensures.report
 
 pub returns-clause-domain : goal.returns-clause-domain
 returns-clause-domain c =
