@@ -1,13 +1,13 @@
 -- Both routers of each direction of a valid domain are there.
-use Rattle.std.proofs.Common.{◌≡◌, ℕ, zero, suc, ◌+◌, ◌<◌, ◌≤◌, List, [], ◌∷◌, ◌++◌, length, map, slice_get, Option, Some, None, refl, sym, ap, subst, ◌∙◌, arith, length-append}
+use Rattle.std.proofs.Common.{◌≡◌, ℕ, zero, suc, ◌+◌, ◌<◌, ◌≤◌, List, [], ◌∷◌, length, map, slice_get, Option, Some, None, refl, sym, ap, subst, ◌∙◌, arith}
 use Rattle.std.specs.List.{AllByRecursion, range_with_len}
 use Rattle.wire_base.specs.declared.conf.End.{End}
 use Rattle.wire_base.specs.declared.conf.RouterConf.{RouterConf}
 use Rattle.wire_base.specs.model.Configuration.{DomainConf, IsValid, AreEnds, HaveEnds, Faces, peers_of}
 use Rattle.wire_base.specs.model.Configuration as configuration
 use Rattle.wire_base.specs.model.Lists.{AreApart}
-use Rattle.domain_core.specs.World.{place_of, peer_place, far_place, end_at}
-use Rattle.domain_core.specs.Run.{Direction, direction_over, directions_from, directions}
+use Rattle.domain_core.specs.World.{place_of, far_place, end_at}
+use Rattle.domain_core.specs.Run.{direction_over, directions_from, directions}
 use Rattle.domain_core.proofs.LinkLaws.{place_is}
 use Rattle.domain_core.proofs.EachLaws.{each_joined, each_mapped}
 use Rattle.domain_core.proofs.QueueLaws.{got_within}

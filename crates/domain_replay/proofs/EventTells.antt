@@ -1,5 +1,5 @@
 -- One event that a domain does, or refuses, as it is told.
-use Rattle.std.proofs.Common.{◌≡◌, ℕ, List, [], ◌∷◌, ◌++◌, map, Option, Some, None, Result, Ok, Err, refl, sym, ap, subst, ◌∙◌}
+use Rattle.std.proofs.Common.{◌≡◌, ℕ, List, [], ◌∷◌, ◌++◌, map, Some, None, Err, refl, sym, ap, subst, ◌∙◌}
 use Rattle.std.specs.Prelude.{flat_map}
 use Rattle.wire_base.specs.declared.conf.RouterConf.{RouterConf}
 use Rattle.replay_text.specs.declared.event.Event.{Event}
@@ -15,10 +15,10 @@ use Rattle.domain_core.specs.Network.{Seen}
 use Rattle.domain_core.specs.Step.{happens}
 use Rattle.domain_core.specs.World.{WorldState}
 use Rattle.domain_replay.specs.declared.counts.Counts.{Counts}
-use Rattle.domain_replay.specs.Captures.{wire_record, frame_record, sending_record}
+use Rattle.domain_replay.specs.Captures.{wire_record}
 use Rattle.domain_replay.specs.Counting.{counted}
 use Rattle.domain_replay.specs.Lines.{event_text}
-use Rattle.domain_replay.specs.Telling.{Telling, Told, told, tells, tells_or, tells_on, sent_records}
+use Rattle.domain_replay.specs.Telling.{Telling, told, tells, tells_or, tells_on, sent_records}
 use Rattle.domain_replay.specs.Replaying.{Tells, ends_with}
 use Rattle.domain_replay.proofs.TellingLaws.{same_telling}
 

@@ -1,7 +1,7 @@
 -- What no event changes: the domain and the number of its routers; and how the number of injections grows.
-use Rattle.std.proofs.Common.{◌≡◌, ℕ, zero, suc, ◌+◌, ◌<◌, Bool, true, false, List, [], ◌∷◌, length, slice_get, slice_set, length-set, Option, Some, None, if◌then◌else◌, refl, arith}
+use Rattle.std.proofs.Common.{◌≡◌, ℕ, zero, suc, ◌+◌, ◌<◌, Bool, true, false, List, [], ◌∷◌, length, slice_get, length-set, Option, Some, None, if◌then◌else◌, refl, arith}
 use Rattle.wire_base.specs.model.Control.{Control}
-use Rattle.wire_base.specs.model.Flooding.{Reply, end_up, end_down, send, tick, restart}
+use Rattle.wire_base.specs.model.Flooding.{Reply, end_up, end_down, tick, restart}
 use Rattle.wire_base.specs.model.Item.{Item, ControlItem, PacketItem}
 use Rattle.replay_text.specs.declared.event.Event.{Event}
 use Rattle.replay_text.specs.declared.event.Event.TheVariants.{Inject, Take, Lose, Again, Down, Up, Send, Tick, Restart}

@@ -1,5 +1,5 @@
 -- What is told of a run is told event by event.
-use Rattle.std.proofs.Common.{◌≡◌, ℕ, zero, suc, ◌+◌, filter, List, [], ◌∷◌, ◌++◌, length, map, Option, Some, None, refl, sym, ap, subst, ◌∙◌, append_assoc, append-nil, length-append, arith}
+use Rattle.std.proofs.Common.{◌≡◌, ℕ, zero, suc, ◌+◌, filter, List, [], ◌∷◌, ◌++◌, length, Option, Some, None, refl, sym, ap, subst, ◌∙◌, append_assoc, append-nil, length-append, arith}
 use Rattle.std.proofs.lemmas.List.{length-map}
 use Rattle.std.specs.Prelude.{flat_map, sum_by}
 use Rattle.std.specs.List.{fold, AllByRecursion}
@@ -14,11 +14,9 @@ use Rattle.replay_text.specs.declared.event.Event.TheVariants.{Send, Take}
 use Rattle.replay_text.specs.declared.event.Line.{Line}
 use Rattle.replay_text.specs.declared.event.Line.TheVariants.{Empty, One, Settle}
 use Rattle.domain_core.specs.declared.fault.EventFault.{EventFault}
-use Rattle.domain_core.specs.declared.step_out.GotLine.{GotLine}
 use Rattle.domain_core.specs.declared.step_out.DropLine.{DropLine}
 use Rattle.domain_core.specs.World.{WorldState, first_world, frames_between}
-use Rattle.domain_core.specs.Moves.{Sending, Made}
-use Rattle.domain_core.specs.Step.{Happened, happens}
+use Rattle.domain_core.specs.Step.{happens}
 use Rattle.domain_core.specs.Faults.{event_fault}
 use Rattle.domain_core.specs.Run.{Run, Progress, first_run, goes_on, on_line, Direction, directions, may_send, round_sends, taken_now, round_takes, world_after, round_events, settle_events, does, line_done, line_events, goes_unless, tries}
 use Rattle.domain_core.proofs.EachLaws.{each_from, each_joined, each_mapped, each_repeated}

@@ -1,6 +1,6 @@
 -- Events told one after the other.
-use Rattle.std.proofs.Common.{◌≡◌, ℕ, zero, suc, ◌+◌, ◌-◌, ◌<◌, ◌≤◌, length, drop, replicate, slice_index_or, add-one, drop-cons, arith, List, [], ◌∷◌, ◌++◌, Option, Some, None, Err, refl, sym, ap, subst, ◌∙◌}
-use Rattle.std.specs.List.{fold, AllByRecursion}
+use Rattle.std.proofs.Common.{◌≡◌, ℕ, suc, ◌+◌, ◌-◌, ◌<◌, ◌≤◌, length, drop, replicate, slice_index_or, add-one, drop-cons, arith, List, [], ◌∷◌, ◌++◌, Option, Some, None, Err, refl, sym, ap, ◌∙◌}
+use Rattle.std.specs.List.{fold}
 use Rattle.std.proofs.lemmas.List.{drop_all}
 use Rattle.std.proofs.lemmas.Grind.{fold-append}
 use Rattle.replay_text.specs.declared.event.Event.{Event}
@@ -10,7 +10,7 @@ use Rattle.domain_core.specs.World.{WorldState}
 use Rattle.domain_core.specs.Step.{happens}
 use Rattle.domain_core.specs.Faults.{event_fault}
 use Rattle.domain_core.specs.Run.{Direction, directions, round_sends, taken_now, round_takes, round_events, settle_events, world_after}
-use Rattle.domain_replay.specs.Telling.{Telling, Told, told, tells, tells_or, tells_unless, tells_on, tells_all}
+use Rattle.domain_replay.specs.Telling.{Telling, Told, told, tells, tells_or, tells_on, tells_all}
 use Rattle.domain_replay.specs.Replaying.{ends_with, Tells}
 
 pub all_joined : (line : ℕ) (t : Told) (xs ys : List Event) → tells_all line t (xs ++ ys) ≡ tells_all line (tells_all line t xs) ys

@@ -1,5 +1,5 @@
 -- A schedule that is read and done line by line is done as a whole.
-use Rattle.std.proofs.Common.{◌≡◌, ◌≢◌, ℕ, ◌+◌, ◌<◌, ◌≤◌, Bool, true, false, List, [], ◌∷◌, ◌++◌, length, take, Option, Some, None, Result, refl, sym, ap, subst, ◌∙◌, arith, inl, inr, append-nil, append_assoc}
+use Rattle.std.proofs.Common.{◌≡◌, ◌≢◌, ℕ, ◌+◌, ◌<◌, ◌≤◌, true, false, List, [], ◌∷◌, ◌++◌, length, Option, Some, None, Result, refl, sym, ap, subst, ◌∙◌, arith, inl, inr, append-nil, append_assoc}
 use Rattle.std.specs.Prelude.{◌⊎◌, replicate}
 use Rattle.std.specs.Io.KnownBytes.{Appends, Consumes, IsAtEnd}
 use Rattle.std.proofs.KnownBytes.{Appends-nil, Appends-trans, Consumes-nil, Consumes-trans}
@@ -12,8 +12,8 @@ use Rattle.replay_text.specs.declared.event.Line.{Line}
 use Rattle.replay_text.specs.declared.fault.TextFault.{TextFault}
 use Rattle.replay_text.specs.Pieces.{lines_in}
 use Rattle.domain_core.specs.Run.{Run, first_run}
-use Rattle.domain_replay.specs.Telling.{Telling, first_telling, telling_of}
-use Rattle.domain_replay.specs.Texts.{Refusal, Reached, capture_text, run_text, line_reaches, lines_reach, schedule_reaches, names_of}
+use Rattle.domain_replay.specs.Telling.{Telling, first_telling}
+use Rattle.domain_replay.specs.Texts.{Refusal, line_reaches, lines_reach, schedule_reaches, names_of}
 use Rattle.domain_replay.proofs.TellingLaws.{start_told}
 use Rattle.replay_run.specs.declared.reader.Found.{Found}
 use Rattle.replay_run.specs.declared.reader.Found.TheVariants as found
@@ -21,7 +21,6 @@ use Rattle.replay_run.specs.declared.reader.LineReader.{LineReader}
 use Rattle.replay_run.specs.Answer.{Verdict}
 use Rattle.replay_run.specs.Texts.{Close, Ended, Longer, Cut, close_of, is_short, within_limit, lines_within}
 use Rattle.replay_run.specs.Reader.{Stands, IsLast}
-use Rattle.replay_run.specs.HopReached.{Begins}
 use Rattle.replay_run.specs.ScheduleText.{ending, answer_by, answer_to, schedule_answer, schedule_cut}
 use Rattle.replay_run.specs.Scheduling.{Course, IsAt, past, owed, gained, Reaches, next_reaches, EndsWith, Turns, Owing, Begun}
 use Rattle.replay_run.specs.Outside.{Held, Meets, AppendsFront}
@@ -81,7 +80,7 @@ written_at course now later frames report at frames_are report_are rest =
     let whole_frames : course.frames ++ now.frames ≡ (course.frames ++ frames) ++ later.frames = ap (λ (l : List ℕ). course.frames ++ l) frames_are ∙ sym (append_assoc course.frames frames later.frames) in
     let whole_report : course.report ++ now.report ≡ (course.report ++ report) ++ later.report = ap (λ (l : List ℕ). course.report ++ l) report_are ∙ sym (append_assoc course.report report later.report) in
     let moved : past course.frames course.report now ≡ past (course.frames ++ frames) (course.report ++ report) ((record now { frames = later.frames; report = later.report })) =
-        (λ i. record { world = now.world; counts = now.counts; frames = whole_frames i; report = whole_report i }) in
+    (λ i. record { world = now.world; counts = now.counts; frames = whole_frames i; report = whole_report i }) in
     record {
       run = at.run;
       telling = at.telling ∙ moved ∙ ap (λ (r : Telling). past (course.frames ++ frames) (course.report ++ report) r) (sym rest);
@@ -207,10 +206,14 @@ ends_as d before now status frames report replay octets what wrote_frames wrote_
     record {
       answer = λ known. (octets, held, record { report = report; frames = frames; report_written = wrote_report; frames_written = wrote_frames; is = total });
       stopped = λ fault. absurd (apart is fault);
-      begun = (octets, held, record {
-        report = (report, wrote_report, ([], ap (λ (v : Verdict). v.report) total ∙ sym (append-nil (report ++ replay.report))));
-        frames = (frames, wrote_frames, ([], ap (λ (v : Verdict). v.frames) total ∙ sym (append-nil (frames ++ replay.frames))));
-      });
+      begun = (
+        octets,
+        held,
+        record {
+          report = (report, wrote_report, ([], ap (λ (v : Verdict). v.report) total ∙ sym (append-nil (report ++ replay.report))));
+          frames = (frames, wrote_frames, ([], ap (λ (v : Verdict). v.frames) total ∙ sym (append-nil (frames ++ replay.frames))));
+        },
+      );
       ends = elim is [
         | inl done ↦ inl done
         | inr refused ↦ inr (inl refused)
@@ -312,11 +315,23 @@ begins {d = d} {reader = reader} {replay = replay} on octets more is =
     let report = report_grown d on.run reached.run grown in
     let frames = frames_grown d on.run reached.run grown in
     record {
-      report = (on.report, on.report_written, (report.0 ++ end,
+      report = (
+        on.report,
+        on.report_written,
+        (
+          report.0 ++ end,
           ap (λ (v : Verdict). v.report) all ∙ ap (λ (l : List ℕ). l ++ end) (report.1 ∙ ap (λ (t : Telling). t.report ++ report.0) on.at.telling)
-          ∙ append_assoc (on.report ++ replay.report) report.0 end));
-      frames = (on.frames, on.frames_written, (frames.0,
-          ap (λ (v : Verdict). v.frames) all ∙ frames.1 ∙ ap (λ (t : Telling). t.frames ++ frames.0) on.at.telling));
+              ∙ append_assoc (on.report ++ replay.report) report.0 end,
+        ),
+      );
+      frames = (
+        on.frames,
+        on.frames_written,
+        (
+          frames.0,
+          ap (λ (v : Verdict). v.frames) all ∙ frames.1 ∙ ap (λ (t : Telling). t.frames ++ frames.0) on.at.telling,
+        ),
+      );
     }
 
 -- the source failed
@@ -334,21 +349,29 @@ failed_at {d = d} {before = before} {mid = mid} {replay = replay} now on later s
     let wrote_frames = subst (λ (o : Option (List ℕ)). Appends before.frames o on.frames) (sym same_frames) on.frames_written in
     let wrote_report = subst (λ (o : Option (List ℕ)). Appends before.report o on.report) (sym same_report) on.report_written in
     let report_is : on.report ++ replay.report ≡ on.report ++ later.report =
-        sym (append-nil (on.report ++ replay.report)) ∙ ap (λ (t : Telling). t.report ++ []) (sym on.at.telling) ∙ ap (λ (v : Verdict). v.report) turn in
+    sym (append-nil (on.report ++ replay.report)) ∙ ap (λ (t : Telling). t.report ++ []) (sym on.at.telling) ∙ ap (λ (v : Verdict). v.report) turn in
     let frames_is : on.frames ++ replay.frames ≡ on.frames ++ later.frames = ap (λ (t : Telling). t.frames) (sym on.at.telling) ∙ ap (λ (v : Verdict). v.frames) turn in
     record {
       answer = λ known. absurd (known fault);
-      stopped = λ is. (taken, consumes, record {
-        report = on.report;
-        frames = on.frames;
-        report_written = wrote_report;
-        frames_written = wrote_frames;
-        is = ap (answer_to Cut d) whole ∙ on.did Cut [] ∙ turn;
-      });
-      begun = (held.0, held.1, record {
-        report = (on.report, wrote_report, (begun.report.2.0, begun.report.2.1 ∙ ap (λ (l : List ℕ). l ++ begun.report.2.0) report_is));
-        frames = (on.frames, wrote_frames, (begun.frames.2.0, begun.frames.2.1 ∙ ap (λ (l : List ℕ). l ++ begun.frames.2.0) frames_is));
-      });
+      stopped = λ is. (
+        taken,
+        consumes,
+        record {
+          report = on.report;
+          frames = on.frames;
+          report_written = wrote_report;
+          frames_written = wrote_frames;
+          is = ap (answer_to Cut d) whole ∙ on.did Cut [] ∙ turn;
+        },
+      );
+      begun = (
+        held.0,
+        held.1,
+        record {
+          report = (on.report, wrote_report, (begun.report.2.0, begun.report.2.1 ∙ ap (λ (l : List ℕ). l ++ begun.report.2.0) report_is));
+          frames = (on.frames, wrote_frames, (begun.frames.2.0, begun.frames.2.1 ∙ ap (λ (l : List ℕ). l ++ begun.frames.2.0) frames_is));
+        },
+      );
       ends = inr (inr fault);
       last = λ done. absurd (apart (sym done ∙ fault));
       cut = λ is. refl;
@@ -411,9 +434,10 @@ Fronts d before now =
 -- from where a replay stands
 pub both_front : (before mid now : Outer) (owing : Verdict) (replay : Telling) → Begun owing replay before.report mid.report before.frames mid.frames → AppendsFront mid.report now.report replay.report → AppendsFront mid.frames now.frames replay.frames
     → AppendsFront before.report now.report owing.report × AppendsFront before.frames now.frames owing.frames
-both_front before mid now owing replay begun report frames =
-    (begun_front before.report mid.report now.report replay.report owing.report begun.report report,
-    begun_front before.frames mid.frames now.frames replay.frames owing.frames begun.frames frames)
+both_front before mid now owing replay begun report frames = (
+  begun_front before.report mid.report now.report replay.report owing.report begun.report report,
+  begun_front before.frames mid.frames now.frames replay.frames owing.frames begun.frames frames,
+)
 
 -- nothing was read or written
 pub untouched : (d : DomainConf) (before : Outer) → Fronts d before before

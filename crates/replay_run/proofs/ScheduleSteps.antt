@@ -1,13 +1,10 @@
 -- A schedule, line by line.
-use Rattle.std.proofs.Common.{◌≡◌, ◌≢◌, ℕ, ◌+◌, ◌<◌, List, [], ◌∷◌, ◌++◌, length, Option, Some, None, Result, Ok, Err, refl, sym, ap, subst, ◌∙◌, append_assoc, append-nil, arith}
+use Rattle.std.proofs.Common.{◌≡◌, ◌≢◌, ℕ, ◌+◌, ◌<◌, List, [], ◌∷◌, ◌++◌, length, Option, Some, None, Result, Ok, Err, refl, sym, ap, subst, ◌∙◌, append_assoc, arith}
 use Rattle.std.specs.Prelude.{IfOk, OnOk}
 use Rattle.std.specs.List.{fold}
 use Rattle.std.proofs.lemmas.Bool.{lt-ltb}
-use Rattle.std.proofs.lemmas.List.{length-map}
-use Rattle.wire_base.specs.declared.conf.RouterConf.{RouterConf}
 use Rattle.wire_base.specs.declared.status.Status.{Status}
 use Rattle.wire_base.specs.declared.status.Status.TheVariants.{InputRefused}
-use Rattle.wire_base.specs.model.Configuration.{DomainConf}
 use Rattle.replay_text.specs.declared.event.Event.{Event}
 use Rattle.replay_text.specs.declared.event.Event.TheVariants as event
 use Rattle.replay_text.specs.declared.event.Line.{Line}
@@ -18,17 +15,14 @@ use Rattle.replay_text.specs.Events.{EventFits, LineFits}
 use Rattle.replay_text.specs.Reading.{Fails}
 use Rattle.replay_text.specs.Schedule.{schedule_line}
 use Rattle.domain_core.specs.declared.fault.EventFault.{EventFault}
-use Rattle.domain_core.specs.World.{WorldState, ids_in_flight}
+use Rattle.domain_core.specs.World.{ids_in_flight}
 use Rattle.domain_core.specs.Faults.{event_fault}
 use Rattle.domain_core.specs.Step.{happens}
-use Rattle.domain_core.specs.Run.{Run, Progress, line_done, line_events, on_line}
-use Rattle.domain_replay.specs.declared.counts.Counts.{Counts}
-use Rattle.domain_replay.specs.Counting.{counts_of}
+use Rattle.domain_core.specs.Run.{Run, Progress, line_done, line_events}
 use Rattle.domain_replay.specs.Lines.{done_text, event_refused_text, text_refused_text, text_fault}
-use Rattle.domain_replay.specs.Telling.{Telling, Told, told, sent_records, tells, tells_made, tells_or, tells_unless, tells_on, tells_all, tells_line, telling_of, at_line, IsEntered, LineEnters, IsToldSo}
-use Rattle.domain_replay.specs.Texts.{Refusal, BadText, BadEvent, Reached, made_text, run_text, capture_text, run_done_text, refusal_text, reached_so, reached_by, line_reaches, lines_reach, goes_further, and_further, names_of}
+use Rattle.domain_replay.specs.Telling.{Telling, Told, told, sent_records, tells, tells_or, tells_unless, tells_on, tells_all, tells_line, telling_of, at_line, IsEntered, LineEnters, IsToldSo}
+use Rattle.domain_replay.specs.Texts.{Refusal, BadText, BadEvent, Reached, made_text, run_text, capture_text, run_done_text, reached_so, line_reaches, lines_reach, goes_further, names_of}
 use Rattle.domain_replay.proofs.TellingLaws.{line_told}
-use Rattle.replay_run.specs.Answer.{Verdict}
 use Rattle.replay_run.specs.Texts.{Close, Ended}
 use Rattle.replay_run.specs.ScheduleText.{ending, ends_so, answer_by}
 use Rattle.replay_run.specs.Scheduling.{Course, past, IsAt, owed, gained, Reaches, said_reaches, next_reaches, EndsWith}
@@ -73,7 +67,7 @@ pub ends_there : (course : Course) (r : Run) (now later : Telling) (end : Status
     → ends_so course.domain r end ≡ gained course end.0 later
 ends_there course r now later end at frames report =
     let whole : run_text course.domain r ++ end.1 ≡ course.report ++ later.report =
-        ap (λ (t : Telling). t.report ++ end.1) at.telling ∙ append_assoc course.report now.report end.1 ∙ ap (λ (l : List ℕ). course.report ++ l) (sym report) in
+    ap (λ (t : Telling). t.report ++ end.1) at.telling ∙ append_assoc course.report now.report end.1 ∙ ap (λ (l : List ℕ). course.report ++ l) (sym report) in
     let capture : capture_text course.domain r ≡ course.frames ++ later.frames = ap (λ (t : Telling). t.frames) at.telling ∙ ap (λ (l : List ℕ). course.frames ++ l) (sym frames) in
     λ i. record { status = end.0; report = whole i; frames = capture i }
 
@@ -104,9 +98,10 @@ pub said_done : (course : Course) (line : ℕ) (said : Line) (old now : Telling)
     → tells_line line old said ≡ told now → Reaches (said_reaches line course said) course now None
 said_done course line said old now at enters is =
     let q = after course line said in
-    let none = refused_as course line said old now None at enters is in
-    (ap (λ (o : Option (ℕ × EventFault)). (reached_so q.run o).refused) none,
-    subst (λ (r : Run). IsAt (record course { run = r }) now) (sym (run_reached q.run q.refused)) (at_run course line said old now None at enters is))
+    let none = refused_as course line said old now None at enters is in (
+      ap (λ (o : Option (ℕ × EventFault)). (reached_so q.run o).refused) none,
+      subst (λ (r : Run). IsAt (record course { run = r }) now) (sym (run_reached q.run q.refused)) (at_run course line said old now None at enters is),
+    )
 
 pub said_refused : (course : Course) (line : ℕ) (said : Line) (old now later : Telling) (why : EventFault) → IsAt course old → LineEnters (length course.domain.routers) said
     → tells_line line old said ≡ record { telling = now; refused = Some why } → later.frames ≡ now.frames → later.report ≡ now.report ++ event_refused_text line why
@@ -114,11 +109,12 @@ pub said_refused : (course : Course) (line : ℕ) (said : Line) (old now later :
 said_refused course line said old now later why at enters is frames report =
     let q = after course line said in
     let some = refused_as course line said old now (Some why) at enters is in
-    let end : Status × List ℕ = (InputRefused, event_refused_text line why) in
-    ((line, BadEvent why),
-    ap (λ (o : Option (ℕ × EventFault)). (reached_so q.run o).refused) some,
-    ap (λ (r : Run). ends_so course.domain r end) (run_reached q.run q.refused)
-    ∙ ends_there course q.run now later end (at_run course line said old now (Some why) at enters is) frames report)
+    let end : Status × List ℕ = (InputRefused, event_refused_text line why) in (
+      (line, BadEvent why),
+      ap (λ (o : Option (ℕ × EventFault)). (reached_so q.run o).refused) some,
+      ap (λ (r : Run). ends_so course.domain r end) (run_reached q.run q.refused)
+          ∙ ends_there course q.run now later end (at_run course line said old now (Some why) at enters is) frames report,
+    )
 
 -- an event that fits a domain is at a router that is there
 pub fits_enters : (n m : ℕ) (said : Line) → n ≡ m → LineFits n said → LineEnters m said
@@ -161,12 +157,13 @@ text_refused course n line names old later why ended at named fails known is gro
     let same : names ≡ names_of course.domain = named ∙ ap names_of (domain_at course old at) in
     let reads : schedule_line line (names_of course.domain) ≡ Err why = subst (λ (l : List (List ℕ)). schedule_line line l ≡ Err why) same (is_fault why (schedule_line line names) fails known) in
     let reached : next_reaches n course line ≡ record { run = course.run; refused = Some (n + 1, BadText why) } = ap (line_reaches (n + 1) course.run) reads in
-    let end : Status × List ℕ = (InputRefused, text_refused_text (n + 1) (text_fault why)) in
-    ((n + 1, BadText why),
-    ap (λ (x : Reached). x.refused) reached,
-    ap (λ (x : Reached). ends_so course.domain x.run end) reached
-    ∙ ends_there course course.run old later end at (ap (λ (x : Telling). x.frames) grown) (ap (λ (x : Telling). x.report) grown)
-    ∙ ap (λ (s : Status). gained course s later) (sym is))
+    let end : Status × List ℕ = (InputRefused, text_refused_text (n + 1) (text_fault why)) in (
+      (n + 1, BadText why),
+      ap (λ (x : Reached). x.refused) reached,
+      ap (λ (x : Reached). ends_so course.domain x.run end) reached
+          ∙ ends_there course course.run old later end at (ap (λ (x : Telling). x.frames) grown) (ap (λ (x : Telling). x.report) grown)
+          ∙ ap (λ (s : Status). gained course s later) (sym is),
+    )
 
 pub long_line : (long : List ℕ) (names : List (List ℕ)) → 16384 < length long → schedule_line long names ≡ Err fault.LineLong
 unfolding schedule_line

@@ -1,6 +1,6 @@
-use Rattle.std.proofs.Common.{◌≡◌, ap, ◌∙◌, ◌+◌, ◌-◌, replicate}
+use Rattle.std.proofs.Common.{ap, ◌∙◌, ◌+◌, ◌-◌, replicate}
 use Rattle.std.proofs.lemmas.Result.{err_from_is_err_and}
-use Rattle.domain_replay.specs.Telling.{Told, told, tells_on, tells_all}
+use Rattle.domain_replay.specs.Telling.{Told, told, tells_all}
 use Rattle.domain_replay.proofs.TellsLaws.{err_at, times_first, times_none}
 use Rattle.domain_replay.proofs.replay.Replay.do_times.Goals as goal
 

@@ -1,4 +1,4 @@
-use Rattle.std.proofs.Common.{◌≡◌, length, ap}
+use Rattle.std.proofs.Common.{length, ap}
 use Rattle.wire_base.specs.model.Configuration.{DomainConf}
 use Rattle.domain_replay.specs.Telling.{Telling}
 use Rattle.replay_run.proofs.ScheduleSteps.{said_done, said_refused, fits_enters, domain_at}
