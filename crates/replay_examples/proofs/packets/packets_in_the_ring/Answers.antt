@@ -15,7 +15,7 @@ use Rattle.wire_base.specs.model.Choice.{candidates, choice, direct_choice, is_d
 use Rattle.wire_base.specs.model.Item.{ingress_header}
 use Rattle.wire_base.specs.model.Ingress.{packets_for, edge_fault}
 use Rattle.domain_replay.specs.Texts.{events_text}
-use Rattle.domain_replay.specs.Counting.{ids_in_flight}
+use Rattle.domain_core.specs.World.{ids_in_flight}
 use Rattle.std.specs.Fmt.{digits}
 use Rattle.replay_examples.proofs.packets.packets_in_the_ring.Goals as goal
 

@@ -11,7 +11,7 @@ use Rattle.replay_text.specs.Schedule.{router_named, link_named, frame_named, ev
 use Rattle.replay_text.specs.Pieces.{words_of}
 use Rattle.replay_text.specs.Tokens.{number_of}
 use Rattle.domain_replay.specs.Texts.{events_text, capture_text, run_text, report_text, lines_reach, schedule_reaches}
-use Rattle.domain_replay.specs.Counting.{ids_in_flight}
+use Rattle.domain_core.specs.World.{ids_in_flight}
 use Rattle.std.specs.Fmt.{digits}
 use Rattle.replay_examples.proofs.pdus.a_lost_pdu.Goals as goal
 
