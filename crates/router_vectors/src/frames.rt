@@ -1,7 +1,7 @@
 //! Frames at the routers of the pair.
 use crate::pair::started;
 use hex::FromHexError;
-use router_core::{Cause, Effects, Router};
+use router_core::{Cause, DropNote, Effects, Router};
 use std::alloc::Global;
 use std::test::Fail;
 use wire_base::{M, Memory, Octets, PduFault, View, ViewNode};
@@ -14,8 +14,10 @@ const FIRST_LSP: &str =
 const ACKNOWLEDGED: &str =
     "09002b0000050200000100000026fefe03831101001b010000002300000000000200091004b0000000000001000000000001554e";
 
-/// What both routers see once they have told each other: system, edges with their metrics, and subdomain, BFR-id and labels.
-const BOTH: &str = "1 to 1 metric 10 in 0 as 1 from 100\n2 to 0 metric 10 in 0 as 2 from 200\n";
+/// What each of both routers sees once they have told each other, one behind the other: system, edges with their metrics, and
+/// subdomain, BFR-id and labels.
+const BOTH: &str =
+    "1 to 1 metric 10 in 0 as 1 from 100\n2 to 0 metric 10 in 0 as 2 from 200\n1 to 1 metric 10 in 0 as 1 from 100\n2 to 0 metric 10 in 0 as 2 from 200\n";
 
 fn octets_of(alloc: Global, digits: &str) -> M<Octets> {
     match hex::decode(alloc, digits.as_bytes()) {
@@ -103,78 +105,176 @@ fn last(effects: &Effects) -> &[u8] {
     }
 }
 
+/// What a router shows of a frame that it took: how many frames it sent at once, how many drops it made, whether the first was
+/// for the checksum, how much is due on its first link then, and how many nodes it sees.
+#[derive(Clone, Copy, Debug, PartialEq, Eq)]
+struct Shown {
+    sent: usize,
+    drops: usize,
+    checksum: bool,
+    due: usize,
+    nodes: usize,
+}
+
+/// Whether the first drop is for a PDU's checksum.
+fn is_checksum(drops: &[DropNote]) -> bool {
+    match drops {
+        [first, ..] => first.cause == Cause::Pdu(PduFault::Checksum),
+        [] => false,
+    }
+}
+
+fn show(router: &Router, effects: &Effects) -> M<Shown> {
+    let view = router.current_view()?;
+    Ok(Shown {
+        sent: effects.sent.len(),
+        drops: effects.drops.len(),
+        checksum: is_checksum(effects.drops.as_slice()),
+        due: due(router),
+        nodes: view.as_slice().len(),
+    })
+}
+
+/// What a router shows of a frame, where it has a link.
+fn shown_of(router: &mut Router, frame: &[u8]) -> M<Option<Shown>> {
+    match hear(router, frame)? {
+        Some(effects) => Ok(Some(show(router, &effects)?)),
+        None => Ok(None),
+    }
+}
+
+/// What a router that has just started shows of a frame.
+fn first_shown(alloc: Global, frame: &[u8]) -> M<Option<Shown>> {
+    match started(alloc)? {
+        Some(mut pair) => shown_of(&mut pair.1, frame),
+        None => Ok(None),
+    }
+}
+
+/// A frame with its last digit altered.
+fn altered(alloc: Global, digits: &str) -> M<Octets> {
+    let mut octets = octets_of(alloc, digits)?;
+    let count = octets.len();
+    if count > 0 {
+        octets.truncate(count - 1);
+        octets.push(0x65)?;
+    }
+    Ok(octets)
+}
+
+/// How many frames a router sends on its first link, and how much is due there then.
+#[derive(Clone, Copy, Debug, PartialEq, Eq)]
+struct Answer {
+    sent: usize,
+    acknowledged: bool,
+    due: usize,
+}
+
+/// What a router sends, and whether the last of it are those octets.
+fn make_answer(router: &mut Router, wanted: &[u8]) -> M<Option<Answer>> {
+    match let_send(router)? {
+        Some(effects) => Ok(Some(Answer {
+            sent: effects.sent.len(),
+            acknowledged: last(&effects) == wanted,
+            due: due(router),
+        })),
+        None => Ok(None),
+    }
+}
+
+/// What a router that has just started answers to a frame.
+fn first_answer(alloc: Global, frame: &[u8], wanted: &[u8]) -> M<Option<Answer>> {
+    match started(alloc)? {
+        Some(mut pair) => {
+            let _heard = shown_of(&mut pair.1, frame)?;
+            make_answer(&mut pair.1, wanted)
+        }
+        None => Ok(None),
+    }
+}
+
+/// Both routers send, and each takes what the other sent. Whether nothing was dropped.
+fn exchange(a: &mut Router, b: &mut Router) -> M<bool> {
+    let there = carry(a, b)?;
+    let back = carry(b, a)?;
+    Ok(there && back)
+}
+
+/// What a router sees in the end, where nothing is due on its first link.
+fn settled(alloc: Global, router: &Router) -> M<Octets> {
+    if due(router) > 0 {
+        return Ok(Octets::new(alloc));
+    }
+    let view = router.current_view()?;
+    seen(alloc, &view)
+}
+
+/// What both routers see after four exchanges, one behind the other; nothing where something was dropped on the way.
+fn both_see(alloc: Global, a: &mut Router, b: &mut Router) -> M<Octets> {
+    let mut whole = true;
+    for _ in 0..4 {
+        let exchanged = exchange(a, b)?;
+        whole = whole && exchanged;
+    }
+    let mut text = settled(alloc, a)?;
+    let by_b = settled(alloc, b)?;
+    text.append(by_b.as_slice())?;
+    if !whole {
+        text.truncate(0);
+    }
+    Ok(text)
+}
+
+fn pair_sees(alloc: Global) -> M<Octets> {
+    match started(alloc)? {
+        Some(mut pair) => both_see(alloc, &mut pair.0, &mut pair.1),
+        None => Ok(Octets::new(alloc)),
+    }
+}
+
+// Its own list and link state PDU are due, as before, and no acknowledgement.
 #[test]
 fn an_altered_frame_changes_nothing(rt: HostRuntime) -> Result<(), Fail> {
-    let alloc = rt.alloc();
-    let Some((_, mut b)) = started(alloc)? else {
-        return Err(Fail::new("no domain"));
+    let frame = altered(rt.alloc(), FIRST_LSP)?;
+    let shown = first_shown(rt.alloc(), frame.as_slice())?;
+    let wanted = Shown {
+        sent: 0,
+        drops: 1,
+        checksum: true,
+        due: 2,
+        nodes: 1,
     };
-    let mut altered = String::from_str(alloc, &FIRST_LSP[..FIRST_LSP.len() - 1])?;
-    altered.push_str("5")?;
-    let frame = octets_of(alloc, altered.as_str())?;
-    let Some(effects) = hear(&mut b, frame.as_slice())? else {
-        return Err(Fail::new("no link"));
-    };
-    assert_eq!(rt; effects.sent.len(), 0);
-    let causes: Vec<Cause> = effects
-        .drops
-        .as_slice()
-        .iter()
-        .map(|drop| drop.cause)
-        .collect(alloc)?;
-    assert_eq!(rt;
-        causes.as_slice(),
-        [Cause::Pdu(PduFault::Checksum)].as_slice()
-    );
-    // Its own list and link state PDU, as before, and no acknowledgement.
-    assert_eq!(rt; due(&b), 2);
-    let view = b.current_view()?;
-    assert_eq!(rt; view.as_slice().len(), 1);
+    assert!(rt; shown == Some(wanted));
     Ok(())
 }
 
+// It is acknowledged; the router's own one is to be sent until that is.
 #[test]
 fn a_link_state_pdu_is_acknowledged(rt: HostRuntime) -> Result<(), Fail> {
-    let alloc = rt.alloc();
-    let Some((_, mut b)) = started(alloc)? else {
-        return Err(Fail::new("no domain"));
+    let frame = octets_of(rt.alloc(), FIRST_LSP)?;
+    let shown = first_shown(rt.alloc(), frame.as_slice())?;
+    let kept = Shown {
+        sent: 0,
+        drops: 0,
+        checksum: false,
+        due: 3,
+        nodes: 2,
     };
-    let frame = octets_of(alloc, FIRST_LSP)?;
-    let Some(effects) = hear(&mut b, frame.as_slice())? else {
-        return Err(Fail::new("no link"));
+    assert!(rt; shown == Some(kept));
+    let octets = octets_of(rt.alloc(), ACKNOWLEDGED)?;
+    let answer = first_answer(rt.alloc(), frame.as_slice(), octets.as_slice())?;
+    let wanted = Answer {
+        sent: 3,
+        acknowledged: true,
+        due: 1,
     };
-    assert_eq!(rt; effects.sent.len(), 0);
-    assert_eq!(rt; effects.drops.len(), 0);
-    assert_eq!(rt; due(&b), 3);
-    let view = b.current_view()?;
-    assert_eq!(rt; view.as_slice().len(), 2);
-    let Some(sent) = let_send(&mut b)? else {
-        return Err(Fail::new("the link is down"));
-    };
-    assert_eq!(rt; sent.sent.len(), 3);
-    let wanted = octets_of(alloc, ACKNOWLEDGED)?;
-    assert_eq!(rt; last(&sent), wanted.as_slice());
-    // It was acknowledged; the router's own one is to be sent until that is.
-    assert_eq!(rt; due(&b), 1);
+    assert!(rt; answer == Some(wanted));
     Ok(())
 }
 
 #[test]
 fn both_see_the_same(rt: HostRuntime) -> Result<(), Fail> {
-    let alloc = rt.alloc();
-    let Some((mut a, mut b)) = started(alloc)? else {
-        return Err(Fail::new("no domain"));
-    };
-    for _ in 0..4 {
-        let there = carry(&mut a, &mut b)?;
-        let back = carry(&mut b, &mut a)?;
-        assert!(rt; there && back);
-    }
-    assert_eq!(rt; due(&a), 0);
-    assert_eq!(rt; due(&b), 0);
-    let by_a = seen(alloc, &a.current_view()?)?;
-    let by_b = seen(alloc, &b.current_view()?)?;
-    assert_eq!(rt; by_a.as_slice(), BOTH.as_bytes());
-    assert_eq!(rt; by_b.as_slice(), BOTH.as_bytes());
+    let seen = pair_sees(rt.alloc())?;
+    assert_eq!(rt; seen.as_slice(), BOTH.as_bytes());
     Ok(())
 }
