@@ -1,22 +1,49 @@
--- How truth values, one for each position, stand for a set of positions.
-use Rattle.std.specs.Prelude.{ℕ, suc, ◌≡◌, Bool, true, false, ◌||◌, List, [], ◌∷◌, ◌++◌, ◌==◌, length}
+-- How words of 64 bits stand for a set of positions.
+use Rattle.std.specs.Prelude.{ℕ, ◌≤◌, ◌<◌, ◌≡◌, ◌*◌, ◌-◌, ◌/◌, ◌%◌, ◌^◌, ◌&&◌, Bool, true, false, ◌||◌, List, ◌==◌, nat_le, filter, length, drop, slice_index, bit_and}
+use Rattle.std.specs.Int.{bit_at, bit_not, w64}
+use Rattle.byteorder.specs.Endian.{big_number}
+use Rattle.wire_base.specs.model.BitSet.{up_to}
 
 -- the widths that a BitString can have, in units of 64 bits (RFC 8296, 2.1.2)
 abbrev pub is_width : ℕ → Bool
 is_width w = (w == 1) || (w == 2) || (w == 4) || (w == 8) || (w == 16) || (w == 32) || (w == 64)
 
--- the places of the true values, counted from a number on
-abbrev pub members_from : ℕ → List Bool → List ℕ
-members_from p [] = []
-members_from p (true ∷ bits) = p ∷ members_from (suc p) bits
-members_from p (false ∷ bits) = members_from (suc p) bits
+-- the members from a number on
+abbrev pub from_on : ℕ → List ℕ → List ℕ
+from_on low set = filter (λ p. nat_le low p) set
 
--- lists end to end
-abbrev pub joined : List (List Bool) → List Bool
-joined [] = []
-joined (lane ∷ lanes) = lane ++ joined lanes
+-- whether the bit at a place is set, which is counted from 0 through all words, the least bit of each word first
+abbrev pub has_place : List ℕ → ℕ → Bool
+has_place words i = bit_at (slice_index words (i / 64)) (i % 64) == 1
 
--- so many lists of 64 values
-abbrev pub AreLanes : List (List Bool) → ℕ → Type 0
-AreLanes [] w = w ≡ 0
-AreLanes (lane ∷ lanes) w = (v : ℕ) × (w ≡ suc v) × (length lane ≡ 64) × AreLanes lanes v
+abbrev pub has_both : List ℕ → List ℕ → ℕ → Bool
+has_both a b i = has_place a i && has_place b i
+
+-- the positions of w words: position p is the bit at place p - 1
+unfoldable pub members_of : ℕ → List ℕ → List ℕ
+members_of w words = filter (λ p. has_place words (p - 1)) (up_to (64 * w))
+
+abbrev pub places_in : List ℕ → List ℕ
+places_in words = members_of (length words) words
+
+-- each is a word of 64 bits
+abbrev pub AreWords : List ℕ → Type 0
+AreWords words = (k : ℕ) → slice_index words k < 2 ^ 64
+
+-- no place from one number to another passes a test, and the first that does
+abbrev pub NoPlace : (ℕ → Bool) → ℕ → ℕ → Type 0
+NoPlace test low high = (i : ℕ) → low ≤ i → i < high → test i ≡ false
+
+pub record IsNextPlace (test : ℕ → Bool) (start end i : ℕ) : Type 0 where
+  pub low : start ≤ i
+  pub high : i < end
+  pub has : test i ≡ true
+  pub none : NoPlace test start i
+
+-- the bits of the first word that the second hasn't
+abbrev pub and_not : ℕ → ℕ → ℕ
+and_not a b = bit_and a (bit_not w64 b)
+
+-- the first k words are the numbers of eight octets each, from the end on
+abbrev pub AreOctets : List ℕ → List ℕ → ℕ → Type 0
+AreOctets words octets count = (k : ℕ) → k < count → slice_index words k ≡ big_number 8 (drop (8 * (length words - 1 - k)) octets)

@@ -1,27 +1,27 @@
-ghost use Rattle.std.specs.Prelude.{◌≡◌, ◌≤◌, ◌<◌, ◌+◌, ◌*◌, ◌==◌, ◌&&◌, ◌||◌, not, [], length, IsTrue};
-ghost use Rattle.wire_base.specs.model.BitSet.{has_member, with_member, first_member, IsWithin, intersection, difference, union, has_bit, set_of, number_from, octets_of};
-ghost use Rattle.bier_bits.specs.Sets.{is_width};
+ghost use Rattle.std.specs.Prelude.{◌≡◌, ◌≤◌, ◌+◌, ◌*◌, ◌==◌, [], ◌∷◌, length, IsTrue, IfSome};
+ghost use Rattle.wire_base.specs.model.BitSet.{has_member, with_member, first_member, IsWithin, intersection, difference, union, set_of, octets_of};
+ghost use Rattle.bier_bits.specs.Sets.{is_width, from_on};
 
+use crate::octets::{read_words, write_words};
+use crate::words::{Both, Either, Without, are_zero, count, first_shared, join, next_place};
 use std::marker::Model;
 
 /// A BitString of 64 W bits, seen as a set of bit positions, which are counted from 1 to 64 W (RFC 8279, 3; RFC 8296,
 /// 2.1.2). W is 1, 2, 4, 8, 16, 32 or 64, for the seven lengths that a header can carry.
 ///
-/// It holds one truth value for each position.
+/// It holds W words of 64 bits: position p is bit (p - 1) mod 64 of word (p - 1) div 64.
 #[derive(Drop)]
 pub struct BitString<const W: usize> {
-    lanes: [[bool; 64]; W],
+    lanes: [u64; W],
 }
 
 impl<const W: usize> Model for BitString<W> {
     ghost use Rattle.std.specs.Prelude.{List, ℕ};
-    ghost use Rattle.bier_bits.specs.Sets.{members_from, joined, AreLanes};
+    ghost use Rattle.bier_bits.specs.Sets.{members_of};
 
     ghost Value = { List ℕ };
 
-    ghost view = { λ b. members_from 1 (joined b.lanes) };
-
-    ghost invariant = { λ b. AreLanes b.lanes W };
+    ghost view = { λ b. members_of W b.lanes };
 }
 
 impl<const W: usize> BitString<W> {
@@ -30,9 +30,7 @@ impl<const W: usize> BitString<W> {
         requires { IsTrue (is_width W) }
         ensures { result ≡ [] }
     {
-        BitString {
-            lanes: [[false; 64]; W],
-        }
+        BitString { lanes: [0; W] }
     }
 
     /// An equal set.
@@ -61,19 +59,20 @@ impl<const W: usize> BitString<W> {
         requires high { bp ≤ 64 * W }
         ensures { self.new ≡ with_member bp self.old }
     {
-        let place = (bp - 1) as usize;
-        self.lanes[place / 64][place % 64] = true;
+        let place = usize::from(bp - 1);
+        self.lanes[place / 64] |= 1 << (place % 64);
     }
 
-    /// Whether a position, from 1 to the width, is in the set.
+    /// Whether a position is in the set. False outside 1 to the width.
     pub fn has(&self, bp: u16) -> bool
-        requires width { IsTrue (is_width W) }
-        requires low { 1 ≤ bp }
-        requires high { bp ≤ 64 * W }
+        requires { IsTrue (is_width W) }
         ensures { result ≡ has_member bp self.now }
     {
-        let place = (bp - 1) as usize;
-        self.lanes[place / 64][place % 64]
+        if bp > self.width() || bp == 0 {
+            return false;
+        }
+        let place = usize::from(bp - 1);
+        self.lanes[place / 64] >> (place % 64) & 1 == 1
     }
 
     /// The positions that both sets have.
@@ -81,13 +80,9 @@ impl<const W: usize> BitString<W> {
         requires { IsTrue (is_width W) }
         ensures { result ≡ intersection self.now other.now }
     {
-        let mut shared = BitString::zero();
-        for place in 0..self.width() {
-            if self.has_with(other, place + 1) {
-                shared.set(place + 1);
-            }
-        }
-        shared
+        let mut lanes = [0; W];
+        join::<Both>(&self.lanes, &other.lanes, &mut lanes);
+        BitString { lanes }
     }
 
     /// The positions of this set that the other hasn't.
@@ -95,13 +90,20 @@ impl<const W: usize> BitString<W> {
         requires { IsTrue (is_width W) }
         ensures { result ≡ difference self.now other.now }
     {
-        let mut left = BitString::zero();
-        for place in 0..self.width() {
-            if self.has_without(other, place + 1) {
-                left.set(place + 1);
-            }
-        }
-        left
+        let mut lanes = [0; W];
+        join::<Without>(&self.lanes, &other.lanes, &mut lanes);
+        BitString { lanes }
+    }
+
+    /// Takes the positions that the mask has out of the set, and gives them.
+    pub fn cut(&mut self, mask: &Self) -> Self
+        requires { IsTrue (is_width W) }
+        ensures taken { result ≡ intersection self.old mask.now }
+        ensures left { self.new ≡ difference self.old mask.now }
+    {
+        let taken = self.and(mask);
+        *self = self.and_not(mask);
+        taken
     }
 
     /// The positions of this set and those of the other.
@@ -109,14 +111,9 @@ impl<const W: usize> BitString<W> {
         requires { IsTrue (is_width W) }
         ensures { result ≡ union self.now other.now }
     {
-        let _lanes = &other.lanes;
-        let mut joint = BitString::zero();
-        for place in 0..self.width() {
-            if self.has_or(other, place + 1) {
-                joint.set(place + 1);
-            }
-        }
-        joint
+        let mut lanes = [0; W];
+        join::<Either>(&self.lanes, &other.lanes, &mut lanes);
+        BitString { lanes }
     }
 
     /// Whether the set has no position.
@@ -124,35 +121,50 @@ impl<const W: usize> BitString<W> {
         requires { IsTrue (is_width W) }
         ensures { result ≡ (length self.now == 0) }
     {
-        self.first().is_none()
+        are_zero(&self.lanes)
     }
 
     /// How many positions the set has.
+    #[tactic(auto, using(crate::proofs::Widths::width_le))]
     pub fn count(&self) -> u16
         requires { IsTrue (is_width W) }
         ensures { result ≡ length self.now }
     {
-        let mut count = 0;
-        for place in 0..self.width() {
-            if self.has(place + 1) {
-                count += 1;
-            }
-        }
-        count
+        count(&self.lanes) as u16
     }
 
     /// The least position of the set. None exactly where the set is empty.
+    #[tactic(auto, using(crate::proofs::Widths::width_le))]
     pub fn first(&self) -> Option<u16>
         requires { IsTrue (is_width W) }
         ensures { result ≡ first_member self.now }
     {
-        let _lanes = &self.lanes;
-        for place in 0..self.width() {
-            if self.has(place + 1) {
-                return Some(place + 1);
-            }
-        }
-        None
+        let place = next_place(&self.lanes, 0)?;
+        Some(place as u16 + 1)
+    }
+
+    /// The least position of the set that is at least `bp`. None exactly where there is none. What the set has from `bp` on
+    /// is that position and what it has behind it, so a walk asks from behind each position that it was given.
+    #[tactic(auto, using(crate::proofs::Widths::width_le))]
+    pub fn next_from(&self, bp: u16) -> Option<u16>
+        requires { IsTrue (is_width W) }
+        ensures value { result ≡ first_member (from_on bp self.now) }
+        ensures rest { IfSome result (λ p. from_on bp self.now ≡ p ∷ from_on (p + 1) self.now) }
+        ensures low { IfSome result (λ p. bp ≤ p) }
+        ensures high { IfSome result (λ p. p ≤ 64 * W) }
+    {
+        let place = next_place(&self.lanes, usize::from(bp.max(1)) - 1)?;
+        Some(place as u16 + 1)
+    }
+
+    /// The least position that both sets have. None exactly where they share none.
+    #[tactic(auto, using(crate::proofs::Widths::width_le))]
+    pub fn first_shared(&self, other: &Self) -> Option<u16>
+        requires { IsTrue (is_width W) }
+        ensures { result ≡ first_member (intersection self.now other.now) }
+    {
+        let place = first_shared(&self.lanes, &other.lanes)?;
+        Some(place as u16 + 1)
     }
 
     /// Writes the set as 8 W octets, the highest position first: position 1 is the least significant bit of the last
@@ -163,10 +175,7 @@ impl<const W: usize> BitString<W> {
         ensures octets { out.new ≡ octets_of (8 * W) self.now }
         ensures again { set_of out.new ≡ self.now }
     {
-        let octets = self.width() / 8;
-        for place in 0..octets {
-            out[(octets - 1 - place) as usize] = self.octet_from(8 * place + 1);
-        }
+        write_words(&self.lanes, out);
     }
 
     /// The set that 8 W octets stand for, the highest position first. The octets are those that the set is written as.
@@ -176,65 +185,8 @@ impl<const W: usize> BitString<W> {
         ensures set { result ≡ set_of bytes.now }
         ensures again { octets_of (8 * W) result ≡ bytes.now }
     {
-        let mut bits = BitString::zero();
-        for place in 0..bits.width() {
-            if bit_at(bytes, place as usize) {
-                bits.set(place + 1);
-            }
-        }
-        bits
+        let mut lanes = [0; W];
+        read_words(bytes, &mut lanes);
+        BitString { lanes }
     }
-
-    // Whether both sets have a position.
-    fn has_with(&self, other: &Self, bp: u16) -> bool
-        requires width { IsTrue (is_width W) }
-        requires low { 1 ≤ bp }
-        requires high { bp ≤ 64 * W }
-        ensures { result ≡ (has_member bp self.now && has_member bp other.now) }
-    {
-        self.has(bp) && other.has(bp)
-    }
-
-    // Whether this set has a position that the other hasn't.
-    fn has_without(&self, other: &Self, bp: u16) -> bool
-        requires width { IsTrue (is_width W) }
-        requires low { 1 ≤ bp }
-        requires high { bp ≤ 64 * W }
-        ensures { result ≡ (has_member bp self.now && not (has_member bp other.now)) }
-    {
-        self.has(bp) && !other.has(bp)
-    }
-
-    // Whether one set or the other has a position.
-    fn has_or(&self, other: &Self, bp: u16) -> bool
-        requires width { IsTrue (is_width W) }
-        requires low { 1 ≤ bp }
-        requires high { bp ≤ 64 * W }
-        ensures { result ≡ (has_member bp self.now || has_member bp other.now) }
-    {
-        self.has(bp) || other.has(bp)
-    }
-
-    // The octet of eight positions, the first as its least bit.
-    fn octet_from(&self, first: u16) -> u8
-        requires width { IsTrue (is_width W) }
-        requires low { 1 ≤ first }
-        requires high { first + 7 ≤ 64 * W }
-        ensures { result ≡ number_from 8 first self.now }
-    {
-        let mut octet = 0;
-        for done in 0..8 {
-            octet = octet * 2 + u8::from(self.has(first + 7 - done));
-        }
-        octet
-    }
-}
-
-// Whether the bit at a place is set, the least bit of the last octet being at place 0.
-fn bit_at(bytes: &[u8], place: usize) -> bool
-    requires { place < 8 * length bytes.now }
-    ensures { result ≡ has_bit bytes.now (place + 1) }
-{
-    let octet = bytes[bytes.len() - 1 - place / 8];
-    (octet >> (place % 8)) & 1 == 1
 }

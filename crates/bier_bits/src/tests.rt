@@ -1,4 +1,5 @@
-ghost use Rattle.std.specs.Prelude.{◌≡◌};
+ghost use Rattle.std.specs.Prelude.{◌≡◌, ◌≤◌};
+ghost use Rattle.wire_base.specs.model.Place.{bits_of};
 ghost use Rattle.bier_bits.specs.Any.{bsl_of};
 
 use crate::any::AnyBits;
@@ -48,6 +49,74 @@ fn two_sets_of_each_length(rt: HostRuntime) {
         );
         assert_eq!(rt; (set.or(&other).count(), set.copy().count()), (4, 3));
     }
+}
+
+// The empty set, the full set, and each position at an end of a word.
+#[test]
+fn edges_of_each_length(rt: HostRuntime) {
+    for bsl in LENGTHS {
+        let bits = bsl.bits();
+        let empty = AnyBits::zero(bsl);
+        let full = AnyBits::read(bsl, &[0xff; 512][..usize::from(bits / 8)]);
+        assert_eq!(rt; seen(&empty, bits), (0, None, [false; 4]));
+        assert_eq!(rt;
+            seen(&full, bits),
+            (bits, Some(1), [false, true, true, false])
+        );
+        assert!(rt; empty.is_empty() && !full.is_empty() && full.and_not(&full).is_empty());
+        assert_eq!(rt; octets_of(&empty, bits), (0, 0, 0));
+        assert_eq!(rt; octets_of(&full, bits), (0xff, 0xff, usize::from(bits / 8)));
+        for bp in [1, 64, 65, bits] {
+            if bp > 0 && bp <= bits {
+                let one = one_position(bsl, bp);
+                assert_eq!(rt;
+                    (one.count(), one.first(), one.has(bp)),
+                    (1, Some(bp), true)
+                );
+                assert_eq!(rt;
+                    (one.next_from(bp), one.next_from(bp + 1)),
+                    (Some(bp), None)
+                );
+                assert_eq!(rt; (one.has(bp - 1), one.has(bp + 1)), (false, false));
+                assert_eq!(rt; one.and(&full).first(), Some(bp));
+                assert_eq!(rt; full.and_not(&one).count(), bits - 1);
+                assert_eq!(rt; one.or(&empty).next_from(0), Some(bp));
+                assert_eq!(rt; octets_of(&one, bits).2, 1);
+            }
+        }
+    }
+}
+
+// How many positions a set has, the least, and whether it has those about its ends.
+fn seen(set: &AnyBits, bits: u16) -> (u16, Option<u16>, [bool; 4]) {
+    let ends = [
+        set.has(0),
+        set.has(1),
+        set.has(bits),
+        set.has(bits.saturating_add(1)),
+    ];
+    (set.count(), set.first(), ends)
+}
+
+// The first octet and the last one, and how many aren't 0.
+fn octets_of(set: &AnyBits, bits: u16) -> (u8, u8, usize)
+    requires { bits ≡ bits_of (bsl_of set.now) }
+{
+    let mut room = [0xff; 512];
+    let out = &mut room[..usize::from(bits / 8)];
+    set.to_be_bytes(out);
+    let used = out.iter().filter(|octet| **octet != 0).count();
+    (out[0], out[out.len() - 1], used)
+}
+
+fn one_position(bsl: Bsl, bp: u16) -> AnyBits
+    requires low { 1 ≤ bp }
+    requires high { bp ≤ bits_of bsl }
+    ensures { bsl_of result ≡ bsl }
+{
+    let mut set = AnyBits::zero(bsl);
+    set.set(bp);
+    set
 }
 
 fn three_positions(bsl: Bsl) -> AnyBits

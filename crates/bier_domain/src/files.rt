@@ -1,9 +1,12 @@
-//! Sources and sinks over real files and standard output. What a file or a terminal gives and takes is trusted: none
-//! of them tells its octets.
+//! Sources and sinks over real files and standard output. Each works over whatever runtime it is handed, and tells of its octets
+//! what that runtime's files tell; those of the system tell nothing.
 ghost use Rattle.std.specs.Prelude.{◌≡◌, None, false};
 ghost use Rattle.std.specs.Io.{ReadsAtMost, WritesAtMost};
+ghost use Rattle.std.specs.Io.KnownBytes.{ReadConsumes, WriteAppends, Keeps};
 ghost use Rattle.wire_base.specs.Causes.{HasCause, CountsZeros, after_write, after_finish};
+ghost use Rattle.bier_domain.specs.Opened.{told};
 
+use crate::counts::{Tally, count_read};
 use std::io::{Read, Write};
 use std::rt::Files;
 use std::{fs, io};
@@ -20,8 +23,11 @@ pub struct FileSource<'a, R: Files> {
 }
 
 impl<'a, R: Files> FileSource<'a, R> {
+    /// The file at that path, which isn't opened yet.
     pub fn new(rt: &'a R, path: &'a str) -> Self
-        ensures { result.faults ≡ 0 }
+        ensures path { result.path ≡ path.entry }
+        ensures closed { result.file ≡ None }
+        ensures faults { result.faults ≡ 0 }
     {
         FileSource {
             rt,
@@ -32,91 +38,41 @@ impl<'a, R: Files> FileSource<'a, R> {
     }
 }
 
-/// Reads from a file, which it opens where it isn't open.
-fn read_from<R: Files>(
-    rt: &R,
-    path: &str,
-    file: &mut Option<R::File>,
-    into: &mut [u8],
-) -> io::Result<usize>
-    ensures { ReadsAtMost result into.new }
+/// Reads once from a file that is open.
+pub fn read_open<F: Read>(file: &mut Option<F>, into: &mut [u8]) -> io::Result<usize>
+    ensures bound { ReadsAtMost result into.new }
+    ensures bytes { ReadConsumes (told F.remaining file.old) (told F.remaining file.new) result into.new }
 {
-    if file.is_none() {
-        *file = Some(fs::open(rt, path)?);
-    }
     match file {
         Some(file) => file.read(into),
         None => Ok(0),
     }
 }
 
+/// Reads once from the file at that path, which it opens where it isn't open.
+fn read_at<R: Files>(
+    rt: &R,
+    path: &str,
+    file: &mut Option<R::File>,
+    into: &mut [u8],
+) -> io::Result<usize>
+    ensures bound { ReadsAtMost result into.new }
+    ensures bytes { ReadConsumes (told R.File.remaining file.old) (told R.File.remaining file.new) result into.new }
+{
+    if file.is_none() {
+        *file = Some(fs::open(rt, path)?);
+    }
+    read_open(file, into)
+}
+
 impl<'a, R: Files> Source for FileSource<'a, R> {
-    ghost left = { λ _. None };
+    ghost left = { λ s. told R.File.remaining s.file };
 
     ghost faults = { λ s. s.faults };
 
     fn read(&mut self, into: &mut [u8]) -> Result<usize, Failed> {
-        match read_from(self.rt, self.path, &mut self.file, into) {
-            Ok(count) => Ok(count),
-            Err(_) => {
-                self.faults = self.faults.saturating_add(1);
-                Err(Failed)
-            }
-        }
-    }
-}
-
-/// What a sink has counted, and whether it is unfinished.
-#[derive(Drop)]
-struct Tally {
-    faults: u64,
-    zeros: u64,
-    unfinished: bool,
-}
-
-impl Tally {
-    fn new() -> Self
-        ensures { result ≡ record { faults = 0; zeros = 0; unfinished = false } }
-    {
-        Tally {
-            faults: 0,
-            zeros: 0,
-            unfinished: false,
-        }
-    }
-
-    /// Counts what a write of that piece answered.
-    fn wrote(&mut self, piece: &[u8], answer: io::Result<usize>) -> Result<usize, Failed>
-        requires { WritesAtMost answer piece.now }
-        ensures bound { WritesAtMost result piece.now }
-        ensures cause { HasCause self.old.faults self.new.faults result }
-        ensures nothing { CountsZeros self.old.zeros self.new.zeros result piece.now }
-        ensures open { after_write self.old.unfinished result self.new.unfinished }
-    {
-        let Ok(count) = answer else {
-            self.faults = self.faults.saturating_add(1);
-            return Err(Failed);
-        };
-        if count > 0 {
-            self.unfinished = true;
-        } else if !piece.is_empty() {
-            self.zeros = self.zeros.saturating_add(1);
-        }
-        Ok(count)
-    }
-
-    /// Counts what a flush answered.
-    fn flushed(&mut self, answer: io::Result<()>) -> Result<(), Failed>
-        ensures cause { HasCause self.old.faults self.new.faults result }
-        ensures nothing { self.new.zeros ≡ self.old.zeros }
-        ensures open { after_finish self.old.unfinished result self.new.unfinished }
-    {
-        if answer.is_err() {
-            self.faults = self.faults.saturating_add(1);
-            return Err(Failed);
-        }
-        self.unfinished = false;
-        Ok(())
+        let answer = read_at(self.rt, self.path, &mut self.file, into);
+        count_read(&mut self.faults, answer)
     }
 }
 
@@ -131,8 +87,11 @@ pub struct FileSink<'a, R: Files> {
 }
 
 impl<'a, R: Files> FileSink<'a, R> {
+    /// The file at that path, which isn't made yet.
     pub fn new(rt: &'a R, path: &'a str) -> Self
-        ensures { result.tally ≡ record { faults = 0; zeros = 0; unfinished = false } }
+        ensures path { result.path ≡ path.entry }
+        ensures closed { result.file ≡ None }
+        ensures tally { result.tally ≡ record { faults = 0; zeros = 0; unfinished = false } }
     {
         FileSink {
             rt,
@@ -143,25 +102,37 @@ impl<'a, R: Files> FileSink<'a, R> {
     }
 }
 
-/// Writes to a file, which it makes or cuts where it isn't open.
-fn write_to<R: Files>(
-    rt: &R,
-    path: &str,
-    file: &mut Option<R::File>,
-    piece: &[u8],
-) -> io::Result<usize>
-    ensures { WritesAtMost result piece.now }
+/// Writes once to a file that is open.
+pub fn write_open<F: Write>(file: &mut Option<F>, piece: &[u8]) -> io::Result<usize>
+    ensures bound { WritesAtMost result piece.now }
+    ensures bytes { WriteAppends (told F.contents file.old) (told F.contents file.new) result piece.now }
 {
-    if file.is_none() {
-        *file = Some(fs::create(rt, path)?);
-    }
     match file {
         Some(file) => file.write(piece),
         None => Ok(0),
     }
 }
 
-fn flush_file<F: Write>(file: &mut Option<F>) -> io::Result<()> {
+/// Writes once to the file at that path, which it makes or cuts where it isn't open.
+fn write_at<R: Files>(
+    rt: &R,
+    path: &str,
+    file: &mut Option<R::File>,
+    piece: &[u8],
+) -> io::Result<usize>
+    ensures bound { WritesAtMost result piece.now }
+    ensures bytes { WriteAppends (told R.File.contents file.old) (told R.File.contents file.new) result piece.now }
+{
+    if file.is_none() {
+        *file = Some(fs::create(rt, path)?);
+    }
+    write_open(file, piece)
+}
+
+/// Flushes a file, where it is open.
+pub fn flush_open<F: Write>(file: &mut Option<F>) -> io::Result<()>
+    ensures { Keeps (told F.contents file.old) (told F.contents file.new) }
+{
     match file {
         Some(file) => file.flush(),
         None => Ok(()),
@@ -169,7 +140,7 @@ fn flush_file<F: Write>(file: &mut Option<F>) -> io::Result<()> {
 }
 
 impl<'a, R: Files> Sink for FileSink<'a, R> {
-    ghost written = { λ _. None };
+    ghost written = { λ s. told R.File.contents s.file };
 
     ghost faults = { λ s. s.tally.faults };
 
@@ -178,17 +149,17 @@ impl<'a, R: Files> Sink for FileSink<'a, R> {
     ghost unfinished = { λ s. s.tally.unfinished };
 
     fn write(&mut self, piece: &[u8]) -> Result<usize, Failed> {
-        let answer = write_to(self.rt, self.path, &mut self.file, piece);
-        self.tally.wrote(piece, answer)
+        let answer = write_at(self.rt, self.path, &mut self.file, piece);
+        self.tally.count_write(piece, answer)
     }
 
     fn finish(&mut self) -> Result<(), Failed> {
-        let answer = flush_file(&mut self.file);
-        self.tally.flushed(answer)
+        let answer = flush_open(&mut self.file);
+        self.tally.count_flush(answer)
     }
 }
 
-/// Standard output.
+/// Standard output, which keeps nothing back.
 #[derive(Drop)]
 pub struct StdoutSink<'a, P: Print> {
     rt: &'a P,
@@ -196,6 +167,7 @@ pub struct StdoutSink<'a, P: Print> {
 }
 
 impl<'a, P: Print> StdoutSink<'a, P> {
+    /// Standard output, to which nothing is written yet.
     pub fn new(rt: &'a P) -> Self
         ensures { result.tally ≡ record { faults = 0; zeros = 0; unfinished = false } }
     {
@@ -216,12 +188,14 @@ impl<'a, P: Print> Sink for StdoutSink<'a, P> {
     ghost unfinished = { λ s. s.tally.unfinished };
 
     fn write(&mut self, piece: &[u8]) -> Result<usize, Failed> {
-        let answer = io::writer(self.rt).write(piece);
-        self.tally.wrote(piece, answer)
+        let mut out = Some(io::writer(self.rt));
+        let answer = write_open(&mut out, piece);
+        self.tally.count_write(piece, answer)
     }
 
     fn finish(&mut self) -> Result<(), Failed> {
-        let answer = io::writer(self.rt).flush();
-        self.tally.flushed(answer)
+        let mut out = Some(io::writer(self.rt));
+        let answer = flush_open(&mut out);
+        self.tally.count_flush(answer)
     }
 }

@@ -1,13 +1,21 @@
 //! The program: real files and standard output under the top call. Nothing is written to standard error.
+//!
+//! It stands on `replay_run`, and promises that each object is at its own word and that the status is the exit number.
 #![tactic(auto)]
 
-ghost use Rattle.std.specs.Prelude.{◌≡◌, ◌∷◌, [], length, drop};
+ghost use Rattle.std.specs.Prelude.{◌≡◌, ◌↔◌, MatchResult, IfOk, map, drop, string_bytes, false};
+ghost use Rattle.std.specs.IoError.{error_kind};
+ghost use Rattle.std.specs.Process.{exit_status};
+ghost use Rattle.wire_base.specs.Status.{number_of};
+ghost use Rattle.wire_base.specs.declared.status.Status.TheVariants as statuses;
 
+mod counts;
 mod files;
+mod objects;
 
-use files::{FileSink, FileSource, StdoutSink};
-use replay_run::run;
-use std::alloc::AllocError;
+use objects::run_words;
+use std::alloc::{AllocError, Global};
+use std::io::ErrorKind;
 use std::process::ExitCode;
 use std::{env, io};
 use wire_base::Status;
@@ -15,68 +23,55 @@ use wire_base::Status;
 #[cfg(test)]
 mod tests;
 
-/// The paths of the files that words name; empty where they name none.
-#[derive(Clone, Copy)]
-struct Paths<'a> {
-    conf: &'a str,
-    input: &'a str,
-    frames: &'a str,
-}
-
-/// The paths that words of that count name.
-fn paths_in<'a>(words: &[&'a str]) -> Paths<'a>
-    ensures replay { length words.now ≡ 4 → result.conf ∷ result.input ∷ result.frames ∷ [] ≡ drop 1 words.now }
-    ensures one_input { length words.now ≡ 2 → result.input ∷ [] ≡ drop 1 words.now }
+/// What follows the program's name.
+fn after_name(args: &[String]) -> &[String]
+    ensures { result.now ≡ drop 1 args.now }
 {
-    match words {
-        [_, conf, schedule, frames] => Paths {
-            conf: *conf,
-            input: *schedule,
-            frames: *frames,
-        },
-        [_, input] => Paths {
-            conf: "",
-            input: *input,
-            frames: "",
-        },
-        _ => Paths {
-            conf: "",
-            input: "",
-            frames: "",
-        },
+    match args {
+        [] => args,
+        [_, words @ ..] => words,
     }
 }
 
-/// Runs on those words. An object that they don't name has an empty path, which is never opened.
-fn run_words(rt: &HostRuntime, words: &[&str]) -> Status {
-    let paths = paths_in(words);
-    let mut conf = FileSource::new(rt, paths.conf);
-    let mut input = FileSource::new(rt, paths.input);
-    let mut frames = FileSink::new(rt, paths.frames);
-    let mut report = StdoutSink::new(rt);
-    run(
-        rt.alloc(),
-        words,
-        &mut conf,
-        &mut input,
-        &mut frames,
-        &mut report,
-    )
+/// The texts of words.
+fn texts_of<'a>(alloc: Global, words: &'a [String]) -> Result<Vec<&'a str>, AllocError>
+    ensures { IfOk result (λ texts. map (λ text. text.now) texts.items ≡ map string_bytes words.now) }
+{
+    let mut texts = Vec::new(alloc);
+    for word in words {
+        texts.push(word.as_str())?;
+    }
+    Ok(texts)
 }
 
-/// Runs on the words of the command line. A word that isn't UTF-8 stands in no form of words.
+/// Whether there are no words since one of them isn't UTF-8, and so stands in no form of words; else memory was refused.
+fn is_no_text(error: &io::Error) -> bool
+    ensures { result ≡ false ↔ error_kind error.now ≡ ErrorKind.OutOfMemory }
+{
+    error.kind() != ErrorKind::OutOfMemory
+}
+
+/// Runs on the words of the command line.
 fn run_command_line(rt: &HostRuntime) -> Result<Status, AllocError> {
-    let args = match env::args(rt) {
-        Ok(args) => args,
-        Err(error) if error.kind() == io::ErrorKind::OutOfMemory => return Err(AllocError),
-        Err(_) => return Ok(run_words(rt, &[])),
-    };
-    let texts: Vec<String> = args.skip(1).collect(rt.alloc())?;
-    let words: Vec<&str> = texts.iter().map(|text| text.as_str()).collect(rt.alloc())?;
-    Ok(run_words(rt, &words))
+    match env::args(rt) {
+        Ok(args) => {
+            let args: Vec<String> = args.collect(rt.alloc())?;
+            let words = texts_of(rt.alloc(), after_name(&args))?;
+            Ok(run_words(rt, rt.alloc(), &words))
+        }
+        Err(error) if is_no_text(&error) => Ok(run_words(rt, rt.alloc(), &[])),
+        Err(_) => Err(AllocError),
+    }
+}
+
+/// The number that the program ends with: the status's own; where memory was refused before the run, that of want of memory.
+fn exit_code(ended: Result<Status, AllocError>) -> ExitCode
+    ensures { MatchResult ended (λ status. exit_status result ≡ number_of status) (λ e. exit_status result ≡ number_of statuses.Memory) }
+{
+    let status = ended.unwrap_or(Status::Memory);
+    ExitCode::from(status.number())
 }
 
 fn main(rt: HostRuntime) -> ExitCode {
-    let status = run_command_line(&rt).unwrap_or(Status::Memory);
-    ExitCode::from(status.number())
+    exit_code(run_command_line(&rt))
 }

@@ -1,7 +1,81 @@
 use crate::files::{FileSink, FileSource};
 use std::fs;
+use std::io::ErrorKind;
 use std::test::Fail;
-use wire_base::{Sink, Source};
+use wire_base::{Failed, Sink, Source};
+
+mod disk;
+
+use disk::{Call, Disk};
+
+/// What a file at that path is read from, or written to.
+const READ: Disk = Disk {
+    path: "domain.toml",
+    written: false,
+    calls: &[
+        Call::Moves(b"ab"),
+        Call::Fails(ErrorKind::Interrupted),
+        Call::Moves(b"c"),
+        Call::Fails(ErrorKind::Other),
+        Call::Moves(b""),
+    ],
+};
+
+const WRITTEN: Disk = Disk {
+    path: "frames.pcap",
+    written: true,
+    calls: &[
+        Call::Moves(b"ab"),
+        Call::Fails(ErrorKind::StorageFull),
+        Call::Moves(b""),
+        Call::Fails(ErrorKind::Interrupted),
+        Call::Flushes,
+    ],
+};
+
+/// A read is a fault exactly where the file's is, interrupted or not, and the end exactly where nothing was read.
+#[test]
+fn reads_fail_as_the_file_does(rt: HostRuntime) -> Result<(), Fail> {
+    let mut source = FileSource::new(&READ, "domain.toml");
+    let mut into = [0; 4];
+    assert_eq!(rt; source.read(&mut into), Ok(2));
+    assert_eq!(rt; &into[..2], b"ab".as_slice());
+    assert_eq!(rt; source.read(&mut into), Err(Failed));
+    assert_eq!(rt; source.read(&mut into), Ok(1));
+    assert_eq!(rt; &into[..1], b"c".as_slice());
+    assert_eq!(rt; source.read(&mut into), Err(Failed));
+    assert_eq!(rt; source.read(&mut into), Ok(0));
+    assert_eq!(rt;
+        FileSource::new(&READ, "other").read(&mut into),
+        Err(Failed)
+    );
+    assert_eq!(rt;
+        FileSource::new(&WRITTEN, "frames.pcap").read(&mut into),
+        Err(Failed)
+    );
+    Ok(())
+}
+
+/// A write and a finish fail exactly where the file's write and flush do; a finish where nothing was written opens nothing.
+#[test]
+fn writes_fail_as_the_file_does(rt: HostRuntime) -> Result<(), Fail> {
+    let mut sink = FileSink::new(&WRITTEN, "frames.pcap");
+    assert_eq!(rt; sink.finish(), Ok(()));
+    assert_eq!(rt; sink.write(b"abc"), Ok(2));
+    assert_eq!(rt; sink.write(b"c"), Err(Failed));
+    assert_eq!(rt; sink.write(b"c"), Ok(0));
+    assert_eq!(rt; sink.finish(), Err(Failed));
+    assert_eq!(rt; sink.finish(), Ok(()));
+    assert_eq!(rt;
+        FileSink::new(&WRITTEN, "schedule.txt").write(b"ab"),
+        Err(Failed)
+    );
+    assert_eq!(rt;
+        FileSink::new(&READ, "domain.toml").write(b"ab"),
+        Err(Failed)
+    );
+    Ok(())
+}
 
 /// A file that isn't there fails each read; one that was there is cut, written, and read back to its end.
 #[test]

@@ -1,6 +1,7 @@
 -- A copy: its header, and the way that it goes.
-use Rattle.std.proofs.Common.{◌≡◌, ℕ, suc, ◌+◌, ◌*◌, ◌/◌, ◌%◌, ◌^◌, ◌≤◌, ◌<◌, Bool, true, false, List, [], ◌∷◌, ◌++◌, map, Option, Some, None, option_and_then, option_map, slice_get, refl, sym, ap, subst, ◌∙◌, cond, if◌then◌else◌, arith}
+use Rattle.std.proofs.Common.{◌≡◌, ℕ, suc, ◌+◌, ◌*◌, ◌/◌, ◌%◌, ◌^◌, Bool, true, false, List, [], ◌∷◌, ◌++◌, map, Option, Some, None, option_and_then, option_map, slice_get, is_some, refl, sym, ap, subst, ◌∙◌, if◌then◌else◌, arith}
 use Rattle.byteorder.specs.Endian.{big_bytes}
+use Rattle.wire_base.specs.declared.addresses.Ipv4.{Ipv4}
 use Rattle.wire_base.specs.declared.addresses.SystemId.{SystemId}
 use Rattle.wire_base.specs.declared.bsl.Bsl.{Bsl}
 use Rattle.wire_base.specs.declared.cause.Cause.{Cause}
@@ -14,12 +15,12 @@ use Rattle.wire_base.specs.declared.view.First.{First}
 use Rattle.wire_base.specs.declared.view.ViewNode.{ViewNode}
 use Rattle.wire_base.specs.model.BierHeader.{BierHeader, header_octets, second_word, third_word}
 use Rattle.wire_base.specs.model.BitSet.{IsWithin, octets_of}
+use Rattle.wire_base.specs.model.Choice.{end_toward, is_direct}
 use Rattle.wire_base.specs.model.Control.{same_system}
 use Rattle.wire_base.specs.model.Graph.{node_bift}
 use Rattle.wire_base.specs.model.Hop as hops
 use Rattle.wire_base.specs.model.Item as item
-use Rattle.wire_base.specs.model.Item.{bier_frame}
-use Rattle.wire_base.specs.model.OnFrame.{Effects, Packet, node_place, bift_at, copy_of, delivery, direct_copy, one_drop, one_sent, or_drop, positions_in, sent_on, tunnel_copy}
+use Rattle.wire_base.specs.model.OnFrame.{Effects, Packet, node_place, copy_of, copy_sent, delivery, direct_copy, link_to, next_link, one_drop, one_sent, or_drop, positions_in, prefix_of, sent_on, tunnel_copy}
 use Rattle.wire_base.specs.model.Place.{bits_of, id_at}
 use Rattle.bier_bits.specs.declared.any.AnyBits.{AnyBits}
 use Rattle.bier_bits.specs.Any.{bsl_of, positions_of}
@@ -30,9 +31,9 @@ use Rattle.bier_hop.specs.declared.out.Out.TheVariants.{Dropped}
 use Rattle.bier_hop.specs.declared.out.Why.{Why}
 use Rattle.bier_hop.specs.declared.out.Why.TheVariants.{NoRow, Ttl}
 use Rattle.bier_hop.specs.Outcomes.{drop_outcome, outcome}
-use Rattle.bier_forward.specs.declared.copy.Way.{Way}
+use Rattle.bier_forward.specs.declared.ways.Way.{Way}
 use Rattle.bier_forward.proofs.IdLaws.{bit-at}
-use Rattle.bier_forward.specs.Hops.{IsDirect, bift_toward, cause_of, copy_head, given, node_in, place_of, way_at}
+use Rattle.bier_forward.specs.Hops.{IsNext, bift_toward, cause_of, copy_head, copy_octets, frame_in, given, node_in, place_of, way_at, way_by, way_on}
 
 -- ---- the header
 
@@ -96,66 +97,95 @@ positions-back t low (p ∷ ps) within =
 -- ---- ways
 
 -- what a copy comes to on a way
-done : Packet → List ℕ → ℕ → Option Way → Effects
-done p ps ttl None = one_drop cause.NoRow (Some (record { triple = p.triple; positions = ps }))
-done p ps ttl (Some w) = one_sent w.link (bier_frame w.end.peer_mac w.end.own_mac p.kind (copy_head p w.bift ps ttl ++ p.payload))
+done : RouterConf → Packet → List ℕ → ℕ → Option Way → Effects
+done r p ps ttl None = one_drop cause.NoRow (Some (record { triple = p.triple; positions = ps }))
+done r p ps ttl (Some w) = one_sent w.link (frame_in r p w.end (copy_octets p w.bift ps ttl) w.tunnel)
 
-over_end : ℕ → ℕ → Option End → Option Way
-over_end b k e = option_map (λ (e : End). record { link = k; end = e; bift = b % 2 ^ 20 }) e
-
--- a copy to a router that is reached directly
-copy-done : (r : RouterConf) (g : List ViewNode) (p : Packet) (f : First) (ps : List ℕ) (ttl : ℕ) → IsDirect r g f → IsWithin 0 (bits_of p.triple.bsl) ps
-    → given r g p (hops.Copy (place_of g f) ps ttl) ≡ done p ps ttl (way_at r g p.triple f)
-unfolding done over_end copy_head
-copy-done r g p f ps ttl is within =
-    ap (λ (d : Bool). or_drop p ids (option_and_then (λ bift. if d then direct_copy r g p x (copy_of p bift ids ttl) else tunnel_copy r g (node_place g r.system) p x (copy_of p bift ids ttl)) (bift_at r g p.triple x))) is.direct
-    ∙ ap (λ (l : Option ℕ). or_drop p ids (option_and_then (λ bift. sent_on r l (λ e. frame e bift)) (bift_at r g p.triple x))) (sym is.link)
-    ∙ ap (λ (o : Option ViewNode). or_drop p ids (option_and_then (λ bift. sent_on r f.direct (λ e. frame e bift)) (option_and_then (node_bift r.kinds r.table p.triple) o))) (sym (node-at-place g f.system))
-    ∙ by (bift_toward r g p.triple f.system) f.direct
+-- the end of a router that is reached directly leads to it
+link-of : (r : RouterConf) (g : List ViewNode) (f : First) → IsNext r g f → is_direct g (node_place g r.system) (place_of g f) ≡ true → link_to r g (place_of g f) ≡ f.direct
+link-of r g f is direct = by (slice_get g (place_of g f)) (sym (ap (λ (b : Bool). named b (slice_get g (place_of g f))) direct) ∙ is.named)
   where
+    named : Bool → Option ViewNode → Option First
+    named b o = option_map (λ n. record { system = n.system; direct = if b then end_toward r.ends n.system else None }) o
+
+    by : (o : Option ViewNode) → named true o ≡ Some f → option_and_then (λ n. end_toward r.ends n.system) o ≡ f.direct
+    by None e = cc
+    by (Some n) e = same (record { system = n.system; direct = end_toward r.ends n.system }) f e
+      where
+        same : (a b : First) → Some a ≡ Some b → a.direct ≡ b.direct
+        same a b e = cc
+
+-- a copy to a router
+copy-done : (r : RouterConf) (g : List ViewNode) (p : Packet) (f : First) (ps : List ℕ) (ttl : ℕ) → IsNext r g f → IsWithin 0 (bits_of p.triple.bsl) ps
+    → given r g p (hops.Copy (place_of g f) ps ttl) ≡ done r p ps ttl (way_at r g p.triple f)
+unfolding done copy_head
+copy-done r g p f ps ttl is within =
+    ap (λ (o : Option ViewNode). or_drop p ids (option_and_then (λ bift. copy_sent r g u p x (copy_of p bift ids ttl)) (option_and_then (node_bift r.kinds r.table p.triple) o))) (sym (node-at-place g f.system))
+    ∙ by (bift_toward r g p.triple f.system)
+  where
+    u : ℕ
+    u = node_place g r.system
+
     x : ℕ
     x = place_of g f
 
     ids : List ℕ
     ids = map (id_at p.triple) ps
 
-    frame : End → ℕ → List ℕ
-    frame e bift = bier_frame e.peer_mac e.own_mac p.kind (copy_of p bift ids ttl)
-
     back : item.positions_of p.triple ids ≡ ps
     back = positions-back p.triple 0 ps within
 
-    none : one_drop cause.NoRow (Some (positions_in p ids)) ≡ done p ps ttl None
+    none : one_drop cause.NoRow (Some (positions_in p ids)) ≡ done r p ps ttl None
     none = ap (λ (qs : List ℕ). one_drop cause.NoRow (Some (record { triple = p.triple; positions = qs }))) back
 
-    octets : (b : ℕ) → copy_of p b ids ttl ≡ copy_head p (b % 2 ^ 20) ps ttl ++ p.payload
+    octets : (b : ℕ) → copy_of p b ids ttl ≡ copy_octets p (b % 2 ^ 20) ps ttl
     octets b = ap (λ (qs : List ℕ). header_octets (record p.header { bift = b; ttl = ttl; positions = qs }) ++ p.payload) back ∙ ap (λ (head : List ℕ). head ++ p.payload) (low-head p b ps ttl)
 
-    at_end : (b k : ℕ) (e : Option End) → or_drop p ids (option_map (λ e. one_sent k (frame e b)) e) ≡ done p ps ttl (over_end b k e)
-    at_end b k None = none
-    at_end b k (Some e) = ap (λ (os : List ℕ). one_sent k (bier_frame e.peer_mac e.own_mac p.kind os)) (octets b)
+    on_end : (b k : ℕ) (tunnel : Option Ipv4) (e : Option End) → or_drop p ids (option_map (λ e. one_sent k (frame_in r p e (copy_of p b ids ttl) tunnel)) e)
+        ≡ done r p ps ttl (option_map (λ e. record { link = k; end = e; bift = b % 2 ^ 20; tunnel = tunnel }) e)
+    on_end b k tunnel None = none
+    on_end b k tunnel (Some e) = ap (λ (os : List ℕ). one_sent k (frame_in r p e os tunnel)) (octets b)
 
-    by : (o l : Option ℕ) → or_drop p ids (option_and_then (λ bift. sent_on r l (λ e. frame e bift)) o)
-        ≡ done p ps ttl (option_and_then (λ bift. option_and_then (λ link. option_map (λ e. record { link = link; end = e; bift = bift % 2 ^ 20 }) (slice_get r.ends link)) l) o)
-    by None l = none
-    by (Some b) None = none
-    by (Some b) (Some k) = at_end b k (slice_get r.ends k)
+    toward : (b : ℕ) (dst : Ipv4) (l : Option ℕ) → or_drop p ids (sent_on r l (λ e. frame_in r p e (copy_of p b ids ttl) (Some dst)))
+        ≡ done r p ps ttl (option_and_then (way_on r (b % 2 ^ 20) (Some dst)) l)
+    toward b dst None = none
+    toward b dst (Some k) = on_end b k (Some dst) (slice_get r.ends k)
 
-pub way-none : (r : RouterConf) (g : List ViewNode) (p : Packet) (f : First) (ps : List ℕ) (ttl : ℕ) (t : Triple) → t ≡ p.triple → IsDirect r g f → IsWithin 0 (bits_of p.triple.bsl) ps
+    in_tunnel : (b : ℕ) (o : Option Ipv4) → or_drop p ids (option_and_then (λ dst. sent_on r (next_link r g u x) (λ e. frame_in r p e (copy_of p b ids ttl) (Some dst))) o)
+        ≡ done r p ps ttl (option_and_then (λ dst. option_and_then (way_on r (b % 2 ^ 20) (Some dst)) (next_link r g u x)) o)
+    in_tunnel b None = none
+    in_tunnel b (Some dst) = toward b dst (next_link r g u x)
+
+    either : ℕ → Bool → Effects
+    either b d = or_drop p ids (if d then direct_copy r g p x (copy_of p b ids ttl) else tunnel_copy r g u p x (copy_of p b ids ttl))
+
+    by_link : (b : ℕ) (l : Option ℕ) → f.direct ≡ l → either b (is_direct g u x) ≡ done r p ps ttl (way_by r g p.triple f (b % 2 ^ 20) l)
+    by_link b None e = ap (either b) (is.direct ∙ ap is_some e) ∙ in_tunnel b (prefix_of g p.triple.sd x)
+    by_link b (Some k) e =
+        let direct : is_direct g u x ≡ true = is.direct ∙ ap is_some e in
+        ap (either b) direct ∙ ap (λ (l : Option ℕ). or_drop p ids (sent_on r l (λ e. frame_in r p e (copy_of p b ids ttl) None))) (link-of r g f is direct ∙ e)
+        ∙ on_end b k None (slice_get r.ends k)
+
+    by : (o : Option ℕ) → or_drop p ids (option_and_then (λ bift. copy_sent r g u p x (copy_of p bift ids ttl)) o)
+        ≡ done r p ps ttl (option_and_then (λ bift. way_by r g p.triple f (bift % 2 ^ 20) f.direct) o)
+    by None = none
+    by (Some b) = by_link b f.direct refl
+
+pub way-none : (r : RouterConf) (g : List ViewNode) (p : Packet) (f : First) (ps : List ℕ) (ttl : ℕ) (t : Triple) → t ≡ p.triple → IsNext r g f → IsWithin 0 (bits_of p.triple.bsl) ps
     → None ≡ way_at r g t f → one_drop cause.NoRow (Some (record { triple = t; positions = ps })) ≡ given r g p (hops.Copy (place_of g f) ps ttl)
 unfolding done
 way-none r g p f ps ttl t same is within none =
     ap (λ (s : Triple). one_drop cause.NoRow (Some (record { triple = s; positions = ps }))) same
-    ∙ ap (done p ps ttl) (none ∙ ap (λ (s : Triple). way_at r g s f) same)
+    ∙ ap (done r p ps ttl) (none ∙ ap (λ (s : Triple). way_at r g s f) same)
     ∙ sym (copy-done r g p f ps ttl is within)
 
-pub way-some : (r : RouterConf) (g : List ViewNode) (p : Packet) (f : First) (ps : List ℕ) (ttl : ℕ) (t : Triple) (w : Way) (octets : List ℕ) → t ≡ p.triple → IsDirect r g f → IsWithin 0 (bits_of p.triple.bsl) ps
-    → Some w ≡ way_at r g t f → octets ≡ bier_frame w.end.peer_mac w.end.own_mac p.kind (copy_head p w.bift ps ttl ++ p.payload)
+pub way-some : (r : RouterConf) (g : List ViewNode) (p : Packet) (f : First) (ps : List ℕ) (ttl : ℕ) (t : Triple) (w : Way) (octets : List ℕ) → t ≡ p.triple → IsNext r g f → IsWithin 0 (bits_of p.triple.bsl) ps
+    → Some w ≡ way_at r g t f → octets ≡ frame_in r p w.end (copy_octets p w.bift ps ttl) w.tunnel
     → one_sent w.link octets ≡ given r g p (hops.Copy (place_of g f) ps ttl)
 unfolding done
 way-some r g p f ps ttl t w octets same is within some frame =
     ap (one_sent w.link) frame
-    ∙ ap (done p ps ttl) (some ∙ ap (λ (s : Triple). way_at r g s f) same)
+    ∙ ap (done r p ps ttl) (some ∙ ap (λ (s : Triple). way_at r g s f) same)
     ∙ sym (copy-done r g p f ps ttl is within)
 
 -- ---- drops

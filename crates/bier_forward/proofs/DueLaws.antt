@@ -1,22 +1,21 @@
 -- What the outcomes of a hop over a table are about: the own position, and routers of the table.
 use mathlib.Core.Bool.{true≢false}
-use Rattle.std.proofs.Common.{◌≡◌, ℕ, zero, suc, ◌-◌, ◌==◌, ◌&&◌, ◌<◌, ◌≤◌, not, Bool, true, false, List, [], ◌∷◌, ◌++◌, filter, map, get_or, Option, Some, None, is_some, option_map, slice_get, cond, refl, sym, ap, subst, ◌∙◌, inl, inr, arith}
+use Rattle.std.proofs.Common.{◌≡◌, ℕ, zero, suc, ◌==◌, ◌&&◌, ◌<◌, not, Bool, true, false, List, [], ◌∷◌, ◌++◌, filter, map, get_or, Option, Some, None, is_some, option_map, cond, refl, sym, ap, subst, ◌∙◌}
 use Rattle.std.specs.List.{AllByRecursion, filter_map, cons_option}
-use Rattle.std.proofs.lemmas.Bool.{cases_Bool}
-use Rattle.wire_base.specs.declared.addresses.SystemId.{SystemId}
 use Rattle.wire_base.specs.declared.conf.RouterConf.{RouterConf}
 use Rattle.wire_base.specs.declared.view.First.{First}
 use Rattle.wire_base.specs.declared.view.ViewNode.{ViewNode}
+use Rattle.wire_base.specs.model.Choice.{first_at}
 use Rattle.wire_base.specs.model.Hop as hops
 use Rattle.wire_base.specs.model.Hop.{Outcome, Expired, NoRow, copies, distinct, forward, has, hop, is_this, local, unless_empty}
-use Rattle.wire_base.specs.model.OnFrame.{Packet, link_to}
+use Rattle.wire_base.specs.model.OnFrame.{Packet, node_place}
 use Rattle.wire_base.specs.model.Place.{id_at}
-use Rattle.bift_table.specs.Bift.{leads_to, router_at, same_router}
+use Rattle.bift_table.specs.Bift.{leads_to, router_at}
 use Rattle.bift_table.proofs.BiftLaws.{same_router-is, same_router-refl}
 use Rattle.bier_hop.specs.declared.out.Out.{Out}
 use Rattle.bier_hop.specs.declared.out.Out.TheVariants.{Local, Copy, Dropped}
 use Rattle.bier_hop.specs.Outcomes.{HopState, IsNumbering, choose_in, left, number_in, outcome}
-use Rattle.bier_forward.specs.Hops.{AreDirect, IsDirect, IsDue, place_of}
+use Rattle.bier_forward.specs.Hops.{AreNext, IsNext, IsDue, place_of}
 
 -- ---- outcomes
 
@@ -147,7 +146,7 @@ chosen-in table p to e = by (router_at table p) refl e
 -- ---- what is due
 
 pub due-is : {w : ℕ} (r : RouterConf) (g : List ViewNode) (p : Packet) (h : HopState) (out : Out w) (rest : List Outcome)
-    → AreDirect r g h.table → ((q : ℕ) → h.own ≡ Some q → id_at p.triple q < 65536)
+    → AreNext r g h.table → ((q : ℕ) → h.own ≡ Some q → id_at p.triple q < 65536)
     → left (choose_in h.table) h ≡ outcome (number_in h.table) out ∷ rest → IsDue r g p out
 unfolding IsGiven
 due-is r g p h (Local bp) rest direct own e = own bp (first-given h.own (choose_in h.table) h.rest h.ttl (hops.Local bp) rest e)
@@ -156,18 +155,11 @@ due-is r g p h (Copy to set ttl) rest direct own e =
     direct chosen.0 to.now (chosen-in h.table chosen.0 to.now chosen.1)
 due-is r g p h (Dropped set why) rest direct own e = tt
 
-same_system_of : (s t : SystemId) → Some s ≡ Some t → s ≡ t
-same_system_of s t e = cc
-
 -- the routers of such a table are told apart by their nodes
-pub numbered-places : (r : RouterConf) (g : List ViewNode) (other table : List (Option First)) → other ≡ table → AreDirect r g table → IsNumbering other (place_of g) (λ p. option_map (place_of g) (router_at table p))
+pub numbered-places : (r : RouterConf) (g : List ViewNode) (other table : List (Option First)) → other ≡ table → AreNext r g table → IsNumbering other (place_of g) (λ p. option_map (place_of g) (router_at table p))
 numbered-places r g other table is direct =
     subst (λ (t : List (Option First)). IsNumbering t (place_of g) (λ p. option_map (place_of g) (router_at table p))) (sym is)
     (record { chosen = λ p. refl; apart = λ p q f h at_f at_h same. apart f h (direct p f at_f) (direct q h at_h) same })
   where
-    apart : (f h : First) → IsDirect r g f → IsDirect r g h → place_of g f ≡ place_of g h → f ≡ h
-    apart f h a b same =
-        let system : f.system ≡ h.system = same_system_of f.system h.system (sym a.system ∙ ap (λ (x : ℕ). option_map (λ (n : ViewNode). n.system) (slice_get g x)) same ∙ b.system) in
-        let end : f.direct ≡ h.direct = a.link ∙ ap (link_to r g) same ∙ sym b.link in
-        ap (λ (s : SystemId). let k : First = record { system = s; direct = f.direct } in k) system
-        ∙ ap (λ (o : Option ℕ). let k : First = record { system = h.system; direct = o } in k) end
+    apart : (f h : First) → IsNext r g f → IsNext r g h → place_of g f ≡ place_of g h → f ≡ h
+    apart f h a b same = same_Some f h (sym a.named ∙ ap (first_at r.ends g (node_place g r.system)) same ∙ b.named)

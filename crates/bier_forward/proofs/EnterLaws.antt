@@ -1,11 +1,11 @@
 -- Packets that enter, one after the other.
-use Rattle.std.proofs.Common.{◌≡◌, ℕ, ◌+◌, ◌≤◌, false, List, [], ◌∷◌, length, drop, map, refl, sym, ap, subst, ◌∙◌}
+use Rattle.std.proofs.Common.{◌≡◌, ℕ, ◌+◌, ◌≤◌, List, [], ◌∷◌, length, drop, map, refl, sym, ap, ◌∙◌}
 use Rattle.std.proofs.lemmas.List.{drop_all}
 use Rattle.wire_base.specs.declared.bsl.Bsl.{Bsl}
 use Rattle.wire_base.specs.declared.conf.RouterConf.{RouterConf}
 use Rattle.wire_base.specs.declared.view.ViewNode.{ViewNode}
 use Rattle.wire_base.specs.model.Control.{Control}
-use Rattle.wire_base.specs.model.Ingress.{IngressPacket, inject_with, packets_for}
+use Rattle.wire_base.specs.model.Ingress.{IngressPacket, inject, packets_for}
 use Rattle.wire_base.specs.model.OnFrame.{Effects, Positions, joined}
 use Rattle.wire_base.specs.model.View.{control_view}
 use Rattle.bfr_edge.specs.declared.packet.Packet.{Packet}
@@ -31,8 +31,8 @@ all-entered r g ttl entropy payload packets i e past kept =
     ∙ sym (ap joined (map-map (enters r g ttl entropy payload) positions_in packets))
 
 pub injected : (r : RouterConf) (g : List ViewNode) (ttl entropy : ℕ) (payload : List ℕ) (packets : List Packet) (e : Effects) → e ≡ entered r g ttl entropy payload (map positions_in packets)
-    → (c : Control) (sd : ℕ) (bsl : Bsl) (ids : List ℕ) → c.conf ≡ r → control_view c ≡ g → map positions_in packets ≡ map placed (packets_for sd bsl ids) → e ≡ inject_with false c sd bsl ids ttl entropy payload
-unfolding entered inject_with
+    → (c : Control) (sd : ℕ) (bsl : Bsl) (ids : List ℕ) → c.conf ≡ r → control_view c ≡ g → map positions_in packets ≡ map placed (packets_for sd bsl ids) → e ≡ inject c sd bsl ids ttl entropy payload
+unfolding entered inject
 injected r g ttl entropy payload packets e is c sd bsl ids conf view same =
     is ∙ ap (λ (sets : List Positions). joined (map (enters r g ttl entropy payload) sets)) same
     ∙ ap joined (map-map (enters r g ttl entropy payload) placed (packets_for sd bsl ids))

@@ -1,5 +1,5 @@
--- The hop of a packet is that over the table of the routers that are reached directly.
-use Rattle.std.proofs.Common.{◌≡◌, ℕ, ◌-◌, ◌≤◌, false, List, [], ◌∷◌, length, map, get_or, Option, option_map, refl, ap, subst, ◌∙◌, sym}
+-- The hop of a packet is that over its table.
+use Rattle.std.proofs.Common.{◌≡◌, ℕ, ◌-◌, ◌≤◌, List, [], ◌∷◌, length, map, get_or, Option, option_map, refl, ap, subst, ◌∙◌, sym}
 use Rattle.wire_base.specs.declared.conf.Kind.{Kind}
 use Rattle.wire_base.specs.declared.conf.RouterConf.{RouterConf}
 use Rattle.wire_base.specs.declared.triple.Triple.{Triple}
@@ -15,17 +15,17 @@ use Rattle.bier_bits.specs.Any.{bsl_of, positions_of}
 use Rattle.bier_head.specs.declared.header.Header.{Header}
 use Rattle.bier_head.specs.Views.{header_of}
 use Rattle.bift_table.specs.Bift.{member_at, router_at}
-use Rattle.bier_forward.specs.Hops.{AreDirect, AreRows, after, given, over_ids, own_position, place_of}
+use Rattle.bier_forward.specs.Hops.{AreNext, AreRows, after, given, over_ids, own_position, place_of}
 use Rattle.bier_forward.specs.Packets.{LeadsToEnds, hopped}
 use Rattle.bier_forward.proofs.ImageLaws.{hop-image}
-use Rattle.bier_forward.proofs.TableLaws.{table-chosen, table-direct}
+use Rattle.bier_forward.proofs.TableLaws.{table-chosen, table-next}
 
 done-over : (f : Outcome → Effects) (h : Outcome → Outcome) (os : List Outcome) → map f (map h os) ≡ map (λ o. f (h o)) os
 done-over f h [] = refl
 done-over f h (o ∷ os) = ap (λ (es : List Effects). f (h o) ∷ es) (done-over f h os)
 
 hopped-is : (r : RouterConf) (g : List ViewNode) (p : Packet) (ttl : ℕ) (rows : List (List First)) (table : List (Option First)) (ps : List ℕ) → IsGraph g → LeadsToEnds r g
-    → AreRows r g p.triple (class_of p) rows → ((q : ℕ) → 1 ≤ q → router_at table q ≡ member_at (class_of p) (get_or rows (q - 1) []))
+    → AreRows r g p.triple rows → ((q : ℕ) → 1 ≤ q → router_at table q ≡ member_at (class_of p) (get_or rows (q - 1) []))
     → ps ≡ p.header.positions → IsWithin 0 (bits_of p.triple.bsl) ps
     → joined (map (given r g p) (hop (own_position r p.triple) (λ q. option_map (place_of g) (router_at table q)) ps ttl)) ≡ hopped r g p ttl
 unfolding hop_at
@@ -34,25 +34,22 @@ hopped-is r g p ttl rows table ps graph ends are at set within =
     ap joined
     (sym (done-over (outcome_done r g u p) (over_ids p.triple) (hop (own_position r p.triple) (λ q. option_map (place_of g) (router_at table q)) ps ttl))
     ∙ ap (map (outcome_done r g u p))
-    (sym (hop-image p.triple (own_id r p.triple.sd) (choice_of false r g u p) (λ q. option_map (place_of g) (router_at table q)) ps ttl within (table-chosen r g p.triple (class_of p) rows table graph ends are at))
-    ∙ ap (λ (qs : List ℕ). hop (own_id r p.triple.sd) (choice_of false r g u p) (map (id_at p.triple) qs) ttl) set))
+    (sym (hop-image p.triple (own_id r p.triple.sd) (choice_of r g u p) (λ q. option_map (place_of g) (router_at table q)) ps ttl within (table-chosen r g p.triple (class_of p) rows table graph ends are at))
+    ∙ ap (λ (qs : List ℕ). hop (own_id r p.triple.sd) (choice_of r g u p) (map (id_at p.triple) qs) ttl) set))
 
--- The same where the nodes and the class have other names in the code.
+-- The same where the class has another name in the code.
 
-pub over-direct : (r : RouterConf) (g v : List ViewNode) (p : Packet) (class : ℕ) (rows : List (List First)) (table : List (Option First)) (size : ℕ) → g ≡ v → IsGraph g → LeadsToEnds r v → class ≡ class_of p
-    → length rows ≡ size → bits_of p.triple.bsl ≡ size → AreRows r v p.triple (class_of p) rows → ((q : ℕ) → 1 ≤ q → router_at table q ≡ member_at class (get_or rows (q - 1) [])) → AreDirect r g table
-over-direct r g v p class rows table size nodes graph ends is long bits are at =
-    table-direct r g p.triple class rows table graph (subst (LeadsToEnds r) (sym nodes) ends) (long ∙ sym bits)
-    (subst (λ (k : ℕ). AreRows r g p.triple k rows) (sym is) (subst (λ (h : List ViewNode). AreRows r h p.triple (class_of p) rows) (sym nodes) are)) at
+pub over-next : (r : RouterConf) (g : List ViewNode) (p : Packet) (class : ℕ) (rows : List (List First)) (table : List (Option First)) (size : ℕ) → IsGraph g → LeadsToEnds r g
+    → length rows ≡ size → bits_of p.triple.bsl ≡ size → AreRows r g p.triple rows → ((q : ℕ) → 1 ≤ q → router_at table q ≡ member_at class (get_or rows (q - 1) [])) → AreNext r g table
+over-next r g p class rows table size graph ends long bits are at = table-next r g p.triple class rows table graph ends (long ∙ sym bits) are at
 
-pub over-is : (r : RouterConf) (g v : List ViewNode) (p : Packet) (ttl class : ℕ) (rows : List (List First)) (table : List (Option First)) (ps : List ℕ) (size : ℕ) → g ≡ v → IsGraph g → LeadsToEnds r v → class ≡ class_of p
-    → bits_of p.triple.bsl ≡ size → AreRows r v p.triple (class_of p) rows → ((q : ℕ) → 1 ≤ q → router_at table q ≡ member_at class (get_or rows (q - 1) []))
+pub over-is : (r : RouterConf) (g : List ViewNode) (p : Packet) (ttl class : ℕ) (rows : List (List First)) (table : List (Option First)) (ps : List ℕ) (size : ℕ) → IsGraph g → LeadsToEnds r g → class ≡ class_of p
+    → bits_of p.triple.bsl ≡ size → AreRows r g p.triple rows → ((q : ℕ) → 1 ≤ q → router_at table q ≡ member_at class (get_or rows (q - 1) []))
     → ps ≡ p.header.positions → IsWithin 0 size ps
-    → joined (map (given r g p) (hop (own_position r p.triple) (λ q. option_map (place_of g) (router_at table q)) ps ttl)) ≡ hopped r v p ttl
-over-is r g v p ttl class rows table ps size nodes graph ends is bits are at set within =
-    hopped-is r g p ttl rows table ps graph (subst (LeadsToEnds r) (sym nodes) ends) (subst (λ (h : List ViewNode). AreRows r h p.triple (class_of p) rows) (sym nodes) are)
+    → joined (map (given r g p) (hop (own_position r p.triple) (λ q. option_map (place_of g) (router_at table q)) ps ttl)) ≡ hopped r g p ttl
+over-is r g p ttl class rows table ps size graph ends is bits are at set within =
+    hopped-is r g p ttl rows table ps graph ends are
     (subst (λ (k : ℕ). (q : ℕ) → 1 ≤ q → router_at table q ≡ member_at k (get_or rows (q - 1) [])) is at) set (subst (λ (n : ℕ). IsWithin 0 n ps) (sym bits) within)
-    ∙ ap (λ (h : List ViewNode). hopped r h p ttl) nodes
 
 pub after-nothing-hopped : (r : RouterConf) (g : List ViewNode) (p : Packet) (ttl : ℕ) → after nothing (hopped r g p ttl) ≡ hopped r g p ttl
 unfolding hop_at

@@ -6,6 +6,8 @@ pub mod HopLaws
 pub mod IdLaws
 pub mod ImageLaws
 pub mod JoinLaws
+pub mod OnwardLaws
 pub mod OwnEdges
 pub mod ReadLaws
 pub mod TableLaws
+pub mod WayLaws

@@ -1,6 +1,6 @@
 -- In a router's view each edge of its own node leads to the peer of one of its ends.
 use mathlib.Core.Bool.{false≢true, true≢false}
-use Rattle.std.proofs.Common.{◌≡◌, ℕ, zero, suc, ◌+◌, ◌==◌, ◌&&◌, not, Bool, true, false, List, [], ◌∷◌, ◌++◌, filter, map, Option, Some, None, is_some, option_and_then, option_map, slice_get, cond, refl, sym, ap, subst, ◌∙◌, arith, if◌then◌else◌}
+use Rattle.std.proofs.Common.{◌≡◌, ℕ, suc, ◌+◌, ◌&&◌, not, Bool, true, false, List, [], ◌∷◌, ◌++◌, filter, map, Option, Some, None, is_some, option_and_then, option_map, slice_get, cond, refl, sym, ap, subst, ◌∙◌, arith, if◌then◌else◌}
 use Rattle.std.specs.Prelude.{option_to_list}
 use Rattle.std.specs.List.{AllByRecursion}
 use Rattle.std.specs.Ordering.{is_lt}
@@ -16,7 +16,7 @@ use Rattle.wire_base.specs.model.Control.{same_system, system_order}
 use Rattle.wire_base.specs.model.Graph.{edges_of}
 use Rattle.wire_base.specs.model.OnFrame.{link_to, node_place}
 use Rattle.wire_base.specs.model.OwnLsp.{picked}
-use Rattle.wire_base.specs.model.View.{Claim, Link, claim_of, claims_of, edge_to, edges_from, end_link, is_other, least_of, lists, metric_to, node_of, own_claim, put_claim, view_of, with_known}
+use Rattle.wire_base.specs.model.View.{Claim, claim_of, claims_of, edge_to, edges_from, end_link, is_other, least_of, lists, metric_to, node_of, own_claim, put_claim, view_of, with_known}
 use Rattle.bier_forward.specs.Packets.{LeadsToEnds}
 
 -- ---- links and ends

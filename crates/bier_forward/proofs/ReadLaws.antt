@@ -1,5 +1,5 @@
 -- What a header that was read says of the octets.
-use Rattle.std.proofs.Common.{◌≡◌, ◌≤◌, ℕ, List, length, Bool, true, false, nat_lt, Result, Ok, Err, cond, refl, arith, rules, if◌then◌else◌}
+use Rattle.std.proofs.Common.{◌≡◌, ◌≤◌, ℕ, List, length, Bool, true, false, nat_lt, Result, Ok, Err, refl, if◌then◌else◌}
 use Rattle.std.proofs.lemmas.Bool.{ltb-false}
 use Rattle.wire_base.specs.declared.bsl.Bsl.{Bsl}
 use Rattle.wire_base.specs.declared.conf.Kind.{Kind}

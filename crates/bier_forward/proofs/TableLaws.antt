@@ -1,29 +1,27 @@
--- A table of the routers that are reached directly: at each position the router that its BFR-id has by the definition.
+-- A packet's table: at each position the router that its BFR-id has by the definition.
 use mathlib.Core.Bool.{true≢false, false≢true}
-use Rattle.std.proofs.Common.{◌≡◌, ℕ, zero, suc, ◌+◌, ◌-◌, ◌%◌, ◌==◌, ◌&&◌, ◌||◌, ◌≤◌, ◌<◌, nat_lt, not, Bool, true, false, List, [], ◌∷◌, length, filter, get_or, replicate, Option, Some, None, is_some, option_and_then, option_map, slice_get, AllPairs, cond, refl, sym, ap, subst, ◌∙◌, inl, inr, arith, if◌then◌else◌}
-use Rattle.std.specs.List.{AllByRecursion, filter_map, cons_option, list_any, range_with_len}
-use Rattle.std.specs.Str.{bytes_eq}
+use Rattle.std.proofs.Common.{◌≡◌, ℕ, zero, suc, ◌+◌, ◌-◌, ◌%◌, ◌==◌, ◌&&◌, ◌||◌, ◌≤◌, ◌<◌, nat_lt, not, Bool, true, false, List, [], ◌∷◌, length, filter, get_or, replicate, Option, Some, None, is_some, option_and_then, option_map, slice_get, AllPairs, refl, sym, ap, subst, ◌∙◌, inl, inr, arith, if◌then◌else◌}
+use Rattle.std.specs.List.{AllByRecursion, filter_map, list_any, range_with_len}
 use Rattle.std.proofs.lemmas.Bool.{cases_lt, eqb-true, ltb-true}
 use Rattle.std.proofs.lemmas.List.{get_or_past}
 use Rattle.std.proofs.lemmas.Option.{slice_get_cases, slice_get_past, slice_get_within}
 use Rattle.std.proofs.lemmas.Slice.Eq.{bytes_eq-Decides}
-use Rattle.wire_base.specs.declared.addresses.SystemId.{SystemId}
 use Rattle.wire_base.specs.declared.conf.End.{End}
 use Rattle.wire_base.specs.declared.conf.RouterConf.{RouterConf}
 use Rattle.wire_base.specs.declared.triple.Triple.{Triple}
 use Rattle.wire_base.specs.declared.view.First.{First}
 use Rattle.wire_base.specs.declared.view.ViewEdge.{ViewEdge}
 use Rattle.wire_base.specs.declared.view.ViewNode.{ViewNode}
-use Rattle.wire_base.specs.model.Choice as choices
-use Rattle.wire_base.specs.model.Choice.{candidates, choice, choose_direct, direct_choice, end_toward, first_at, is_direct, is_length, member, row, toward}
+use Rattle.wire_base.specs.model.Choice.{candidates, choice, choose, end_toward, first_at, is_direct, is_length, member, toward}
 use Rattle.wire_base.specs.model.Control.{same_system}
 use Rattle.wire_base.specs.model.Graph.{IsBefore, IsGraph, covers_at, edges_at, edges_of, octets_before, owner}
 use Rattle.wire_base.specs.model.OnFrame.{link_to, node_place}
 use Rattle.wire_base.specs.model.Place.{bits_of, id_at}
 use Rattle.wire_base.specs.model.Supporting.{firsts, meets}
+use Rattle.wire_base.specs.model.Tight.{tight_from, tight_list}
 use Rattle.wire_base.specs.model.Walk.{dist}
 use Rattle.bift_table.specs.Bift.{member_at, router_at}
-use Rattle.bier_forward.specs.Hops.{AreDirect, AreRows, IsDirect, if_direct, place_of}
+use Rattle.bier_forward.specs.Hops.{AreNext, AreRows, IsNext, place_of}
 use Rattle.bier_forward.specs.Packets.{LeadsToEnds}
 use Rattle.bier_forward.proofs.DueLaws.{all-filter}
 
@@ -92,13 +90,13 @@ toward-within : (g : List ViewNode) (c : ℕ → Bool) (u : ℕ) (o : Option ℕ
 toward-within g c u None = tt
 toward-within g c u (Some d) = candidates-within g c d u
 
--- the choice where it is direct, over the candidates
+-- the choice, over the candidates
 choose-is : (r : RouterConf) (g : List ViewNode) (t : Triple) (class u k : ℕ)
-    → choose_direct g r.kinds r.table t class u k ≡ option_and_then (choices.if_direct g u) (member (toward g (covers_at r.kinds r.table t g) u (owner g t.sd k)) class)
-unfolding direct_choice choice
+    → choose g r.kinds r.table t class u k ≡ member (toward g (covers_at r.kinds r.table t g) u (owner g t.sd k)) class
+unfolding choice
 choose-is r g t class u k = by (owner g t.sd k)
   where
-    by : (o : Option ℕ) → option_and_then (λ d. direct_choice g (covers_at r.kinds r.table t g) d class u) o ≡ option_and_then (choices.if_direct g u) (member (toward g (covers_at r.kinds r.table t g) u o) class)
+    by : (o : Option ℕ) → option_and_then (λ d. choice g (covers_at r.kinds r.table t g) d class u) o ≡ member (toward g (covers_at r.kinds r.table t g) u o) class
     by None = refl
     by (Some d) = refl
 
@@ -161,26 +159,12 @@ member-all P (y ∷ ys) class x all e = get (y ∷ ys) (class % length (y ∷ ys
     get (z ∷ zs) zero all e = subst P (same z x e) all.0
     get (z ∷ zs) (suc i) all e = get zs i all.1 e
 
--- a router that is reached directly, or none
-keep : Option First → Option First
-keep None = None
-keep (Some f) = if is_some f.direct then Some f else None
-
-kept-member : (class : ℕ) (o : Option First) → member_at class (if_direct o) ≡ keep o
-unfolding keep
-kept-member class None = refl
-kept-member class (Some f) = by (is_some f.direct)
-  where
-    by : (b : Bool) → member_at class (if b then f ∷ [] else []) ≡ (if b then Some f else None)
-    by true = let e : class % 1 ≡ 0 = omega arith in ap (λ (i : ℕ). slice_get (f ∷ []) i) e
-    by false = refl
-
 -- ---- a position
 
 -- the choice of a position's BFR-id is the router of the position
 IsRouter : RouterConf → List ViewNode → Option First → Option ℕ → Type 0
 IsRouter r g None chosen = chosen ≡ None
-IsRouter r g (Some f) chosen = IsDirect r g f × (chosen ≡ Some (place_of g f))
+IsRouter r g (Some f) chosen = IsNext r g f × (chosen ≡ Some (place_of g f))
 
 leads : (r : RouterConf) (g : List ViewNode) (x : ℕ) → LeadsToEnds r g → is_direct g (node_place g r.system) x ≡ true → is_some (link_to r g x) ≡ true
 unfolding is_direct
@@ -200,8 +184,8 @@ leads r g x ends direct = any (edges_of g (node_place g r.system)) ends direct
         by false q h more = more h
 
 router-is : (r : RouterConf) (g : List ViewNode) (m : Option ℕ) → IsGraph g → LeadsToEnds r g → ((x : ℕ) → m ≡ Some x → x < length g)
-    → IsRouter r g (keep (option_and_then (first_at r.ends g (node_place g r.system)) m)) (option_and_then (choices.if_direct g (node_place g r.system)) m)
-unfolding IsRouter keep
+    → IsRouter r g (option_and_then (first_at r.ends g (node_place g r.system)) m) m
+unfolding IsRouter
 router-is r g None graph ends within = refl
 router-is r g (Some x) graph ends within = elim ((slice_get_cases g x).1) [
   | inl some ↦ found some.0 some.2
@@ -211,94 +195,97 @@ router-is r g (Some x) graph ends within = elim ((slice_get_cases g x).1) [
     u : ℕ
     u = node_place g r.system
 
-    router : (n : ViewNode) (b : Bool) → Option First
-    router n b = Some (record { system = n.system; direct = if b then end_toward r.ends n.system else None })
+    router : ViewNode → Bool → First
+    router n b = record { system = n.system; direct = if b then end_toward r.ends n.system else None }
 
-    found : (n : ViewNode) → slice_get g x ≡ Some n → IsRouter r g (keep (first_at r.ends g u x)) (choices.if_direct g u x)
-    found n at = subst (λ (o : Option First). IsRouter r g (keep o) (choices.if_direct g u x)) (sym first) (by (is_direct g u x) refl)
+    found : (n : ViewNode) → slice_get g x ≡ Some n → IsRouter r g (first_at r.ends g u x) (Some x)
+    found n at = subst (λ (o : Option First). IsRouter r g o (Some x)) (sym first) (
+      record {
+        named = ap (first_at r.ends g u) place ∙ first;
+        direct = ap (is_direct g u) place ∙ by (is_direct g u x) refl;
+      },
+      ap (λ (y : ℕ). Some y) (sym place),
+    )
       where
-        first : first_at r.ends g u x ≡ router n (is_direct g u x)
+        first : first_at r.ends g u x ≡ Some (router n (is_direct g u x))
         first = rw at refl
 
-        by : (b : Bool) → is_direct g u x ≡ b → IsRouter r g (keep (router n b)) (if b then Some x else None)
+        place : node_place g n.system ≡ x
+        place = place-of-node g graph.in_order x n at
+
+        by : (b : Bool) → is_direct g u x ≡ b → b ≡ is_some (if b then end_toward r.ends n.system else None)
         by false e = refl
-        by true e = at_end (end_toward r.ends n.system) refl
-          where
-            linked : link_to r g x ≡ end_toward r.ends n.system
-            linked = ap (λ (o : Option ViewNode). option_and_then (λ n. end_toward r.ends n.system) o) at
-
-            place : node_place g n.system ≡ x
-            place = place-of-node g graph.in_order x n at
-
-            at_end : (o : Option ℕ) → end_toward r.ends n.system ≡ o → IsRouter r g (keep (Some (record { system = n.system; direct = o }))) (Some x)
-            at_end None q = absurd (true≢false (sym (leads r g x ends e) ∙ ap is_some (linked ∙ q)))
-            at_end (Some l) q = (
-              record {
-                direct = ap (λ (y : ℕ). is_direct g u y) place ∙ e;
-                link = sym q ∙ sym linked ∙ ap (link_to r g) (sym place);
-                system = ap (λ (y : ℕ). option_map (λ (n : ViewNode). n.system) (slice_get g y)) place ∙ ap (option_map (λ (n : ViewNode). n.system)) at;
-              },
-              ap (λ (y : ℕ). Some y) (sym place),
-            )
+        by true e = sym (ap (λ (o : Option ViewNode). is_some (option_and_then (λ n. end_toward r.ends n.system) o)) (sym at) ∙ leads r g x ends e)
 
 -- ---- the table
 
 at-place : (r : RouterConf) (g : List ViewNode) (t : Triple) (class : ℕ) (rows : List (List First)) (table : List (Option First)) → IsGraph g → LeadsToEnds r g
-    → AreRows r g t class rows → ((p : ℕ) → 1 ≤ p → router_at table p ≡ member_at class (get_or rows (p - 1) []))
-    → (p : ℕ) → 1 ≤ p → p ≤ bits_of t.bsl → IsRouter r g (router_at table p) (choose_direct g r.kinds r.table t class (node_place g r.system) (id_at t p))
+    → AreRows r g t rows → ((p : ℕ) → 1 ≤ p → router_at table p ≡ member_at class (get_or rows (p - 1) []))
+    → (p : ℕ) → 1 ≤ p → p ≤ bits_of t.bsl → IsRouter r g (router_at table p) (choose g r.kinds r.table t class (node_place g r.system) (id_at t p))
 at-place r g t class rows table graph ends are at p low high =
     let u = node_place g r.system in
     let xs = toward g (covers_at r.kinds r.table t g) u (owner g t.sd (id_at t p)) in
     let within = toward-within g (covers_at r.kinds r.table t g) u (owner g t.sd (id_at t p)) in
-    let router : router_at table p ≡ keep (option_and_then (first_at r.ends g u) (member xs class)) =
-    at p low ∙ ap (member_at class) (are p low high) ∙ kept-member class (member_at class (filter_map (first_at r.ends g u) xs))
-    ∙ ap keep (named-member r.ends g u class xs (named r.ends g u xs within)) in
-    subst (λ (o : Option First). IsRouter r g o (choose_direct g r.kinds r.table t class u (id_at t p))) (sym router)
-    (subst (IsRouter r g (keep (option_and_then (first_at r.ends g u) (member xs class)))) (sym (choose-is r g t class u (id_at t p)))
+    let router : router_at table p ≡ option_and_then (first_at r.ends g u) (member xs class) =
+    at p low ∙ ap (member_at class) (are p low high) ∙ named-member r.ends g u class xs (named r.ends g u xs within) in
+    subst (λ (o : Option First). IsRouter r g o (choose g r.kinds r.table t class u (id_at t p))) (sym router)
+    (subst (IsRouter r g (option_and_then (first_at r.ends g u) (member xs class))) (sym (choose-is r g t class u (id_at t p)))
     (router-is r g (member xs class) graph ends (λ x e. member-all (λ y. y < length g) xs class x within e)))
 
-pub table-direct : (r : RouterConf) (g : List ViewNode) (t : Triple) (class : ℕ) (rows : List (List First)) (table : List (Option First)) → IsGraph g → LeadsToEnds r g → length rows ≡ bits_of t.bsl
-    → AreRows r g t class rows → ((p : ℕ) → 1 ≤ p → router_at table p ≡ member_at class (get_or rows (p - 1) [])) → AreDirect r g table
+pub table-next : (r : RouterConf) (g : List ViewNode) (t : Triple) (class : ℕ) (rows : List (List First)) (table : List (Option First)) → IsGraph g → LeadsToEnds r g → length rows ≡ bits_of t.bsl
+    → AreRows r g t rows → ((p : ℕ) → 1 ≤ p → router_at table p ≡ member_at class (get_or rows (p - 1) [])) → AreNext r g table
 unfolding IsRouter
-table-direct r g t class rows table graph ends long are at zero f e = cc
-table-direct r g t class rows table graph ends long are at (suc i) f e = elim (cases_lt (bits_of t.bsl) (suc i)) [
+table-next r g t class rows table graph ends long are at zero f e = cc
+table-next r g t class rows table graph ends long are at (suc i) f e = elim (cases_lt (bits_of t.bsl) (suc i)) [
   | inl past ↦ (let none : router_at table (suc i) ≡ None = at (suc i) (omega arith) ∙ ap (member_at class) (get_or_past rows (suc i - 1) [] (omega (arith, past, long))) in cc)
-  | inr high ↦ (subst (λ (o : Option First). IsRouter r g o (choose_direct g r.kinds r.table t class (node_place g r.system) (id_at t (suc i)))) e (at-place r g t class rows table graph ends are at (suc i) (omega arith) high)).0
+  | inr high ↦ (subst (λ (o : Option First). IsRouter r g o (choose g r.kinds r.table t class (node_place g r.system) (id_at t (suc i)))) e (at-place r g t class rows table graph ends are at (suc i) (omega arith) high)).0
 ]
 
 pub table-chosen : (r : RouterConf) (g : List ViewNode) (t : Triple) (class : ℕ) (rows : List (List First)) (table : List (Option First)) → IsGraph g → LeadsToEnds r g
-    → AreRows r g t class rows → ((p : ℕ) → 1 ≤ p → router_at table p ≡ member_at class (get_or rows (p - 1) []))
-    → (p : ℕ) → 1 ≤ p → p ≤ bits_of t.bsl → choose_direct g r.kinds r.table t class (node_place g r.system) (id_at t p) ≡ option_map (place_of g) (router_at table p)
+    → AreRows r g t rows → ((p : ℕ) → 1 ≤ p → router_at table p ≡ member_at class (get_or rows (p - 1) []))
+    → (p : ℕ) → 1 ≤ p → p ≤ bits_of t.bsl → choose g r.kinds r.table t class (node_place g r.system) (id_at t p) ≡ option_map (place_of g) (router_at table p)
 unfolding IsRouter
 table-chosen r g t class rows table graph ends are at p low high = by (router_at table p) (at-place r g t class rows table graph ends are at p low high)
   where
-    by : (o : Option First) → IsRouter r g o (choose_direct g r.kinds r.table t class (node_place g r.system) (id_at t p)) → choose_direct g r.kinds r.table t class (node_place g r.system) (id_at t p) ≡ option_map (place_of g) o
+    by : (o : Option First) → IsRouter r g o (choose g r.kinds r.table t class (node_place g r.system) (id_at t p)) → choose g r.kinds r.table t class (node_place g r.system) (id_at t p) ≡ option_map (place_of g) o
     by None is = is
     by (Some f) is = is.1
 
 -- ---- where the router has no node
 
-unreached : (g : List ViewNode) (u x : ℕ) → length g ≤ u → is_direct g u x ≡ false
-unfolding is_direct
-unreached g u x past = ap (λ (o : Option ViewNode). list_any (λ e. (e.to == x) && is_length (dist g u x) e.metric) (edges_at o)) (slice_get_past g u past)
+-- no step leaves a place without a node
+pub steps-without-node : (g : List ViewNode) (d u : ℕ) → length g ≤ u → tight_from g d u ≡ []
+unfolding tight_from
+steps-without-node g d u past = ap (λ (o : Option ViewNode). tight_list g d (λ x. dist g x d) u (edges_at o)) (slice_get_past g u past)
 
-none-direct : (ends : List End) (g : List ViewNode) (u : ℕ) (m : Option ℕ) → length g ≤ u → if_direct (option_and_then (first_at ends g u) m) ≡ []
-none-direct ends g u None past = refl
-none-direct ends g u (Some x) past = by (slice_get g x)
+meets-none : (g : List ViewNode) (c : ℕ → Bool) (d k u x : ℕ) → length g ≤ u → meets g c d k u x ≡ false
+meets-none g c d zero u x past = refl
+meets-none g c d (suc k) u x past = ap (list_any (λ y. if c y then y == x else meets g c d k y x)) (steps-without-node g d u past)
+
+filter-none : (f : ℕ → Bool) → ((x : ℕ) → f x ≡ false) → (xs : List ℕ) → filter f xs ≡ []
+filter-none f none [] = refl
+filter-none f none (x ∷ xs) = rw (none x) (filter-none f none xs)
+
+firsts-none : (g : List ViewNode) (c : ℕ → Bool) (d u : ℕ) → length g ≤ u → firsts g c d u ≡ []
+unfolding firsts
+firsts-none g c d u past = filter-none (meets g c d (length g) u) (λ x. meets-none g c d (length g) u x past) (range_with_len 0 (length g))
+
+toward-none : (g : List ViewNode) (c : ℕ → Bool) (u : ℕ) (o : Option ℕ) → length g ≤ u → toward g c u o ≡ []
+unfolding candidates
+toward-none g c u None past = refl
+toward-none g c u (Some d) past = by ((u == d) || not (c d))
   where
-    by : (o : Option ViewNode) → if_direct (option_map (λ n. record { system = n.system; direct = if is_direct g u x then end_toward ends n.system else None }) o) ≡ []
-    by None = refl
-    by (Some n) = ap (λ (b : Bool). if_direct (Some (record { system = n.system; direct = if b then end_toward ends n.system else None }))) (unreached g u x past)
+    by : (b : Bool) → (if b then [] else firsts g c d u) ≡ []
+    by true = refl
+    by false = firsts-none g c d u past
 
 empty-read : (n i : ℕ) → (let none : List First = [] in get_or (replicate n none) i none ≡ none)
 empty-read zero i = refl
 empty-read (suc n) zero = refl
 empty-read (suc n) (suc i) = empty-read n i
 
-pub rows-without-node : (r : RouterConf) (g : List ViewNode) (t : Triple) (class count : ℕ) (rows : List (List First)) → node_place g r.system ≡ length g → rows ≡ replicate count [] → AreRows r g t class rows
-rows-without-node r g t class count rows none empty p low high =
+pub rows-without-node : (r : RouterConf) (g : List ViewNode) (t : Triple) (count : ℕ) (rows : List (List First)) → node_place g r.system ≡ length g → rows ≡ replicate count [] → AreRows r g t rows
+rows-without-node r g t count rows none empty p low high =
     let u = node_place g r.system in
-    let xs = toward g (covers_at r.kinds r.table t g) u (owner g t.sd (id_at t p)) in
-    let within = toward-within g (covers_at r.kinds r.table t g) u (owner g t.sd (id_at t p)) in
     ap (λ (l : List (List First)). get_or l (p - 1) []) empty ∙ empty-read count (p - 1)
-    ∙ sym (ap if_direct (named-member r.ends g u class xs (named r.ends g u xs within)) ∙ none-direct r.ends g u (member xs class) (omega (arith, none)))
+    ∙ sym (ap (filter_map (first_at r.ends g u)) (toward-none g (covers_at r.kinds r.table t g) u (owner g t.sd (id_at t p)) (omega (arith, none))))

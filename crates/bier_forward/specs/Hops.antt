@@ -1,27 +1,30 @@
 -- How the parts of a hop stand for it.
-use Rattle.std.specs.Prelude.{◌≡◌, ℕ, ◌≤◌, ◌<◌, ◌-◌, ◌%◌, ◌^◌, Bool, true, List, [], ◌∷◌, ◌++◌, map, is_some, slice_get, slice_index_or, Option, Some, None, option_and_then, option_map, if◌then◌else◌}
+use Rattle.std.specs.Prelude.{◌≡◌, ℕ, ◌≤◌, ◌<◌, ◌-◌, ◌%◌, ◌^◌, List, [], ◌∷◌, ◌++◌, map, is_some, slice_get, slice_index_or, Option, Some, None, option_and_then, option_map, if◌then◌else◌}
+use Rattle.wire_base.specs.declared.addresses.Ipv4.{Ipv4}
 use Rattle.wire_base.specs.declared.addresses.SystemId.{SystemId}
 use Rattle.wire_base.specs.declared.cause.Cause.{Cause}
 use Rattle.wire_base.specs.declared.cause.Cause.TheVariants as cause
+use Rattle.wire_base.specs.declared.conf.End.{End}
 use Rattle.wire_base.specs.declared.conf.RouterConf.{RouterConf}
 use Rattle.wire_base.specs.declared.triple.Triple.{Triple}
 use Rattle.wire_base.specs.declared.view.First.{First}
 use Rattle.wire_base.specs.declared.view.ViewNode.{ViewNode}
 use Rattle.wire_base.specs.model.BierHeader.{header_octets}
-use Rattle.wire_base.specs.model.Choice.{is_direct, row}
+use Rattle.wire_base.specs.model.Choice.{first_at, is_direct, row}
 use Rattle.wire_base.specs.model.Control.{same_system}
 use Rattle.wire_base.specs.model.Graph.{node_bift}
 use Rattle.wire_base.specs.model.Hop as hops
 use Rattle.wire_base.specs.model.Hop.{Outcome}
-use Rattle.wire_base.specs.model.Item.{bier_frame}
-use Rattle.wire_base.specs.model.OnFrame.{Effects, Packet, copy_of, link_to, node_place, one_sent, outcome_done}
+use Rattle.wire_base.specs.model.Item.{bier_frame, ip_frame}
+use Rattle.wire_base.specs.model.OnFrame.{Effects, Packet, next_link, node_place, outcome_done, prefix_of, tunnel_for}
 use Rattle.wire_base.specs.model.Place.{bits_of, id_at, own_id, position_in}
-use Rattle.bift_table.specs.Bift.{member_at, router_at}
+use Rattle.wire_base.specs.model.Tunnel.{tunnel}
+use Rattle.bift_table.specs.Bift.{router_at}
 use Rattle.bier_hop.specs.declared.out.Out.{Out}
 use Rattle.bier_hop.specs.declared.out.Out.TheVariants.{Local, Copy, Dropped}
 use Rattle.bier_hop.specs.declared.out.Why.{Why}
 use Rattle.bier_hop.specs.declared.out.Why.TheVariants.{NoRow, Ttl}
-use Rattle.bier_forward.specs.declared.copy.Way.{Way}
+use Rattle.bier_forward.specs.declared.ways.Way.{Way}
 
 -- effects, and then others
 abbrev pub after : Effects → Effects → Effects
@@ -56,32 +59,26 @@ abbrev pub cause_of : Why → Cause
 cause_of NoRow = cause.NoRow
 cause_of Ttl = cause.Ttl
 
--- ---- routers that are reached directly
+-- ---- routers to which copies go
 
--- an entry of the table is a router that is reached directly, with the end that leads to it
-pub record IsDirect (r : RouterConf) (g : List ViewNode) (f : First) : Type 0 where
-  pub direct : is_direct g (node_place g r.system) (place_of g f) ≡ true
-  pub link : f.direct ≡ link_to r g (place_of g f)
-  pub system : option_map (λ n. n.system) (slice_get g (place_of g f)) ≡ Some f.system
+-- An entry of the table is a node of the view, as the router names it: with the end that leads to it, where it is reached
+-- directly.
+pub record IsNext (r : RouterConf) (g : List ViewNode) (f : First) : Type 0 where
+  pub named : first_at r.ends g (node_place g r.system) (place_of g f) ≡ Some f
+  pub direct : is_direct g (node_place g r.system) (place_of g f) ≡ is_some f.direct
 
-abbrev pub AreDirect : RouterConf → List ViewNode → List (Option First) → Type 0
-AreDirect r g table = (p : ℕ) (f : First) → router_at table p ≡ Some f → IsDirect r g f
+abbrev pub AreNext : RouterConf → List ViewNode → List (Option First) → Type 0
+AreNext r g table = (p : ℕ) (f : First) → router_at table p ≡ Some f → IsNext r g f
 
--- the router of a position, where it is reached directly
-abbrev pub if_direct : Option First → List First
-if_direct None = []
-if_direct (Some f) = if is_some f.direct then f ∷ [] else []
-
--- at each position of a triple the router of a class
-abbrev pub AreRows : RouterConf → List ViewNode → Triple → ℕ → List (List First) → Type 0
-AreRows r g t class rows =
-    (p : ℕ) → 1 ≤ p → p ≤ bits_of t.bsl
-    → slice_index_or rows (p - 1) [] ≡ if_direct (member_at class (row r.kinds r.table r.ends g t (node_place g r.system) p))
+-- at each position of a triple the routers to which its bit may be sent
+abbrev pub AreRows : RouterConf → List ViewNode → Triple → List (List First) → Type 0
+AreRows r g t rows =
+    (p : ℕ) → 1 ≤ p → p ≤ bits_of t.bsl → slice_index_or rows (p - 1) [] ≡ row r.kinds r.table r.ends g t (node_place g r.system) p
 
 -- what must hold where an outcome is given
 abbrev pub IsDue : {w : ℕ} → RouterConf → List ViewNode → Packet → Out w → Type 0
 IsDue r g p (Local bp) = id_at p.triple bp < 65536
-IsDue r g p (Copy to set ttl) = IsDirect r g to.now
+IsDue r g p (Copy to set ttl) = IsNext r g to.now
 IsDue r g p (Dropped set why) = Unit {0}
 
 -- ---- copies
@@ -90,17 +87,35 @@ IsDue r g p (Dropped set why) = Unit {0}
 abbrev pub bift_toward : RouterConf → List ViewNode → Triple → SystemId → Option ℕ
 bift_toward r g t s = option_and_then (node_bift r.kinds r.table t) (node_in g s)
 
--- the end on which a copy goes to a router, and the router's BIFT-id, which has 20 bits
-abbrev pub way_at : RouterConf → List ViewNode → Triple → First → Option Way
-way_at r g t f =
+-- how a copy goes on a link, where it has an end
+abbrev pub way_on : RouterConf → ℕ → Option Ipv4 → ℕ → Option Way
+way_on r bift tunnel link = option_map (λ e. record { link = link; end = e; bift = bift; tunnel = tunnel }) (slice_get r.ends link)
+
+-- in a tunnel to the router's BFR-prefix, on the end that leads toward the router
+abbrev pub tunnel_way : RouterConf → List ViewNode → Triple → First → ℕ → Option Way
+tunnel_way r g t f bift =
     option_and_then
-    (λ bift. option_and_then (λ link. option_map (λ e. record { link = link; end = e; bift = bift % 2 ^ 20 }) (slice_get r.ends link)) f.direct)
-    (bift_toward r g t f.system)
+    (λ dst. option_and_then (way_on r bift (Some dst)) (next_link r g (node_place g r.system) (place_of g f)))
+    (prefix_of g t.sd (place_of g f))
+
+-- to a neighbour on its end, to another router in a tunnel
+abbrev pub way_by : RouterConf → List ViewNode → Triple → First → ℕ → Option ℕ → Option Way
+way_by r g t f bift None = tunnel_way r g t f bift
+way_by r g t f bift (Some link) = way_on r bift None link
+
+-- how a copy goes to a router, and the router's BIFT-id, of which a header has room for 20 bits
+abbrev pub way_at : RouterConf → List ViewNode → Triple → First → Option Way
+way_at r g t f = option_and_then (λ bift. way_by r g t f (bift % 2 ^ 20) f.direct) (bift_toward r g t f.system)
 
 -- the octets of a copy's header
 unfoldable pub copy_head : Packet → ℕ → List ℕ → ℕ → List ℕ
 copy_head p bift positions ttl = header_octets (record p.header { bift = bift; ttl = ttl; positions = positions })
 
--- the copy on its way
-abbrev pub sent_by : Packet → List ℕ → ℕ → Way → Effects
-sent_by p ids ttl w = one_sent w.link (bier_frame w.end.peer_mac w.end.own_mac p.kind (copy_of p w.bift ids ttl))
+-- the octets of a copy
+abbrev pub copy_octets : Packet → ℕ → List ℕ → ℕ → List ℕ
+copy_octets p bift positions ttl = copy_head p bift positions ttl ++ p.payload
+
+-- a frame of a copy, on its own or in a tunnel from the router
+abbrev pub frame_in : RouterConf → Packet → End → List ℕ → Option Ipv4 → List ℕ
+frame_in r p e octets None = bier_frame e.peer_mac e.own_mac p.kind octets
+frame_in r p e octets (Some dst) = ip_frame e.peer_mac e.own_mac (tunnel (tunnel_for r p octets dst))

@@ -1,3 +1,4 @@
 pub mod Hops
 pub mod Packets
 pub mod Sets
+pub mod Tunnels

@@ -1,7 +1,8 @@
 -- What a router makes of the octets of a BIER packet, and of the packets that enter the domain at it.
-use Rattle.std.specs.Prelude.{◌≡◌, ℕ, ◌+◌, ◌/◌, nat_lt, Bool, true, false, is_some, List, map, drop, length, Option, Some, None, unwrap_or, Result, Ok, Err, if◌then◌else◌}
+use Rattle.std.specs.Prelude.{◌≡◌, ℕ, ◌+◌, ◌/◌, ◌≤◌, nat_lt, true, is_some, List, map, drop, length, Option, Some, None, unwrap_or, Result, Ok, Err, if◌then◌else◌}
 use Rattle.std.specs.List.{AllByRecursion}
 use Rattle.byteorder.specs.Endian.{big_number}
+use Rattle.wire_base.specs.declared.limits.TheConstants.{MOST_FRAME}
 use Rattle.wire_base.specs.declared.cause.Cause.{Cause}
 use Rattle.wire_base.specs.declared.cause.Cause.TheVariants as cause
 use Rattle.wire_base.specs.declared.conf.Kind.{Kind}
@@ -41,9 +42,13 @@ packet_at r kind octets =
     with_meaning kind octets (means r kind (big_number 4 octets / 4096))
 
 -- what the router does with it
-abbrev pub packet_done : Bool → Control → Result Packet Cause → Effects
-packet_done tunnels c (Ok p) = hop_in tunnels c p p.header.ttl
-packet_done tunnels c (Err why) = dropped why
+abbrev pub packet_done : Control → Result Packet Cause → Effects
+packet_done c (Ok p) = hop_in c p p.header.ttl
+packet_done c (Err why) = dropped why
+
+-- It is no longer than a frame that a router takes, so that a tunnel has room for each copy.
+abbrev pub IsShort : Packet → Type 0
+IsShort p = header_length p.triple.bsl + length p.payload ≤ MOST_FRAME
 
 -- what a packet that was read keeps: its numbers fit, and its BitString has its triple's length
 pub record IsReadable (t : Triple) (h : Header) : Type 0 where
@@ -58,7 +63,7 @@ LeadsToEnds r g = AllByRecursion (λ e. is_some (link_to r g e.to) ≡ true) (ed
 
 -- the hop at the router, by a view
 abbrev pub hopped : RouterConf → List ViewNode → Packet → ℕ → Effects
-hopped r g p ttl = hop_at false r g (node_place g r.system) p ttl
+hopped r g p ttl = hop_at r g (node_place g r.system) p ttl
 
 -- ---- entering
 

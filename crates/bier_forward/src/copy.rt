@@ -1,145 +1,35 @@
-//! A copy to a router that is reached directly: the link, the router's BIFT-id, and the frame.
-ghost use Rattle.std.specs.Prelude.{◌≡◌, ◌<◌, ◌+◌, ◌%◌, ◌^◌, ◌++◌, nat_le, Some, None, if◌then◌else◌, IfOk, IfSome, length, option_map, slice_get};
+//! The frame of a copy: the packet with its own BIFT-id, TTL and BitString, on its own or in a tunnel.
+ghost use Rattle.std.specs.Prelude.{◌≡◌, ◌<◌, ◌≤◌, ◌+◌, ◌^◌, ◌++◌, IfOk, length};
 ghost use Rattle.wire_base.specs.model.BierHeader.{header_length};
-ghost use Rattle.wire_base.specs.model.Graph.{node_bift, place_in};
-ghost use Rattle.wire_base.specs.model.Item.{bier_frame};
-ghost use Rattle.wire_base.specs.model.Place.{bift_by, label_in, row_in, same_triple};
-ghost use Rattle.wire_base.specs.model.Tunnel.{protocol_of};
+ghost use Rattle.wire_base.specs.model.Ethernet.{ethernet, ip_type};
+ghost use Rattle.wire_base.specs.model.Item.{bier_frame, ip_frame};
+ghost use Rattle.wire_base.specs.model.Tunnel.{protocol_of, tunnel};
 ghost use Rattle.bier_bits.specs.Any.{bsl_of, positions_of};
 ghost use Rattle.bier_head.specs.Views.{header_of};
-ghost use Rattle.bier_forward.specs.Hops.{bift_toward, copy_head, node_in, way_at};
+ghost use Rattle.bier_forward.specs.Hops.{copy_head, copy_octets, frame_in};
+ghost use Rattle.bier_forward.specs.Packets.{IsShort};
 
 use crate::incoming::Incoming;
+use crate::ways::Way;
 use bier_bits::AnyBits;
 use bier_head::{Header, write_header};
+use gre_ip::{Tunnel, write_tunnel};
 use link_frame::write_eth;
 use std::alloc::Global;
-use wire_base::{
-    End, First, Kind, LabelRange, M, Octets, RouterConf, SystemId, TableRow, Triple, ViewNode,
-    ViewSub, kind_of,
-};
+use wire_base::limits::MOST_FRAME;
+use wire_base::{End, Ipv4, Kind, M, Octets, RouterConf};
 
-/// How a copy goes to a router: the link, by its place and as an end, and the BIFT-id that the router gives the triple.
-#[derive(Clone, Copy)]
-pub(crate) struct Way {
-    pub(crate) link: u16,
-    pub(crate) end: End,
-    pub(crate) bift: u32,
-}
+/// The type of a frame that carries IPv4 (RFC 894).
+const IP_TYPE: u16 = 0x0800;
 
-/// The way to a router of a table. None where no end leads to it or it has no BIFT-id for the triple.
-pub(crate) fn way_to(
-    conf: &RouterConf,
-    nodes: &[ViewNode],
-    triple: Triple,
-    to: First,
-) -> Option<Way>
-    ensures value { result ≡ way_at conf.now nodes.now triple to }
-    ensures bift { IfSome result (λ way. way.bift < 2 ^ 20) }
-{
-    let bift = bift_at(conf, nodes, triple, to.system)?;
-    let link = to.direct?;
-    let end = end_at(conf.ends.as_slice(), link)?;
-    Some(Way { link, end, bift })
-}
+/// The TTL with which a tunnel begins.
+const OUTER_TTL: u8 = 255;
 
-fn end_at(ends: &[End], link: u16) -> Option<End>
-    ensures { result ≡ slice_get ends.now link }
-{
-    if usize::from(link) < ends.len() {
-        Some(ends[usize::from(link)])
-    } else {
-        None
-    }
-}
-
-/// The BIFT-id that a system's node gives the triple: the lowest 20 bits of it, which a header has room for.
-fn bift_at(conf: &RouterConf, nodes: &[ViewNode], triple: Triple, system: SystemId) -> Option<u32>
-    ensures value { result ≡ option_map (λ bift. bift % 2 ^ 20) (bift_toward conf.now nodes.now triple system) }
-    ensures small { IfSome result (λ bift. bift < 2 ^ 20) }
-{
-    let node = node_of(nodes, system)?;
-    node_bift(conf, triple, node)
-}
-
-fn node_of(nodes: &[ViewNode], system: SystemId) -> Option<&ViewNode>
-    ensures { option_map (λ n. n.now) result ≡ node_in nodes.now system }
-{
-    for node in nodes {
-        if node.system == system {
-            return Some(node);
-        }
-    }
-    None
-}
-
-#[tactic(auto, unfolding(wire_base::specs::model::Graph::node_bift))]
-fn node_bift(conf: &RouterConf, triple: Triple, node: &ViewNode) -> Option<u32>
-    ensures { result ≡ option_map (λ bift. bift % 2 ^ 20) (node_bift conf.now.kinds conf.now.table triple node.now) }
-{
-    let sub = place_in(node.subs.as_slice(), triple.sd)?;
-    match kind_of(conf.kinds.as_slice(), triple.sd)? {
-        Kind::Mpls => label_in(sub.ranges.as_slice(), triple),
-        Kind::Configured => row_in(conf.table.as_slice(), triple),
-    }
-}
-
-fn place_in(subs: &[ViewSub], sd: u8) -> Option<&ViewSub>
-    ensures { option_map (λ s. s.now) result ≡ place_in subs.now sd }
-{
-    for sub in subs {
-        if sub.sd == sd {
-            return Some(sub);
-        }
-    }
-    None
-}
-
-/// The label of the triple's set in the range of its length.
-fn label_in(ranges: &[LabelRange], triple: Triple) -> Option<u32>
-    ensures { result ≡ option_map (λ bift. bift % 2 ^ 20) (label_in ranges.now triple) }
-{
-    for range in ranges {
-        if range.bsl.code() == triple.bsl.code() {
-            return label_of(*range, triple.si);
-        }
-    }
-    None
-}
-
-fn label_of(range: LabelRange, si: u8) -> Option<u32>
-    ensures { result ≡ (if nat_le si range.max_si then Some ((range.label + si) % 2 ^ 20) else None) }
-{
-    if si <= range.max_si {
-        Some(((u64::from(range.label) + u64::from(si)) % 0x10_0000) as u32)
-    } else {
-        None
-    }
-}
-
-/// The BIFT-id of the triple in the written table.
-fn row_in(table: &[TableRow], triple: Triple) -> Option<u32>
-    ensures { result ≡ option_map (λ bift. bift % 2 ^ 20) (row_in table.now triple) }
-{
-    for row in table {
-        if is_row_for(row, triple) {
-            return Some(row.bift % 0x10_0000);
-        }
-    }
-    None
-}
-
-fn is_row_for(row: &TableRow, triple: Triple) -> bool
-    ensures { result ≡ same_triple row.now.triple triple }
-{
-    row.triple.sd == triple.sd
-        && row.triple.bsl.code() == triple.bsl.code()
-        && row.triple.si == triple.si
-}
-
-/// The frame of a copy on an end: the packet with that BIFT-id, TTL and BitString.
+/// The frame of a copy on its way: the packet with that BIFT-id, TTL and BitString. A tunnel leads from the router's own
+/// prefix to that of the way.
 pub(crate) fn frame_of(
     alloc: Global,
+    conf: &RouterConf,
     packet: &Incoming<'_>,
     way: Way,
     bits: AnyBits,
@@ -147,21 +37,76 @@ pub(crate) fn frame_of(
 ) -> M<Octets>
     requires bift { way.bift < 2 ^ 20 }
     requires length { bsl_of bits ≡ packet.now.triple.bsl }
-    ensures { IfOk result (λ frame. frame ≡ bier_frame way.end.peer_mac way.end.own_mac packet.now.kind (copy_head packet.now way.bift (positions_of bits) ttl ++ packet.now.payload)) }
+    requires short { IsShort packet.now }
+    ensures { IfOk result (λ frame. frame ≡ frame_in conf.now packet.now way.end (copy_octets packet.now way.bift (positions_of bits) ttl) way.tunnel) }
 {
     let size = 12 + usize::from(bits.bsl().bits() / 8);
-    let mut ethernet = [0; 14];
     let mut head = [0; 524];
-    write_eth(
-        &mut ethernet,
-        way.end.peer_mac,
-        way.end.own_mac,
-        protocol_of(packet.kind),
-    );
     write_head(packet, way.bift, bits, ttl, &mut head[..size]);
-    let mut frame = Octets::with_room(alloc, 14 + size + packet.payload.len())?;
+    match way.tunnel {
+        None => bare_frame(alloc, way.end, packet.kind, &head[..size], packet.payload),
+        Some(dst) => tunnel_frame(
+            alloc,
+            conf.prefix,
+            dst,
+            way.end,
+            packet.kind,
+            &head[..size],
+            packet.payload,
+        ),
+    }
+}
+
+/// The frame of a packet that is in no tunnel.
+fn bare_frame(alloc: Global, end: End, kind: Kind, head: &[u8], payload: &[u8]) -> M<Octets>
+    requires { length head.now + length payload.now ≤ MOST_FRAME }
+    ensures { IfOk result (λ frame. frame ≡ bier_frame end.peer_mac end.own_mac kind (head.now ++ payload.now)) }
+{
+    let mut ethernet = [0; 14];
+    write_eth(&mut ethernet, end.peer_mac, end.own_mac, protocol_of(kind));
+    let mut frame = Octets::with_room(alloc, 14 + head.len() + payload.len())?;
     frame.append(&ethernet)?;
-    frame.append_two(&head[..size], packet.payload)?;
+    frame.append_two(head, payload)?;
+    Ok(frame)
+}
+
+/// The first 14 octets of a frame with IPv4 on an end.
+pub(crate) fn ip_head(end: End) -> [u8; 14]
+    ensures octets { result ≡ ethernet end.peer_mac.0 end.own_mac.0 ip_type }
+    ensures len { length result ≡ 14 }
+{
+    let mut octets = [0; 14];
+    write_eth(&mut octets, end.peer_mac, end.own_mac, IP_TYPE);
+    octets
+}
+
+/// The frame of a packet in a tunnel between two prefixes.
+fn tunnel_frame(
+    alloc: Global,
+    src: Ipv4,
+    dst: Ipv4,
+    end: End,
+    kind: Kind,
+    head: &[u8],
+    payload: &[u8],
+) -> M<Octets>
+    requires { length head.now + length payload.now ≤ MOST_FRAME }
+    ensures { IfOk result (λ frame. frame ≡ ip_frame end.peer_mac end.own_mac (tunnel (record { src = src; dst = dst; ttl = 255; inner = kind; carried = head.now ++ payload.now }))) }
+{
+    let ethernet = ip_head(end);
+    let mut outer = [0; 24];
+    let tunnel = Tunnel {
+        src,
+        dst,
+        ttl: OUTER_TTL,
+        inner: kind,
+        from: 24,
+        to: 24 + head.len() + payload.len(),
+    };
+    write_tunnel(&tunnel, &mut outer);
+    let mut frame = Octets::with_room(alloc, 38 + head.len() + payload.len())?;
+    frame.append_two(&ethernet, &outer)?;
+    frame.append_two(head, payload)?;
     Ok(frame)
 }
 

@@ -1,10 +1,10 @@
 //! Packets that enter the domain at a router.
-ghost use Rattle.std.specs.Prelude.{◌≡◌, ◌<◌, ◌^◌, false, IfOk, List, ℕ, map};
+ghost use Rattle.std.specs.Prelude.{◌≡◌, ◌<◌, ◌≤◌, ◌^◌, IfOk, List, ℕ, length, map};
 ghost use Rattle.std.specs.List.{AllByRecursion};
 ghost use Rattle.wire_base.specs.declared.bsl.Bsl.{Bsl};
 ghost use Rattle.wire_base.specs.model.Configuration.{IsSound};
 ghost use Rattle.wire_base.specs.model.Control.{Control};
-ghost use Rattle.wire_base.specs.model.Ingress.{inject_with, packets_for};
+ghost use Rattle.wire_base.specs.model.Ingress.{inject, packets_for};
 ghost use Rattle.wire_base.specs.model.View.{control_view};
 ghost use Rattle.bfr_edge.specs.Entry.{placed, positions_in};
 ghost use Rattle.bier_forward.specs.Packets.{LeadsToEnds, entered, entering_with};
@@ -15,6 +15,7 @@ use crate::forward::{hop_onto, own_id};
 use crate::incoming::Incoming;
 use bfr_edge::{Packet, head_of};
 use std::alloc::Global;
+use wire_base::limits::MOST_PAYLOAD;
 use wire_base::{Kind, M, RouterConf, View, kind_of};
 
 /// What a router does with packets that enter the domain at it (RFC 8279, 3; RFC 8296, 3): each gets the ingress's header
@@ -32,9 +33,10 @@ pub fn enter_packets(
     requires ends { LeadsToEnds conf.now view.now.nodes }
     requires lengths { AllByRecursion HasLength packets.now }
     requires entropy { entropy < 2 ^ 20 }
+    requires payload { length payload.now ≤ MOST_PAYLOAD }
     ensures exact { IfOk result (λ e. e ≡ entered conf.now view.now.nodes ttl entropy payload.now (map positions_in packets.now)) }
     ensures injected { IfOk result (λ e. (c : Control) (sd : ℕ) (bsl : Bsl) (ids : List ℕ) → c.conf ≡ conf.now → control_view c ≡ view.now.nodes
-        → map positions_in packets.now ≡ map placed (packets_for sd bsl ids) → e ≡ inject_with false c sd bsl ids ttl entropy payload.now) }
+        → map positions_in packets.now ≡ map placed (packets_for sd bsl ids) → e ≡ inject c sd bsl ids ttl entropy payload.now) }
 {
     let mut effects = Effects::nothing(alloc);
     for packet in packets {

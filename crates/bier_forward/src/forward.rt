@@ -8,26 +8,27 @@ ghost use Rattle.wire_base.specs.model.Place.{bits_of, id_at, id_of, sub_in};
 ghost use Rattle.bier_bits.specs.Sets.{is_width};
 ghost use Rattle.bift_table.specs.Bift.{router_at};
 ghost use Rattle.bier_hop.specs.Outcomes.{IsOwn};
-ghost use Rattle.bier_forward.specs.Hops.{AreDirect, AreRows, after, given, own_position, place_of};
-ghost use Rattle.bier_forward.specs.Packets.{LeadsToEnds, hopped};
+ghost use Rattle.bier_forward.specs.Hops.{AreNext, AreRows, after, given, own_position, place_of};
+ghost use Rattle.bier_forward.specs.Packets.{IsShort, LeadsToEnds, hopped};
 
-use crate::direct::direct_rows;
 use crate::effects::Effects;
 use crate::incoming::Incoming;
 use crate::outcome::give;
+use crate::table_rows::table_rows;
 use bier_bits::{AnyBits, BitString};
 use bier_hop::Hop;
 use bift_table::Table;
 use std::alloc::Global;
 use std::marker::Brand;
 use std::sync::ledger::{Blank, Ledger};
-use wire_base::{M, OwnSub, RouterConf, RowSet, Steps, Triple, View, ViewNode};
+use wire_base::{M, OwnSub, RouterConf, RowSet, Steps, Triple, View};
 
 /// What a router does with a packet that has a TTL of at most 256, by a view of its domain (RFC 8279, 6.5): it delivers the
 /// payload where its own BFR-id is among the packet's, sends one copy to each router to which others lead, and drops those
 /// whose TTL has ended or that lead nowhere. A copy is the packet with the BIFT-id of that router, a TTL one lower and the
-/// positions that lead to it; all else, and the octets after the header, are as they came. A router that no link leads to
-/// directly gets no copy.
+/// positions that lead to it; all else, and the octets after the header, are as they came. A copy to a router that no link
+/// leads to directly goes in a tunnel to its BFR-prefix (RFC 8279, 6.9; RFC 2784); the positions of one that has no
+/// prefix in the subdomain are dropped.
 pub fn hop_packet(
     alloc: Global,
     conf: &RouterConf,
@@ -37,6 +38,7 @@ pub fn hop_packet(
 ) -> M<Effects>
     requires sound { IsSound conf.now }
     requires ends { LeadsToEnds conf.now view.now.nodes }
+    requires short { IsShort packet.now }
     requires ttl { ttl ≤ 256 }
     ensures { IfOk result (λ e. e ≡ hopped conf.now view.now.nodes packet.now ttl) }
 {
@@ -55,6 +57,7 @@ pub(crate) fn hop_onto(
 ) -> M<()>
     requires sound { IsSound conf.now }
     requires ends { LeadsToEnds conf.now view.now.nodes }
+    requires short { IsShort packet.now }
     requires ttl { ttl ≤ 256 }
     ensures { OnOk result (effects.new ≡ after effects.old (hopped conf.now view.now.nodes packet.now ttl)) }
 {
@@ -75,16 +78,11 @@ fn hop_counted<L: Ledger>(
     requires some { 0 < blank.parts }
     requires sound { IsSound conf.now }
     requires ends { LeadsToEnds conf.now view.now.nodes }
+    requires short { IsShort packet.now }
     requires ttl { ttl ≤ 256 }
     ensures { OnOk result (effects.new ≡ after effects.old (hopped conf.now view.now.nodes packet.now ttl)) }
 {
-    let rows = direct_rows(
-        effects.allocator(),
-        conf,
-        view,
-        packet.triple,
-        class_of(packet),
-    )?;
+    let rows = table_rows(effects.allocator(), conf, view, packet.triple)?;
     let mut steps = Steps::<L>::new(blank);
     hop_by_width(conf, view, packet, &rows, ttl, &mut steps, effects)
 }
@@ -101,9 +99,10 @@ fn hop_by_width<L: Ledger>(
 ) -> M<()>
     requires sound { IsSound conf.now }
     requires ends { LeadsToEnds conf.now view.now.nodes }
+    requires short { IsShort packet.now }
     requires ttl { ttl ≤ 256 }
     requires lists { length rows.now.bits ≡ bits_of packet.now.triple.bsl }
-    requires rows { AreRows conf.now view.now.nodes packet.now.triple (class_of packet.now) rows.now.bits }
+    requires rows { AreRows conf.now view.now.nodes packet.now.triple rows.now.bits }
     ensures { OnOk result (effects.new ≡ after effects.old (hopped conf.now view.now.nodes packet.now ttl)) }
 {
     match &packet.header.bits {
@@ -139,32 +138,24 @@ fn hop_over<const W: usize, L: Ledger>(
     requires width { IsTrue (is_width W) }
     requires sound { IsSound conf.now }
     requires ends { LeadsToEnds conf.now view.now.nodes }
+    requires short { IsShort packet.now }
     requires ttl { ttl ≤ 256 }
     requires bits { bits_of packet.now.triple.bsl ≡ 64 * W }
     requires set { bits.now ≡ packet.now.header.positions }
     requires lists { length rows.now.bits ≡ 64 * W }
-    requires rows { AreRows conf.now view.now.nodes packet.now.triple (class_of packet.now) rows.now.bits }
+    requires rows { AreRows conf.now view.now.nodes packet.now.triple rows.now.bits }
     ensures { OnOk result (effects.new ≡ after effects.old (hopped conf.now view.now.nodes packet.now ttl)) }
 {
     let _width = bits.width();
+    let _graph = view.as_slice();
     let table = Table::build(effects.allocator(), rows, class_of(packet))?;
-    let nodes = view.as_slice();
-    give_all(
-        conf,
-        nodes,
-        packet,
-        &table,
-        bits.copy(),
-        ttl,
-        steps,
-        effects,
-    )
+    give_all(conf, view, packet, &table, bits.copy(), ttl, steps, effects)
 }
 
 /// Gives the outcomes of a set of positions over a table, one after the other.
 fn give_all<const W: usize, L: Ledger>(
     conf: &RouterConf,
-    nodes: &[ViewNode],
+    view: &View,
     packet: &Incoming<'_>,
     table: &Table<W>,
     set: BitString<W>,
@@ -174,16 +165,19 @@ fn give_all<const W: usize, L: Ledger>(
 ) -> M<()>
     requires width { IsTrue (is_width W) }
     requires sound { IsSound conf.now }
+    requires ends { LeadsToEnds conf.now view.now.nodes }
+    requires short { IsShort packet.now }
     requires ttl { ttl ≤ 256 }
     requires bits { bits_of packet.now.triple.bsl ≡ 64 * W }
-    requires direct { AreDirect conf.now nodes.now table.now }
-    ensures { OnOk result (effects.new ≡ after effects.old (on_frame.joined (map (given conf.now nodes.now packet.now)
-        (hop (own_position conf.now packet.now.triple) (λ p. option_map (place_of nodes.now) (router_at table.now p)) set.entry ttl)))) }
+    requires next { AreNext conf.now view.now.nodes table.now }
+    ensures { OnOk result (effects.new ≡ after effects.old (on_frame.joined (map (given conf.now view.now.nodes packet.now)
+        (hop (own_position conf.now packet.now.triple) (λ p. option_map (place_of view.now.nodes) (router_at table.now p)) set.entry ttl)))) }
 {
     let own = own_position(conf, packet.triple);
     let mut hop = Hop::begin(table, own, set, ttl);
+    let mut fib = None;
     'outcomes: while let Some(out) = hop.next(steps) {
-        give(conf, nodes, packet, &out, effects)?;
+        give(conf, view, packet, &out, &mut fib, effects)?;
     }
     Ok(())
 }

@@ -1,5 +1,5 @@
 //! A BIER packet as it comes.
-ghost use Rattle.std.specs.Prelude.{◌≡◌, ◌≤◌, Bool, length, drop};
+ghost use Rattle.std.specs.Prelude.{◌≡◌, ◌≤◌, ◌+◌, IfOk, length, drop};
 ghost use Rattle.wire_base.specs.model.Configuration.{IsSound};
 ghost use Rattle.wire_base.specs.model.Control.{Control};
 ghost use Rattle.wire_base.specs.model.OnFrame.{is_not_last, on_packet};
@@ -48,7 +48,8 @@ pub fn read_packet<'a>(
 ) -> Result<Incoming<'a>, Cause>
     requires sound { IsSound conf.now }
     ensures exact { result ≡ packet_at conf.now kind octets.now }
-    ensures effects { (tunnels : Bool) (c : Control) → c.conf ≡ conf.now → on_packet tunnels c kind octets.now ≡ packet_done tunnels c result }
+    ensures effects { (c : Control) → c.conf ≡ conf.now → on_packet c kind octets.now ≡ packet_done c result }
+    ensures whole { IfOk result (λ packet. header_length packet.triple.bsl + length packet.payload ≡ length octets.now) }
 {
     if octets.len() < 4 {
         return Err(Cause::Head(HeadFault::Short));
@@ -75,7 +76,8 @@ fn is_not_last(kind: Kind, word: u32) -> bool
 
 // The packet of a triple.
 fn packet_with<'a>(kind: Kind, triple: Triple, octets: &'a [u8]) -> Result<Incoming<'a>, Cause>
-    ensures { result ≡ with_header kind triple octets.now (header_at kind triple.bsl octets.now) }
+    ensures value { result ≡ with_header kind triple octets.now (header_at kind triple.bsl octets.now) }
+    ensures whole { IfOk result (λ packet. header_length packet.triple.bsl + length packet.payload ≡ length octets.now) }
 {
     match read_header(kind, triple.bsl, octets) {
         Err(fault) => Err(Cause::Head(fault)),
@@ -91,7 +93,8 @@ fn packet_with<'a>(kind: Kind, triple: Triple, octets: &'a [u8]) -> Result<Incom
 // The octets after a header with a BitString of that length.
 fn after_header(bsl: Bsl, octets: &[u8]) -> &[u8]
     requires { header_length bsl ≤ length octets.now }
-    ensures { result.now ≡ drop (header_length bsl) octets.now }
+    ensures value { result.now ≡ drop (header_length bsl) octets.now }
+    ensures whole { header_length bsl + length result.now ≡ length octets.now }
 {
     &octets[12 + usize::from(bsl.bits() / 8)..]
 }

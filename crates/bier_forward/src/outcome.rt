@@ -9,29 +9,38 @@ ghost use Rattle.wire_base.specs.model.Place.{bits_of, id_at};
 ghost use Rattle.bier_bits.specs.Any.{bsl_of, positions_of};
 ghost use Rattle.bier_bits.specs.Sets.{is_width};
 ghost use Rattle.bier_hop.specs.Outcomes.{outcome};
-ghost use Rattle.bier_forward.specs.Hops.{IsDirect, IsDue, after, cause_of, given, place_of};
+ghost use Rattle.bier_forward.specs.Packets.{IsShort, LeadsToEnds};
+ghost use Rattle.bier_forward.specs.Tunnels.{IsBuilt};
+ghost use Rattle.bier_forward.specs.Hops.{IsDue, IsNext, after, cause_of, given, place_of};
 
-use crate::copy::{frame_of, way_to};
+use crate::copy::frame_of;
 use crate::effects::{DropNote, Effects};
 use crate::incoming::Incoming;
+use crate::ways::way_to;
 use bfr_edge::Packet;
 use bier_bits::{AnyBits, BitString};
 use bier_hop::{Out, Why};
-use wire_base::{Bsl, Cause, First, Got, M, Octets, RouterConf, Sent, Triple, ViewNode};
+use bier_tunnel::Fib;
+use wire_base::{Bsl, Cause, First, Got, M, Octets, RouterConf, Sent, Triple, View};
 
 /// Delivers, sends a copy or drops, as the outcome says.
 pub(crate) fn give<const W: usize>(
     conf: &RouterConf,
-    nodes: &[ViewNode],
+    view: &View,
     packet: &Incoming<'_>,
     out: &Out<'_, W>,
+    fib: &mut Option<Fib>,
     effects: &mut Effects,
 ) -> M<()>
     requires width { IsTrue (is_width W) }
     requires sound { IsSound conf.now }
+    requires ends { LeadsToEnds conf.now view.now.nodes }
+    requires short { IsShort packet.now }
     requires bits { bits_of packet.now.triple.bsl ≡ 64 * W }
-    requires due { IsDue conf.now nodes.now packet.now out.now }
-    ensures { OnOk result (effects.new ≡ after effects.old (given conf.now nodes.now packet.now (outcome (place_of nodes.now) out.now))) }
+    requires due { IsDue conf.now view.now.nodes packet.now out.now }
+    requires built { IsBuilt conf.now view.now.nodes fib.old }
+    ensures given { OnOk result (effects.new ≡ after effects.old (given conf.now view.now.nodes packet.now (outcome (place_of view.now.nodes) out.now))) }
+    ensures kept { OnOk result (IsBuilt conf.now view.now.nodes fib.new) }
 {
     let triple = packet.triple;
     match out {
@@ -39,11 +48,12 @@ pub(crate) fn give<const W: usize>(
         Out::Copy { to, set, ttl } => {
             send_copy(
                 conf,
-                nodes,
+                view,
                 packet,
                 **to,
                 any_of(triple.bsl, set),
                 *ttl,
+                fib,
                 effects,
             )
         }
@@ -80,27 +90,32 @@ fn id_at(triple: Triple, bp: u16) -> u16
     (u32::from(triple.si) * u32::from(triple.bsl.bits()) + u32::from(bp)) as u16
 }
 
-/// Sends a copy with those positions to a router that is reached directly; where the router has no BIFT-id for the
-/// triple, drops them.
+/// Sends a copy with those positions to a router; where no way leads there, drops them.
 fn send_copy(
     conf: &RouterConf,
-    nodes: &[ViewNode],
+    view: &View,
     packet: &Incoming<'_>,
     to: First,
     bits: AnyBits,
     ttl: u8,
+    fib: &mut Option<Fib>,
     effects: &mut Effects,
 ) -> M<()>
     requires sound { IsSound conf.now }
-    requires direct { IsDirect conf.now nodes.now to }
+    requires ends { LeadsToEnds conf.now view.now.nodes }
+    requires short { IsShort packet.now }
+    requires next { IsNext conf.now view.now.nodes to }
     requires length { bsl_of bits ≡ packet.now.triple.bsl }
     requires within { IsWithin 0 (bits_of packet.now.triple.bsl) (positions_of bits) }
-    ensures { OnOk result (effects.new ≡ after effects.old (given conf.now nodes.now packet.now (hops.Copy (place_of nodes.now to) (positions_of bits) ttl))) }
+    requires built { IsBuilt conf.now view.now.nodes fib.old }
+    ensures given { OnOk result (effects.new ≡ after effects.old (given conf.now view.now.nodes packet.now (hops.Copy (place_of view.now.nodes to) (positions_of bits) ttl))) }
+    ensures kept { OnOk result (IsBuilt conf.now view.now.nodes fib.new) }
 {
-    match way_to(conf, nodes, packet.triple, to) {
+    let alloc = effects.allocator();
+    match way_to(alloc, conf, view, packet.triple, to, fib)? {
         None => drop_set(packet.triple, bits, Cause::NoRow, effects),
         Some(way) => {
-            let octets = frame_of(effects.allocator(), packet, way, bits, ttl)?;
+            let octets = frame_of(alloc, conf, packet, way, bits, ttl)?;
             effects.send(Sent {
                 link: way.link,
                 octets,

@@ -50,7 +50,7 @@ const CASES: [Case; 11] = [
     Case {
         fork: true,
         packet: Comes::In(12, 0),
-        told: "drop NoRow 2 3\n",
+        told: "0 02000001000002000000000108004500002e00004000ff2f679d0a0000010a000003000088470012c1085010000000040001000000000000000400ff\n0 02000001000002000000000108004500002e00004000ff2f679c0a0000010a00000400008847001901085010000000040001000000000000000800ff\n",
     },
     Case {
         fork: false,
@@ -135,6 +135,9 @@ fn forwarded(alloc: Global, conf: &RouterConf, view: &View, digits: &[u8]) -> M<
     requires ends { LeadsToEnds conf.now view.now.nodes }
 {
     let octets = octets_of(alloc, digits)?;
+    if octets.len() > 65_000 {
+        return Ok(octets);
+    }
     match read_packet(conf, Kind::Mpls, octets.as_slice()) {
         Ok(packet) => {
             let ttl = u16::from(packet.header.ttl);

@@ -1,4 +1,6 @@
 //! The BIER header (RFC 8296, 2), read and written.
+//!
+//! It stands on `bier_bits`, and promises the header or the first broken rule for all octets, and one spelling that is read again.
 #![tactic(auto)]
 
 mod header;

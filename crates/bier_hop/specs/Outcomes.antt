@@ -1,11 +1,10 @@
 -- What a hop over a forwarding table gives, as the outcomes of one hop.
-use Rattle.std.specs.Prelude.{ℕ, suc, ◌≡◌, ◌≤◌, ◌<◌, ◌==◌, true, List, [], ◌∷◌, length, Option, Some, None, option_map, is_none, IfSome, MatchOption, if◌then◌else◌}
-use Rattle.std.specs.List.{list_any}
+use Rattle.std.specs.Prelude.{ℕ, suc, ◌≡◌, ◌≤◌, ◌<◌, ◌==◌, List, [], ◌∷◌, length, Option, Some, None, option_map, is_none, IfSome, MatchOption, if◌then◌else◌}
 use Rattle.wire_base.specs.declared.view.First.{First}
 use Rattle.wire_base.specs.model.BitSet.{has_member, difference, intersection}
 use Rattle.wire_base.specs.model.Hop as model
 use Rattle.wire_base.specs.model.Hop.{Outcome, hop}
-use Rattle.bift_table.specs.Bift.{router_at, same_router, leads_to, mask_of}
+use Rattle.bift_table.specs.Bift.{router_at, leads_to, mask_of}
 use Rattle.bier_hop.specs.declared.out.Out.{Out}
 use Rattle.bier_hop.specs.declared.out.Out.TheVariants.{Local, Copy, Dropped}
 use Rattle.bier_hop.specs.declared.out.Why.{Why}
@@ -69,9 +68,6 @@ cost (Some (Copy to set ttl)) = 1
 cost (Some (Dropped set why)) = 0
 
 -- how the parts of the code give it
-
-abbrev pub AreRouters : List (Option First) → List First → Type 0
-AreRouters table routers = (p : ℕ) (f : First) → router_at table p ≡ Some f → list_any (λ g. same_router g f) routers ≡ true
 
 abbrev pub IsOwnWithin : {w : ℕ} → ℕ → Out w → Type 0
 IsOwnWithin bits (Local p) = (1 ≤ p) × (p ≤ bits)

@@ -4,12 +4,12 @@ ghost use Rattle.wire_base.specs.declared.view.First.{First};
 ghost use Rattle.wire_base.specs.model.BitSet.{difference, first_member, has_member, intersection, IsWithin};
 ghost use Rattle.wire_base.specs.model.Hop.{hop};
 ghost use Rattle.bier_bits.specs.Sets.{is_width};
-ghost use Rattle.bift_table.specs.Bift.{router_at, routed_of, same_router};
-ghost use Rattle.bier_hop.specs.Outcomes.{IsNumbering, IsOwn, IsOwnWithin, HopState, AreRouters, left, number_in, choose_in, outcome, positions_of, own_in, cost, left_after, drop_of, IsCopy, IsNext};
+ghost use Rattle.bift_table.specs.Bift.{router_at, routed_of, routers_of};
+ghost use Rattle.bier_hop.specs.Outcomes.{IsNumbering, IsOwn, IsOwnWithin, HopState, left, number_in, choose_in, outcome, positions_of, own_in, cost, left_after, drop_of, IsCopy, IsNext};
 
 use crate::out::{Out, Why, without};
 use bier_bits::BitString;
-use bift_table::{Table, is_same_router};
+use bift_table::Table;
 use std::marker::Model;
 use std::sync::ledger::Ledger;
 use wire_base::{First, Steps};
@@ -26,14 +26,15 @@ pub struct Hop<'t, const W: usize> {
 }
 
 impl<'t, const W: usize> Model for Hop<'t, W> {
-    ghost use Rattle.std.specs.Prelude.{◌≤◌, ◌*◌};
-    ghost use Rattle.bier_hop.specs.Outcomes.{HopState, IsOwn, AreRouters};
+    ghost use Rattle.std.specs.Prelude.{◌≡◌, ◌≤◌, ◌*◌};
+    ghost use Rattle.bift_table.specs.Bift.{routers_of};
+    ghost use Rattle.bier_hop.specs.Outcomes.{HopState, IsOwn};
 
     ghost Value = { HopState };
 
     ghost view = { λ h. record { table = h.table.now; own = h.own; rest = h.rest; ttl = h.ttl } };
 
-    ghost invariant = { λ h. AreRouters h.table.now h.routers.now × IsOwn (64 * W) h.own × (h.ttl ≤ 256) };
+    ghost invariant = { λ h. (h.routers.now ≡ routers_of h.table.now) × IsOwn (64 * W) h.own × (h.ttl ≤ 256) };
 }
 
 impl<'t, const W: usize> Hop<'t, W> {
@@ -99,7 +100,7 @@ fn outcome<'t, const W: usize, L: Ledger>(
     steps: &mut Steps<L>,
 ) -> Option<Out<'t, W>>
     requires width { IsTrue (is_width W) }
-    requires routers { AreRouters table.now routers.now }
+    requires routers { routers.now ≡ routers_of table.now }
     requires own { IsOwn (64 * W) own }
     requires ttl { ttl ≤ 256 }
     ensures next { IsNext (64 * W) (record { table = table.now; own = own; rest = rest.now; ttl = ttl }) result }
@@ -136,7 +137,7 @@ fn first_routed<const W: usize>(table: &Table<W>, rest: &BitString<W>) -> Option
     ensures high { IfSome result (λ p. p ≤ 64 * W) }
     ensures routed { IfSome result (λ p. has_member p (routed_of table.now) ≡ true) }
 {
-    rest.and(table.routed()).first()
+    rest.first_shared(table.routed())
 }
 
 // The copy to the router of a position that has a row.
@@ -149,7 +150,7 @@ fn copy_toward<'t, const W: usize, L: Ledger>(
     steps: &mut Steps<L>,
 ) -> Option<Out<'t, W>>
     requires width { IsTrue (is_width W) }
-    requires routers { AreRouters table.now routers.now }
+    requires routers { routers.now ≡ routers_of table.now }
     requires low { 1 ≤ bp }
     requires high { bp ≤ 64 * W }
     requires onward { 1 < ttl }
@@ -160,22 +161,10 @@ fn copy_toward<'t, const W: usize, L: Ledger>(
 {
     let row = table.row(bp, steps)?;
     Some(Out::Copy {
-        to: find_router(routers, *row.to)?,
+        to: &routers[usize::from(row.number)],
         set: rest.and(row.mask),
         ttl: (ttl - 1) as u8,
     })
-}
-
-// The router, where a list that lasts longer has it.
-fn find_router(routers: &[First], to: First) -> Option<&First>
-    ensures { MatchOption result (list_any (λ f. same_router f to) routers.now ≡ false) (λ f. f.now ≡ to) }
-{
-    for router in routers {
-        if is_same_router(*router, to) {
-            return Some(router);
-        }
-    }
-    None
 }
 
 // A drop of a set that isn't empty.

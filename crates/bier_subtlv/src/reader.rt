@@ -10,6 +10,7 @@ ghost use Rattle.bier_subtlv.specs.Views.{Becomes, info_of, parts_view};
 use arrayvec::ArrayVec;
 use byteorder::{BigEndian, ByteOrder};
 use isis_tlv::{Tlv, TlvWalk};
+use wire_base::limits::LAST_LABEL;
 use wire_base::{Bsl, InfoFault, LabelRange};
 
 /// What a BIER Info says: a subdomain, the BFR-id of the advertising router there, and its label ranges, at most one
@@ -55,7 +56,7 @@ fn known(parts: &mut PartsSoFar, bsl: Bsl, word: u32) -> Result<(), InfoFault>
     parts.seen[place] = true;
     let label = word % 0x10_0000;
     let max_si = (word / 0x100_0000) as u8;
-    if label + u32::from(max_si) <= 1_048_575 {
+    if label + u32::from(max_si) <= LAST_LABEL {
         parts.ranges.push(LabelRange { bsl, max_si, label });
     }
     Ok(())

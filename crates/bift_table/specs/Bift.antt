@@ -1,6 +1,7 @@
 -- A bit index forwarding table (RFC 8279, 6.4) as the list of the routers of its bit positions, from position 1 on, with
 -- none where a position has no row.
-use Rattle.std.specs.Prelude.{ℕ, zero, suc, ◌==◌, ◌&&◌, ◌%◌, Bool, true, false, List, [], ◌∷◌, map, filter, length, slice_get, slice_index_or, Option, Some, None, is_some}
+use Rattle.std.specs.Prelude.{ℕ, zero, suc, ◌==◌, ◌&&◌, ◌%◌, Bool, true, false, List, [], ◌∷◌, ◌++◌, if◌then◌else◌, map, filter, length, slice_get, slice_index_or, Option, Some, None, is_some}
+use Rattle.std.specs.List.{list_any}
 use Rattle.std.specs.Str.{bytes_eq}
 use Rattle.wire_base.specs.declared.view.First.{First}
 use Rattle.wire_base.specs.model.BitSet.{up_to}
@@ -31,6 +32,15 @@ mask_of table f = filter (λ p. leads_to (router_at table p) f) (up_to (length t
 -- the positions that have a row
 unfoldable pub routed_of : List (Option First) → List ℕ
 routed_of table = filter (λ p. is_some (router_at table p)) (up_to (length table))
+
+-- each router of a table once, in the order of their first positions, behind those that were seen before
+abbrev pub routers_from : List First → List (Option First) → List First
+routers_from seen [] = seen
+routers_from seen (None ∷ os) = routers_from seen os
+routers_from seen (Some f ∷ os) = routers_from (if list_any (λ g. same_router g f) seen then seen else seen ++ f ∷ []) os
+
+unfoldable pub routers_of : List (Option First) → List First
+routers_of table = routers_from [] table
 
 -- the member at the place `class` modulo the size
 abbrev pub member_at : ℕ → List First → Option First

@@ -1,42 +1,65 @@
--- How routers with their masks stand for a table.
-use Rattle.std.specs.Prelude.{ℕ, zero, suc, ◌≡◌, ◌≤◌, ◌<◌, List, [], ◌∷◌, length, Option, Some, None, true, map, option_map, if◌then◌else◌}
-use Rattle.std.specs.List.{AllByRecursion, list_any}
+-- How neighbours with their masks, and for each position the number of its neighbour, stand for a table.
+use Rattle.std.specs.Prelude.{ℕ, suc, ◌≡◌, List, [], ◌∷◌, length, map, Option, Some, None, option_map, if◌then◌else◌}
+use Rattle.std.specs.List.{AllByRecursion, slice_get}
 use Rattle.wire_base.specs.declared.view.First.{First}
-use Rattle.wire_base.specs.model.BitSet.{has_member}
+use Rattle.wire_base.specs.model.BitSet.{with_member}
 use Rattle.bift_table.specs.declared.neighbour.Neighbour.{Neighbour}
-use Rattle.bift_table.specs.Bift.{router_at, same_router, mask_of, routed_of}
+use Rattle.bift_table.specs.Bift.{same_router, mask_of, routed_of, routers_of}
 
--- the first in whose mask a position is, and its router
-abbrev pub neighbour_at : {w : ℕ} → ℕ → List (Neighbour w) → Option (Neighbour w)
-neighbour_at p [] = None
-neighbour_at p (n ∷ ns) = if has_member p n.mask then Some n else neighbour_at p ns
+-- the router of a number
+abbrev pub numbered : {w : ℕ} → List (Neighbour w) → Option ℕ → Option First
+numbered ns None = None
+numbered ns (Some i) = option_map (λ n. n.to) (slice_get ns i)
 
-abbrev pub router_in : {w : ℕ} → List (Neighbour w) → ℕ → Option First
-router_in ns p = option_map (λ n. n.to) (neighbour_at p ns)
-
--- the routers of so many positions, from p on
-abbrev pub routers_from : {w : ℕ} → ℕ → ℕ → List (Neighbour w) → List (Option First)
-routers_from zero p ns = []
-routers_from (suc more) p ns = router_in ns p ∷ routers_from more (suc p) ns
-
-unfoldable pub table_in : {w : ℕ} → ℕ → List (Neighbour w) → List (Option First)
-table_in size ns = routers_from size 1 ns
+-- the routers of the positions
+unfoldable pub table_in : {w : ℕ} → List (Neighbour w) → List (Option ℕ) → List (Option First)
+table_in ns numbers = map (numbered ns) numbers
 
 -- each mask has all positions that lead to its router
 abbrev pub AreMasks : {w : ℕ} → List (Option First) → List (Neighbour w) → Type 0
 AreMasks table ns = AllByRecursion (λ n. n.mask ≡ mask_of table n.to) ns
 
--- each has a position
-abbrev pub AreUsed : {w : ℕ} → List (Neighbour w) → Type 0
-AreUsed ns = AllByRecursion (λ n. 0 < length n.mask) ns
+-- each position has the number of its router
+abbrev pub IsNumber : {w : ℕ} → List (Neighbour w) → Option First → Option ℕ → Type 0
+IsNumber ns None None = Unit {0}
+IsNumber ns None (Some i) = ⊥
+IsNumber ns (Some f) None = ⊥
+IsNumber ns (Some f) (Some i) = option_map (λ n. n.to) (slice_get ns i) ≡ Some f
 
--- each router of the first positions is there
-abbrev pub AreKnown : {w : ℕ} → List (Option First) → ℕ → List (Neighbour w) → Type 0
-AreKnown table count ns = (p : ℕ) (f : First) → p ≤ count → router_at table p ≡ Some f → list_any (λ n. same_router n.to f) ns ≡ true
+abbrev pub AreNumbers : {w : ℕ} → List (Neighbour w) → List (Option First) → List (Option ℕ) → Type 0
+AreNumbers ns [] [] = Unit {0}
+AreNumbers ns [] (m ∷ ms) = ⊥
+AreNumbers ns (o ∷ os) [] = ⊥
+AreNumbers ns (o ∷ os) (m ∷ ms) = IsNumber ns o m × AreNumbers ns os ms
 
 -- what a table keeps
-pub record IsTable {w : ℕ} (size : ℕ) (ns : List (Neighbour w)) (firsts : List First) (positions : List ℕ) : Type 0 where
-  pub masks : AreMasks (table_in size ns) ns
-  pub used : AreUsed ns
+pub record IsTable {w : ℕ} (size : ℕ) (ns : List (Neighbour w)) (firsts : List First) (numbers : List (Option ℕ)) (positions : List ℕ) : Type 0 where
+  pub masks : AreMasks (table_in ns numbers) ns
   pub listed : firsts ≡ map (λ n. n.to) ns
-  pub routed : positions ≡ routed_of (table_in size ns)
+  pub order : firsts ≡ routers_of (table_in ns numbers)
+  pub long : length numbers ≡ size
+  pub routed : positions ≡ routed_of (table_in ns numbers)
+
+-- ---- one position more
+
+-- the number of a router's neighbour, or the next one
+abbrev pub number_in : {w : ℕ} → First → List (Neighbour w) → ℕ
+number_in to [] = 0
+number_in to (n ∷ ns) = if same_router n.to to then 0 else suc (number_in to ns)
+
+-- the neighbours once a position is given to a router
+abbrev pub given : {w : ℕ} → First → ℕ → List (Neighbour w) → List (Neighbour w)
+given to p [] = record { to = to; mask = p ∷ [] } ∷ []
+given to p (n ∷ ns) = if same_router n.to to then record { to = n.to; mask = with_member p n.mask } ∷ ns else n ∷ given to p ns
+
+abbrev pub given_to : {w : ℕ} → Option First → ℕ → List (Neighbour w) → List (Neighbour w)
+given_to None p ns = ns
+given_to (Some to) p ns = given to p ns
+
+abbrev pub number_to : {w : ℕ} → Option First → List (Neighbour w) → Option ℕ
+number_to None ns = None
+number_to (Some to) ns = Some (number_in to ns)
+
+abbrev pub routed_to : Option First → ℕ → List ℕ → List ℕ
+routed_to None p positions = positions
+routed_to (Some to) p positions = with_member p positions

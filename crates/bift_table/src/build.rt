@@ -1,76 +1,65 @@
-ghost use Rattle.std.specs.Prelude.{◌≡◌, ◌<◌, ◌+◌, ◌*◌, IfOk, length, IsTrue};
+ghost use Rattle.std.specs.Prelude.{◌≡◌, ◌≤◌, ◌<◌, ◌+◌, ◌*◌, ◌++◌, [], ◌∷◌, IfOk, OnOk, length, map, IsTrue};
 ghost use Rattle.bier_bits.specs.Sets.{is_width};
-ghost use Rattle.bift_table.specs.Bift.{router_at, leads_to, member_at, mask_of, routed_of, table_of};
-ghost use Rattle.bift_table.specs.Neighbours.{AreMasks, AreKnown, AreUsed};
+ghost use Rattle.bift_table.specs.Bift.{router_at, member_at, routed_of, routers_of, table_of};
+ghost use Rattle.bift_table.specs.Neighbours.{AreMasks, AreNumbers, given_to, number_to, routed_to};
 
-use crate::neighbour::{Neighbour, is_known, is_same_router};
+use crate::neighbour::{Neighbour, give};
 use bier_bits::BitString;
 use std::alloc::Global;
 use wire_base::{First, M, Rows};
 
-// Each router that some position leads to, once, with its mask.
-pub fn neighbours_in<const W: usize>(
-    alloc: Global,
-    lists: &[Rows<First>],
-    class: u8,
-) -> M<Rows<Neighbour<W>>>
-    requires width { IsTrue (is_width W) }
-    requires lists { length lists.now ≡ 64 * W }
-    ensures masks { IfOk result (λ ns. AreMasks (table_of lists.now class) ns) }
-    ensures known { IfOk result (λ ns. AreKnown (table_of lists.now class) (64 * W) ns) }
-    ensures used { IfOk result (λ ns. AreUsed ns) }
-{
-    let mut neighbours = Rows::new(alloc);
-    for place in 0..lists.len() {
-        if let Some(to) = router_at(lists, class, place) {
-            if !is_known(neighbours.as_slice(), to) {
-                let mask = mask_toward(lists, class, to);
-                neighbours.push(Neighbour { to, mask })?;
+// The neighbours of the positions so far, each once, for each position the number of its neighbour, and the positions that
+// have one.
+#[derive(Drop)]
+pub struct Drawn<const W: usize> {
+    pub neighbours: Vec<Neighbour<W>>,
+    pub numbers: Vec<Option<u16>>,
+    pub routed: BitString<W>,
+}
+
+impl<const W: usize> Drawn<W> {
+    // One position more, and where it leads.
+    fn push(&mut self, to: Option<First>, bp: u16) -> M<()>
+        requires width { IsTrue (is_width W) }
+        requires low { 1 ≤ bp }
+        requires high { bp ≤ 64 * W }
+        requires few { length self.old.neighbours.items < 65536 }
+        ensures neighbours { OnOk result (self.new.neighbours.items ≡ given_to to bp self.old.neighbours.items) }
+        ensures numbers { OnOk result (self.new.numbers.items ≡ self.old.numbers.items ++ number_to to self.old.neighbours.items ∷ []) }
+        ensures routed { OnOk result (self.new.routed ≡ routed_to to bp self.old.routed) }
+    {
+        match to {
+            None => {
+                self.numbers.push(None)?;
+            }
+            Some(to) => {
+                let number = give(&mut self.neighbours, to, bp)?;
+                self.numbers.push(Some(number))?;
+                self.routed.set(bp);
             }
         }
+        Ok(())
     }
-    Ok(neighbours)
 }
 
-// The positions that lead to a router.
-fn mask_toward<const W: usize>(lists: &[Rows<First>], class: u8, to: First) -> BitString<W>
+// Where the positions lead, in one pass.
+pub fn draw<const W: usize>(alloc: Global, lists: &[Rows<First>], class: u8) -> M<Drawn<W>>
     requires width { IsTrue (is_width W) }
     requires lists { length lists.now ≡ 64 * W }
-    ensures { result ≡ mask_of (table_of lists.now class) to }
+    ensures masks { IfOk result (λ d. AreMasks (table_of lists.now class) d.neighbours.items) }
+    ensures numbers { IfOk result (λ d. AreNumbers d.neighbours.items (table_of lists.now class) d.numbers.items) }
+    ensures routers { IfOk result (λ d. map (λ n. n.to) d.neighbours.items ≡ routers_of (table_of lists.now class)) }
+    ensures routed { IfOk result (λ d. d.routed ≡ routed_of (table_of lists.now class)) }
 {
-    let mut mask = BitString::zero();
+    let mut drawn = Drawn {
+        neighbours: Vec::new(alloc),
+        numbers: Vec::new(alloc),
+        routed: BitString::zero(),
+    };
     for place in 0..lists.len() {
-        if leads_to(lists, class, place, to) {
-            mask.set(place as u16 + 1);
-        }
+        drawn.push(router_at(lists, class, place), place as u16 + 1)?;
     }
-    mask
-}
-
-// The positions that have a row.
-pub fn routed_in<const W: usize>(lists: &[Rows<First>], class: u8) -> BitString<W>
-    requires width { IsTrue (is_width W) }
-    requires lists { length lists.now ≡ 64 * W }
-    ensures { result ≡ routed_of (table_of lists.now class) }
-{
-    let mut routed = BitString::zero();
-    for place in 0..lists.len() {
-        if router_at(lists, class, place).is_some() {
-            routed.set(place as u16 + 1);
-        }
-    }
-    routed
-}
-
-// Whether the position after so many leads to a router.
-fn leads_to(lists: &[Rows<First>], class: u8, place: usize, to: First) -> bool
-    requires { place < length lists.now }
-    ensures { result ≡ leads_to (router_at (table_of lists.now class) (place + 1)) to }
-{
-    match router_at(lists, class, place) {
-        None => false,
-        Some(found) => is_same_router(found, to),
-    }
+    Ok(drawn)
 }
 
 // The router of the position after so many.

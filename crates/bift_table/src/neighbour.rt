@@ -1,12 +1,12 @@
-ghost use Rattle.std.specs.Prelude.{◌≡◌, ◌≤◌, ◌*◌, IsTrue, IfOk, map, option_map};
+ghost use Rattle.std.specs.Prelude.{◌≡◌, ◌≤◌, ◌<◌, ◌*◌, IsTrue, IfOk, MatchOption, length, map, true, false};
 ghost use Rattle.std.specs.List.{list_any};
 ghost use Rattle.bier_bits.specs.Sets.{is_width};
-ghost use Rattle.bift_table.specs.Neighbours.{neighbour_at};
+ghost use Rattle.bift_table.specs.Neighbours.{given, number_in};
 ghost use Rattle.bift_table.specs.Bift.{same_router, same_end};
 
 use bier_bits::BitString;
 use std::alloc::Global;
-use wire_base::{First, M, Rows};
+use wire_base::{First, M};
 
 // A router to which bits are sent, and the positions of these bits.
 #[derive(Drop)]
@@ -16,46 +16,51 @@ pub struct Neighbour<const W: usize> {
 }
 
 // The routers of neighbours.
-pub fn routers_of<const W: usize>(alloc: Global, neighbours: &[Neighbour<W>]) -> M<Rows<First>>
-    ensures { IfOk result (λ routers. routers ≡ map (λ n. n.to) neighbours.now) }
+pub fn routers_of<const W: usize>(alloc: Global, neighbours: &[Neighbour<W>]) -> M<Vec<First>>
+    ensures { IfOk result (λ routers. routers.items ≡ map (λ n. n.to) neighbours.now) }
 {
-    let mut routers = Rows::new(alloc);
+    let mut routers = Vec::new(alloc);
     for neighbour in neighbours {
         routers.push(neighbour.to)?;
     }
     Ok(routers)
 }
 
-// Whether a router is among the neighbours.
-pub fn is_known<const W: usize>(neighbours: &[Neighbour<W>], to: First) -> bool
-    ensures { result ≡ list_any (λ n. same_router n.to to) neighbours.now }
-{
-    for neighbour in neighbours {
-        if is_same_router(neighbour.to, to) {
-            return true;
-        }
-    }
-    false
-}
-
-// The first neighbour in whose mask a position is.
-pub fn neighbour_at<const W: usize>(neighbours: &[Neighbour<W>], bp: u16) -> Option<&Neighbour<W>>
+// Gives a position to a router: to its neighbour, or to a new one where it has none yet. Answers the neighbour's number.
+pub fn give<const W: usize>(neighbours: &mut Vec<Neighbour<W>>, to: First, bp: u16) -> M<u16>
     requires width { IsTrue (is_width W) }
     requires low { 1 ≤ bp }
     requires high { bp ≤ 64 * W }
-    ensures { option_map (λ n. n.now) result ≡ neighbour_at bp neighbours.now }
+    requires few { length neighbours.old.items < 65536 }
+    ensures number { IfOk result (λ number. number ≡ number_in to neighbours.old.items) }
+    ensures given { IfOk result (λ _. neighbours.new.items ≡ given to bp neighbours.old.items) }
 {
-    for neighbour in neighbours {
-        if neighbour.mask.has(bp) {
-            return Some(neighbour);
+    if let Some(number) = find_number(neighbours, to) {
+        neighbours[number].mask.set(bp);
+        return Ok(number as u16);
+    }
+    let number = neighbours.len() as u16;
+    let mut mask = BitString::zero();
+    mask.set(bp);
+    neighbours.push(Neighbour { to, mask })?;
+    Ok(number)
+}
+
+// The number of a router's neighbour, where it has one.
+fn find_number<const W: usize>(neighbours: &[Neighbour<W>], to: First) -> Option<usize>
+    ensures { MatchOption result (list_any (λ n. same_router n.to to) neighbours.now ≡ false) (λ number. (list_any (λ n. same_router n.to to) neighbours.now ≡ true) × (number ≡ number_in to neighbours.now) × (number < length neighbours.now)) }
+{
+    for number in 0..neighbours.len() {
+        if is_same_router(neighbours[number].to, to) {
+            return Some(number);
         }
     }
     None
 }
 
-/// Whether two entries of rows name one router, reached the same way: the system is the same, and the end where it is
-/// reached directly, or a tunnel leads there in both.
-pub fn is_same_router(a: First, b: First) -> bool
+// Whether two entries of rows name one router, reached the same way: the system is the same, and the end where it is
+// reached directly, or a tunnel leads there in both.
+fn is_same_router(a: First, b: First) -> bool
     ensures { result ≡ same_router a b }
 {
     a.system == b.system && is_same_end(a.direct, b.direct)

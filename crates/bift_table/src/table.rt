@@ -1,48 +1,52 @@
 ghost use Rattle.std.specs.Prelude.{◌≡◌, ◌↔◌, ℕ, ◌<◌, ◌≤◌, ◌+◌, ◌-◌, ◌*◌, [], slice_index_or, false, length, IsTrue, true, None, Some, IfOk, IfSome, MatchOption, is_some};
-ghost use Rattle.std.specs.List.{list_any};
+ghost use Rattle.std.specs.List.{slice_get};
 ghost use Rattle.wire_base.specs.declared.view.First.{First};
 ghost use Rattle.wire_base.specs.model.BitSet.{has_member, IsWithin, intersection};
 ghost use Rattle.bier_bits.specs.Sets.{is_width};
-ghost use Rattle.bift_table.specs.Bift.{router_at, member_at, same_router, mask_of, routed_of, table_of};
+ghost use Rattle.bift_table.specs.Bift.{router_at, member_at, same_router, mask_of, routed_of, routers_of, table_of};
 
-use crate::build::{neighbours_in, routed_in};
-use crate::neighbour::{Neighbour, neighbour_at, routers_of};
+use crate::build::{Drawn, draw};
+use crate::neighbour::{Neighbour, routers_of};
 use bier_bits::BitString;
 use std::alloc::Global;
 use std::marker::Model;
 use std::sync::ledger::Ledger;
-use wire_base::{First, M, RowSet, Rows, Steps};
+use wire_base::{First, M, RowSet, Steps};
 
 /// A bit index forwarding table of 64 W bit positions (RFC 8279, 6.4), seen as the list of the routers of its positions,
 /// from position 1 on: None where a position has no row. W is 1, 2, 4, 8, 16, 32 or 64.
 ///
-/// It holds each router once, with the mask of the positions that lead to it, and the routers in a list of their own, which
-/// a hop can hold on to for as long as the table lasts.
+/// It holds each router once, as a neighbour with the mask of the positions that lead to it, and for each position the
+/// number of its neighbour, so that a row is read in one step. The routers also stand in a list of their own, which a hop
+/// can hold on to for as long as the table lasts.
 #[derive(Drop)]
 pub struct Table<const W: usize> {
-    neighbours: Rows<Neighbour<W>>,
-    routers: Rows<First>,
+    neighbours: Vec<Neighbour<W>>,
+    routers: Vec<First>,
+    numbers: Vec<Option<u16>>,
     routed: BitString<W>,
 }
 
 impl<const W: usize> Model for Table<W> {
     ghost use Rattle.std.specs.Prelude.{List, Option, ◌*◌};
+    ghost use Rattle.std.specs.List.{slice_get};
     ghost use Rattle.wire_base.specs.declared.view.First.{First};
     ghost use Rattle.bift_table.specs.Neighbours.{IsTable, table_in};
 
     ghost Value = { List (Option First) };
 
-    ghost view = { λ t. table_in (64 * W) t.neighbours };
+    ghost view = { λ t. table_in t.neighbours.items t.numbers.items };
 
-    ghost invariant = { λ t. IsTable (64 * W) t.neighbours t.routers t.routed };
+    ghost invariant = { λ t. IsTable (64 * W) t.neighbours.items t.routers.items t.numbers.items t.routed };
 }
 
-/// A row of a table: the router to which a position leads, and all positions that lead to it (the forwarding bit mask of
-/// RFC 8279, 6.4).
+/// A row of a table: the router to which a position leads, all positions that lead to it (the forwarding bit mask of
+/// RFC 8279, 6.4), and the router's number among those of the table, from 0.
 #[derive(Clone, Copy)]
 pub struct Row<'t, const W: usize> {
     pub mask: &'t BitString<W>,
     pub to: &'t First,
+    pub number: u16,
 }
 
 impl<const W: usize> Table<W> {
@@ -55,13 +59,16 @@ impl<const W: usize> Table<W> {
         ensures table { IfOk result (λ table. table ≡ table_of rows.now.bits class) }
         ensures positions { IfOk result (λ table. (p : ℕ) → 1 ≤ p → router_at table p ≡ member_at class (slice_index_or rows.now.bits (p - 1) [])) }
     {
-        let lists = rows.bits.as_slice();
-        let neighbours = neighbours_in(alloc, lists, class)?;
-        let routers = routers_of(alloc, neighbours.as_slice())?;
-        let routed = routed_in(lists, class);
+        let Drawn {
+            neighbours,
+            numbers,
+            routed,
+        } = draw(alloc, rows.bits.as_slice(), class)?;
+        let routers = routers_of(alloc, &neighbours)?;
         Ok(Table {
             neighbours,
             routers,
+            numbers,
             routed,
         })
     }
@@ -74,24 +81,26 @@ impl<const W: usize> Table<W> {
         requires high { bp ≤ 64 * W }
         ensures row { MatchOption result (router_at self.now bp ≡ None) (λ r. (router_at self.now bp ≡ Some r.to.now) × (r.mask.now ≡ mask_of self.now r.to.now)) }
         ensures routed { is_some result ≡ has_member bp (routed_of self.now) }
+        ensures number { IfSome result (λ r. slice_get (routers_of self.now) r.number ≡ Some r.to.now) }
         ensures has { IfSome result (λ r. has_member bp r.mask.now ≡ true) }
         ensures disjoint { IfSome result (λ r. (other : First) → same_router r.to.now other ≡ false → intersection r.mask.now (mask_of self.now other) ≡ []) }
         ensures steps { steps.new ≡ steps.old + 1 }
     {
         steps.tick();
-        let neighbour = neighbour_at(self.neighbours.as_slice(), bp)?;
+        let number = self.numbers[usize::from(bp - 1)]?;
+        let neighbour = self.neighbours.get(usize::from(number))?;
         Some(Row {
             mask: &neighbour.mask,
             to: &neighbour.to,
+            number,
         })
     }
 
-    /// The routers to which positions lead.
+    /// The routers to which positions lead, each once, in the order of their first positions.
     pub fn routers(&self) -> &[First]
-        ensures all { (p : ℕ) (f : First) → router_at self.now p ≡ Some f → list_any (λ g. same_router g f) result.now ≡ true }
-        ensures each { (f : First) → list_any (λ g. same_router g f) result.now ≡ true → (p : ℕ) × (router_at self.now p ≡ Some f) }
+        ensures { result.now ≡ routers_of self.now }
     {
-        self.routers.as_slice()
+        &self.routers
     }
 
     /// The positions that have a row: those that are in the mask of some router. They are in ascending order, from 1 to 64 W.

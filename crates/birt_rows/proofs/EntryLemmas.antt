@@ -7,9 +7,8 @@ use Rattle.wire_base.specs.model.Walk.{dist}
 use Rattle.wire_base.specs.model.Supporting.{IsFirst}
 use Rattle.route_laws.specs.OnWay.{IsOnWay}
 use Rattle.route_laws.proofs.DescentLemmas.{dist-end, TightWay-nearer, TightWay-within}
-use Rattle.birt_rows.specs.Forward.{ForwardWay}
-use Rattle.birt_rows.specs.Entries.{nowhere}
-use Rattle.birt_rows.proofs.ForwardLemmas.{forward-way, way-on, on-way, tight-way, ends-apart, way-last}
+use Rattle.path_tree.specs.Forward.{ForwardWay, nowhere}
+use Rattle.path_tree.proofs.ForwardLemmas.{forward-way, way-on, on-way, tight-way, ends-apart, way-last}
 
 -- x supports, is reached from u over nodes that don't, and shortest walks lead on from it to d
 pub record IsThrough (g : List ViewNode) (c : ℕ → Bool) (u d x : ℕ) : Type 0 where

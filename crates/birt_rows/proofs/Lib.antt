@@ -1,5 +1,3 @@
-mod ForwardLemmas
 mod EntryLemmas
-mod SearchLemmas
 mod OwnerLemmas
 mod RowLemmas

@@ -15,10 +15,10 @@ use Rattle.wire_base.specs.model.Choice.{candidates, first_at, toward}
 use Rattle.route_laws.proofs.TightLemmas.{both, both-true, Contains-cons}
 use Rattle.route_laws.proofs.ChoiceLemmas.{filter-from, range-within, meets-first, way-meets, TightWay-short}
 use Rattle.birt_rows.specs.declared.entries.Entry.{Entry}
-use Rattle.birt_rows.specs.Forward.{ForwardWay}
-use Rattle.birt_rows.specs.Entries.{IsEntry, AreEntries, nowhere}
+use Rattle.path_tree.specs.Forward.{ForwardWay, nowhere}
+use Rattle.birt_rows.specs.Entries.{IsEntry, AreEntries}
 use Rattle.birt_rows.specs.Rows.{beyond, row_of_owner}
-use Rattle.birt_rows.proofs.ForwardLemmas.{way-same}
+use Rattle.path_tree.proofs.ForwardLemmas.{way-same}
 use Rattle.birt_rows.proofs.EntryLemmas.{first-through, through-first}
 
 -- which nodes support a triple, as a list

@@ -4,10 +4,7 @@ use Rattle.wire_base.specs.declared.conf.End.{End}
 use Rattle.wire_base.specs.declared.view.ViewNode.{ViewNode}
 use Rattle.wire_base.specs.model.Choice.{first_at}
 use Rattle.birt_rows.specs.declared.entries.Entry.{Entry}
-use Rattle.birt_rows.specs.Forward.{ForwardWay}
-
-abbrev pub nowhere : ℕ → Bool
-nowhere x = false
+use Rattle.path_tree.specs.Forward.{ForwardWay, nowhere}
 
 -- an entry is of the node x, and tells for each node whether a shortest walk leads there over x
 pub record IsEntry (ends : List End) (g : List ViewNode) (u x : ℕ) (entry : Entry) : Type 0 where

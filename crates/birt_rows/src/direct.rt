@@ -5,7 +5,6 @@ ghost use Rattle.wire_base.specs.model.Graph.{edges_of};
 ghost use Rattle.wire_base.specs.model.Choice.{end_toward, first_at, is_direct, is_length, is_system};
 ghost use Rattle.path_tree.specs.Ways.{AreDistsFrom};
 
-use crate::forward::edges_of;
 use wire_base::{End, First, SystemId, ViewEdge, ViewNode};
 
 /// The node's system, and the place of the end where it is reached directly from `u`.
@@ -38,6 +37,13 @@ fn is_direct(nodes: &[ViewNode], dist: &[Option<u64>], u: u16, node: u16) -> boo
     ensures { result ≡ is_direct nodes.now u node }
 {
     has_edge(edges_of(nodes, u), node, length_at(dist, node))
+}
+
+fn edges_of(nodes: &[ViewNode], node: u16) -> &[ViewEdge]
+    requires from { node < length nodes.now }
+    ensures { result.now ≡ edges_of nodes.now node }
+{
+    nodes[node as usize].edges.as_slice()
 }
 
 fn length_at(dist: &[Option<u64>], node: u16) -> Option<u64>

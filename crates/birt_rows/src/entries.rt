@@ -6,7 +6,7 @@ ghost use Rattle.path_tree.specs.Ways.{AreDistsFrom};
 ghost use Rattle.birt_rows.specs.Entries.{AreEntries, IsEntry};
 
 use crate::direct::first_of;
-use crate::forward::reach;
+use path_tree::reach;
 use std::alloc::Global;
 use wire_base::{End, First, M, Rows, ViewNode};
 

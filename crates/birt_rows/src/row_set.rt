@@ -7,9 +7,8 @@ ghost use Rattle.birt_rows.specs.Owner.{owner_among};
 ghost use Rattle.birt_rows.specs.Rows.{beyond, row_of_owner};
 
 use crate::entries::{Entry, all_entries};
-use crate::forward::reach;
 use crate::owner::{Found, owner_among, owners};
-use path_tree::distances_from;
+use path_tree::{distances_from, reach};
 use std::alloc::Global;
 use wire_base::{First, M, RouterConf, RowSet, Rows, Triple, View, ViewNode};
 

@@ -13,6 +13,7 @@ use Rattle.std.specs.List.{list_any, position_from}
 use Rattle.std.specs.Map.{lookup, KeepsOthers}
 use Rattle.std.specs.Ordering.{eq_by_cmp}
 use Rattle.std.specs.Str.{bytes_eq}
+use Rattle.wire_base.specs.declared.limits.TheConstants.{MOST_ROUTERS}
 use Rattle.wire_base.specs.declared.addresses.SystemId.{SystemId}
 use Rattle.wire_base.specs.declared.addresses.Ipv4.{Ipv4}
 use Rattle.domain_conf.specs.RouterIndex.{AreIndexed, found_at, system_cmp, prefix_cmp}
@@ -91,7 +92,7 @@ indexed_none entries places systems prefixes no_entry no_place no_system no_pref
     }
 
 pub indexed_more : (entries grown : List RouterEntry) (e : RouterEntry) (places more_places : BTreeMap (Vec ℕ Global) ℕ) (systems more_systems : BTreeSet SystemId) (prefixes more_prefixes : BTreeSet Ipv4)
-    → AreIndexed entries places systems prefixes → length entries < 250 → list_any (has_name e.name) entries ≡ false → grown ≡ entries ++ e ∷ []
+    → AreIndexed entries places systems prefixes → length entries < MOST_ROUTERS → list_any (has_name e.name) entries ≡ false → grown ≡ entries ++ e ∷ []
     → ((octets : List ℕ) → found_at more_places octets ≡ cond (bytes_eq e.name octets) (Some (length entries)) (found_at places octets))
     → ((s : SystemId) → sorted.contains system_cmp more_systems s ≡ cond (bytes_eq e.system.0 s.0) true (sorted.contains system_cmp systems s))
     → ((p : Ipv4) → sorted.contains prefix_cmp more_prefixes p ≡ cond (bytes_eq e.prefix.0 p.0) true (sorted.contains prefix_cmp prefixes p))

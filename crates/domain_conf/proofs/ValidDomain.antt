@@ -7,6 +7,7 @@ use Rattle.std.specs.List.{AllByRecursion, filter_map, cons_option}
 use Rattle.std.specs.Prelude.{slice_get, codes}
 use Rattle.std.specs.Str.{bytes_eq}
 use Rattle.toml.specs.Data.{Data}
+use Rattle.wire_base.specs.declared.limits.TheConstants.{MOST_ROUTERS, MOST_SUB_OCTETS, MOST_TABLE_ROWS}
 use Rattle.wire_base.specs.declared.addresses.SystemId.{SystemId}
 use Rattle.wire_base.specs.declared.conf.End.{End}
 use Rattle.wire_base.specs.declared.conf.Kind.{Kind}
@@ -40,10 +41,10 @@ pub record AreEntries (e : Entries) : Type 0 where
   pub kinds : AreSubdomains e.kinds
   pub few_kinds : length e.kinds ≤ 8
   pub rows : AreRows e.kinds e.table
-  pub few_rows : length e.table ≤ 2048
+  pub few_rows : length e.table ≤ MOST_TABLE_ROWS
   pub routers : AreRouters e.routers
   pub some : 1 ≤ length e.routers
-  pub few : length e.routers ≤ 250
+  pub few : length e.routers ≤ MOST_ROUTERS
   pub biers : AreBiers e.kinds e.biers
   pub labels : AreLabels e.kinds e.labels
   pub links : AreLinks (length e.routers) e.links
@@ -157,7 +158,7 @@ module _ (level : Level) (area : List ℕ) (area_is : IsArea area) (e : Entries)
   conf_sound c m small =
       let h = all_in IsRouterEntry e.routers m.entry e_is.routers.each (get_in e.routers m.place m.entry m.there) in
       let s = subst (λ (c : RouterConf). is_too_large c ≡ false) m.is small in
-      let o = or_parts (ltb 64 (length (ends_of e.routers e.links m.place))) (ltb 245 (sub_octets (subs_of e.biers e.labels m.place))) s in
+      let o = or_parts (ltb 64 (length (ends_of e.routers e.links m.place))) (ltb MOST_SUB_OCTETS (sub_octets (subs_of e.biers e.labels m.place))) s in
       subst IsSound (sym m.is) (record {
         area = area_is;
         name = h.name;
@@ -167,7 +168,7 @@ module _ (level : Level) (area : List ℕ) (area_is : IsArea area) (e : Entries)
         subs = subs_sound e.kinds e.biers e.labels e_is.kinds e_is.biers e_is.labels m.place;
         subdomains = subs_apart e.kinds e.biers e.labels e_is.kinds e_is.biers e_is.labels m.place;
         labels = labels_apart e.kinds e.biers e.labels e_is.kinds e_is.biers e_is.labels m.place;
-        room = ltb-false 245 (sub_octets (subs_of e.biers e.labels m.place)) o.1;
+        room = ltb-false MOST_SUB_OCTETS (sub_octets (subs_of e.biers e.labels m.place)) o.1;
         kinds = all_from (λ k. k.sd < 256) e.kinds (λ k i. let n = all_in (λ k. k.sd ≤ 255) e.kinds k e_is.kinds.each i in omega (arith, n));
         kinds_once = e_is.kinds.once;
         rows = e_is.rows.each;
@@ -222,10 +223,10 @@ module _ (level : Level) (area : List ℕ) (area_is : IsArea area) (e : Entries)
   confs_valid small =
       record {
         some = subst (λ (n : ℕ). 1 ≤ n) (sym (length_confs 0 e.routers)) e_is.some;
-        few = subst (λ (n : ℕ). n ≤ 250) (sym (length_confs 0 e.routers)) e_is.few;
+        few = subst (λ (n : ℕ). n ≤ MOST_ROUTERS) (sym (length_confs 0 e.routers)) e_is.few;
         sound = all_from IsSound confs (λ c i. conf_sound c (among c i) (all_in (λ c. is_too_large c ≡ false) confs c small i));
         few_kinds = all_from (λ r. length r.kinds ≤ 8) confs (λ c i. let m = among c i in subst (λ (c : RouterConf). length c.kinds ≤ 8) (sym m.is) e_is.few_kinds);
-        few_rows = all_from (λ r. length r.table ≤ 2048) confs (λ c i. let m = among c i in subst (λ (c : RouterConf). length c.table ≤ 2048) (sym m.is) e_is.few_rows);
+        few_rows = all_from (λ r. length r.table ≤ MOST_TABLE_ROWS) confs (λ c i. let m = among c i in subst (λ (c : RouterConf). length c.table ≤ MOST_TABLE_ROWS) (sym m.is) e_is.few_rows);
         names = confs_apart of_name same_name (λ i j r q h. bytes_turned r.name q.name ∙ h) 0 e.routers e_is.routers.names;
         systems = confs_apart of_system same_system (λ i j r q h. bytes_turned r.system.0 q.system.0 ∙ h) 0 e.routers e_is.routers.systems;
         prefixes = confs_apart of_prefix same_prefix (λ i j r q h. bytes_turned r.prefix.0 q.prefix.0 ∙ h) 0 e.routers e_is.routers.prefixes;

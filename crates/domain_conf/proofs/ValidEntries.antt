@@ -4,6 +4,7 @@ use Rattle.std.proofs.lemmas.Bool.{or_parts, and_parts, ltb-false, not-false, eq
 use Rattle.std.specs.List.{AllByRecursion, list_any}
 use Rattle.std.specs.Prelude.{codes, is_none}
 use Rattle.toml.specs.Data.{Data, get, as_str, as_integer, as_bool}
+use Rattle.wire_base.specs.declared.limits.TheConstants.{LAST_LABEL}
 use Rattle.wire_base.specs.declared.addresses.Mac.{Mac}
 use Rattle.wire_base.specs.declared.conf.SubKind.{SubKind}
 use Rattle.wire_base.specs.declared.conf.TableRow.{TableRow}
@@ -72,14 +73,14 @@ row_passed at kinds earlier d row e =
     let a = bind_ok (known_sd kinds at d) _ row p.2 in
     let b = bind_ok (bsl_key at d) _ row a.2 in
     let c = bind_ok (number 0 255 at (codes "si") d) _ row b.2 in
-    let f = bind_ok (number 1 1048575 at (codes "bift") d) _ row c.2 in
+    let f = bind_ok (number 1 LAST_LABEL at (codes "bift") d) _ row c.2 in
     let made : TableRow = record { triple = record { sd = a.0; bsl = b.0; si = c.0 }; bift = f.0 } in
     let x = passed (not (is_configured (kind_of kinds a.0))) (fault.Reference (at (codes "sd"))) _ row f.2 in
     let y = passed (list_any (same_row made) earlier) (fault.Duplicate (at (codes "si"))) _ row x.1 in
     let z = passed (list_any (same_bift made) earlier) (fault.Duplicate (at (codes "bift"))) _ row y.1 in
     let sd = sd_ok kinds at d a.0 a.1 in
     let si = number_ok 0 255 at (codes "si") d c.0 c.1 in
-    let bift = number_ok 1 1048575 at (codes "bift") d f.0 f.1 in
+    let bift = number_ok 1 LAST_LABEL at (codes "bift") d f.0 f.1 in
     subst (RowPassed kinds earlier) (ok_is made row z.1) (record {
       fits = record { sd = omega (arith, sd.0); si = omega (arith, si.1); some = bift.0; last = bift.1 };
       kind = not-false (is_configured (kind_of kinds a.0)) x.0;
@@ -156,18 +157,18 @@ labels_passed at kinds routers biers earlier d l e =
     let s = bind_ok (known_sd kinds at d) _ l r.2 in
     let b = bind_ok (bsl_key at d) _ l s.2 in
     let m = bind_ok (number 0 255 at (codes "max_si") d) _ l b.2 in
-    let n = bind_ok (number 16 1048575 at (codes "label") d) _ l m.2 in
+    let n = bind_ok (number 16 LAST_LABEL at (codes "label") d) _ l m.2 in
     let range : LabelRange = record { bsl = b.0; max_si = m.0; label = n.0 } in
     let made : LabelsEntry = record { router = r.0; sd = s.0; range = range } in
     let x = passed (not (takes_labels kinds biers r.0 s.0)) (fault.Reference (at (codes "sd"))) _ l n.2 in
     let y = passed (list_any (same_labels made) earlier) (fault.Duplicate (at (codes "bsl"))) _ l x.1 in
-    let z = passed (ltb 1048575 (n.0 + m.0) || list_any (takes_label made) earlier) (fault.Labels (at (codes "label"))) _ l y.1 in
-    let w = or_parts (ltb 1048575 (n.0 + m.0)) (list_any (takes_label made) earlier) z.0 in
+    let z = passed (ltb LAST_LABEL (n.0 + m.0) || list_any (takes_label made) earlier) (fault.Labels (at (codes "label"))) _ l y.1 in
+    let w = or_parts (ltb LAST_LABEL (n.0 + m.0)) (list_any (takes_label made) earlier) z.0 in
     let max_si = number_ok 0 255 at (codes "max_si") d m.0 m.1 in
-    let label = number_ok 16 1048575 at (codes "label") d n.0 n.1 in
+    let label = number_ok 16 LAST_LABEL at (codes "label") d n.0 n.1 in
     let may = and_parts (list_any (is_member r.0 s.0) biers) (is_mpls (kind_of kinds s.0)) (not-false (takes_labels kinds biers r.0 s.0) x.0) in
     subst (LabelsPassed kinds earlier) (ok_is made l z.1) (record {
-      range = record { max_si = omega (arith, max_si.1); first = label.0; last = ltb-false 1048575 (n.0 + m.0) w.0 };
+      range = record { max_si = omega (arith, max_si.1); first = label.0; last = ltb-false LAST_LABEL (n.0 + m.0) w.0 };
       kind = may.1;
       new = y.0;
       free = w.1;

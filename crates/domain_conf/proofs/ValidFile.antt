@@ -4,6 +4,7 @@ use Rattle.std.proofs.lemmas.Bool.{ltb-false, eqb-false}
 use Rattle.std.specs.List.{AllByRecursion}
 use Rattle.std.specs.Prelude.{codes}
 use Rattle.toml.specs.Data.{Data, Members, get_member, as_str, as_integer}
+use Rattle.wire_base.specs.declared.limits.TheConstants.{DOMAIN_FILE_LIMIT, MOST_BIER_ENTRIES, MOST_LABEL_ENTRIES, MOST_LINK_ENTRIES, MOST_ROUTERS, MOST_TABLE_ROWS}
 use Rattle.wire_base.specs.declared.conf.Level.{Level}
 use Rattle.wire_base.specs.declared.conf.Level.TheVariants.{Two}
 use Rattle.wire_base.specs.model.Configuration.{DomainConf, IsValid, IsArea}
@@ -47,27 +48,27 @@ area_is (Some d) area e = let p = field_ok as_str area_in (codes "area") (Some d
 -- What the arrays have: how many entries each has at most, and that there is a router.
 pub record AreArrays (a : Arrays) : Type 0 where
   pub subdomains : length a.subdomains ≤ 8
-  pub rows : length a.rows ≤ 2048
+  pub rows : length a.rows ≤ MOST_TABLE_ROWS
   pub some : 1 ≤ length a.routers
-  pub routers : length a.routers ≤ 250
+  pub routers : length a.routers ≤ MOST_ROUTERS
 
 pub arrays_are : (top : Members) (a : Arrays) → arrays_of top ≡ Ok a → AreArrays a
 unfolding arrays_of
 arrays_are top a e =
     let s = bind_ok (array_of (codes "subdomain") 8 top) _ a e in
-    let r = bind_ok (array_of (codes "row") 2048 top) _ a s.2 in
-    let q = bind_ok (array_of (codes "router") 250 top) _ a r.2 in
+    let r = bind_ok (array_of (codes "row") MOST_TABLE_ROWS top) _ a s.2 in
+    let q = bind_ok (array_of (codes "router") MOST_ROUTERS top) _ a r.2 in
     let some = passed (eqb (length q.0) 0) (fault.Limit (codes "router")) _ a q.2 in
-    let b = bind_ok (array_of (codes "bier") 2000 top) _ a some.1 in
-    let l = bind_ok (array_of (codes "labels") 14000 top) _ a b.2 in
-    let k = bind_ok (array_of (codes "link") 8000 top) _ a l.2 in
+    let b = bind_ok (array_of (codes "bier") MOST_BIER_ENTRIES top) _ a some.1 in
+    let l = bind_ok (array_of (codes "labels") MOST_LABEL_ENTRIES top) _ a b.2 in
+    let k = bind_ok (array_of (codes "link") MOST_LINK_ENTRIES top) _ a l.2 in
     let made : Arrays = record { subdomains = s.0; rows = r.0; routers = q.0; biers = b.0; labels = l.0; links = k.0 } in
     let none = eqb-false (length q.0) 0 some.0 in
     subst AreArrays (ok_is made a k.2) (record {
       subdomains = few_tables (codes "subdomain") 8 (get_member (codes "subdomain") top) s.0 s.1;
-      rows = few_tables (codes "row") 2048 (get_member (codes "row") top) r.0 r.1;
+      rows = few_tables (codes "row") MOST_TABLE_ROWS (get_member (codes "row") top) r.0 r.1;
       some = omega (arith, none);
-      routers = few_tables (codes "router") 250 (get_member (codes "router") top) q.0 q.1;
+      routers = few_tables (codes "router") MOST_ROUTERS (get_member (codes "router") top) q.0 q.1;
     })
 
 pub entries_are : (a : Arrays) (e : Entries) → AreArrays a → entries_of a ≡ Ok e → AreEntries e
@@ -103,7 +104,7 @@ few_subs level area top a e p q r = confs_few level area (area_is (get_member (c
 -- The domain of a file is valid.
 pub domain_is_valid : (bytes : List ℕ) (d : DomainConf) → domain_of bytes ≡ Ok d → IsValid d
 unfolding domain_of domain_of_table
-domain_is_valid bytes d e = by (ltb 4194304 (length bytes)) e
+domain_is_valid bytes d e = by (ltb DOMAIN_FILE_LIMIT (length bytes)) e
   where
     table_valid : (top : Members) → domain_of_table top ≡ Ok d → IsValid d
     table_valid top e =

@@ -1,6 +1,7 @@
 -- The configurations of the routers, from the entries of the arrays.
 use Rattle.std.specs.Prelude.{ℕ, ◌+◌, ◌≤◌, Bool, ◌==◌, ◌&&◌, ◌||◌, nat_lt, List, [], ◌∷◌, length, map, filter, slice_get, Option, Some, None, Result, Ok, Err, codes, if◌then◌else◌}
 use Rattle.std.specs.List.{AllByRecursion, filter_map}
+use Rattle.wire_base.specs.declared.limits.TheConstants.{MOST_ENDS, MOST_SUB_OCTETS}
 use Rattle.wire_base.specs.declared.addresses.SystemId.{SystemId}
 use Rattle.wire_base.specs.declared.conf.LabelRange.{LabelRange}
 use Rattle.wire_base.specs.declared.conf.OwnSub.{OwnSub}
@@ -90,7 +91,7 @@ pub record HasFewSubs (r : RouterConf) : Type 0 where
 
 -- a router has at most 64 links, and its subdomains have room in its own link state PDU
 abbrev pub is_too_large : RouterConf → Bool
-is_too_large r = nat_lt 64 (length r.ends) || nat_lt 245 (sub_octets r.subs)
+is_too_large r = nat_lt MOST_ENDS (length r.ends) || nat_lt MOST_SUB_OCTETS (sub_octets r.subs)
 
 -- no router from place i on is too large
 unfoldable pub within_limits : ℕ → List RouterConf → Result (Unit {0}) ConfFault

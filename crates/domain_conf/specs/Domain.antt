@@ -3,6 +3,7 @@ use Rattle.std.specs.Prelude.{ℕ, ◌==◌, nat_lt, List, [], ◌∷◌, length
 use Rattle.std.specs.Str.Lossy.{utf8_valid_len}
 use Rattle.toml.specs.Data.{Data, Members, get_member, as_integer, as_str}
 use Rattle.toml.specs.Parse.{parse_document}
+use Rattle.wire_base.specs.declared.limits.TheConstants.{DOMAIN_FILE_LIMIT, MOST_BIER_ENTRIES, MOST_LABEL_ENTRIES, MOST_LINK_ENTRIES, MOST_ROUTERS, MOST_TABLE_ROWS}
 use Rattle.wire_base.specs.declared.conf.Level.{Level}
 use Rattle.wire_base.specs.declared.conf.Level.TheVariants.{Two}
 use Rattle.wire_base.specs.model.Configuration.{DomainConf}
@@ -52,12 +53,12 @@ array_of name most top = array_at name most (get_member name top)
 unfoldable pub arrays_of : Members → Result Arrays ConfFault
 arrays_of top = do
   subdomains ← array_of (codes "subdomain") 8 top
-  rows ← array_of (codes "row") 2048 top
-  routers ← array_of (codes "router") 250 top
+  rows ← array_of (codes "row") MOST_TABLE_ROWS top
+  routers ← array_of (codes "router") MOST_ROUTERS top
   _ ← refuse_if (length routers == 0) (fault.Limit (codes "router"))
-  biers ← array_of (codes "bier") 2000 top
-  labels ← array_of (codes "labels") 14000 top
-  links ← array_of (codes "link") 8000 top
+  biers ← array_of (codes "bier") MOST_BIER_ENTRIES top
+  labels ← array_of (codes "labels") MOST_LABEL_ENTRIES top
+  links ← array_of (codes "link") MOST_LINK_ENTRIES top
   Ok (record { subdomains = subdomains; rows = rows; routers = routers; biers = biers; labels = labels; links = links })
 
 -- the entries, array by array
@@ -92,5 +93,5 @@ document_read bytes = or_fault fault.Toml (document_of bytes)
 -- those of the top keys, then those of each array as a whole, then entry by entry, and last those of whole routers.
 unfoldable pub domain_of : List ℕ → Result DomainConf ConfFault
 domain_of bytes =
-    if nat_lt 4194304 (length bytes) then Err (fault.Limit (45 ∷ [])) else
+    if nat_lt DOMAIN_FILE_LIMIT (length bytes) then Err (fault.Limit (45 ∷ [])) else
     (document_read bytes >>= domain_of_table)

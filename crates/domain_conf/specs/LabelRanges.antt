@@ -2,6 +2,7 @@
 use Rattle.std.specs.Prelude.{ℕ, ◌+◌, Bool, not, ◌==◌, ◌&&◌, ◌||◌, nat_lt, List, [], ◌∷◌, Result, Ok, Err, codes}
 use Rattle.std.specs.List.{list_any}
 use Rattle.toml.specs.Data.{Data}
+use Rattle.wire_base.specs.declared.limits.TheConstants.{LAST_LABEL}
 use Rattle.wire_base.specs.declared.conf.LabelRange.{LabelRange}
 use Rattle.wire_base.specs.declared.conf.SubKind.{SubKind}
 use Rattle.wire_base.specs.model.Configuration.{same_length, share_label}
@@ -35,7 +36,7 @@ abbrev pub new_labels : (List ℕ → List ℕ) → List SubKind → List BierEn
 new_labels at kinds biers earlier l = do
   _ ← refuse_if (not (takes_labels kinds biers l.router l.sd)) (fault.Reference (at (codes "sd")))
   _ ← refuse_if (list_any (same_labels l) earlier) (fault.Duplicate (at (codes "bsl")))
-  _ ← refuse_if (nat_lt 1048575 (l.range.label + l.range.max_si) || list_any (takes_label l) earlier) (fault.Labels (at (codes "label")))
+  _ ← refuse_if (nat_lt LAST_LABEL (l.range.label + l.range.max_si) || list_any (takes_label l) earlier) (fault.Labels (at (codes "label")))
   Ok l
 
 abbrev pub labels_in : (List ℕ → List ℕ) → List SubKind → List RouterEntry → List BierEntry → List LabelsEntry → Data → Result LabelsEntry ConfFault
@@ -45,7 +46,7 @@ labels_in at kinds routers biers earlier d = do
   sd ← known_sd kinds at d
   bsl ← bsl_key at d
   max_si ← number 0 255 at (codes "max_si") d
-  label ← number 16 1048575 at (codes "label") d
+  label ← number 16 LAST_LABEL at (codes "label") d
   new_labels at kinds biers earlier (record { router = router; sd = sd; range = record { bsl = bsl; max_si = max_si; label = label } })
 
 unfoldable pub labels_at : List SubKind → List RouterEntry → List BierEntry → List LabelsEntry → ℕ → Data → Result LabelsEntry ConfFault

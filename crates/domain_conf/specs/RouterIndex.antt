@@ -7,6 +7,7 @@ use Rattle.std.specs.BTreeSet.{BTreeSet, contains}
 use Rattle.std.specs.Cmp.Lexicographic.{slice_cmp}
 use Rattle.std.specs.List.{list_any}
 use Rattle.std.specs.Ordering.{nat_cmp}
+use Rattle.wire_base.specs.declared.limits.TheConstants.{MOST_ROUTERS}
 use Rattle.wire_base.specs.declared.addresses.SystemId.{SystemId}
 use Rattle.wire_base.specs.declared.addresses.Ipv4.{Ipv4}
 use Rattle.domain_conf.specs.declared.routers.RouterEntry.{RouterEntry}
@@ -24,7 +25,7 @@ prefix_cmp p q = slice_cmp nat_cmp p.0 q.0
 
 -- the map has the place of each name, and the sets have the systems and the prefixes
 pub record AreIndexed (entries : List RouterEntry) (places : BTreeMap (Vec ℕ Global) ℕ) (systems : BTreeSet SystemId) (prefixes : BTreeSet Ipv4) : Type 0 where
-  pub few : length entries ≤ 250
+  pub few : length entries ≤ MOST_ROUTERS
   pub places_are : (name : List ℕ) → found_at places name ≡ place_of entries name
   pub systems_are : (s : SystemId) → contains system_cmp systems s ≡ list_any (has_system s.0) entries
   pub prefixes_are : (p : Ipv4) → contains prefix_cmp prefixes p ≡ list_any (has_prefix p.0) entries

@@ -2,6 +2,7 @@
 use Rattle.std.specs.Prelude.{ℕ, not, List, [], ◌∷◌, Result, Ok, Err, codes}
 use Rattle.std.specs.List.{list_any}
 use Rattle.toml.specs.Data.{Data}
+use Rattle.wire_base.specs.declared.limits.TheConstants.{LAST_LABEL}
 use Rattle.wire_base.specs.declared.conf.SubKind.{SubKind}
 use Rattle.wire_base.specs.declared.conf.TableRow.{TableRow}
 use Rattle.wire_base.specs.model.Configuration.{same_row, same_bift}
@@ -27,7 +28,7 @@ row_in at kinds earlier d = do
   sd ← known_sd kinds at d
   bsl ← bsl_key at d
   si ← number 0 255 at (codes "si") d
-  bift ← number 1 1048575 at (codes "bift") d
+  bift ← number 1 LAST_LABEL at (codes "bift") d
   new_row at kinds earlier (record { triple = record { sd = sd; bsl = bsl; si = si }; bift = bift })
 
 unfoldable pub row_at : List SubKind → List TableRow → ℕ → Data → Result TableRow ConfFault

@@ -11,6 +11,9 @@ use crate::fault::ConfFault;
 use std::alloc::Global;
 use toml::{Table, Value};
 use wire_base::Octets;
+use wire_base::limits::{
+    MOST_BIER_ENTRIES, MOST_LABEL_ENTRIES, MOST_LINK_ENTRIES, MOST_ROUTERS, MOST_TABLE_ROWS,
+};
 
 /// The entries of the arrays, each array with at most so many as it may have.
 #[derive(Clone, Copy)]
@@ -79,17 +82,17 @@ fn array_of<'a>(
 #[tactic(auto, unfolding(crate::specs::Domain::arrays_of))]
 pub fn arrays_of<'a>(alloc: Global, top: &'a Table) -> Result<Arrays<'a>, ConfFault>
     ensures value { Gives arrays_view result (spec.arrays_of (table_view top.now)) }
-    ensures few { IfOk result (λ arrays. length arrays.routers.now ≤ 250) }
+    ensures few { IfOk result (λ arrays. length arrays.routers.now ≤ MOST_ROUTERS) }
 {
     let subdomains = array_of(alloc, top, "subdomain", 8)?;
-    let rows = array_of(alloc, top, "row", 2_048)?;
-    let routers = array_of(alloc, top, "router", 250)?;
+    let rows = array_of(alloc, top, "row", MOST_TABLE_ROWS)?;
+    let routers = array_of(alloc, top, "router", MOST_ROUTERS)?;
     if routers.is_empty() {
         return Err(ConfFault::Limit(Octets::from_slice(alloc, b"router")?));
     }
-    let biers = array_of(alloc, top, "bier", 2_000)?;
-    let labels = array_of(alloc, top, "labels", 14_000)?;
-    let links = array_of(alloc, top, "link", 8_000)?;
+    let biers = array_of(alloc, top, "bier", MOST_BIER_ENTRIES)?;
+    let labels = array_of(alloc, top, "labels", MOST_LABEL_ENTRIES)?;
+    let links = array_of(alloc, top, "link", MOST_LINK_ENTRIES)?;
     Ok(Arrays {
         subdomains,
         rows,

@@ -17,6 +17,7 @@ use crate::routers::{Routers, known_router};
 use crate::subdomains::known_sd;
 use std::alloc::Global;
 use toml::Value;
+use wire_base::limits::LAST_LABEL;
 use wire_base::{Kind, LabelRange, SubKind, kind_of};
 
 /// A label range of a router in a subdomain; the router is named by its place in the file.
@@ -34,8 +35,6 @@ impl AtRouters for LabelsEntry {
         (self.router, self.router)
     }
 }
-
-const LAST_LABEL: u64 = 1_048_575;
 
 fn is_mpls(kind: Option<Kind>) -> bool
     ensures { result ≡ place_of.is_mpls kind }
@@ -83,9 +82,9 @@ fn has_label_of(earlier: &ByRouter<LabelsEntry>, labels: LabelsEntry) -> bool
 }
 
 fn passes_the_last(range: LabelRange) -> bool
-    ensures { result ≡ nat_lt 1048575 (range.label + range.max_si) }
+    ensures { result ≡ nat_lt LAST_LABEL (range.label + range.max_si) }
 {
-    u64::from(range.label) + u64::from(range.max_si) > LAST_LABEL
+    u64::from(range.label) + u64::from(range.max_si) > u64::from(LAST_LABEL)
 }
 
 fn new_labels(
@@ -123,7 +122,7 @@ fn labels_in(
     let sd = known_sd(entry, kinds)?;
     let bsl = entry.bsl()?;
     let max_si = entry.number("max_si", 0, 255)? as u8;
-    let label = entry.number("label", 16, 1_048_575)?;
+    let label = entry.number("label", 16, LAST_LABEL)?;
     let range = LabelRange { bsl, max_si, label };
     new_labels(
         entry,

@@ -1,4 +1,6 @@
 //! The domain file: a TOML document that says which routers a BIER domain has, and how they are joined.
+//!
+//! It stands on `toml`, and promises, for all octets, the valid domain that they say or the first rule that they break.
 #![tactic(auto)]
 
 mod arrays;

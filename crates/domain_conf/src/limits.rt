@@ -7,11 +7,8 @@ ghost use Rattle.domain_conf.specs.Assembled as spec;
 
 use crate::fault::ConfFault;
 use std::alloc::Global;
+use wire_base::limits::{MOST_ENDS, MOST_SUB_OCTETS};
 use wire_base::{M, Octets, RouterConf};
-
-const MOST_ENDS: usize = 64;
-
-const MOST_OCTETS: usize = 245;
 
 fn router_path(alloc: Global, place: usize) -> M<Octets>
     ensures { IfOk result (λ path. path ≡ place_path (codes "router") place) }
@@ -24,7 +21,7 @@ fn is_too_large(router: &RouterConf) -> bool
     requires { spec.HasFewSubs router.now }
     ensures { result ≡ spec.is_too_large router.now }
 {
-    router.ends.len() > MOST_ENDS || router.sub_octets() > MOST_OCTETS
+    router.ends.len() > MOST_ENDS || router.sub_octets() > MOST_SUB_OCTETS
 }
 
 /// That no router has more than 64 links, or more subdomains than its own link state PDU has room for.

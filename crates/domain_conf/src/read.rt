@@ -23,9 +23,8 @@ use crate::rows::read_table;
 use crate::subdomains::read_subdomains;
 use std::alloc::Global;
 use toml::Table;
+use wire_base::limits::{DOMAIN_FILE_LIMIT, MOST_ROUTERS};
 use wire_base::{Domain, Level, LinkConf, Octets, RouterConf, Rows};
-
-const MOST_OCTETS: usize = 4_194_304;
 
 /// The routers and links of a domain, before it is shown to be valid.
 #[derive(Drop)]
@@ -101,7 +100,7 @@ fn has_known_keys(alloc: Global, top: &Table) -> Result<(), ConfFault>
 /// The entries, array by array.
 #[tactic(auto, unfolding(crate::specs::Domain::entries_of))]
 fn entries_of(alloc: Global, arrays: &Arrays) -> Result<Entries, ConfFault>
-    requires few { length arrays.now.routers.now ≤ 250 }
+    requires few { length arrays.now.routers.now ≤ MOST_ROUTERS }
     ensures { Gives (λ e. e) result (entries_of (arrays_view arrays.now)) }
 {
     let kinds = read_subdomains(alloc, arrays.subdomains)?;
@@ -170,7 +169,7 @@ fn document(alloc: Global, bytes: &[u8]) -> Result<Table, ConfFault>
 fn read_parts(alloc: Global, bytes: &[u8]) -> Result<Parts, ConfFault>
     ensures { Gives domain_view result (domain_of bytes.now) }
 {
-    if bytes.len() > MOST_OCTETS {
+    if bytes.len() > DOMAIN_FILE_LIMIT {
         return Err(ConfFault::Limit(Octets::from_slice(alloc, b"-")?));
     }
     let top = document(alloc, bytes)?;

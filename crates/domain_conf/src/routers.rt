@@ -19,6 +19,7 @@ use std::alloc::Global;
 use std::collections::{BTreeMap, BTreeSet};
 use std::marker::Model;
 use toml::Value;
+use wire_base::limits::MOST_ROUTERS;
 use wire_base::{Ipv4, M, Name, Rows, SystemId};
 
 /// A router, as its entry says it.
@@ -90,7 +91,7 @@ impl Routers {
     /// The routers as a slice.
     pub fn as_slice(&self) -> &[RouterEntry]
         ensures value { result.now ≡ self.now }
-        ensures few { length self.now ≤ 250 }
+        ensures few { length self.now ≤ MOST_ROUTERS }
     {
         self.entries.as_slice()
     }
@@ -122,7 +123,7 @@ impl Routers {
 
     /// One router more, whose name no other has.
     pub fn with(self, alloc: Global, entry: RouterEntry) -> M<Self>
-        requires room { length self < 250 }
+        requires room { length self < MOST_ROUTERS }
         requires unused { list_any (spec.has_name entry.name) self ≡ false }
         ensures { IfOk result (λ grown. grown ≡ self ++ entry ∷ []) }
     {
@@ -247,7 +248,7 @@ fn router_at(
 
 /// The routers that a file has.
 pub fn read_routers(alloc: Global, values: &[Value]) -> Result<Routers, ConfFault>
-    requires few { length values.now ≤ 250 }
+    requires few { length values.now ≤ MOST_ROUTERS }
     ensures { Gives (λ rs. rs) result (entries_from spec.router_at [] 0 (map view values.now)) }
 {
     let mut earlier = Routers::new(alloc);

@@ -20,6 +20,7 @@ use std::alloc::Global;
 use std::collections::BTreeSet;
 use std::marker::Model;
 use toml::Value;
+use wire_base::limits::LAST_LABEL;
 use wire_base::{Kind, M, Rows, SubKind, TableRow, Triple, kind_of};
 
 /// A triple, in an order: its length of bit strings is held by its code.
@@ -164,7 +165,7 @@ fn row_in(entry: &Entry, kinds: &[SubKind], earlier: &WrittenTable) -> Result<Ta
     let sd = known_sd(entry, kinds)?;
     let bsl = entry.bsl()?;
     let si = entry.number("si", 0, 255)? as u8;
-    let bift = entry.number("bift", 1, 1_048_575)?;
+    let bift = entry.number("bift", 1, LAST_LABEL)?;
     let triple = Triple { sd, bsl, si };
     new_row(entry, kinds, earlier, TableRow { triple, bift })
 }

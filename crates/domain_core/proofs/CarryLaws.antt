@@ -1,46 +1,45 @@
 -- What a router did on octets, put on its way, is what happens in the world.
-use Rattle.std.proofs.Common.{◌≡◌, ℕ, zero, suc, ◌+◌, ◌<◌, ◌≤◌, false, true, List, [], ◌∷◌, length, drop, slice_get, slice_set, Option, Some, None, refl, sym, ap, subst, ◌∙◌}
+use Rattle.std.proofs.Common.{◌≡◌, ℕ, zero, suc, ◌+◌, ◌<◌, ◌≤◌, true, List, [], ◌∷◌, length, slice_get, slice_set, Option, Some, None, option_map, refl, sym, ap, subst, ◌∙◌}
 use Rattle.std.proofs.lemmas.Option.{same_Some}
+use Rattle.wire_base.specs.declared.limits.TheConstants.{MOST_FRAME}
 use Rattle.wire_base.specs.declared.bsl.Bsl.{Bsl}
-use Rattle.wire_base.specs.declared.conf.Kind.{Kind}
-use Rattle.wire_base.specs.declared.conf.Level.{Level}
-use Rattle.wire_base.specs.declared.triple.Triple.{Triple}
 use Rattle.wire_base.specs.model.Control.{Control}
 use Rattle.wire_base.specs.model.Flooding.{on_pdu, send}
-use Rattle.wire_base.specs.model.Ingress.{edge_fault, ingress_kind, inject_directly}
-use Rattle.wire_base.specs.model.Item.{Item, ControlItem, PacketItem}
-use Rattle.wire_base.specs.model.OnFrame.{Effects, Next, framed, on_frame_directly}
-use Rattle.wire_base.specs.model.Pdu.{Pdu, pdu_at}
-use Rattle.item_laws.specs.Read.{pdu_or_hello, packet_in}
+use Rattle.wire_base.specs.model.Ingress.{edge_fault, inject}
+use Rattle.wire_base.specs.model.Item.{Item, ControlItem, PacketItem, DataItem, Outer}
+use Rattle.wire_base.specs.model.OnFrame.{Effects, Next, Packet, framed, on_frame}
+use Rattle.wire_base.specs.model.Pdu.{Pdu}
 use Rattle.router_core.specs.State.{RouterState}
 use Rattle.domain_core.specs.declared.flight.Flight.{Flight}
-use Rattle.domain_core.specs.declared.flight.Load.{Load}
-use Rattle.domain_core.specs.declared.flight.Load.TheVariants as noted
-use Rattle.domain_core.specs.Flights.{item_of, item_seen, items_seen, load_at, frames_at, without_frame}
-use Rattle.domain_core.specs.Framed.{frame_over, pdu_sent, packet_sent, IsFramed, IsFlooded}
-use Rattle.domain_core.specs.Moves.{Made, replied, packet_taken, inject_made}
+use Rattle.domain_core.specs.declared.flight.Note.{Note}
+use Rattle.domain_core.specs.declared.step_out.StepOut.{StepOut}
+use Rattle.domain_core.specs.Answers.{told, told_of}
+use Rattle.domain_core.specs.Flights.{item_seen, items_seen, ids_seen, number_of, frames_at, without_frame, push_all_sent}
+use Rattle.domain_core.specs.Framed.{frame_over, IsFramed, IsFlooded}
+use Rattle.domain_core.specs.Read.{pdu_in, copy_read, copy_in, outer_in, packet_in, item_in, item_ids}
+use Rattle.domain_model.specs.Moves.{Made, replied, packet_taken, inject_made}
 use Rattle.domain_core.specs.Network.{NetworkState, world_of, IsFrameOver, AreFramesOver, IsTrueNetwork}
-use Rattle.domain_core.specs.Step.{Happened, makes, push_all, with_router, sends, injects, taken_off, arrives}
-use Rattle.domain_core.specs.Truth.{IsTrueControl, IsTruePdu, IsTrueCopy, IsTrueItem, IsTruthful, InjectFits}
-use Rattle.domain_core.specs.World.{WorldState, is_up, link_between}
-use Rattle.domain_core.proofs.EachLaws.{each_got}
+use Rattle.domain_model.specs.Step.{Happened, makes, push_all, with_router, sends, injects, taken_off, arrives, takes_over}
+use Rattle.domain_model.specs.Truth.{IsTrueControl, IsTruePdu, IsTrueCopy, IsTrueItem, IsTruthful, InjectFits}
+use Rattle.domain_model.specs.World.{WorldState, is_up, link_between}
+use Rattle.domain_model.proofs.EachLaws.{each_got}
 use Rattle.domain_core.proofs.FramedWorld.{conf_there, control_there, item_there, frame_short}
 use Rattle.domain_core.proofs.FramedPdus.{pdu_framed, send_framed}
 use Rattle.domain_core.proofs.FramedCopies.{packet_framed, inject_framed}
 use Rattle.domain_core.proofs.SeenLaws.{some_seen_at, frames_left}
 use Rattle.domain_core.proofs.SentLaws.{IsCarried, carried}
-use Rattle.domain_core.proofs.TransitLaws.{gone_world, packet_noted, same_frames}
+use Rattle.domain_core.proofs.TransitLaws.{gone_world, same_frames, up_taken}
 use Rattle.domain_core.proofs.TurnLaws.{control_at, turned_world}
-use Rattle.domain_core.proofs.WorldTruth.{send_turned, pdu_turned, gone_true}
+use Rattle.domain_model.proofs.WorldTruth.{send_turned, pdu_turned, gone_true}
 
 -- ---- the world afterwards
 
 module _ (n : NetworkState) (a : ℕ) (r : RouterState) (at : slice_get n.routers a ≡ Some r) (i : ℕ) (same : i ≡ a) (next : RouterState) where
   -- a router has turned, and what it sent is on its way
-  pub carried_world : (flights : List (List (List Flight))) (c : Control) (m : Made) (h : Happened) → next.control ≡ c → items_seen flights ≡ push_all (items_seen n.flights) m.sent → h ≡ makes (with_router (world_of n) a c) m
+  pub carried_world : (flights : List (List (List Flight))) (c : Control) (m : Made) (h : Happened) → next.control ≡ c → items_seen n.domain.routers flights ≡ push_all (items_seen n.domain.routers n.flights) m.sent → h ≡ makes (with_router (world_of n) a c) m
       → world_of (record n { routers = slice_set n.routers i next; flights = flights }) ≡ h.world
   carried_world flights c m h is seen happened =
-      ap (λ (w : WorldState). record w { flights = items_seen flights }) (turned_world n a r at i next c same is)
+      ap (λ (w : WorldState). record w { flights = items_seen n.domain.routers flights }) (turned_world n a r at i next c same is)
       ∙ ap (λ (xs : List (List (List Item))). record (with_router (world_of n) a c) { flights = xs }) seen
       ∙ sym (ap (λ (x : Happened). x.world) happened)
 
@@ -65,14 +64,12 @@ module _ (n : NetworkState) (t : IsTrueNetwork n) (a b link : ℕ) (r : RouterSt
   pub send_control : link < length r.control.conf.ends → (next : Control) (e : Effects) → ◌≡◌ {A = Next} (record { control = next; effects = e }) (framed link (send r.control link)) → next ≡ (send r.control link).control
   send_control within next e done = (send_flooded within next e done).control
 
-  pub send_carried : link < length r.control.conf.ends → (level : Level) → level ≡ r.control.conf.level → (next : Control) (e : Effects) → ◌≡◌ {A = Next} (record { control = next; effects = e }) (framed link (send r.control link))
-      → IsCarried n.domain.routers a (noted.Pdu level) n.flights e (replied n.domain.routers a link (send r.control link))
-  send_carried within level same next e done =
-      carried n.domain.routers a (noted.Pdu level) n.flights e (replied n.domain.routers a link (send r.control link)) t.frames
-      (subst (λ (l : Level). IsFramed n.domain.routers a None (pdu_sent l) e (replied n.domain.routers a link (send r.control link))) (sym same) (send_flooded within next e done).framed)
+  pub send_carried : link < length r.control.conf.ends → (next : Control) (e : Effects) → ◌≡◌ {A = Next} (record { control = next; effects = e }) (framed link (send r.control link))
+      → IsCarried n.domain.routers a None n.flights [] e (replied n.domain.routers a link (send r.control link))
+  send_carried within next e done = carried n.domain.routers a None n.flights [] e (replied n.domain.routers a link (send r.control link)) t.frames (send_flooded within next e done).framed
 
   pub send_true_still : IsTruthful (with_router (world_of n) a (send r.control link).control)
-  send_true_still = send_turned false (world_of n) t.truth a link r.control (control_at n a r at)
+  send_true_still = send_turned (world_of n) t.truth a link r.control (control_at n a r at)
 
 -- ---- what arrives
 
@@ -81,109 +78,133 @@ set_same [] i x h = refl
 set_same {X} (y ∷ ys) zero x h = ap (λ (z : X). z ∷ ys) (sym (same_Some y x h))
 set_same {X} (y ∷ ys) (suc i) x h = ap (λ (zs : List X). y ∷ zs) (set_same ys i x h)
 
--- what a frame at an end that is up does, once it has left the frames on their way
-pub record IsArrival (n left : NetworkState) (a link i b back : ℕ) (c : Control) (f : Flight) (load : Load) (next : Control) (e : Effects) : Type 0 where
-  pub made : Made
-  pub happened : arrives false (taken_off (world_of n) a link i) b back c (item_seen f) ≡ makes (with_router (world_of left) b next) made
-  pub carries : IsCarried n.domain.routers b load left.flights e made
-  pub kept : IsTruthful (with_router (world_of left) b next)
+-- a copy has the number that is noted
+number_read : (number : ℕ) (outer : Option Outer) (o : Option Packet) → (copy_read number outer o).number ≡ number
+number_read number outer None = refl
+number_read number outer (Some p) = refl
 
 module _ (n : NetworkState) (t : IsTrueNetwork n) (a b link back i : ℕ) (r : RouterState) (at : slice_get n.routers b ≡ Some r) (joined : link_between n.domain.routers a b ≡ Some link) (up : is_up r.control back ≡ true)
     (f : Flight) (there : Some f ≡ slice_get (frames_at n.flights a link) i) where
-  over_its_end : f.octets ≡ frame_over n.domain.routers a link (item_seen f)
+  abbrev gone : WorldState
+  gone = taken_off (world_of n) a link i
+
+  over_its_end : f.octets ≡ frame_over n.domain.routers a link (item_seen n.domain.routers f)
   over_its_end = each_got (IsFrameOver n.domain.routers a link) (frames_at n.flights a link) i f (t.frames a link) (sym there)
 
-  is_true : IsTrueItem false n.domain.routers n.injections b (item_seen f)
-  is_true = item_there (world_of n) t.truth a b link i (item_seen f) joined (some_seen_at n.flights a link i f there)
+  is_true : IsTrueItem n.domain.routers n.injections b (item_seen n.domain.routers f)
+  is_true = item_there (world_of n) t.truth a b link i (item_seen n.domain.routers f) joined (some_seen_at n.domain.routers n.flights a link i f there)
 
-  pub is_short : length f.octets ≤ 65000
-  is_short = subst (λ (octets : List ℕ). length octets ≤ 65000) (sym over_its_end) (frame_short n.domain t.truth.valid n.injections b a link (item_seen f) is_true)
+  pub is_short : length f.octets ≤ MOST_FRAME
+  is_short = subst (λ (octets : List ℕ). length octets ≤ MOST_FRAME) (sym over_its_end) (frame_short n.domain t.truth.valid n.injections b a link (item_seen n.domain.routers f) is_true)
 
-  module _ (flights : List (List (List Flight))) (gone : flights ≡ without_frame n.flights a link i) (next : Control) (e : Effects) (done : ◌≡◌ {A = Next} (record { control = next; effects = e }) (on_frame_directly r.control back f.octets)) where
-    abbrev left : NetworkState
-    left = record n { flights = flights }
+  conf : slice_get n.domain.routers b ≡ Some r.control.conf
+  conf = conf_there (world_of n) t.truth b r.control (control_at n b r at)
 
-    left_world : world_of left ≡ taken_off (world_of n) a link i
-    left_world = gone_world n flights a link i gone
+  state : IsTrueControl n.domain.routers r.control
+  state = control_there (world_of n) t.truth b r.control (control_at n b r at)
 
-    left_true : IsTruthful (world_of left)
-    left_true = subst IsTruthful (sym left_world) (gone_true false (world_of n) t.truth a link i)
+  -- what a frame does at an end that is up
+  pub record IsArrival (next : Control) (e : Effects) : Type 0 where
+    pub made : Made
+    pub happened : arrives gone b back r.control (item_seen n.domain.routers f) ≡ makes (with_router gone b next) made
+    pub framed : IsFramed n.domain.routers b (number_of f) (ids_seen n.domain.routers f) e made
+    pub kept : IsTruthful (with_router (world_of n) b next)
+    pub left : IsTruthful (with_router gone b next)
 
-    pub left_frames : AreFramesOver n.domain.routers flights
-    left_frames = same_frames n.domain.routers flights (without_frame n.flights a link i) gone (frames_left (IsFrameOver n.domain.routers) n.flights a link i t.frames)
+  module _ (next : Control) (e : Effects) (done : ◌≡◌ {A = Next} (record { control = next; effects = e }) (on_frame r.control back f.octets)) where
+    over_item : (x : Item) → item_seen n.domain.routers f ≡ x → ◌≡◌ {A = Next} (record { control = next; effects = e }) (on_frame r.control back (frame_over n.domain.routers a link x))
+    over_item x is = done ∙ ap (on_frame r.control back) (over_its_end ∙ ap (frame_over n.domain.routers a link) is)
 
-    conf : slice_get n.domain.routers b ≡ Some r.control.conf
-    conf = conf_there (world_of n) t.truth b r.control (control_at n b r at)
-
-    state : IsTrueControl n.domain.routers r.control
-    state = control_there (world_of n) t.truth b r.control (control_at n b r at)
-
-    pdu_arrival : (level : Level) → level ≡ r.control.conf.level → (p : Pdu) → item_seen f ≡ ControlItem p → IsArrival n left a link i b back r.control f (noted.Pdu level) next e
-    pdu_arrival level same p is =
-        let says : IsTruePdu n.domain.routers p = subst (IsTrueItem false n.domain.routers n.injections b) is is_true in
-        let flooded = pdu_framed n.domain t.truth.valid b r.control conf state a link back p joined says up next e (done ∙ ap (on_frame_directly r.control back) (over_its_end ∙ ap (frame_over n.domain.routers a link) is)) in
+    pdu_arrival : f.note ≡ None → IsArrival next e
+    unfolding item_in
+    pdu_arrival none =
+        let p = pdu_in n.domain.routers f.octets in
+        let is : item_seen n.domain.routers f ≡ ControlItem p = ap (λ (o : Option Note). item_in n.domain.routers o f.octets) none in
+        let says : IsTruePdu n.domain.routers p = subst (IsTrueItem n.domain.routers n.injections b) is is_true in
+        let flooded = pdu_framed n.domain t.truth.valid b r.control conf state a link back p joined says up next e (over_item (ControlItem p) is) in
         let m = replied n.domain.routers b back (on_pdu r.control back p) in
         record {
           made = m;
-          happened = ap (λ (w : WorldState). arrives false w b back r.control (item_seen f)) (sym left_world)
-              ∙ ap (arrives false (world_of left) b back r.control) is
-              ∙ ap (λ (c : Control). makes (with_router (world_of left) b c) m) (sym flooded.control);
-          carries = carried n.domain.routers b (noted.Pdu level) flights e m left_frames
-              (subst (λ (l : Level). IsFramed n.domain.routers b None (pdu_sent l) e m) (sym same) flooded.framed);
-          kept = subst (λ (c : Control). IsTruthful (with_router (world_of left) b c)) (sym flooded.control) (pdu_turned false (world_of left) left_true b back r.control p (control_at n b r at) up says);
+          happened = ap (arrives gone b back r.control) is ∙ ap (λ (c : Control). makes (with_router gone b c) m) (sym flooded.control);
+          framed = subst (λ (o : Option Note). IsFramed n.domain.routers b (option_map (λ k. k.number) o) (item_ids (item_in n.domain.routers o f.octets)) e m) (sym none) flooded.framed;
+          kept = subst (λ (c : Control). IsTruthful (with_router (world_of n) b c)) (sym flooded.control) (pdu_turned (world_of n) t.truth b back r.control p (control_at n b r at) up says);
+          left = subst (λ (c : Control). IsTruthful (with_router gone b c)) (sym flooded.control) (pdu_turned gone (gone_true (world_of n) t.truth a link i) b back r.control p (control_at n b r at) up says);
         }
 
-    packet_arrival : (number : ℕ) (triple : Triple) (kind : Kind) → item_seen f ≡ packet_in number triple kind f.octets → IsArrival n left a link i b back r.control f (noted.Packet number triple kind) next e
-    packet_arrival number triple kind is =
-        let s = packet_noted number triple kind f.octets in
-        let x = s.item in
-        let seen : item_seen f ≡ PacketItem x = is ∙ s.is in
-        let copy : IsTrueCopy false n.domain.routers n.injections b x = subst (IsTrueItem false n.domain.routers n.injections b) seen is_true in
-        let hopped = packet_framed n.domain t.truth.valid b r.control conf state n.injections a link back x joined copy up next e (done ∙ ap (on_frame_directly r.control back) (over_its_end ∙ ap (frame_over n.domain.routers a link) seen)) in
-        let m = packet_taken false n.domain.routers b r.control x x.outer in
-        let same : with_router (world_of left) b next ≡ world_of left =
-        ap (with_router (world_of left) b) hopped.control ∙ ap (λ (cs : List Control). record (world_of left) { routers = cs }) (set_same (world_of left).routers b r.control (control_at n b r at)) in
+    packet_arrival : (note : Note) → f.note ≡ Some note → IsArrival next e
+    unfolding item_in
+    packet_arrival note some =
+        let x = copy_in n.domain.routers note f.octets in
+        let is : item_seen n.domain.routers f ≡ PacketItem x = ap (λ (o : Option Note). item_in n.domain.routers o f.octets) some in
+        let copy : IsTrueCopy n.domain.routers n.injections b x = subst (IsTrueItem n.domain.routers n.injections b) is is_true in
+        let hopped = packet_framed n.domain t.truth.valid b r.control conf state n.injections a link back x joined copy up next e (over_item (PacketItem x) is) in
+        let m = packet_taken n.domain.routers b r.control x x.outer in
+        let number : x.number ≡ note.number = number_read note.number (outer_in f.octets) (packet_in n.domain.routers note.to f.octets) in
+        let routers : slice_set (world_of n).routers b next ≡ (world_of n).routers =
+        ap (slice_set (world_of n).routers b) hopped.control ∙ set_same (world_of n).routers b r.control (control_at n b r at) in
+        let same : with_router (world_of n) b next ≡ world_of n = ap (λ (cs : List Control). record (world_of n) { routers = cs }) routers in
+        let same_gone : with_router gone b next ≡ gone = ap (λ (cs : List Control). record gone { routers = cs }) routers in
         record {
           made = m;
-          happened = ap (λ (w : WorldState). arrives false w b back r.control (item_seen f)) (sym left_world)
-              ∙ ap (arrives false (world_of left) b back r.control) seen
-              ∙ ap (λ (w : WorldState). makes w m) (sym same);
-          carries = carried n.domain.routers b (noted.Packet number triple kind) flights e m left_frames
-              (subst (λ (k : ℕ). IsFramed n.domain.routers b (Some k) (packet_sent n.domain.routers b k kind triple) e m) s.number_is
-              (subst (λ (k : Kind). IsFramed n.domain.routers b (Some x.number) (packet_sent n.domain.routers b x.number k triple) e m) s.kind_is
-              (subst (λ (k : Triple). IsFramed n.domain.routers b (Some x.number) (packet_sent n.domain.routers b x.number x.kind k) e m) s.triple_is hopped.framed)));
-          kept = subst IsTruthful (sym same) left_true;
+          happened = ap (arrives gone b back r.control) is ∙ ap (λ (w : WorldState). makes w m) (sym same_gone);
+          framed = subst (λ (o : Option Note). IsFramed n.domain.routers b (option_map (λ k. k.number) o) (item_ids (item_in n.domain.routers o f.octets)) e m) (sym some)
+              (subst (λ (k : ℕ). IsFramed n.domain.routers b (Some k) x.ids e m) number hopped.framed);
+          kept = subst IsTruthful (sym same) t.truth;
+          left = subst IsTruthful (sym same_gone) (gone_true (world_of n) t.truth a link i);
         }
 
-    pub arrival : (level : Level) → level ≡ r.control.conf.level → IsArrival n left a link i b back r.control f (load_at level f.load) next e
-    arrival level same = by f.load refl
+    pub arrival : IsArrival next e
+    arrival = by f.note refl
       where
-        by : (load : Load) → f.load ≡ load → IsArrival n left a link i b back r.control f (load_at level f.load) next e
-        by (noted.Pdu other) h =
-            subst (λ (l : Load). IsArrival n left a link i b back r.control f (load_at level l) next e) (sym h)
-            (pdu_arrival level same (pdu_or_hello (pdu_at other (drop 17 f.octets))) (ap (λ (l : Load). item_of l f.octets) h))
-        by (noted.Packet number triple kind) h =
-            subst (λ (l : Load). IsArrival n left a link i b back r.control f (load_at level l) next e) (sym h)
-            (packet_arrival number triple kind (ap (λ (l : Load). item_of l f.octets) h))
+        by : (o : Option Note) → f.note ≡ o → IsArrival next e
+        by None is = pdu_arrival is
+        by (Some note) is = packet_arrival note is
+
+  -- the frame is gone
+  module _ (flights : List (List (List Flight))) (left : flights ≡ without_frame n.flights a link i) where
+    pub left_frames : AreFramesOver n.domain.routers flights
+    left_frames = same_frames n.domain.routers flights (without_frame n.flights a link i) left (frames_left (IsFrameOver n.domain.routers) n.flights a link i t.frames)
+
+    pub left_world : world_of (record n { flights = flights }) ≡ gone
+    left_world = gone_world n flights a link i left
+
+    -- and what the router sent because of it is on its way
+    pub record IsTaken (routers : List RouterState) (sent : List (List (List Flight))) (out : StepOut) : Type 0 where
+      pub world : world_of (record n { routers = routers; flights = sent }) ≡ (takes_over (world_of n) a b i (link_between n.domain.routers a b) (link_between n.domain.routers b a)).world
+      pub frames : AreFramesOver n.domain.routers sent
+      pub answer : out ≡ told n.domain.routers (takes_over (world_of n) a b i (link_between n.domain.routers a b) (link_between n.domain.routers b a)).made
+
+    pub taken_done : link_between n.domain.routers b a ≡ Some back → (k : ℕ) → k ≡ b → (next : RouterState) (e : Effects) → ◌≡◌ {A = Next} (record { control = next.control; effects = e }) (on_frame r.control back f.octets)
+        → (sent : List (List (List Flight))) → sent ≡ push_all_sent n.domain.routers b (number_of f) flights e.sent → (out : StepOut) → out ≡ told_of n.domain.routers b (number_of f) (ids_seen n.domain.routers f) e
+        → IsTaken (slice_set n.routers k next) sent out
+    taken_done facing k same next e done sent pushed out tells =
+        let arrived = arrival next.control e done in
+        let put = carried n.domain.routers b (number_of f) flights (ids_seen n.domain.routers f) e arrived.made left_frames arrived.framed in
+        let happened = up_taken (world_of n) a b i link joined back facing (item_seen n.domain.routers f) r.control (some_seen_at n.domain.routers n.flights a link i f there) (control_at n b r at) up
+        ∙ arrived.happened ∙ ap (λ (w : WorldState). makes (with_router w b next.control) arrived.made) (sym left_world) in
+        record {
+          world = carried_world (record n { flights = flights }) b r at k same next sent next.control arrived.made _ refl (ap (items_seen n.domain.routers) pushed ∙ put.seen) happened;
+          frames = same_frames n.domain.routers sent _ pushed put.frames;
+          answer = tells ∙ put.out ∙ sym (ap (λ (h : Happened). told n.domain.routers h.made) happened);
+        }
 
 -- ---- what enters
 
 module _ (n : NetworkState) (t : IsTrueNetwork n) (a : ℕ) (r : RouterState) (at : slice_get n.routers a ≡ Some r) (sd : ℕ) (bsl : Bsl) (ks : List ℕ) (ttl entropy : ℕ) (payload : List ℕ) where
   abbrev entered : Control → Made
-  entered c = inject_made false n.domain.routers a c (n.injections + 1) sd bsl ks ttl entropy payload
+  entered c = inject_made n.domain.routers a c (n.injections + 1) sd bsl ks ttl entropy payload
 
-  pub inject_is : injects false (world_of n) a entered (slice_get (world_of n).routers a) ≡ makes (record (world_of n) { injections = n.injections + 1 }) (entered r.control)
-  inject_is = ap (injects false (world_of n) a entered) (control_at n a r at)
+  pub inject_is : injects (world_of n) a entered (slice_get (world_of n).routers a) ≡ makes (record (world_of n) { injections = n.injections + 1 }) (entered r.control)
+  inject_is = ap (injects (world_of n) a entered) (control_at n a r at)
 
-  pub inject_carried : InjectFits (length n.domain.routers) a sd ks ttl entropy payload → edge_fault r.control.conf sd bsl ks ≡ None → (other : Triple) (kind : Kind) → kind ≡ ingress_kind r.control.conf sd → (e : Effects) → e ≡ inject_directly r.control sd bsl ks ttl entropy payload
-      → IsCarried n.domain.routers a (noted.Packet (n.injections + 1) other kind) n.flights e (entered r.control)
-  inject_carried fits ok other kind same e done =
+  pub inject_carried : InjectFits (length n.domain.routers) a sd ks ttl entropy payload → edge_fault r.control.conf sd bsl ks ≡ None → (e : Effects) → e ≡ inject r.control sd bsl ks ttl entropy payload
+      → IsCarried n.domain.routers a (Some (n.injections + 1)) n.flights [] e (entered r.control)
+  inject_carried fits ok e done =
       let c = control_at n a r at in
-      carried n.domain.routers a (noted.Packet (n.injections + 1) other kind) n.flights e (entered r.control) t.frames
-      (subst (λ (k : Kind). IsFramed n.domain.routers a (Some (n.injections + 1)) (packet_sent n.domain.routers a (n.injections + 1) k other) e (entered r.control)) (sym same)
-      (inject_framed n.domain t.truth.valid a r.control (conf_there (world_of n) t.truth a r.control c) (control_there (world_of n) t.truth a r.control c) n.injections sd bsl ks ttl entropy payload other fits ok e done))
+      carried n.domain.routers a (Some (n.injections + 1)) n.flights [] e (entered r.control) t.frames
+      (inject_framed n.domain t.truth.valid a r.control (conf_there (world_of n) t.truth a r.control c) (control_there (world_of n) t.truth a r.control c) n.injections sd bsl ks ttl entropy payload fits ok e done)
 
-  pub inject_world : (routers : List RouterState) (flights : List (List (List Flight))) (m : Made) (h : Happened) → routers ≡ n.routers → items_seen flights ≡ push_all (items_seen n.flights) m.sent → h ≡ makes (record (world_of n) { injections = n.injections + 1 }) m
+  pub inject_world : (routers : List RouterState) (flights : List (List (List Flight))) (m : Made) (h : Happened) → routers ≡ n.routers → items_seen n.domain.routers flights ≡ push_all (items_seen n.domain.routers n.flights) m.sent → h ≡ makes (record (world_of n) { injections = n.injections + 1 }) m
       → world_of (record n { routers = routers; flights = flights; injections = n.injections + 1 }) ≡ h.world
   inject_world routers flights m h same seen happened =
       ap (λ (rs : List RouterState). world_of (record n { routers = rs; flights = flights; injections = n.injections + 1 })) same

@@ -7,19 +7,19 @@ use Rattle.wire_base.specs.model.Control.{Control}
 use Rattle.router_core.specs.State.{RouterState}
 use Rattle.replay_text.specs.declared.event.Event.{Event}
 use Rattle.replay_text.specs.declared.event.Event.TheVariants.{Inject, Take, Lose, Again, Down, Up, Send, Tick, Restart}
-use Rattle.domain_core.specs.declared.fault.EventFault.{EventFault}
-use Rattle.domain_core.specs.declared.fault.EventFault.TheVariants as faults
+use Rattle.domain_model.specs.declared.fault.EventFault.{EventFault}
+use Rattle.domain_model.specs.declared.fault.EventFault.TheVariants as faults
 use Rattle.domain_core.specs.declared.network.Network.{Network}
 use Rattle.domain_core.specs.declared.step_out.StepOut.{StepOut}
 use Rattle.domain_core.specs.Answers.{early_fault, early_rule, Refuses, told}
-use Rattle.domain_core.specs.Faults.{most_events, most_in_flight, first_fault, entry_fault, rule_fault, event_fault}
+use Rattle.domain_model.specs.Faults.{most_events, most_in_flight, first_fault, entry_fault, rule_fault, event_fault}
 use Rattle.domain_core.specs.Held.{state_of, world_in, IsDone}
 use Rattle.domain_core.specs.Network.{AreFramesOver, IsTrueNetwork}
-use Rattle.domain_core.specs.Step.{doing, happens, happens_with}
-use Rattle.domain_core.specs.Truth.{IsTruthful, EventFits, AreWorldDrops}
-use Rattle.domain_core.specs.World.{WorldState, in_flight}
+use Rattle.domain_model.specs.Step.{doing, happens}
+use Rattle.domain_model.specs.Truth.{IsTruthful, EventFits, AreWorldDrops}
+use Rattle.domain_model.specs.World.{WorldState, in_flight}
 use Rattle.domain_core.proofs.RefusalLaws.{none_first}
-use Rattle.domain_core.proofs.WorldTruth.{happens_true}
+use Rattle.domain_model.proofs.WorldTruth.{happens_true}
 
 -- what a router says of an injection; of all else nothing
 abbrev pub late_fault : WorldState → Event → Option EventFault
@@ -88,11 +88,11 @@ pub record IsCounted (old new : Network) (e : Event) (out : StepOut) : Type 0 wh
   pub kept : IsTrueNetwork (state_of (record new { events = new.events + 1 }))
   pub low : new.events + 1 ≤ most_events
 
-pub counted_done : (old new : Network) (e : Event) (out : StepOut) → IsTrueNetwork (state_of old) → EventFits (length old.domain.routers) e → event_fault (world_in old) e ≡ None → IsDone old new (doing false (world_in old) e) out → IsCounted old new e out
-unfolding happens_with
+pub counted_done : (old new : Network) (e : Event) (out : StepOut) → IsTrueNetwork (state_of old) → EventFits (length old.domain.routers) e → event_fault (world_in old) e ≡ None → IsDone old new (doing (world_in old) e) out → IsCounted old new e out
+unfolding happens
 counted_done old new e out t fits ok done =
     let w = world_in old in
-    let k = happens_true false w e t.truth fits ok in
+    let k = happens_true w e t.truth fits ok in
     let world : world_in (record new { events = new.events + 1 }) ≡ (happens w e).world = ap (λ (v : WorldState). record v { events = v.events + 1 }) done.world in
     let same : new.domain ≡ old.domain = ap (λ (v : WorldState). v.domain) world ∙ k.domain in
     let count : new.events + 1 ≡ (happens w e).world.events = ap (λ (v : WorldState). v.events) world in

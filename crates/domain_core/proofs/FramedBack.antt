@@ -1,5 +1,5 @@
 -- What a router does on octets is told in the words of items, where each item that is sent is read off its frame again.
-use Rattle.std.proofs.Common.{◌≡◌, ℕ, zero, suc, ◌<◌, Bool, true, false, List, [], ◌∷◌, length, map, fold, slice_get, slice_index_or, Option, Some, refl, sym, ap, subst, ◌∙◌, arith}
+use Rattle.std.proofs.Common.{◌≡◌, ℕ, zero, suc, ◌<◌, Bool, true, false, List, [], ◌∷◌, length, map, slice_get, slice_index_or, Option, Some, refl, sym, ap, subst, ◌∙◌, arith}
 use mathlib.Core.Bool.{false≢true}
 use Rattle.std.specs.List.{AllByRecursion}
 use Rattle.wire_base.specs.declared.conf.End.{End}
@@ -8,12 +8,10 @@ use Rattle.wire_base.specs.declared.effects.Sent.{Sent}
 use Rattle.wire_base.specs.model.Item.{Item, frame_of}
 use Rattle.wire_base.specs.model.OnFrame.{Effects}
 use Rattle.domain_core.specs.declared.step_out.WireFrame.{WireFrame}
-use Rattle.domain_core.specs.World.{push_item}
-use Rattle.domain_core.specs.Moves.{Sending, Made}
-use Rattle.domain_core.specs.Step.{push_all}
+use Rattle.domain_model.specs.Moves.{Sending, Made}
 use Rattle.domain_core.specs.Framed.{frame_on, frame_from, frame_over, sent_of, wire_of, wire_from, sending_of, got_line, drop_line, ends_of, IsItemFrame, IsFramed}
-use Rattle.domain_core.proofs.EachLaws.{each_weaker, each_mapped}
-use Rattle.domain_core.proofs.QueueLaws.{got_within}
+use Rattle.domain_model.proofs.EachLaws.{each_weaker, each_mapped}
+use Rattle.domain_model.proofs.QueueLaws.{got_within}
 
 -- ---- words on lists
 
@@ -24,11 +22,6 @@ self_mapped {X} f g (x ∷ xs) all = ap (λ (y : X). y ∷ xs) (sym all.0) ∙ a
 both_mapped : {X Y Z : Type 0} (f : X → Y) (g : Y → Z) (h : X → Z) (xs : List X) → AllByRecursion (λ x. h x ≡ g (f x)) xs → map h xs ≡ map g (map f xs)
 both_mapped f g h [] all = refl
 both_mapped {X} {Y} {Z} f g h (x ∷ xs) all = ap (λ (z : Z). z ∷ map h xs) all.0 ∙ ap (λ (l : List Z). g (f x) ∷ l) (both_mapped f g h xs all.1)
-
-pub got_some : {X : Type 0} (xs : List X) (i : ℕ) → i < length xs → (x : X) × (slice_get xs i ≡ Some x)
-got_some [] i h = absurd (omega (arith, h))
-got_some (x ∷ xs) zero h = (x, refl)
-got_some (x ∷ xs) (suc i) h = got_some xs i (omega (arith, h))
 
 pub up_within : (up : List Bool) (i : ℕ) → slice_index_or up i false ≡ true → i < length up
 up_within [] i h = absurd (false≢true h)
@@ -46,32 +39,25 @@ end_within confs a r link e at there = subst (λ (o : Option RouterConf). link <
 -- ---- what is read back
 
 -- the frame of what is sent is a frame of the item, which is read off it
-pub record IsReadBack (confs : List RouterConf) (a : ℕ) (read : Sent → Item) (s : Sending) : Type 0 where
-  pub frame : IsItemFrame confs a read (sent_of confs s)
-  pub is : sending_of confs a read (sent_of confs s) ≡ s
+pub record IsReadBack (confs : List RouterConf) (a : ℕ) (number : Option ℕ) (s : Sending) : Type 0 where
+  pub frame : IsItemFrame confs a number (sent_of confs s)
+  pub is : sending_of confs a number (sent_of confs s) ≡ s
 
-told : (confs : List RouterConf) (a : ℕ) (read : Sent → Item) (s : Sending) → IsReadBack confs a read s → wire_of confs s ≡ wire_from confs a (sent_of confs s)
-told confs a read s k = ap one (sym k.is)
+told : (confs : List RouterConf) (a : ℕ) (number : Option ℕ) (s : Sending) → IsReadBack confs a number s → wire_of confs s ≡ wire_from confs a (sent_of confs s)
+told confs a number s k = ap one (sym k.is)
   where
     one : Sending → WireFrame
     one z = record { from = z.from; to = z.to; octets = frame_over confs s.from s.link s.item }
 
-pub framed_by : (confs : List RouterConf) (a : ℕ) (number : Option ℕ) (read : Sent → Item) (e : Effects) (m : Made) → e.sent ≡ map (sent_of confs) m.sent → AllByRecursion (IsReadBack confs a read) m.sent → m.got ≡ map (got_line a number) e.got → m.drops ≡ map (drop_line a number) e.drops → IsFramed confs a number read e m
-framed_by confs a number read e m sent back got drops =
+pub framed_by : (confs : List RouterConf) (a : ℕ) (number : Option ℕ) (ids : List ℕ) (e : Effects) (m : Made) → e.sent ≡ map (sent_of confs) m.sent → AllByRecursion (IsReadBack confs a number) m.sent → m.got ≡ map (got_line a number) e.got → m.drops ≡ map (drop_line a number ids) e.drops → IsFramed confs a number ids e m
+framed_by confs a number ids e m sent back got drops =
     record {
-      frames = subst (AllByRecursion (IsItemFrame confs a read)) (sym sent)
-          (each_mapped (IsItemFrame confs a read) (sent_of confs) m.sent (each_weaker (IsReadBack confs a read) (λ s. IsItemFrame confs a read (sent_of confs s)) (λ s k. k.frame) m.sent back));
-      sent = self_mapped (sent_of confs) (sending_of confs a read) m.sent (each_weaker (IsReadBack confs a read) (λ s. sending_of confs a read (sent_of confs s) ≡ s) (λ s k. k.is) m.sent back)
-          ∙ ap (map (sending_of confs a read)) (sym sent);
-      wires = both_mapped (sent_of confs) (wire_from confs a) (wire_of confs) m.sent (each_weaker (IsReadBack confs a read) (λ s. wire_of confs s ≡ wire_from confs a (sent_of confs s)) (told confs a read) m.sent back)
+      frames = subst (AllByRecursion (IsItemFrame confs a number)) (sym sent)
+          (each_mapped (IsItemFrame confs a number) (sent_of confs) m.sent (each_weaker (IsReadBack confs a number) (λ s. IsItemFrame confs a number (sent_of confs s)) (λ s k. k.frame) m.sent back));
+      sent = self_mapped (sent_of confs) (sending_of confs a number) m.sent (each_weaker (IsReadBack confs a number) (λ s. sending_of confs a number (sent_of confs s) ≡ s) (λ s k. k.is) m.sent back)
+          ∙ ap (map (sending_of confs a number)) (sym sent);
+      wires = both_mapped (sent_of confs) (wire_from confs a) (wire_of confs) m.sent (each_weaker (IsReadBack confs a number) (λ s. wire_of confs s ≡ wire_from confs a (sent_of confs s)) (told confs a number) m.sent back)
           ∙ ap (map (wire_from confs a)) (sym sent);
       got = got;
       drops = drops;
     }
-
--- ---- what is pushed
-
-pub pushed_read : (confs : List RouterConf) (a : ℕ) (read : Sent → Item) (flights : List (List (List Item))) (sents : List Sent)
-    → push_all flights (map (sending_of confs a read) sents) ≡ fold (λ f s. push_item f a s.link (read s)) flights sents
-pushed_read confs a read flights [] = refl
-pushed_read confs a read flights (s ∷ sents) = pushed_read confs a read (push_item flights a s.link (read s)) sents

@@ -1,86 +1,98 @@
 -- Copies of packets are read off their frames again, and a router does on the frame of a copy, and where a payload enters,
 -- what is made of the items.
-use Rattle.std.proofs.Common.{◌≡◌, ℕ, ◌+◌, ◌*◌, ◌/◌, ◌≤◌, true, false, List, ◌++◌, length, drop, slice_get, Option, Some, None, unwrap_or, refl, sym, ap, subst, ◌∙◌, arith}
+use Rattle.std.proofs.Common.{◌≡◌, ℕ, ◌+◌, ◌≤◌, Bool, true, false, if◌then◌else◌, List, [], ◌∷◌, ◌++◌, length, slice_get, Option, Some, None, refl, sym, ap, subst, ◌∙◌, arith}
+use Rattle.std.specs.Str.{bytes_eq}
 use Rattle.std.proofs.lemmas.List.{length-append}
-use Rattle.byteorder.specs.Endian.{big_bytes, big_number}
-use Rattle.byteorder.specs.Numbers.{big_number-reads_back}
+use Rattle.byteorder.specs.Endian.{big_bytes}
+use Rattle.wire_base.specs.declared.limits.TheConstants.{MOST_FRAME, MOST_PAYLOAD}
+use Rattle.wire_base.specs.declared.addresses.Ipv4.{Ipv4}
 use Rattle.wire_base.specs.declared.bsl.Bsl.{Bsl}
 use Rattle.wire_base.specs.declared.bsl.Bsl.TheVariants.{B64, B128, B256, B512, B1024, B2048, B4096}
 use Rattle.wire_base.specs.declared.cause.Cause.TheVariants as cause
 use Rattle.wire_base.specs.declared.conf.End.{End}
-use Rattle.wire_base.specs.declared.conf.Kind.{Kind}
 use Rattle.wire_base.specs.declared.conf.Level.{Level}
 use Rattle.wire_base.specs.declared.conf.RouterConf.{RouterConf}
-use Rattle.wire_base.specs.declared.triple.Triple.{Triple}
-use Rattle.wire_base.specs.model.BierHeader.{header_length, header_octets, first_word}
+use Rattle.wire_base.specs.model.BierHeader.{header_length, header_octets}
 use Rattle.wire_base.specs.model.Configuration.{DomainConf, IsValid, IsEnd}
 use Rattle.wire_base.specs.model.Control.{Control}
-use Rattle.wire_base.specs.model.Ethernet.{ethernet}
-use Rattle.wire_base.specs.model.Ingress.{IngressPacket, packets_for, edge_fault, ingress_kind, entering, inject_with, inject_directly}
-use Rattle.wire_base.specs.model.Item.{PacketItem, DataItem, Outer, outer_target, packet_frame, ingress_header, item_header, item_packet, frame_of}
-use Rattle.wire_base.specs.model.OnFrame.{Effects, Next, dropped, unchanged, node_place, hop_in, on_frame_with, on_frame_directly}
+use Rattle.wire_base.specs.model.Ethernet.{ethernet, ip_type}
+use Rattle.wire_base.specs.model.Ingress.{IngressPacket, packets_for, edge_fault, entering, inject}
+use Rattle.wire_base.specs.model.Item.{PacketItem, DataItem, Outer, router_with, outer_target, target_of, packet_frame, ingress_header, item_header, item_packet, item_tunnel, frame_of}
+use Rattle.wire_base.specs.model.OnFrame.{Effects, Next, dropped, unchanged, node_place, hop_in, on_packet, in_transit, on_frame}
 use Rattle.wire_base.specs.model.Place.{means}
-use Rattle.wire_base.specs.model.Tunnel.{protocol_of}
+use Rattle.wire_base.specs.model.Tunnel.{TunnelPacket, plain_ip, ip_header, ip_checksum, gre, protocol_of, tunnel_head, tunnel}
 use Rattle.wire_base.specs.model.View.{control_view}
 use Rattle.wire_base.proofs.HeaderLaws.{length-header_octets}
-use Rattle.item_laws.specs.Fits.{ItemFits}
-use Rattle.item_laws.specs.Read.{packet_in}
-use Rattle.item_laws.proofs.ControlFrames.{behind}
-use Rattle.item_laws.proofs.PacketFrames.{packet_back, direct_taken}
-use Rattle.domain_core.specs.World.{is_up, peer_place, link_between}
-use Rattle.domain_core.specs.Moves.{Sending, Made, over_end, packet_of, hop_made, packet_taken, entering_item, inject_made}
-use Rattle.domain_core.specs.Truth.{IsAmong, MeansAt, router_at, IsTrueItem, IsTrueCopy, IsTrueControl, InjectFits}
-use Rattle.domain_core.specs.Framed.{frame_over, sent_of, bift_in, triple_in, packet_sent, IsFramed, IsHopped}
-use Rattle.domain_core.proofs.EachLaws.{each_weaker, each_both, each_got}
-use Rattle.domain_core.proofs.DomainLaws.{sound_of}
-use Rattle.domain_core.proofs.LinkLaws.{join_of, end_found}
-use Rattle.domain_core.proofs.CopyTruth.{IsTrueSending, IsTrueMade, taken_true}
-use Rattle.domain_core.proofs.EnterTruth.{IsEntry, allowed_of, packets_true, inject_true}
+use Rattle.item_laws.specs.Fits as item_fits
+use Rattle.item_laws.specs.Fits.{ItemFits, copy_taken}
+use Rattle.item_laws.proofs.PacketFrames.{packet_taken, copy_arrives}
+use Rattle.domain_model.specs.World.{is_up, peer_place, link_between}
+use Rattle.domain_model.specs.Moves as moves
+use Rattle.domain_model.specs.Moves.{Sending, Made, over_end, hop_made, passes_through, entering_item, inject_made}
+use Rattle.domain_model.specs.Truth.{IsAmong, IsPrefixOf, OuterFits, MeansAt, router_at, IsTrueItem, IsTrueCopy, IsTrueControl, InjectFits}
+use Rattle.domain_core.specs.Framed.{frame_over, sent_of, item_sent, IsFramed, IsHopped}
+use Rattle.domain_core.specs.Read.{item_in}
+use Rattle.domain_model.proofs.EachLaws.{each_weaker, each_both, each_got}
+use Rattle.domain_model.proofs.DomainLaws.{bytes_is, sound_of}
+use Rattle.domain_model.proofs.LinkLaws.{prefix_place, join_of, end_found}
+use Rattle.domain_model.proofs.CopyTruth.{IsTrueSending, IsTrueMade, taken_true}
+use Rattle.domain_model.proofs.EnterTruth.{IsEntry, allowed_of, packets_true, inject_true}
 use Rattle.domain_core.proofs.FramedBack.{over_at, end_within, IsReadBack, framed_by}
-use Rattle.domain_core.proofs.FramedHop.{IsCopyOver, IsSame, joined_same, hop_same}
+use Rattle.domain_core.proofs.FramedHop.{IsCopyOver, IsSame, joined_same, hop_same, transit_same}
+use Rattle.domain_core.proofs.ReadBack.{packet_back}
 
--- ---- the frame of a copy in no tunnel
+zero_plus : (n : ℕ) → 0 + n ≡ n
+zero_plus n = omega arith
 
-fits_of : (confs : List RouterConf) (n b : ℕ) (x : DataItem) → IsTrueCopy false confs n b x → ItemFits x
+-- ---- the frame of a copy
+
+fits_of : (confs : List RouterConf) (n b : ℕ) (x : DataItem) → IsTrueCopy confs n b x → ItemFits x
 fits_of confs n b x t = record { bift = t.bift; ttl = t.ttl; entropy = t.entropy; bfir = t.bfir; ids = t.ids }
 
--- the length of a copy's frame
-frame_length : (level : Level) (e : End) (x : DataItem) → x.outer ≡ None → length e.peer_mac.0 ≡ 6 → length e.own_mac.0 ≡ 6 → length (frame_of level e (PacketItem x)) ≡ 14 + header_length x.triple.bsl + length x.payload
-unfolding frame_of ingress_header
-frame_length level e x none six-peer six-own =
-    let packet = item_packet x in
-    let number = protocol_of x.kind in
-    ap (λ (o : Option Outer). length (packet_frame e.peer_mac e.own_mac x o)) none
-    ∙ omega (
+-- the octets of a packet and of a tunnel
+packet_length : (x : DataItem) → length (item_packet x) ≡ header_length x.triple.bsl + length x.payload
+unfolding ingress_header
+packet_length x = omega (arith, length-append (header_octets (item_header x)) x.payload, length-header_octets (item_header x))
+
+tunnel_length : (t : TunnelPacket) → length t.src.0 ≡ 4 → length t.dst.0 ≡ 4 → length (tunnel t) ≡ 24 + length t.carried
+unfolding tunnel_head
+tunnel_length t src dst =
+    let total = 24 + length t.carried in
+    let sum = ip_checksum plain_ip total t.ttl t.src t.dst in
+    let ends = t.src.0 ++ t.dst.0 in
+    let rest = t.ttl ∷ 47 ∷ (big_bytes 2 sum ++ ends) in
+    omega (
       arith,
-      length-append (ethernet e.peer_mac.0 e.own_mac.0 number) packet,
+      length-append (tunnel_head t) t.carried,
+      length-append (ip_header plain_ip total t.ttl t.src t.dst sum) (gre t.inner),
+      length-append (big_bytes 2 total) (big_bytes 2 0 ++ (big_bytes 2 16384 ++ rest)),
+      length-append (big_bytes 2 0) (big_bytes 2 16384 ++ rest),
+      length-append (big_bytes 2 16384) rest,
+      length-append (big_bytes 2 sum) ends,
+      length-append t.src.0 t.dst.0,
+      src,
+      dst,
+    )
+
+abbrev carried_octets : DataItem → Option Outer → List ℕ
+carried_octets x None = item_packet x
+carried_octets x (Some o) = tunnel (item_tunnel x o)
+
+-- the length of a copy's frame
+eth_length : (e : End) (number : ℕ) (octets : List ℕ) → length e.peer_mac.0 ≡ 6 → length e.own_mac.0 ≡ 6 → length (ethernet e.peer_mac.0 e.own_mac.0 number ++ octets) ≡ 14 + length octets
+eth_length e number octets six-peer six-own =
+    omega (
+      arith,
+      length-append (ethernet e.peer_mac.0 e.own_mac.0 number) octets,
       length-append e.peer_mac.0 (e.own_mac.0 ++ big_bytes 2 number),
       length-append e.own_mac.0 (big_bytes 2 number),
-      length-append (header_octets (item_header x)) x.payload,
-      length-header_octets (item_header x),
       six-peer,
       six-own,
     )
 
--- the BIFT-id is read off its first number
-word_reads : (x : DataItem) → ItemFits x → (w : ℕ) → w ≡ big_number 4 (item_packet x) → w / 4096 ≡ x.bift
-unfolding ingress_header
-word_reads x fits w is =
-    let bift = fits.bift in
-    let ttl = fits.ttl in
-    let first : w ≡ x.bift * 4096 + 256 + x.ttl = is ∙ big_number-reads_back 4 (first_word (item_header x)) (drop 4 (item_packet x)) (omega arith) ∙ (omega arith) in
-    omega (arith, first, ttl)
-
-bift_again : (level : Level) (e : End) (x : DataItem) → ItemFits x → x.outer ≡ None → length e.peer_mac.0 ≡ 6 → length e.own_mac.0 ≡ 6 → bift_in (frame_of level e (PacketItem x)) ≡ x.bift
-unfolding frame_of
-bift_again level e x fits none six-peer six-own =
-    ap (λ (o : Option Outer). bift_in (packet_frame e.peer_mac e.own_mac x o)) none
-    ∙ ap (λ (octets : List ℕ). big_number 4 octets / 4096) (behind e.peer_mac.0 e.own_mac.0 (item_packet x) (protocol_of x.kind) six-peer six-own)
-    ∙ word_reads x fits (big_number 4 (item_packet x)) refl
-
-triple_back : (o : Option RouterConf) (x : DataItem) (other : Triple) (octets : List ℕ) → MeansAt o x → bift_in octets ≡ x.bift → triple_in o x.kind other octets ≡ x.triple
-triple_back None x other octets h e = absurd h
-triple_back (Some q) x other octets h e = ap (λ (b : ℕ). unwrap_or (means q x.kind b) other) e ∙ ap (λ (t : Option Triple). unwrap_or t other) h
+frame_length : (level : Level) (e : End) (x : DataItem) (o : Option Outer) → length e.peer_mac.0 ≡ 6 → length e.own_mac.0 ≡ 6 → length (packet_frame e.peer_mac e.own_mac x o) ≡ 14 + length (carried_octets x o)
+frame_length level e x None six-peer six-own = eth_length e (protocol_of x.kind) (item_packet x) six-peer six-own
+frame_length level e x (Some o) six-peer six-own = eth_length e ip_type (tunnel (item_tunnel x o)) six-peer six-own
 
 header_short : (bsl : Bsl) → header_length bsl ≤ 524
 header_short B64 = omega arith
@@ -91,113 +103,137 @@ header_short B1024 = omega arith
 header_short B2048 = omega arith
 header_short B4096 = omega arith
 
--- at the router where the end leads
-means_direct : (confs : List RouterConf) (n b : ℕ) (x : DataItem) → IsTrueCopy false confs n b x → MeansAt (router_at confs (Some b)) x
-means_direct confs n b x t = subst (λ (o : Option Outer). MeansAt (router_at confs (outer_target confs b o)) x) (t.direct refl) t.means
-
 module _ (d : DomainConf) (valid : IsValid d) where
   end_is : (r : RouterConf) (link : ℕ) (e : End) → IsAmong d.routers r → slice_get r.ends link ≡ Some e → IsEnd e
   end_is r link e among there = each_got IsEnd r.ends link e (sound_of d valid r among).ends there
 
-  pub copy_short : (n b a : ℕ) (r : RouterConf) (link : ℕ) (e : End) (x : DataItem) → slice_get d.routers a ≡ Some r → slice_get r.ends link ≡ Some e → IsTrueCopy false d.routers n b x → length (frame_over d.routers a link (PacketItem x)) ≤ 65000
+  -- a tunnel among routers has room for the copy
+  prefix_long : (p : Ipv4) → IsPrefixOf d.routers p → length p.0 ≡ 4
+  prefix_long p k = ap (λ (i : Ipv4). length i.0) k.is ∙ (sound_of d valid k.router k.among).prefix.octets_are.long
+
+  outer_fits : (x : DataItem) (o : Option Outer) → OuterFits d.routers o → length x.payload ≤ MOST_PAYLOAD → item_fits.OuterFits x o
+  outer_fits x None k short = tt
+  outer_fits x (Some o) k short =
+      let h = header_short x.triple.bsl in
+      let ttl = k.ttl in
+      record { src = prefix_long o.src k.src; dst = prefix_long o.dst k.dst; ttl = omega (arith, ttl); size = omega (arith, packet_length x, h, short) }
+
+  carried_short : (x : DataItem) (o : Option Outer) → OuterFits d.routers o → length x.payload ≤ MOST_PAYLOAD → length (carried_octets x o) ≤ 548 + MOST_PAYLOAD
+  carried_short x None k short = let h = header_short x.triple.bsl in omega (arith, packet_length x, h, short)
+  carried_short x (Some o) k short =
+      let h = header_short x.triple.bsl in
+      omega (arith, tunnel_length (item_tunnel x o) (prefix_long o.src k.src) (prefix_long o.dst k.dst), packet_length x, h, short)
+
+  pub copy_short : (n b a : ℕ) (r : RouterConf) (link : ℕ) (e : End) (x : DataItem) → slice_get d.routers a ≡ Some r → slice_get r.ends link ≡ Some e → IsTrueCopy d.routers n b x → length (frame_over d.routers a link (PacketItem x)) ≤ MOST_FRAME
+  unfolding frame_of
   copy_short n b a r link e x at there t =
       let end_fits = end_is r link e (record { place = a; there = at }) there in
       let l = ap (λ (octets : List ℕ). length octets) (over_at d.routers a r link e (PacketItem x) at there) in
-      let m = frame_length r.level e x (t.direct refl) end_fits.peer_mac.octets_are.long end_fits.own_mac.octets_are.long in
-      let h = header_short x.triple.bsl in
-      let p = t.payload in
-      omega (arith, l, m, h, p)
+      let m = frame_length r.level e x x.outer end_fits.peer_mac.octets_are.long end_fits.own_mac.octets_are.long in
+      let k = carried_short x x.outer t.outer t.payload in
+      omega (arith, l, m, k)
 
   -- ---- copies that are sent
 
-  module _ (n a : ℕ) (r : RouterConf) (at : slice_get d.routers a ≡ Some r) (other : Triple) where
-    copy_back : (link : ℕ) (e : End) (x : DataItem) → slice_get r.ends link ≡ Some e → IsTrueCopy false d.routers n (peer_place d.routers a link) x → IsReadBack d.routers a (packet_sent d.routers a x.number x.kind other) (over_end d.routers a link (PacketItem x))
-    copy_back link e x there t =
+  module _ (n a : ℕ) (r : RouterConf) (at : slice_get d.routers a ≡ Some r) where
+    copy_again : (link : ℕ) (e : End) (x : DataItem) → slice_get r.ends link ≡ Some e → IsTrueCopy d.routers n (peer_place d.routers a link) x → IsReadBack d.routers a (Some x.number) (over_end d.routers a link (PacketItem x))
+    copy_again link e x there t =
         let end_fits = end_is r link e (record { place = a; there = at }) there in
-        let six-peer = end_fits.peer_mac.octets_are.long in
-        let six-own = end_fits.own_mac.octets_are.long in
-        let fits = fits_of d.routers n (peer_place d.routers a link) x t in
-        let none = t.direct refl in
-        let octets = frame_over d.routers a link (PacketItem x) in
-        let over : octets ≡ frame_of r.level e (PacketItem x) = over_at d.routers a r link e (PacketItem x) at there in
-        let bift : bift_in octets ≡ x.bift = ap (λ (l : List ℕ). bift_in l) over ∙ bift_again r.level e x fits none six-peer six-own in
-        let there_is = slice_get d.routers (peer_place d.routers a link) in
-        let triple : triple_in there_is x.kind other octets ≡ x.triple = triple_back there_is x other octets (means_direct d.routers n (peer_place d.routers a link) x t) bift in
-        let item : packet_sent d.routers a x.number x.kind other (sent_of d.routers (over_end d.routers a link (PacketItem x))) ≡ PacketItem x =
-        ap (λ (y : Triple). packet_in x.number y x.kind octets) triple ∙ ap (λ (l : List ℕ). packet_in x.number x.triple x.kind l) over ∙ packet_back r.level e x fits none six-peer six-own in
-        let long = ap (λ (l : List ℕ). length l) over ∙ frame_length r.level e x none six-peer six-own in
+        let b = peer_place d.routers a link in
+        let item : item_sent d.routers a (Some x.number) (sent_of d.routers (over_end d.routers a link (PacketItem x))) ≡ PacketItem x =
+        ap (item_in d.routers (Some (record { number = x.number; to = b }))) (over_at d.routers a r link e (PacketItem x) at there)
+        ∙ packet_back d.routers b r.level e x (fits_of d.routers n b x t) (outer_fits x x.outer t.outer t.payload) t.means end_fits.peer_mac.octets_are.long end_fits.own_mac.octets_are.long in
         record {
-          frame = record { within = end_within d.routers a r link e at there; long = omega (arith, long); is = ap (frame_over d.routers a link) (sym item) };
+          frame = record { within = end_within d.routers a r link e at there; is = ap (frame_over d.routers a link) (sym item) };
           is = ap (over_end d.routers a link) item;
         }
 
-    copy_read : (number : ℕ) (kind : Kind) (s : Sending) → IsCopyOver d.routers a r number kind s → IsTrueSending false d.routers n s → IsReadBack d.routers a (packet_sent d.routers a number kind other) s
-    copy_read number kind s k t =
-        let true_copy = subst (λ (z : Sending). IsTrueItem false d.routers n (peer_place d.routers z.from z.link) z.item) k.is t.item in
-        let back = copy_back s.link k.end k.copy k.there true_copy in
-        subst (IsReadBack d.routers a (packet_sent d.routers a number kind other)) (sym k.is)
-        (subst (λ (i : ℕ). IsReadBack d.routers a (packet_sent d.routers a i kind other) (over_end d.routers a s.link (PacketItem k.copy))) k.number_is
-        (subst (λ (j : Kind). IsReadBack d.routers a (packet_sent d.routers a k.copy.number j other) (over_end d.routers a s.link (PacketItem k.copy))) k.kind_is back))
+    copy_read : (number : ℕ) (s : Sending) → IsCopyOver d.routers a r number s → IsTrueSending d.routers n s → IsReadBack d.routers a (Some number) s
+    copy_read number s k t =
+        let true_copy = subst (λ (z : Sending). IsTrueItem d.routers n (peer_place d.routers z.from z.link) z.item) k.is t.item in
+        subst (IsReadBack d.routers a (Some number)) (sym k.is)
+        (subst (λ (i : ℕ). IsReadBack d.routers a (Some i) (over_end d.routers a s.link (PacketItem k.copy))) k.number_is (copy_again s.link k.end k.copy k.there true_copy))
 
-    same_framed : (number : ℕ) (kind : Kind) (e : Effects) (m : Made) → IsSame d.routers a r number kind e m → IsTrueMade false d.routers n m → IsFramed d.routers a (Some number) (packet_sent d.routers a number kind other) e m
-    same_framed number kind e m same t =
-        framed_by d.routers a (Some number) (packet_sent d.routers a number kind other) e m same.sent
-        (each_weaker (λ s. IsCopyOver d.routers a r number kind s × IsTrueSending false d.routers n s) (IsReadBack d.routers a (packet_sent d.routers a number kind other)) (λ s h. copy_read number kind s h.0 h.1) m.sent
-        (each_both (IsCopyOver d.routers a r number kind) (IsTrueSending false d.routers n) m.sent same.copies t.sent))
+    same_framed : (number : ℕ) (ids : List ℕ) (e : Effects) (m : Made) → IsSame d.routers a r number ids e m → IsTrueMade d.routers n m → IsFramed d.routers a (Some number) ids e m
+    same_framed number ids e m same t =
+        framed_by d.routers a (Some number) ids e m same.sent
+        (each_weaker (λ s. IsCopyOver d.routers a r number s × IsTrueSending d.routers n s) (IsReadBack d.routers a (Some number)) (λ s h. copy_read number s h.0 h.1) m.sent
+        (each_both (IsCopyOver d.routers a r number) (IsTrueSending d.routers n) m.sent same.copies t.sent))
         same.got same.drops
 
 -- ---- a copy that arrives
 
-module _ (d : DomainConf) (valid : IsValid d) (b : ℕ) (c : Control) (at : slice_get d.routers b ≡ Some c.conf) (t : IsTrueControl d.routers c) where
-  hopped : (n : ℕ) (x : DataItem) → IsTrueCopy false d.routers n b x → IsFramed d.routers b (Some x.number) (packet_sent d.routers b x.number x.kind x.triple) (hop_in false c (packet_of x) x.ttl) (packet_taken false d.routers b c x x.outer)
-  hopped n x true_copy =
-      let g = control_view c in
-      same_framed d valid n b c.conf at x.triple x.number x.kind (hop_in false c (packet_of x) x.ttl) (packet_taken false d.routers b c x x.outer)
-      (subst (λ (o : Option Outer). IsSame d.routers b c.conf x.number x.kind (hop_in false c (packet_of x) x.ttl) (packet_taken false d.routers b c x o)) (sym (true_copy.direct refl))
-      (hop_same d.routers b c.conf at g (node_place g c.conf.system) x false x.ttl true_copy.ids))
-      (taken_true false d valid n b c at t x true_copy)
+same_prefix : (p q : Ipv4) → bytes_eq p.0 q.0 ≡ true → p ≡ q
+same_prefix p q h = ap (λ (octets : List ℕ). record { 0 = octets }) (bytes_is p.0 q.0 h)
 
-  pub packet_framed : (n a link back : ℕ) (x : DataItem) → link_between d.routers a b ≡ Some link → IsTrueCopy false d.routers n b x → is_up c back ≡ true
-      → (next : Control) (e : Effects) → ◌≡◌ {A = Next} (record { control = next; effects = e }) (on_frame_directly c back (frame_over d.routers a link (PacketItem x))) → IsHopped d.routers b c x next e
+module _ (d : DomainConf) (valid : IsValid d) (b : ℕ) (c : Control) (at : slice_get d.routers b ≡ Some c.conf) (t : IsTrueControl d.routers c) where
+  abbrev Taken : DataItem → Effects → Made → Type 0
+  Taken x e m = IsSame d.routers b c.conf x.number x.ids e m
+
+  -- where it is for this router it is hopped
+  hopped_same : (n : ℕ) (x : DataItem) → IsTrueCopy d.routers n b x → router_at d.routers (target_of d.routers b x) ≡ Some c.conf → Taken x (on_packet c x.kind (item_packet x)) (hop_made d.routers b c x x.ttl)
+  hopped_same n x k here =
+      let g = control_view c in
+      let means_so : means c.conf x.kind x.bift ≡ Some x.triple = subst (λ (q : Option RouterConf). MeansAt q x) here k.means in
+      subst (λ (e : Effects). Taken x e (hop_made d.routers b c x x.ttl)) (sym (packet_taken c x (fits_of d.routers n b x k) means_so))
+      (hop_same d.routers b c.conf at g (node_place g c.conf.system) x x.ids x.ttl k.ids)
+
+  -- the router with the prefix is this one
+  this_prefix : (o : Outer) → bytes_eq o.dst.0 c.conf.prefix.0 ≡ true → router_at d.routers (router_with 0 d.routers o.dst) ≡ Some c.conf
+  this_prefix o here =
+      ap (λ (p : Ipv4). router_at d.routers (router_with 0 d.routers p)) (same_prefix o.dst c.conf.prefix here)
+      ∙ ap (router_at d.routers) (prefix_place 0 d.routers valid.prefixes b c.conf at ∙ ap (λ (m : ℕ). Some m) (zero_plus b)) ∙ at
+
+  taken_same : (n : ℕ) (x : DataItem) → IsTrueCopy d.routers n b x → (o : Option Outer) → x.outer ≡ o → Taken x (copy_taken c x o) (moves.packet_taken d.routers b c x o)
+  taken_same n x k None is = hopped_same n x k (ap (λ (z : Option Outer). router_at d.routers (outer_target d.routers b z)) is ∙ at)
+  taken_same n x k (Some o) is = by (bytes_eq o.dst.0 c.conf.prefix.0) refl
+    where
+      whole : List ℕ
+      whole = tunnel (item_tunnel x o)
+
+      by : (here : Bool) → bytes_eq o.dst.0 c.conf.prefix.0 ≡ here → Taken x (if here then on_packet c x.kind (item_packet x) else in_transit c whole (item_tunnel x o)) (if here then hop_made d.routers b c x x.ttl else passes_through d.routers b c x o)
+      by true h = hopped_same n x k (ap (λ (z : Option Outer). router_at d.routers (outer_target d.routers b z)) is ∙ this_prefix o h)
+      by false h = transit_same d.routers b c at x o (subst (λ (z : Option Outer). item_fits.OuterFits x z) is (outer_fits d valid x x.outer k.outer k.payload))
+
+  pub packet_framed : (n a link back : ℕ) (x : DataItem) → link_between d.routers a b ≡ Some link → IsTrueCopy d.routers n b x → is_up c back ≡ true
+      → (next : Control) (e : Effects) → ◌≡◌ {A = Next} (record { control = next; effects = e }) (on_frame c back (frame_over d.routers a link (PacketItem x))) → IsHopped d.routers b c x next e
   packet_framed n a link back x joined true_copy up next e q =
       let j = join_of d.routers a b link joined in
       let end = end_found j.near.ends j.far.system link j.toward in
       let end_fits = end_is d valid j.near link end.at (record { place = a; there = j.near_at }) end.there in
-      let here : means c.conf x.kind x.bift ≡ Some x.triple = subst (λ (o : Option RouterConf). MeansAt o x) at (means_direct d.routers n b x true_copy) in
-      let all : ◌≡◌ {A = Next} (record { control = next; effects = e }) (unchanged c (hop_in false c (packet_of x) x.ttl)) =
-      q ∙ ap (on_frame_with false c back) (over_at d.routers a j.near link end.at (PacketItem x) j.near_at end.there)
-      ∙ direct_taken false c back j.near.level end.at x (fits_of d.routers n b x true_copy) (true_copy.direct refl) end_fits.peer_mac.octets_are.long end_fits.own_mac.octets_are.long up here in
+      let made = moves.packet_taken d.routers b c x x.outer in
+      let all : ◌≡◌ {A = Next} (record { control = next; effects = e }) (unchanged c (copy_taken c x x.outer)) =
+      q ∙ ap (on_frame c back) (over_at d.routers a j.near link end.at (PacketItem x) j.near_at end.there)
+      ∙ copy_arrives c back j.near.level end.at x (outer_fits d valid x x.outer true_copy.outer true_copy.payload) end_fits.peer_mac.octets_are.long end_fits.own_mac.octets_are.long up in
       record {
         control = ap (λ (k : Next). k.control) all;
-        framed = subst (λ (f : Effects). IsFramed d.routers b (Some x.number) (packet_sent d.routers b x.number x.kind x.triple) f (packet_taken false d.routers b c x x.outer)) (sym (ap (λ (k : Next). k.effects) all)) (hopped n x true_copy);
+        framed = subst (λ (f : Effects). IsFramed d.routers b (Some x.number) x.ids f made) (sym (ap (λ (k : Next). k.effects) all))
+            (same_framed d valid n b c.conf at x.number x.ids (copy_taken c x x.outer) made (taken_same n x true_copy x.outer refl) (taken_true d valid n b c at t x true_copy));
       }
 
   -- ---- a payload that enters
 
-  pub inject_framed : (n sd : ℕ) (bsl : Bsl) (ks : List ℕ) (ttl entropy : ℕ) (payload : List ℕ) (other : Triple) → InjectFits (length d.routers) b sd ks ttl entropy payload → edge_fault c.conf sd bsl ks ≡ None
-      → (e : Effects) → e ≡ inject_directly c sd bsl ks ttl entropy payload
-      → IsFramed d.routers b (Some (n + 1)) (packet_sent d.routers b (n + 1) (ingress_kind c.conf sd) other) e (inject_made false d.routers b c (n + 1) sd bsl ks ttl entropy payload)
-  unfolding inject_with inject_made
-  inject_framed n sd bsl ks ttl entropy payload other fits ok e q =
-      let kind = ingress_kind c.conf sd in
+  pub inject_framed : (n sd : ℕ) (bsl : Bsl) (ks : List ℕ) (ttl entropy : ℕ) (payload : List ℕ) → InjectFits (length d.routers) b sd ks ttl entropy payload → edge_fault c.conf sd bsl ks ≡ None
+      → (e : Effects) → e ≡ inject c sd bsl ks ttl entropy payload
+      → IsFramed d.routers b (Some (n + 1)) [] e (inject_made d.routers b c (n + 1) sd bsl ks ttl entropy payload)
+  unfolding inject inject_made
+  inject_framed n sd bsl ks ttl entropy payload fits ok e q =
       let packets = packets_for sd bsl ks in
       let entries = packets_true c.conf sd bsl ks (allowed_of c.conf sd bsl ks ok) fits.bfr_ids in
-      let made = inject_made false d.routers b c (n + 1) sd bsl ks ttl entropy payload in
-      subst (λ (f : Effects). IsFramed d.routers b (Some (n + 1)) (packet_sent d.routers b (n + 1) kind other) f made) (sym q)
-      (same_framed d valid (n + 1) b c.conf at other (n + 1) kind (inject_directly c sd bsl ks ttl entropy payload) made
-      (joined_same d.routers b c.conf (n + 1) kind (λ (p : IngressPacket). hop_in false c (entering c.conf ttl entropy payload p) (ttl + 1)) (λ (p : IngressPacket). hop_made false d.routers b c (entering_item c.conf (n + 1) ttl entropy payload p) (ttl + 1)) packets
-      (each_weaker (IsEntry sd bsl) (λ p. IsSame d.routers b c.conf (n + 1) kind (hop_in false c (entering c.conf ttl entropy payload p) (ttl + 1)) (hop_made false d.routers b c (entering_item c.conf (n + 1) ttl entropy payload p) (ttl + 1))) entered packets entries))
-      (inject_true false d valid n b c at t sd bsl ks ttl entropy payload fits ok))
+      let made = inject_made d.routers b c (n + 1) sd bsl ks ttl entropy payload in
+      subst (λ (f : Effects). IsFramed d.routers b (Some (n + 1)) [] f made) (sym q)
+      (same_framed d valid (n + 1) b c.conf at (n + 1) [] (inject c sd bsl ks ttl entropy payload) made
+      (joined_same d.routers b c.conf (n + 1) [] (λ (p : IngressPacket). hop_in c (entering c.conf ttl entropy payload p) (ttl + 1)) (λ (p : IngressPacket). hop_made d.routers b c (entering_item c.conf (n + 1) ttl entropy payload p) (ttl + 1)) packets
+      (each_weaker (IsEntry sd bsl) (λ p. IsSame d.routers b c.conf (n + 1) [] (hop_in c (entering c.conf ttl entropy payload p) (ttl + 1)) (hop_made d.routers b c (entering_item c.conf (n + 1) ttl entropy payload p) (ttl + 1))) entered packets entries))
+      (inject_true d valid n b c at t sd bsl ks ttl entropy payload fits ok))
     where
-      entered : (p : IngressPacket) → IsEntry sd bsl p → IsSame d.routers b c.conf (n + 1) (ingress_kind c.conf sd) (hop_in false c (entering c.conf ttl entropy payload p) (ttl + 1)) (hop_made false d.routers b c (entering_item c.conf (n + 1) ttl entropy payload p) (ttl + 1))
+      entered : (p : IngressPacket) → IsEntry sd bsl p → IsSame d.routers b c.conf (n + 1) [] (hop_in c (entering c.conf ttl entropy payload p) (ttl + 1)) (hop_made d.routers b c (entering_item c.conf (n + 1) ttl entropy payload p) (ttl + 1))
       entered p k =
           let g = control_view c in
-          let x = entering_item c.conf (n + 1) ttl entropy payload p in
-          subst (λ (s : ℕ). IsSame d.routers b c.conf (n + 1) (ingress_kind c.conf s) (hop_in false c (entering c.conf ttl entropy payload p) (ttl + 1)) (hop_made false d.routers b c x (ttl + 1))) k.sd_is
-          (hop_same d.routers b c.conf at g (node_place g c.conf.system) x false (ttl + 1) k.ids.of_set)
+          hop_same d.routers b c.conf at g (node_place g c.conf.system) (entering_item c.conf (n + 1) ttl entropy payload p) [] (ttl + 1) k.ids.of_set
 
 -- ---- an end that is down
 
-pub down_framed : (c : Control) (back : ℕ) (octets : List ℕ) → is_up c back ≡ false → on_frame_directly c back octets ≡ unchanged c (dropped cause.Link)
-unfolding on_frame_with
+pub down_framed : (c : Control) (back : ℕ) (octets : List ℕ) → is_up c back ≡ false → on_frame c back octets ≡ unchanged c (dropped cause.Link)
+unfolding on_frame
 down_framed c back octets down = rw down refl

@@ -4,6 +4,7 @@ use Rattle.std.proofs.Common.{◌≡◌, ◌⊎◌, inl, inr, ℕ, ◌+◌, ◌<
 use Rattle.std.specs.List.{AllByRecursion}
 use Rattle.std.proofs.lemmas.List.{length-append}
 use Rattle.byteorder.specs.Endian.{big_bytes}
+use Rattle.wire_base.specs.declared.limits.TheConstants.{MOST_FRAME}
 use Rattle.wire_base.specs.declared.addresses.LspId.{LspId}
 use Rattle.wire_base.specs.declared.addresses.SystemId.{SystemId}
 use Rattle.wire_base.specs.declared.cause.Cause.{Cause}
@@ -18,27 +19,28 @@ use Rattle.wire_base.specs.model.Control.{Control, fragment_0}
 use Rattle.wire_base.specs.model.Ethernet.{ethernet}
 use Rattle.wire_base.specs.model.Flooding.{Reply, on_pdu, send}
 use Rattle.wire_base.specs.model.Item.{ControlItem, all_routers, frame_of}
-use Rattle.wire_base.specs.model.OnFrame.{Effects, Next, Drop, pdu_frame, frames_of, framed, on_frame_with, on_frame_directly}
+use Rattle.wire_base.specs.model.OnFrame.{Effects, Next, Drop, pdu_frame, frames_of, framed, on_frame}
 use Rattle.wire_base.specs.model.OwnLsp.{own_flags}
 use Rattle.wire_base.specs.model.Pdu.{Head, Pdu, LspPdu, CsnpPdu, PsnpPdu, HelloPdu, OtherPdu, lsp_sum, tlvs_pass, pdu}
 use Rattle.wire_base.specs.model.Tlv.{SummaryFits}
 use Rattle.format_laws.proofs.TlvListLaws.{row_tlvs_pass, passes_are}
 use Rattle.item_laws.specs.Fits.{IsSendable, EntryFits}
-use Rattle.item_laws.specs.Read.{control_in}
-use Rattle.item_laws.proofs.ControlFrames.{sendable_short, control_back, control_taken}
+use Rattle.item_laws.proofs.ControlFrames.{sendable_short, control_taken}
 use Rattle.item_laws.proofs.OwnLaws.{own_fits, dead_fits}
 use Rattle.item_laws.proofs.RowLaws.{rows_short}
-use Rattle.domain_core.specs.declared.step_out.DropLine.{DropLine}
-use Rattle.domain_core.specs.World.{is_up, link_between}
-use Rattle.domain_core.specs.Moves.{over_end, control_lost, replied}
-use Rattle.domain_core.specs.Truth.{IsAmong, IsOwnLsp, IsDeadLsp, IsTrueLsp, IsTrueRow, IsSource, IsTruePdu, IsTrueControl}
-use Rattle.domain_core.specs.Framed.{frame_over, sent_of, pdu_sent, drop_line, IsFramed, IsFlooded}
-use Rattle.domain_core.proofs.EachLaws.{each_weaker, each_mapped, each_got}
-use Rattle.domain_core.proofs.DomainLaws.{sound_of, alike}
-use Rattle.domain_core.proofs.LinkLaws.{join_of, end_found}
-use Rattle.domain_core.proofs.ControlTruth.{IsTrueReply, state_of, named_fits, row_fits, on_pdu_true}
-use Rattle.domain_core.proofs.SendTruth.{send_true}
-use Rattle.domain_core.proofs.FramedBack.{got_some, up_within, over_at, end_within, IsReadBack, framed_by}
+use Rattle.domain_model.specs.declared.lines.DropLine.{DropLine}
+use Rattle.domain_model.specs.World.{is_up, link_between}
+use Rattle.domain_model.specs.Moves.{over_end, control_lost, replied}
+use Rattle.domain_model.specs.Truth.{IsAmong, IsOwnLsp, IsDeadLsp, IsTrueLsp, IsTrueRow, IsSource, IsTruePdu, IsTrueControl}
+use Rattle.domain_core.specs.Framed.{frame_over, sent_of, item_sent, drop_line, IsFramed, IsFlooded}
+use Rattle.domain_core.specs.Read.{item_in}
+use Rattle.domain_model.proofs.EachLaws.{each_weaker, each_mapped, each_got}
+use Rattle.domain_model.proofs.DomainLaws.{sound_of, alike}
+use Rattle.domain_model.proofs.LinkLaws.{join_of, end_found}
+use Rattle.domain_model.proofs.ControlTruth.{IsTrueReply, state_of, named_fits, row_fits, on_pdu_true}
+use Rattle.domain_model.proofs.SendTruth.{send_true}
+use Rattle.domain_core.proofs.FramedBack.{up_within, over_at, end_within, IsReadBack, framed_by}
+use Rattle.domain_core.proofs.ReadBack.{got_some, pdu_back}
 
 -- ---- a true PDU can be sent
 
@@ -98,13 +100,6 @@ module _ (confs : List RouterConf) (sound : AllByRecursion IsSound confs) where
 
 -- ---- the frame of a PDU
 
-pdu_some : (level : Level) (p : Pdu) → IsSendable p → 1 ≤ length (pdu level p)
-pdu_some level (LspPdu h tlvs) is = omega arith
-pdu_some level (CsnpPdu source start last tlvs) is = omega arith
-pdu_some level (PsnpPdu source tlvs) is = omega arith
-pdu_some level HelloPdu is = absurd is
-pdu_some level (OtherPdu number) is = absurd is
-
 frame_length : (level : Level) (e : End) (p : Pdu) → length e.own_mac.0 ≡ 6 → length (frame_of level e (ControlItem p)) ≡ 17 + length (pdu level p)
 unfolding frame_of
 frame_length level e p six =
@@ -132,7 +127,7 @@ module _ (d : DomainConf) (valid : IsValid d) where
   end_is : (r : RouterConf) (link : ℕ) (e : End) → IsAmong d.routers r → slice_get r.ends link ≡ Some e → IsEnd e
   end_is r link e among there = each_got IsEnd r.ends link e (sound_of d valid r among).ends there
 
-  pub pdu_short : (a : ℕ) (r : RouterConf) (link : ℕ) (e : End) (p : Pdu) → slice_get d.routers a ≡ Some r → slice_get r.ends link ≡ Some e → IsTruePdu d.routers p → length (frame_over d.routers a link (ControlItem p)) ≤ 65000
+  pub pdu_short : (a : ℕ) (r : RouterConf) (link : ℕ) (e : End) (p : Pdu) → slice_get d.routers a ≡ Some r → slice_get r.ends link ≡ Some e → IsTruePdu d.routers p → length (frame_over d.routers a link (ControlItem p)) ≤ MOST_FRAME
   pdu_short a r link e p at there t =
       let end_fits = end_is r link e (record { place = a; there = at }) there in
       let l = ap (λ (octets : List ℕ). length octets) (over_at d.routers a r link e (ControlItem p) at there) in
@@ -143,18 +138,14 @@ module _ (d : DomainConf) (valid : IsValid d) where
 -- ---- what a router sends and does
 
 module _ (d : DomainConf) (valid : IsValid d) (b : ℕ) (c : Control) (at : slice_get d.routers b ≡ Some c.conf) (t : IsTrueControl d.routers c) where
-  pdu_back : (link : ℕ) (e : End) (p : Pdu) → slice_get c.conf.ends link ≡ Some e → IsTruePdu d.routers p → IsReadBack d.routers b (pdu_sent c.conf.level) (over_end d.routers b link (ControlItem p))
-  pdu_back link e p there true_pdu =
+  pdu_again : (link : ℕ) (e : End) (p : Pdu) → slice_get c.conf.ends link ≡ Some e → IsTruePdu d.routers p → IsReadBack d.routers b None (over_end d.routers b link (ControlItem p))
+  pdu_again link e p there true_pdu =
       let end_fits = end_is d valid c.conf link e t.among there in
-      let six = end_fits.own_mac.octets_are.long in
       let sendable = true_sendable d.routers valid.sound p true_pdu in
-      let octets = frame_over d.routers b link (ControlItem p) in
-      let over : octets ≡ frame_of c.conf.level e (ControlItem p) = over_at d.routers b c.conf link e (ControlItem p) at there in
-      let item : pdu_sent c.conf.level (sent_of d.routers (over_end d.routers b link (ControlItem p))) ≡ ControlItem p = ap (λ (l : List ℕ). control_in c.conf.level l) over ∙ control_back c.conf.level e p sendable six in
-      let long = ap (λ (l : List ℕ). length l) over ∙ frame_length c.conf.level e p six in
-      let some = pdu_some c.conf.level p sendable in
+      let item : item_sent d.routers b None (sent_of d.routers (over_end d.routers b link (ControlItem p))) ≡ ControlItem p =
+      ap (item_in d.routers None) (over_at d.routers b c.conf link e (ControlItem p) at there) ∙ pdu_back d valid c.conf t.among e p sendable end_fits.own_mac.octets_are.long in
       record {
-        frame = record { within = end_within d.routers b c.conf link e at there; long = omega (arith, long, some); is = ap (frame_over d.routers b link) (sym item) };
+        frame = record { within = end_within d.routers b c.conf link e at there; is = ap (frame_over d.routers b link) (sym item) };
         is = ap (over_end d.routers b link) item;
       }
 
@@ -168,28 +159,28 @@ module _ (d : DomainConf) (valid : IsValid d) (b : ℕ) (c : Control) (at : slic
       ap (λ (octets : List ℕ). over_link link octets ∷ frames_of r link pdus) (frame_same r link e p here there)
       ∙ ap (λ (l : List Sent). sent_of d.routers (over_end d.routers b link (ControlItem p)) ∷ l) (frames_same r link e here there pdus)
 
-  drops_same : (drops : List Cause) → map (control_lost b) drops ≡ map (drop_line b None) (map whole drops)
+  drops_same : (drops : List Cause) → map (control_lost b) drops ≡ map (drop_line b None []) (map whole drops)
   drops_same [] = refl
   drops_same (why ∷ drops) = ap (λ (l : List DropLine). control_lost b why ∷ l) (drops_same drops)
 
-  reply_framed : (link : ℕ) (e : End) (r : Reply) → slice_get c.conf.ends link ≡ Some e → IsTrueReply d.routers c r → IsFramed d.routers b None (pdu_sent c.conf.level) (framed link r).effects (replied d.routers b link r)
+  reply_framed : (link : ℕ) (e : End) (r : Reply) → slice_get c.conf.ends link ≡ Some e → IsTrueReply d.routers c r → IsFramed d.routers b None [] (framed link r).effects (replied d.routers b link r)
   unfolding framed
   reply_framed link e r there true_reply =
-      framed_by d.routers b None (pdu_sent c.conf.level) (framed link r).effects (replied d.routers b link r)
+      framed_by d.routers b None [] (framed link r).effects (replied d.routers b link r)
       (ap (λ (q : RouterConf). frames_of q link r.sent) true_reply.next.conf ∙ frames_same c.conf link e at there r.sent)
-      (each_mapped (IsReadBack d.routers b (pdu_sent c.conf.level)) (λ p. over_end d.routers b link (ControlItem p)) r.sent
-      (each_weaker (IsTruePdu d.routers) (λ p. IsReadBack d.routers b (pdu_sent c.conf.level) (over_end d.routers b link (ControlItem p))) (λ p h. pdu_back link e p there h) r.sent true_reply.says))
+      (each_mapped (IsReadBack d.routers b None) (λ p. over_end d.routers b link (ControlItem p)) r.sent
+      (each_weaker (IsTruePdu d.routers) (λ p. IsReadBack d.routers b None (over_end d.routers b link (ControlItem p))) (λ p h. pdu_again link e p there h) r.sent true_reply.says))
       refl (drops_same r.drops)
 
   flooded : (link : ℕ) (e : End) (r : Reply) → slice_get c.conf.ends link ≡ Some e → IsTrueReply d.routers c r → (next : Control) (f : Effects) → ◌≡◌ {A = Next} (record { control = next; effects = f }) (framed link r) → IsFlooded d.routers b link c r next f
   flooded link e r there true_reply next f q = record {
     control = ap (λ (k : Next). k.control) q ∙ framed_control link r;
-    framed = subst (λ (g : Effects). IsFramed d.routers b None (pdu_sent c.conf.level) g (replied d.routers b link r)) (sym (ap (λ (k : Next). k.effects) q)) (reply_framed link e r there true_reply);
+    framed = subst (λ (g : Effects). IsFramed d.routers b None [] g (replied d.routers b link r)) (sym (ap (λ (k : Next). k.effects) q)) (reply_framed link e r there true_reply);
   }
 
   -- a PDU that arrives
   pub pdu_framed : (a link back : ℕ) (p : Pdu) → link_between d.routers a b ≡ Some link → IsTruePdu d.routers p → is_up c back ≡ true
-      → (next : Control) (f : Effects) → ◌≡◌ {A = Next} (record { control = next; effects = f }) (on_frame_directly c back (frame_over d.routers a link (ControlItem p))) → IsFlooded d.routers b back c (on_pdu c back p) next f
+      → (next : Control) (f : Effects) → ◌≡◌ {A = Next} (record { control = next; effects = f }) (on_frame c back (frame_over d.routers a link (ControlItem p))) → IsFlooded d.routers b back c (on_pdu c back p) next f
   pdu_framed a link back p joined true_pdu up next f q =
       let j = join_of d.routers a b link joined in
       let far = end_found j.near.ends j.far.system link j.toward in
@@ -199,7 +190,7 @@ module _ (d : DomainConf) (valid : IsValid d) (b : ℕ) (c : Control) (at : slic
       let over = over_at d.routers a j.near link far.at (ControlItem p) j.near_at far.there ∙ ap (λ (l : Level). frame_of l far.at (ControlItem p)) level in
       let near = got_some c.conf.ends back (subst (λ (n : ℕ). back < n) t.kept.control.links (up_within c.flood.up back up)) in
       flooded back near.0 (on_pdu c back p) near.1 (on_pdu_true d.routers valid.few valid.sound c t.among t.kept.control.links (state_of d.routers c t) back p true_pdu) next f
-      (q ∙ ap (on_frame_with false c back) over ∙ control_taken false c back far.at p (true_sendable d.routers valid.sound p true_pdu) end_fits.own_mac.octets_are.long up)
+      (q ∙ ap (on_frame c back) over ∙ control_taken c back far.at p (true_sendable d.routers valid.sound p true_pdu) end_fits.own_mac.octets_are.long up)
 
   -- what is due
   pub send_framed : (link : ℕ) → link < length c.conf.ends → (next : Control) (f : Effects) → ◌≡◌ {A = Next} (record { control = next; effects = f }) (framed link (send c link)) → IsFlooded d.routers b link c (send c link) next f

@@ -1,34 +1,18 @@
-pub mod AgedTruth
 pub mod CarryLaws
-pub mod ControlTruth
-pub mod CopyTruth
-pub mod DomainLaws
-pub mod EachLaws
-pub mod EnterTruth
 pub mod EventLaws
-pub mod FlagLaws
 pub mod FlightLaws
-pub mod FloodTruth
 pub mod FramedBack
 pub mod FramedCopies
 pub mod FramedHop
 pub mod FramedPdus
 pub mod FramedWorld
-pub mod HopTruth
-pub mod IdLaws
-pub mod LinkLaws
-pub mod NamedLaws
-pub mod QueueLaws
+pub mod LedgerStep
 pub mod ReadBack
 pub mod RefusalLaws
-pub mod RouterTruth
 pub mod SeenLaws
-pub mod SendTruth
 pub mod SentLaws
 pub mod StartLaws
 pub mod TransitLaws
 pub mod TurnLaws
-pub mod ViewTruth
-pub mod WorldTruth
 mod CarriedLaws
 mod ShortLaws

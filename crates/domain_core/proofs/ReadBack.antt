@@ -1,157 +1,103 @@
--- What a router says in its own LSP is read back by every other router as what it claims itself.
-use Rattle.std.proofs.Common.{◌≡◌, ℕ, zero, suc, ◌+◌, ◌<◌, ◌≤◌, max, Bool, true, false, if◌then◌else◌, List, [], ◌∷◌, ◌++◌, length, take, drop, map, Some, refl, sym, ap, ◌∙◌, arith}
-use Rattle.std.specs.List.{AllByRecursion, flat_map, filter_map}
-use Rattle.std.proofs.lemmas.Bool.{lt-ltb}
-use Rattle.std.proofs.lemmas.List.{append-nil, take-append-drop, length-drop}
-use Rattle.std.proofs.lemmas.List.Concat.{flat_map-append}
+-- The item of a frame is read off it again.
+use Rattle.std.proofs.Common.{◌≡◌, ℕ, zero, suc, ◌<◌, ◌/◌, List, [], ◌∷◌, length, drop, slice_get, Option, Some, None, Result, Ok, refl, sym, ap, ◌∙◌, arith}
+use Rattle.byteorder.specs.Endian.{big_number}
+use Rattle.wire_base.specs.declared.addresses.Mac.{Mac}
+use Rattle.wire_base.specs.declared.cause.Cause.{Cause}
 use Rattle.wire_base.specs.declared.conf.End.{End}
+use Rattle.wire_base.specs.declared.conf.Kind.{Kind}
+use Rattle.wire_base.specs.declared.conf.Kind.TheVariants.{Mpls, Configured}
 use Rattle.wire_base.specs.declared.conf.Level.{Level}
-use Rattle.wire_base.specs.declared.conf.Level.TheVariants.{One, Two}
-use Rattle.wire_base.specs.declared.conf.OwnSub.{OwnSub}
 use Rattle.wire_base.specs.declared.conf.RouterConf.{RouterConf}
-use Rattle.wire_base.specs.declared.conf.SubKind.{SubKind}
-use Rattle.wire_base.specs.declared.view.ViewSub.{ViewSub}
-use Rattle.wire_base.specs.model.BierInfo.{InfoFits, info_tlv}
-use Rattle.wire_base.specs.model.Configuration.{IsSound, IsEnd, IsOwnSub}
-use Rattle.wire_base.specs.model.Lists.{blocks, blocks_within}
-use Rattle.wire_base.specs.model.OwnLsp.{picked, reach_of, most_in_tlv, reach_tlv, reach_tlvs, info_of, control_for, own_prefix, prefix_tlv, own_tlvs, own_content, level_bits, own_flags}
-use Rattle.wire_base.specs.model.Place.{kind_of, is_mpls}
-use Rattle.wire_base.specs.model.Tlv.{tlv, ReachFits, reach, reach_at, PrefixFits, prefix, prefix_at, prefix_bits, padded, entries_of, tlvs_before}
-use Rattle.wire_base.specs.model.View.{Link, link_of, links_in, sub_of, sub_at, accepted, subs_of, subs_in, is_overload_flag, end_link}
-use Rattle.format_laws.proofs.InfoLaws.{info_again}
-use Rattle.format_laws.proofs.TlvListLaws.{reaches_again, prefixes_again, before_spelled}
-use Rattle.lsp_origin.proofs.ContentLaws.{sub_fits, bare_fits, subs_follow, picked_all}
-use Rattle.domain_core.proofs.EachLaws.{each_weaker, each_mapped, each_taken, each_dropped}
+use Rattle.wire_base.specs.declared.faults.FrameFault.{FrameFault}
+use Rattle.wire_base.specs.declared.faults.IpFault.{IpFault}
+use Rattle.wire_base.specs.declared.faults.PduFault.{PduFault}
+use Rattle.wire_base.specs.model.BierHeader.{header_length}
+use Rattle.wire_base.specs.model.Configuration.{DomainConf, IsValid}
+use Rattle.wire_base.specs.model.Ethernet.{Carried}
+use Rattle.wire_base.specs.model.Item.{ControlItem, PacketItem, DataItem, Outer, outer_target, packet_frame, ingress_header, item_header, item_packet, item_tunnel, frame_of}
+use Rattle.wire_base.specs.model.OnFrame.{Packet}
+use Rattle.wire_base.specs.model.Pdu.{Pdu, pdu, pdu_at}
+use Rattle.wire_base.specs.model.Place.{means}
+use Rattle.wire_base.specs.model.Tunnel.{TunnelPacket}
+use Rattle.item_laws.specs.Fits.{IsSendable, ItemFits, OuterFits}
+use Rattle.item_laws.proofs.ControlFrames.{isis_carries, sendable_reads, sendable_short}
+use Rattle.item_laws.proofs.PacketFrames.{ids_again, item_header_reads, payload_after, head_reads, carried_by, copy_carries, tunnel_back}
+use Rattle.bier_forward.specs.Packets.{packet_at}
+use Rattle.domain_model.specs.Moves.{packet_of}
+use Rattle.domain_model.specs.Truth.{IsAmong, MeansAt, router_at}
+use Rattle.domain_model.proofs.DomainLaws.{alike}
+use Rattle.domain_core.specs.Read.{pdu_or_hello, pdu_carried, level_at, level_of, pdu_in, packet_or_none, packet_read, tunnel_carried, packet_carried, packet_in, outer_or_none, outer_carried, outer_in, copy_read, copy_in, item_in}
 
--- ---- words on lists
+-- ---- PDUs
 
-flat_mapped : {X Y Z : Type 0} (f : Y → List Z) (g : X → Y) (xs : List X) → flat_map f (map g xs) ≡ flat_map (λ x. f (g x)) xs
-flat_mapped f g [] = refl
-flat_mapped {X} {Y} {Z} f g (x ∷ xs) = ap (λ (l : List Z). f (g x) ++ l) (flat_mapped f g xs)
+pub got_some : {X : Type 0} (xs : List X) (i : ℕ) → i < length xs → (x : X) × (slice_get xs i ≡ Some x)
+got_some [] i h = absurd (omega (arith, h))
+got_some (x ∷ xs) zero h = (x, refl)
+got_some (x ∷ xs) (suc i) h = got_some xs i (omega (arith, h))
 
-flat_none : {X Y : Type 0} (f : X → List Y) (xs : List X) → AllByRecursion (λ x. f x ≡ []) xs → flat_map f xs ≡ []
-flat_none f [] all = refl
-flat_none {X} {Y} f (x ∷ xs) all = ap (λ (l : List Y). l ++ flat_map f xs) all.0 ∙ flat_none f xs all.1
+-- all routers of a domain are of one level
+level_is : (d : DomainConf) → IsValid d → (r : RouterConf) → IsAmong d.routers r → level_of d.routers ≡ r.level
+level_is d valid r among =
+    let some = valid.some in
+    let first = got_some d.routers 0 (omega (arith, some)) in
+    ap level_at first.1 ∙ (alike d valid r first.0 among (record { place = 0; there = first.1 })).level
 
-map_joined : {X Y : Type 0} (f : X → Y) (xs ys : List X) → map f (xs ++ ys) ≡ map f xs ++ map f ys
-map_joined f [] ys = refl
-map_joined {X} {Y} f (x ∷ xs) ys = ap (λ (l : List Y). f x ∷ l) (map_joined f xs ys)
+pub pdu_back : (d : DomainConf) → IsValid d → (r : RouterConf) → IsAmong d.routers r → (e : End) (p : Pdu) → IsSendable p → length e.own_mac.0 ≡ 6 → item_in d.routers None (frame_of r.level e (ControlItem p)) ≡ ControlItem p
+unfolding item_in frame_of
+pdu_back d valid r among e p is six =
+    ap (λ (c : Result Carried FrameFault). ControlItem (pdu_carried (level_of d.routers) c)) (isis_carries e.own_mac (pdu r.level p) six (sendable_short r.level p is))
+    ∙ ap (λ (l : Level). ControlItem (pdu_or_hello (pdu_at l (pdu r.level p)))) (level_is d valid r among)
+    ∙ ap (λ (o : Result Pdu PduFault). ControlItem (pdu_or_hello o)) (sendable_reads r.level p is)
 
--- ---- links
+-- ---- packets
 
-reach_fits : (e : End) → IsEnd e → ReachFits (reach_of e)
-reach_fits e is = record { neighbour = is.peer.long; pseudonode = omega arith; metric = omega (arith, is.last); subs = omega arith }
+same_packet : (x : DataItem) (rest : List ℕ) → rest ≡ x.payload → ◌≡◌ {A = Result Packet Cause} (Ok (record { triple = x.triple; kind = x.kind; header = item_header x; payload = rest })) (Ok (packet_of x))
+same_packet x rest e = ap (λ (octets : List ℕ). Ok (record { triple = x.triple; kind = x.kind; header = item_header x; payload = octets })) e
 
-link_read : (e : End) → IsEnd e → link_of (reach_of e) ≡ Some (end_link e)
-link_read e is =
-    let m : max e.metric 1 ≡ e.metric = omega (arith, is.some) in
-    rw (lt-ltb e.metric 16777215 (omega (arith, is.last))) (ap (λ (n : ℕ). Some (record { neighbour = e.peer; metric = n })) m)
+-- a router where the BIFT-id means the triple reads the packet
+packet_is : (q : RouterConf) (x : DataItem) → ItemFits x → means q x.kind x.bift ≡ Some x.triple → packet_at q x.kind (item_packet x) ≡ Ok (packet_of x)
+unfolding packet_at
+packet_is q x fits means_so =
+    let head = head_reads x fits in
+    let found : means q x.kind (big_number 4 (item_packet x) / 4096) ≡ Some x.triple = ap (means q x.kind) head.bift ∙ means_so in
+    rw (head.long, head.last, found, item_header_reads x.kind x fits) (same_packet x (drop (header_length x.triple.bsl) (item_packet x)) (payload_after x))
 
-links_read : (es : List End) → AllByRecursion IsEnd es → filter_map link_of (map reach_of es) ≡ map end_link es
-links_read [] all = refl
-links_read (e ∷ es) all = rw (link_read e all.0) (ap (λ (ls : List Link). end_link e ∷ ls) (links_read es all.1))
+read_there : (q : Option RouterConf) (x : DataItem) → ItemFits x → MeansAt q x → packet_read q x.kind (item_packet x) ≡ Some (packet_of x)
+read_there None x fits h = absurd h
+read_there (Some q) x fits h = ap packet_or_none (packet_is q x fits h)
 
-block_read : (es : List End) → AllByRecursion IsEnd es → links_in (reach_tlv es) ≡ map end_link es
-block_read es all =
-    let rs = map reach_of es in
-    let fits : AllByRecursion ReachFits rs = each_mapped ReachFits reach_of es (each_weaker IsEnd (λ e. ReachFits (reach_of e)) reach_fits es all) in
-    ap (λ (l : List ℕ). filter_map link_of (entries_of reach_at l)) (sym (flat_mapped reach reach_of es)) ∙ ap (filter_map link_of) (reaches_again rs fits) ∙ links_read es all
+direct_inside : (confs : List RouterConf) (b : ℕ) (kind : Kind) (octets : List ℕ) → packet_carried confs b (Ok (carried_by kind octets)) ≡ packet_read (slice_get confs b) kind octets
+direct_inside confs b Mpls octets = refl
+direct_inside confs b Configured octets = refl
 
-blocks_read : (m : ℕ) (es : List End) → length es ≤ m → AllByRecursion IsEnd es → flat_map links_in (map reach_tlv (blocks_within m most_in_tlv es)) ≡ map end_link es
-blocks_read zero [] few all = refl
-blocks_read zero (e ∷ es) few all = absurd (omega arith)
-blocks_read (suc m) [] few all = refl
-blocks_read (suc m) (e ∷ es) few all =
-    let xs = e ∷ es in
-    let l = length-drop 23 xs in
-    ap (λ (ls : List Link). ls ++ flat_map links_in (map reach_tlv (blocks_within m most_in_tlv (drop 23 xs)))) (block_read (take 23 xs) (each_taken IsEnd 23 xs all))
-    ∙ ap (λ (ls : List Link). map end_link (take 23 xs) ++ ls) (blocks_read m (drop 23 xs) (omega (arith, l, few)) (each_dropped IsEnd 23 xs all))
-    ∙ sym (map_joined end_link (take 23 xs) (drop 23 xs)) ∙ ap (map end_link) (take-append-drop 23 xs)
+direct_outer : (kind : Kind) (octets : List ℕ) → outer_carried (Ok (carried_by kind octets)) ≡ None
+direct_outer Mpls octets = refl
+direct_outer Configured octets = refl
 
--- ---- subdomains
+module _ (confs : List RouterConf) (b : ℕ) (peer own : Mac) (x : DataItem) (fits : ItemFits x) (six-peer : length peer.0 ≡ 6) (six-own : length own.0 ≡ 6) where
+  copy_inside : (o : Option Outer) → OuterFits x o → MeansAt (router_at confs (outer_target confs b o)) x → packet_in confs b (packet_frame peer own x o) ≡ Some (packet_of x)
+  copy_inside None room h =
+      ap (packet_carried confs b) (copy_carries peer own x None six-peer six-own) ∙ direct_inside confs b x.kind (item_packet x) ∙ read_there (slice_get confs b) x fits h
+  copy_inside (Some o) room h =
+      ap (packet_carried confs b) (copy_carries peer own x (Some o) six-peer six-own)
+      ∙ ap (tunnel_carried confs) (tunnel_back (item_tunnel x o) room)
+      ∙ read_there (router_at confs (outer_target confs b (Some o))) x fits h
 
-info_fits : (kinds : List SubKind) (s : OwnSub) → IsOwnSub s → InfoFits (info_of kinds s)
-info_fits kinds s is = by (is_mpls (kind_of kinds s.sd))
-  where
-    by : (b : Bool) → InfoFits (record { sd = s.sd; id = s.id; ranges = if b then s.ranges else [] })
-    by true = sub_fits s is
-    by false = bare_fits s (record { sd = s.sd; id = s.id; ranges = [] }) is refl refl refl
+  outer_back : (o : Option Outer) → OuterFits x o → outer_in (packet_frame peer own x o) ≡ o
+  outer_back None room = ap outer_carried (copy_carries peer own x None six-peer six-own) ∙ direct_outer x.kind (item_packet x)
+  outer_back (Some o) room = ap outer_carried (copy_carries peer own x (Some o) six-peer six-own) ∙ ap outer_or_none (tunnel_back (item_tunnel x o) room)
 
-sub_read : (octets : List ℕ) (kinds : List SubKind) (s : OwnSub) → IsOwnSub s → sub_at octets (info_tlv (info_of kinds s)) ≡ Some (sub_of octets (info_of kinds s))
-sub_read octets kinds s is = ap (accepted octets) (info_again (info_of kinds s) (info_fits kinds s is))
+  same_copy : copy_read x.number x.outer (Some (packet_of x)) ≡ x
+  unfolding ingress_header
+  same_copy = ap (λ (ids : List ℕ). record x { ids = ids }) (ids_again x fits)
 
-subs_read : (octets : List ℕ) (kinds : List SubKind) (subs : List OwnSub) → AllByRecursion IsOwnSub subs → filter_map (sub_at octets) (map (λ s. info_tlv (info_of kinds s)) subs) ≡ map (λ s. sub_of octets (info_of kinds s)) subs
-subs_read octets kinds [] all = refl
-subs_read octets kinds (s ∷ subs) all = rw (sub_read octets kinds s all.0) (ap (λ (vs : List ViewSub). sub_of octets (info_of kinds s) ∷ vs) (subs_read octets kinds subs all.1))
+  pub copy_back : OuterFits x x.outer → MeansAt (router_at confs (outer_target confs b x.outer)) x → copy_in confs (record { number = x.number; to = b }) (packet_frame peer own x x.outer) ≡ x
+  copy_back room h =
+      ap (λ (o : Option Outer). copy_read x.number o (packet_in confs b (packet_frame peer own x x.outer))) (outer_back x.outer room)
+      ∙ ap (copy_read x.number x.outer) (copy_inside x.outer room h)
+      ∙ same_copy
 
-control_bits : (subs : List OwnSub) → prefix_bits (control_for subs) ≡ 32
-control_bits [] = refl
-control_bits (s ∷ subs) = refl
-
-control_small : (subs : List OwnSub) → control_for subs < 256
-control_small [] = omega arith
-control_small (s ∷ subs) = omega arith
-
-four_padded : (octets : List ℕ) → length octets ≡ 4 → octets ≡ padded (take 4 octets)
-four_padded (a ∷ b ∷ c ∷ d ∷ []) long = refl
-four_padded [] long = absurd (omega (arith, long))
-four_padded (a ∷ []) long = absurd (omega (arith, long))
-four_padded (a ∷ b ∷ []) long = absurd (omega (arith, long))
-four_padded (a ∷ b ∷ c ∷ []) long = absurd (omega (arith, long))
-four_padded (a ∷ b ∷ c ∷ d ∷ e ∷ more) long = absurd (omega (arith, long))
-
-prefix_fits : (r : RouterConf) → IsSound r → PrefixFits (own_prefix r)
-prefix_fits r sound = record {
-  metric = omega arith;
-  control = control_small r.subs;
-  bits = rw (control_bits r.subs) (omega arith);
-  octets = rw (control_bits r.subs) (four_padded r.prefix.0 sound.prefix.octets_are.long);
-  subs = subs_follow r.kinds r.subs sound.room;
-}
-
-places_read : (r : RouterConf) → IsSound r → subs_of (own_prefix r) ≡ map (λ s. sub_of r.prefix.0 (info_of r.kinds s)) r.subs
-places_read r sound =
-    rw (control_bits r.subs)
-    (ap (λ (l : List ℕ). filter_map (sub_at r.prefix.0) (tlvs_before l)) (sym (flat_mapped tlv (λ (s : OwnSub). info_tlv (info_of r.kinds s)) r.subs))
-    ∙ ap (filter_map (sub_at r.prefix.0)) (before_spelled (map (λ s. info_tlv (info_of r.kinds s)) r.subs))
-    ∙ subs_read r.prefix.0 r.kinds r.subs sound.subs)
-
-prefix_read : (r : RouterConf) → IsSound r → subs_in (prefix_tlv r) ≡ map (λ s. sub_of r.prefix.0 (info_of r.kinds s)) r.subs
-prefix_read r sound =
-    let one : entries_of prefix_at (prefix (own_prefix r)) ≡ own_prefix r ∷ [] = ap (entries_of prefix_at) (sym (append-nil (prefix (own_prefix r)))) ∙ prefixes_again (own_prefix r ∷ []) (prefix_fits r sound, tt) in
-    ap (flat_map subs_of) one ∙ append-nil (subs_of (own_prefix r)) ∙ places_read r sound
-
-reaches_none : (blocks : List (List End)) → flat_map subs_in (map reach_tlv blocks) ≡ []
-reaches_none [] = refl
-reaches_none (b ∷ blocks) = reaches_none blocks
-
--- the links that are up
-pub own_links : (r : RouterConf) (up : List Bool) → IsSound r → flat_map links_in (tlvs_before (own_content r up)) ≡ map end_link (picked up r.ends)
-unfolding own_content
-own_links r up sound =
-    let es = picked up r.ends in
-    ap (flat_map links_in) (before_spelled (own_tlvs r up))
-    ∙ flat_map-append links_in (reach_tlvs es) (prefix_tlv r ∷ [])
-    ∙ append-nil (flat_map links_in (reach_tlvs es))
-    ∙ blocks_read (length es) es (omega arith) (picked_all IsEnd up r.ends sound.ends)
-
--- the places in subdomains
-pub own_places : (r : RouterConf) (up : List Bool) → IsSound r → flat_map subs_in (tlvs_before (own_content r up)) ≡ map (λ s. sub_of r.prefix.0 (info_of r.kinds s)) r.subs
-unfolding own_content
-own_places r up sound =
-    let es = picked up r.ends in
-    ap (flat_map subs_in) (before_spelled (own_tlvs r up))
-    ∙ flat_map-append subs_in (reach_tlvs es) (prefix_tlv r ∷ [])
-    ∙ ap (λ (l : List ViewSub). l ++ flat_map subs_in (prefix_tlv r ∷ [])) (reaches_none (blocks most_in_tlv es))
-    ∙ append-nil (subs_in (prefix_tlv r))
-    ∙ prefix_read r sound
-
--- whether it is overloaded
-pub own_overload : (r : RouterConf) → is_overload_flag (own_flags r) ≡ r.overload
-own_overload r = by r.level r.overload
-  where
-    by : (l : Level) (b : Bool) → is_overload_flag (level_bits l + (if b then 4 else 0)) ≡ b
-    by One true = refl
-    by One false = refl
-    by Two true = refl
-    by Two false = refl
+pub packet_back : (confs : List RouterConf) (b : ℕ) (level : Level) (e : End) (x : DataItem) → ItemFits x → OuterFits x x.outer → MeansAt (router_at confs (outer_target confs b x.outer)) x → length e.peer_mac.0 ≡ 6 → length e.own_mac.0 ≡ 6
+    → item_in confs (Some (record { number = x.number; to = b })) (frame_of level e (PacketItem x)) ≡ PacketItem x
+unfolding item_in frame_of
+packet_back confs b level e x fits room h six-peer six-own = ap PacketItem (copy_back confs b e.peer_mac e.own_mac x fits six-peer six-own room h)

@@ -5,14 +5,14 @@ use Rattle.std.proofs.lemmas.Option.{same_Some}
 use Rattle.wire_base.specs.declared.conf.RouterConf.{RouterConf}
 use Rattle.wire_base.specs.model.Control.{Control}
 use Rattle.replay_text.specs.declared.event.Event.TheVariants.{Down, Up, Send}
-use Rattle.domain_core.specs.declared.fault.EventFault.{EventFault}
-use Rattle.domain_core.specs.declared.fault.EventFault.TheVariants as faults
-use Rattle.domain_core.specs.Faults.{most_events, first_fault, unless_joined, unless_room, up_over, is_up_toward, rule_fault, event_fault}
-use Rattle.domain_core.specs.Truth.{IsTruthful}
-use Rattle.domain_core.specs.World.{WorldState, is_up, link_between}
+use Rattle.domain_model.specs.declared.fault.EventFault.{EventFault}
+use Rattle.domain_model.specs.declared.fault.EventFault.TheVariants as faults
+use Rattle.domain_model.specs.Faults.{most_events, first_fault, unless_joined, unless_room, up_over, is_up_toward, rule_fault, event_fault}
+use Rattle.domain_model.specs.Truth.{IsTruthful}
+use Rattle.domain_model.specs.World.{WorldState, is_up, link_between}
 use Rattle.domain_core.proofs.FramedWorld.{conf_there}
-use Rattle.domain_core.proofs.LinkLaws.{join_of, end_found}
-use Rattle.domain_core.proofs.QueueLaws.{got_within}
+use Rattle.domain_model.proofs.LinkLaws.{join_of, end_found}
+use Rattle.domain_model.proofs.QueueLaws.{got_within}
 
 pub none_first : (b : Bool) (reason : EventFault) (next : Option EventFault) → first_fault b reason next ≡ None → (b ≡ false) × (next ≡ None)
 none_first true reason next h = absurd (some_none reason h)

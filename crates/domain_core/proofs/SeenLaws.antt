@@ -9,10 +9,10 @@ use Rattle.wire_base.specs.declared.conf.End.{End}
 use Rattle.wire_base.specs.declared.conf.RouterConf.{RouterConf}
 use Rattle.wire_base.specs.model.Item.{Item}
 use Rattle.domain_core.specs.declared.flight.Flight.{Flight}
-use Rattle.domain_core.specs.World.{queue_at, with_queue, push_item, without_item, in_flight, no_flights}
+use Rattle.domain_model.specs.World.{queue_at, with_queue, push_item, without_item, in_flight, no_flights}
 use Rattle.domain_core.specs.Flights.{item_seen, items_seen, frames_at, with_frames, push_frame, without_frame, frame_count, no_frames}
-use Rattle.domain_core.proofs.EachLaws.{each_joined, each_left}
-use Rattle.domain_core.proofs.QueueLaws.{set_read}
+use Rattle.domain_model.proofs.EachLaws.{each_joined, each_left}
+use Rattle.domain_model.proofs.QueueLaws.{set_read}
 
 -- ---- lists
 
@@ -32,58 +32,59 @@ remove_mapped {X} {Y} f xs i =
 
 -- ---- queues
 
-abbrev queue_seen : List Flight → List Item
-queue_seen queue = map item_seen queue
+module _ (confs : List RouterConf) where
+  abbrev queue_seen : List Flight → List Item
+  queue_seen queue = map (item_seen confs) queue
 
-abbrev row_seen : List (List Flight) → List (List Item)
-row_seen row = map queue_seen row
+  abbrev row_seen : List (List Flight) → List (List Item)
+  row_seen row = map queue_seen row
 
-pub seen_at : (flights : List (List (List Flight))) (a link : ℕ) → queue_at (items_seen flights) a link ≡ map item_seen (frames_at flights a link)
-seen_at flights a link =
-    ap (λ (row : List (List Item)). slice_index_or row link []) (get_or-map row_seen flights a []) ∙ get_or-map queue_seen (slice_index_or flights a []) link []
+  pub seen_at : (flights : List (List (List Flight))) (a link : ℕ) → queue_at (items_seen confs flights) a link ≡ map (item_seen confs) (frames_at flights a link)
+  seen_at flights a link =
+      ap (λ (row : List (List Item)). slice_index_or row link []) (get_or-map row_seen flights a []) ∙ get_or-map queue_seen (slice_index_or flights a []) link []
 
-seen_with : (flights : List (List (List Flight))) (a link : ℕ) (queue : List Flight) → items_seen (with_frames flights a link queue) ≡ with_queue (items_seen flights) a link (map item_seen queue)
-seen_with flights a link queue =
-    map-set row_seen flights a (slice_set (slice_index_or flights a []) link queue)
-    ∙ ap (slice_set (items_seen flights) a) (map-set queue_seen (slice_index_or flights a []) link queue
-    ∙ ap (λ (row : List (List Item)). slice_set row link (map item_seen queue)) (sym (get_or-map row_seen flights a [])))
+  seen_with : (flights : List (List (List Flight))) (a link : ℕ) (queue : List Flight) → items_seen confs (with_frames flights a link queue) ≡ with_queue (items_seen confs flights) a link (map (item_seen confs) queue)
+  seen_with flights a link queue =
+      map-set row_seen flights a (slice_set (slice_index_or flights a []) link queue)
+      ∙ ap (slice_set (items_seen confs flights) a) (map-set queue_seen (slice_index_or flights a []) link queue
+      ∙ ap (λ (row : List (List Item)). slice_set row link (map (item_seen confs) queue)) (sym (get_or-map row_seen flights a [])))
 
-pub seen_pushed : (flights : List (List (List Flight))) (a link : ℕ) (f : Flight) → items_seen (push_frame flights a link f) ≡ push_item (items_seen flights) a link (item_seen f)
-seen_pushed flights a link f =
-    seen_with flights a link (frames_at flights a link ++ f ∷ [])
-    ∙ ap (with_queue (items_seen flights) a link) (map-append item_seen (frames_at flights a link) (f ∷ []) ∙ ap (λ (xs : List Item). xs ++ item_seen f ∷ []) (sym (seen_at flights a link)))
+  pub seen_pushed : (flights : List (List (List Flight))) (a link : ℕ) (f : Flight) → items_seen confs (push_frame flights a link f) ≡ push_item (items_seen confs flights) a link (item_seen confs f)
+  seen_pushed flights a link f =
+      seen_with flights a link (frames_at flights a link ++ f ∷ [])
+      ∙ ap (with_queue (items_seen confs flights) a link) (map-append (item_seen confs) (frames_at flights a link) (f ∷ []) ∙ ap (λ (xs : List Item). xs ++ item_seen confs f ∷ []) (sym (seen_at flights a link)))
 
-pub seen_removed : (flights : List (List (List Flight))) (a link i : ℕ) → items_seen (without_frame flights a link i) ≡ without_item (items_seen flights) a link i
-seen_removed flights a link i =
-    seen_with flights a link (remove (frames_at flights a link) i)
-    ∙ ap (with_queue (items_seen flights) a link) (remove_mapped item_seen (frames_at flights a link) i ∙ ap (λ (xs : List Item). remove xs i) (sym (seen_at flights a link)))
+  pub seen_removed : (flights : List (List (List Flight))) (a link i : ℕ) → items_seen confs (without_frame flights a link i) ≡ without_item (items_seen confs flights) a link i
+  seen_removed flights a link i =
+      seen_with flights a link (remove (frames_at flights a link) i)
+      ∙ ap (with_queue (items_seen confs flights) a link) (remove_mapped (item_seen confs) (frames_at flights a link) i ∙ ap (λ (xs : List Item). remove xs i) (sym (seen_at flights a link)))
 
-pub seen_got : (flights : List (List (List Flight))) (a link i : ℕ) → slice_get (queue_at (items_seen flights) a link) i ≡ option_map item_seen (slice_get (frames_at flights a link) i)
-seen_got flights a link i = ap (λ (xs : List Item). slice_get xs i) (seen_at flights a link) ∙ slice_get-map item_seen (frames_at flights a link) i
+  pub seen_got : (flights : List (List (List Flight))) (a link i : ℕ) → slice_get (queue_at (items_seen confs flights) a link) i ≡ option_map (item_seen confs) (slice_get (frames_at flights a link) i)
+  seen_got flights a link i = ap (λ (xs : List Item). slice_get xs i) (seen_at flights a link) ∙ slice_get-map (item_seen confs) (frames_at flights a link) i
 
-pub seen_length : (flights : List (List (List Flight))) (a link : ℕ) → length (queue_at (items_seen flights) a link) ≡ length (frames_at flights a link)
-seen_length flights a link = ap (λ (xs : List Item). length xs) (seen_at flights a link) ∙ length-map (frames_at flights a link) item_seen
+  pub seen_length : (flights : List (List (List Flight))) (a link : ℕ) → length (queue_at (items_seen confs flights) a link) ≡ length (frames_at flights a link)
+  seen_length flights a link = ap (λ (xs : List Item). length xs) (seen_at flights a link) ∙ length-map (frames_at flights a link) (item_seen confs)
 
--- ---- how many there are
+  -- ---- how many there are
 
-row_count : (row : List (List Flight)) → sum_by (λ (queue : List Item). length queue) (map queue_seen row) ≡ sum_by (λ (queue : List Flight). length queue) row
-row_count [] = refl
-row_count (q ∷ qs) =
-    let n = row_count qs in
-    let l = length-map q item_seen in
-    let s = sum_by-cons (λ (queue : List Item). length queue) (queue_seen q) (map queue_seen qs) in
-    let t = sum_by-cons (λ (queue : List Flight). length queue) q qs in
-    omega (arith, n, l, s, t)
+  row_count : (row : List (List Flight)) → sum_by (λ (queue : List Item). length queue) (map queue_seen row) ≡ sum_by (λ (queue : List Flight). length queue) row
+  row_count [] = refl
+  row_count (q ∷ qs) =
+      let n = row_count qs in
+      let l = length-map q (item_seen confs) in
+      let s = sum_by-cons (λ (queue : List Item). length queue) (queue_seen q) (map queue_seen qs) in
+      let t = sum_by-cons (λ (queue : List Flight). length queue) q qs in
+      omega (arith, n, l, s, t)
 
-pub seen_count : (flights : List (List (List Flight))) → in_flight (items_seen flights) ≡ frame_count flights
-unfolding in_flight
-seen_count [] = refl
-seen_count (r ∷ rs) =
-    let n = seen_count rs in
-    let l = row_count r in
-    let s = sum_by-cons (λ (row : List (List Item)). sum_by (λ queue. length queue) row) (row_seen r) (items_seen rs) in
-    let t = sum_by-cons (λ (row : List (List Flight)). sum_by (λ queue. length queue) row) r rs in
-    omega (arith, n, l, s, t)
+  pub seen_count : (flights : List (List (List Flight))) → in_flight (items_seen confs flights) ≡ frame_count flights
+  unfolding in_flight
+  seen_count [] = refl
+  seen_count (r ∷ rs) =
+      let n = seen_count rs in
+      let l = row_count r in
+      let s = sum_by-cons (λ (row : List (List Item)). sum_by (λ queue. length queue) row) (row_seen r) (items_seen confs rs) in
+      let t = sum_by-cons (λ (row : List (List Flight)). sum_by (λ queue. length queue) row) r rs in
+      omega (arith, n, l, s, t)
 
 -- ---- what holds of each frame
 
@@ -127,18 +128,19 @@ none_on_the_way P confs a link = row confs a
     row (r ∷ rs) zero = queue r.ends link
     row (r ∷ rs) (suc n) = row rs n
 
-none_seen : (ends : List End) → map queue_seen (map (λ e. []) ends) ≡ map (λ e. []) ends
-none_seen [] = refl
-none_seen (e ∷ es) = ap (λ (row : List (List Item)). [] ∷ row) (none_seen es)
+module _ (confs : List RouterConf) where
+  none_seen : (ends : List End) → map (queue_seen confs) (map (λ e. []) ends) ≡ map (λ e. []) ends
+  none_seen [] = refl
+  none_seen (e ∷ es) = ap (λ (row : List (List Item)). [] ∷ row) (none_seen es)
 
-pub seen_none : (confs : List RouterConf) → items_seen (no_frames confs) ≡ no_flights confs
-seen_none [] = refl
-seen_none (r ∷ rs) = ap (λ (row : List (List Item)). row ∷ items_seen (no_frames rs)) (none_seen r.ends) ∙ ap (λ (rows : List (List (List Item))). map (λ e. []) r.ends ∷ rows) (seen_none rs)
+  pub seen_none : (rs : List RouterConf) → items_seen confs (no_frames rs) ≡ no_flights rs
+  seen_none [] = refl
+  seen_none (r ∷ rs) = ap (λ (row : List (List Item)). row ∷ items_seen confs (no_frames rs)) (none_seen r.ends) ∙ ap (λ (rows : List (List (List Item))). map (λ e. []) r.ends ∷ rows) (seen_none rs)
 
--- ---- what stands at a place
+  -- ---- what stands at a place
 
-pub none_seen_at : (flights : List (List (List Flight))) (a link i : ℕ) → None ≡ slice_get (frames_at flights a link) i → slice_get (queue_at (items_seen flights) a link) i ≡ None
-none_seen_at flights a link i h = seen_got flights a link i ∙ ap (option_map item_seen) (sym h)
+  pub none_seen_at : (flights : List (List (List Flight))) (a link i : ℕ) → None ≡ slice_get (frames_at flights a link) i → slice_get (queue_at (items_seen confs flights) a link) i ≡ None
+  none_seen_at flights a link i h = seen_got confs flights a link i ∙ ap (option_map (item_seen confs)) (sym h)
 
-pub some_seen_at : (flights : List (List (List Flight))) (a link i : ℕ) (f : Flight) → Some f ≡ slice_get (frames_at flights a link) i → slice_get (queue_at (items_seen flights) a link) i ≡ Some (item_seen f)
-some_seen_at flights a link i f h = seen_got flights a link i ∙ ap (option_map item_seen) (sym h)
+  pub some_seen_at : (flights : List (List (List Flight))) (a link i : ℕ) (f : Flight) → Some f ≡ slice_get (frames_at flights a link) i → slice_get (queue_at (items_seen confs flights) a link) i ≡ Some (item_seen confs f)
+  some_seen_at flights a link i f h = seen_got confs flights a link i ∙ ap (option_map (item_seen confs)) (sym h)

@@ -1,22 +1,22 @@
 -- Each frame that a domain sends fits a record of a capture.
-use Rattle.std.proofs.Common.{◌≡◌, ℕ, false, List, [], ◌∷◌, length, map, None, Result, Ok, Err, IfOk, MatchResult, sym, subst, arith}
+use Rattle.std.proofs.Common.{◌≡◌, ℕ, List, [], ◌∷◌, length, map, None, Result, Ok, Err, IfOk, MatchResult, sym, subst, arith}
 use Rattle.std.specs.List.{AllByRecursion}
 use Rattle.wire_base.specs.model.Configuration.{DomainConf, IsValid}
 use Rattle.replay_text.specs.declared.event.Event.{Event}
-use Rattle.domain_core.specs.declared.fault.EventFault.{EventFault}
+use Rattle.domain_model.specs.declared.fault.EventFault.{EventFault}
 use Rattle.domain_core.specs.declared.step_out.StepOut.{StepOut}
 use Rattle.domain_core.specs.Answers.{IsShortFrame, Refuses, told}
-use Rattle.domain_core.specs.World.{WorldState, peer_place}
-use Rattle.domain_core.specs.Moves.{Sending}
-use Rattle.domain_core.specs.Faults.{event_fault}
-use Rattle.domain_core.specs.Step.{happens}
-use Rattle.domain_core.specs.Truth.{IsTruthful, EventFits}
+use Rattle.domain_model.specs.World.{WorldState, peer_place}
+use Rattle.domain_model.specs.Moves.{Sending}
+use Rattle.domain_model.specs.Faults.{event_fault}
+use Rattle.domain_model.specs.Step.{happens}
+use Rattle.domain_model.specs.Truth.{IsTruthful, EventFits}
 use Rattle.domain_core.specs.Framed.{wire_of}
-use Rattle.domain_core.proofs.CopyTruth.{IsTrueSending}
+use Rattle.domain_model.proofs.CopyTruth.{IsTrueSending}
 use Rattle.domain_core.proofs.FramedWorld.{frame_short}
-use Rattle.domain_core.proofs.WorldTruth.{happens_true}
+use Rattle.domain_model.proofs.WorldTruth.{happens_true}
 
-wires_short : (d : DomainConf) → IsValid d → (injections : ℕ) (ss : List Sending) → AllByRecursion (IsTrueSending false d.routers injections) ss → AllByRecursion IsShortFrame (map (wire_of d.routers) ss)
+wires_short : (d : DomainConf) → IsValid d → (injections : ℕ) (ss : List Sending) → AllByRecursion (IsTrueSending d.routers injections) ss → AllByRecursion IsShortFrame (map (wire_of d.routers) ss)
 wires_short d valid injections [] all = tt
 wires_short d valid injections (s ∷ ss) all =
     let short = frame_short d valid injections (peer_place d.routers s.from s.link) s.from s.link s.item all.0.item in
@@ -24,7 +24,7 @@ wires_short d valid injections (s ∷ ss) all =
 
 pub sent_short : (w : WorldState) → IsTruthful w → (e : Event) → EventFits (length w.domain.routers) e → event_fault w e ≡ None → AllByRecursion IsShortFrame (told w.domain.routers (happens w e).made).sent
 sent_short w t e fits ok =
-    let keeps = happens_true false w e t fits ok in
+    let keeps = happens_true w e t fits ok in
     wires_short w.domain t.valid (happens w e).world.injections (happens w e).made.sent keeps.made.sent
 
 -- what a step answers

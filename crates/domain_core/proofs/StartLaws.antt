@@ -1,5 +1,5 @@
 -- A domain at work that has just started.
-use Rattle.std.proofs.Common.{◌≡◌, ℕ, false, List, [], ◌∷◌, map, refl, sym, ap, subst, ◌∙◌}
+use Rattle.std.proofs.Common.{◌≡◌, ℕ, List, [], ◌∷◌, map, refl, sym, ap, subst, ◌∙◌}
 use Rattle.wire_base.specs.declared.conf.RouterConf.{RouterConf}
 use Rattle.wire_base.specs.model.Configuration.{DomainConf, IsValid}
 use Rattle.wire_base.specs.model.Control.{Control}
@@ -9,11 +9,11 @@ use Rattle.router_core.specs.State.{RouterState}
 use Rattle.domain_core.specs.declared.flight.Flight.{Flight}
 use Rattle.domain_core.specs.Flights.{items_seen, no_frames}
 use Rattle.domain_core.specs.Network.{NetworkState, world_of, started_router, IsFrameOver, IsTrueNetwork}
-use Rattle.domain_core.specs.Truth.{IsTruthful}
-use Rattle.domain_core.specs.World.{first_world, no_flights}
+use Rattle.domain_model.specs.Truth.{IsTruthful}
+use Rattle.domain_model.specs.World.{first_world, no_flights}
 use Rattle.domain_core.proofs.SeenLaws.{seen_none, none_on_the_way}
 use Rattle.domain_core.proofs.TransitLaws.{same_frames}
-use Rattle.domain_core.proofs.WorldTruth.{first_true}
+use Rattle.domain_model.proofs.WorldTruth.{first_true}
 
 started_controls : (confs : List RouterConf) → map (λ r. r.control) (map started_router confs) ≡ map first_control confs
 started_controls [] = refl
@@ -35,12 +35,12 @@ module _ (d : DomainConf) (confs : List RouterConf) (same : confs ≡ d.routers)
   start_world flights none =
       let cs : map (λ r. r.control) routers ≡ map first_control d.routers =
       ap (λ (rs : List RouterState). map (λ r. r.control) rs) are ∙ started_controls confs ∙ ap (map first_control) same in
-      let items : items_seen flights ≡ no_flights d.routers = ap items_seen none ∙ seen_none confs ∙ ap no_flights same in
-      ap (λ (l : List Control). record { domain = d; routers = l; flights = items_seen flights; injections = 0; events = 0 }) cs
+      let items : items_seen d.routers flights ≡ no_flights d.routers = ap (items_seen d.routers) none ∙ seen_none d.routers confs ∙ ap no_flights same in
+      ap (λ (l : List Control). record { domain = d; routers = l; flights = items_seen d.routers flights; injections = 0; events = 0 }) cs
       ∙ ap (λ (l : List (List (List Item))). record { domain = d; routers = map first_control d.routers; flights = l; injections = 0; events = 0 }) items
 
   pub start_kept : IsValid d → (flights : List (List (List Flight))) → flights ≡ no_frames confs → IsTrueNetwork (started d routers flights)
   start_kept valid flights none = record {
-    truth = subst IsTruthful (sym (start_world flights none)) (first_true false d valid);
+    truth = subst IsTruthful (sym (start_world flights none)) (first_true d valid);
     frames = same_frames d.routers flights (no_frames confs) none (none_on_the_way (IsFrameOver d.routers) confs);
   }

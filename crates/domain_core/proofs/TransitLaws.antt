@@ -1,39 +1,34 @@
 -- What arrives, is lost or comes again, of the frames that are held.
-use Rattle.std.proofs.Common.{◌≡◌, ℕ, ◌+◌, Bool, true, false, if◌then◌else◌, List, [], drop, slice_get, Option, Some, None, Ok, Err, Result, refl, sym, ap, subst, ◌∙◌}
+use Rattle.std.proofs.Common.{◌≡◌, ℕ, Bool, true, false, if◌then◌else◌, List, [], slice_get, Option, Some, None, refl, sym, ap, subst, ◌∙◌}
 use Rattle.wire_base.specs.declared.cause.Cause.{Cause}
 use Rattle.wire_base.specs.declared.cause.Cause.TheVariants as cause
-use Rattle.wire_base.specs.declared.conf.Kind.{Kind}
-use Rattle.wire_base.specs.declared.conf.Level.{Level}
 use Rattle.wire_base.specs.declared.conf.RouterConf.{RouterConf}
-use Rattle.wire_base.specs.declared.faults.HeadFault.{HeadFault}
-use Rattle.wire_base.specs.declared.triple.Triple.{Triple}
-use Rattle.wire_base.specs.model.BierHeader.{BierHeader, header_length, header_at}
 use Rattle.wire_base.specs.model.Control.{Control}
 use Rattle.wire_base.specs.model.Item.{Item, ControlItem, PacketItem, DataItem}
-use Rattle.item_laws.specs.Read.{control_in, packet_in, packet_read}
+use Rattle.wire_base.specs.model.Pdu.{Pdu}
 use Rattle.replay_text.specs.declared.event.Event.TheVariants.{Take}
 use Rattle.domain_core.specs.declared.flight.Flight.{Flight}
-use Rattle.domain_core.specs.declared.flight.Load.{Load}
-use Rattle.domain_core.specs.declared.step_out.DropLine.{DropLine}
-use Rattle.domain_core.specs.declared.step_out.GotLine.{GotLine}
+use Rattle.domain_core.specs.declared.flight.Note.{Note}
+use Rattle.domain_model.specs.declared.lines.DropLine.{DropLine}
+use Rattle.domain_model.specs.declared.lines.GotLine.{GotLine}
 use Rattle.domain_core.specs.declared.step_out.StepOut.{StepOut}
 use Rattle.domain_core.specs.declared.step_out.WireFrame.{WireFrame}
 use Rattle.domain_core.specs.Answers.{told}
-use Rattle.domain_core.specs.Faults.{is_up_toward}
+use Rattle.domain_model.specs.Faults.{is_up_toward}
 use Rattle.domain_core.specs.Flights.{item_seen, items_seen, push_frame, without_frame}
-use Rattle.domain_core.specs.Moves.{item_lost}
+use Rattle.domain_model.specs.Moves.{item_lost}
 use Rattle.domain_core.specs.Network.{NetworkState, world_of, AreFramesOver, heard_at, heard_of, heard_after}
-use Rattle.domain_core.specs.Step.{same_world, makes, taken_off, arrives, comes, takes, takes_over, loses, loses_over, repeats, repeats_over}
-use Rattle.domain_core.specs.World.{WorldState, is_up, link_between, frames_between, queue_at, push_item}
+use Rattle.domain_model.specs.Step.{same_world, makes, taken_off, arrives, comes, takes, takes_over, loses, loses_over, repeats, repeats_over}
+use Rattle.domain_model.specs.World.{WorldState, is_up, link_between, frames_between, queue_at, push_item}
 use Rattle.domain_core.proofs.SeenLaws.{seen_pushed, seen_removed}
 
 -- ---- a frame is gone, or one more is on the way
 
 pub gone_world : (n : NetworkState) (flights : List (List (List Flight))) (a link i : ℕ) → flights ≡ without_frame n.flights a link i → world_of (record n { flights = flights }) ≡ taken_off (world_of n) a link i
-gone_world n flights a link i e = ap (λ (xs : List (List (List Item))). record (world_of n) { flights = xs }) (ap items_seen e ∙ seen_removed n.flights a link i)
+gone_world n flights a link i e = ap (λ (xs : List (List (List Item))). record (world_of n) { flights = xs }) (ap (items_seen n.domain.routers) e ∙ seen_removed n.domain.routers n.flights a link i)
 
-pub more_world : (n : NetworkState) (flights : List (List (List Flight))) (a link : ℕ) (f : Flight) → flights ≡ push_frame n.flights a link f → world_of (record n { flights = flights }) ≡ record (world_of n) { flights = push_item (items_seen n.flights) a link (item_seen f) }
-more_world n flights a link f e = ap (λ (xs : List (List (List Item))). record (world_of n) { flights = xs }) (ap items_seen e ∙ seen_pushed n.flights a link f)
+pub more_world : (n : NetworkState) (flights : List (List (List Flight))) (a link : ℕ) (f : Flight) → flights ≡ push_frame n.flights a link f → world_of (record n { flights = flights }) ≡ record (world_of n) { flights = push_item (items_seen n.domain.routers n.flights) a link (item_seen n.domain.routers f) }
+more_world n flights a link f e = ap (λ (xs : List (List (List Item))). record (world_of n) { flights = xs }) (ap (items_seen n.domain.routers) e ∙ seen_pushed n.domain.routers n.flights a link f)
 
 -- ---- an item is dropped as a whole
 
@@ -72,63 +67,40 @@ module _ (w : WorldState) (a b i link : ℕ) (joined : link_between w.domain.rou
   pub packet_again : (x : DataItem) → slice_get (queue_at w.flights a link) i ≡ Some (PacketItem x) → repeats_over w a i (link_between w.domain.routers a b) ≡ same_world w
   packet_again x some = ap (repeats_over w a i) joined ∙ ap (repeats w a link) some
 
-  pub pdu_again : (level : Level) (octets : List ℕ) (x : Item) → x ≡ control_in level octets → slice_get (queue_at w.flights a link) i ≡ Some x → repeats_over w a i (link_between w.domain.routers a b) ≡ same_world (record w { flights = push_item w.flights a link x })
-  pdu_again level octets x is some =
+  pub pdu_again : (x : Item) (p : Pdu) → x ≡ ControlItem p → slice_get (queue_at w.flights a link) i ≡ Some x → repeats_over w a i (link_between w.domain.routers a b) ≡ same_world (record w { flights = push_item w.flights a link x })
+  pdu_again x p is some =
       ap (repeats_over w a i) joined ∙ ap (repeats w a link) (some ∙ ap (λ (y : Item). Some y) is)
       ∙ ap (λ (y : Item). same_world (record w { flights = push_item w.flights a link y })) (sym is)
 
--- ---- packets
-
--- what carries a packet is one, with what is noted of it
-pub record IsPacketSeen (number : ℕ) (t : Triple) (kind : Kind) (octets : List ℕ) : Type 0 where
-  pub item : DataItem
-  pub is : packet_in number t kind octets ≡ PacketItem item
-  pub number_is : item.number ≡ number
-  pub triple_is : item.triple ≡ t
-  pub kind_is : item.kind ≡ kind
-
-pub packet_noted : (number : ℕ) (t : Triple) (kind : Kind) (octets : List ℕ) → IsPacketSeen number t kind octets
-packet_noted number t kind octets = by (header_at kind t.bsl (drop 14 octets)) refl
-  where
-    by : (r : Result BierHeader HeadFault) → header_at kind t.bsl (drop 14 octets) ≡ r → IsPacketSeen number t kind octets
-    by (Ok h) e = record { item = _; is = ap (packet_read number t kind (drop (14 + header_length t.bsl) octets)) e; number_is = refl; triple_is = refl; kind_is = refl }
-    by (Err fault) e = record { item = _; is = ap (packet_read number t kind (drop (14 + header_length t.bsl) octets)) e; number_is = refl; triple_is = refl; kind_is = refl }
-
--- what carries a packet is one
-pub packet_seen : (number : ℕ) (t : Triple) (kind : Kind) (octets : List ℕ) → (x : DataItem) × (packet_in number t kind octets ≡ PacketItem x)
-packet_seen number t kind octets = by (drop (14 + header_length t.bsl) octets) (header_at kind t.bsl (drop 14 octets))
-  where
-    by : (payload : List ℕ) (r : Result BierHeader HeadFault) → (x : DataItem) × (packet_read number t kind payload r ≡ PacketItem x)
-    by payload (Ok h) = (_, refl)
-    by payload (Err fault) = (_, refl)
+-- ---- frames
 
 pub same_frames : (confs : List RouterConf) (new flights : List (List (List Flight))) → new ≡ flights → AreFramesOver confs flights → AreFramesOver confs new
 same_frames confs new flights e are = subst (AreFramesOver confs) (sym e) are
 
-pub same_flight : (f g : Flight) → f.octets ≡ g.octets → f.load ≡ g.load → f ≡ g
-same_flight f g p q = ap (λ (l : List ℕ). record { octets = l; load = f.load }) p ∙ ap (λ (l : Load). record { octets = g.octets; load = l }) q
+pub same_flight : (f g : Flight) → f.octets ≡ g.octets → f.note ≡ g.note → f ≡ g
+same_flight f g p q = ap (λ (l : List ℕ). record { octets = l; note = f.note }) p ∙ ap (λ (l : Option Note). record { octets = g.octets; note = l }) q
 
 -- ---- what is taken
 
 module _ (w : WorldState) (a b i link : ℕ) (joined : link_between w.domain.routers a b ≡ Some link) where
-  pub none_back : link_between w.domain.routers b a ≡ None → takes_over false w a b i (link_between w.domain.routers a b) (link_between w.domain.routers b a) ≡ same_world w
-  none_back none = ap (λ (l : Option ℕ). takes_over false w a b i l (link_between w.domain.routers b a)) joined ∙ ap (takes_over false w a b i (Some link)) none
+  pub none_back : link_between w.domain.routers b a ≡ None → takes_over w a b i (link_between w.domain.routers a b) (link_between w.domain.routers b a) ≡ same_world w
+  none_back none = ap (λ (l : Option ℕ). takes_over w a b i l (link_between w.domain.routers b a)) joined ∙ ap (takes_over w a b i (Some link)) none
 
   module _ (back : ℕ) (facing : link_between w.domain.routers b a ≡ Some back) where
-    over : takes_over false w a b i (link_between w.domain.routers a b) (link_between w.domain.routers b a) ≡ takes false w a link b back i (slice_get (queue_at w.flights a link) i) (slice_get w.routers b)
-    over = ap (λ (l : Option ℕ). takes_over false w a b i l (link_between w.domain.routers b a)) joined ∙ ap (takes_over false w a b i (Some link)) facing
+    over : takes_over w a b i (link_between w.domain.routers a b) (link_between w.domain.routers b a) ≡ takes w a link b back i (slice_get (queue_at w.flights a link) i) (slice_get w.routers b)
+    over = ap (λ (l : Option ℕ). takes_over w a b i l (link_between w.domain.routers b a)) joined ∙ ap (takes_over w a b i (Some link)) facing
 
-    pub none_taken : slice_get (queue_at w.flights a link) i ≡ None → takes_over false w a b i (link_between w.domain.routers a b) (link_between w.domain.routers b a) ≡ same_world w
-    none_taken none = over ∙ ap (λ (o : Option Item). takes false w a link b back i o (slice_get w.routers b)) none
+    pub none_taken : slice_get (queue_at w.flights a link) i ≡ None → takes_over w a b i (link_between w.domain.routers a b) (link_between w.domain.routers b a) ≡ same_world w
+    none_taken none = over ∙ ap (λ (o : Option Item). takes w a link b back i o (slice_get w.routers b)) none
 
-    come : (x : Item) (c : Control) → slice_get (queue_at w.flights a link) i ≡ Some x → slice_get w.routers b ≡ Some c → takes_over false w a b i (link_between w.domain.routers a b) (link_between w.domain.routers b a) ≡ comes false (taken_off w a link i) b back c x
-    come x c some at = over ∙ ap (λ (o : Option Item). takes false w a link b back i o (slice_get w.routers b)) some ∙ ap (takes false w a link b back i (Some x)) at
+    come : (x : Item) (c : Control) → slice_get (queue_at w.flights a link) i ≡ Some x → slice_get w.routers b ≡ Some c → takes_over w a b i (link_between w.domain.routers a b) (link_between w.domain.routers b a) ≡ comes (taken_off w a link i) b back c x
+    come x c some at = over ∙ ap (λ (o : Option Item). takes w a link b back i o (slice_get w.routers b)) some ∙ ap (takes w a link b back i (Some x)) at
 
-    pub down_taken : (x : Item) (c : Control) → slice_get (queue_at w.flights a link) i ≡ Some x → slice_get w.routers b ≡ Some c → is_up c back ≡ false → takes_over false w a b i (link_between w.domain.routers a b) (link_between w.domain.routers b a) ≡ makes (taken_off w a link i) (item_lost b cause.Link x)
-    down_taken x c some at down = come x c some at ∙ ap (λ (u : Bool). if u then arrives false (taken_off w a link i) b back c x else makes (taken_off w a link i) (item_lost b cause.Link x)) down
+    pub down_taken : (x : Item) (c : Control) → slice_get (queue_at w.flights a link) i ≡ Some x → slice_get w.routers b ≡ Some c → is_up c back ≡ false → takes_over w a b i (link_between w.domain.routers a b) (link_between w.domain.routers b a) ≡ makes (taken_off w a link i) (item_lost b cause.Link x)
+    down_taken x c some at down = come x c some at ∙ ap (λ (u : Bool). if u then arrives (taken_off w a link i) b back c x else makes (taken_off w a link i) (item_lost b cause.Link x)) down
 
-    pub up_taken : (x : Item) (c : Control) → slice_get (queue_at w.flights a link) i ≡ Some x → slice_get w.routers b ≡ Some c → is_up c back ≡ true → takes_over false w a b i (link_between w.domain.routers a b) (link_between w.domain.routers b a) ≡ arrives false (taken_off w a link i) b back c x
-    up_taken x c some at up = come x c some at ∙ ap (λ (u : Bool). if u then arrives false (taken_off w a link i) b back c x else makes (taken_off w a link i) (item_lost b cause.Link x)) up
+    pub up_taken : (x : Item) (c : Control) → slice_get (queue_at w.flights a link) i ≡ Some x → slice_get w.routers b ≡ Some c → is_up c back ≡ true → takes_over w a b i (link_between w.domain.routers a b) (link_between w.domain.routers b a) ≡ arrives (taken_off w a link i) b back c x
+    up_taken x c some at up = come x c some at ∙ ap (λ (u : Bool). if u then arrives (taken_off w a link i) b back c x else makes (taken_off w a link i) (item_lost b cause.Link x)) up
 
 -- ---- how many frames a router has taken
 

@@ -8,10 +8,10 @@ use Rattle.wire_base.specs.model.Flooding.{Reply}
 use Rattle.router_core.specs.State.{RouterState, counted}
 use Rattle.domain_core.specs.declared.step_out.StepOut.{StepOut}
 use Rattle.domain_core.specs.Answers.{told}
-use Rattle.domain_core.specs.Moves.{Made, none_made}
+use Rattle.domain_model.specs.Moves.{Made, none_made}
 use Rattle.domain_core.specs.Network.{NetworkState, world_of, heard_at}
-use Rattle.domain_core.specs.Step.{Happened, with_router, turns, changes, changes_end}
-use Rattle.domain_core.proofs.QueueLaws.{get_mapped, map_set}
+use Rattle.domain_model.specs.Step.{Happened, with_router, turns, changes, changes_end}
+use Rattle.domain_model.proofs.QueueLaws.{get_mapped, map_set}
 
 -- what holds anyway holds after a failure
 pub on_err : {T E : Type 0} (r : Result T E) (P : Type 0) → P → OnErr r P

@@ -1,26 +1,19 @@
 -- What one event answers.
-use Rattle.std.specs.Prelude.{◌≡◌, ℕ, ◌<◌, nat_le, List, [], length, map, drop, Option, Some, None, Result, Ok, Err}
-use Rattle.wire_base.specs.declared.conf.Kind.{Kind}
+use Rattle.std.specs.Prelude.{◌≡◌, ℕ, ◌<◌, nat_le, List, length, map, Option, Some, None}
 use Rattle.wire_base.specs.declared.conf.RouterConf.{RouterConf}
 use Rattle.wire_base.specs.declared.faults.EdgeFault.{EdgeFault}
 use Rattle.wire_base.specs.declared.faults.EdgeFault.TheVariants as edge
-use Rattle.wire_base.specs.declared.faults.HeadFault.{HeadFault}
-use Rattle.wire_base.specs.declared.triple.Triple.{Triple}
-use Rattle.wire_base.specs.model.BierHeader.{BierHeader, header_at}
 use Rattle.wire_base.specs.model.OnFrame.{Effects}
-use Rattle.wire_base.specs.model.Place.{id_at}
 use Rattle.replay_text.specs.declared.event.Event.{Event}
 use Rattle.replay_text.specs.declared.event.Event.TheVariants.{Inject, Take, Lose, Again, Down, Up, Send, Tick, Restart}
-use Rattle.domain_core.specs.declared.fault.EventFault.{EventFault}
-use Rattle.domain_core.specs.declared.fault.EventFault.TheVariants as faults
-use Rattle.domain_core.specs.declared.flight.Load.{Load}
+use Rattle.domain_model.specs.declared.fault.EventFault.{EventFault}
+use Rattle.domain_model.specs.declared.fault.EventFault.TheVariants as faults
 use Rattle.domain_core.specs.declared.step_out.StepOut.{StepOut}
 use Rattle.domain_core.specs.declared.step_out.WireFrame.{WireFrame}
-use Rattle.domain_core.specs.Faults.{most_events, first_fault, unless_room, rule_fault}
-use Rattle.domain_core.specs.Flights.{number_of}
+use Rattle.domain_model.specs.Faults.{most_events, first_fault, unless_room, rule_fault}
 use Rattle.domain_core.specs.Framed.{wire_of, wire_from, got_line, drop_line}
-use Rattle.domain_core.specs.Moves.{Made}
-use Rattle.domain_core.specs.World.{WorldState}
+use Rattle.domain_model.specs.Moves.{Made}
+use Rattle.domain_model.specs.World.{WorldState}
 
 -- ---- refusals
 
@@ -93,20 +86,11 @@ told confs m = record { sent = map (wire_of confs) m.sent; got = m.got; drops = 
 abbrev pub IsShortFrame : WireFrame → Type 0
 IsShortFrame f = length f.octets < 65536
 
--- the same of what the router at place a did because of a frame with that note
-abbrev pub told_of : List RouterConf → ℕ → Load → Effects → StepOut
-told_of confs a load e =
+-- the same of what the router at place a did for that injection or for none, having taken a packet with those BFR-ids
+abbrev pub told_of : List RouterConf → ℕ → Option ℕ → List ℕ → Effects → StepOut
+told_of confs a number ids e =
     record {
       sent = map (wire_from confs a) e.sent;
-      got = map (got_line a (number_of load)) e.got;
-      drops = map (drop_line a (number_of load)) e.drops;
+      got = map (got_line a number) e.got;
+      drops = map (drop_line a number ids) e.drops;
     }
-
--- the BFR-ids of a header; octets that are none have no ids
-abbrev pub ids_read : Triple → Result BierHeader HeadFault → List ℕ
-ids_read t (Ok h) = map (id_at t) h.positions
-ids_read t (Err fault) = []
-
--- the BFR-ids of a packet in a frame
-abbrev pub ids_carried : Triple → Kind → List ℕ → List ℕ
-ids_carried t kind octets = ids_read t (header_at kind t.bsl (drop 14 octets))

@@ -1,11 +1,7 @@
 pub mod Answers
-pub mod Faults
 pub mod Flights
 pub mod Framed
 pub mod Held
-pub mod Moves
+pub mod Ledger
 pub mod Network
-pub mod Run
-pub mod Step
-pub mod Truth
-pub mod World
+pub mod Read

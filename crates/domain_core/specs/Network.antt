@@ -11,11 +11,11 @@ use Rattle.router_core.specs.State as router
 use Rattle.replay_text.specs.declared.event.Event.{Event}
 use Rattle.replay_text.specs.declared.event.Event.TheVariants.{Inject, Take, Lose, Again, Down, Up, Send, Tick, Restart}
 use Rattle.domain_core.specs.declared.flight.Flight.{Flight}
-use Rattle.domain_core.specs.World.{WorldState, frames_between}
-use Rattle.domain_core.specs.Faults.{is_up_toward}
+use Rattle.domain_model.specs.World.{WorldState, frames_between}
+use Rattle.domain_model.specs.Faults.{is_up_toward}
 use Rattle.domain_core.specs.Flights.{item_seen, items_seen, frames_at}
 use Rattle.domain_core.specs.Framed.{frame_over}
-use Rattle.domain_core.specs.Truth.{IsTruthful}
+use Rattle.domain_model.specs.Truth.{IsTruthful}
 
 -- ---- as it is held
 
@@ -28,7 +28,7 @@ pub record NetworkState : Type 0 where
 
 -- a frame that goes over an end is the frame of its item there
 abbrev pub IsFrameOver : List RouterConf → ℕ → ℕ → Flight → Type 0
-IsFrameOver confs a link f = f.octets ≡ frame_over confs a link (item_seen f)
+IsFrameOver confs a link f = f.octets ≡ frame_over confs a link (item_seen confs f)
 
 abbrev pub AreFramesOver : List RouterConf → List (List (List Flight)) → Type 0
 AreFramesOver confs flights = (a link : ℕ) → AllByRecursion (IsFrameOver confs a link) (frames_at flights a link)
@@ -45,7 +45,7 @@ world_of n =
     record {
       domain = n.domain;
       routers = map (λ r. r.control) n.routers;
-      flights = items_seen n.flights;
+      flights = items_seen n.domain.routers n.flights;
       injections = n.injections;
       events = n.events;
     }

@@ -1,20 +1,19 @@
 //! What a router does by itself: its ends change, it sends, a second passes, it starts again, or a payload enters there.
-ghost use Rattle.std.specs.Prelude.{◌≡◌, ◌<◌, ◌≤◌, ◌^◌, ◌-◌, true, false, length, None, IfOk, OnOk, OnErr, MatchResult};
+ghost use Rattle.std.specs.Prelude.{◌≡◌, ◌<◌, ◌≤◌, ◌^◌, ◌-◌, length, None, IfOk, OnOk, OnErr, MatchResult};
 ghost use Rattle.replay_text.specs.declared.event.Event.TheVariants as events;
 ghost use Rattle.domain_core.specs.Answers.{entry_refused, Refuses};
 ghost use Rattle.domain_core.specs.Held.{state_of, world_in, heard_in, inject_fault, IsDone};
 ghost use Rattle.domain_core.specs.Network.{IsTrueNetwork};
-ghost use Rattle.domain_core.specs.Faults.{event_fault};
-ghost use Rattle.domain_core.specs.Step.{doing};
-ghost use Rattle.domain_core.specs.Truth.{InjectFits};
+ghost use Rattle.domain_model.specs.Faults.{event_fault};
+ghost use Rattle.domain_model.specs.Step.{doing};
+ghost use Rattle.domain_model.specs.Truth.{InjectFits};
 
-use crate::fault::EventFault;
-use crate::flight::Load;
 use crate::network::Network;
 use crate::places::confs_of;
 use crate::sent::carry;
 use crate::step_out::StepOut;
-use wire_base::{Bsl, EdgeFault, Kind, M, Triple, kind_of};
+use domain_model::EventFault;
+use wire_base::{Bsl, EdgeFault, M};
 
 impl Network {
     /// The end of a router toward another, which is up, goes down.
@@ -22,7 +21,7 @@ impl Network {
         requires truth { IsTrueNetwork (state_of self.old) }
         requires place { from < length self.old.routers.items }
         requires allowed { event_fault (world_in self.old) (events.Down from to) ≡ None }
-        ensures done { IfOk result (λ out. IsDone self.old self.new (doing false (world_in self.old) (events.Down from to)) out) }
+        ensures done { IfOk result (λ out. IsDone self.old self.new (doing (world_in self.old) (events.Down from to)) out) }
         ensures heard { OnOk result (heard_in self.new ≡ heard_in self.old) }
         ensures err { OnErr result (state_of self.new ≡ state_of self.old) }
         ensures domain { self.new.domain ≡ self.old.domain }
@@ -41,7 +40,7 @@ impl Network {
         requires truth { IsTrueNetwork (state_of self.old) }
         requires place { from < length self.old.routers.items }
         requires allowed { event_fault (world_in self.old) (events.Up from to) ≡ None }
-        ensures done { IfOk result (λ out. IsDone self.old self.new (doing false (world_in self.old) (events.Up from to)) out) }
+        ensures done { IfOk result (λ out. IsDone self.old self.new (doing (world_in self.old) (events.Up from to)) out) }
         ensures heard { OnOk result (heard_in self.new ≡ heard_in self.old) }
         ensures err { OnErr result (state_of self.new ≡ state_of self.old) }
         ensures domain { self.new.domain ≡ self.old.domain }
@@ -59,7 +58,7 @@ impl Network {
     pub(crate) fn tick(&mut self, at: u16) -> M<StepOut>
         requires truth { IsTrueNetwork (state_of self.old) }
         requires place { at < length self.old.routers.items }
-        ensures done { IfOk result (λ out. IsDone self.old self.new (doing false (world_in self.old) (events.Tick at)) out) }
+        ensures done { IfOk result (λ out. IsDone self.old self.new (doing (world_in self.old) (events.Tick at)) out) }
         ensures heard { OnOk result (heard_in self.new ≡ heard_in self.old) }
         ensures err { OnErr result (state_of self.new ≡ state_of self.old) }
         ensures domain { self.new.domain ≡ self.old.domain }
@@ -74,7 +73,7 @@ impl Network {
     pub(crate) fn restart(&mut self, at: u16) -> M<StepOut>
         requires truth { IsTrueNetwork (state_of self.old) }
         requires place { at < length self.old.routers.items }
-        ensures done { IfOk result (λ out. IsDone self.old self.new (doing false (world_in self.old) (events.Restart at)) out) }
+        ensures done { IfOk result (λ out. IsDone self.old self.new (doing (world_in self.old) (events.Restart at)) out) }
         ensures heard { OnOk result (heard_in self.new ≡ heard_in self.old) }
         ensures err { OnErr result (state_of self.new ≡ state_of self.old) }
         ensures domain { self.new.domain ≡ self.old.domain }
@@ -90,7 +89,7 @@ impl Network {
         requires truth { IsTrueNetwork (state_of self.old) }
         requires place { from < length self.old.routers.items }
         requires allowed { event_fault (world_in self.old) (events.Send from to) ≡ None }
-        ensures done { IfOk result (λ out. IsDone self.old self.new (doing false (world_in self.old) (events.Send from to)) out) }
+        ensures done { IfOk result (λ out. IsDone self.old self.new (doing (world_in self.old) (events.Send from to)) out) }
         ensures heard { OnOk result (heard_in self.new ≡ heard_in self.old) }
         ensures kept { OnErr result (IsTrueNetwork (state_of self.new)) }
         ensures domain { self.new.domain ≡ self.old.domain }
@@ -100,10 +99,9 @@ impl Network {
             return Ok(StepOut::nothing(alloc));
         };
         let router = &mut self.routers[usize::from(from)];
-        let load = Load::Pdu(router.conf().level);
         let effects = router.send(link)?;
         let confs = confs_of(&self.domain);
-        let out = carry(&mut self.flights, confs, from, load, &effects)?;
+        let out = carry(&mut self.flights, confs, from, None, &effects)?;
         Ok(out)
     }
 
@@ -123,22 +121,20 @@ impl Network {
         requires fits { InjectFits (length self.old.domain.routers) at sd ids.now ttl entropy payload.now }
         requires room { self.old.injections < 2 ^ 32 - 1 }
         ensures refused { MatchResult result (λ _. inject_fault self.old at sd bsl ids.now ≡ None) (λ e. Refuses (inject_fault self.old at sd bsl ids.now) e) }
-        ensures done { IfOk result (λ out. IsDone self.old self.new (doing false (world_in self.old) (events.Inject at sd bsl ids.now ttl entropy payload.now)) out) }
+        ensures done { IfOk result (λ out. IsDone self.old self.new (doing (world_in self.old) (events.Inject at sd bsl ids.now ttl entropy payload.now)) out) }
         ensures heard { OnOk result (heard_in self.new ≡ heard_in self.old) }
         ensures err { OnErr result (state_of self.new ≡ state_of self.old) }
         ensures domain { self.new.domain ≡ self.old.domain }
     {
         let number = self.injections + 1;
         let router = &mut self.routers[usize::from(at)];
-        let kind = kind_of(router.conf().kinds.as_slice(), sd).unwrap_or(Kind::Mpls);
-        let load = Load::Packet(number, Triple { sd, bsl, si: 0 }, kind);
         let entered = router.inject(sd, bsl, ids, ttl, entropy, payload);
         let effects = match entered {
             Ok(effects) => effects,
             Err(fault) => return Err(entry_refused(fault)),
         };
         let confs = confs_of(&self.domain);
-        let out = carry(&mut self.flights, confs, at, load, &effects)?;
+        let out = carry(&mut self.flights, confs, at, Some(number), &effects)?;
         self.injections = number;
         Ok(out)
     }

@@ -1,15 +1,15 @@
 //! One event, whichever it is.
-ghost use Rattle.std.specs.Prelude.{◌≡◌, false, length, None, IfOk, OnOk, OnErr, IfErr, MatchResult};
+ghost use Rattle.std.specs.Prelude.{◌≡◌, length, None, IfOk, OnOk, OnErr, IfErr, MatchResult};
 ghost use Rattle.domain_core.specs.Answers.{early_fault, Refuses, Stays, StaysAt, told};
-ghost use Rattle.domain_core.specs.Faults.{event_fault};
+ghost use Rattle.domain_model.specs.Faults.{event_fault};
 ghost use Rattle.domain_core.specs.Held.{state_of, world_in, heard_in, IsDone};
 ghost use Rattle.domain_core.specs.Network.{IsTrueNetwork, heard_after};
-ghost use Rattle.domain_core.specs.Step.{doing, happens};
-ghost use Rattle.domain_core.specs.Truth.{EventFits, AreWorldDrops};
+ghost use Rattle.domain_model.specs.Step.{doing, happens};
+ghost use Rattle.domain_model.specs.Truth.{EventFits, AreWorldDrops};
 
-use crate::fault::EventFault;
 use crate::network::Network;
 use crate::step_out::StepOut;
+use domain_model::EventFault;
 use replay_text::Event;
 
 impl Network {
@@ -40,7 +40,7 @@ impl Network {
         requires fits { EventFits (length self.old.domain.routers) event.now }
         requires allowed { early_fault (world_in self.old) event.now ≡ None }
         ensures refused { MatchResult result (λ _. event_fault (world_in self.old) event.now ≡ None) (λ e. Refuses (event_fault (world_in self.old) event.now) e) }
-        ensures done { IfOk result (λ out. IsDone self.old self.new (doing false (world_in self.old) event.now) out) }
+        ensures done { IfOk result (λ out. IsDone self.old self.new (doing (world_in self.old) event.now) out) }
         ensures heard { OnOk result (heard_in self.new ≡ heard_after (world_in self.old) (heard_in self.old) event.now) }
         ensures kept { OnErr result (IsTrueNetwork (state_of self.new)) }
         ensures stays { IfErr result (λ e. Stays (state_of self.new ≡ state_of self.old) e) }

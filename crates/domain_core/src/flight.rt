@@ -1,17 +1,16 @@
-use wire_base::{Kind, Level, Octets, Triple};
+use wire_base::Octets;
 
-/// What is noted of a frame on its way, since its octets don't tell it.
+/// What is noted of a frame that carries a packet, since its octets don't tell it: the injection that it comes of, and the
+/// router at the other end of the link, by its place.
 #[derive(Clone, Copy)]
-pub(crate) enum Load {
-    /// It carries a PDU of IS-IS, of routers of that level.
-    Pdu(Level),
-    /// It carries a packet of that injection, whose BIFT-id means that triple, in a subdomain of that kind.
-    Packet(u32, Triple, Kind),
+pub(crate) struct Note {
+    pub(crate) number: u32,
+    pub(crate) to: u16,
 }
 
-/// A frame on its way.
+/// A frame on its way. It carries a packet where there is a note, and else a PDU of IS-IS.
 #[derive(Drop)]
 pub(crate) struct Flight {
     pub(crate) octets: Octets,
-    pub(crate) load: Load,
+    pub(crate) note: Option<Note>,
 }

@@ -1,15 +1,17 @@
 //! Frames on their way: a queue for each end of each router.
-ghost use Rattle.std.specs.Prelude.{◌≡◌, ◌+◌, ◌∷◌, ◌++◌, [], nat_lt, List, length, map, slice_get, slice_index_or, slice_set, option_map, sum_by, OnOk, OnErr, IfOk};
-ghost use Rattle.std.specs.List.{remove};
+ghost use Rattle.std.specs.Prelude.{◌≡◌, ◌+◌, ◌≤◌, ◌∷◌, ◌++◌, [], nat_lt, List, length, map, slice_get, slice_index_or, slice_set, option_map, sum_by, OnOk, OnErr, IfOk};
+ghost use Rattle.std.specs.List.{AllByRecursion, remove};
+ghost use Rattle.wire_base.specs.model.Configuration.{IsSound};
 ghost use Rattle.domain_core.specs.declared.flight.Flight.{Flight};
 ghost use Rattle.domain_core.specs.Flights.{item_seen, frames_at, push_frame, without_frame, frame_count, ids_carried_by, no_frames};
-ghost use Rattle.domain_core.specs.World.{carried};
+ghost use Rattle.domain_model.specs.World.{carried};
 
 use crate::carried::{count_of, sum};
 use crate::flight::Flight;
 use std::alloc::Global;
 use std::collections::VecDeque;
 use std::marker::Model;
+use wire_base::limits::MOST_ROUTERS;
 use wire_base::{End, M, Memory, RouterConf};
 
 /// The frames on their way over one end, the oldest first.
@@ -49,12 +51,14 @@ impl Queue {
     }
 
     /// How many BFR-ids its frames have.
-    fn ids(&self) -> M<u64>
-        ensures { IfOk result (λ count. count ≡ sum_by (λ f. carried (item_seen f)) self.now) }
+    fn ids(&self, confs: &[RouterConf]) -> M<u64>
+        requires few { length confs.now ≤ MOST_ROUTERS }
+        requires sound { AllByRecursion IsSound confs.now }
+        ensures { IfOk result (λ count. count ≡ sum_by (λ f. carried (item_seen confs.now f)) self.now) }
     {
         let mut total = 0;
         for flight in self.frames.iter() {
-            total = sum(total, count_of(flight))?;
+            total = sum(total, count_of(confs, flight))?;
         }
         Ok(total)
     }
@@ -115,12 +119,14 @@ impl Queues {
     }
 
     /// How many BFR-ids the frames of all ends have.
-    fn ids(&self) -> M<u64>
-        ensures { IfOk result (λ count. count ≡ sum_by (λ queue. sum_by (λ f. carried (item_seen f)) queue) self.now) }
+    fn ids(&self, confs: &[RouterConf]) -> M<u64>
+        requires few { length confs.now ≤ MOST_ROUTERS }
+        requires sound { AllByRecursion IsSound confs.now }
+        ensures { IfOk result (λ count. count ≡ sum_by (λ queue. sum_by (λ f. carried (item_seen confs.now f)) queue) self.now) }
     {
         let mut total = 0;
         for queue in &self.ends {
-            total = sum(total, queue.ids()?)?;
+            total = sum(total, queue.ids(confs)?)?;
         }
         Ok(total)
     }
@@ -205,14 +211,12 @@ impl Flights {
     }
 
     /// How many BFR-ids all frames have.
-    pub(crate) fn ids(&self) -> M<u64>
-        ensures { IfOk result (λ count. count ≡ ids_carried_by self.now) }
+    pub(crate) fn ids(&self, confs: &[RouterConf]) -> M<u64>
+        requires few { length confs.now ≤ MOST_ROUTERS }
+        requires sound { AllByRecursion IsSound confs.now }
+        ensures { IfOk result (λ count. count ≡ ids_carried_by confs.now self.now) }
     {
-        let mut total = 0;
-        for queues in &self.routers {
-            total = sum(total, queues.ids()?)?;
-        }
-        Ok(total)
+        ids_in(self.routers.as_slice(), confs)
     }
 
     /// How many are on their way in a direction; 0 where there is no such direction.
@@ -286,4 +290,17 @@ fn one_more(count: usize) -> M<usize>
         Some(more) => Ok(more),
         None => Err(Memory),
     }
+}
+
+/// How many BFR-ids the frames of all routers have.
+fn ids_in(routers: &[Queues], confs: &[RouterConf]) -> M<u64>
+    requires few { length confs.now ≤ MOST_ROUTERS }
+    requires sound { AllByRecursion IsSound confs.now }
+    ensures { IfOk result (λ count. count ≡ ids_carried_by confs.now routers.now) }
+{
+    let mut total = 0;
+    for queues in routers {
+        total = sum(total, queues.ids(confs)?)?;
+    }
+    Ok(total)
 }

@@ -1,37 +1,38 @@
 //! What a router does on frames is what a domain does with the items that they carry. The bodies are empty: the contracts
 //! are the laws.
-ghost use Rattle.std.specs.Prelude.{◌≡◌, ◌+◌, ◌≤◌, ◌<◌, ℕ, List, Some, None, true, false, length, slice_get};
+ghost use Rattle.std.specs.Prelude.{◌≡◌, ◌+◌, ◌≤◌, ◌<◌, [], ℕ, List, Some, None, true, false, length, slice_get};
 ghost use Rattle.wire_base.specs.declared.bsl.Bsl.{Bsl};
 ghost use Rattle.wire_base.specs.declared.cause.Cause.TheVariants as cause;
-ghost use Rattle.wire_base.specs.declared.triple.Triple.{Triple};
 ghost use Rattle.wire_base.specs.model.Control.{Control};
 ghost use Rattle.wire_base.specs.model.Flooding.{on_pdu, send};
-ghost use Rattle.wire_base.specs.model.Ingress.{edge_fault, ingress_kind, inject_directly};
+ghost use Rattle.wire_base.specs.model.Ingress.{edge_fault, inject};
 ghost use Rattle.wire_base.specs.model.Item.{Item, ControlItem, PacketItem, DataItem};
-ghost use Rattle.wire_base.specs.model.OnFrame.{Effects, Next, framed, dropped, unchanged, on_frame_directly};
+ghost use Rattle.wire_base.specs.model.OnFrame.{Effects, Next, framed, dropped, unchanged, on_frame};
 ghost use Rattle.wire_base.specs.model.Pdu.{Pdu};
-ghost use Rattle.domain_core.specs.World.{WorldState, is_up, link_between, queue_at};
-ghost use Rattle.domain_core.specs.Moves.{inject_made};
-ghost use Rattle.domain_core.specs.Truth.{IsTruthful, InjectFits};
-ghost use Rattle.domain_core.specs.Framed.{frame_over, packet_sent, IsFramed, IsFlooded, IsHopped};
+ghost use Rattle.domain_model.specs.World.{WorldState, is_up, link_between, queue_at};
+ghost use Rattle.domain_model.specs.Moves.{inject_made};
+ghost use Rattle.domain_model.specs.Truth.{IsTruthful, InjectFits};
+ghost use Rattle.domain_core.specs.Framed.{frame_over, IsFramed, IsFlooded, IsHopped};
+
+use wire_base::limits::MOST_FRAME;
 
 /// A router takes the frame of what is on the way to it, at an end that is up.
 pub fn frames_do_what_items_do()
     // A PDU is flooded, and each PDU that is answered is read off its frame again (ISO/IEC 10589, 7.3.15).
     ensures pdu { (w : WorldState) (a b link back i : ℕ) (c : Control) (p : Pdu) → IsTruthful w → slice_get w.routers b ≡ Some c
         → link_between w.domain.routers a b ≡ Some link → slice_get (queue_at w.flights a link) i ≡ Some (ControlItem p) → is_up c back ≡ true
-        → (next : Control) (e : Effects) → ◌≡◌ {A = Next} (record { control = next; effects = e }) (on_frame_directly c back (frame_over w.domain.routers a link (ControlItem p)))
+        → (next : Control) (e : Effects) → ◌≡◌ {A = Next} (record { control = next; effects = e }) (on_frame c back (frame_over w.domain.routers a link (ControlItem p)))
         → IsFlooded w.domain.routers b back c (on_pdu c back p) next e }
-    // A copy of a packet is hopped: it is delivered, copied on and dropped, each copy is read off its frame again, and at the
-    // router that it goes to its BIFT-id means its triple (RFC 8279, 6.5; RFC 8296, 3).
+    // A copy of a packet is hopped, or sent on in its tunnel: it is delivered, copied on and dropped, each copy is read off
+    // its frame again, and at the router that it is for its BIFT-id means its triple (RFC 8279, 6.5; RFC 8296, 3).
     ensures packet { (w : WorldState) (a b link back i : ℕ) (c : Control) (x : DataItem) → IsTruthful w → slice_get w.routers b ≡ Some c
         → link_between w.domain.routers a b ≡ Some link → slice_get (queue_at w.flights a link) i ≡ Some (PacketItem x) → is_up c back ≡ true
-        → (next : Control) (e : Effects) → ◌≡◌ {A = Next} (record { control = next; effects = e }) (on_frame_directly c back (frame_over w.domain.routers a link (PacketItem x)))
+        → (next : Control) (e : Effects) → ◌≡◌ {A = Next} (record { control = next; effects = e }) (on_frame c back (frame_over w.domain.routers a link (PacketItem x)))
         → IsHopped w.domain.routers b c x next e }
     // What is on the way is short enough to be taken.
-    ensures short { (w : WorldState) (a link i : ℕ) (x : Item) → IsTruthful w → slice_get (queue_at w.flights a link) i ≡ Some x → length (frame_over w.domain.routers a link x) ≤ 65000 }
+    ensures short { (w : WorldState) (a link i : ℕ) (x : Item) → IsTruthful w → slice_get (queue_at w.flights a link) i ≡ Some x → length (frame_over w.domain.routers a link x) ≤ MOST_FRAME }
     // At an end that is down nothing else happens.
-    ensures down { (c : Control) (back : ℕ) (octets : List ℕ) → is_up c back ≡ false → on_frame_directly c back octets ≡ unchanged c (dropped cause.Link) }
+    ensures down { (c : Control) (back : ℕ) (octets : List ℕ) → is_up c back ≡ false → on_frame c back octets ≡ unchanged c (dropped cause.Link) }
 {}
 
 /// What a router sends by itself is read off its frames again.
@@ -40,8 +41,7 @@ pub fn sent_frames_are_items()
     ensures due { (w : WorldState) (a link : ℕ) (c : Control) → IsTruthful w → slice_get w.routers a ≡ Some c → link < length c.conf.ends
         → (next : Control) (e : Effects) → ◌≡◌ {A = Next} (record { control = next; effects = e }) (framed link (send c link)) → IsFlooded w.domain.routers a link c (send c link) next e }
     // The copies of a payload that enters (RFC 8279, 3; RFC 8296, 3).
-    ensures entered { (w : WorldState) (a sd : ℕ) (bsl : Bsl) (ks : List ℕ) (ttl entropy : ℕ) (payload : List ℕ) (other : Triple) (c : Control) → IsTruthful w → slice_get w.routers a ≡ Some c
+    ensures entered { (w : WorldState) (a sd : ℕ) (bsl : Bsl) (ks : List ℕ) (ttl entropy : ℕ) (payload : List ℕ) (c : Control) → IsTruthful w → slice_get w.routers a ≡ Some c
         → InjectFits (length w.domain.routers) a sd ks ttl entropy payload → edge_fault c.conf sd bsl ks ≡ None
-        → IsFramed w.domain.routers a (Some (w.injections + 1)) (packet_sent w.domain.routers a (w.injections + 1) (ingress_kind c.conf sd) other)
-        (inject_directly c sd bsl ks ttl entropy payload) (inject_made false w.domain.routers a c (w.injections + 1) sd bsl ks ttl entropy payload) }
+        → IsFramed w.domain.routers a (Some (w.injections + 1)) [] (inject c sd bsl ks ttl entropy payload) (inject_made w.domain.routers a c (w.injections + 1) sd bsl ks ttl entropy payload) }
 {}

@@ -1,15 +1,16 @@
-//! A domain at work, as it is defined and as it is carried out: its routers' control states and what is on the way on its
-//! links, what each event does and why one isn't allowed, whole runs, and what every event keeps true.
+//! A domain at work, as code: a `World` of routers and of frames on their way, whose every event does what the model of
+//! `domain_model` says; above `router_core`, whose routers it has take the frames.
+//!
+//! It promises that a world's next state, what it sends, delivers and drops are the model's, and that its databases are truthful.
 #![tactic(auto)]
 
 mod alone;
 mod carried;
 mod events;
-mod fault;
 mod flight;
 mod flights;
 mod frame_laws;
-mod laws;
+mod inside;
 mod network;
 mod places;
 mod refusal;
@@ -19,9 +20,8 @@ mod told;
 mod transit;
 mod world;
 
-pub use fault::EventFault;
+pub use domain_model::{DropLine, EventFault, GotLine};
 pub use frame_laws::{frames_do_what_items_do, sent_frames_are_items};
-pub use laws::{a_start_is_truthful, events_keep_the_truth};
 pub use places::{confs_of, peer_place};
-pub use step_out::{DropLine, GotLine, StepOut, WireFrame};
+pub use step_out::{StepOut, WireFrame};
 pub use world::World;

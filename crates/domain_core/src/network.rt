@@ -4,7 +4,7 @@ ghost use Rattle.std.specs.List.{AllByRecursion};
 ghost use Rattle.wire_base.specs.model.Configuration.{IsSound};
 ghost use Rattle.domain_core.specs.Held.{state_of, world_in, heard_in};
 ghost use Rattle.domain_core.specs.Network.{started_router, IsTrueNetwork};
-ghost use Rattle.domain_core.specs.World.{link_between, frames_between, first_world, ids_in_flight};
+ghost use Rattle.domain_model.specs.World.{link_between, frames_between, first_world, ids_in_flight};
 
 use crate::flights::Flights;
 use crate::places::{confs_of, link_between};
@@ -80,6 +80,6 @@ impl Network {
     pub(crate) fn ids_in_flight(&self) -> M<u64>
         ensures { IfOk result (λ count. count ≡ ids_in_flight (world_in self.now).flights) }
     {
-        self.flights.ids()
+        self.flights.ids(confs_of(&self.domain))
     }
 }

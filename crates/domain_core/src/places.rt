@@ -1,18 +1,21 @@
 //! Where the ends of routers lead.
 ghost use Rattle.std.specs.Prelude.{◌≡◌, ◌≤◌, length, slice_get, option_map, IfSome};
 ghost use Rattle.std.specs.List.{AllByRecursion};
+ghost use Rattle.std.specs.Str.{bytes_eq};
 ghost use Rattle.wire_base.specs.model.Choice.{end_toward, is_system};
 ghost use Rattle.wire_base.specs.model.Configuration.{IsSound, IsValid};
-ghost use Rattle.domain_core.specs.World.{place_of, end_at, peer_place, link_between};
+ghost use Rattle.wire_base.specs.model.Item.{router_with};
+ghost use Rattle.domain_model.specs.World.{place_of, end_at, peer_place, link_between};
 
-use wire_base::{Domain, End, RouterConf, SystemId};
+use wire_base::limits::MOST_ROUTERS;
+use wire_base::{Domain, End, Ipv4, RouterConf, SystemId};
 
 /// The configurations of a domain's routers, by place.
 pub fn confs_of(domain: &Domain) -> &[RouterConf]
     ensures confs { result.now ≡ domain.now.routers }
     ensures valid { IsValid domain.now }
     ensures sound { AllByRecursion IsSound result.now }
-    ensures few { length result.now ≤ 250 }
+    ensures few { length result.now ≤ MOST_ROUTERS }
 {
     domain.routers.as_slice()
 }
@@ -70,7 +73,7 @@ pub(crate) fn link_between(confs: &[RouterConf], from: u16, to: u16) -> Option<u
 
 /// The place of the router of a system; past the end where there is none.
 fn place_of(confs: &[RouterConf], system: SystemId) -> u16
-    requires { length confs.now ≤ 250 }
+    requires { length confs.now ≤ MOST_ROUTERS }
     ensures { result ≡ place_of confs.now system }
 {
     for place in 0..confs.len() {
@@ -81,9 +84,28 @@ fn place_of(confs: &[RouterConf], system: SystemId) -> u16
     confs.len() as u16
 }
 
+/// The place of the first router with a prefix.
+pub(crate) fn router_with(confs: &[RouterConf], prefix: Ipv4) -> Option<u16>
+    requires { length confs.now ≤ MOST_ROUTERS }
+    ensures { result ≡ router_with 0 confs.now prefix }
+{
+    for place in 0..confs.len() {
+        if is_prefix(confs[place].prefix, prefix) {
+            return Some(place as u16);
+        }
+    }
+    None
+}
+
+fn is_prefix(a: Ipv4, b: Ipv4) -> bool
+    ensures { result ≡ bytes_eq a.0 b.0 }
+{
+    a == b
+}
+
 /// The place of the router at the other end of a link.
 pub fn peer_place(confs: &[RouterConf], place: u16, link: u16) -> u16
-    requires { length confs.now ≤ 250 }
+    requires { length confs.now ≤ MOST_ROUTERS }
     ensures { result ≡ peer_place confs.now place link }
 {
     match peer_of(confs, place, link) {

@@ -1,23 +1,19 @@
 //! Why an event isn't allowed, but for what a router says of an injection.
-ghost use Rattle.std.specs.Prelude.{◌≡◌, ℕ, ◌<◌, nat_le, length, slice_get, Some, None};
+ghost use Rattle.std.specs.Prelude.{◌≡◌, ℕ, ◌<◌, nat_le, List, length, slice_get, Some, None};
+ghost use Rattle.wire_base.specs.declared.conf.RouterConf.{RouterConf};
 ghost use Rattle.replay_text.specs.declared.event.Event.TheVariants as events;
 ghost use Rattle.domain_core.specs.Answers.{early_fault, early_rule};
-ghost use Rattle.domain_core.specs.Faults.{most_in_flight, unless_room, up_over, frame_fault, repeat_fault, rule_fault};
+ghost use Rattle.domain_model.specs.Faults.{most_in_flight, unless_room, up_over, frame_fault, repeat_fault, rule_fault};
 ghost use Rattle.domain_core.specs.Flights.{item_seen};
 ghost use Rattle.domain_core.specs.Held.{world_in};
-ghost use Rattle.domain_core.specs.Truth.{EventFits};
-ghost use Rattle.domain_core.specs.World.{queue_at, in_flight};
+ghost use Rattle.domain_model.specs.Truth.{EventFits};
+ghost use Rattle.domain_model.specs.World.{queue_at, in_flight};
 
-use crate::fault::EventFault;
-use crate::flight::{Flight, Load};
+use crate::flight::Flight;
 use crate::network::Network;
+use domain_model::EventFault;
 use replay_text::Event;
-
-/// So many events are done at most.
-const MOST_EVENTS: u32 = 1_000_000;
-
-/// With so many frames on their way nothing more is sent.
-const MOST_IN_FLIGHT: usize = 500_000;
+use wire_base::limits::{MOST_EVENTS, MOST_IN_FLIGHT};
 
 impl Network {
     /// The first reason for which the event isn't allowed, but for what a router says of an injection.
@@ -170,11 +166,12 @@ impl Network {
 }
 
 /// What carries a packet doesn't come again.
+#[tactic(auto, unfolding(crate::specs::Read::item_in))]
 fn packet_fault(flight: &Flight) -> Option<EventFault>
-    ensures { (i n : ℕ) → result ≡ repeat_fault (Some (item_seen flight.now)) i n }
+    ensures { (confs : List RouterConf) (i n : ℕ) → result ≡ repeat_fault (Some (item_seen confs flight.now)) i n }
 {
-    match flight.load {
-        Load::Pdu(_) => None,
-        Load::Packet(..) => Some(EventFault::NotControl),
+    match flight.note {
+        None => None,
+        Some(_) => Some(EventFault::NotControl),
     }
 }

@@ -1,55 +1,62 @@
 //! What is told of what a router does.
-ghost use Rattle.std.specs.Prelude.{◌≡◌, ◌≤◌, ◌++◌, ◌∷◌, [], length, map, filter, drop, IfOk, OnOk};
+ghost use Rattle.std.specs.Prelude.{◌≡◌, ◌≤◌, ◌++◌, ◌∷◌, [], ℕ, length, map, filter, Option, option_map, IfOk, OnOk};
+ghost use Rattle.std.specs.List.{AllByRecursion};
 ghost use Rattle.wire_base.specs.model.BitSet.{has_member};
+ghost use Rattle.wire_base.specs.model.Configuration.{IsSound};
+ghost use Rattle.wire_base.specs.model.Item.{Outer};
 ghost use Rattle.wire_base.specs.model.Place.{bits_of, id_at};
 ghost use Rattle.bfr_edge.specs.Entry.{positions_in};
 ghost use Rattle.bier_bits.specs.Any.{bsl_of, positions_of};
 ghost use Rattle.bier_forward.specs.Sets.{set_in, HasLength, HaveLength};
-ghost use Rattle.domain_core.specs.Answers.{told_of, ids_carried};
-ghost use Rattle.domain_core.specs.Flights.{item_seen, number_of};
+ghost use Rattle.domain_core.specs.Answers.{told_of};
+ghost use Rattle.domain_core.specs.Flights.{item_seen, number_of, ids_seen, ids_taken};
 ghost use Rattle.domain_core.specs.Framed.{wire_from, got_line, drop_line, ids_dropped};
-ghost use Rattle.domain_core.specs.Moves.{item_lost, listed};
+ghost use Rattle.domain_core.specs.Read.{copy_read, packet_in};
+ghost use Rattle.domain_model.specs.Moves.{item_lost, listed};
 
-use crate::flight::{Flight, Load};
+use crate::flight::Flight;
+use crate::inside::packet_in;
 use crate::places::peer_place;
-use crate::step_out::{DropLine, GotLine, StepOut, WireFrame};
+use crate::step_out::{StepOut, WireFrame};
 use bier_bits::AnyBits;
-use bier_head::read_header;
+use domain_model::{DropLine, GotLine};
 use router_core::{DropNote, Effects, Got, Packet, Sent};
 use std::alloc::Global;
-use wire_base::{Cause, Kind, M, RouterConf, Rows, Triple};
+use wire_base::limits::MOST_ROUTERS;
+use wire_base::{Cause, M, RouterConf, Rows, Triple};
 
-/// What is told of what the router at a place did because of a frame with that note.
+/// What is told of what the router at a place did, for that injection or for none, having taken that frame or none.
 pub(crate) fn told_of(
     alloc: Global,
     confs: &[RouterConf],
     at: u16,
-    load: Load,
+    number: Option<u32>,
+    taken: Option<&Flight>,
     effects: &Effects,
 ) -> M<StepOut>
-    requires { length confs.now ≤ 250 }
-    ensures { IfOk result (λ out. out ≡ told_of confs.now at load effects.now) }
+    requires few { length confs.now ≤ MOST_ROUTERS }
+    requires sound { AllByRecursion IsSound confs.now }
+    ensures { IfOk result (λ out. out ≡ told_of confs.now at number (ids_taken confs.now (option_map (λ f. f.now) taken.entry)) effects.now) }
 {
-    let number = number_of(load);
     Ok(StepOut {
         sent: wire_frames(alloc, confs, at, effects.sent.as_slice())?,
         got: got_lines(alloc, at, number, effects.got.as_slice())?,
-        drops: drop_lines(alloc, at, number, effects.drops.as_slice())?,
+        drops: drop_lines(alloc, confs, at, number, taken, effects.drops.as_slice())?,
     })
 }
 
 /// The injection that a frame comes of.
-fn number_of(load: Load) -> Option<u32>
-    ensures { result ≡ number_of load }
+pub(crate) fn number_of(flight: &Flight) -> Option<u32>
+    ensures { result ≡ number_of flight.now }
 {
-    match load {
-        Load::Pdu(_) => None,
-        Load::Packet(number, _, _) => Some(number),
+    match flight.note {
+        None => None,
+        Some(note) => Some(note.number),
     }
 }
 
 fn wire_frames(alloc: Global, confs: &[RouterConf], at: u16, sent: &[Sent]) -> M<Rows<WireFrame>>
-    requires { length confs.now ≤ 250 }
+    requires { length confs.now ≤ MOST_ROUTERS }
     ensures { IfOk result (λ frames. frames ≡ map (wire_from confs.now at) sent.now) }
 {
     let mut frames = Rows::new(alloc);
@@ -78,34 +85,81 @@ fn got_lines(alloc: Global, at: u16, number: Option<u32>, got: &[Got]) -> M<Rows
     Ok(lines)
 }
 
-fn drop_lines(alloc: Global, at: u16, number: Option<u32>, drops: &[DropNote]) -> M<Rows<DropLine>>
-    ensures { IfOk result (λ lines. lines ≡ map (drop_line at number) drops.now) }
+fn drop_lines(
+    alloc: Global,
+    confs: &[RouterConf],
+    at: u16,
+    number: Option<u32>,
+    taken: Option<&Flight>,
+    drops: &[DropNote],
+) -> M<Rows<DropLine>>
+    requires few { length confs.now ≤ MOST_ROUTERS }
+    requires sound { AllByRecursion IsSound confs.now }
+    ensures { IfOk result (λ lines. lines ≡ map (drop_line at number (ids_taken confs.now (option_map (λ f. f.now) taken.entry))) drops.now) }
 {
     let mut lines = Rows::new(alloc);
     for note in drops {
-        lines.push(drop_line(alloc, at, number, note)?)?;
+        lines.push(DropLine {
+            router: at,
+            injection: number,
+            cause: note.cause,
+            ids: ids_dropped(alloc, confs, taken, &note.sets)?,
+        })?;
     }
     Ok(lines)
 }
 
-fn drop_line(alloc: Global, at: u16, number: Option<u32>, note: &DropNote) -> M<DropLine>
-    ensures { IfOk result (λ line. line ≡ drop_line at number note.now) }
-{
-    Ok(DropLine {
-        router: at,
-        injection: number,
-        cause: note.cause,
-        ids: ids_dropped(alloc, &note.sets)?,
-    })
-}
-
-fn ids_dropped(alloc: Global, sets: &Option<Packet>) -> M<Rows<u16>>
-    requires { HaveLength sets.now }
-    ensures { IfOk result (λ ids. ids ≡ ids_dropped (set_in sets.now)) }
+/// The BFR-ids of positions; of a frame that is dropped as a whole they are all that it has.
+fn ids_dropped(
+    alloc: Global,
+    confs: &[RouterConf],
+    taken: Option<&Flight>,
+    sets: &Option<Packet>,
+) -> M<Rows<u16>>
+    requires few { length confs.now ≤ MOST_ROUTERS }
+    requires sound { AllByRecursion IsSound confs.now }
+    requires length { HaveLength sets.now }
+    ensures { IfOk result (λ ids. ids ≡ ids_dropped (ids_taken confs.now (option_map (λ f. f.now) taken.entry)) (set_in sets.now)) }
 {
     match sets {
-        None => Ok(Rows::new(alloc)),
+        None => ids_taken(alloc, confs, taken),
         Some(packet) => ids_listed(alloc, packet.triple, &packet.bits),
+    }
+}
+
+fn ids_taken(alloc: Global, confs: &[RouterConf], taken: Option<&Flight>) -> M<Rows<u16>>
+    requires few { length confs.now ≤ MOST_ROUTERS }
+    requires sound { AllByRecursion IsSound confs.now }
+    ensures { IfOk result (λ ids. ids ≡ listed (ids_taken confs.now (option_map (λ f. f.now) taken.entry))) }
+{
+    match taken {
+        None => Ok(Rows::new(alloc)),
+        Some(flight) => ids_of(alloc, confs, flight),
+    }
+}
+
+/// The BFR-ids of a frame; a PDU has none.
+#[tactic(auto, unfolding(crate::specs::Read::item_in))]
+fn ids_of(alloc: Global, confs: &[RouterConf], flight: &Flight) -> M<Rows<u16>>
+    requires few { length confs.now ≤ MOST_ROUTERS }
+    requires sound { AllByRecursion IsSound confs.now }
+    ensures { IfOk result (λ ids. ids ≡ listed (ids_seen confs.now flight.now)) }
+{
+    match flight.note {
+        None => Ok(Rows::new(alloc)),
+        Some(note) => ids_in(alloc, confs, note.to, flight.octets.as_slice()),
+    }
+}
+
+/// The BFR-ids of the packet of a frame that goes to the router at a place.
+fn ids_in(alloc: Global, confs: &[RouterConf], to: u16, octets: &[u8]) -> M<Rows<u16>>
+    requires few { length confs.now ≤ MOST_ROUTERS }
+    requires sound { AllByRecursion IsSound confs.now }
+    ensures { IfOk result (λ ids. (number : ℕ) (outer : Option Outer) → ids ≡ listed (copy_read number outer (packet_in confs.now to octets.now)).ids) }
+{
+    match packet_in(confs, to, octets) {
+        Some(packet) => ids_listed(alloc, packet.triple, &packet.header.bits),
+        None => Ok(Rows::new(alloc)),
     }
 }
 
@@ -135,45 +189,24 @@ fn push_id(ids: &mut Rows<u16>, triple: Triple, bits: &AnyBits, position: u16) -
 }
 
 /// What is told of a frame that the router at a place drops as a whole.
-pub(crate) fn lost(alloc: Global, at: u16, cause: Cause, flight: &Flight) -> M<StepOut>
-    ensures { IfOk result (λ out. (out.sent ≡ []) × (out.got ≡ []) × (out.drops ≡ (item_lost at cause (item_seen flight.now)).drops)) }
+#[tactic(auto, unfolding(crate::specs::Read::item_in))]
+pub(crate) fn lost(
+    alloc: Global,
+    confs: &[RouterConf],
+    at: u16,
+    cause: Cause,
+    flight: &Flight,
+) -> M<StepOut>
+    requires few { length confs.now ≤ MOST_ROUTERS }
+    requires sound { AllByRecursion IsSound confs.now }
+    ensures { IfOk result (λ out. (out.sent ≡ []) × (out.got ≡ []) × (out.drops ≡ (item_lost at cause (item_seen confs.now flight.now)).drops)) }
 {
-    let ids = match flight.load {
-        Load::Pdu(_) => Rows::new(alloc),
-        Load::Packet(_, triple, kind) => ids_carried(
-            alloc,
-            triple,
-            kind,
-            flight.octets.as_slice(),
-        )?,
-    };
     let mut out = StepOut::nothing(alloc);
     out.drops.push(DropLine {
         router: at,
-        injection: number_of(flight.load),
+        injection: number_of(flight),
         cause,
-        ids,
+        ids: ids_of(alloc, confs, flight)?,
     })?;
     Ok(out)
-}
-
-/// The BFR-ids of a packet in a frame.
-fn ids_carried(alloc: Global, triple: Triple, kind: Kind, octets: &[u8]) -> M<Rows<u16>>
-    ensures { IfOk result (λ ids. ids ≡ listed (ids_carried triple kind octets.now)) }
-{
-    match read_header(kind, triple.bsl, behind(octets, 14)) {
-        Ok(header) => ids_listed(alloc, triple, &header.bits),
-        Err(_) => Ok(Rows::new(alloc)),
-    }
-}
-
-/// What stands behind so many octets.
-pub(crate) fn behind(octets: &[u8], count: usize) -> &[u8]
-    ensures { result.now ≡ drop count octets.now }
-{
-    if octets.len() < count {
-        &[]
-    } else {
-        &octets[count..]
-    }
 }

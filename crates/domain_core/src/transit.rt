@@ -1,24 +1,23 @@
 //! What arrives, is lost or comes again.
-ghost use Rattle.std.specs.Prelude.{◌≡◌, ◌<◌, false, length, IfOk, OnOk, OnErr};
+ghost use Rattle.std.specs.Prelude.{◌≡◌, ◌<◌, length, IfOk, OnOk, OnErr};
 ghost use Rattle.replay_text.specs.declared.event.Event.TheVariants as events;
-ghost use Rattle.domain_core.specs.Flights.{load_at};
 ghost use Rattle.domain_core.specs.Held.{state_of, world_in, heard_in, IsDone};
 ghost use Rattle.domain_core.specs.Network.{IsTrueNetwork, heard_after};
-ghost use Rattle.domain_core.specs.Step.{doing};
+ghost use Rattle.domain_model.specs.Step.{doing};
 
-use crate::flight::{Flight, Load};
+use crate::flight::Flight;
 use crate::network::Network;
 use crate::places::confs_of;
-use crate::sent::carry;
+use crate::sent::send_all;
 use crate::step_out::StepOut;
-use crate::told::lost;
-use wire_base::{Cause, Level, M};
+use crate::told::{lost, number_of, told_of};
+use wire_base::{Cause, M};
 
 impl Network {
     /// A frame is lost: the router that it was for drops it.
     pub(crate) fn lose(&mut self, from: u16, to: u16, i: u32) -> M<StepOut>
         requires { IsTrueNetwork (state_of self.old) }
-        ensures done { IfOk result (λ out. IsDone self.old self.new (doing false (world_in self.old) (events.Lose from to i)) out) }
+        ensures done { IfOk result (λ out. IsDone self.old self.new (doing (world_in self.old) (events.Lose from to i)) out) }
         ensures heard { OnOk result (heard_in self.new ≡ heard_in self.old) }
         ensures err { OnErr result (state_of self.new ≡ state_of self.old) }
         ensures domain { self.new.domain ≡ self.old.domain }
@@ -30,7 +29,7 @@ impl Network {
         let Some(flight) = self.flights.get(from, link, i) else {
             return Ok(StepOut::nothing(alloc));
         };
-        let out = lost(alloc, to, Cause::Lost, flight)?;
+        let out = lost(alloc, confs_of(&self.domain), to, Cause::Lost, flight)?;
         self.flights.remove(from, link, i as usize);
         Ok(out)
     }
@@ -38,7 +37,7 @@ impl Network {
     /// A frame that carries a PDU comes again: a copy of it goes to the end of its direction.
     pub(crate) fn again(&mut self, from: u16, to: u16, i: u32) -> M<StepOut>
         requires { IsTrueNetwork (state_of self.old) }
-        ensures done { IfOk result (λ out. IsDone self.old self.new (doing false (world_in self.old) (events.Again from to i)) out) }
+        ensures done { IfOk result (λ out. IsDone self.old self.new (doing (world_in self.old) (events.Again from to i)) out) }
         ensures heard { OnOk result (heard_in self.new ≡ heard_in self.old) }
         ensures err { OnErr result (state_of self.new ≡ state_of self.old) }
         ensures domain { self.new.domain ≡ self.old.domain }
@@ -50,12 +49,12 @@ impl Network {
         let Some(flight) = self.flights.get(from, link, i) else {
             return Ok(StepOut::nothing(alloc));
         };
-        let Load::Pdu(level) = flight.load else {
+        let None = flight.note else {
             return Ok(StepOut::nothing(alloc));
         };
         let octets = flight.octets.copy()?;
-        let load = Load::Pdu(level);
-        self.flights.push(from, link, Flight { octets, load })?;
+        self.flights
+            .push(from, link, Flight { octets, note: None })?;
         Ok(StepOut::nothing(alloc))
     }
 
@@ -63,7 +62,7 @@ impl Network {
     pub(crate) fn take(&mut self, from: u16, to: u16, i: u32) -> M<StepOut>
         requires truth { IsTrueNetwork (state_of self.old) }
         requires place { to < length self.old.routers.items }
-        ensures done { IfOk result (λ out. IsDone self.old self.new (doing false (world_in self.old) (events.Take from to i)) out) }
+        ensures done { IfOk result (λ out. IsDone self.old self.new (doing (world_in self.old) (events.Take from to i)) out) }
         ensures heard { OnOk result (heard_in self.new ≡ heard_after (world_in self.old) (heard_in self.old) (events.Take from to i)) }
         ensures kept { OnErr result (IsTrueNetwork (state_of self.new)) }
         ensures domain { self.new.domain ≡ self.old.domain }
@@ -78,27 +77,24 @@ impl Network {
         let Some(flight) = self.flights.get(from, link, i) else {
             return Ok(StepOut::nothing(alloc));
         };
+        let confs = confs_of(&self.domain);
         let router = &mut self.routers[usize::from(to)];
         if !router.is_up(back) {
-            let out = lost(alloc, to, Cause::Link, flight)?;
+            let out = lost(alloc, confs, to, Cause::Link, flight)?;
             self.flights.remove(from, link, i as usize);
             return Ok(out);
         }
-        let load = load_at(router.conf().level, flight.load);
+        let number = number_of(flight);
         let effects = router.frame(back, flight.octets.as_slice())?;
+        let out = told_of(alloc, confs, to, number, Some(flight), &effects)?;
         self.flights.remove(from, link, i as usize);
-        let confs = confs_of(&self.domain);
-        let out = carry(&mut self.flights, confs, to, load, &effects)?;
+        send_all(
+            &mut self.flights,
+            confs,
+            to,
+            number,
+            effects.sent.as_slice(),
+        )?;
         Ok(out)
-    }
-}
-
-/// What is noted of what a router of that level does because of a frame.
-fn load_at(level: Level, load: Load) -> Load
-    ensures { result ≡ load_at level load }
-{
-    match load {
-        Load::Pdu(_) => Load::Pdu(level),
-        Load::Packet(number, triple, kind) => Load::Packet(number, triple, kind),
     }
 }

@@ -2,15 +2,16 @@
 ghost use Rattle.std.specs.Prelude.{◌≡◌, ◌<◌, length, map, slice_get, Option, Some, None, IfOk, OnOk, OnErr, IfErr, MatchResult};
 ghost use Rattle.std.specs.List.{AllByRecursion};
 ghost use Rattle.domain_core.specs.Answers.{IsShortFrame, Refuses, Stays, StaysAt, told};
-ghost use Rattle.domain_core.specs.Faults.{event_fault};
+ghost use Rattle.domain_model.specs.Faults.{event_fault};
+ghost use Rattle.domain_core.specs.Ledger.{KeepsLedger};
 ghost use Rattle.domain_core.specs.Network.{heard_after};
-ghost use Rattle.domain_core.specs.Step.{happens};
-ghost use Rattle.domain_core.specs.Truth.{IsTruthful, EventFits, AreWorldDrops};
-ghost use Rattle.domain_core.specs.World.{first_world, frames_between, ids_in_flight};
+ghost use Rattle.domain_model.specs.Step.{happens};
+ghost use Rattle.domain_model.specs.Truth.{IsTruthful, EventFits, AreWorldDrops};
+ghost use Rattle.domain_model.specs.World.{first_world, frames_between, ids_in_flight};
 
-use crate::fault::EventFault;
 use crate::network::Network;
 use crate::step_out::StepOut;
+use domain_model::EventFault;
 use replay_text::Event;
 use router_core::Router;
 use std::alloc::Global;
@@ -56,6 +57,9 @@ impl World {
     /// Memory may come in place of any answer, and changes nothing either, but where a frame was to arrive or a router to
     /// send: there the router may have turned, the frame may be gone, and what the router answered is lost. Only a frame that
     /// arrives at an end that is up is taken by a router.
+    ///
+    /// Each BFR-id of a packet that is on the way before the event, or enters by it, is afterwards in one copy, one delivery or
+    /// one drop (RFC 8279, 6.5).
     pub fn step(&mut self, event: &Event) -> Result<StepOut, EventFault>
         requires { EventFits (length self.old.world.domain.routers) event.now }
         ensures refused { MatchResult result (λ _. event_fault self.old.world event.now ≡ None) (λ e. Refuses (event_fault self.old.world event.now) e) }
@@ -63,6 +67,7 @@ impl World {
         ensures told { IfOk result (λ out. out ≡ told self.old.world.domain.routers (happens self.old.world event.now).made) }
         ensures drops { IfOk result (λ out. AreWorldDrops out.drops) }
         ensures short { IfOk result (λ out. AllByRecursion IsShortFrame out.sent) }
+        ensures ledger { IfOk result (λ out. KeepsLedger self.old.world self.new.world event.now out) }
         ensures heard { OnOk result (self.new.heard ≡ heard_after self.old.world self.old.heard event.now) }
         ensures stays { IfErr result (λ e. Stays (self.new ≡ self.old) e) }
         ensures whole { OnErr result (StaysAt (self.new ≡ self.old) event.now) }

@@ -6,11 +6,11 @@ use Rattle.wire_base.specs.declared.conf.RouterConf.{RouterConf}
 use Rattle.wire_base.specs.model.Configuration.{DomainConf, IsValid, AreEnds, HaveEnds, Faces, peers_of}
 use Rattle.wire_base.specs.model.Configuration as configuration
 use Rattle.wire_base.specs.model.Lists.{AreApart}
-use Rattle.domain_core.specs.World.{place_of, far_place, end_at}
-use Rattle.domain_core.specs.Run.{direction_over, directions_from, directions}
-use Rattle.domain_core.proofs.LinkLaws.{place_is}
-use Rattle.domain_core.proofs.EachLaws.{each_joined, each_mapped}
-use Rattle.domain_core.proofs.QueueLaws.{got_within}
+use Rattle.domain_model.specs.World.{place_of, far_place, end_at}
+use Rattle.domain_model.specs.Run.{direction_over, directions_from, directions}
+use Rattle.domain_model.proofs.LinkLaws.{place_is}
+use Rattle.domain_model.proofs.EachLaws.{each_joined, each_mapped}
+use Rattle.domain_model.proofs.QueueLaws.{got_within}
 use Rattle.domain_replay.specs.Replaying.{IsJoining}
 
 -- the router at the other end is there

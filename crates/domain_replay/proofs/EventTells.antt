@@ -3,17 +3,17 @@ use Rattle.std.proofs.Common.{◌≡◌, ℕ, List, [], ◌∷◌, ◌++◌, map
 use Rattle.std.specs.Prelude.{flat_map}
 use Rattle.wire_base.specs.declared.conf.RouterConf.{RouterConf}
 use Rattle.replay_text.specs.declared.event.Event.{Event}
-use Rattle.domain_core.specs.declared.fault.EventFault.{EventFault}
-use Rattle.domain_core.specs.declared.fault.EventFault.TheVariants as faults
+use Rattle.domain_model.specs.declared.fault.EventFault.{EventFault}
+use Rattle.domain_model.specs.declared.fault.EventFault.TheVariants as faults
 use Rattle.domain_core.specs.declared.step_out.StepOut.{StepOut}
 use Rattle.domain_core.specs.Answers as answer
 use Rattle.domain_core.specs.Answers.{Refuses, Stays}
-use Rattle.domain_core.specs.Faults.{event_fault}
+use Rattle.domain_model.specs.Faults.{event_fault}
 use Rattle.domain_core.specs.Framed.{wire_of}
-use Rattle.domain_core.specs.Moves.{Sending}
+use Rattle.domain_model.specs.Moves.{Sending}
 use Rattle.domain_core.specs.Network.{Seen}
-use Rattle.domain_core.specs.Step.{happens}
-use Rattle.domain_core.specs.World.{WorldState}
+use Rattle.domain_model.specs.Step.{happens}
+use Rattle.domain_model.specs.World.{WorldState}
 use Rattle.domain_replay.specs.declared.counts.Counts.{Counts}
 use Rattle.domain_replay.specs.Captures.{wire_record}
 use Rattle.domain_replay.specs.Counting.{counted}

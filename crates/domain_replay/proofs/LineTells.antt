@@ -3,9 +3,9 @@ use Rattle.std.proofs.Common.{◌≡◌, ◌≢◌, ℕ, Some, Result, Ok, Err, 
 use Rattle.replay_text.specs.declared.event.Event.{Event}
 use Rattle.replay_text.specs.declared.event.Event.TheVariants.{Inject, Take, Lose, Again, Down, Up, Send, Tick, Restart}
 use Rattle.replay_text.specs.Events as lines
-use Rattle.domain_core.specs.declared.fault.EventFault.{EventFault}
-use Rattle.domain_core.specs.declared.fault.EventFault.TheVariants as faults
-use Rattle.domain_core.specs.Truth.{EventFits}
+use Rattle.domain_model.specs.declared.fault.EventFault.{EventFault}
+use Rattle.domain_model.specs.declared.fault.EventFault.TheVariants as faults
+use Rattle.domain_model.specs.Truth.{EventFits}
 use Rattle.domain_replay.specs.Counting.{NamesOnce}
 use Rattle.domain_replay.specs.Telling.{Telling, Told, told}
 use Rattle.domain_replay.specs.Replaying.{Tells, NumbersFit, IsAsked}

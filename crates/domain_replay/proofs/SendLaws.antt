@@ -7,8 +7,8 @@ use Rattle.wire_base.specs.declared.conf.RouterConf.{RouterConf}
 use Rattle.wire_base.specs.model.Configuration.{DomainConf, IsValid}
 use Rattle.replay_text.specs.declared.event.Event.{Event}
 use Rattle.replay_text.specs.declared.event.Event.TheVariants.{Send}
-use Rattle.domain_core.specs.World.{WorldState}
-use Rattle.domain_core.specs.Run.{Direction, directions, may_send}
+use Rattle.domain_model.specs.World.{WorldState}
+use Rattle.domain_model.specs.Run.{Direction, directions, may_send}
 use Rattle.domain_replay.specs.Replaying.{IsAsked, IsJoining, sends_of}
 use Rattle.domain_replay.proofs.DirectionLaws.{directions_join}
 

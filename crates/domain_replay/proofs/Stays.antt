@@ -5,10 +5,10 @@ use Rattle.wire_base.specs.model.Flooding.{Reply, end_up, end_down, tick, restar
 use Rattle.wire_base.specs.model.Item.{Item, ControlItem, PacketItem}
 use Rattle.replay_text.specs.declared.event.Event.{Event}
 use Rattle.replay_text.specs.declared.event.Event.TheVariants.{Inject, Take, Lose, Again, Down, Up, Send, Tick, Restart}
-use Rattle.domain_core.specs.World.{WorldState, is_up, link_between, queue_at}
-use Rattle.domain_core.specs.Moves.{Made, item_lost, inject_made}
+use Rattle.domain_model.specs.World.{WorldState, is_up, link_between, queue_at}
+use Rattle.domain_model.specs.Moves.{Made, item_lost, inject_made}
 use Rattle.wire_base.specs.declared.cause.Cause.TheVariants as cause
-use Rattle.domain_core.specs.Step.{Happened, makes, arrives, comes, takes, takes_over, loses, loses_over, repeats, repeats_over, injects, changes_end, sends, changes, doing, happens_with, happens}
+use Rattle.domain_model.specs.Step.{Happened, makes, arrives, comes, takes, takes_over, loses, loses_over, repeats, repeats_over, injects, changes_end, sends, changes, doing, happens}
 use Rattle.domain_replay.specs.Counting.{injected_by}
 use Rattle.domain_replay.specs.Telling.{IsEntered}
 
@@ -21,24 +21,24 @@ pub record Stays (more : ℕ) (w : WorldState) (n : Happened) : Type 0 where
 none_more : (n : ℕ) → n ≡ n + 0
 none_more n = omega arith
 
-arrives_stays : (w : WorldState) (b back : ℕ) (c : Control) (x : Item) → Stays 0 w (arrives false w b back c x)
+arrives_stays : (w : WorldState) (b back : ℕ) (c : Control) (x : Item) → Stays 0 w (arrives w b back c x)
 arrives_stays w b back c (ControlItem p) = record { domain = refl; routers = length-set w.routers b _; injections = none_more w.injections }
 arrives_stays w b back c (PacketItem x) = record { domain = refl; routers = refl; injections = none_more w.injections }
 
-comes_stays : (w : WorldState) (b back : ℕ) (c : Control) (x : Item) → Stays 0 w (comes false w b back c x)
+comes_stays : (w : WorldState) (b back : ℕ) (c : Control) (x : Item) → Stays 0 w (comes w b back c x)
 comes_stays w b back c x = by (is_up c back)
   where
-    by : (up : Bool) → Stays 0 w (if up then arrives false w b back c x else makes w (item_lost b cause.Link x))
+    by : (up : Bool) → Stays 0 w (if up then arrives w b back c x else makes w (item_lost b cause.Link x))
     by true = arrives_stays w b back c x
     by false = record { domain = refl; routers = refl; injections = none_more w.injections }
 
-takes_stays : (w : WorldState) (a link b back i : ℕ) (o : Option Item) (q : Option Control) → Stays 0 w (takes false w a link b back i o q)
+takes_stays : (w : WorldState) (a link b back i : ℕ) (o : Option Item) (q : Option Control) → Stays 0 w (takes w a link b back i o q)
 takes_stays w a link b back i None q = record { domain = refl; routers = refl; injections = none_more w.injections }
 takes_stays w a link b back i (Some x) None = record { domain = refl; routers = refl; injections = none_more w.injections }
 takes_stays w a link b back i (Some x) (Some c) =
     let s = comes_stays (record w { flights = _ }) b back c x in record { domain = s.domain; routers = s.routers; injections = s.injections }
 
-takes_over_stays : (w : WorldState) (a b i : ℕ) (l m : Option ℕ) → Stays 0 w (takes_over false w a b i l m)
+takes_over_stays : (w : WorldState) (a b i : ℕ) (l m : Option ℕ) → Stays 0 w (takes_over w a b i l m)
 takes_over_stays w a b i None m = record { domain = refl; routers = refl; injections = none_more w.injections }
 takes_over_stays w a b i (Some link) None = record { domain = refl; routers = refl; injections = none_more w.injections }
 takes_over_stays w a b i (Some link) (Some back) = takes_stays w a link b back i (slice_get (queue_at w.flights a link) i) (slice_get w.routers b)
@@ -74,16 +74,16 @@ changes_stays : (w : WorldState) (a : ℕ) (change : Control → Reply) (q : Opt
 changes_stays w a change None = record { domain = refl; routers = refl; injections = none_more w.injections }
 changes_stays w a change (Some c) = record { domain = refl; routers = length-set w.routers a _; injections = none_more w.injections }
 
-injects_stays : (w : WorldState) (a : ℕ) (enter : Control → Made) → a < length w.routers → Stays 1 w (injects false w a enter (slice_get w.routers a))
+injects_stays : (w : WorldState) (a : ℕ) (enter : Control → Made) → a < length w.routers → Stays 1 w (injects w a enter (slice_get w.routers a))
 injects_stays w a enter within = by w.routers a within
   where
-    by : (cs : List Control) (n : ℕ) → n < length cs → Stays 1 w (injects false w a enter (slice_get cs n))
+    by : (cs : List Control) (n : ℕ) → n < length cs → Stays 1 w (injects w a enter (slice_get cs n))
     by [] n h = absurd (omega (arith, h))
     by (c ∷ cs) zero h = record { domain = refl; routers = refl; injections = refl }
     by (c ∷ cs) (suc n) h = by cs n (omega (arith, h))
 
-doing_stays : (w : WorldState) (e : Event) → IsEntered (length w.routers) e → Stays (injected_by e) w (doing false w e)
-doing_stays w (Inject a sd bsl ks ttl entropy payload) there = injects_stays w a (λ c. inject_made false w.domain.routers a c (w.injections + 1) sd bsl ks ttl entropy payload) there
+doing_stays : (w : WorldState) (e : Event) → IsEntered (length w.routers) e → Stays (injected_by e) w (doing w e)
+doing_stays w (Inject a sd bsl ks ttl entropy payload) there = injects_stays w a (λ c. inject_made w.domain.routers a c (w.injections + 1) sd bsl ks ttl entropy payload) there
 doing_stays w (Take a b i) there = takes_over_stays w a b i (link_between w.domain.routers a b) (link_between w.domain.routers b a)
 doing_stays w (Lose a b i) there = loses_over_stays w a b i (link_between w.domain.routers a b)
 doing_stays w (Again a b i) there = repeats_over_stays w a i (link_between w.domain.routers a b)
@@ -94,15 +94,15 @@ doing_stays w (Tick a) there = changes_stays w a tick (slice_get w.routers a)
 doing_stays w (Restart a) there = changes_stays w a restart (slice_get w.routers a)
 
 pub happens_stays : (w : WorldState) (e : Event) → IsEntered (length w.routers) e → Stays (injected_by e) w (happens w e)
-unfolding happens_with
+unfolding happens
 happens_stays w e there = let s = doing_stays w e there in record { domain = s.domain; routers = s.routers; injections = s.injections }
 
 -- the domain, whatever the event
 pub happens_domain : (w : WorldState) (e : Event) → (happens w e).world.domain ≡ w.domain
-unfolding happens_with
+unfolding happens
 happens_domain w (Inject a sd bsl ks ttl entropy payload) = by (slice_get w.routers a)
   where
-    by : (q : Option Control) → (injects false w a (λ c. inject_made false w.domain.routers a c (w.injections + 1) sd bsl ks ttl entropy payload) q).world.domain ≡ w.domain
+    by : (q : Option Control) → (injects w a (λ c. inject_made w.domain.routers a c (w.injections + 1) sd bsl ks ttl entropy payload) q).world.domain ≡ w.domain
     by None = refl
     by (Some c) = refl
 happens_domain w (Take a b i) = (let s = doing_stays w (Take a b i) tt in s.domain)

@@ -13,13 +13,13 @@ use Rattle.replay_text.specs.declared.event.Event.{Event}
 use Rattle.replay_text.specs.declared.event.Event.TheVariants.{Send, Take}
 use Rattle.replay_text.specs.declared.event.Line.{Line}
 use Rattle.replay_text.specs.declared.event.Line.TheVariants.{Empty, One, Settle}
-use Rattle.domain_core.specs.declared.fault.EventFault.{EventFault}
-use Rattle.domain_core.specs.declared.step_out.DropLine.{DropLine}
-use Rattle.domain_core.specs.World.{WorldState, first_world, frames_between}
-use Rattle.domain_core.specs.Step.{happens}
-use Rattle.domain_core.specs.Faults.{event_fault}
-use Rattle.domain_core.specs.Run.{Run, Progress, first_run, goes_on, on_line, Direction, directions, may_send, round_sends, taken_now, round_takes, world_after, round_events, settle_events, does, line_done, line_events, goes_unless, tries}
-use Rattle.domain_core.proofs.EachLaws.{each_from, each_joined, each_mapped, each_repeated}
+use Rattle.domain_model.specs.declared.fault.EventFault.{EventFault}
+use Rattle.domain_model.specs.declared.lines.DropLine.{DropLine}
+use Rattle.domain_model.specs.World.{WorldState, first_world, frames_between}
+use Rattle.domain_model.specs.Step.{happens}
+use Rattle.domain_model.specs.Faults.{event_fault}
+use Rattle.domain_model.specs.Run.{Run, Progress, first_run, goes_on, on_line, Direction, directions, may_send, round_sends, taken_now, round_takes, world_after, round_events, settle_events, does, line_done, line_events, goes_unless, tries}
+use Rattle.domain_model.proofs.EachLaws.{each_from, each_joined, each_mapped, each_repeated}
 use Rattle.domain_replay.specs.declared.counts.Counts.{Counts}
 use Rattle.domain_replay.specs.Captures.{sending_record}
 use Rattle.domain_replay.specs.Counting.{injected_by, named_by, dropped_ids, counted, counts_of}

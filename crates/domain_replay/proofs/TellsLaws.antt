@@ -4,12 +4,12 @@ use Rattle.std.specs.List.{fold}
 use Rattle.std.proofs.lemmas.List.{drop_all}
 use Rattle.std.proofs.lemmas.Grind.{fold-append}
 use Rattle.replay_text.specs.declared.event.Event.{Event}
-use Rattle.domain_core.specs.declared.fault.EventFault.{EventFault}
-use Rattle.domain_core.specs.declared.fault.EventFault.TheVariants as faults
-use Rattle.domain_core.specs.World.{WorldState}
-use Rattle.domain_core.specs.Step.{happens}
-use Rattle.domain_core.specs.Faults.{event_fault}
-use Rattle.domain_core.specs.Run.{Direction, directions, round_sends, taken_now, round_takes, round_events, settle_events, world_after}
+use Rattle.domain_model.specs.declared.fault.EventFault.{EventFault}
+use Rattle.domain_model.specs.declared.fault.EventFault.TheVariants as faults
+use Rattle.domain_model.specs.World.{WorldState}
+use Rattle.domain_model.specs.Step.{happens}
+use Rattle.domain_model.specs.Faults.{event_fault}
+use Rattle.domain_model.specs.Run.{Direction, directions, round_sends, taken_now, round_takes, round_events, settle_events, world_after}
 use Rattle.domain_replay.specs.Telling.{Telling, Told, told, tells, tells_or, tells_on, tells_all}
 use Rattle.domain_replay.specs.Replaying.{ends_with, Tells}
 

@@ -4,7 +4,7 @@ use Rattle.std.specs.List.{AllByRecursion}
 use Rattle.wire_base.specs.declared.conf.RouterConf.{RouterConf}
 use Rattle.wire_base.specs.model.Capture.{written_header, written_record}
 use Rattle.domain_core.specs.declared.step_out.WireFrame.{WireFrame}
-use Rattle.domain_core.specs.Moves.{Sending}
+use Rattle.domain_model.specs.Moves.{Sending}
 use Rattle.domain_core.specs.Framed.{frame_over}
 
 -- A frame is recorded with the line of its event as the second, and no microseconds.

@@ -3,9 +3,9 @@ use Rattle.std.specs.Prelude.{ℕ, ◌≡◌, ◌+◌, List, [], length, sum_by}
 use Rattle.wire_base.specs.model.Hop.{distinct}
 use Rattle.replay_text.specs.declared.event.Event.{Event}
 use Rattle.replay_text.specs.declared.event.Event.TheVariants as event
-use Rattle.domain_core.specs.declared.step_out.GotLine.{GotLine}
-use Rattle.domain_core.specs.declared.step_out.DropLine.{DropLine}
-use Rattle.domain_core.specs.Run.{Run}
+use Rattle.domain_model.specs.declared.lines.GotLine.{GotLine}
+use Rattle.domain_model.specs.declared.lines.DropLine.{DropLine}
+use Rattle.domain_model.specs.Run.{Run}
 use Rattle.domain_replay.specs.declared.counts.Counts.{Counts}
 
 -- ---- one event

@@ -4,16 +4,16 @@ use Rattle.std.specs.Fmt.{decimal}
 use Rattle.wire_base.specs.declared.conf.RouterConf.{RouterConf}
 use Rattle.wire_base.specs.declared.faults.EdgeFault.{EdgeFault}
 use Rattle.wire_base.specs.declared.faults.EdgeFault.TheVariants as edge
-use Rattle.replay_text.specs.declared.fault.TextFault.{TextFault}
-use Rattle.replay_text.specs.declared.fault.TextFault.TheVariants as text
+use Rattle.wire_base.specs.model.Faults.{edge_number, edge_name}
+use Rattle.replay_text.specs.Fault.{rule_text}
 use Rattle.replay_text.specs.Ids.{ids_text}
 use Rattle.replay_text.specs.Payload.{payload_text}
 use Rattle.domain_conf.specs.declared.fault.ConfFault.{ConfFault}
 use Rattle.domain_conf.specs.Fault as conf
-use Rattle.domain_core.specs.declared.fault.EventFault.{EventFault}
-use Rattle.domain_core.specs.declared.fault.EventFault.TheVariants as event
-use Rattle.domain_core.specs.declared.step_out.GotLine.{GotLine}
-use Rattle.domain_core.specs.declared.step_out.DropLine.{DropLine}
+use Rattle.domain_model.specs.declared.fault.EventFault.{EventFault}
+use Rattle.domain_model.specs.declared.fault.EventFault.TheVariants as event
+use Rattle.domain_model.specs.declared.lines.GotLine.{GotLine}
+use Rattle.domain_model.specs.declared.lines.DropLine.{DropLine}
 use Rattle.domain_replay.specs.declared.counts.Counts.{Counts}
 use Rattle.domain_replay.specs.Causes.{cause_text}
 
@@ -60,41 +60,35 @@ done_text lines counts flight =
 abbrev pub conf_refused_text : ConfFault → List ℕ
 conf_refused_text why = line_of (codes "refused" ∷ codes "conf" ∷ decimal (conf.number_of why) ∷ conf.name_of why ∷ conf.path_of why ∷ [])
 
--- the number and the name of a rule that a line breaks; want of memory is no rule
-abbrev pub text_fault : TextFault → List ℕ
-text_fault text.Word = codes "1 Word"
-text_fault text.Number = codes "2 Number"
-text_fault text.Name = codes "3 Name"
-text_fault text.Hex = codes "4 Hex"
-text_fault text.LineLong = codes "5 LineLong"
-text_fault text.Memory = []
-
 -- the rule that a text of more than 67,108,864 octets breaks
 abbrev pub too_long : List ℕ
-too_long = codes "6 TooLong"
+too_long = rule_text 6 (codes "TooLong")
 
 -- `refused LINE text N NAME`
 abbrev pub text_refused_text : ℕ → List ℕ → List ℕ
 text_refused_text line why = line_of (codes "refused" ∷ decimal line ∷ codes "text" ∷ why ∷ [])
 
--- why a router makes no packets, with the BFR-id whose set identifier is too large; want of memory is no reason
+-- why a router makes no packets, with the BFR-id whose set identifier is too large
+abbrev pub edge_values : EdgeFault → List ℕ
+edge_values edge.NoEgress = []
+edge_values edge.IdZero = []
+edge_values (edge.SiLarge id) = 32 ∷ decimal id
+edge_values edge.NotBfr = []
+edge_values edge.BslUnknown = []
+edge_values edge.Memory = []
+
 abbrev pub edge_fault : EdgeFault → List ℕ
-edge_fault edge.NoEgress = codes "1 NoEgress"
-edge_fault edge.IdZero = codes "2 IdZero"
-edge_fault (edge.SiLarge id) = codes "3 SiLarge " ++ decimal id
-edge_fault edge.NotBfr = codes "4 NotBfr"
-edge_fault edge.BslUnknown = codes "5 BslUnknown"
-edge_fault edge.Memory = []
+edge_fault why = rule_text (edge_number why) (edge_name why) ++ edge_values why
 
 -- the number and the name of the reason why an event isn't allowed, with its values; want of memory is no reason
 abbrev pub event_fault : EventFault → List ℕ
-event_fault event.Events = codes "1 Events"
-event_fault event.NoLink = codes "2 NoLink"
-event_fault event.EndState = codes "3 EndState"
-event_fault event.InFlight = codes "4 InFlight"
-event_fault (event.NoFrame place count) = codes "5 NoFrame " ++ decimal place ++ codes " " ++ decimal count
-event_fault event.NotControl = codes "6 NotControl"
-event_fault (event.Edge why) = codes "7 Edge " ++ edge_fault why
+event_fault event.Events = rule_text 1 (codes "Events")
+event_fault event.NoLink = rule_text 2 (codes "NoLink")
+event_fault event.EndState = rule_text 3 (codes "EndState")
+event_fault event.InFlight = rule_text 4 (codes "InFlight")
+event_fault (event.NoFrame place count) = rule_text 5 (codes "NoFrame") ++ 32 ∷ (decimal place ++ 32 ∷ decimal count)
+event_fault event.NotControl = rule_text 6 (codes "NotControl")
+event_fault (event.Edge why) = rule_text 7 (codes "Edge") ++ 32 ∷ edge_fault why
 event_fault event.Memory = []
 
 -- `refused LINE event N NAME`

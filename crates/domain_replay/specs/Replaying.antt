@@ -2,12 +2,12 @@
 use Rattle.std.specs.Prelude.{ℕ, ◌≡◌, ◌<◌, ◌^◌, List, [], ◌∷◌, Some, Result, Ok, Err, if◌then◌else◌}
 use Rattle.std.specs.List.{AllByRecursion}
 use Rattle.replay_text.specs.declared.event.Event.{Event}
-use Rattle.domain_core.specs.declared.fault.EventFault.{EventFault}
-use Rattle.domain_core.specs.declared.fault.EventFault.TheVariants as faults
+use Rattle.domain_model.specs.declared.fault.EventFault.{EventFault}
+use Rattle.domain_model.specs.declared.fault.EventFault.TheVariants as faults
 use Rattle.replay_text.specs.declared.event.Event.TheVariants.{Inject, Take, Lose, Again, Down, Up, Send, Tick, Restart}
-use Rattle.domain_core.specs.World.{WorldState}
-use Rattle.domain_core.specs.Run.{Direction, may_send}
-use Rattle.domain_core.specs.Truth.{EventFits}
+use Rattle.domain_model.specs.World.{WorldState}
+use Rattle.domain_model.specs.Run.{Direction, may_send}
+use Rattle.domain_model.specs.Truth.{EventFits}
 use Rattle.domain_replay.specs.Counting.{NamesOnce}
 use Rattle.domain_replay.specs.Telling.{Telling, Told, told}
 

@@ -8,12 +8,12 @@ use Rattle.replay_text.specs.declared.event.Event.{Event}
 use Rattle.replay_text.specs.declared.event.Event.TheVariants as event
 use Rattle.replay_text.specs.declared.event.Line.{Line}
 use Rattle.replay_text.specs.declared.event.Line.TheVariants as line
-use Rattle.domain_core.specs.declared.fault.EventFault.{EventFault}
-use Rattle.domain_core.specs.World.{WorldState, first_world}
-use Rattle.domain_core.specs.Moves.{Sending}
-use Rattle.domain_core.specs.Step.{Happened, happens}
-use Rattle.domain_core.specs.Faults.{event_fault}
-use Rattle.domain_core.specs.Run.{Run, Progress, line_events, on_line}
+use Rattle.domain_model.specs.declared.fault.EventFault.{EventFault}
+use Rattle.domain_model.specs.World.{WorldState, first_world}
+use Rattle.domain_model.specs.Moves.{Sending}
+use Rattle.domain_model.specs.Step.{Happened, happens}
+use Rattle.domain_model.specs.Faults.{event_fault}
+use Rattle.domain_model.specs.Run.{Run, Progress, line_events, on_line}
 use Rattle.domain_replay.specs.declared.counts.Counts.{Counts}
 use Rattle.domain_replay.specs.Captures.{sending_record}
 use Rattle.domain_replay.specs.Counting.{no_counts, counted, counts_of, NamesOnce}

@@ -7,13 +7,14 @@ use Rattle.replay_text.specs.declared.event.Event.{Event}
 use Rattle.replay_text.specs.declared.event.Line.{Line}
 use Rattle.replay_text.specs.declared.fault.TextFault.{TextFault}
 use Rattle.replay_text.specs.Schedule.{schedule_line}
-use Rattle.domain_core.specs.declared.fault.EventFault.{EventFault}
-use Rattle.domain_core.specs.World.{WorldState, first_world, ids_in_flight}
-use Rattle.domain_core.specs.Moves.{Made}
-use Rattle.domain_core.specs.Step.{happens}
-use Rattle.domain_core.specs.Run.{Run, first_run, Progress, line_done}
+use Rattle.domain_model.specs.declared.fault.EventFault.{EventFault}
+use Rattle.domain_model.specs.World.{WorldState, first_world, ids_in_flight}
+use Rattle.domain_model.specs.Moves.{Made}
+use Rattle.domain_model.specs.Step.{happens}
+use Rattle.domain_model.specs.Run.{Run, first_run, Progress, line_done}
 use Rattle.domain_replay.specs.Captures.{capture_of}
-use Rattle.domain_replay.specs.Lines.{event_text, done_text, text_refused_text, event_refused_text, text_fault, too_long}
+use Rattle.domain_replay.specs.Lines.{event_text, done_text, text_refused_text, event_refused_text, too_long}
+use Rattle.replay_text.specs.Fault.{fault_text}
 use Rattle.domain_replay.specs.Counting.{counts_of}
 
 -- ---- of a run
@@ -56,7 +57,7 @@ pub data Refusal : Type 0 where
   TooLong : Refusal
 
 abbrev pub refusal_text : ℕ → Refusal → List ℕ
-refusal_text line (BadText why) = text_refused_text line (text_fault why)
+refusal_text line (BadText why) = text_refused_text line (fault_text why)
 refusal_text line (BadEvent why) = event_refused_text line why
 refusal_text line TooLong = text_refused_text line too_long
 

@@ -2,11 +2,12 @@
 ghost use Rattle.std.specs.Prelude.{◌≡◌, ◌≤◌, ◌++◌, length, map, OnOk, IfOk};
 ghost use Rattle.std.specs.List.{AllByRecursion, range_with_len};
 ghost use Rattle.wire_base.specs.model.Configuration.{IsSound};
-ghost use Rattle.domain_core.specs.Run as spec;
+ghost use Rattle.domain_model.specs.Run as spec;
 
 use domain_core::peer_place;
 use std::alloc::Global;
 use std::marker::Model;
+use wire_base::limits::MOST_ROUTERS;
 use wire_base::{M, RouterConf, Rows};
 
 /// A direction of a link: from a router over one of its ends to the router there, both by their places.
@@ -18,7 +19,7 @@ pub struct Direction {
 }
 
 impl Model for Direction {
-    ghost use Rattle.domain_core.specs.Run.{Direction};
+    ghost use Rattle.domain_model.specs.Run.{Direction};
 
     ghost Value = { Direction };
 
@@ -29,7 +30,7 @@ impl Model for Direction {
 
 /// Appends the directions in which the router at a place sends, over so many ends.
 fn push_from(out: &mut Rows<Direction>, routers: &[RouterConf], from: u16, ends: u16) -> M<()>
-    requires { length routers.now ≤ 250 }
+    requires { length routers.now ≤ MOST_ROUTERS }
     ensures { OnOk result (out.new ≡ out.old ++ map (spec.direction_over routers.now from) (range_with_len 0 ends)) }
 {
     for link in 0..ends {
@@ -40,9 +41,9 @@ fn push_from(out: &mut Rows<Direction>, routers: &[RouterConf], from: u16, ends:
 }
 
 /// All directions, in the order of the routers and of their ends.
-#[tactic(auto, unfolding(domain_core::specs::Run::directions))]
+#[tactic(auto, unfolding(domain_model::specs::Run::directions))]
 pub fn directions(alloc: Global, routers: &[RouterConf]) -> M<Rows<Direction>>
-    requires few { length routers.now ≤ 250 }
+    requires few { length routers.now ≤ MOST_ROUTERS }
     requires sound { AllByRecursion IsSound routers.now }
     ensures { IfOk result (λ all. all ≡ spec.directions routers.now) }
 {

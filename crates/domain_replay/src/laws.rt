@@ -2,7 +2,7 @@
 ghost use Rattle.std.specs.Prelude.{◌≡◌, ℕ, None, length};
 ghost use Rattle.wire_base.specs.model.Configuration.{DomainConf};
 ghost use Rattle.replay_text.specs.declared.event.Line.{Line};
-ghost use Rattle.domain_core.specs.Run.{Run, first_run, line_done};
+ghost use Rattle.domain_model.specs.Run.{Run, first_run, line_done};
 ghost use Rattle.domain_replay.specs.Telling.{first_telling, tells_line, telling_of, IsRunOf, LineEnters, IsToldSo};
 
 /// Before the first event the capture is its header, and the report is empty.

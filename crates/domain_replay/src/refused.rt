@@ -4,12 +4,13 @@ ghost use Rattle.std.specs.Fmt.{decimal};
 ghost use Rattle.wire_base.specs.declared.faults.EdgeFault.TheVariants as edges;
 ghost use Rattle.replay_text.specs.declared.fault.TextFault.TheVariants as texts;
 ghost use Rattle.domain_conf.specs.declared.fault.ConfFault.TheVariants as confs;
-ghost use Rattle.domain_core.specs.declared.fault.EventFault.TheVariants as events;
+ghost use Rattle.domain_model.specs.declared.fault.EventFault.TheVariants as events;
+ghost use Rattle.replay_text.specs.Fault.{rule_text, fault_text};
 ghost use Rattle.domain_replay.specs.Lines as spec;
 
 use domain_conf::ConfFault;
 use domain_core::EventFault;
-use replay_text::TextFault;
+use replay_text::{TextFault, push_rule};
 use std::alloc::Global;
 use wire_base::{EdgeFault, M, Memory, Octets};
 
@@ -43,29 +44,15 @@ pub fn push_conf_refused(alloc: Global, out: &mut Octets, why: &ConfFault) -> M<
     out.append(text.as_slice())
 }
 
-/// The number and the name of a rule that a line breaks.
-fn text_fault(why: TextFault) -> &'static [u8]
-    ensures { result.now ≡ spec.text_fault why }
-{
-    match why {
-        TextFault::Word => b"1 Word",
-        TextFault::Number => b"2 Number",
-        TextFault::Name => b"3 Name",
-        TextFault::Hex => b"4 Hex",
-        TextFault::LineLong => b"5 LineLong",
-        TextFault::Memory => b"",
-    }
-}
-
 /// The line of a text that breaks a rule, apart.
-fn text_line(alloc: Global, line: u64, why: &[u8]) -> M<Octets>
-    ensures { IfOk result (λ text. text ≡ spec.text_refused_text line why.now) }
+fn text_line(alloc: Global, line: u64, number: u8, name: &[u8]) -> M<Octets>
+    ensures { IfOk result (λ text. text ≡ spec.text_refused_text line (rule_text number name.now)) }
 {
     let mut text = Octets::new(alloc);
     text.append(b"refused ")?;
     text.append_number(line)?;
     text.append(b" text ")?;
-    text.append(why)?;
+    push_rule(&mut text, number, name)?;
     text.push(b'\n')?;
     Ok(text)
 }
@@ -74,13 +61,13 @@ fn text_line(alloc: Global, line: u64, why: &[u8]) -> M<Octets>
 /// then, or where memory is refused, nothing is appended.
 pub fn push_text_refused(alloc: Global, out: &mut Octets, line: u64, why: TextFault) -> M<()>
     ensures known { OnOk result (why ≢ texts.Memory) }
-    ensures ok { OnOk result (out.new ≡ out.old ++ spec.text_refused_text line (spec.text_fault why)) }
+    ensures ok { OnOk result (out.new ≡ out.old ++ spec.text_refused_text line (fault_text why)) }
     ensures err { OnErr result (out.new ≡ out.old) }
 {
     if why == TextFault::Memory {
         return Err(Memory);
     }
-    let text = text_line(alloc, line, text_fault(why))?;
+    let text = text_line(alloc, line, why.number(), why.name())?;
     out.append(text.as_slice())
 }
 
@@ -90,32 +77,41 @@ pub fn push_too_long(alloc: Global, out: &mut Octets, line: u64) -> M<()>
     ensures ok { OnOk result (out.new ≡ out.old ++ spec.text_refused_text line spec.too_long) }
     ensures err { OnErr result (out.new ≡ out.old) }
 {
-    let text = text_line(alloc, line, b"6 TooLong")?;
+    let text = text_line(alloc, line, 6, b"TooLong")?;
     out.append(text.as_slice())
+}
+
+/// Appends the BFR-id for which a router makes no packets, where it is for one.
+fn push_edge_values(out: &mut Octets, why: EdgeFault) -> M<()>
+    ensures { OnOk result (out.new ≡ out.old ++ spec.edge_values why) }
+{
+    match why {
+        EdgeFault::SiLarge(id) => {
+            out.push(b' ')?;
+            out.append_number(u64::from(id))
+        }
+        EdgeFault::NoEgress
+        | EdgeFault::IdZero
+        | EdgeFault::NotBfr
+        | EdgeFault::BslUnknown
+        | EdgeFault::Memory => Ok(()),
+    }
 }
 
 /// Appends why a router makes no packets.
 fn push_edge(out: &mut Octets, why: EdgeFault) -> M<()>
     ensures { OnOk result (out.new ≡ out.old ++ spec.edge_fault why) }
 {
-    match why {
-        EdgeFault::NoEgress => out.append(b"1 NoEgress"),
-        EdgeFault::IdZero => out.append(b"2 IdZero"),
-        EdgeFault::SiLarge(id) => {
-            out.append(b"3 SiLarge ")?;
-            out.append_number(u64::from(id))
-        }
-        EdgeFault::NotBfr => out.append(b"4 NotBfr"),
-        EdgeFault::BslUnknown => out.append(b"5 BslUnknown"),
-        EdgeFault::Memory => Ok(()),
-    }
+    push_rule(out, why.number(), why.name())?;
+    push_edge_values(out, why)
 }
 
 /// Appends why a place has no frame.
 fn push_no_frame(out: &mut Octets, place: u32, count: usize) -> M<()>
     ensures { OnOk result (out.new ≡ out.old ++ spec.event_fault (events.NoFrame place count)) }
 {
-    out.append(b"5 NoFrame ")?;
+    push_rule(out, 5, b"NoFrame")?;
+    out.push(b' ')?;
     out.append_number(u64::from(place))?;
     out.push(b' ')?;
     out.append_number(count as u64)
@@ -126,14 +122,15 @@ fn push_reason(out: &mut Octets, why: EventFault) -> M<()>
     ensures { OnOk result (out.new ≡ out.old ++ spec.event_fault why) }
 {
     match why {
-        EventFault::Events => out.append(b"1 Events"),
-        EventFault::NoLink => out.append(b"2 NoLink"),
-        EventFault::EndState => out.append(b"3 EndState"),
-        EventFault::InFlight => out.append(b"4 InFlight"),
+        EventFault::Events => push_rule(out, 1, b"Events"),
+        EventFault::NoLink => push_rule(out, 2, b"NoLink"),
+        EventFault::EndState => push_rule(out, 3, b"EndState"),
+        EventFault::InFlight => push_rule(out, 4, b"InFlight"),
         EventFault::NoFrame(place, count) => push_no_frame(out, place, count),
-        EventFault::NotControl => out.append(b"6 NotControl"),
+        EventFault::NotControl => push_rule(out, 6, b"NotControl"),
         EventFault::Edge(edge) => {
-            out.append(b"7 Edge ")?;
+            push_rule(out, 7, b"Edge")?;
+            out.push(b' ')?;
             push_edge(out, edge)
         }
         EventFault::Memory => Ok(()),

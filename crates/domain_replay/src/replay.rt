@@ -3,11 +3,12 @@ ghost use Rattle.std.specs.Prelude.{◌≡◌, ◌≢◌, ◌++◌, length, Some
 ghost use Rattle.std.specs.List.{AllByRecursion};
 ghost use Rattle.replay_text.specs.Events.{LineFits};
 ghost use Rattle.replay_text.specs.declared.fault.TextFault.TheVariants as texts;
-ghost use Rattle.domain_core.specs.declared.fault.EventFault.TheVariants as fault;
-ghost use Rattle.domain_core.specs.World.{ids_in_flight};
-ghost use Rattle.domain_core.specs.Run as run;
-ghost use Rattle.domain_core.specs.Run.{taken_now, round_sends, round_events};
-ghost use Rattle.domain_replay.specs.Lines.{done_text, text_refused_text, text_fault, event_refused_text, too_long};
+ghost use Rattle.domain_model.specs.declared.fault.EventFault.TheVariants as fault;
+ghost use Rattle.domain_model.specs.World.{ids_in_flight};
+ghost use Rattle.domain_model.specs.Run as run;
+ghost use Rattle.domain_model.specs.Run.{taken_now, round_sends, round_events};
+ghost use Rattle.domain_replay.specs.Lines.{done_text, text_refused_text, event_refused_text, too_long};
+ghost use Rattle.replay_text.specs.Fault.{fault_text};
 ghost use Rattle.domain_replay.specs.Telling.{first_telling, told, tells_on, tells_all, tells_line, LineNamesOnce};
 ghost use Rattle.domain_replay.specs.Replaying.{Tells, IsAsked, IsJoining, sends_of};
 
@@ -229,7 +230,7 @@ impl Replay {
 
     /// Appends the line on a line of the schedule that isn't in the grammar; or nothing, where memory is refused.
     pub fn refuse_text(&mut self, alloc: Global, line: u64, why: TextFault) -> M<()>
-        ensures ok { OnOk result (self.new ≡ record self.old { report = self.old.report ++ text_refused_text line (text_fault why) }) }
+        ensures ok { OnOk result (self.new ≡ record self.old { report = self.old.report ++ text_refused_text line (fault_text why) }) }
         ensures known { OnOk result (why ≢ texts.Memory) }
         ensures err { OnErr result (self.new ≡ self.old) }
     {
@@ -251,13 +252,6 @@ impl Replay {
         ensures err { OnErr result (self.new ≡ self.old) }
     {
         push_too_long(alloc, &mut self.texts.report, line)
-    }
-
-    /// What was counted so far.
-    pub fn counts(&self) -> Counts
-        ensures { result ≡ self.now.counts }
-    {
-        self.texts.counts
     }
 
     /// The capture so far, but for what was let go.

@@ -151,6 +151,15 @@ fn show(out: &mut Octets, domain: &Domain) -> M<()> {
     Ok(())
 }
 
+// A copy of what a copy of the file's domain shows.
+fn shown_by_copies(alloc: Global, text: &str) -> M<Octets> {
+    let mut out = Octets::new(alloc);
+    if let Ok(domain) = read_domain(alloc, text.as_bytes()) {
+        show(&mut out, &domain.copy()?)?;
+    }
+    out.copy()
+}
+
 // What a file begins with, by its name in the table.
 fn head_of(name: &str) -> &'static str {
     match name {
@@ -217,6 +226,8 @@ fn gives_what_a_file_says(rt: HostRuntime) -> Result<(), Fail> {
         let text = format!(in rt.alloc(); "{head}\n{more}")?;
         let got = said(rt.alloc(), text.as_str())?;
         assert_eq!(rt; got.as_slice(), want.as_bytes(), "at {more}");
+        let copied = shown_by_copies(rt.alloc(), text.as_str())?;
+        assert_eq!(rt; copied.as_slice(), want.as_bytes(), "copied at {more}");
     }
     Ok(())
 }

@@ -7,6 +7,7 @@ use Rattle.std.proofs.lemmas.List.Concat.{flat_map-cons}
 use Rattle.std.specs.Prelude.{slice_get, IsSomeAnd}
 use Rattle.byteorder.specs.Endian.{big_bytes, big_number}
 use Rattle.byteorder.specs.Numbers.{big_number-reads_back, big_from-lt}
+use Rattle.wire_base.specs.declared.limits.TheConstants.{LAST_LABEL}
 use Rattle.wire_base.specs.declared.faults.TlvFault.{TlvFault}
 use Rattle.wire_base.specs.declared.faults.InfoFault.{InfoFault}
 use Rattle.wire_base.specs.declared.faults.InfoFault.TheVariants as faults
@@ -189,12 +190,12 @@ a_range p t is four = rw (is, four) refl
 
 -- the ranges with what a word gives
 abbrev ranges_with : List LabelRange → Bsl → ℕ → List LabelRange
-ranges_with ranges b w = cond (ltb 1048575 (w % 1048576 + w / 16777216)) ranges (ranges ++ record { bsl = b; max_si = w / 16777216; label = w % 1048576 } ∷ [])
+ranges_with ranges b w = cond (ltb LAST_LABEL (w % 1048576 + w / 16777216)) ranges (ranges ++ record { bsl = b; max_si = w / 16777216; label = w % 1048576 } ∷ [])
 
 given_ranges : (ranges : List LabelRange) (b : Bsl) (w : ℕ) (rs : List LabelRange) → ranges_with ranges b w ++ rs ≡ ranges ++ cons_option (range_with (Some b) w) rs
-given_ranges ranges b w rs = by_test (ltb 1048575 (w % 1048576 + w / 16777216)) refl
+given_ranges ranges b w rs = by_test (ltb LAST_LABEL (w % 1048576 + w / 16777216)) refl
   where
-    by_test : (d : Bool) → ltb 1048575 (w % 1048576 + w / 16777216) ≡ d → ranges_with ranges b w ++ rs ≡ ranges ++ cons_option (range_with (Some b) w) rs
+    by_test : (d : Bool) → ltb LAST_LABEL (w % 1048576 + w / 16777216) ≡ d → ranges_with ranges b w ++ rs ≡ ranges ++ cons_option (range_with (Some b) w) rs
     by_test true e = rw e refl
     by_test false e = rw e (append_assoc ranges (record { bsl = b; max_si = w / 16777216; label = w % 1048576 } ∷ []) rs)
 
@@ -422,7 +423,7 @@ spelt_range r fits =
     let c : w / 1048576 % 16 ≡ code_of r.bsl = word_code r.max_si (code_of r.bsl) r.label (omega arith) (omega arith) in
     let top : w / 16777216 ≡ r.max_si = word_top r.max_si (code_of r.bsl) r.label (omega arith) (omega arith) in
     let low : w % 1048576 ≡ r.label = word_low r.max_si (code_of r.bsl) r.label (omega arith) (omega arith) in
-    let below : ltb 1048575 (r.label + r.max_si) ≡ false = le-ltb _ _ last in
+    let below : ltb LAST_LABEL (r.label + r.max_si) ≡ false = le-ltb _ _ last in
     let name : word_bsl w ≡ Some r.bsl = ap bsl_coded c ∙ code_again r.bsl in
     let given : range_with (Some r.bsl) w ≡ Some r = rw (low, top, below) refl in
     record {
@@ -465,27 +466,27 @@ info_again i fits = info_only (info i) i (info_spelled i fits)
 
 -- ---- what is read has the widths of a BIER Info, its number of ranges aside
 
-given_none : (b : Bsl) (w : ℕ) → ltb 1048575 (w % 1048576 + w / 16777216) ≡ true → range_with (Some b) w ≡ None
+given_none : (b : Bsl) (w : ℕ) → ltb LAST_LABEL (w % 1048576 + w / 16777216) ≡ true → range_with (Some b) w ≡ None
 given_none b w test = rw test refl
 
-given_some : (b : Bsl) (w : ℕ) → ltb 1048575 (w % 1048576 + w / 16777216) ≡ false → range_with (Some b) w ≡ Some (record { bsl = b; max_si = w / 16777216; label = w % 1048576 })
+given_some : (b : Bsl) (w : ℕ) → ltb LAST_LABEL (w % 1048576 + w / 16777216) ≡ false → range_with (Some b) w ≡ Some (record { bsl = b; max_si = w / 16777216; label = w % 1048576 })
 given_some b w test = rw test refl
 
 given_fits : (t : Tlv) (r : LabelRange) → AreOctets t.value → range_given t ≡ Some r → RangeFits r × (length_named t ≡ Some r.bsl)
 given_fits t r fits e = by_type (is_range t) refl
   where
-    by_test : (b : Bsl) (w : ℕ) (d : Bool) → word_bsl (word t) ≡ Some b → w ≡ word t → ltb 1048575 (w % 1048576 + w / 16777216) ≡ d → range_with (Some b) w ≡ Some r → RangeFits r × (b ≡ r.bsl)
+    by_test : (b : Bsl) (w : ℕ) (d : Bool) → word_bsl (word t) ≡ Some b → w ≡ word t → ltb LAST_LABEL (w % 1048576 + w / 16777216) ≡ d → range_with (Some b) w ≡ Some r → RangeFits r × (b ≡ r.bsl)
     by_test b w true named is test e = let both : None ≡ Some r = sym (given_none b w test) ∙ e in absurd cc
     by_test b w false named is test e =
         let same : record { bsl = b; max_si = w / 16777216; label = w % 1048576 } ≡ r = some_is _ r (sym (given_some b w test) ∙ e) in
         let small : w < 4294967296 = rw is (big_from-lt 0 4 t.value fits) in
-        let last : w % 1048576 + w / 16777216 ≤ 1048575 = ltb-false _ _ test in
+        let last : w % 1048576 + w / 16777216 ≤ LAST_LABEL = ltb-false _ _ test in
         subst (λ (q : LabelRange). RangeFits q × (b ≡ q.bsl)) same (record { max_si = omega arith; last = last }, refl)
 
     by_length : (o : Option Bsl) → word_bsl (word t) ≡ o → is_range t ≡ true → range_with o (word t) ≡ Some r → RangeFits r × (length_named t ≡ Some r.bsl)
     by_length None named is e = absurd cc
     by_length (Some b) named is e =
-        let one = by_test b (word t) (ltb 1048575 (word t % 1048576 + word t / 16777216)) named refl refl e in
+        let one = by_test b (word t) (ltb LAST_LABEL (word t % 1048576 + word t / 16777216)) named refl refl e in
         let name : length_named t ≡ Some b = rw is named in
         (one.0, name ∙ ap (λ (c : Bsl). Some c) one.1)
 

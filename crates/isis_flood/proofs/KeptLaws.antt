@@ -15,7 +15,7 @@ use Rattle.wire_base.specs.declared.flood_out.FloodOut.{FloodOut}
 use Rattle.wire_base.specs.declared.flood_out.SnpOut.{SnpOut}
 use Rattle.wire_base.specs.declared.memory.Memory.{Memory}
 use Rattle.wire_base.specs.declared.triple.Summary.{Summary}
-use Rattle.wire_base.specs.model.Control.{same_system, same_id, id_order, entry_in, put_entry, purge, is_full, is_unknown, is_newer, age_of, age_by_life, seq_of, Flood, fragment_0}
+use Rattle.wire_base.specs.model.Control.{same_system, same_id, id_order, entry_in, put_entry, purge, is_full, is_unknown, is_newer_or_confused, age_of, age_by_life, seq_of, Flood, fragment_0}
 use Rattle.wire_base.specs.model.Pdu.{Head, head_summary}
 use Rattle.wire_base.specs.model.Tlv.{rows_of}
 use Rattle.wire_base.specs.model.Flooding.{LspAnswer, SnpAnswer, mark_all, kept, on_lsp, lsp_in, lsp_aged, is_own_ahead, is_stray, wanted, is_live_summary, listed_aged, on_listed, on_list, lacks, send_lacking, on_csnp, on_psnp, nothing_asked, with_row, set_srm}
@@ -102,11 +102,11 @@ put_not_lowered es e id is stays = record { each = λ other. subst (λ (o : Opti
 -- ---- what may be put, by its age
 
 -- a purge of what is newer, or at odds with the entry
-pub purge_stays : (o : Option Entry) (s : Summary) (id : LspId) → (is_unknown (age_of o s) || is_newer (age_of o s)) ≡ true → Stays o (Some (purge id s.seq))
+pub purge_stays : (o : Option Entry) (s : Summary) (id : LspId) → (is_unknown (age_of o s) || is_newer_or_confused (age_of o s)) ≡ true → Stays o (Some (purge id s.seq))
 purge_stays None s id h = tt
 purge_stays (Some e) s id h = cases (eqb e.seq s.seq) (ltb e.seq s.seq) refl refl _ h
   where
-    cases : (same lower : Bool) → eqb e.seq s.seq ≡ same → ltb e.seq s.seq ≡ lower → (tied : Age) → (is_unknown (if same then tied else (if lower then age.Newer else age.Older)) || is_newer (if same then tied else (if lower then age.Newer else age.Older))) ≡ true → IsAtMost e (purge id s.seq)
+    cases : (same lower : Bool) → eqb e.seq s.seq ≡ same → ltb e.seq s.seq ≡ lower → (tied : Age) → (is_unknown (if same then tied else (if lower then age.Newer else age.Older)) || is_newer_or_confused (if same then tied else (if lower then age.Newer else age.Older))) ≡ true → IsAtMost e (purge id s.seq)
     cases true lower a b tied h = inr (eqb-true e.seq s.seq a, λ dead. refl)
     cases false true a b tied h = inl (ltb-true e.seq s.seq b)
     cases false false a b tied h = absurd (false≢true h)
@@ -177,7 +177,7 @@ lsp_if : (f : Flood) (es : List Entry) (b : Bool) (x y : LspAnswer) → (b ≡ t
 lsp_if f es true x y h k = h refl
 lsp_if f es false x y h k = k refl
 
-puts_keeps : (f : Flood) (es : List Entry) (id : LspId) (s : Summary) → (is_unknown (age_of (entry_in es id) s) || is_newer (age_of (entry_in es id) s)) ≡ true → Keeps f es (mark_all f id) (put_entry (purge id s.seq) es)
+puts_keeps : (f : Flood) (es : List Entry) (id : LspId) (s : Summary) → (is_unknown (age_of (entry_in es id) s) || is_newer_or_confused (age_of (entry_in es id) s)) ≡ true → Keeps f es (mark_all f id) (put_entry (purge id s.seq) es)
 puts_keeps f es id s h = record { own = marked_own f id; up = marked_up f id; entries = put_not_lowered es (purge id s.seq) id refl (purge_stays (entry_in es id) s id h) }
 
 aged_keeps : (f : Flood) (es : List Entry) (link : ℕ) (h : Head) (tlvs : List ℕ) (a : Age) → age_of (entry_in es h.id) (head_summary h) ≡ a → Keeps f es (lsp_aged f es link h tlvs a).flood (lsp_aged f es link h tlvs a).entries
@@ -186,7 +186,7 @@ aged_keeps f es link h tlvs age.Unknown is =
     record { own = refl; up = refl; entries = put_not_lowered es (kept h tlvs) h.id (kept_is h tlvs) (unknown_stays (entry_in es h.id) (head_summary h) (kept h tlvs) is) }))
 aged_keeps f es link h tlvs age.Newer is =
     record { own = refl; up = refl; entries = put_not_lowered es (kept h tlvs) h.id (kept_is h tlvs) (newer_stays (entry_in es h.id) (head_summary h) (kept h tlvs) is (kept_seq h tlvs) (kept_dead h tlvs)) }
-aged_keeps f es link h tlvs age.Confused is = puts_keeps f es h.id (head_summary h) (ap (λ (a : Age). is_unknown a || is_newer a) is)
+aged_keeps f es link h tlvs age.Confused is = puts_keeps f es h.id (head_summary h) (ap (λ (a : Age). is_unknown a || is_newer_or_confused a) is)
 aged_keeps f es link h tlvs age.Equal is = same_keeps f es _ refl refl
 aged_keeps f es link h tlvs age.Older is = same_keeps f es _ refl refl
 
@@ -200,7 +200,7 @@ lsp_keeps f es link h tlvs spent = aged (age_of (entry_in es h.id) (head_summary
         lsp_if f es (is_own_ahead f h.id spent a) _ _ (λ _. same_keeps f es f refl refl) (λ _.
         lsp_if f es (is_stray f h a) _ _ (λ stray.
         lsp_if f es (is_unknown a && is_full es) _ _ (λ _. same_keeps f es f refl refl) (λ _.
-        puts_keeps f es h.id (head_summary h) (ap (λ (a : Age). is_unknown a || is_newer a) is ∙ (and_parts (nat_lt 0 h.life) (is_unknown a || is_newer a) (and_parts (same_system h.id.system f.own) (nat_lt 0 h.life && (is_unknown a || is_newer a)) stray).1).1)))
+        puts_keeps f es h.id (head_summary h) (ap (λ (a : Age). is_unknown a || is_newer_or_confused a) is ∙ (and_parts (nat_lt 0 h.life) (is_unknown a || is_newer_or_confused a) (and_parts (same_system h.id.system f.own) (nat_lt 0 h.life && (is_unknown a || is_newer_or_confused a)) stray).1).1)))
         (λ _. aged_keeps f es link h tlvs a is)))
 
 pub lsp_done_keeps : (r : Result FloodOut Memory) (f : Flood) (es : List Entry) (g : Flood) (new : List Entry) (rules : LspAnswer) → Keeps f es rules.flood rules.entries → LspDone r f es g new rules → Keeps f es g new
@@ -227,7 +227,7 @@ listed_aged_keeps a link s spent age.Equal is = same_keeps a.flood a.entries _ r
 listed_aged_keeps a link s spent age.Older is = same_keeps a.flood a.entries _ refl refl
 listed_aged_keeps a link s spent age.Confused is =
     snp_if a.flood a.entries (same_id s.id (fragment_0 a.flood.own) && not spent) _ _ (λ _. same_keeps a.flood a.entries a.flood refl refl)
-    (λ _. puts_keeps a.flood a.entries s.id s (ap (λ (x : Age). is_unknown x || is_newer x) is))
+    (λ _. puts_keeps a.flood a.entries s.id s (ap (λ (x : Age). is_unknown x || is_newer_or_confused x) is))
 
 listed_keeps : (link : ℕ) (spent : Bool) (a : SnpAnswer) (s : Summary) → Keeps a.flood a.entries (on_listed link spent a s).flood (on_listed link spent a s).entries
 unfolding on_listed

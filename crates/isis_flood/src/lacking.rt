@@ -9,10 +9,8 @@ ghost use Rattle.isis_flood.specs.Kept.{NotLowered};
 use crate::flood::Flood;
 use crate::listed::listed;
 use lsp_store::Store;
+use wire_base::limits::MOST_ENTRIES;
 use wire_base::{Entry, LspId, M, SnpOut, Summary};
-
-/// The most entries of a database.
-const MOST_ENTRIES: usize = 4096;
 
 fn is_of(s: &Summary, id: &LspId) -> bool
     ensures { result ≡ same_id s.now.id id.now }

@@ -1,6 +1,6 @@
 //! Link state PDUs that are received (ISO/IEC 10589, 7.3.15.1 and 7.3.16).
 ghost use Rattle.std.specs.Prelude.{◌≡◌, ◌<◌, ◌≤◌, ◌+◌, ◌&&◌, not, length, true, false, if◌then◌else◌, IfOk, OnOk, OnErr};
-ghost use Rattle.wire_base.specs.model.Control.{entry_in, put_entry, age_of, fragment_0, is_full, is_unknown, is_newer, purge};
+ghost use Rattle.wire_base.specs.model.Control.{entry_in, put_entry, age_of, fragment_0, is_full, is_unknown, is_newer_or_confused, purge};
 ghost use Rattle.wire_base.specs.model.Flooding.{mark_all, pass_on, kept, on_lsp, lsp_aged, stores, only_says, puts_marked, is_own_ahead, is_stray};
 ghost use Rattle.wire_base.specs.declared.entry.Age.TheVariants.{Unknown};
 ghost use Rattle.wire_base.specs.declared.flood_out.FloodOut.TheVariants as out;
@@ -14,10 +14,8 @@ use crate::flood::Flood;
 use isis_pdu::LspHead;
 use lsp_store::{Store, purge};
 use std::alloc::Global;
+use wire_base::limits::MOST_ENTRIES;
 use wire_base::{Age, Entry, FloodOut, LspId, M, Memory, Octets, Summary, SystemId};
-
-/// The most entries of a database.
-const MOST_ENTRIES: usize = 4096;
 
 /// What a sequence numbers PDU says of a link state PDU.
 fn summary_of(head: &LspHead) -> Summary
@@ -79,8 +77,8 @@ fn is_unknown(age: Age) -> bool
 }
 
 /// Newer than the entry, or at odds with it.
-fn is_newer(age: Age) -> bool
-    ensures { result ≡ is_newer age }
+fn is_newer_or_confused(age: Age) -> bool
+    ensures { result ≡ is_newer_or_confused age }
 {
     match age {
         Age::Newer | Age::Confused => true,
@@ -131,14 +129,16 @@ impl Flood {
     pub(crate) fn is_own_ahead(&self, id: &LspId, spent: bool, age: Age) -> bool
         ensures { result ≡ is_own_ahead self.now.flood id.now spent age }
     {
-        *id == fragment_0(self.own()) && !spent && is_newer(age)
+        *id == fragment_0(self.own()) && !spent && is_newer_or_confused(age)
     }
 
     /// A live link state PDU of the own system that the router doesn't have.
     fn is_stray(&self, head: &LspHead, age: Age) -> bool
         ensures { result ≡ is_stray self.now.flood (head_of head.now) age }
     {
-        head.id.system == self.own() && head.life > 0 && (is_unknown(age) || is_newer(age))
+        head.id.system == self.own()
+            && head.life > 0
+            && (is_unknown(age) || is_newer_or_confused(age))
     }
 
     /// Purges a stray one everywhere.

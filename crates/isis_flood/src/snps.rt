@@ -13,6 +13,7 @@ use crate::listed::listed;
 use crate::lsps::{fragment_0, is_full};
 use lsp_store::{Store, purge};
 use std::alloc::Global;
+use wire_base::limits::PURGE_HOLD;
 use wire_base::{Age, Entry, LspId, M, Memory, Octets, SnpOut, Summary};
 
 /// The empty entry that asks for an unknown link state PDU until it comes.
@@ -23,7 +24,7 @@ fn wanted(alloc: Global, s: &Summary) -> Entry
         id: s.id,
         seq: 0,
         life: 0,
-        hold: 60,
+        hold: PURGE_HOLD,
         sum: 0,
         flags: 0,
         content: Octets::new(alloc),

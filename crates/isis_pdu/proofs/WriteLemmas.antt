@@ -3,6 +3,7 @@ use Rattle.std.proofs.Common.{◌≡◌, ℕ, ◌*◌, ◌<◌, ◌≤◌, min, 
 use Rattle.std.specs.List.{flat_map, AllByRecursion}
 use Rattle.std.specs.Prelude.{IfOk, OnOk}
 use Rattle.std.proofs.lemmas.List.{append-nil, take_all, take-append-drop, nil_from_length}
+use Rattle.wire_base.specs.declared.limits.TheConstants.{MOST_LISTED}
 use Rattle.wire_base.specs.declared.addresses.SystemId.{SystemId}
 use Rattle.wire_base.specs.declared.addresses.LspId.{LspId}
 use Rattle.wire_base.specs.declared.triple.Summary.{Summary}
@@ -17,12 +18,12 @@ pub lsp_read_again : {E : Type 0} (level : Level) (head : Head) (tlvs : List ℕ
 lsp_read_again level head tlvs (Ok o) spelled fits = λ rest. ap (λ (l : List ℕ). pdu_at level (l ++ rest)) spelled ∙ lsp_read level head tlvs rest fits
 lsp_read_again level head tlvs (Err e) spelled fits = tt
 
-pub csnp_read_again : {E : Type 0} (level : Level) (source : SystemId) (start last : LspId) (rows : List Summary) (r : Result (List ℕ) E) → length rows ≤ 90 → IfOk r (λ o. o ≡ csnp level source start last (row_tlvs rows)) → OnOk r (length source.0 ≡ 6) → OnOk r (LspIdFits start × LspIdFits last) → OnOk r (AllByRecursion SummaryFits rows)
+pub csnp_read_again : {E : Type 0} (level : Level) (source : SystemId) (start last : LspId) (rows : List Summary) (r : Result (List ℕ) E) → length rows ≤ MOST_LISTED → IfOk r (λ o. o ≡ csnp level source start last (row_tlvs rows)) → OnOk r (length source.0 ≡ 6) → OnOk r (LspIdFits start × LspIdFits last) → OnOk r (AllByRecursion SummaryFits rows)
     → IfOk r (λ o. (rest : List ℕ) → pdu_at level (o ++ rest) ≡ Ok (CsnpPdu source start last (row_tlvs rows)))
 csnp_read_again level source start last rows (Ok o) few spelled long ids all = λ rest. ap (λ (l : List ℕ). pdu_at level (l ++ rest)) spelled ∙ csnp_read level source start last (row_tlvs rows) rest (record { source_long = long; start_fits = ids.0; last_fits = ids.1; size = let n = row_tlvs_length rows all in omega (arith, n); tlvs_are = passes_are true (row_tlvs rows) (row_tlvs_pass rows all) })
 csnp_read_again level source start last rows (Err e) few spelled long ids all = tt
 
-pub psnp_read_again : {E : Type 0} (level : Level) (source : SystemId) (rows : List Summary) (r : Result (List ℕ) E) → length rows ≤ 90 → IfOk r (λ o. o ≡ psnp level source (row_tlvs rows)) → OnOk r (length source.0 ≡ 6) → OnOk r (AllByRecursion SummaryFits rows)
+pub psnp_read_again : {E : Type 0} (level : Level) (source : SystemId) (rows : List Summary) (r : Result (List ℕ) E) → length rows ≤ MOST_LISTED → IfOk r (λ o. o ≡ psnp level source (row_tlvs rows)) → OnOk r (length source.0 ≡ 6) → OnOk r (AllByRecursion SummaryFits rows)
     → IfOk r (λ o. (rest : List ℕ) → pdu_at level (o ++ rest) ≡ Ok (PsnpPdu source (row_tlvs rows)))
 psnp_read_again level source rows (Ok o) few spelled long all = λ rest. ap (λ (l : List ℕ). pdu_at level (l ++ rest)) spelled ∙ psnp_read level source (row_tlvs rows) rest (record { source_long = long; size = let n = row_tlvs_length rows all in omega (arith, n); tlvs_are = passes_are true (row_tlvs rows) (row_tlvs_pass rows all) })
 psnp_read_again level source rows (Err e) few spelled long all = tt
@@ -51,7 +52,7 @@ cut_end out total rest none text =
     let nil : rest ≡ [] = nil_from_length rest none in
     sym (append-nil out) ∙ ap (λ (l : List ℕ). out ++ l) (sym row_tlvs_end) ∙ ap (λ (es : List Summary). out ++ row_tlvs es) (sym nil) ∙ text
 
-pub rows_short : (tlvs : List ℕ) (rows : List Summary) → length rows ≤ 90 → tlvs ≡ row_tlvs rows → AllByRecursion SummaryFits rows → length tlvs ≤ 1620
+pub rows_short : (tlvs : List ℕ) (rows : List Summary) → length rows ≤ MOST_LISTED → tlvs ≡ row_tlvs rows → AllByRecursion SummaryFits rows → length tlvs ≤ 1620
 rows_short tlvs rows few e fits =
     let l0 = ap length e in
     let l1 = row_tlvs_length rows fits in

@@ -9,6 +9,7 @@ use crate::kinds::LspHead;
 use crate::reader::{csnp_number, lsp_number, psnp_number};
 use isis_tlv::push_summary;
 use std::alloc::Global;
+use wire_base::limits::{MOST_CONTENT, MOST_LISTED};
 use wire_base::{Level, LspId, M, Octets, Summary, SystemId};
 
 fn append_common(out: &mut Octets, size: u8, number: u8) -> M<()>
@@ -25,7 +26,7 @@ fn append_id(out: &mut Octets, id: LspId) -> M<()>
 }
 
 fn lsp_octets(alloc: Global, level: Level, head: &LspHead, tlvs: &[u8]) -> M<Octets>
-    requires { length tlvs.now ≤ 1470 }
+    requires { length tlvs.now ≤ MOST_CONTENT }
     ensures spelled { IfOk result (λ o. o ≡ lsp level (head_of head.now) tlvs.now) }
     ensures fits { HeadFits (head_of head.now) }
 {
@@ -51,7 +52,7 @@ fn lsp_octets(alloc: Global, level: Level, head: &LspHead, tlvs: &[u8]) -> M<Oct
 
 /// A link state PDU, with the checksum that the head has (ISO/IEC 10589, 9.8 and 9.9). At most 1,470 octets of TLVs.
 pub fn write_lsp(alloc: Global, level: Level, head: &LspHead, tlvs: &[u8]) -> M<Octets>
-    requires { length tlvs.now ≤ 1470 }
+    requires { length tlvs.now ≤ MOST_CONTENT }
     // The one spelling.
     ensures spelled { IfOk result (λ o. o ≡ lsp level (head_of head.now) tlvs.now) }
     // Where a live one has right sums and its TLVs are whole it is read again, whatever follows it.
@@ -90,7 +91,7 @@ fn append_rows(out: &mut Octets, rows: &[Summary]) -> M<()>
 }
 
 fn row_octets(alloc: Global, rows: &[Summary]) -> M<Octets>
-    requires { length rows.now ≤ 90 }
+    requires { length rows.now ≤ MOST_LISTED }
     ensures ok { IfOk result (λ o. o ≡ row_tlvs rows.now) }
     ensures short { IfOk result (λ o. length o ≤ 1620) }
     ensures fits { OnOk result (AllByRecursion SummaryFits rows.now) }
@@ -133,7 +134,7 @@ fn csnp_whole(
     last: LspId,
     rows: &[Summary],
 ) -> M<Octets>
-    requires { length rows.now ≤ 90 }
+    requires { length rows.now ≤ MOST_LISTED }
     ensures spelled { IfOk result (λ o. o ≡ csnp level source start last (row_tlvs rows.now)) }
     ensures source { OnOk result (length source.0 ≡ 6) }
     ensures fits { OnOk result (LspIdFits start × LspIdFits last) }
@@ -153,7 +154,7 @@ pub fn write_csnp(
     last: LspId,
     rows: &[Summary],
 ) -> M<Octets>
-    requires { length rows.now ≤ 90 }
+    requires { length rows.now ≤ MOST_LISTED }
     // The one spelling.
     ensures spelled { IfOk result (λ o. o ≡ csnp level source start last (row_tlvs rows.now)) }
     // It is read again, whatever follows it.
@@ -179,7 +180,7 @@ fn psnp_octets(alloc: Global, level: Level, source: SystemId, tlvs: &[u8]) -> M<
 }
 
 fn psnp_whole(alloc: Global, level: Level, source: SystemId, rows: &[Summary]) -> M<Octets>
-    requires { length rows.now ≤ 90 }
+    requires { length rows.now ≤ MOST_LISTED }
     ensures spelled { IfOk result (λ o. o ≡ psnp level source (row_tlvs rows.now)) }
     ensures source { OnOk result (length source.0 ≡ 6) }
     ensures rows { OnOk result (AllByRecursion SummaryFits rows.now) }
@@ -191,7 +192,7 @@ fn psnp_whole(alloc: Global, level: Level, source: SystemId, rows: &[Summary]) -
 /// A partial sequence numbers PDU, its entries in TLVs 9 of at most 15 (ISO/IEC 10589, 9.12 and 9.13). At most 90
 /// entries.
 pub fn write_psnp(alloc: Global, level: Level, source: SystemId, rows: &[Summary]) -> M<Octets>
-    requires { length rows.now ≤ 90 }
+    requires { length rows.now ≤ MOST_LISTED }
     // The one spelling.
     ensures spelled { IfOk result (λ o. o ≡ psnp level source (row_tlvs rows.now)) }
     // It is read again, whatever follows it.

@@ -27,8 +27,9 @@ pub fn lsp_id_of<E: Copy>(fault: E, bytes: &[u8]) -> Result<(LspId, &[u8]), E>
     ))
 }
 
+/// The entry of TLV 9 at the front, and the octets after it.
 #[tactic(auto, unfolding(wire_base::specs::model::Tlv::row_at))]
-fn summary_front(bytes: &[u8]) -> Result<(Summary, &[u8]), TlvFault>
+pub(crate) fn summary_front(bytes: &[u8]) -> Result<(Summary, &[u8]), TlvFault>
     ensures { Gives (λ x. (x.0, x.1.now)) result (row_at bytes.now) }
 {
     let (life, rest) = two_of(TlvFault::EntryShort, bytes)?;

@@ -10,14 +10,13 @@ use Rattle.wire_base.specs.model.Control.{Control}
 use Rattle.wire_base.specs.model.Ethernet.{IsisPdu, ethernet, frame_at}
 use Rattle.wire_base.specs.model.Flooding.{on_pdu}
 use Rattle.wire_base.specs.model.Item.{ControlItem, all_routers, isis_frame, frame_of}
-use Rattle.wire_base.specs.model.OnFrame.{framed, pdu_taken, on_frame_with}
+use Rattle.wire_base.specs.model.OnFrame.{framed, pdu_taken, on_frame}
 use Rattle.wire_base.specs.model.Pdu.{Pdu, LspPdu, CsnpPdu, PsnpPdu, HelloPdu, OtherPdu, pdu, pdu_at}
 use Rattle.wire_base.specs.model.Tlv.{lsp_id}
 use Rattle.format_laws.proofs.PduLaws.{lsp_read, csnp_read, psnp_read}
 use Rattle.format_laws.proofs.TlvLaws.{length_lsp_id}
 use Rattle.link_frame.proofs.Frames.{frame_again}
 use Rattle.item_laws.specs.Fits.{IsSendable}
-use Rattle.item_laws.specs.Read.{pdu_or_hello, control_in}
 
 -- the frame of a PDU carries it
 pub isis_carries : (own : Mac) (octets : List ℕ) → length own.0 ≡ 6 → length octets ≤ 1497 → frame_at (isis_frame own octets) ≡ Ok (IsisPdu octets)
@@ -60,22 +59,8 @@ taken c link HelloPdu is = absurd is
 taken c link (OtherPdu number) is = absurd is
 
 -- what a router does on the frame of a PDU is what flooding does with the PDU
-pub control_taken : (tunnels : Bool) (c : Control) (link : ℕ) (e : End) (p : Pdu) → IsSendable p → length e.own_mac.0 ≡ 6 → get_or c.flood.up link false ≡ true
-    → on_frame_with tunnels c link (frame_of c.conf.level e (ControlItem p)) ≡ framed link (on_pdu c link p)
-unfolding on_frame_with frame_of
-control_taken tunnels c link e p is six up =
+pub control_taken : (c : Control) (link : ℕ) (e : End) (p : Pdu) → IsSendable p → length e.own_mac.0 ≡ 6 → get_or c.flood.up link false ≡ true
+    → on_frame c link (frame_of c.conf.level e (ControlItem p)) ≡ framed link (on_pdu c link p)
+unfolding on_frame frame_of
+control_taken c link e p is six up =
     rw (up, isis_carries e.own_mac (pdu c.conf.level p) six (sendable_short c.conf.level p is), sendable_reads c.conf.level p is) (taken c link p is)
-
--- ---- the item of a frame
-
--- what stands behind the first octets of a frame
-pub behind : (to from octets : List ℕ) (number : ℕ) → length to ≡ 6 → length from ≡ 6 → drop 14 (ethernet to from number ++ octets) ≡ octets
-behind to from octets number six-to six-from =
-    drop_at (ethernet to from number) octets 14 (omega (arith, length-append to (from ++ big_bytes 2 number), length-append from (big_bytes 2 number)))
-
-pub control_back : (level : Level) (e : End) (p : Pdu) → IsSendable p → length e.own_mac.0 ≡ 6 → control_in level (frame_of level e (ControlItem p)) ≡ ControlItem p
-unfolding frame_of
-control_back level e p is six =
-    let octets = pdu level p in
-    let at : drop 17 (isis_frame e.own_mac octets) ≡ octets = sym (drop-drop 3 14 (isis_frame e.own_mac octets)) ∙ ap (drop 3) (behind all_routers e.own_mac.0 (254 ∷ 254 ∷ 3 ∷ octets) (3 + length octets) refl six) in
-    ap (λ (r : Result Pdu PduFault). ControlItem (pdu_or_hello r)) (ap (pdu_at level) at ∙ sendable_reads level p is)

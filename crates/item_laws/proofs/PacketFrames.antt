@@ -1,7 +1,7 @@
 -- Frames of packets are read again.
-use Rattle.std.proofs.Common.{◌≡◌, ℕ, ◌+◌, ◌*◌, ◌/◌, ◌%◌, ◌<◌, ◌≤◌, Bool, true, false, ltb, List, [], ◌∷◌, length, map, get_or, drop, Some, None, Ok, refl, sym, ap, subst, ◌∙◌, arith}
+use Rattle.std.proofs.Common.{◌≡◌, ℕ, ◌+◌, ◌*◌, ◌/◌, ◌%◌, ◌<◌, ◌≤◌, Bool, true, false, ltb, List, [], ◌∷◌, length, map, get_or, drop, Option, Some, None, Result, Ok, refl, sym, ap, subst, ◌∙◌, arith}
 use Rattle.std.proofs.lemmas.Bool.{le-ltb, ne_eqb}
-use Rattle.std.proofs.lemmas.List.{length-append, drop_at, drop-drop}
+use Rattle.std.proofs.lemmas.List.{length-append, append-nil, drop_at}
 use Rattle.byteorder.specs.Endian.{big_number}
 use Rattle.byteorder.specs.Numbers.{big_number-reads_back}
 use Rattle.wire_base.specs.declared.addresses.Mac.{Mac}
@@ -11,20 +11,20 @@ use Rattle.wire_base.specs.declared.conf.End.{End}
 use Rattle.wire_base.specs.declared.conf.Kind.{Kind}
 use Rattle.wire_base.specs.declared.conf.Kind.TheVariants.{Mpls, Configured}
 use Rattle.wire_base.specs.declared.conf.Level.{Level}
+use Rattle.wire_base.specs.declared.faults.IpFault.{IpFault}
 use Rattle.wire_base.specs.declared.triple.Triple.{Triple}
 use Rattle.wire_base.specs.model.BierHeader.{IsHeader, header_length, header_octets, first_word, header_at}
 use Rattle.wire_base.specs.model.BitSet.{IsWithin}
 use Rattle.wire_base.specs.model.Control.{Control}
-use Rattle.wire_base.specs.model.Ethernet.{Carried, MplsPacket, BierPacket, frame_at}
-use Rattle.wire_base.specs.model.Item.{Item, PacketItem, DataItem, packet_frame, bier_frame, positions_of, ingress_header, item_header, item_packet, frame_of}
-use Rattle.wire_base.specs.model.OnFrame.{ids_in, hop_in, is_not_last, on_packet, on_frame_with, carried_taken, unchanged}
+use Rattle.wire_base.specs.model.Ethernet.{Carried, MplsPacket, BierPacket, IpPacket, ip_type, frame_at}
+use Rattle.wire_base.specs.model.Item.{PacketItem, DataItem, Outer, packet_frame, bier_frame, positions_of, ingress_header, item_header, item_packet, item_tunnel, frame_of}
+use Rattle.wire_base.specs.model.OnFrame.{ids_in, hop_in, is_not_last, on_packet, on_tunnel, tunnel_read, on_frame, carried_taken, unchanged}
 use Rattle.wire_base.specs.model.Place.{bits_of, code_of, bit_position, id_at, means}
-use Rattle.wire_base.specs.model.Tunnel.{protocol_of}
+use Rattle.wire_base.specs.model.Tunnel.{TunnelPacket, TunnelFits, protocol_of, tunnel, tunnel_at, tunnel_on}
 use Rattle.wire_base.proofs.HeaderLaws.{header_again, length-header_octets}
 use Rattle.link_frame.proofs.Frames.{frame_again}
-use Rattle.item_laws.specs.Fits.{ItemFits, packet_of}
-use Rattle.item_laws.specs.Read.{packet_read, packet_in}
-use Rattle.item_laws.proofs.ControlFrames.{behind}
+use Rattle.gre_ip.proofs.Tunnels.{tunnel_again, spelled_onward}
+use Rattle.item_laws.specs.Fits.{ItemFits, OuterFits, copy_taken, packet_of}
 
 -- ---- positions of the BFR-ids of a set
 
@@ -113,22 +113,35 @@ not_last : (kind : Kind) (w : ℕ) → w / 256 % 2 ≡ 1 → is_not_last kind w 
 not_last Mpls w odd = ne_eqb (w / 256 % 2) 0 (λ even. omega arith)
 not_last Configured w odd = refl
 
-same_payload : (tunnels : Bool) (c : Control) (x : DataItem) (rest : List ℕ) → rest ≡ x.payload
-    → hop_in tunnels c (record { triple = x.triple; kind = x.kind; header = item_header x; payload = rest }) x.ttl ≡ hop_in tunnels c (packet_of x) x.ttl
-same_payload tunnels c x rest e = ap (λ (octets : List ℕ). hop_in tunnels c (record { triple = x.triple; kind = x.kind; header = item_header x; payload = octets }) x.ttl) e
+-- what a router looks at before the header
+pub record IsHead (x : DataItem) : Type 0 where
+  pub long : ltb (length (item_packet x)) 4 ≡ false
+  pub last : is_not_last x.kind (big_number 4 (item_packet x)) ≡ false
+  pub bift : big_number 4 (item_packet x) / 4096 ≡ x.bift
 
--- a packet whose BIFT-id means its triple at the router is hopped
-pub packet_taken : (tunnels : Bool) (c : Control) (x : DataItem) → ItemFits x → means c.conf x.kind x.bift ≡ Some x.triple → on_packet tunnels c x.kind (item_packet x) ≡ hop_in tunnels c (packet_of x) x.ttl
-unfolding on_packet ingress_header
-packet_taken tunnels c x fits means_so =
+pub head_reads : (x : DataItem) → ItemFits x → IsHead x
+unfolding ingress_header
+head_reads x fits =
     let w = big_number 4 (item_packet x) in
     let first : w ≡ x.bift * 4096 + 256 + x.ttl = first_reads x fits w refl in
     let ttl = fits.ttl in
-    let long : ltb (length (item_packet x)) 4 ≡ false = le-ltb _ _ (omega (arith, length-append (header_octets (item_header x)) x.payload, length-header_octets (item_header x))) in
-    let last : is_not_last x.kind w ≡ false = not_last x.kind w (omega arith) in
-    let bift : w / 4096 ≡ x.bift = omega arith in
-    let found : means c.conf x.kind (w / 4096) ≡ Some x.triple = ap (means c.conf x.kind) bift ∙ means_so in
-    rw (long, last, found, item_header_reads x.kind x fits) (same_payload tunnels c x (drop (header_length x.triple.bsl) (item_packet x)) (payload_after x))
+    record {
+      long = le-ltb _ _ (omega (arith, length-append (header_octets (item_header x)) x.payload, length-header_octets (item_header x)));
+      last = not_last x.kind w (omega arith);
+      bift = omega arith;
+    }
+
+same_payload : (c : Control) (x : DataItem) (rest : List ℕ) → rest ≡ x.payload
+    → hop_in c (record { triple = x.triple; kind = x.kind; header = item_header x; payload = rest }) x.ttl ≡ hop_in c (packet_of x) x.ttl
+same_payload c x rest e = ap (λ (octets : List ℕ). hop_in c (record { triple = x.triple; kind = x.kind; header = item_header x; payload = octets }) x.ttl) e
+
+-- a packet whose BIFT-id means its triple at the router is hopped
+pub packet_taken : (c : Control) (x : DataItem) → ItemFits x → means c.conf x.kind x.bift ≡ Some x.triple → on_packet c x.kind (item_packet x) ≡ hop_in c (packet_of x) x.ttl
+unfolding on_packet ingress_header
+packet_taken c x fits means_so =
+    let head = head_reads x fits in
+    let found : means c.conf x.kind (big_number 4 (item_packet x) / 4096) ≡ Some x.triple = ap (means c.conf x.kind) head.bift ∙ means_so in
+    rw (head.long, head.last, found, item_header_reads x.kind x fits) (same_payload c x (drop (header_length x.triple.bsl) (item_packet x)) (payload_after x))
 
 -- ---- the frame
 
@@ -140,34 +153,32 @@ pub bier_carries : (peer own : Mac) (kind : Kind) (octets : List ℕ) → length
 bier_carries peer own Mpls octets six-peer six-own = frame_again peer.0 own.0 octets (protocol_of Mpls) (MplsPacket octets) six-peer six-own (omega arith) (refl, refl)
 bier_carries peer own Configured octets six-peer six-own = frame_again peer.0 own.0 octets (protocol_of Configured) (BierPacket octets) six-peer six-own (omega arith) (refl, refl)
 
-carried_so : (tunnels : Bool) (c : Control) (link : ℕ) (kind : Kind) (octets : List ℕ) → carried_taken tunnels c link (carried_by kind octets) ≡ unchanged c (on_packet tunnels c kind octets)
-carried_so tunnels c link Mpls octets = refl
-carried_so tunnels c link Configured octets = refl
+-- what a frame carries of a copy: its packet, or the tunnel that it is in
+abbrev pub carried_in : DataItem → Option Outer → Carried
+carried_in x None = carried_by x.kind (item_packet x)
+carried_in x (Some o) = IpPacket (tunnel (item_tunnel x o))
 
--- a router that is up hops the packet that a frame without a tunnel carries
-pub direct_taken : (tunnels : Bool) (c : Control) (link : ℕ) (level : Level) (e : End) (x : DataItem) → ItemFits x → x.outer ≡ None → length e.peer_mac.0 ≡ 6 → length e.own_mac.0 ≡ 6
-    → get_or c.flood.up link false ≡ true → means c.conf x.kind x.bift ≡ Some x.triple
-    → on_frame_with tunnels c link (frame_of level e (PacketItem x)) ≡ unchanged c (hop_in tunnels c (packet_of x) x.ttl)
-unfolding on_frame_with frame_of
-direct_taken tunnels c link level e x fits none six-peer six-own up means_so =
-    rw (up, none, bier_carries e.peer_mac e.own_mac x.kind (item_packet x) six-peer six-own) (carried_so tunnels c link x.kind (item_packet x) ∙ ap (unchanged c) (packet_taken tunnels c x fits means_so))
+pub copy_carries : (peer own : Mac) (x : DataItem) (o : Option Outer) → length peer.0 ≡ 6 → length own.0 ≡ 6 → frame_at (packet_frame peer own x o) ≡ Ok (carried_in x o)
+copy_carries peer own x None six-peer six-own = bier_carries peer own x.kind (item_packet x) six-peer six-own
+copy_carries peer own x (Some o) six-peer six-own = frame_again peer.0 own.0 (tunnel (item_tunnel x o)) ip_type (IpPacket (tunnel (item_tunnel x o))) six-peer six-own (omega arith) (refl, refl)
 
--- ---- the item of a frame
+pub tunnel_back : (t : TunnelPacket) → TunnelFits t → tunnel_at (tunnel t) ≡ Ok t
+tunnel_back t fits = ap tunnel_at (sym (append-nil (tunnel t))) ∙ tunnel_again t [] fits
 
-same_item : (x : DataItem) (ids payload : List ℕ) → ids ≡ x.ids → payload ≡ x.payload → x.outer ≡ None
-    → ◌≡◌ {A = Item} (PacketItem (record { number = x.number; entropy = x.entropy; bfir = x.bfir; payload = payload; triple = x.triple; kind = x.kind; bift = x.bift; ids = ids; ttl = x.ttl; outer = None })) (PacketItem x)
-same_item x ids payload a b none = rw (a, b, sym none) refl
+pub onward : (x : DataItem) (o : Outer) (ttl : ℕ) → OuterFits x (Some o) → tunnel_on (tunnel (item_tunnel x o)) ttl ≡ tunnel (item_tunnel x (record o { ttl = ttl }))
+onward x o ttl fits = ap (λ (octets : List ℕ). tunnel_on octets ttl) (sym (append-nil (tunnel (item_tunnel x o)))) ∙ spelled_onward (item_tunnel x o) [] ttl fits
 
-pub packet_back : (level : Level) (e : End) (x : DataItem) → ItemFits x → x.outer ≡ None → length e.peer_mac.0 ≡ 6 → length e.own_mac.0 ≡ 6
-    → packet_in x.number x.triple x.kind (frame_of level e (PacketItem x)) ≡ PacketItem x
-unfolding frame_of ingress_header
-packet_back level e x fits none six-peer six-own =
-    let frame = bier_frame e.peer_mac e.own_mac x.kind (item_packet x) in
-    let n = header_length x.triple.bsl in
-    let whole : packet_frame e.peer_mac e.own_mac x x.outer ≡ frame = ap (packet_frame e.peer_mac e.own_mac x) none in
-    let inside : drop 14 frame ≡ item_packet x = behind e.peer_mac.0 e.own_mac.0 (item_packet x) (protocol_of x.kind) six-peer six-own in
-    let after : drop (14 + n) frame ≡ x.payload = sym (drop-drop n 14 frame) ∙ ap (drop n) inside ∙ payload_after x in
-    let header : header_at x.kind x.triple.bsl (drop 14 frame) ≡ Ok (item_header x) = ap (header_at x.kind x.triple.bsl) inside ∙ item_header_reads x.kind x fits in
-    ap (packet_in x.number x.triple x.kind) whole
-    ∙ ap (packet_read x.number x.triple x.kind (drop (14 + n) frame)) header
-    ∙ same_item x (ids_in (packet_of x)) (drop (14 + n) frame) (ids_again x fits) after none
+carried_so : (c : Control) (link : ℕ) (kind : Kind) (octets : List ℕ) → carried_taken c link (carried_by kind octets) ≡ unchanged c (on_packet c kind octets)
+carried_so c link Mpls octets = refl
+carried_so c link Configured octets = refl
+
+copy_so : (c : Control) (link : ℕ) (x : DataItem) (o : Option Outer) → OuterFits x o → carried_taken c link (carried_in x o) ≡ unchanged c (copy_taken c x o)
+unfolding on_tunnel
+copy_so c link x None fits = carried_so c link x.kind (item_packet x)
+copy_so c link x (Some o) fits = ap (λ (r : Result TunnelPacket IpFault). unchanged c (tunnel_read c (tunnel (item_tunnel x o)) r)) (tunnel_back (item_tunnel x o) fits)
+
+-- a router that is up takes the packet that a frame carries, or the tunnel
+pub copy_arrives : (c : Control) (link : ℕ) (level : Level) (e : End) (x : DataItem) → OuterFits x x.outer → length e.peer_mac.0 ≡ 6 → length e.own_mac.0 ≡ 6
+    → get_or c.flood.up link false ≡ true → on_frame c link (frame_of level e (PacketItem x)) ≡ unchanged c (copy_taken c x x.outer)
+unfolding on_frame frame_of
+copy_arrives c link level e x fits six-peer six-own up = rw (up, copy_carries e.peer_mac e.own_mac x x.outer six-peer six-own) (copy_so c link x x.outer fits)

@@ -1,22 +1,24 @@
 -- What makes a PDU, an entry of a database and a copy of a packet such that the octets which stand for them are read
 -- again (ISO/IEC 10589, 8.4 and 9.8 to 9.13; RFC 8296, 2).
-use Rattle.std.specs.Prelude.{◌≡◌, ℕ, ◌+◌, ◌*◌, ◌<◌, ◌≤◌, ◌^◌, Bool, List, length}
+use Rattle.std.specs.Prelude.{◌≡◌, ℕ, ◌+◌, ◌*◌, ◌<◌, ◌≤◌, ◌^◌, Bool, List, length, Option, Some, None}
+use Rattle.wire_base.specs.declared.limits.TheConstants.{MOST_CONTENT}
 use Rattle.wire_base.specs.declared.conf.RouterConf.{RouterConf}
 use Rattle.wire_base.specs.declared.entry.Entry.{Entry}
 use Rattle.wire_base.specs.model.BitSet.{IsWithin}
-use Rattle.wire_base.specs.model.Control.{fragment_0}
-use Rattle.wire_base.specs.model.Item.{DataItem, item_header}
-use Rattle.wire_base.specs.model.OnFrame.{Packet}
+use Rattle.wire_base.specs.model.Control.{Control, fragment_0}
+use Rattle.wire_base.specs.model.Item.{DataItem, Outer, item_header, item_packet, item_tunnel}
+use Rattle.wire_base.specs.model.OnFrame.{Effects, Packet, on_packet, tunnel_taken}
 use Rattle.wire_base.specs.model.OwnLsp.{own_content, own_flags, own_head}
 use Rattle.wire_base.specs.model.Pdu.{Head, lsp_sum, Pdu, LspPdu, CsnpPdu, PsnpPdu, HelloPdu, OtherPdu, LspFits, CsnpFits, PsnpFits}
 use Rattle.wire_base.specs.model.Place.{bits_of}
+use Rattle.wire_base.specs.model.Tunnel.{TunnelFits, tunnel}
 
 -- ---- PDUs
 
 -- A PDU that a router sends: it is in the grammar, and with the three octets before it it is at most 1,500 long, so that
 -- the number in the frame is a length (IEEE 802.3, 3.2.6).
 abbrev pub IsSendable : Pdu → Type 0
-IsSendable (LspPdu head tlvs) = LspFits head tlvs × (length tlvs ≤ 1470)
+IsSendable (LspPdu head tlvs) = LspFits head tlvs × (length tlvs ≤ MOST_CONTENT)
 IsSendable (CsnpPdu source start last tlvs) = CsnpFits source start last tlvs × (length tlvs ≤ 1464)
 IsSendable (PsnpPdu source tlvs) = PsnpFits source tlvs × (length tlvs ≤ 1480)
 IsSendable HelloPdu = ⊥
@@ -29,7 +31,7 @@ head_of e = record { life = e.life; id = e.id; seq = e.seq; sum = e.sum; flags =
 -- an entry that can be sent
 pub record EntryFits (e : Entry) : Type 0 where
   pub lsp : LspFits (head_of e) e.content
-  pub short : length e.content ≤ 1470
+  pub short : length e.content ≤ MOST_CONTENT
 
 -- What a router's fragment 0 is in any database: its own content where some of its ends are up, its own flags, the right
 -- checksum, and any sequence number and lifetime.
@@ -52,3 +54,13 @@ pub record ItemFits (x : DataItem) : Type 0 where
 -- the packet that a copy is
 abbrev pub packet_of : DataItem → Packet
 packet_of x = record { triple = x.triple; kind = x.kind; header = item_header x; payload = x.payload }
+
+-- the tunnel that a copy is in has room for it, and its numbers fit their fields (RFC 791, 3.1; RFC 2784, 2)
+abbrev pub OuterFits : DataItem → Option Outer → Type 0
+OuterFits x None = Unit {0}
+OuterFits x (Some o) = TunnelFits (item_tunnel x o)
+
+-- What a router does with the octets of a copy: those of its packet, or those of the tunnel that it is in.
+abbrev pub copy_taken : Control → DataItem → Option Outer → Effects
+copy_taken c x None = on_packet c x.kind (item_packet x)
+copy_taken c x (Some o) = tunnel_taken c (tunnel (item_tunnel x o)) (item_tunnel x o)

@@ -12,21 +12,18 @@ ghost use Rattle.wire_base.specs.model.Tlv.{LspIdFits};
 ghost use Rattle.wire_base.specs.model.Ethernet.{IsisPdu, frame_at};
 ghost use Rattle.wire_base.specs.model.Flooding.{on_pdu, send_of};
 ghost use Rattle.wire_base.specs.model.Item.{ControlItem, isis_frame, frame_of};
-ghost use Rattle.wire_base.specs.model.OnFrame.{framed, on_frame_with};
+ghost use Rattle.wire_base.specs.model.OnFrame.{framed, on_frame};
 ghost use Rattle.wire_base.specs.model.Pdu.{Pdu, pdu, pdu_at};
 ghost use Rattle.item_laws.specs.Fits.{IsSendable, EntryFits, IsOwn};
-ghost use Rattle.item_laws.specs.Read.{control_in};
 
 /// A frame of a PDU that a router sends (ISO/IEC 10589, 8.4 and 9.8 to 9.13).
 pub fn control_frames_law()
     // The PDU is read again.
     ensures read { (level : Level) (p : Pdu) → IsSendable p → pdu_at level (pdu level p) ≡ Ok p }
     ensures carried { (own : Mac) (octets : List ℕ) → length own.0 ≡ 6 → length octets ≤ 1497 → frame_at (isis_frame own octets) ≡ Ok (IsisPdu octets) }
-    // The item is read off its frame.
-    ensures item { (level : Level) (e : End) (p : Pdu) → IsSendable p → length e.own_mac.0 ≡ 6 → control_in level (frame_of level e (ControlItem p)) ≡ ControlItem p }
     // At an end that is up flooding does what it does with the PDU.
-    ensures taken { (tunnels : Bool) (c : Control) (link : ℕ) (e : End) (p : Pdu) → IsSendable p → length e.own_mac.0 ≡ 6 → slice_index_or c.flood.up link false ≡ true
-        → on_frame_with tunnels c link (frame_of c.conf.level e (ControlItem p)) ≡ framed link (on_pdu c link p) }
+    ensures taken { (c : Control) (link : ℕ) (e : End) (p : Pdu) → IsSendable p → length e.own_mac.0 ≡ 6 → slice_index_or c.flood.up link false ≡ true
+        → on_frame c link (frame_of c.conf.level e (ControlItem p)) ≡ framed link (on_pdu c link p) }
 {}
 
 /// What flooding sends can be sent and read again.

@@ -1,5 +1,5 @@
-//! Laws of what is in flight: the frame of an item is read as that item, and a router does with it what is done with
-//! the item. Each function does nothing; its contract is the law.
+//! Laws of what is in flight: what the frame of an item carries is read again, in a tunnel or in none, and a router takes it
+//! for what it is. Each function does nothing; its contract is the law.
 #![tactic(auto)]
 
 mod control;

@@ -1,4 +1,6 @@
 //! Ethernet frames and MPLS label stacks: what a frame carries, the labels of a stack, the first 14 octets of a frame.
+//!
+//! It stands on `wire_base` alone, and promises the class of a frame and where its content stands, or the first broken rule.
 #![tactic(auto)]
 
 mod frame;

@@ -6,10 +6,8 @@ ghost use Rattle.wire_base.specs.model.Pdu.{lsp_covered, lsp_sum};
 use crate::content::own_content;
 use isis_pdu::checksum_at;
 use std::alloc::Global;
+use wire_base::limits::FULL_LIFE;
 use wire_base::{Entry, Level, LspId, M, Octets, RouterConf};
-
-/// The seconds that the PDU has to live (ISO/IEC 10589, 7.3.16.3).
-const FULL_LIFE: u16 = 1200;
 
 /// Where the checksum stands among the octets that it covers.
 const SUM_AT: usize = 12;

@@ -10,6 +10,7 @@ use Rattle.std.specs.declared.cmp.Ordering.{Ordering}
 use Rattle.std.specs.declared.cmp.Ordering.TheVariants.{Less, Equal, Greater}
 use Rattle.std.specs.Ordering.{is_eq, is_lt, is_gt, match_ordering}
 use Rattle.std.specs.List.{AllByRecursion, insert, remove}
+use Rattle.wire_base.specs.declared.limits.TheConstants.{MOST_ENTRIES}
 use Rattle.wire_base.specs.declared.addresses.LspId.{LspId}
 use Rattle.wire_base.specs.declared.entry.Entry.{Entry}
 use Rattle.wire_base.specs.declared.entry.Aged.{Aged}
@@ -198,7 +199,7 @@ add_is_put : (es : List Entry) (p : ℕ) (e : Entry) → IsPlace es e.id false p
 add_is_put es p e at = ap (λ n. insert es n e) at.place ∙ put_new es e (stands_there at)
 
 -- an entry is added at its place, or it isn't
-pub add_kept : (es now new : List Entry) (p : ℕ) (e : Entry) (ok : Bool) → es ≡ now → IsDatabase es → IsPlace now e.id false p → length es < 4096 → new ≡ (if ok then insert es p e else es) → IsDatabase new
+pub add_kept : (es now new : List Entry) (p : ℕ) (e : Entry) (ok : Bool) → es ≡ now → IsDatabase es → IsPlace now e.id false p → length es < MOST_ENTRIES → new ≡ (if ok then insert es p e else es) → IsDatabase new
 add_kept es now new p e ok same db at few is = rw is (cases ok)
   where
     cases : (ok : Bool) → IsDatabase (if ok then insert es p e else es)
@@ -252,14 +253,14 @@ new_missing es now p id same db at = ap is_none (sym (none_there es now p id sam
 pub answers_there : (now : List Entry) (spare : ℕ) (id : LspId) (p : ℕ) → IsPlace now id true p → PutAnswers now spare id (Ok tt)
 answers_there now spare id p at = rw (old_there now p id at) tt
 
-pub answers_full : (es now : List Entry) (spare n : ℕ) (id : LspId) → es ≡ now → is_new now id ≡ true → n ≡ length es → 4096 ≤ n → PutAnswers now spare id (Err (Full n))
-answers_full es now spare n id same gone len le = rw (gone, le-leb 4096 (length now) (subst (λ m. 4096 ≤ m) (len ∙ l) le)) (ap (λ m. Err (Full m)) (len ∙ l))
+pub answers_full : (es now : List Entry) (spare n : ℕ) (id : LspId) → es ≡ now → is_new now id ≡ true → n ≡ length es → MOST_ENTRIES ≤ n → PutAnswers now spare id (Err (Full n))
+answers_full es now spare n id same gone len le = rw (gone, le-leb MOST_ENTRIES (length now) (subst (λ m. MOST_ENTRIES ≤ m) (len ∙ l) le)) (ap (λ m. Err (Full m)) (len ∙ l))
   where
     l : length es ≡ length now
     l = ap (λ (xs : List Entry). length xs) same
 
-pub answers_added : (es now : List Entry) (spare : ℕ) (id : LspId) (answer : Result (Unit {0}) PutFault) → es ≡ now → is_new now id ≡ true → length es < 4096 → IfErr answer (λ fault. (fault ≡ Memory) × (spare ≡ 0)) → PutAnswers now spare id answer
-answers_added es now spare id answer same gone lt memory = rw (gone, lt-leb 4096 (length now) (subst (λ (xs : List Entry). length xs < 4096) same lt)) (each answer memory)
+pub answers_added : (es now : List Entry) (spare : ℕ) (id : LspId) (answer : Result (Unit {0}) PutFault) → es ≡ now → is_new now id ≡ true → length es < MOST_ENTRIES → IfErr answer (λ fault. (fault ≡ Memory) × (spare ≡ 0)) → PutAnswers now spare id answer
+answers_added es now spare id answer same gone lt memory = rw (gone, lt-leb MOST_ENTRIES (length now) (subst (λ (xs : List Entry). length xs < MOST_ENTRIES) same lt)) (each answer memory)
   where
     each : (answer : Result (Unit {0}) PutFault) → IfErr answer (λ fault. (fault ≡ Memory) × (spare ≡ 0)) → IfErr answer (λ fault. (fault ≡ Memory) × (is_new now id ≡ true) × (spare ≡ 0))
     each (Ok u) h = tt

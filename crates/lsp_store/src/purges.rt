@@ -2,6 +2,7 @@ ghost use Rattle.std.specs.Prelude.{◌≡◌};
 ghost use Rattle.wire_base.specs.model.Control.{purge};
 
 use std::alloc::Global;
+use wire_base::limits::PURGE_HOLD;
 use wire_base::{Entry, LspId, Octets};
 
 /// The purge of a link state PDU: a dead entry that keeps its sequence number for a minute, without checksum, flags
@@ -13,7 +14,7 @@ pub fn purge(alloc: Global, id: LspId, seq: u32) -> Entry
         id,
         seq,
         life: 0,
-        hold: 60,
+        hold: PURGE_HOLD,
         sum: 0,
         flags: 0,
         content: Octets::new(alloc),

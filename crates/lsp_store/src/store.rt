@@ -8,10 +8,8 @@ use crate::places::{place_of, stands_at};
 use crate::seconds::{is_removed, pass_second};
 use std::alloc::Global;
 use std::marker::Model;
+use wire_base::limits::MOST_ENTRIES;
 use wire_base::{Age, Aged, Entry, LspId, M, PutFault, Summary};
-
-/// The most entries of a database.
-const MOST_ENTRIES: usize = 4096;
 
 /// A link state database: at most 4,096 entries in the order of their identifiers, none twice. Contracts see these, and
 /// how many entries of new identifiers it has the memory for already.

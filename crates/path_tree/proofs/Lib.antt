@@ -4,3 +4,5 @@ mod SettleLemmas
 mod SkipLemmas
 mod WaysLemmas
 mod ReachLemmas
+pub mod ForwardLemmas
+mod SearchLemmas

@@ -5,13 +5,11 @@ ghost use Rattle.pcap_frames.specs.Seen.{form_seen, record_seen, taken, Answers,
 
 use crate::header::Form;
 use std::alloc::Global;
+use wire_base::limits::MOST_CAPTURED;
 use wire_base::{CaptureFault, Octets};
 
 /// The octets of a record's header.
 pub const RECORD: usize = 16;
-
-/// The most octets of a record's frame.
-const MOST_CAPTURED: u32 = 262_144;
 
 /// A frame, and when it was taken: the second and the microsecond, and whether all of the frame is there.
 #[derive(Drop)]

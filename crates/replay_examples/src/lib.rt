@@ -6,6 +6,6 @@ mod packets;
 mod pdus;
 mod refusals;
 
-pub use packets::packets_in_the_ring;
+pub use packets::{packets_in_the_fork, packets_in_the_ring};
 pub use pdus::{a_lost_pdu, nothing_happens, pair_sends};
 pub use refusals::{lines_of_refusals, refused_lines};

@@ -5,6 +5,7 @@ use Rattle.std.specs.Io.KnownBytes.{Appends, Consumes, Keeps, IsAtEnd}
 use Rattle.std.proofs.KnownBytes.{Appends-trans}
 use Rattle.std.proofs.lemmas.Bool.{le-leb, lt-leb, false≢true, true≢false}
 use Rattle.std.proofs.lemmas.List.{length-append, length-drop, length-take, length-take-le, take_all, take_at, take-take, take-append-drop}
+use Rattle.wire_base.specs.declared.limits.TheConstants.{CAPTURE_LIMIT}
 use Rattle.wire_base.specs.declared.status.Status.{Status}
 use Rattle.wire_base.specs.declared.status.Status.TheVariants.{Done}
 use Rattle.wire_base.specs.declared.faults.CaptureFault.{CaptureFault}
@@ -16,7 +17,9 @@ use Rattle.replay_run.specs.Sight.{Sight, Passed, Seen, Bad, sight_of, sight_tex
 use Rattle.replay_run.specs.HopText.{behind}
 use Rattle.replay_run.specs.HeadersText.{record_lines, header_count, refused_by, at_end, too_long, headers_end, report_of, headers_answer, within_limit, is_within, IsRead}
 use Rattle.replay_run.specs.Headers.{Took, Owes, IsOpen, lines_of}
-use Rattle.replay_run.specs.Outside.{Held}
+use Rattle.replay_run.specs.Outside.{Held, AppendsFront}
+use Rattle.replay_run.specs.HopReached.{Begins}
+use Rattle.replay_run.proofs.HopLoop.{begun_front, nothing_front}
 
 -- ---- lists of records
 
@@ -113,7 +116,7 @@ pub record Sofar (left left_now before now : Option (List ℕ)) (progress : Prog
   pub flushed : List ℕ
   pub consumed : Consumes left left_now octets
   pub count : length octets ≡ taken
-  pub most : taken ≤ 268435456
+  pub most : taken ≤ CAPTURE_LIMIT
   pub wrote : Appends before now flushed
   pub reader : progress.reader ≡ (drained (fed unread octets)).1
   pub records : progress.records ≡ length (drained (fed unread octets)).0
@@ -194,7 +197,7 @@ reached left left_now before now old new taken piece so_far did =
     }
 
 pub sofar_more : (left left_old left_now before now now_new : Option (List ℕ)) (old new : Progress) (taken taken_new : ℕ) (piece flushed lines : List ℕ) → Sofar left left_old before now old taken
-    → Consumes left_old left_now piece → Took old (fed old.reader piece) new → (next_of new.reader).0 ≡ Ok None → taken_new ≡ taken + length piece → taken_new ≤ 268435456
+    → Consumes left_old left_now piece → Took old (fed old.reader piece) new → (next_of new.reader).0 ≡ Ok None → taken_new ≡ taken + length piece → taken_new ≤ CAPTURE_LIMIT
     → Appends now now_new flushed → new.lines ≡ flushed ++ lines
     → Sofar left left_now before now_new (record { reader = new.reader; records = new.records; headers = new.headers; lines = lines }) taken_new
 sofar_more left left_old left_now before now now_new old new taken taken_new piece flushed lines so_far consumed did none count most wrote lines-is =
@@ -241,13 +244,13 @@ refused_all octets more reader fault is refused =
 
 -- a fault is met whatever follows
 refused_answer : (left left_now before now : Option (List ℕ)) (progress : Progress) (octets flushed more lines : List ℕ) (fault : CaptureFault) (status : Status)
-    → Reached left left_now before now progress octets flushed → length octets ≤ 268435456 → progress.reader.stage ≡ Refused fault
+    → Reached left left_now before now progress octets flushed → length octets ≤ CAPTURE_LIMIT → progress.reader.stage ≡ Refused fault
     → ◌≡◌ {A = Status × List ℕ} (status, lines) (behind progress.lines (refused_by progress.records fault)) → ◌≡◌ {A = Status × List ℕ} (status, flushed ++ lines) (headers_answer (octets ++ more))
 unfolding headers_answer within_limit
 refused_answer left left_now before now progress octets flushed more lines fault status there short refused ended =
     let done = (drained (fed unread octets)).0 in
-    let extra = take (268435456 - length octets) more in
-    let all : drained (fed unread (take 268435456 (octets ++ more))) ≡ (done, fed progress.reader extra) = ap (λ (l : List ℕ). drained (fed unread l)) (take_more 268435456 octets more short) ∙ refused_all octets extra progress.reader fault there.reader refused in
+    let extra = take (CAPTURE_LIMIT - length octets) more in
+    let all : drained (fed unread (take CAPTURE_LIMIT (octets ++ more))) ≡ (done, fed progress.reader extra) = ap (λ (l : List ℕ). drained (fed unread l)) (take_more CAPTURE_LIMIT octets more short) ∙ refused_all octets extra progress.reader fault there.reader refused in
     with_last octets flushed lines progress status (refused_by progress.records fault) there.lines ended
     ∙ ap (λ (k : ℕ). behind (record_lines 0 done) (refused_by k fault)) there.records
     ∙ ap (behind (record_lines 0 done)) (sym (refused_end (is_within (octets ++ more)) (length done) (header_count done) fault (fed progress.reader extra) refused))
@@ -266,7 +269,7 @@ open_long n headers HeaderToCome octets none = refl
 open_long n headers (HeaderRead form) octets none = refl
 open_long n headers (Refused fault) octets none = absurd (false≢true (ap is_ok none))
 
-end_answer : (octets flushed lines : List ℕ) (progress : Progress) (status : Status) → length octets ≤ 268435456 → progress.reader ≡ (drained (fed unread octets)).1
+end_answer : (octets flushed lines : List ℕ) (progress : Progress) (status : Status) → length octets ≤ CAPTURE_LIMIT → progress.reader ≡ (drained (fed unread octets)).1
     → progress.records ≡ length (drained (fed unread octets)).0 → progress.headers ≡ header_count (drained (fed unread octets)).0 → flushed ++ progress.lines ≡ record_lines 0 (drained (fed unread octets)).0
     → (next_of progress.reader).0 ≡ Ok None
     → ◌≡◌ {A = Status × List ℕ} (status, lines) (behind progress.lines (at_end progress.records progress.headers (end_of (next_of progress.reader).1))) → ◌≡◌ {A = Status × List ℕ} (status, flushed ++ lines) (headers_answer octets)
@@ -280,9 +283,9 @@ end_answer octets flushed lines progress status short reader records headers so_
     ∙ sym (open_end (length done.0) (header_count done.0) done.1.stage done.1.octets (sym (ap (λ (r : Reading). (next_of r).0) reader) ∙ none)) in
     with_last octets flushed lines progress status (at_end progress.records progress.headers (end_of (next_of progress.reader).1)) so_far ended
     ∙ ap (behind (record_lines 0 done.0)) last
-    ∙ sym (ap₂ (λ (b : Bool) (l : List ℕ). report_of b (drained (fed unread l))) (le-leb (length octets) 268435456 short) (take_all 268435456 octets short))
+    ∙ sym (ap₂ (λ (b : Bool) (l : List ℕ). report_of b (drained (fed unread l))) (le-leb (length octets) CAPTURE_LIMIT short) (take_all CAPTURE_LIMIT octets short))
 
-long_answer : (octets flushed more lines : List ℕ) (progress : Progress) (status : Status) → length octets ≡ 268435456 → 0 < length more → progress.reader ≡ (drained (fed unread octets)).1
+long_answer : (octets flushed more lines : List ℕ) (progress : Progress) (status : Status) → length octets ≡ CAPTURE_LIMIT → 0 < length more → progress.reader ≡ (drained (fed unread octets)).1
     → progress.records ≡ length (drained (fed unread octets)).0 → flushed ++ progress.lines ≡ record_lines 0 (drained (fed unread octets)).0 → (next_of progress.reader).0 ≡ Ok None
     → ◌≡◌ {A = Status × List ℕ} (status, lines) (behind progress.lines (too_long progress.records)) → ◌≡◌ {A = Status × List ℕ} (status, flushed ++ lines) (headers_answer (octets ++ more))
 unfolding headers_answer within_limit
@@ -292,7 +295,7 @@ long_answer octets flushed more lines progress status full some reader records s
     ap too_long records ∙ sym (open_long (length done.0) (header_count done.0) done.1.stage done.1.octets (sym (ap (λ (r : Reading). (next_of r).0) reader) ∙ none)) in
     with_last octets flushed lines progress status (too_long progress.records) so_far ended
     ∙ ap (behind (record_lines 0 done.0)) last
-    ∙ sym (ap₂ (λ (b : Bool) (l : List ℕ). report_of b (drained (fed unread l))) (lt-leb (length (octets ++ more)) 268435456 (omega (arith, full, some, length-append octets more))) (take_at octets more 268435456 full))
+    ∙ sym (ap₂ (λ (b : Bool) (l : List ℕ). report_of b (drained (fed unread l))) (lt-leb (length (octets ++ more)) CAPTURE_LIMIT (omega (arith, full, some, length-append octets more))) (take_at octets more CAPTURE_LIMIT full))
 
 -- ---- what was read, and what was held
 
@@ -320,12 +323,12 @@ cut_piece octets piece more k =
     ap (λ (l : List ℕ). (octets ++ l) ++ more) (sym (take-append-drop k piece)) ∙ simp append_assoc
 
 pub exit_refused : (left left_old left_now before now : Option (List ℕ)) (old new : Progress) (taken k : ℕ) (piece lines : List ℕ) (fault : CaptureFault) (status : Status) → Sofar left left_old before now old taken
-    → Consumes left_old left_now piece → k ≤ length piece → taken + k ≤ 268435456 → Took old (fed old.reader (take k piece)) new → new.reader.stage ≡ Refused fault
+    → Consumes left_old left_now piece → k ≤ length piece → taken + k ≤ CAPTURE_LIMIT → Took old (fed old.reader (take k piece)) new → new.reader.stage ≡ Refused fault
     → ◌≡◌ {A = Status × List ℕ} (status, lines) (behind new.lines (refused_by new.records fault)) → (octets : List ℕ) × Held left octets × Owes before now (status, lines) (headers_answer octets)
 exit_refused left left_old left_now before now old new taken k piece lines fault status so_far consumed fits most did refused ended =
     let there = reached left left_old before now old new taken (take k piece) so_far did in
     let octets = so_far.octets ++ take k piece in
-    let short : length octets ≤ 268435456 = omega (arith, length-append so_far.octets (take k piece), length-take-le k piece fits, so_far.count, most) in
+    let short : length octets ≤ CAPTURE_LIMIT = omega (arith, length-append so_far.octets (take k piece), length-take-le k piece fits, so_far.count, most) in
     held_any left left_now (so_far.octets ++ piece) (λ (o : List ℕ). Owes before now (status, lines) (headers_answer o))
     (consumed_more left left_old left_now so_far.octets piece so_far.consumed consumed)
     (λ more. (
@@ -336,12 +339,12 @@ exit_refused left left_old left_now before now old new taken k piece lines fault
     ))
 
 pub exit_limit : (left left_old left_now before now : Option (List ℕ)) (old new : Progress) (taken k : ℕ) (piece lines : List ℕ) (status : Status) → Sofar left left_old before now old taken
-    → Consumes left_old left_now piece → k < length piece → taken + k ≡ 268435456 → Took old (fed old.reader (take k piece)) new → (next_of new.reader).0 ≡ Ok None
+    → Consumes left_old left_now piece → k < length piece → taken + k ≡ CAPTURE_LIMIT → Took old (fed old.reader (take k piece)) new → (next_of new.reader).0 ≡ Ok None
     → ◌≡◌ {A = Status × List ℕ} (status, lines) (behind new.lines (too_long new.records)) → (octets : List ℕ) × Held left octets × Owes before now (status, lines) (headers_answer octets)
 exit_limit left left_old left_now before now old new taken k piece lines status so_far consumed fits full did none ended =
     let there = reached left left_old before now old new taken (take k piece) so_far did in
     let octets = so_far.octets ++ take k piece in
-    let all : length octets ≡ 268435456 = omega (arith, length-append so_far.octets (take k piece), length-take-le k piece (omega (arith, fits)), so_far.count, full) in
+    let all : length octets ≡ CAPTURE_LIMIT = omega (arith, length-append so_far.octets (take k piece), length-take-le k piece (omega (arith, fits)), so_far.count, full) in
     held_any left left_now (so_far.octets ++ piece) (λ (o : List ℕ). Owes before now (status, lines) (headers_answer o))
     (consumed_more left left_old left_now so_far.octets piece so_far.consumed consumed)
     (λ more. (
@@ -366,6 +369,57 @@ exit_stopped left left_old left_now before now progress taken status so_far keep
   sym (ap (λ (r : Reading). (next_of r).0) so_far.reader) ∙ so_far.is_open,
   (so_far.flushed, so_far.wrote, ap (λ (l : List ℕ). (status, l)) so_far.lines),
 )
+
+-- ---- the fronts of a report
+
+-- whatever follows octets that aren't too many, a report on all begins with the lines of their records
+begins_so : (octets more : List ℕ) (reader : Reading) → length octets ≤ CAPTURE_LIMIT → reader ≡ (drained (fed unread octets)).1
+    → (rest : List ℕ) × ((headers_answer (octets ++ more)).1 ≡ lines_of octets ++ rest)
+unfolding headers_answer within_limit
+begins_so octets more reader short is =
+    let done = (drained (fed unread octets)).0 in
+    let extra = take (CAPTURE_LIMIT - length octets) more in
+    let last = drained (fed reader extra) in
+    let all : drained (fed unread (take CAPTURE_LIMIT (octets ++ more))) ≡ (done ++ last.0, last.1) = ap (λ (l : List ℕ). drained (fed unread l)) (take_more CAPTURE_LIMIT octets more short) ∙ joined_at octets extra reader is in
+    let short_of = is_within (octets ++ more) in
+    let ends = (headers_end short_of (length (done ++ last.0)) (header_count (done ++ last.0)) last.1.stage last.1.octets).1 in (
+      record_lines (0 + length done) last.0 ++ ends,
+      ap (λ (d : List CaptureRecord × Reading). (report_of short_of d).1) all
+          ∙ ap (λ (l : List ℕ). l ++ ends) (lines_append 0 done last.0)
+          ∙ append_assoc (record_lines 0 done) (record_lines (0 + length done) last.0) ends,
+    )
+
+-- what was written and what is still to be written is the front of the report on what the source held
+pub sofar_begun : (left left_now before now : Option (List ℕ)) (progress : Progress) (taken : ℕ) → Sofar left left_now before now progress taken
+    → (octets : List ℕ) × Held left octets × Begins before now progress.lines (headers_answer octets).1
+sofar_begun left left_now before now progress taken so_far =
+    held_any left left_now so_far.octets (λ (o : List ℕ). Begins before now progress.lines (headers_answer o).1) so_far.consumed
+    (λ more.
+    let begins = begins_so so_far.octets more progress.reader (omega (arith, so_far.count, so_far.most)) so_far.reader in
+    (so_far.flushed, so_far.wrote, (begins.0, begins.1 ∙ ap (λ (l : List ℕ). l ++ begins.0) (sym so_far.lines))))
+
+-- some of that was written
+pub sofar_front : (left left_now before now now_more : Option (List ℕ)) (progress : Progress) (taken : ℕ) → Sofar left left_now before now progress taken → AppendsFront now now_more progress.lines
+    → (octets : List ℕ) × Held left octets × AppendsFront before now_more (headers_answer octets).1
+sofar_front left left_now before now now_more progress taken so_far front =
+    let begun = sofar_begun left left_now before now progress taken so_far in
+    (begun.0, begun.1, begun_front before now now_more progress.lines (headers_answer begun.0).1 begun.2 front)
+
+-- or nothing
+pub sofar_still : (left left_now before now : Option (List ℕ)) (progress : Progress) (taken : ℕ) → Sofar left left_now before now progress taken
+    → (octets : List ℕ) × Held left octets × AppendsFront before now (headers_answer octets).1
+sofar_still left left_now before now progress taken so_far = sofar_front left left_now before now now progress taken so_far (nothing_front now progress.lines)
+
+-- before anything was read
+pub unread_front : (left before : Option (List ℕ)) → (octets : List ℕ) × Held left octets × AppendsFront before before (headers_answer octets).1
+unread_front None before = ([], tt, nothing_front before (headers_answer []).1)
+unread_front (Some octets) before = (octets, refl, nothing_front before (headers_answer octets).1)
+
+-- a whole report is a front of itself
+pub owes_begun : (left before now : Option (List ℕ)) (status : Status) (lines : List ℕ) → ((octets : List ℕ) × Held left octets × Owes before now (status, lines) (headers_answer octets))
+    → (octets : List ℕ) × Held left octets × Begins before now lines (headers_answer octets).1
+owes_begun left before now status lines owes =
+    (owes.0, owes.1, (owes.2.0, owes.2.1, ([], ap (λ (a : Status × List ℕ). a.1) (sym owes.2.2) ∙ sym (append-nil (owes.2.0 ++ lines)))))
 
 -- ---- texts and pieces
 
@@ -394,8 +448,8 @@ ends_done n headers (Refused fault) octets none = absurd (true≢false (ap is_so
 pub read_done : (input : List ℕ) → IsRead input → (headers_answer input).0 ≡ Done
 unfolding headers_answer within_limit
 read_done input is =
-    let all : take 268435456 input ≡ input = take_all 268435456 input is.short in
+    let all : take CAPTURE_LIMIT input ≡ input = take_all CAPTURE_LIMIT input is.short in
     let end : end_of (drained (fed unread input)).1 ≡ None = ap (λ (c : List CaptureRecord × Option CaptureFault). c.1) (capture_again input is.records is.capture) in
     let done = drained (fed unread input) in
-    ap₂ (λ (b : Bool) (l : List ℕ). (report_of b (drained (fed unread l))).0) (le-leb (length input) 268435456 is.short) all
+    ap₂ (λ (b : Bool) (l : List ℕ). (report_of b (drained (fed unread l))).0) (le-leb (length input) CAPTURE_LIMIT is.short) all
     ∙ ends_done (length done.0) (header_count done.0) done.1.stage done.1.octets end

@@ -9,12 +9,12 @@ use Rattle.replay_text.specs.declared.event.Event.{Event}
 use Rattle.replay_text.specs.declared.event.Line.{Line}
 use Rattle.replay_text.specs.declared.fault.TextFault.{TextFault}
 use Rattle.replay_text.specs.Schedule.{schedule_line}
-use Rattle.domain_core.specs.declared.fault.EventFault.{EventFault}
-use Rattle.domain_core.specs.World.{WorldState, first_world}
-use Rattle.domain_core.specs.Moves.{Sending}
-use Rattle.domain_core.specs.Step.{happens}
-use Rattle.domain_core.specs.Faults.{event_fault}
-use Rattle.domain_core.specs.Run.{Run, Progress, goes_on, on_line, tries, goes_unless, does, line_done, line_events}
+use Rattle.domain_model.specs.declared.fault.EventFault.{EventFault}
+use Rattle.domain_model.specs.World.{WorldState, first_world}
+use Rattle.domain_model.specs.Moves.{Sending}
+use Rattle.domain_model.specs.Step.{happens}
+use Rattle.domain_model.specs.Faults.{event_fault}
+use Rattle.domain_model.specs.Run.{Run, Progress, goes_on, on_line, tries, goes_unless, does, line_done, line_events}
 use Rattle.domain_replay.specs.Captures.{sending_record}
 use Rattle.domain_replay.specs.Texts.{made_text, events_text, capture_text, run_text, Refusal, Reached, reached_so, line_reaches, lines_reach, goes_further}
 

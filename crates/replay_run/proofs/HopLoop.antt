@@ -5,6 +5,7 @@ use Rattle.std.specs.Io.KnownBytes.{Appends, Consumes, IsAtEnd}
 use Rattle.std.proofs.KnownBytes.{Appends-nil, Appends-trans, Consumes-nil, Consumes-trans}
 use Rattle.std.proofs.lemmas.Bool.{cases_lt, le-leb, lt-leb, leb-true}
 use Rattle.std.proofs.lemmas.List.{length-append, take_all, take-append-le, take_min, length-replicate}
+use Rattle.wire_base.specs.declared.limits.TheConstants.{LINE_LIMIT, TEXT_LIMIT}
 use Rattle.wire_base.specs.declared.status.Status.{Status}
 use Rattle.wire_base.specs.declared.status.Status.TheVariants.{Done, InputRefused, ReadFault}
 use Rattle.replay_text.specs.declared.hop.HopState.{HopState}
@@ -40,10 +41,10 @@ held_all (Some held) (Some rest) taken consumed end = consumed ∙ ap (λ (l : L
 
 within_more : (taken more : List ℕ) → (rest : List ℕ) × (within_limit (taken ++ more) ≡ within_limit taken ++ rest)
 unfolding within_limit
-within_more taken more = elim (cases_lt 67108864 (length taken)) [
-  | inl over ↦ ([], take-append-le 67108864 taken more (omega arith) ∙ sym (append-nil (take 67108864 taken)))
+within_more taken more = elim (cases_lt TEXT_LIMIT (length taken)) [
+  | inl over ↦ ([], take-append-le TEXT_LIMIT taken more (omega arith) ∙ sym (append-nil (take TEXT_LIMIT taken)))
   | inr fits ↦
-      (take (67108864 - length taken) more, take_past 67108864 taken more fits ∙ ap (λ (l : List ℕ). l ++ take (67108864 - length taken) more) (sym (take_all 67108864 taken fits)))
+      (take (TEXT_LIMIT - length taken) more, take_past TEXT_LIMIT taken more fits ∙ ap (λ (l : List ℕ). l ++ take (TEXT_LIMIT - length taken) more) (sym (take_all TEXT_LIMIT taken fits)))
 ]
 
 pub stands_past : (taken : List ℕ) (given : List (List ℕ)) (reader : LineReader) (more : List ℕ) → Stands taken given reader → (tail : List (List ℕ)) × (lines_within (taken ++ more) ≡ given ++ tail)
@@ -55,22 +56,22 @@ stands_past taken given reader more stands =
 pub whole_lines : (taken : List ℕ) → is_short taken ≡ true → within_limit taken ≡ taken → lines_within taken ≡ lines_in true taken
 whole_lines taken short same = ap (λ (b : Bool). lines_in b (within_limit taken)) short ∙ ap (lines_in true) same
 
-pub within_short : (taken : List ℕ) → length taken ≤ 67108864 → within_limit taken ≡ taken
+pub within_short : (taken : List ℕ) → length taken ≤ TEXT_LIMIT → within_limit taken ≡ taken
 unfolding within_limit
-within_short taken short = take_all 67108864 taken short
+within_short taken short = take_all TEXT_LIMIT taken short
 
 -- of a text that is too long the octets behind the limit don't count
 pub long_lines : (taken more : List ℕ) → is_short taken ≡ false → (is_short (taken ++ more) ≡ false) × (lines_within (taken ++ more) ≡ lines_in false (within_limit taken))
 unfolding within_limit
 long_lines taken more long =
     let over = past taken long in
-    let longer : is_short (taken ++ more) ≡ false = lt-leb (length (taken ++ more)) 67108864 (omega (arith, over, length-append taken more)) in
-    (longer, ap (λ (b : Bool). lines_in b (within_limit (taken ++ more))) longer ∙ ap (lines_in false) (take-append-le 67108864 taken more (omega (arith, over))))
+    let longer : is_short (taken ++ more) ≡ false = lt-leb (length (taken ++ more)) TEXT_LIMIT (omega (arith, over, length-append taken more)) in
+    (longer, ap (λ (b : Bool). lines_in b (within_limit (taken ++ more))) longer ∙ ap (lines_in false) (take-append-le TEXT_LIMIT taken more (omega (arith, over))))
   where
-    past : (taken : List ℕ) → is_short taken ≡ false → 67108864 < length taken
-    past taken long = elim (cases_lt 67108864 (length taken)) [
+    past : (taken : List ℕ) → is_short taken ≡ false → TEXT_LIMIT < length taken
+    past taken long = elim (cases_lt TEXT_LIMIT (length taken)) [
       | inl over ↦ over
-      | inr fits ↦ absurd (no (sym long ∙ le-leb (length taken) 67108864 fits))
+      | inr fits ↦ absurd (no (sym long ∙ le-leb (length taken) TEXT_LIMIT fits))
     ]
       where
         no : false ≡ true → ⊥
@@ -207,7 +208,7 @@ ended_at : (left mid left_now before now : Option (List ℕ)) (reader : LineRead
 ended_at left mid left_now before now reader reached reached_now status tail what hops octets consumed end short lines turn last other =
     let taken = hops.all ++ octets in
     let held = held_all left left_now taken (Consumes-trans left mid left_now hops.all octets hops.consumed consumed) end in
-    let fits : length taken ≤ 67108864 = leb-true (length taken) 67108864 short in
+    let fits : length taken ≤ TEXT_LIMIT = leb-true (length taken) TEXT_LIMIT short in
     let all : lines_within taken ≡ hops.given ++ tail = whole_lines taken short (within_short taken fits) ∙ lines in
     ends_as left left_now before now status hops.flushed reached_now.lines taken what hops.written held
     (total left mid before now reader reached reached_now status taken Ended tail hops (ap close_of short) all turn)
@@ -314,8 +315,8 @@ long_after n =
     let size : length long ≡ n + 1 = length-replicate (n + 1) 0 in
     (long, omega (arith, size))
 
-some_long : (long : List ℕ) × (16384 < length long)
-some_long = long_after 16384
+some_long : (long : List ℕ) × (LINE_LIMIT < length long)
+some_long = long_after LINE_LIMIT
 
 -- only behind a line does the run go on
 line_alone : (what : Found) (n : ℕ) (line : List ℕ) (before now : Reached) → Turns what n line before now None → what ≡ found.Line

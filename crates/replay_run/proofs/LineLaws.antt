@@ -15,6 +15,7 @@ use Rattle.replay_run.specs.declared.reader.Found.TheVariants as found
 use Rattle.replay_run.specs.declared.reader.LineReader.{LineReader}
 use Rattle.replay_run.specs.Texts.{is_short, within_limit}
 use Rattle.replay_run.specs.Reader.{Stands, Finds, HasNoEnd, kept, TakesPart, IsLineFound, IsLastFound}
+use Rattle.wire_base.specs.declared.limits.TheConstants.{TEXT_LIMIT}
 
 -- ---- what is kept of a line
 
@@ -91,7 +92,7 @@ pub record Midway (all : List ℕ) (given : List (List ℕ)) (pending unread : L
 
 within_short : (all : List ℕ) → is_short all ≡ true → within_limit all ≡ all
 unfolding within_limit
-within_short all short = take_all 67108864 all (leb-true (length all) 67108864 short)
+within_short all short = take_all TEXT_LIMIT all (leb-true (length all) TEXT_LIMIT short)
 
 short_from : (over : Bool) (all : List ℕ) → over ≡ not (is_short all) → over ≡ false → is_short all ≡ true
 short_from over all is none = not-false (is_short all) (sym is ∙ none)
@@ -130,15 +131,15 @@ takes_all all given pending unread now number taken over mid none =
 
 -- more was taken from the source
 takes_more : (all octets : List ℕ) (given : List (List ℕ)) (pending unread now : List ℕ) (number taken room taken_now : ℕ) (over over_now : Bool) → Midway all given pending unread number taken over → over ≡ false → unread ≡ []
-    → taken + room ≡ 67108864 → now ≡ take room octets → taken_now ≡ taken + min (length octets) room → over_now ≡ nat_lt room (length octets)
+    → taken + room ≡ TEXT_LIMIT → now ≡ take room octets → taken_now ≡ taken + min (length octets) room → over_now ≡ nat_lt room (length octets)
     → Midway (all ++ octets) given pending now number taken_now over_now
 unfolding within_limit
 takes_more all octets given pending unread now number taken room taken_now over over_now mid under none rest is count past =
     let short = short_from over all mid.over under in
     let whole = within_short all short in
     let size : taken ≡ length all = mid.taken ∙ ap length whole in
-    let left : 67108864 - length all ≡ room = omega arith in
-    let front : within_limit (all ++ octets) ≡ all ++ take room octets = take_past 67108864 all octets (leb-true (length all) 67108864 short) ∙ ap (λ (m : ℕ). all ++ take m octets) left in
+    let left : TEXT_LIMIT - length all ≡ room = omega arith in
+    let front : within_limit (all ++ octets) ≡ all ++ take room octets = take_past TEXT_LIMIT all octets (leb-true (length all) TEXT_LIMIT short) ∙ ap (λ (m : ℕ). all ++ take m octets) left in
     record {
       taken = omega (arith, count, size, ap length front, length-append all (take room octets), length-take room octets);
       over = past ∙ passes (length all) (length octets) room (length (all ++ octets)) (omega arith) (length-append all octets);
@@ -149,10 +150,10 @@ takes_more all octets given pending unread now number taken room taken_now over 
           ∙ ap (λ (l : List ℕ). given ++ lines_in ended (pending ++ (l ++ more))) (sym is);
     }
   where
-    passes : (size count room both : ℕ) → size + room ≡ 67108864 → both ≡ size + count → nat_lt room count ≡ not (nat_le both 67108864)
+    passes : (size count room both : ℕ) → size + room ≡ TEXT_LIMIT → both ≡ size + count → nat_lt room count ≡ not (nat_le both TEXT_LIMIT)
     passes size count room both is sum = elim (cases_lt room count) [
-      | inl more ↦ rw (lt-ltb room count more, lt-leb both 67108864 (omega arith)) refl
-      | inr fits ↦ rw (le-ltb room count (omega arith), le-leb both 67108864 (omega arith)) refl
+      | inl more ↦ rw (lt-ltb room count more, lt-leb both TEXT_LIMIT (omega arith)) refl
+      | inr fits ↦ rw (le-ltb room count (omega arith), le-leb both TEXT_LIMIT (omega arith)) refl
     ]
 
 -- ---- what was found
@@ -279,7 +280,7 @@ seeks_on left left_now first unread line number taken over unread_now line_now s
 
 -- a further piece was taken
 pub seeks_more : (left mid left_now : Option (List ℕ)) (first : LineReader) (unread line : List ℕ) (number taken : ℕ) (over : Bool) (octets unread_now line_now : List ℕ) (room number_now taken_now : ℕ) (over_now : Bool) → Seeks left mid first unread line number taken over → Consumes mid left_now octets
-    → over ≡ false → unread ≡ [] → taken + room ≡ 67108864 → unread_now ≡ take room octets → line_now ≡ line → number_now ≡ number → taken_now ≡ taken + min (length octets) room → over_now ≡ nat_lt room (length octets)
+    → over ≡ false → unread ≡ [] → taken + room ≡ TEXT_LIMIT → unread_now ≡ take room octets → line_now ≡ line → number_now ≡ number → taken_now ≡ taken + min (length octets) room → over_now ≡ nat_lt room (length octets)
     → Seeks left left_now first unread_now line_now number_now taken_now over_now
 seeks_more left mid left_now first unread line number taken over octets unread_now line_now room number_now taken_now over_now seeks consumed under none rest is same numbered count past =
     record {

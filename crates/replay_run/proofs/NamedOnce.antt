@@ -4,6 +4,7 @@ use Rattle.std.specs.Prelude.{IfOk, IfSome, option_map, codes, nat_lt, length}
 use Rattle.std.specs.Str.{bytes_eq}
 use Rattle.std.proofs.Math.Bool.{and_comm}
 use Rattle.std.proofs.lemmas.Bool.{cases_Bool, cases_eq, eq-eqb, ne_eqb}
+use Rattle.wire_base.specs.declared.limits.TheConstants.{LINE_LIMIT}
 use Rattle.wire_base.specs.model.Fields.{◌>>=◌}
 use Rattle.wire_base.specs.model.Hop.{distinct}
 use Rattle.bier_hop.proofs.CopyLaws.{filter-filter}
@@ -123,7 +124,7 @@ words_once names (word ∷ args) =
 
 line_once : (text : List ℕ) (names : List (List ℕ)) → IfOk (schedule_line text names) LineNamesOnce
 unfolding schedule_line
-line_once text names = either LineNamesOnce (nat_lt 16384 (length text)) (Err LineLong) _ tt (either LineNamesOnce (is_comment text) (Ok line.Empty) _ tt (words_once names (words_of text)))
+line_once text names = either LineNamesOnce (nat_lt LINE_LIMIT (length text)) (Err LineLong) _ tt (either LineNamesOnce (is_comment text) (Ok line.Empty) _ tt (words_once names (words_of text)))
 
 pub said_once : (text : List ℕ) (names : List (List ℕ)) (said : Line) → schedule_line text names ≡ Ok said → LineNamesOnce said
 said_once text names said is = subst (λ (r : Result Line TextFault). IfOk r LineNamesOnce) is (line_once text names)

@@ -145,6 +145,13 @@ headers_meets conf left before now frames result gave =
     let file = held_some conf in
     (file.0, gave.0, file.1, gave.1, record { status = gave.2.status; report = gave.2.report; frames = nothing_more frames })
 
+pub headers_front : (conf left before now frames : Option (List ℕ)) → ((octets : List ℕ) × Held left octets × AppendsFront before now (headers_answer octets).1)
+    → OnHeld Headers conf left (λ owed. AppendsFront before now owed.report × AppendsFront frames frames owed.frames)
+unfolding verdict
+headers_front conf left before now frames front =
+    let file = held_some conf in
+    (file.0, front.0, file.1, front.1, (front.2, no_front frames []))
+
 pub headers_done : (result : Status) (left before now : Option (List ℕ)) (reads reads_now writes writes_now takes takes_now : ℕ)
     → (IsDecided result → (result ≡ Done) ⊎ (result ≡ CaptureRefused))
     → (IsDecided result → (octets : List ℕ) × Held left octets × Gave (headers_answer octets) result before now)

@@ -5,14 +5,16 @@ use Rattle.std.specs.List.{fold}
 use Rattle.std.proofs.lemmas.Bool.{le-leb}
 use Rattle.std.proofs.lemmas.List.{take_all}
 use Rattle.std.specs.Io.KnownBytes.{Appends}
+use Rattle.wire_base.specs.declared.limits.TheConstants.{TEXT_LIMIT}
 use Rattle.wire_base.specs.declared.status.Status.{Status}
 use Rattle.wire_base.specs.declared.status.Status.TheVariants.{Done, Usage, ConfRefused, InputRefused, ReadFault, WriteFault, Memory, CaptureRefused}
 use Rattle.wire_base.specs.model.Configuration.{DomainConf}
 use Rattle.replay_text.specs.declared.event.Event.{Event}
 use Rattle.replay_text.specs.Pieces.{lines_in}
-use Rattle.domain_core.specs.World.{WorldState}
-use Rattle.domain_core.specs.Faults.{event_fault}
-use Rattle.domain_core.specs.Run.{Run, Progress, first_run, goes_on, tries, does, line_done, line_events, world_after}
+use Rattle.replay_text.proofs.ScheduleSpelled.{line_back}
+use Rattle.domain_model.specs.World.{WorldState}
+use Rattle.domain_model.specs.Faults.{event_fault}
+use Rattle.domain_model.specs.Run.{Run, Progress, first_run, goes_on, tries, does, line_done, line_events, world_after}
 use Rattle.domain_conf.specs.declared.fault.ConfFault.{ConfFault}
 use Rattle.domain_replay.specs.Texts.{Refusal, names_of, lines_reach, schedule_reaches}
 use Rattle.replay_run.specs.declared.words.Form.TheVariants.{Replay}
@@ -91,17 +93,17 @@ none_refused names line r [] are = refl
 none_refused names line r (text ∷ more) (said, says, allowed, rest) =
     let p = line_done line (record { run = r; refused = None }) said in
     let done = all_done line r (line_events r.world said) allowed in
-    rw (says, done.0) (none_refused names (line + 1) p.run more (subst (λ (w : WorldState). AreDone names w more) (sym done.1) rest))
+    rw (line_back names text said says, done.0) (none_refused names (line + 1) p.run more (subst (λ (w : WorldState). AreDone names w more) (sym done.1) rest))
 
-all_lines : (input : List ℕ) → is_short input ≡ true → length input ≤ 67108864 → lines_within input ≡ lines_in true input
+all_lines : (input : List ℕ) → is_short input ≡ true → length input ≤ TEXT_LIMIT → lines_within input ≡ lines_in true input
 unfolding within_limit
-all_lines input short is = ap (λ (b : Bool). lines_in b (within_limit input)) short ∙ ap (lines_in true) (take_all 67108864 input is)
+all_lines input short is = ap (λ (b : Bool). lines_in b (within_limit input)) short ∙ ap (lines_in true) (take_all TEXT_LIMIT input is)
 
 -- such a schedule is done
 schedule_done : (d : DomainConf) (octets : List ℕ) → IsDone d octets → (schedule_answer d octets).status ≡ Done
 unfolding schedule_answer schedule_reaches first_run
 schedule_done d octets is =
-    let short : is_short octets ≡ true = le-leb (length octets) 67108864 is.short in
+    let short : is_short octets ≡ true = le-leb (length octets) TEXT_LIMIT is.short in
     let lines = all_lines octets short is.short in
     ap (λ (b : Bool). (answer_to (close_of b) d (lines_within octets)).status) short
     ∙ ap (λ (ls : List (List ℕ)). (answer_to Ended d ls).status) lines

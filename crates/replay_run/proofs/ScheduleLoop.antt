@@ -5,13 +5,14 @@ use Rattle.std.specs.Io.KnownBytes.{Appends, Consumes, IsAtEnd}
 use Rattle.std.proofs.KnownBytes.{Appends-nil, Appends-trans, Consumes-nil, Consumes-trans}
 use Rattle.std.proofs.lemmas.Bool.{leb-true}
 use Rattle.std.proofs.lemmas.List.{length-append, length-replicate}
+use Rattle.wire_base.specs.declared.limits.TheConstants.{LINE_LIMIT, TEXT_LIMIT}
 use Rattle.wire_base.specs.declared.status.Status.{Status}
 use Rattle.wire_base.specs.declared.status.Status.TheVariants.{Done, InputRefused, ReadFault}
 use Rattle.wire_base.specs.model.Configuration.{DomainConf}
 use Rattle.replay_text.specs.declared.event.Line.{Line}
 use Rattle.replay_text.specs.declared.fault.TextFault.{TextFault}
 use Rattle.replay_text.specs.Pieces.{lines_in}
-use Rattle.domain_core.specs.Run.{Run, first_run}
+use Rattle.domain_model.specs.Run.{Run, first_run}
 use Rattle.domain_replay.specs.Telling.{Telling, first_telling}
 use Rattle.domain_replay.specs.Texts.{Refusal, line_reaches, lines_reach, schedule_reaches, names_of}
 use Rattle.domain_replay.proofs.TellingLaws.{start_told}
@@ -108,8 +109,8 @@ step_made {reader_now = reader_now} {replay_now = replay_now} what answered ende
           (subst (λ (k : ℕ). Turns what k line (course_on on) replay_now answered) (number ∙ on.stands.number) (turn (course_on on) on.at)));
     }
 
-some_long : (long : List ℕ) × (16384 < length long)
-some_long = after 16384
+some_long : (long : List ℕ) × (LINE_LIMIT < length long)
+some_long = after LINE_LIMIT
   where
     after : (n : ℕ) → (long : List ℕ) × (n < length long)
     after n =
@@ -118,7 +119,7 @@ some_long = after 16384
         (long, omega (arith, size))
 
 -- a line that is too long ends the run
-long_ends : (n : ℕ) (course : Course) (now : Telling) → ((long : List ℕ) → 16384 < length long → Reaches (next_reaches n course long) course now None) → ⊥
+long_ends : (n : ℕ) (course : Course) (now : Telling) → ((long : List ℕ) → LINE_LIMIT < length long → Reaches (next_reaches n course long) course now None) → ⊥
 long_ends n course now turn =
     let none = (turn some_long.0 some_long.1).0 in
     let some = ap (λ (read : Result Line TextFault). (line_reaches (n + 1) course.run read).refused) (long_line some_long.0 (names_of course.domain) some_long.1) in
@@ -270,7 +271,7 @@ ended_at : {d : DomainConf} {before mid : Outer} {reader : LineReader} {replay :
 ended_at {d = d} {before = before} {mid = mid} now on later status tail what octets consumed same_report same_frames end short lines turn last other =
     let taken = on.all ++ octets in
     let held = held_all before.left now.left taken (Consumes-trans before.left mid.left now.left on.all octets on.consumed consumed) end in
-    let fits : length taken ≤ 67108864 = leb-true (length taken) 67108864 short in
+    let fits : length taken ≤ TEXT_LIMIT = leb-true (length taken) TEXT_LIMIT short in
     let all : lines_within taken ≡ on.given ++ tail = whole_lines taken short (within_short taken fits) ∙ lines in
     let reached = lines_reach (names_of d) (length on.given + 1) on.run tail in
     ends_as d before now status on.frames on.report later taken what

@@ -3,6 +3,7 @@ use Rattle.std.proofs.Common.{◌≡◌, ◌≢◌, ℕ, ◌+◌, ◌<◌, List,
 use Rattle.std.specs.Prelude.{IfOk, OnOk}
 use Rattle.std.specs.List.{fold}
 use Rattle.std.proofs.lemmas.Bool.{lt-ltb}
+use Rattle.wire_base.specs.declared.limits.TheConstants.{LINE_LIMIT}
 use Rattle.wire_base.specs.declared.status.Status.{Status}
 use Rattle.wire_base.specs.declared.status.Status.TheVariants.{InputRefused}
 use Rattle.replay_text.specs.declared.event.Event.{Event}
@@ -14,12 +15,13 @@ use Rattle.replay_text.specs.declared.fault.TextFault.TheVariants as fault
 use Rattle.replay_text.specs.Events.{EventFits, LineFits}
 use Rattle.replay_text.specs.Reading.{Fails}
 use Rattle.replay_text.specs.Schedule.{schedule_line}
-use Rattle.domain_core.specs.declared.fault.EventFault.{EventFault}
-use Rattle.domain_core.specs.World.{ids_in_flight}
-use Rattle.domain_core.specs.Faults.{event_fault}
-use Rattle.domain_core.specs.Step.{happens}
-use Rattle.domain_core.specs.Run.{Run, Progress, line_done, line_events}
-use Rattle.domain_replay.specs.Lines.{done_text, event_refused_text, text_refused_text, text_fault}
+use Rattle.domain_model.specs.declared.fault.EventFault.{EventFault}
+use Rattle.domain_model.specs.World.{ids_in_flight}
+use Rattle.domain_model.specs.Faults.{event_fault}
+use Rattle.domain_model.specs.Step.{happens}
+use Rattle.domain_model.specs.Run.{Run, Progress, line_done, line_events}
+use Rattle.domain_replay.specs.Lines.{done_text, event_refused_text, text_refused_text}
+use Rattle.replay_text.specs.Fault.{fault_text}
 use Rattle.domain_replay.specs.Telling.{Telling, Told, told, sent_records, tells, tells_or, tells_unless, tells_on, tells_all, tells_line, telling_of, at_line, IsEntered, LineEnters, IsToldSo}
 use Rattle.domain_replay.specs.Texts.{Refusal, BadText, BadEvent, Reached, made_text, run_text, capture_text, run_done_text, reached_so, line_reaches, lines_reach, goes_further, names_of}
 use Rattle.domain_replay.proofs.TellingLaws.{line_told}
@@ -151,13 +153,13 @@ is_fault fault.LineLong read is known = is
 is_fault fault.Memory read is known = absurd (known refl)
 
 pub text_refused : (course : Course) (n : ℕ) (line : List ℕ) (names : List (List ℕ)) (old later : Telling) (why : TextFault) (ended : Status) → IsAt course old → names ≡ names_of old.world.domain
-    → Fails why (schedule_line line names) → why ≢ fault.Memory → ended ≡ InputRefused → later ≡ record old { report = old.report ++ text_refused_text (n + 1) (text_fault why) }
+    → Fails why (schedule_line line names) → why ≢ fault.Memory → ended ≡ InputRefused → later ≡ record old { report = old.report ++ text_refused_text (n + 1) (fault_text why) }
     → Reaches (next_reaches n course line) course later (Some ended)
 text_refused course n line names old later why ended at named fails known is grown =
     let same : names ≡ names_of course.domain = named ∙ ap names_of (domain_at course old at) in
     let reads : schedule_line line (names_of course.domain) ≡ Err why = subst (λ (l : List (List ℕ)). schedule_line line l ≡ Err why) same (is_fault why (schedule_line line names) fails known) in
     let reached : next_reaches n course line ≡ record { run = course.run; refused = Some (n + 1, BadText why) } = ap (line_reaches (n + 1) course.run) reads in
-    let end : Status × List ℕ = (InputRefused, text_refused_text (n + 1) (text_fault why)) in (
+    let end : Status × List ℕ = (InputRefused, text_refused_text (n + 1) (fault_text why)) in (
       (n + 1, BadText why),
       ap (λ (x : Reached). x.refused) reached,
       ap (λ (x : Reached). ends_so course.domain x.run end) reached
@@ -165,16 +167,16 @@ text_refused course n line names old later why ended at named fails known is gro
           ∙ ap (λ (s : Status). gained course s later) (sym is),
     )
 
-pub long_line : (long : List ℕ) (names : List (List ℕ)) → 16384 < length long → schedule_line long names ≡ Err fault.LineLong
+pub long_line : (long : List ℕ) (names : List (List ℕ)) → LINE_LIMIT < length long → schedule_line long names ≡ Err fault.LineLong
 unfolding schedule_line
-long_line long names is = rw (lt-ltb 16384 (length long) is) refl
+long_line long names is = rw (lt-ltb LINE_LIMIT (length long) is) refl
 
 line_long : fault.LineLong ≡ fault.Memory → ⊥
 line_long e = cc
 
 pub long_refused : {E : Type 0} (n : ℕ) (old later : Telling) (result : Result Status E) → IfOk result (λ ended. ended ≡ InputRefused)
-    → OnOk result (later ≡ record old { report = old.report ++ text_refused_text (n + 1) (text_fault fault.LineLong) })
-    → IfOk result (λ ended. (course : Course) → IsAt course old → (long : List ℕ) → 16384 < length long → Reaches (next_reaches n course long) course later (Some ended))
+    → OnOk result (later ≡ record old { report = old.report ++ text_refused_text (n + 1) (fault_text fault.LineLong) })
+    → IfOk result (λ ended. (course : Course) → IsAt course old → (long : List ℕ) → LINE_LIMIT < length long → Reaches (next_reaches n course long) course later (Some ended))
 long_refused n old later (Ok ended) is grown = λ course at long lt.
     text_refused course n long (names_of old.world.domain) old later fault.LineLong ended at refl (long_line long (names_of old.world.domain) lt) line_long is grown
 long_refused n old later (Err e) is grown = tt

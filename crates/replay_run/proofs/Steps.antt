@@ -5,6 +5,7 @@ use Rattle.std.specs.List.{flat_map}
 use Rattle.std.proofs.lemmas.Bool.{lt-ltb}
 use Rattle.std.proofs.lemmas.List.{length-append}
 use Rattle.std.proofs.lemmas.Grind.{flat_map-append}
+use Rattle.wire_base.specs.declared.limits.TheConstants.{LINE_LIMIT}
 use Rattle.wire_base.specs.declared.status.Status.{Status}
 use Rattle.wire_base.specs.declared.status.Status.TheVariants.{InputRefused}
 use Rattle.replay_text.specs.declared.fault.TextFault.{TextFault}
@@ -14,7 +15,8 @@ use Rattle.replay_text.specs.declared.hop.HopLine.{HopLine}
 use Rattle.replay_text.specs.declared.hop.HopLine.TheVariants as says
 use Rattle.replay_text.specs.Reading.{Fails}
 use Rattle.replay_text.specs.Hop.{hop_line}
-use Rattle.replay_run.specs.HopText.{behind, ending, after, Packet, packet_in, packets_from, refusal_from, packet_text, refused_text, fault_text, answer_from}
+use Rattle.replay_run.specs.HopText.{behind, ending, after, Packet, packet_in, packets_from, refusal_from, packet_text, refused_text, answer_from}
+use Rattle.replay_text.specs.Fault.{fault_text}
 use Rattle.replay_run.specs.Texts.{Close, Ended}
 use Rattle.replay_run.specs.declared.hop.Reached.{Reached}
 use Rattle.replay_run.specs.HopReached.{owed, EndsWith}
@@ -98,15 +100,15 @@ refused close n before now line more why ended fails known is grown =
     here ∙ ap (behind before.lines) (sym (refused_answer close before.state n before.packets line more why (is_fault why (hop_line line before.state) fails known)))
 
 -- a line that is too long
-pub long_line : (long : List ℕ) (state : HopState) → 16384 < length long → hop_line long state ≡ Err fault.LineLong
+pub long_line : (long : List ℕ) (state : HopState) → LINE_LIMIT < length long → hop_line long state ≡ Err fault.LineLong
 unfolding hop_line
-long_line long state is = rw (lt-ltb 16384 (length long) is) refl
+long_line long state is = rw (lt-ltb LINE_LIMIT (length long) is) refl
 
 line_long : fault.LineLong ≡ fault.Memory → ⊥
 line_long e = cc
 
 pub long_refused : {E : Type 0} (n : ℕ) (before now : Reached) (result : Result Status E) → IfOk result (λ ended. ended ≡ InputRefused) → OnOk result (now.lines ≡ before.lines ++ refused_text (n + 1) (fault_text fault.LineLong))
-    → IfOk result (λ ended. (close : Close) (long : List ℕ) (more : List (List ℕ)) → 16384 < length long → EndsWith close n (long ∷ more) before now (Some ended))
+    → IfOk result (λ ended. (close : Close) (long : List ℕ) (more : List (List ℕ)) → LINE_LIMIT < length long → EndsWith close n (long ∷ more) before now (Some ended))
 long_refused n before now (Ok ended) is grown = λ close long more lt. refused close n before now long more fault.LineLong ended (long_line long before.state lt) line_long is grown
 long_refused n before now (Err e) is grown = tt
 

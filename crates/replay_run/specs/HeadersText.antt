@@ -1,6 +1,7 @@
 -- A capture's headers: the report of them, and how it ends.
 use Rattle.std.specs.Prelude.{ℕ, ◌+◌, ◌≤◌, Bool, true, false, nat_le, List, [], ◌∷◌, ◌++◌, length, take, Option, Some, None, codes}
 use Rattle.std.specs.Fmt.{decimal}
+use Rattle.wire_base.specs.declared.limits.TheConstants.{CAPTURE_LIMIT}
 use Rattle.wire_base.specs.declared.status.Status.{Status}
 use Rattle.wire_base.specs.declared.status.Status.TheVariants.{Done, CaptureRefused}
 use Rattle.wire_base.specs.declared.faults.CaptureFault.{CaptureFault}
@@ -25,10 +26,10 @@ header_count (read ∷ more) = sight_count (sight_of read.octets) + header_count
 
 -- A capture has at most 268,435,456 octets. Of a longer one the records are read that are whole within them.
 unfoldable pub within_limit : List ℕ → List ℕ
-within_limit input = take 268435456 input
+within_limit input = take CAPTURE_LIMIT input
 
 abbrev pub is_within : List ℕ → Bool
-is_within input = nat_le (length input) 268435456
+is_within input = nat_le (length input) CAPTURE_LIMIT
 
 -- the number of a fault's record after n others: the capture's header has the number 0
 abbrev pub fault_record : ℕ → CaptureFault → ℕ
@@ -89,6 +90,6 @@ headers_answer input = report_of (is_within input) (drained (fed unread (within_
 
 -- octets that are a capture, and not too many
 pub record IsRead (input : List ℕ) : Type 0 where
-  pub short : length input ≤ 268435456
+  pub short : length input ≤ CAPTURE_LIMIT
   pub records : List CaptureRecord
   pub capture : IsCapture input records

@@ -1,6 +1,7 @@
 -- How far a hop text was done.
 use Rattle.std.specs.Prelude.{ℕ, ◌≡◌, ◌<◌, ◌+◌, List, [], ◌∷◌, ◌++◌, length, Option, Some, None}
 use Rattle.std.specs.Io.KnownBytes.{Appends}
+use Rattle.wire_base.specs.declared.limits.TheConstants.{LINE_LIMIT}
 use Rattle.wire_base.specs.declared.status.Status.{Status}
 use Rattle.replay_run.specs.declared.reader.Found.{Found}
 use Rattle.replay_run.specs.declared.reader.Found.TheVariants as found
@@ -26,8 +27,8 @@ EndsWith close n lines before now (Some status) = ◌≡◌ {A = Status × List 
 abbrev pub Turns : Found → ℕ → List ℕ → (before now : Reached) → Option Status → Type 0
 Turns found.Line n line before now ended = (close : Close) (more : List (List ℕ)) → GoesOn close n (line ∷ more) more before now ended
 Turns found.Last n line before now ended = EndsWith Ended n (line ∷ []) before now ended
-Turns found.Long n line before now ended = (close : Close) (long : List ℕ) (more : List (List ℕ)) → 16384 < length long → EndsWith close n (long ∷ more) before now ended
-Turns found.LongLast n line before now ended = (close : Close) (long : List ℕ) (more : List (List ℕ)) → 16384 < length long → EndsWith close n (long ∷ more) before now ended
+Turns found.Long n line before now ended = (close : Close) (long : List ℕ) (more : List (List ℕ)) → LINE_LIMIT < length long → EndsWith close n (long ∷ more) before now ended
+Turns found.LongLast n line before now ended = (close : Close) (long : List ℕ) (more : List (List ℕ)) → LINE_LIMIT < length long → EndsWith close n (long ∷ more) before now ended
 Turns found.End n line before now ended = EndsWith Ended n [] before now ended
 Turns found.TooLong n line before now ended = EndsWith Longer n [] before now ended
 Turns found.Failed n line before now ended = EndsWith Cut n [] before now ended

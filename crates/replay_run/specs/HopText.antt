@@ -2,11 +2,12 @@
 use Rattle.std.specs.Prelude.{ℕ, ◌+◌, ◌≤◌, true, false, List, [], ◌∷◌, ◌++◌, length, Option, Some, None, unwrap_or, Ok, Err, codes}
 use Rattle.std.specs.List.{flat_map}
 use Rattle.std.specs.Fmt.{decimal}
+use Rattle.wire_base.specs.declared.limits.TheConstants.{TEXT_LIMIT}
 use Rattle.wire_base.specs.declared.status.Status.{Status}
 use Rattle.wire_base.specs.declared.status.Status.TheVariants.{Done, InputRefused, ReadFault}
 use Rattle.bier_bits.specs.Any.{positions_of}
 use Rattle.replay_text.specs.declared.fault.TextFault.{TextFault}
-use Rattle.replay_text.specs.declared.fault.TextFault.TheVariants as fault
+use Rattle.replay_text.specs.Fault.{rule_text, fault_text}
 use Rattle.replay_text.specs.declared.hop.HopRow.{HopRow}
 use Rattle.replay_text.specs.declared.hop.HopState.{HopState}
 use Rattle.replay_text.specs.declared.hop.HopLine.{HopLine}
@@ -77,15 +78,6 @@ outcomes_of packet = outcomes packet.own packet.rows packet.ids
 abbrev pub packet_text : Packet → List ℕ
 packet_text packet = outcomes_text packet.line (outcomes_of packet)
 
--- the number and the name of a fault
-abbrev pub fault_text : TextFault → List ℕ
-fault_text fault.Word = codes "1 Word"
-fault_text fault.Number = codes "2 Number"
-fault_text fault.Name = codes "3 Name"
-fault_text fault.Hex = codes "4 Hex"
-fault_text fault.LineLong = codes "5 LineLong"
-fault_text fault.Memory = []
-
 abbrev pub refused_text : ℕ → List ℕ → List ℕ
 refused_text n why = codes "refused " ++ decimal n ++ codes " text " ++ why ++ 10 ∷ []
 
@@ -97,7 +89,7 @@ done_text lines packets = codes "done lines " ++ decimal lines ++ codes " packet
 abbrev pub ending : Close → (lines packets : ℕ) → Option (ℕ × TextFault) → Status × List ℕ
 ending close lines packets (Some refusal) = (InputRefused, refused_text refusal.0 (fault_text refusal.1))
 ending Ended lines packets None = (Done, done_text lines packets)
-ending Longer lines packets None = (InputRefused, refused_text (lines + 1) (codes "6 TooLong"))
+ending Longer lines packets None = (InputRefused, refused_text (lines + 1) (rule_text 6 (codes "TooLong")))
 ending Cut lines packets None = (ReadFault, [])
 
 -- a text with that in front of its report
@@ -128,5 +120,5 @@ AreAllowed state (text ∷ more) = (said : HopLine) × IsLine state text said ×
 
 -- an input that isn't too long, each line of which is allowed
 pub record IsAllowed (input : List ℕ) : Type 0 where
-  pub short : length input ≤ 67108864
+  pub short : length input ≤ TEXT_LIMIT
   pub lines : AreAllowed fresh (lines_in true input)

@@ -6,6 +6,7 @@ use Rattle.replay_run.specs.Texts.{is_short, within_limit}
 use Rattle.replay_run.specs.declared.reader.Found.{Found}
 use Rattle.replay_run.specs.declared.reader.Found.TheVariants as found
 use Rattle.replay_run.specs.declared.reader.LineReader.{LineReader}
+use Rattle.wire_base.specs.declared.limits.TheConstants.{LINE_LIMIT}
 
 -- How a reader stands when `all` was taken from its source and the lines `given` were given: it counts both, and what it
 -- holds begins after these lines, however the text goes on.
@@ -21,8 +22,8 @@ pub record Stands (all : List ℕ) (given : List (List ℕ)) (reader : LineReade
 abbrev pub Finds : List ℕ → List (List ℕ) → LineReader → Found → Type 0
 Finds all given now found.Line = Stands all (given ++ now.line ∷ []) now
 Finds all given now found.Last = (is_short all ≡ true) × (now.number ≡ length given + 1) × (lines_in true all ≡ given ++ now.line ∷ [])
-Finds all given now found.Long = (long : List ℕ) × (16384 < length long) × Stands all (given ++ long ∷ []) now
-Finds all given now found.LongLast = (is_short all ≡ true) × (now.number ≡ length given + 1) × ((long : List ℕ) × (16384 < length long) × (lines_in true all ≡ given ++ long ∷ []))
+Finds all given now found.Long = (long : List ℕ) × (LINE_LIMIT < length long) × Stands all (given ++ long ∷ []) now
+Finds all given now found.LongLast = (is_short all ≡ true) × (now.number ≡ length given + 1) × ((long : List ℕ) × (LINE_LIMIT < length long) × (lines_in true all ≡ given ++ long ∷ []))
 Finds all given now found.End = (is_short all ≡ true) × (now.number ≡ length given) × (lines_in true all ≡ given)
 Finds all given now found.TooLong = (is_short all ≡ false) × (now.number ≡ length given) × (lines_in false (within_limit all) ≡ given)
 Finds all given now found.Failed = (is_short all ≡ true) × (now.number ≡ length given) × (lines_in false all ≡ given)

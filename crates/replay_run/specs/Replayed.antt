@@ -1,14 +1,15 @@
 -- Domain files and schedules that are done to their end.
 use Rattle.std.specs.Prelude.{ℕ, ◌≡◌, ◌≤◌, true, List, [], ◌∷◌, length, None, Ok}
+use Rattle.wire_base.specs.declared.limits.TheConstants.{TEXT_LIMIT}
 use Rattle.wire_base.specs.model.Configuration.{DomainConf}
 use Rattle.replay_text.specs.declared.event.Event.{Event}
 use Rattle.replay_text.specs.declared.event.Line.{Line}
 use Rattle.replay_text.specs.Pieces.{lines_in}
-use Rattle.replay_text.specs.Schedule.{schedule_line}
-use Rattle.domain_core.specs.World.{WorldState, first_world}
-use Rattle.domain_core.specs.Step.{happens}
-use Rattle.domain_core.specs.Faults.{event_fault}
-use Rattle.domain_core.specs.Run.{line_events, world_after}
+use Rattle.replay_text.specs.ScheduleGrammar.{IsScheduleLine}
+use Rattle.domain_model.specs.World.{WorldState, first_world}
+use Rattle.domain_model.specs.Step.{happens}
+use Rattle.domain_model.specs.Faults.{event_fault}
+use Rattle.domain_model.specs.Run.{line_events, world_after}
 use Rattle.domain_conf.specs.Domain.{domain_of}
 use Rattle.domain_replay.specs.Texts.{names_of}
 
@@ -21,11 +22,11 @@ AreAllowed w (e ∷ es) = (event_fault w e ≡ None) × AreAllowed (happens w e)
 unfoldable pub AreDone : (names : List (List ℕ)) → WorldState → List (List ℕ) → Type 0
 AreDone names w [] = Unit {0}
 AreDone names w (text ∷ more) =
-    (said : Line) × (schedule_line text names ≡ Ok said) × AreAllowed w (line_events w said) × AreDone names (world_after w (line_events w said)) more
+    (said : Line) × IsScheduleLine names text said × AreAllowed w (line_events w said) × AreDone names (world_after w (line_events w said)) more
 
 -- a schedule that isn't too long, each line of which is done in that domain
 pub record IsDone (d : DomainConf) (schedule : List ℕ) : Type 0 where
-  pub short : length schedule ≤ 67108864
+  pub short : length schedule ≤ TEXT_LIMIT
   pub lines : AreDone (names_of d) (first_world d) (lines_in true schedule)
 
 -- a valid domain file, and such a schedule for its domain

@@ -4,7 +4,7 @@ use Rattle.wire_base.specs.declared.status.Status.{Status}
 use Rattle.wire_base.specs.declared.status.Status.TheVariants.{Done, InputRefused, ReadFault}
 use Rattle.wire_base.specs.model.Configuration.{DomainConf}
 use Rattle.replay_text.specs.Pieces.{lines_in}
-use Rattle.domain_core.specs.Run.{Run}
+use Rattle.domain_model.specs.Run.{Run}
 use Rattle.domain_replay.specs.Texts.{Refusal, TooLong, Reached, capture_text, run_text, run_done_text, refusal_text, schedule_reaches}
 use Rattle.replay_run.specs.Answer.{Verdict}
 use Rattle.replay_run.specs.Texts.{Close, Ended, Longer, Cut, close_of, is_short, lines_within}

@@ -1,12 +1,13 @@
 -- How far a schedule was done.
 use Rattle.std.specs.Prelude.{ℕ, ◌≡◌, ◌<◌, ◌+◌, List, [], ◌∷◌, ◌++◌, length, Option, Some, None}
 use Rattle.std.specs.Io.KnownBytes.{Appends}
+use Rattle.wire_base.specs.declared.limits.TheConstants.{LINE_LIMIT}
 use Rattle.wire_base.specs.declared.status.Status.{Status}
 use Rattle.wire_base.specs.declared.status.Status.TheVariants.{InputRefused}
 use Rattle.wire_base.specs.model.Configuration.{DomainConf}
 use Rattle.replay_text.specs.declared.event.Line.{Line}
 use Rattle.replay_text.specs.Schedule.{schedule_line}
-use Rattle.domain_core.specs.Run.{Run, line_done}
+use Rattle.domain_model.specs.Run.{Run, line_done}
 use Rattle.domain_replay.specs.Telling.{Telling, telling_of, IsRunOf}
 use Rattle.domain_replay.specs.Texts.{Refusal, Reached, refusal_text, reached_by, line_reaches, lines_reach, names_of}
 use Rattle.replay_run.specs.declared.reader.Found.{Found}
@@ -66,8 +67,8 @@ EndsWith close n lines course now (Some ended) = owed close n lines course ≡ g
 abbrev pub Turns : Found → ℕ → List ℕ → Course → Telling → Option Status → Type 0
 Turns found.Line n line course now ended = Reaches (next_reaches n course line) course now ended
 Turns found.Last n line course now ended = EndsWith Ended n (line ∷ []) course now ended
-Turns found.Long n line course now ended = (long : List ℕ) → 16384 < length long → Reaches (next_reaches n course long) course now ended
-Turns found.LongLast n line course now ended = (long : List ℕ) → 16384 < length long → Reaches (next_reaches n course long) course now ended
+Turns found.Long n line course now ended = (long : List ℕ) → LINE_LIMIT < length long → Reaches (next_reaches n course long) course now ended
+Turns found.LongLast n line course now ended = (long : List ℕ) → LINE_LIMIT < length long → Reaches (next_reaches n course long) course now ended
 Turns found.End n line course now ended = EndsWith Ended n [] course now ended
 Turns found.TooLong n line course now ended = EndsWith Longer n [] course now ended
 Turns found.Failed n line course now ended = EndsWith Cut n [] course now ended

@@ -1,13 +1,14 @@
 -- Texts that are done line by line: how much of one is read, and how it closes.
 use Rattle.std.specs.Prelude.{ℕ, Bool, true, false, nat_le, List, length, take}
 use Rattle.replay_text.specs.Pieces.{lines_in}
+use Rattle.wire_base.specs.declared.limits.TheConstants.{TEXT_LIMIT}
 
 -- A text has at most 67,108,864 octets. Of a longer one the lines are read that end within them.
 abbrev pub is_short : List ℕ → Bool
-is_short text = nat_le (length text) 67108864
+is_short text = nat_le (length text) TEXT_LIMIT
 
 unfoldable pub within_limit : List ℕ → List ℕ
-within_limit text = take 67108864 text
+within_limit text = take TEXT_LIMIT text
 
 -- the lines of a text that are read
 abbrev pub lines_within : List ℕ → List (List ℕ)

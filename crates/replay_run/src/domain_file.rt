@@ -1,5 +1,6 @@
 //! The domain file, which is read whole.
-ghost use Rattle.std.specs.Prelude.{◌≡◌, ◌≢◌, ◌<◌, IfOk, IfErr, OnOk};
+ghost use Rattle.std.specs.Prelude.{◌≡◌, ◌≢◌, ◌<◌, ◌≤◌, IfOk, IfErr, OnOk, length};
+ghost use Rattle.std.specs.Io.KnownBytes.{IsAtEnd};
 ghost use Rattle.wire_base.specs.Causes.{last_count};
 ghost use Rattle.wire_base.specs.declared.status.Status.TheVariants as status;
 ghost use Rattle.domain_conf.specs.declared.fault.ConfFault.TheVariants as faults;
@@ -11,10 +12,8 @@ use crate::whole::buffer;
 use domain_conf::{ConfFault, read_domain};
 use domain_replay::push_conf_refused;
 use std::alloc::Global;
+use wire_base::limits::DOMAIN_FILE_LIMIT;
 use wire_base::{Domain, M, Memory, Octets, Source, Status};
-
-/// How many octets a domain file may have. Of a longer one no more is read than shows it.
-const MOST: usize = 4_194_304;
 
 /// Why there is no domain.
 #[derive(Drop)]
@@ -45,12 +44,13 @@ impl From<Status> for NoDomain {
 fn read_whole<D: Source>(alloc: Global, conf: &mut D) -> Result<Octets, Status>
     requires faults { D.faults conf.old < last_count }
     ensures text { IfOk result (λ text. ReadsAs (D.left conf.old) text) }
+    ensures end { IfOk result (λ text. length text ≤ DOMAIN_FILE_LIMIT → IsAtEnd (D.left conf.new)) }
     ensures quiet { OnOk result (D.faults conf.new ≡ D.faults conf.old) }
     ensures stopped { IfErr result (λ why. StoppedBy (D.faults conf.old) (D.faults conf.new) why) }
 {
     let mut buffer = buffer(alloc)?;
     let mut text = Octets::new(alloc);
-    'pieces: while text.len() <= MOST {
+    'pieces: while text.len() <= DOMAIN_FILE_LIMIT {
         let Ok(count) = conf.read(&mut buffer) else {
             return Err(Status::ReadFault);
         };
@@ -76,6 +76,7 @@ fn refused_line(alloc: Global, why: &ConfFault) -> M<Octets>
 pub fn domain_in<D: Source>(alloc: Global, conf: &mut D) -> Result<Domain, NoDomain>
     requires faults { D.faults conf.old < last_count }
     ensures domain { IfOk result (λ domain. Says (D.left conf.old) domain) }
+    ensures end { OnOk result (IsAtEnd (D.left conf.new)) }
     ensures quiet { OnOk result (D.faults conf.new ≡ D.faults conf.old) }
     ensures none { IfErr result (λ why. HasNone (D.left conf.old) (D.faults conf.old) (D.faults conf.new) why) }
 {

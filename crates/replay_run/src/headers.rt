@@ -8,8 +8,9 @@ ghost use Rattle.wire_base.specs.model.Capture.{unread, fed, drained, next_of, e
 ghost use Rattle.replay_run.specs.HeadersText as text;
 ghost use Rattle.replay_run.specs.HopText.{behind};
 ghost use Rattle.replay_run.specs.Headers.{Took, Owes, IsOpen, lines_of};
+ghost use Rattle.replay_run.specs.HopReached.{Begins};
 ghost use Rattle.replay_run.specs.Verdict.{IsDecided};
-ghost use Rattle.replay_run.specs.Outside.{Held, Gave};
+ghost use Rattle.replay_run.specs.Outside.{Held, Gave, AppendsFront};
 
 mod line;
 
@@ -17,10 +18,8 @@ use crate::whole::{buffer, flush, write_whole};
 use line::push_record;
 use pcap_frames::Reader;
 use std::alloc::Global;
+use wire_base::limits::CAPTURE_LIMIT;
 use wire_base::{CaptureFault, Failed, M, Memory, Octets, Sink, Source, Status};
-
-/// The most octets of a capture.
-const LIMIT: usize = 268_435_456;
 
 /// How far a capture was read: its reader, the records and the headers that were done, and lines that are still to be
 /// written.
@@ -185,6 +184,7 @@ fn read_capture<S: Source, R: Sink>(
     ensures answer { IfOk result (λ a. a.0 ≢ status.ReadFault → (octets : List ℕ) × Held (S.left input.old) octets × Owes (R.written report.old) (R.written report.new) (a.0, a.1) (text.headers_answer octets)) }
     ensures stopped { IfOk result (λ a. a.0 ≡ status.ReadFault → (octets : List ℕ) × Consumes (S.left input.old) (S.left input.new) octets × IsOpen octets
         × Owes (R.written report.old) (R.written report.new) (a.0, a.1) (status.ReadFault, lines_of octets)) }
+    ensures begun { IfOk result (λ a. (octets : List ℕ) × Held (S.left input.old) octets × Begins (R.written report.old) (R.written report.new) a.1 (text.headers_answer octets).1) }
     ensures ends { IfOk result (λ a. (a.0 ≡ status.Done) ⊎ ((a.0 ≡ status.CaptureRefused) ⊎ (a.0 ≡ status.ReadFault))) }
     ensures all { IfOk result (λ a. a.0 ≡ status.Done → IsAtEnd (S.left input.new)) }
     ensures input_quiet { IfOk result (λ a. a.0 ≢ status.ReadFault → S.faults input.new ≡ S.faults input.old) }
@@ -194,6 +194,7 @@ fn read_capture<S: Source, R: Sink>(
     ensures failed { IfErr result (λ why. ((why ≡ status.WriteFault) × ((R.faults report.old < R.faults report.new) ⊎ (R.zeros report.old < R.zeros report.new)))
         ⊎ ((why ≡ status.Memory) × ((R.faults report.new ≡ R.faults report.old) × (R.zeros report.new ≡ R.zeros report.old)))) }
     ensures failed_quiet { OnErr result (S.faults input.new ≡ S.faults input.old) }
+    ensures front { OnErr result ((octets : List ℕ) × Held (S.left input.old) octets × AppendsFront (R.written report.old) (R.written report.new) (text.headers_answer octets).1) }
 {
     let mut buffer = buffer(alloc)?;
     let mut progress = Progress {
@@ -210,7 +211,7 @@ fn read_capture<S: Source, R: Sink>(
         if count == 0 {
             return Ok(conclude(progress)?);
         }
-        let fits = count.min(LIMIT - taken);
+        let fits = count.min(CAPTURE_LIMIT - taken);
         if let Err(why) = take_piece(alloc, &mut progress, &buffer[..fits]) {
             return Ok(stop_at(progress, why)?);
         }
@@ -246,6 +247,7 @@ pub fn headers<S: Source, R: Sink>(alloc: Global, input: &mut S, report: &mut R)
     // What a stop leaves.
     ensures finished { result ≢ status.WriteFault → result ≢ status.Memory → R.unfinished report.new ≡ false }
     ensures stopped { result ≡ status.ReadFault → (octets : List ℕ) × Consumes (S.left input.old) (S.left input.new) octets × IsOpen octets × Appends (R.written report.old) (R.written report.new) (lines_of octets) }
+    ensures front { (result ≡ status.WriteFault) ⊎ (result ≡ status.Memory) → (octets : List ℕ) × Held (S.left input.old) octets × AppendsFront (R.written report.old) (R.written report.new) (text.headers_answer octets).1 }
 {
     match read_capture(alloc, input, report) {
         Err(why) => why,

@@ -3,16 +3,15 @@ ghost use Rattle.std.specs.Prelude.{◌≡◌, ◌≢◌, ◌<◌, ◌≤◌, �
 ghost use Rattle.std.specs.Io.KnownBytes.{Consumes, IsAtEnd, Keeps};
 ghost use Rattle.std.specs.Str.Lines.{strip_carriage_return};
 ghost use Rattle.wire_base.specs.Causes.{last_count};
+ghost use Rattle.wire_base.specs.declared.limits.TheConstants.{TEXT_LIMIT};
 ghost use Rattle.replay_run.specs.declared.reader.Found.TheVariants as found;
 
 mod unread;
 
 use std::alloc::Global;
 use unread::{Unread, take_part};
+use wire_base::limits::TEXT_LIMIT;
 use wire_base::{Failed, M, Octets, Source};
-
-/// The most octets of a text.
-const LIMIT: usize = 67_108_864;
 
 /// How many octets of a line are kept: one more than a line may have, and its CR.
 const KEPT: usize = 16_386;
@@ -58,7 +57,7 @@ pub struct LineReader {
     taken: usize,
     over: bool,
     ghost few: { number + length unread ≤ taken },
-    ghost within: { taken ≤ 67108864 },
+    ghost within: { taken ≤ TEXT_LIMIT },
 }
 
 impl LineReader {
@@ -87,7 +86,7 @@ impl LineReader {
     /// How many lines were given.
     pub fn number(&self) -> u64
         ensures value { result ≡ self.now.number }
-        ensures few { result ≤ 67108864 }
+        ensures few { result ≤ TEXT_LIMIT }
     {
         self.number
     }
@@ -96,9 +95,9 @@ impl LineReader {
     fn refill<S: Source>(&mut self, input: &mut S) -> Result<usize, Failed>
         requires faults { S.faults input.old < last_count }
         requires read { self.old.unread ≡ [] }
-        ensures octets { IfOk result (λ count. (octets : List ℕ) × Consumes (S.left input.old) (S.left input.new) octets × (length octets ≡ count) × (self.new.unread ≡ take (67108864 - self.old.taken) octets)) }
-        ensures taken { IfOk result (λ count. self.new.taken ≡ self.old.taken + min count (67108864 - self.old.taken)) }
-        ensures over { IfOk result (λ count. self.new.over ≡ nat_lt (67108864 - self.old.taken) count) }
+        ensures octets { IfOk result (λ count. (octets : List ℕ) × Consumes (S.left input.old) (S.left input.new) octets × (length octets ≡ count) × (self.new.unread ≡ take (TEXT_LIMIT - self.old.taken) octets)) }
+        ensures taken { IfOk result (λ count. self.new.taken ≡ self.old.taken + min count (TEXT_LIMIT - self.old.taken)) }
+        ensures over { IfOk result (λ count. self.new.over ≡ nat_lt (TEXT_LIMIT - self.old.taken) count) }
         ensures line { self.new.line ≡ self.old.line }
         ensures number { self.new.number ≡ self.old.number }
         ensures end { IfOk result (λ count. count ≡ 0 → IsAtEnd (S.left input.new)) }
@@ -106,7 +105,7 @@ impl LineReader {
         ensures kept { OnErr result (Keeps (S.left input.old) (S.left input.new)) }
         ensures failed { OnErr result (S.faults input.old < S.faults input.new) }
     {
-        let room = LIMIT - self.taken;
+        let room = TEXT_LIMIT - self.taken;
         let count = self.unread.fill(input, room)?;
         self.over = count > room;
         self.taken += count.min(room);

@@ -1,5 +1,5 @@
 //! The command `replay`: a domain over a schedule.
-ghost use Rattle.std.specs.Prelude.{◌≡◌, ◌⊎◌, ◌<◌, ◌≢◌, ◌++◌, ℕ, List, false, IfOk, IfErr, OnOk, OnErr};
+ghost use Rattle.std.specs.Prelude.{◌≡◌, ◌⊎◌, ◌<◌, ◌≢◌, ◌++◌, ℕ, List, false, length, IfOk, IfErr, OnOk, OnErr};
 ghost use Rattle.std.specs.Io.KnownBytes.{IsAtEnd, Consumes, Appends};
 ghost use Rattle.wire_base.specs.Causes.{last_count};
 ghost use Rattle.wire_base.specs.declared.status.Status.TheVariants as status;
@@ -11,51 +11,49 @@ ghost use Rattle.replay_run.specs.Outside.{Held, Meets, AppendsFront};
 mod lines;
 
 use crate::reader::LineReader;
-use crate::whole::{PIECE, write_all, write_whole};
+use crate::whole::{PIECE, write_if_long, write_whole};
 use domain_replay::Replay;
 use lines::{names_in, take_found};
 use std::alloc::Global;
 use wire_base::{Domain, Failed, Sink, Source, Status};
 
-/// Writes the capture out, once there is much of it.
+/// Writes the capture out, once there is much of it. Less than one piece is left of it.
 fn flush_frames<C: Sink>(frames: &mut C, replay: &mut Replay) -> Result<(), Failed>
     requires faults { C.faults frames.old < last_count }
     requires zeros { C.zeros frames.old < last_count }
     ensures written { OnOk result ((flushed : List ℕ) × Appends (C.written frames.old) (C.written frames.new) flushed × (replay.old.frames ≡ flushed ++ replay.new.frames)) }
     ensures rest { OnOk result (replay.new ≡ record replay.old { frames = replay.new.frames }) }
+    ensures small { OnOk result (length replay.new.frames < PIECE) }
     ensures quiet { OnOk result (C.faults frames.new ≡ C.faults frames.old) }
     ensures no_zeros { OnOk result (C.zeros frames.new ≡ C.zeros frames.old) }
     ensures front { OnErr result (AppendsFront (C.written frames.old) (C.written frames.new) replay.old.frames) }
     ensures cause { OnErr result ((C.faults frames.old < C.faults frames.new) ⊎ (C.zeros frames.old < C.zeros frames.new)) }
 {
-    if replay.frames().len() < PIECE {
-        return Ok(());
+    if write_if_long(frames, replay.frames())? {
+        replay.clear_frames();
     }
-    write_all(frames, replay.frames())?;
-    replay.clear_frames();
     Ok(())
 }
 
-/// Writes the report out, once there is much of it.
+/// Writes the report out, once there is much of it. Less than one piece is left of it.
 fn flush_report<R: Sink>(report: &mut R, replay: &mut Replay) -> Result<(), Failed>
     requires faults { R.faults report.old < last_count }
     requires zeros { R.zeros report.old < last_count }
     ensures written { OnOk result ((flushed : List ℕ) × Appends (R.written report.old) (R.written report.new) flushed × (replay.old.report ≡ flushed ++ replay.new.report)) }
     ensures rest { OnOk result (replay.new ≡ record replay.old { report = replay.new.report }) }
+    ensures small { OnOk result (length replay.new.report < PIECE) }
     ensures quiet { OnOk result (R.faults report.new ≡ R.faults report.old) }
     ensures no_zeros { OnOk result (R.zeros report.new ≡ R.zeros report.old) }
     ensures front { OnErr result (AppendsFront (R.written report.old) (R.written report.new) replay.old.report) }
     ensures cause { OnErr result ((R.faults report.old < R.faults report.new) ⊎ (R.zeros report.old < R.zeros report.new)) }
 {
-    if replay.report().len() < PIECE {
-        return Ok(());
+    if write_if_long(report, replay.report())? {
+        replay.clear_report();
     }
-    write_all(report, replay.report())?;
-    replay.clear_report();
     Ok(())
 }
 
-/// Writes both texts out, each once there is much of it.
+/// Writes both texts out, each once there is much of it. Less than one piece is left of each.
 fn flush_both<C: Sink, R: Sink>(
     frames: &mut C,
     report: &mut R,
@@ -68,6 +66,7 @@ fn flush_both<C: Sink, R: Sink>(
     ensures frames { OnOk result ((flushed : List ℕ) × Appends (C.written frames.old) (C.written frames.new) flushed × (replay.old.frames ≡ flushed ++ replay.new.frames)) }
     ensures report { OnOk result ((flushed : List ℕ) × Appends (R.written report.old) (R.written report.new) flushed × (replay.old.report ≡ flushed ++ replay.new.report)) }
     ensures rest { OnOk result (replay.new ≡ record replay.old { frames = replay.new.frames; report = replay.new.report }) }
+    ensures small { OnOk result ((length replay.new.frames < PIECE) × (length replay.new.report < PIECE)) }
     ensures frames_quiet { OnOk result (C.faults frames.new ≡ C.faults frames.old) }
     ensures frames_take { OnOk result (C.zeros frames.new ≡ C.zeros frames.old) }
     ensures report_quiet { OnOk result (R.faults report.new ≡ R.faults report.old) }

@@ -47,6 +47,7 @@ fn replay<D: Source, S: Source, C: Sink, R: Sink>(
     ensures answer { IsDecided result → OnHeld form.Replay (D.left conf.old) (S.left input.old) (λ owed. Meets owed result (R.written report.old) (R.written report.new) (C.written frames.old) (C.written frames.new)) }
     ensures statuses { IsDecided result → (result ≡ status.Done) ⊎ ((result ≡ status.ConfRefused) ⊎ (result ≡ status.InputRefused)) }
     ensures all { result ≡ status.Done → IsAtEnd (S.left input.new) }
+    ensures all_of_conf { result ≡ status.Done → IsAtEnd (D.left conf.new) }
 
     // A fault is answered only where its count rose.
     ensures read { result ≡ status.ReadFault → (D.faults conf.old < D.faults conf.new) ⊎ (S.faults input.old < S.faults input.new) }
@@ -65,6 +66,7 @@ fn replay<D: Source, S: Source, C: Sink, R: Sink>(
     ensures frames_finished { result ≢ status.WriteFault → result ≢ status.Memory → (frames.new ≡ frames.old) ⊎ (C.unfinished frames.new ≡ false) }
     ensures report_finished { result ≢ status.WriteFault → result ≢ status.Memory → (report.new ≡ report.old) ⊎ (R.unfinished report.new ≡ false) }
     ensures finished { IsDecided result → R.unfinished report.new ≡ false }
+    ensures both_finished { result ≡ status.ReadFault → (D.faults conf.old < D.faults conf.new) ⊎ ((C.unfinished frames.new ≡ false) × (R.unfinished report.new ≡ false)) }
     ensures stopped { result ≡ status.ReadFault → ((D.faults conf.old < D.faults conf.new) × (input.new ≡ input.old) × (frames.new ≡ frames.old) × (report.new ≡ report.old))
         ⊎ ((D.faults conf.new ≡ D.faults conf.old) × ((domain : DomainConf) × Says (D.left conf.old) domain × ((octets : List ℕ) × Consumes (S.left input.old) (S.left input.new) octets
         × Meets (schedule_cut domain octets) result (R.written report.old) (R.written report.new) (C.written frames.old) (C.written frames.new)))) }
@@ -109,9 +111,10 @@ pub fn run<D: Source, S: Source, C: Sink, R: Sink>(
     ensures decided { D.faults conf.new ≡ D.faults conf.old → S.faults input.new ≡ S.faults input.old → C.faults frames.new ≡ C.faults frames.old → C.zeros frames.new ≡ C.zeros frames.old
         → R.faults report.new ≡ R.faults report.old → R.zeros report.new ≡ R.zeros report.old → IsDecided result ⊎ (result ≡ status.Memory) }
 
-    // When each status comes.
+    // When each status comes. Where a run is done, nothing is left of the sources that its words name.
     ensures done { result ≡ status.Done → form_in words.now ≢ form.Unknown }
     ensures done_whole { result ≡ status.Done → IsAtEnd (S.left input.new) }
+    ensures done_conf { form_in words.now ≡ form.Replay → result ≡ status.Done → IsAtEnd (D.left conf.new) }
     ensures usage { IsDecided result → ((result ≡ status.Usage) ↔ (form_in words.now ≡ form.Unknown)) }
     ensures usage_or_fault { form_in words.now ≡ form.Unknown → (result ≡ status.Usage) ⊎ (result ≡ status.WriteFault) }
     ensures conf_refused { result ≡ status.ConfRefused → form_in words.now ≡ form.Replay }
@@ -151,12 +154,13 @@ pub fn run<D: Source, S: Source, C: Sink, R: Sink>(
 
     // What a stop leaves. What was written is finished. Where the source fails, the lines or records that are whole in what
     // was taken are done and reported, none of them is refused, no fault of a capture's reader stands in it, and there is no
-    // last line. Where the domain file's source fails, nothing else is touched. At a fault of a sink a front of each text is
-    // written, and at want of memory, but in `headers`.
+    // last line; both sinks of `replay` are then finished, whether or not anything was written to them. Where the domain file's
+    // source fails, nothing else is touched. At a fault of a sink, and at want of memory, a front of each text is written.
     ensures finished { IsDecided result → R.unfinished report.new ≡ false }
     ensures replay_finished { form_in words.now ≡ form.Replay → result ≢ status.WriteFault → result ≢ status.Memory → (report.new ≡ report.old) ⊎ (R.unfinished report.new ≡ false) }
     ensures capture_finished { form_in words.now ≡ form.Replay → (result ≡ status.Done) ⊎ (result ≡ status.InputRefused) → C.unfinished frames.new ≡ false }
     ensures frames_finished { result ≢ status.WriteFault → result ≢ status.Memory → (frames.new ≡ frames.old) ⊎ (C.unfinished frames.new ≡ false) }
+    ensures replay_both_finished { form_in words.now ≡ form.Replay → result ≡ status.ReadFault → (D.faults conf.old < D.faults conf.new) ⊎ ((C.unfinished frames.new ≡ false) × (R.unfinished report.new ≡ false)) }
     ensures hop_finished { form_in words.now ≡ form.Hop → result ≡ status.ReadFault → R.unfinished report.new ≡ false }
     ensures headers_finished { form_in words.now ≡ form.Headers → result ≡ status.ReadFault → R.unfinished report.new ≡ false }
     ensures replay_stopped { form_in words.now ≡ form.Replay → result ≡ status.ReadFault → ((D.faults conf.old < D.faults conf.new) × (input.new ≡ input.old) × (frames.new ≡ frames.old) × (report.new ≡ report.old))
@@ -166,7 +170,7 @@ pub fn run<D: Source, S: Source, C: Sink, R: Sink>(
         → (octets : List ℕ) × Consumes (S.left input.old) (S.left input.new) octets × Gave (hop_cut octets) result (R.written report.old) (R.written report.new) }
     ensures headers_stopped { form_in words.now ≡ form.Headers → result ≡ status.ReadFault
         → (octets : List ℕ) × Consumes (S.left input.old) (S.left input.new) octets × IsOpen octets × Appends (R.written report.old) (R.written report.new) (lines_of octets) }
-    ensures front { form_in words.now ≢ form.Headers → (result ≡ status.WriteFault) ⊎ (result ≡ status.Memory) → OnHeld (form_in words.now) (D.left conf.old) (S.left input.old)
+    ensures front { (result ≡ status.WriteFault) ⊎ (result ≡ status.Memory) → OnHeld (form_in words.now) (D.left conf.old) (S.left input.old)
         (λ owed. AppendsFront (R.written report.old) (R.written report.new) owed.report × AppendsFront (C.written frames.old) (C.written frames.new) owed.frames) }
 
     // What the words don't name is as before, and so are the schedule and the frames where the domain file isn't accepted.

@@ -1,5 +1,5 @@
 //! Texts written whole, or from time to time.
-ghost use Rattle.std.specs.Prelude.{◌≡◌, ◌⊎◌, ◌<◌, ◌++◌, ℕ, List, false, length, IfOk, OnOk, OnErr};
+ghost use Rattle.std.specs.Prelude.{◌≡◌, ◌⊎◌, ◌<◌, ◌++◌, ℕ, List, [], false, nat_le, length, IfOk, OnOk, OnErr, if◌then◌else◌};
 ghost use Rattle.std.specs.Io.KnownBytes.{Appends};
 ghost use Rattle.wire_base.specs.Causes.{last_count};
 ghost use Rattle.wire_base.specs.declared.status.Status.TheVariants as statuses;
@@ -40,21 +40,38 @@ pub fn write_all<R: Sink>(sink: &mut R, text: &[u8]) -> Result<(), Failed>
     Ok(())
 }
 
-/// Writes lines out, once there are many.
+/// Writes a text out once it has a piece or more, and answers whether it did.
+pub fn write_if_long<R: Sink>(sink: &mut R, text: &[u8]) -> Result<bool, Failed>
+    requires faults { R.faults sink.old < last_count }
+    requires zeros { R.zeros sink.old < last_count }
+    ensures long { IfOk result (λ wrote. wrote ≡ nat_le PIECE (length text.now)) }
+    ensures written { IfOk result (λ wrote. Appends (R.written sink.old) (R.written sink.new) (if wrote then text.now else [])) }
+    ensures quiet { OnOk result (R.faults sink.new ≡ R.faults sink.old) }
+    ensures no_zeros { OnOk result (R.zeros sink.new ≡ R.zeros sink.old) }
+    ensures front { OnErr result (AppendsFront (R.written sink.old) (R.written sink.new) text.now) }
+    ensures cause { OnErr result ((R.faults sink.old < R.faults sink.new) ⊎ (R.zeros sink.old < R.zeros sink.new)) }
+{
+    if text.len() < PIECE {
+        return Ok(false);
+    }
+    write_all(sink, text)?;
+    Ok(true)
+}
+
+/// Writes lines out, once there are many. Less than one piece is left of them.
 pub fn flush<R: Sink>(report: &mut R, lines: &mut Octets) -> Result<(), Failed>
     requires faults { R.faults report.old < last_count }
     requires zeros { R.zeros report.old < last_count }
     ensures written { OnOk result ((flushed : List ℕ) × Appends (R.written report.old) (R.written report.new) flushed × (lines.old ≡ flushed ++ lines.new)) }
+    ensures small { OnOk result (length lines.new < PIECE) }
     ensures quiet { OnOk result (R.faults report.new ≡ R.faults report.old) }
     ensures no_zeros { OnOk result (R.zeros report.new ≡ R.zeros report.old) }
     ensures front { OnErr result (AppendsFront (R.written report.old) (R.written report.new) lines.old) }
     ensures cause { OnErr result ((R.faults report.old < R.faults report.new) ⊎ (R.zeros report.old < R.zeros report.new)) }
 {
-    if lines.len() < PIECE {
-        return Ok(());
+    if write_if_long(report, lines.as_slice())? {
+        lines.truncate(0);
     }
-    write_all(report, lines.as_slice())?;
-    lines.truncate(0);
     Ok(())
 }
 

@@ -3,6 +3,7 @@ use Rattle.std.proofs.Common.{◌≡◌, ℕ, zero, suc, ◌<◌, ◌≤◌, Boo
 use Rattle.std.specs.Prelude.{IfSome, IfOk, is_some, codes, option_and_then}
 use Rattle.std.specs.Str.{bytes_eq}
 use Rattle.std.proofs.lemmas.Bool.{cases_eq, cases_order, cases_Bool, eq-eqb, ne_eqb, lt-ltb, le-ltb, ltb-false}
+use Rattle.wire_base.specs.declared.limits.TheConstants.{LINE_LIMIT}
 use Rattle.wire_base.specs.declared.bsl.Bsl.{Bsl}
 use Rattle.wire_base.specs.declared.bsl.Bsl.TheVariants as lengths
 use Rattle.wire_base.specs.model.BitSet.{with_member, IsWithin}
@@ -16,7 +17,8 @@ use Rattle.replay_text.specs.declared.hop.HopLine.{HopLine}
 use Rattle.replay_text.specs.declared.hop.HopLine.TheVariants as says
 use Rattle.replay_text.specs.Reading.{or_fault, Gives}
 use Rattle.replay_text.specs.Pieces.{pieces, words_of, only_word, two_words}
-use Rattle.replay_text.specs.Tokens.{number_of, is_name}
+use Rattle.wire_base.specs.model.Configuration.{is_name}
+use Rattle.replay_text.specs.Tokens.{number_of}
 use Rattle.replay_text.specs.Ids.{id_of, in_range, ids_of, ids_after}
 use Rattle.replay_text.specs.Hop.{IsOrdered, hop_line, line_of_words, words_line, length_line, length_of, own_line, row_line, packet_line, for_own, for_rows, has_row, is_comment, length_said}
 
@@ -130,7 +132,7 @@ gives_ok P (Err e) read gives holds = tt
 
 pub line_ordered : (text : List ℕ) (state : HopState) → IfOk (hop_line text state) IsOrdered
 unfolding hop_line
-line_ordered text state = ok_if IsOrdered (ltb 16384 (length text)) _ _ tt (ok_if IsOrdered (is_comment text) _ _ tt (words (words_of text)))
+line_ordered text state = ok_if IsOrdered (ltb LINE_LIMIT (length text)) _ _ tt (ok_if IsOrdered (is_comment text) _ _ tt (words (words_of text)))
   where
     words : (ws : List (List ℕ)) → IfOk (line_of_words state ws) IsOrdered
     words [] = tt

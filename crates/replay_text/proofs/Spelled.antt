@@ -4,6 +4,7 @@ use Rattle.std.specs.Prelude.{IfOk, is_some, codes, option_and_then}
 use Rattle.std.specs.Str.{bytes_eq}
 use Rattle.std.proofs.lemmas.Bool.{cases_Bool, cases_eq, eq-eqb, ne_eqb, le-ltb, ltb-false}
 use Rattle.std.proofs.lemmas.Slice.Eq.{bytes_eq-Decides}
+use Rattle.wire_base.specs.declared.limits.TheConstants.{LINE_LIMIT}
 use Rattle.wire_base.specs.declared.bsl.Bsl.{Bsl}
 use Rattle.wire_base.specs.declared.bsl.Bsl.TheVariants as lengths
 use Rattle.wire_base.specs.model.Place.{bits_of, bsl_with}
@@ -18,22 +19,23 @@ use Rattle.replay_text.specs.declared.hop.HopLine.{HopLine}
 use Rattle.replay_text.specs.declared.hop.HopLine.TheVariants as says
 use Rattle.replay_text.specs.Reading.{or_fault, Gives}
 use Rattle.replay_text.specs.Pieces.{words_of, only_word, two_words}
-use Rattle.replay_text.specs.Tokens.{number_of, is_name}
+use Rattle.wire_base.specs.model.Configuration.{is_name}
+use Rattle.replay_text.specs.Tokens.{number_of}
 use Rattle.replay_text.specs.Ids.{id_of, in_range, ids_of}
 use Rattle.replay_text.specs.Hop.{hop_line, line_of_words, words_line, length_line, length_of, length_said, own_line, own_in, row_line, packet_line, for_own, for_rows, has_row, is_comment}
 use Rattle.replay_text.specs.Grammar.{IsPacket, IsSaid, IsLine}
 
 -- ---- steps
 
-if_ok : {X : Type 0} (P : X → Type 0) (b : Bool) (x y : Result X TextFault) → (b ≡ true → IfOk x P) → (b ≡ false → IfOk y P) → IfOk (cond b x y) P
+pub if_ok : {X : Type 0} (P : X → Type 0) (b : Bool) (x y : Result X TextFault) → (b ≡ true → IfOk x P) → (b ≡ false → IfOk y P) → IfOk (cond b x y) P
 if_ok P true x y first second = first refl
 if_ok P false x y first second = second refl
 
-then_ok : {X Y : Type 0} (P : Y → Type 0) (x : Result X TextFault) (f : X → Result Y TextFault) → ((v : X) → x ≡ Ok v → IfOk (f v) P) → IfOk (x >>= f) P
+pub then_ok : {X Y : Type 0} (P : Y → Type 0) (x : Result X TextFault) (f : X → Result Y TextFault) → ((v : X) → x ≡ Ok v → IfOk (f v) P) → IfOk (x >>= f) P
 then_ok P (Ok v) f each = each v refl
 then_ok P (Err e) f each = tt
 
-some_of : {X : Type 0} (fault : TextFault) (o : Option X) (x : X) → or_fault fault o ≡ Ok x → o ≡ Some x
+pub some_of : {X : Type 0} (fault : TextFault) (o : Option X) (x : X) → or_fault fault o ≡ Ok x → o ≡ Some x
 some_of fault None x e = absurd cc
 some_of fault (Some y) x e = cc
 
@@ -51,7 +53,7 @@ two_of (a ∷ b ∷ []) first second e = ap (λ (both : List ℕ × List ℕ). b
     is x y e = cc
 two_of (a ∷ b ∷ c ∷ more) first second e = absurd cc
 
-bits_are : (n : ℕ) (bsl : Bsl) → bsl_with n ≡ Some bsl → n ≡ bits_of bsl
+pub bits_are : (n : ℕ) (bsl : Bsl) → bsl_with n ≡ Some bsl → n ≡ bits_of bsl
 bits_are n bsl e = elim (cases_eq n 64) [
   | inl is ↦ is ∙ ap bits_of (same lengths.B64 bsl (rw (eq-eqb n 64 is) at e))
   | inr not64 ↦ elim (cases_eq n 128) [
@@ -81,7 +83,7 @@ bits_are n bsl e = elim (cases_eq n 64) [
     none : (b : Bsl) → None ≡ Some b → ⊥
     none b e = cc
 
-with_bits : (bsl : Bsl) → bsl_with (bits_of bsl) ≡ Some bsl
+pub with_bits : (bsl : Bsl) → bsl_with (bits_of bsl) ≡ Some bsl
 with_bits lengths.B64 = refl
 with_bits lengths.B128 = refl
 with_bits lengths.B256 = refl
@@ -111,7 +113,7 @@ rows_from : (own : Option ℕ) (known : Option Bsl) (bsl : Bsl) → cond (is_som
 rows_from None known bsl e = absurd cc
 rows_from (Some n) known bsl e = (refl, some_of Word known bsl e)
 
-id_is : (bound : ℕ) (text : List ℕ) (id : ℕ) → id_of bound text ≡ Some id → (number_of text ≡ Some id) × ((1 ≤ id) × (id ≤ bound))
+pub id_is : (bound : ℕ) (text : List ℕ) (id : ℕ) → id_of bound text ≡ Some id → (number_of text ≡ Some id) × ((1 ≤ id) × (id ≤ bound))
 unfolding id_of
 id_is bound text id e = go (number_of text) e
   where
@@ -229,9 +231,9 @@ words_spelled state word args =
 pub line_spelled : (text : List ℕ) (state : HopState) → IfOk (hop_line text state) (IsLine state text)
 unfolding hop_line
 line_spelled text state =
-    if_ok (IsLine state text) (ltb 16384 (length text)) _ _ (λ long. tt) (λ short.
-    if_ok (IsLine state text) (is_comment text) _ _ (λ yes. record { short = ltb-false 16384 (length text) short; says = inl (yes, refl) }) (λ no.
-    lift (line_of_words state (words_of text)) (words (words_of text)) (λ said is. record { short = ltb-false 16384 (length text) short; says = inr (no, is) })))
+    if_ok (IsLine state text) (ltb LINE_LIMIT (length text)) _ _ (λ long. tt) (λ short.
+    if_ok (IsLine state text) (is_comment text) _ _ (λ yes. record { short = ltb-false LINE_LIMIT (length text) short; says = inl (yes, refl) }) (λ no.
+    lift (line_of_words state (words_of text)) (words (words_of text)) (λ said is. record { short = ltb-false LINE_LIMIT (length text) short; says = inr (no, is) })))
   where
     words : (ws : List (List ℕ)) → IfOk (line_of_words state ws) (IsSaid state ws)
     words [] = refl
@@ -302,7 +304,7 @@ said_back state words (says.Packet bits) is =
 pub line_back : (text : List ℕ) (state : HopState) (said : HopLine) → IsLine state text said → hop_line text state ≡ Ok said
 unfolding hop_line
 line_back text state said is =
-    ap (λ (b : Bool). cond b (Err LineLong) (cond (is_comment text) (Ok says.Empty) (line_of_words state (words_of text)))) (le-ltb 16384 (length text) is.short)
+    ap (λ (b : Bool). cond b (Err LineLong) (cond (is_comment text) (Ok says.Empty) (line_of_words state (words_of text)))) (le-ltb LINE_LIMIT (length text) is.short)
     ∙ elim is.says [
       | inl comment ↦ ap (λ (b : Bool). cond b (Ok says.Empty) (line_of_words state (words_of text))) comment.0 ∙ ap (λ (l : HopLine). Ok l) (sym comment.1)
       | inr words ↦ ap (λ (b : Bool). cond b (Ok says.Empty) (line_of_words state (words_of text))) words.0 ∙ said_back state (words_of text) said words.1

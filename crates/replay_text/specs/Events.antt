@@ -4,6 +4,7 @@ use Rattle.replay_text.specs.declared.event.Event.{Event}
 use Rattle.replay_text.specs.declared.event.Event.TheVariants as event
 use Rattle.replay_text.specs.declared.event.Line.{Line}
 use Rattle.replay_text.specs.declared.event.Line.TheVariants as line
+use Rattle.wire_base.specs.declared.limits.TheConstants.{MOST_PAYLOAD, MOST_ROUNDS}
 
 -- both routers are in the domain
 pub record LinkFits (count from to : ℕ) : Type 0 where
@@ -15,7 +16,7 @@ pub record InjectFits (count router ttl entropy : ℕ) (payload : List ℕ) : Ty
   pub within : router < count
   pub ttl_left : 0 < ttl
   pub entropy_fits : entropy < 2 ^ 20
-  pub short : length payload ≤ 2000
+  pub short : length payload ≤ MOST_PAYLOAD
 
 abbrev pub EventFits : ℕ → Event → Type 0
 EventFits count (event.Inject router sd bsl ids ttl entropy payload) = InjectFits count router ttl entropy payload
@@ -31,4 +32,4 @@ EventFits count (event.Restart router) = router < count
 abbrev pub LineFits : ℕ → Line → Type 0
 LineFits count line.Empty = Unit {0}
 LineFits count (line.One e) = EventFits count e
-LineFits count (line.Settle rounds) = rounds ≤ 1000
+LineFits count (line.Settle rounds) = rounds ≤ MOST_ROUNDS

@@ -1,5 +1,6 @@
 -- The grammar of a hop text's lines: what a line spells, and where it may stand.
 use Rattle.std.specs.Prelude.{ℕ, ◌≡◌, ◌≤◌, ◌⊎◌, true, false, List, [], ◌∷◌, length, Some, None, is_some, codes}
+use Rattle.wire_base.specs.declared.limits.TheConstants.{LINE_LIMIT}
 use Rattle.wire_base.specs.declared.bsl.Bsl.{Bsl}
 use Rattle.wire_base.specs.model.Place.{bits_of}
 use Rattle.bier_bits.specs.Any.{bsl_of, positions_of}
@@ -7,7 +8,8 @@ use Rattle.replay_text.specs.declared.hop.HopState.{HopState}
 use Rattle.replay_text.specs.declared.hop.HopLine.{HopLine}
 use Rattle.replay_text.specs.declared.hop.HopLine.TheVariants as line
 use Rattle.replay_text.specs.Pieces.{words_of}
-use Rattle.replay_text.specs.Tokens.{number_of, is_name}
+use Rattle.wire_base.specs.model.Configuration.{is_name}
+use Rattle.replay_text.specs.Tokens.{number_of}
 use Rattle.replay_text.specs.Ids.{ids_of}
 use Rattle.replay_text.specs.Hop.{has_row, is_comment}
 
@@ -59,5 +61,5 @@ IsSaid state words (line.Packet bits) = IsPacket state words (bsl_of bits) (posi
 
 -- A line of at most 16,384 octets, without its line end: a comment, or words that say something here.
 pub record IsLine (state : HopState) (text : List ℕ) (said : HopLine) : Type 0 where
-  pub short : length text ≤ 16384
+  pub short : length text ≤ LINE_LIMIT
   pub says : ((is_comment text ≡ true) × (said ≡ line.Empty)) ⊎ ((is_comment text ≡ false) × IsSaid state (words_of text) said)

@@ -2,6 +2,7 @@
 use Rattle.std.specs.Prelude.{ℕ, Bool, List, [], ◌∷◌, ◌==◌, nat_lt, length, is_some, Result, Ok, Err, codes, if◌then◌else◌, Option, Some, None, false}
 use Rattle.std.specs.List.{list_any}
 use Rattle.std.specs.Str.{bytes_eq}
+use Rattle.wire_base.specs.declared.limits.TheConstants.{LINE_LIMIT}
 use Rattle.wire_base.specs.declared.bsl.Bsl.{Bsl}
 use Rattle.wire_base.specs.model.Place.{bits_of, bsl_with}
 use Rattle.wire_base.specs.model.BitSet.{IsWithin}
@@ -15,7 +16,8 @@ use Rattle.replay_text.specs.declared.hop.HopLine.TheVariants as line
 use Rattle.wire_base.specs.model.Fields.{◌>>=◌}
 use Rattle.replay_text.specs.Reading.{or_fault}
 use Rattle.replay_text.specs.Pieces.{words_of, only_word, two_words}
-use Rattle.replay_text.specs.Tokens.{number_of, is_name}
+use Rattle.wire_base.specs.model.Configuration.{is_name}
+use Rattle.replay_text.specs.Tokens.{number_of}
 use Rattle.replay_text.specs.Ids.{id_of, ids_of}
 
 abbrev pub length_said : Option Bsl → Result HopLine TextFault
@@ -89,7 +91,7 @@ is_comment (c ∷ text) = c == 35
 -- a line of at most 16,384 octets, that is no comment, by its words
 unfoldable pub hop_line : List ℕ → HopState → Result HopLine TextFault
 hop_line text state =
-    if nat_lt 16384 (length text) then Err LineLong else
+    if nat_lt LINE_LIMIT (length text) then Err LineLong else
     if is_comment text then Ok line.Empty else
     line_of_words state (words_of text)
 

@@ -1,4 +1,5 @@
 pub mod Reading
+pub mod Fault
 pub mod Pieces
 pub mod Tokens
 pub mod Ids
@@ -7,4 +8,5 @@ pub mod Grammar
 pub mod Events
 pub mod Arguments
 pub mod Schedule
+pub mod ScheduleGrammar
 pub mod Payload

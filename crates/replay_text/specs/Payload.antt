@@ -2,6 +2,7 @@
 use Rattle.std.specs.Prelude.{ℕ, ◌≡◌, ◌<◌, ◌≤◌, ◌/◌, ◌%◌, List, [], ◌∷◌, length, slice_index, Some, codes}
 use Rattle.std.specs.List.{flat_map}
 use Rattle.replay_text.specs.Arguments.{payload_of}
+use Rattle.wire_base.specs.declared.limits.TheConstants.{MOST_PAYLOAD}
 
 -- an octet as two hexadecimal digits, with lower-case letters
 abbrev pub digits_of : ℕ → List ℕ
@@ -14,4 +15,4 @@ payload_text (octet ∷ octets) = flat_map digits_of (octet ∷ octets)
 
 -- The text of at most 2,000 octets is read as them.
 abbrev pub IsPayloadReadAgain : List ℕ → Type 0
-IsPayloadReadAgain octets = ((i : ℕ) → slice_index octets i < 256) → length octets ≤ 2000 → payload_of (payload_text octets) ≡ Some octets
+IsPayloadReadAgain octets = ((i : ℕ) → slice_index octets i < 256) → length octets ≤ MOST_PAYLOAD → payload_of (payload_text octets) ≡ Some octets

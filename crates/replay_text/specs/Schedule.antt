@@ -1,6 +1,8 @@
 -- The lines of a schedule: what happens to a domain, one event a line, or some rounds of all that is due.
-use Rattle.std.specs.Prelude.{ℕ, List, [], ◌∷◌, nat_lt, length, Result, Ok, Err, codes, if◌then◌else◌}
+use Rattle.std.specs.Prelude.{ℕ, ◌≡◌, true, List, [], ◌∷◌, nat_lt, length, Result, Ok, Err, IsOk, codes, if◌then◌else◌}
+use Rattle.wire_base.specs.declared.bsl.Bsl.{Bsl}
 use Rattle.std.specs.Str.{bytes_eq}
+use Rattle.wire_base.specs.declared.limits.TheConstants.{LINE_LIMIT, MOST_ROUNDS}
 use Rattle.wire_base.specs.model.Fields.{◌>>=◌}
 use Rattle.replay_text.specs.declared.fault.TextFault.{TextFault}
 use Rattle.replay_text.specs.declared.fault.TextFault.TheVariants.{Word, LineLong}
@@ -49,6 +51,20 @@ inject_event names args = do
   payload ← payload_at entropy.1
   Ok (event.Inject router.0 sd.0 bsl.0 ids.0 ttl.0 entropy.0 payload.0)
 
+-- the same up to IDS
+unfoldable pub inject_front : List (List ℕ) → List (List ℕ) → Result (ℕ × ℕ × Bsl) TextFault
+inject_front names args = do
+  words ← counted 7 args
+  router ← name_at names words
+  sd ← number_at 255 router.1
+  bsl ← length_at sd.1
+  Ok (router.0, sd.0, bsl.0)
+
+-- Reading words takes memory for the ids and the payload of what enters, once what stands before them is right, and for nothing else.
+abbrev pub TakesMemory : (names words : List (List ℕ)) → Type 0
+TakesMemory names [] = ⊥
+TakesMemory names (word ∷ args) = (bytes_eq word (codes "inject") ≡ true) × IsOk (inject_front names args)
+
 -- the event that a word names, with the words after it
 unfoldable pub event_line : List (List ℕ) → List ℕ → List (List ℕ) → Result Event TextFault
 event_line names word args =
@@ -67,7 +83,7 @@ event_line names word args =
 unfoldable pub settle_line : List (List ℕ) → Result Line TextFault
 settle_line args = do
   words ← counted 1 args
-  rounds ← number_at 1000 words
+  rounds ← number_at MOST_ROUNDS words
   Ok (line.Settle rounds.0)
 
 unfoldable pub schedule_words : List (List ℕ) → List ℕ → List (List ℕ) → Result Line TextFault
@@ -82,6 +98,6 @@ line_of_words names (word ∷ args) = schedule_words names word args
 -- most 16,384 octets, that is no comment, by its words. The line comes without its line end.
 unfoldable pub schedule_line : List ℕ → List (List ℕ) → Result Line TextFault
 schedule_line text names =
-    if nat_lt 16384 (length text) then Err LineLong else
+    if nat_lt LINE_LIMIT (length text) then Err LineLong else
     if is_comment text then Ok line.Empty else
     line_of_words names (words_of text)

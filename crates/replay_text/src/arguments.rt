@@ -1,6 +1,7 @@
 //! The arguments of a schedule's lines. Each reading takes the text that is left, and gives the value of its first word and
 //! the text after it.
-ghost use Rattle.std.specs.Prelude.{◌≡◌, ◌≤◌, ◌<◌, ◌==◌, length, IfOk, IfSome};
+ghost use Rattle.std.specs.Prelude.{◌≡◌, ◌≢◌, ◌≤◌, ◌<◌, ◌==◌, length, IfOk, IfErr, IfSome};
+ghost use Rattle.replay_text.specs.declared.fault.TextFault.TheVariants as texts;
 ghost use Rattle.std.specs.Str.{bytes_eq};
 ghost use Rattle.replay_text.specs.Reading.{Gives};
 ghost use Rattle.replay_text.specs.Pieces.{words_of};
@@ -14,6 +15,7 @@ use crate::payload::read_payload;
 use crate::pieces::next_word;
 use crate::tokens::{number, number_to};
 use std::alloc::Global;
+use wire_base::limits::MOST_PAYLOAD;
 use wire_base::{Bsl, Name, Octets, Rows};
 
 /// Whether a text has so many words.
@@ -32,7 +34,8 @@ pub fn has_words(text: &[u8], count: usize) -> bool
 
 /// The text, where it has so many words.
 pub fn counted(text: &[u8], count: usize) -> Result<&[u8], TextFault>
-    ensures { Gives (λ text. words_of text.now) result (arguments.counted count (words_of text.now)) }
+    ensures value { Gives (λ text. words_of text.now) result (arguments.counted count (words_of text.now)) }
+    ensures quiet { IfErr result (λ why. why ≢ texts.Memory) }
 {
     if has_words(text, count) {
         Ok(text)
@@ -68,6 +71,7 @@ fn place_of(names: &[Name], word: &[u8]) -> Option<u16>
 pub fn name_at<'a>(names: &Rows<Name>, args: &'a [u8]) -> Result<(u16, &'a [u8]), TextFault>
     requires { length names.now ≤ 65536 }
     ensures value { Gives (λ found. (found.0, words_of found.1.now)) result (arguments.name_at names.now (words_of args.now)) }
+    ensures quiet { IfErr result (λ why. why ≢ texts.Memory) }
     ensures within { IfOk result (λ found. found.0 < length names.now) }
 {
     let (word, rest) = next_word(args).ok_or(TextFault::Word)?;
@@ -78,6 +82,7 @@ pub fn name_at<'a>(names: &Rows<Name>, args: &'a [u8]) -> Result<(u16, &'a [u8])
 /// A number up to the bound.
 pub fn number_at(bound: u64, args: &[u8]) -> Result<(u64, &[u8]), TextFault>
     ensures value { Gives (λ found. (found.0, words_of found.1.now)) result (arguments.number_at bound (words_of args.now)) }
+    ensures quiet { IfErr result (λ why. why ≢ texts.Memory) }
     ensures within { IfOk result (λ found. found.0 ≤ bound) }
 {
     let (word, rest) = next_word(args).ok_or(TextFault::Word)?;
@@ -93,7 +98,8 @@ fn length_from(word: &[u8]) -> Option<Bsl>
 
 /// The length of a bit string.
 pub fn length_at(args: &[u8]) -> Result<(Bsl, &[u8]), TextFault>
-    ensures { Gives (λ found. (found.0, words_of found.1.now)) result (arguments.length_at (words_of args.now)) }
+    ensures value { Gives (λ found. (found.0, words_of found.1.now)) result (arguments.length_at (words_of args.now)) }
+    ensures quiet { IfErr result (λ why. why ≢ texts.Memory) }
 {
     let (word, rest) = next_word(args).ok_or(TextFault::Word)?;
     let bsl = length_from(word).ok_or(TextFault::Number)?;
@@ -124,7 +130,7 @@ pub fn ids_at(alloc: Global, args: &[u8]) -> Result<(Rows<u16>, &[u8]), TextFaul
 /// A payload.
 pub fn payload_at(alloc: Global, args: &[u8]) -> Result<(Octets, &[u8]), TextFault>
     ensures value { Gives (λ found. (found.0, words_of found.1.now)) result (arguments.payload_at (words_of args.now)) }
-    ensures short { IfOk result (λ found. length found.0 ≤ 2000) }
+    ensures short { IfOk result (λ found. length found.0 ≤ MOST_PAYLOAD) }
 {
     let (word, rest) = next_word(args).ok_or(TextFault::Word)?;
     match read_payload(alloc, word) {

@@ -1,5 +1,6 @@
 //! One line of a hop text.
-ghost use Rattle.std.specs.Prelude.{◌≡◌, IfOk, Ok};
+ghost use Rattle.std.specs.Prelude.{◌≡◌, ◌≢◌, IfOk, IfErr, IsOk, Ok};
+ghost use Rattle.replay_text.specs.declared.fault.TextFault.TheVariants as texts;
 ghost use Rattle.wire_base.specs.model.Place.{bsl_with};
 ghost use Rattle.replay_text.specs.Reading.{Gives};
 ghost use Rattle.replay_text.specs.Pieces.{words_of};
@@ -12,10 +13,8 @@ use crate::ids::{id, read_ids};
 use crate::pieces::{next_word, only_word_of, two_words_of};
 use crate::tokens::{is_router_name, number};
 use std::alloc::Global;
+use wire_base::limits::LINE_LIMIT;
 use wire_base::{Bsl, Name};
-
-/// The most octets that a line may have, without its line end.
-pub const LINE_LIMIT: usize = 16_384;
 
 /// The length with that many bits.
 pub fn length_with(bits: u64) -> Option<Bsl>
@@ -30,7 +29,8 @@ pub fn length_with(bits: u64) -> Option<Bsl>
 /// What `bsl` says with those words after it.
 #[tactic(auto, unfolding(crate::specs::Hop::length_line))]
 fn length_line(state: &HopState, args: &[u8]) -> Result<HopLine, TextFault>
-    ensures { Gives (λ x. x) result (hop.length_line state.now (words_of args.now)) }
+    ensures value { Gives (λ x. x) result (hop.length_line state.now (words_of args.now)) }
+    ensures quiet { IfErr result (λ why. why ≢ texts.Memory) }
 {
     let text = only_word_of(args).ok_or(TextFault::Word)?;
     if state.bsl.is_some() {
@@ -45,7 +45,8 @@ fn length_line(state: &HopState, args: &[u8]) -> Result<HopLine, TextFault>
 
 /// The length, where `self` may follow.
 fn for_own(state: &HopState) -> Result<Bsl, TextFault>
-    ensures { Gives (λ x. x) result (hop.for_own state.now) }
+    ensures value { Gives (λ x. x) result (hop.for_own state.now) }
+    ensures quiet { IfErr result (λ why. why ≢ texts.Memory) }
 {
     if state.own.is_some() {
         return Err(TextFault::Word);
@@ -56,7 +57,8 @@ fn for_own(state: &HopState) -> Result<Bsl, TextFault>
 /// What `self` says with those words after it.
 #[tactic(auto, unfolding(crate::specs::Hop::own_line))]
 fn own_line(state: &HopState, args: &[u8]) -> Result<HopLine, TextFault>
-    ensures { Gives (λ x. x) result (hop.own_line state.now (words_of args.now)) }
+    ensures value { Gives (λ x. x) result (hop.own_line state.now (words_of args.now)) }
+    ensures quiet { IfErr result (λ why. why ≢ texts.Memory) }
 {
     let text = only_word_of(args).ok_or(TextFault::Word)?;
     let bsl = for_own(state)?;
@@ -69,7 +71,8 @@ fn own_line(state: &HopState, args: &[u8]) -> Result<HopLine, TextFault>
 
 /// The length, where rows or packets may follow.
 fn for_rows(state: &HopState) -> Result<Bsl, TextFault>
-    ensures { Gives (λ x. x) result (hop.for_rows state.now) }
+    ensures value { Gives (λ x. x) result (hop.for_rows state.now) }
+    ensures quiet { IfErr result (λ why. why ≢ texts.Memory) }
 {
     if state.own.is_none() {
         return Err(TextFault::Word);
@@ -86,7 +89,8 @@ fn has_row(rows: &[HopRow], id: u16) -> bool
 /// What `row` says with those words after it.
 #[tactic(auto, unfolding(crate::specs::Hop::row_line))]
 fn row_line(alloc: Global, state: &HopState, args: &[u8]) -> Result<HopLine, TextFault>
-    ensures { Gives (λ x. x) result (hop.row_line state.now (words_of args.now)) }
+    ensures value { Gives (λ x. x) result (hop.row_line state.now (words_of args.now)) }
+    ensures memory { IfErr result (λ why. why ≡ texts.Memory → IsOk (hop.row_line state.now (words_of args.now))) }
 {
     let (first, name) = two_words_of(args).ok_or(TextFault::Word)?;
     let bsl = for_rows(state)?;
@@ -107,7 +111,8 @@ fn row_line(alloc: Global, state: &HopState, args: &[u8]) -> Result<HopLine, Tex
 /// What `packet` says with those words after it.
 #[tactic(auto, unfolding(crate::specs::Hop::packet_line))]
 fn packet_line(state: &HopState, args: &[u8]) -> Result<HopLine, TextFault>
-    ensures { Gives (λ x. x) result (hop.packet_line state.now (words_of args.now)) }
+    ensures value { Gives (λ x. x) result (hop.packet_line state.now (words_of args.now)) }
+    ensures quiet { IfErr result (λ why. why ≢ texts.Memory) }
 {
     let text = only_word_of(args).ok_or(TextFault::Word)?;
     let bsl = for_rows(state)?;
@@ -122,7 +127,8 @@ fn words_line(
     word: &[u8],
     args: &[u8],
 ) -> Result<HopLine, TextFault>
-    ensures { Gives (λ x. x) result (hop.words_line state.now word.now (words_of args.now)) }
+    ensures value { Gives (λ x. x) result (hop.words_line state.now word.now (words_of args.now)) }
+    ensures memory { IfErr result (λ why. why ≡ texts.Memory → IsOk (hop.words_line state.now word.now (words_of args.now))) }
 {
     if word == b"bsl".as_slice() {
         length_line(state, args)
@@ -151,6 +157,7 @@ pub fn is_comment(line: &[u8]) -> bool
 #[tactic(auto, unfolding(crate::specs::Hop::hop_line))]
 fn line_of(alloc: Global, line: &[u8], state: &HopState) -> Result<HopLine, TextFault>
     ensures value { Gives (λ x. x) result (hop.hop_line line.now state.now) }
+    ensures memory { IfErr result (λ why. why ≡ texts.Memory → IsOk (hop.hop_line line.now state.now)) }
 {
     if line.len() > LINE_LIMIT {
         return Err(TextFault::LineLong);
@@ -169,10 +176,11 @@ fn line_of(alloc: Global, line: &[u8], state: &HopState) -> Result<HopLine, Text
 /// Refused, in this order, as `LineLong` where the line has more than 16,384 octets; as `Word` where its first word
 /// is unknown, has the wrong count of words after it, or may not stand here: `bsl L` comes first, `self K` second,
 /// then `row K NAME` lines, then `packet IDS` lines; then its arguments from left to right, as `Number` or `Name`.
-/// `Memory` may come in place of any answer.
+/// `Memory` may come in place of what a line says, and never of a refusal.
 #[tactic(auto, using(crate::proofs::Spelled::found, crate::proofs::Spelled::only, crate::proofs::Ordered::ordered))]
 pub fn read_hop_line(alloc: Global, line: &[u8], state: &HopState) -> Result<HopLine, TextFault>
     ensures value { Gives (λ x. x) result (hop.hop_line line.now state.now) }
+    ensures memory { IfErr result (λ why. why ≡ texts.Memory → IsOk (hop.hop_line line.now state.now)) }
     ensures found { IfOk result (IsLine state.now line.now) }
     ensures only { (said : HopLine) → IsLine state.now line.now said → Gives (λ x. x) result (Ok said) }
     ensures ordered { IfOk result hop.IsOrdered }

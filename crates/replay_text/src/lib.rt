@@ -1,4 +1,6 @@
 //! The lines of the program's inputs, and the texts that its reports are made of.
+//!
+//! It stands on `wire_base` and `bier_bits`, and promises what a line says or the first rule that it breaks.
 #![tactic(auto)]
 
 mod arguments;
@@ -10,16 +12,18 @@ mod ids;
 mod listed;
 mod payload;
 mod pieces;
+mod positions;
 mod schedule_line;
 mod tokens;
 
 pub use event::{Event, Line};
-pub use fault::TextFault;
+pub use fault::{TextFault, push_rule};
 pub use hop::{HopLine, HopRow, HopState};
 pub use hop_line::read_hop_line;
 pub use ids::push_ids;
 pub use payload::push_payload;
 pub use pieces::next_line;
+pub use positions::{push_positions, push_set};
 pub use schedule_line::read_line;
 
 #[cfg(test)]

@@ -9,10 +9,11 @@ ghost use Rattle.replay_text.specs.Payload.{digits_of, payload_text, IsPayloadRe
 use crate::fault::TextFault;
 use hex::FromHexError;
 use std::alloc::Global;
+use wire_base::limits::MOST_PAYLOAD;
 use wire_base::{M, Octets};
 
 /// The most digits of a payload.
-const DIGITS_LIMIT: usize = 4_000;
+const DIGITS_LIMIT: usize = 2 * MOST_PAYLOAD;
 
 const DIGITS: &[u8; 16] = b"0123456789abcdef";
 
@@ -33,7 +34,7 @@ fn octets_of_digits(alloc: Global, text: &[u8]) -> Result<Octets, TextFault>
 #[tactic(auto, unfolding(crate::specs::Arguments::payload_of))]
 pub fn read_payload(alloc: Global, text: &[u8]) -> Result<Octets, TextFault>
     ensures value { Gives (λ octets. octets) result (or_fault fault.Hex (payload_of text.now)) }
-    ensures short { IfOk result (λ octets. length octets ≤ 2000) }
+    ensures short { IfOk result (λ octets. length octets ≤ MOST_PAYLOAD) }
 {
     if text == b"-".as_slice() {
         return Ok(Octets::new(alloc));

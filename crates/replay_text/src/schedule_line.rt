@@ -1,16 +1,21 @@
 //! One line of a schedule.
-ghost use Rattle.std.specs.Prelude.{◌≡◌, ◌≤◌, ◌<◌, length, IfOk};
+ghost use Rattle.std.specs.Prelude.{◌≡◌, ◌≢◌, ◌≤◌, ◌<◌, ◌∷◌, length, IfOk, IfErr, IsOk, Ok, Err};
 ghost use Rattle.replay_text.specs.Reading.{Gives};
 ghost use Rattle.replay_text.specs.Pieces.{words_of};
 ghost use Rattle.replay_text.specs.Events.{EventFits, LineFits};
 ghost use Rattle.replay_text.specs.Schedule as schedule;
+ghost use Rattle.replay_text.specs.Schedule.{TakesMemory};
+ghost use Rattle.replay_text.specs.declared.fault.TextFault.TheVariants as texts;
+ghost use Rattle.replay_text.specs.ScheduleGrammar.{IsScheduleLine};
+ghost use Rattle.replay_text.specs.declared.event.Line.{Line};
 
 use crate::arguments::{counted, ids_at, length_at, name_at, number_at, payload_at, ttl_at};
 use crate::event::{Event, Line};
 use crate::fault::TextFault;
-use crate::hop_line::{LINE_LIMIT, is_comment};
+use crate::hop_line::is_comment;
 use crate::pieces::next_word;
 use std::alloc::Global;
+use wire_base::limits::{LINE_LIMIT, MOST_ROUNDS};
 use wire_base::{Name, Rows};
 
 /// The one router that is named.
@@ -18,6 +23,7 @@ use wire_base::{Name, Rows};
 fn router_named(names: &Rows<Name>, args: &[u8]) -> Result<u16, TextFault>
     requires { length names.now ≤ 65536 }
     ensures value { Gives (λ router. router) result (schedule.router_named names.now (words_of args.now)) }
+    ensures quiet { IfErr result (λ why. why ≢ texts.Memory) }
     ensures within { IfOk result (λ router. router < length names.now) }
 {
     let args = counted(args, 1)?;
@@ -30,6 +36,7 @@ fn router_named(names: &Rows<Name>, args: &[u8]) -> Result<u16, TextFault>
 fn link_named(names: &Rows<Name>, args: &[u8]) -> Result<(u16, u16), TextFault>
     requires { length names.now ≤ 65536 }
     ensures value { Gives (λ found. (found.0, found.1)) result (schedule.link_named names.now (words_of args.now)) }
+    ensures quiet { IfErr result (λ why. why ≢ texts.Memory) }
     ensures from { IfOk result (λ found. found.0 < length names.now) }
     ensures to { IfOk result (λ found. found.1 < length names.now) }
 {
@@ -44,6 +51,7 @@ fn link_named(names: &Rows<Name>, args: &[u8]) -> Result<(u16, u16), TextFault>
 fn frame_named(names: &Rows<Name>, args: &[u8]) -> Result<(u16, u16, u32), TextFault>
     requires { length names.now ≤ 65536 }
     ensures value { Gives (λ found. (found.0, found.1, found.2)) result (schedule.frame_named names.now (words_of args.now)) }
+    ensures quiet { IfErr result (λ why. why ≢ texts.Memory) }
     ensures from { IfOk result (λ found. found.0 < length names.now) }
     ensures to { IfOk result (λ found. found.1 < length names.now) }
 {
@@ -55,10 +63,11 @@ fn frame_named(names: &Rows<Name>, args: &[u8]) -> Result<(u16, u16, u32), TextF
 }
 
 /// What `inject` says with those words after it.
-#[tactic(auto, unfolding(crate::specs::Schedule::inject_event))]
+#[tactic(auto, unfolding(crate::specs::Schedule::inject_event, crate::specs::Schedule::inject_front))]
 fn inject_event(alloc: Global, names: &Rows<Name>, args: &[u8]) -> Result<Event, TextFault>
     requires { length names.now ≤ 65536 }
     ensures value { Gives (λ event. event) result (schedule.inject_event names.now (words_of args.now)) }
+    ensures memory { IfErr result (λ why. why ≡ texts.Memory → IsOk (schedule.inject_front names.now (words_of args.now))) }
     ensures fits { IfOk result (EventFits (length names.now)) }
 {
     let args = counted(args, 7)?;
@@ -90,6 +99,7 @@ fn event_line(
 ) -> Result<Event, TextFault>
     requires { length names.now ≤ 65536 }
     ensures value { Gives (λ event. event) result (schedule.event_line names.now word.now (words_of args.now)) }
+    ensures memory { IfErr result (λ why. why ≡ texts.Memory → TakesMemory names.now (word.now ∷ words_of args.now)) }
     ensures fits { IfOk result (EventFits (length names.now)) }
 {
     if word == b"inject".as_slice() {
@@ -127,10 +137,11 @@ fn event_line(
 #[tactic(auto, unfolding(crate::specs::Schedule::settle_line))]
 fn settle_line(args: &[u8]) -> Result<u32, TextFault>
     ensures value { Gives (λ rounds. Line.Settle rounds) result (schedule.settle_line (words_of args.now)) }
-    ensures within { IfOk result (λ rounds. rounds ≤ 1000) }
+    ensures quiet { IfErr result (λ why. why ≢ texts.Memory) }
+    ensures within { IfOk result (λ rounds. rounds ≤ MOST_ROUNDS) }
 {
     let args = counted(args, 1)?;
-    let (rounds, _) = number_at(1_000, args)?;
+    let (rounds, _) = number_at(u64::from(MOST_ROUNDS), args)?;
     Ok(rounds as u32)
 }
 
@@ -143,6 +154,7 @@ fn schedule_words(
 ) -> Result<Line, TextFault>
     requires { length names.now ≤ 65536 }
     ensures value { Gives (λ line. line) result (schedule.schedule_words names.now word.now (words_of args.now)) }
+    ensures memory { IfErr result (λ why. why ≡ texts.Memory → TakesMemory names.now (word.now ∷ words_of args.now)) }
     ensures fits { IfOk result (LineFits (length names.now)) }
 {
     if word == b"settle".as_slice() {
@@ -152,16 +164,13 @@ fn schedule_words(
     }
 }
 
-/// What a line of a schedule says in a domain whose routers have those names, in that order. The names differ; a name that
-/// stood twice would name the first router that has it. The line comes without its line end.
-///
-/// Refused, in this order, as `LineLong` where the line has more than 16,384 octets; as `Word` where its first word is unknown
-/// or has the wrong count of words after it; then its arguments from left to right, as `Name`, `Number` or `Hex`. `Memory` may
-/// come in place of any answer. What is given is an event that may be asked of that domain.
+/// The same, as the first fault or what is said.
 #[tactic(auto, unfolding(crate::specs::Schedule::schedule_line))]
-pub fn read_line(alloc: Global, line: &[u8], names: &Rows<Name>) -> Result<Line, TextFault>
+fn line_of(alloc: Global, line: &[u8], names: &Rows<Name>) -> Result<Line, TextFault>
     requires few { length names.now ≤ 65536 }
     ensures value { Gives (λ said. said) result (schedule.schedule_line line.now names.now) }
+    ensures long { LINE_LIMIT < length line.now → result ≡ Err texts.LineLong }
+    ensures memory { IfErr result (λ why. why ≡ texts.Memory → TakesMemory names.now (words_of line.now)) }
     ensures fits { IfOk result (LineFits (length names.now)) }
 {
     if line.len() > LINE_LIMIT {
@@ -174,4 +183,23 @@ pub fn read_line(alloc: Global, line: &[u8], names: &Rows<Name>) -> Result<Line,
         None => Ok(Line::Empty),
         Some((word, args)) => schedule_words(alloc, names, word, args),
     }
+}
+
+/// What a line of a schedule says in a domain whose routers have those names, in that order. The names differ; a name that
+/// stood twice would name the first router that has it. The line comes without its line end.
+///
+/// Refused, in this order, as `LineLong` where the line has more than 16,384 octets; as `Word` where its first word is unknown
+/// or has the wrong count of words after it; then its arguments from left to right, as `Name`, `Number` or `Hex`. `Memory` may
+/// come in place of any answer from the ids of an `inject` line on, and of no other. What is given is an event that may be asked of that domain.
+#[tactic(auto, using(crate::proofs::ScheduleSpelled::found, crate::proofs::ScheduleSpelled::only))]
+pub fn read_line(alloc: Global, line: &[u8], names: &Rows<Name>) -> Result<Line, TextFault>
+    requires few { length names.now ≤ 65536 }
+    ensures value { Gives (λ said. said) result (schedule.schedule_line line.now names.now) }
+    ensures long { LINE_LIMIT < length line.now → result ≡ Err texts.LineLong }
+    ensures memory { IfErr result (λ why. why ≡ texts.Memory → TakesMemory names.now (words_of line.now)) }
+    ensures found { IfOk result (IsScheduleLine names.now line.now) }
+    ensures only { (said : Line) → IsScheduleLine names.now line.now said → Gives (λ x. x) result (Ok said) }
+    ensures fits { IfOk result (LineFits (length names.now)) }
+{
+    line_of(alloc, line, names)
 }

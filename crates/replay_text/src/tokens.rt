@@ -1,8 +1,8 @@
 //! Single words: numbers and names.
 ghost use Rattle.std.specs.Prelude.{◌≡◌, ◌≤◌, IfSome};
 ghost use Rattle.std.specs.List.{list_all};
-ghost use Rattle.replay_text.specs.Tokens.{number_of, is_name};
-ghost use Rattle.replay_text.specs.Tokens as name_chars;
+ghost use Rattle.wire_base.specs.model.Configuration as configuration;
+ghost use Rattle.replay_text.specs.Tokens.{number_of};
 ghost use Rattle.replay_text.specs.Arguments as arguments;
 
 /// The number that 1 to 10 decimal digits write. None for any other text.
@@ -35,27 +35,26 @@ pub fn number_to(text: &[u8], bound: u64) -> Option<u64>
     Some(number)
 }
 
-fn is_name_char(octet: u8) -> bool
-    ensures { result ≡ name_chars.is_name_char octet }
+fn is_name_octet(octet: u8) -> bool
+    ensures { result ≡ configuration.is_name_octet octet }
 {
     octet.is_ascii_alphanumeric() || octet == b'_' || octet == b'-'
 }
 
-fn all_name_chars(text: &[u8]) -> bool
-    ensures { result ≡ list_all name_chars.is_name_char text.now }
+fn are_name_octets(text: &[u8]) -> bool
+    ensures { result ≡ list_all configuration.is_name_octet text.now }
 {
-    text.iter().all(|octet| is_name_char(*octet))
+    text.iter().all(|octet| is_name_octet(*octet))
 }
 
 /// Whether the text is a router's name: a letter, and then at most 31 letters, digits, `_` and `-`.
-#[tactic(auto, unfolding(crate::specs::Tokens::is_name))]
 pub fn is_router_name(text: &[u8]) -> bool
-    ensures { result ≡ is_name text.now }
+    ensures { result ≡ configuration.is_name text.now }
 {
     match text {
         [] => false,
         [first, rest @ ..] => {
-            first.is_ascii_alphabetic() && rest.len() <= 31 && all_name_chars(rest)
+            first.is_ascii_alphabetic() && are_name_octets(rest) && rest.len() <= 31
         }
     }
 }

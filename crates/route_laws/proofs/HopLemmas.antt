@@ -6,23 +6,23 @@ use Rattle.std.proofs.lemmas.Bool.{eqb-true, eq-eqb, ne_eqb}
 use Rattle.std.proofs.lemmas.Bool.Decides.{eqb_tells}
 use Rattle.wire_base.specs.model.Hop.{one_if, tally, about, local, Outcome, Local, Copy, Expired, NoRow, has, ids_of, distinct, is_this, copies, unless_empty, forward, hop}
 
-tally-append : {X : Type 0} (p : X → Bool) (xs ys : List X) → tally p (xs ++ ys) ≡ tally p xs + tally p ys
+pub tally-append : {X : Type 0} (p : X → Bool) (xs ys : List X) → tally p (xs ++ ys) ≡ tally p xs + tally p ys
 tally-append p [] ys = omega arith
 tally-append p (x ∷ xs) ys = omega (arith, tally-append p xs ys)
 
-tally-map : {X Y : Type 0} (p : Y → Bool) (f : X → Y) (xs : List X) → tally p (map f xs) ≡ tally (λ x. p (f x)) xs
+pub tally-map : {X Y : Type 0} (p : Y → Bool) (f : X → Y) (xs : List X) → tally p (map f xs) ≡ tally (λ x. p (f x)) xs
 tally-map p f [] = refl
 tally-map p f (x ∷ xs) = omega (arith, tally-map p f xs)
 
-tally-same : {X : Type 0} (p q : X → Bool) (xs : List X) → ((x : X) → p x ≡ q x) → tally p xs ≡ tally q xs
+pub tally-same : {X : Type 0} (p q : X → Bool) (xs : List X) → ((x : X) → p x ≡ q x) → tally p xs ≡ tally q xs
 tally-same p q [] h = refl
 tally-same p q (x ∷ xs) h = omega (arith, ap one_if (h x), tally-same p q xs h)
 
-tally-none : {X : Type 0} (p : X → Bool) (xs : List X) → ((x : X) → p x ≡ false) → tally p xs ≡ 0
+pub tally-none : {X : Type 0} (p : X → Bool) (xs : List X) → ((x : X) → p x ≡ false) → tally p xs ≡ 0
 tally-none p [] h = refl
 tally-none p (x ∷ xs) h = rw h (omega (arith, tally-none p xs h))
 
-tally-filter : {X : Type 0} (p q : X → Bool) (xs : List X) → tally p (filter q xs) ≡ tally (λ x. p x && q x) xs
+pub tally-filter : {X : Type 0} (p q : X → Bool) (xs : List X) → tally p (filter q xs) ≡ tally (λ x. p x && q x) xs
 tally-filter p q [] = refl
 tally-filter {X} p q (x ∷ xs) = go (q x) (tally-filter p q xs)
   where
@@ -30,7 +30,7 @@ tally-filter {X} p q (x ∷ xs) = go (q x) (tally-filter p q xs)
     go true i = omega (arith, ap one_if (and-true (p x)), i)
     go false i = omega (arith, ap one_if (and-false (p x)), i)
 
-has-filter : (p : ℕ → Bool) (ids : List ℕ) (k : ℕ) → has (filter p ids) k ≡ (has ids k && p k)
+pub has-filter : (p : ℕ → Bool) (ids : List ℕ) (k : ℕ) → has (filter p ids) k ≡ (has ids k && p k)
 has-filter p [] k = refl
 has-filter p (j ∷ ids) k = go (j == k) (p j) refl refl (has-filter p ids k)
   where
@@ -41,7 +41,7 @@ has-filter p (j ∷ ids) k = go (j == k) (p j) refl refl (has-filter p ids k)
     go false false q r i = i
 
 -- each element is once in the list of the distinct ones
-distinct-once : (xs : List ℕ) (x : ℕ) → tally (λ y. y == x) (distinct xs) ≡ one_if (has xs x)
+pub distinct-once : (xs : List ℕ) (x : ℕ) → tally (λ y. y == x) (distinct xs) ≡ one_if (has xs x)
 distinct-once [] x = refl
 distinct-once (z ∷ xs) x =
     elim (eqb_tells z x) [
@@ -69,7 +69,7 @@ distinct-once (z ∷ xs) x =
           | inr t ↦ rw t.0 refl
         ]
 
-has-filter_map : (choose : ℕ → Option ℕ) (ids : List ℕ) (k x : ℕ) → choose k ≡ Some x → has ids k ≡ true → has (filter_map choose ids) x ≡ true
+pub has-filter_map : (choose : ℕ → Option ℕ) (ids : List ℕ) (k x : ℕ) → choose k ≡ Some x → has ids k ≡ true → has (filter_map choose ids) x ≡ true
 has-filter_map choose [] k x q h = cc
 has-filter_map choose (j ∷ ids) k x q h =
     elim (eqb_tells j k) [

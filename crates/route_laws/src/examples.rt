@@ -3,7 +3,7 @@ ghost use Rattle.wire_base.specs.model.Graph.{IsGraph, owner};
 ghost use Rattle.wire_base.specs.model.Walk.{dist};
 ghost use Rattle.wire_base.specs.model.Tight.{tight_from, next_step};
 ghost use Rattle.wire_base.specs.model.Supporting.{firsts};
-ghost use Rattle.wire_base.specs.model.Choice.{candidates, choose, choose_direct, is_direct};
+ghost use Rattle.wire_base.specs.model.Choice.{candidates, choose, is_direct};
 ghost use Rattle.wire_base.specs.model.HopCount.{hops, tunnel_links};
 ghost use Rattle.wire_base.specs.model.Hop.{hop, Local, Copy, Expired, NoRow};
 ghost use Rattle.route_laws.specs.Examples.{ring, fork, line, tie, one_way, to_two, supports, kinds, triple};
@@ -22,12 +22,11 @@ pub fn ring_has_two_ways()
 {}
 
 /// In the fork the first supporting router toward C lies behind a router without BIER, so a tunnel leads to it.
-#[tactic(auto, unfolding(wire_base::specs::model::Walk::dist, wire_base::specs::model::Graph::owner, wire_base::specs::model::Graph::covers, wire_base::specs::model::Tight::tight_from, wire_base::specs::model::Tight::next_step, wire_base::specs::model::Supporting::firsts, wire_base::specs::model::Choice::candidates, wire_base::specs::model::Choice::choice, wire_base::specs::model::Choice::direct_choice, wire_base::specs::model::Choice::is_direct, wire_base::specs::model::HopCount::hops, wire_base::specs::model::HopCount::tunnel_links))]
+#[tactic(auto, unfolding(wire_base::specs::model::Walk::dist, wire_base::specs::model::Graph::owner, wire_base::specs::model::Graph::covers, wire_base::specs::model::Tight::tight_from, wire_base::specs::model::Tight::next_step, wire_base::specs::model::Supporting::firsts, wire_base::specs::model::Choice::candidates, wire_base::specs::model::Choice::choice, wire_base::specs::model::Choice::is_direct, wire_base::specs::model::HopCount::hops, wire_base::specs::model::HopCount::tunnel_links))]
 pub fn fork_needs_a_tunnel()
     ensures firsts { firsts fork (supports fork) 2 0 ≡ 2 ∷ [] }
     ensures direct { is_direct fork 0 2 ≡ false }
     ensures choice { choose fork kinds [] triple 5 0 3 ≡ Some 2 }
-    ensures without_tunnels { choose_direct fork kinds [] triple 5 0 3 ≡ None }
     ensures next { next_step fork 2 0 ≡ Some 1 }
     ensures links { tunnel_links fork 2 0 ≡ Some 2 }
     ensures hops { hops fork kinds [] triple 5 3 0 ≡ Some 1 }

@@ -2,6 +2,7 @@
 use Rattle.std.proofs.Common.{◌≡◌, ◌∙◌, ℕ, zero, suc, ◌+◌, ◌/◌, ◌<◌, ◌≤◌, Bool, true, false, List, [], ◌∷◌, ◌++◌, length, drop, max, map, filter, slice_index_or, if◌then◌else◌, refl, sym, ap, arith, length-append, length-drop}
 use Rattle.std.proofs.lemmas.Bool.{false≢true}
 use Rattle.std.proofs.lemmas.List.{length-map}
+use Rattle.wire_base.specs.declared.limits.TheConstants.{MOST_LISTED}
 use Rattle.wire_base.specs.declared.addresses.LspId.{LspId}
 use Rattle.wire_base.specs.declared.entry.Entry.{Entry}
 use Rattle.wire_base.specs.declared.triple.Summary.{Summary}
@@ -10,13 +11,13 @@ use Rattle.wire_base.specs.model.Flooding.{send_of, csnps, due_csnps, due_lsps, 
 use Rattle.wire_base.specs.model.Lists.{blocks, blocks_within}
 
 -- so many blocks of 90 hold a list
-blocks_many : {X : Type 0} (m : ℕ) (xs : List X) → length xs ≤ m → length (blocks_within m 90 xs) ≡ (length xs + 89) / 90
+blocks_many : {X : Type 0} (m : ℕ) (xs : List X) → length xs ≤ m → length (blocks_within m MOST_LISTED xs) ≡ (length xs + 89) / 90
 blocks_many zero [] h = refl
 blocks_many zero (x ∷ xs) h = omega (arith, h)
 blocks_many (suc m) [] h = refl
 blocks_many (suc m) (x ∷ xs) h =
-    let l = length-drop 90 (x ∷ xs) in
-    let more = blocks_many m (drop 90 (x ∷ xs)) (omega (arith, h, l)) in
+    let l = length-drop MOST_LISTED (x ∷ xs) in
+    let more = blocks_many m (drop MOST_LISTED (x ∷ xs)) (omega (arith, h, l)) in
     omega (arith, more, l)
 
 csnps_many : (c : Control) (start : LspId) (bs : List (List Summary)) → length (csnps c start bs) ≡ max (length bs) 1
@@ -27,7 +28,7 @@ csnps_many c start (b ∷ n ∷ more) = omega (arith, csnps_many c (id_after (la
 due_many : (c : Control) (due : Bool) → length (due_csnps c due) ≡ (if due then max ((length (filter is_known c.entries) + 89) / 90) 1 else 0)
 due_many c false = refl
 due_many c true =
-    csnps_many c zero_id (blocks 90 (map summary_of (filter is_known c.entries)))
+    csnps_many c zero_id (blocks MOST_LISTED (map summary_of (filter is_known c.entries)))
     ∙ ap (λ n. max n 1) (blocks_many (length (map summary_of (filter is_known c.entries))) (map summary_of (filter is_known c.entries)) (omega arith) ∙ ap (λ n. (n + 89) / 90) (length-map (filter is_known c.entries) summary_of))
 
 pub how_many : (c : Control) (link : ℕ)
@@ -38,7 +39,7 @@ how_many c link =
     let b = length-append (due_lsps c link) (due_psnps c link) in
     let d = due_many c (slice_index_or c.flood.due link false) in
     let e = length-map (filter (λ e. srm c.flood e.id link) c.entries) lsp_of in
-    let f = length-map (blocks 90 (map summary_of (filter (λ e. ssn c.flood e.id link) c.entries))) (psnp_of c) in
+    let f = length-map (blocks MOST_LISTED (map summary_of (filter (λ e. ssn c.flood e.id link) c.entries))) (psnp_of c) in
     let g = blocks_many (length (map summary_of (filter (λ e. ssn c.flood e.id link) c.entries))) (map summary_of (filter (λ e. ssn c.flood e.id link) c.entries)) (omega arith) in
     let h = length-map (filter (λ e. ssn c.flood e.id link) c.entries) summary_of in
     omega (arith, a, b, d, e, f, ap (λ n. (n + 89) / 90) h, g)

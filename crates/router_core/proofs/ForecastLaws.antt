@@ -5,6 +5,7 @@ use Rattle.std.proofs.lemmas.List.{length-map}
 use Rattle.std.proofs.lemmas.List.Edits.{length-insert}
 use Rattle.std.proofs.lemmas.List.Folds.{list_any-append}
 use Rattle.std.specs.List.{fold, list_any}
+use Rattle.wire_base.specs.declared.limits.TheConstants.{MOST_ENTRIES}
 use Rattle.wire_base.specs.declared.addresses.LspId.{LspId}
 use Rattle.wire_base.specs.declared.addresses.SystemId.{SystemId}
 use Rattle.wire_base.specs.declared.entry.Age.{Age}
@@ -293,17 +294,17 @@ full_is link spent f es rows order =
     (record { full = refl; long = omega arith; known = λ id. sym (all_and (is_new es id)); order = order })).full
 
 -- a list that can't fill the database
-few_full : (es : List Entry) (rows : List Summary) (look : Look) → length es + length look.added + length rows ≤ 4096 → (fold (looked es) look rows).full ≡ look.full
+few_full : (es : List Entry) (rows : List Summary) (look : Look) → length es + length look.added + length rows ≤ MOST_ENTRIES → (fold (looked es) look rows).full ≡ look.full
 unfolding looked
 few_full es [] look few = refl
 few_full es (s ∷ rows) look few = cases (is_wanted es look.added s) (nat_le most_entries (length es + length look.added)) refl (few_full es rows)
   where
-    cases : (wants full : Bool) → nat_le most_entries (length es + length look.added) ≡ full → ((l : Look) → length es + length l.added + length rows ≤ 4096 → (fold (looked es) l rows).full ≡ l.full)
+    cases : (wants full : Bool) → nat_le most_entries (length es + length look.added) ≡ full → ((l : Look) → length es + length l.added + length rows ≤ MOST_ENTRIES → (fold (looked es) l rows).full ≡ l.full)
         → (fold (looked es) (if wants then (if full then record look { full = look.full + 1 } else record look { added = look.added ++ s.id ∷ [] }) else look) rows).full ≡ look.full
     cases true true is again = absurd (omega (arith, few, leb-true most_entries (length es + length look.added) is))
     cases true false is again = again (record look { added = look.added ++ s.id ∷ [] }) (omega (arith, few, length-append look.added (s.id ∷ [])))
     cases false full is again = again look (omega (arith, few))
 
-pub none_full : (es : List Entry) (rows : List Summary) → length es + length rows ≤ 4096 → 0 ≡ count_full es rows
+pub none_full : (es : List Entry) (rows : List Summary) → length es + length rows ≤ MOST_ENTRIES → 0 ≡ count_full es rows
 unfolding count_full
 none_full es rows few = sym (few_full es rows (record { added = []; full = 0 }) (omega (arith, few)))

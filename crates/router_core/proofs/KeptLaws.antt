@@ -3,6 +3,7 @@
 use Rattle.std.proofs.Common.{◌≡◌, ◌∙◌, ℕ, ◌+◌, ◌<◌, ◌≤◌, ◌&&◌, ◌||◌, not, ◌==◌, nat_lt, Bool, true, false, List, [], ◌∷◌, length, set, get_or, Option, Some, None, if◌then◌else◌, refl, sym, ap, subst, arith}
 use Rattle.std.proofs.lemmas.Bool.{false≢true, true≢false}
 use Rattle.std.specs.List.{AllByRecursion, fold}
+use Rattle.wire_base.specs.declared.limits.TheConstants.{MOST_CONTENT}
 use Rattle.wire_base.specs.declared.addresses.SystemId.{SystemId}
 use Rattle.wire_base.specs.declared.addresses.LspId.{LspId}
 use Rattle.wire_base.specs.declared.entry.Age.{Age}
@@ -12,7 +13,7 @@ use Rattle.wire_base.specs.declared.flood_out.FloodOut.{FloodOut}
 use Rattle.wire_base.specs.declared.flood_out.FloodOut.TheVariants as out
 use Rattle.wire_base.specs.declared.triple.Summary.{Summary}
 use Rattle.wire_base.specs.model.Pdu.{Head, head_summary}
-use Rattle.wire_base.specs.model.Control.{same_id, same_system, fragment_0, entry_in, put_entry, purge, seq_of, age_of, age_by_life, is_unknown, is_newer, is_full, FlagRow, no_flags, Flood, IsFlood, IsFlagRow, HasEntry}
+use Rattle.wire_base.specs.model.Control.{same_id, same_system, fragment_0, entry_in, put_entry, purge, seq_of, age_of, age_by_life, is_unknown, is_newer_or_confused, is_full, FlagRow, no_flags, Flood, IsFlood, IsFlagRow, HasEntry}
 use Rattle.wire_base.specs.model.Flooding.{with_row, no_links, send_on, ask_on, set_srm, mark_all, kept, stores, puts_marked, only_says, flags_alone, lsp_aged, is_stray, is_own_ahead, lsp_in, on_lsp, LspAnswer, SnpAnswer, with_flags, wanted, asks, is_live_summary, listed_aged, on_listed, on_list, lacks, send_lacking, on_csnp, on_psnp}
 use Rattle.wire_base.specs.model.Tlv.{rows_of}
 use Rattle.router_core.specs.State.{IsShort}
@@ -134,7 +135,7 @@ module _ (own : SystemId) (up : List Bool) (spent : Bool) (f : Flood) (es : List
     flags_kept : (id : LspId) (change : FlagRow → FlagRow) → HasId es id → KeepsRow f.up change → LspKept own up spent (flags_alone (with_row f id change) es)
     flags_kept id change has keeps = record { kept = row_kept own up spent f es id change k has keeps; asked = λ s q. cc }
 
-    module _ (h : Head) (tlvs : List ℕ) (short : length tlvs ≤ 1470) where
+    module _ (h : Head) (tlvs : List ℕ) (short : length tlvs ≤ MOST_CONTENT) where
       kept_short : (b : Bool) → IsShort (if b then purge h.id h.seq else record { id = h.id; seq = h.seq; life = h.life; hold = 0; sum = h.sum; flags = h.flags; content = tlvs })
       kept_short true = omega arith
       kept_short false = short
@@ -144,7 +145,7 @@ module _ (own : SystemId) (up : List Bool) (spent : Bool) (f : Flood) (es : List
       kept_id false = refl
 
       abbrev Free : Age → Type 0
-      Free age = spent ≡ false → same_id h.id (fragment_0 own) ≡ true → (is_unknown age || is_newer age) ≡ false
+      Free age = spent ≡ false → same_id h.id (fragment_0 own) ≡ true → (is_unknown age || is_newer_or_confused age) ≡ false
 
       passed : Free Newer → LspKept own up spent (stores f es link (kept h tlvs))
       passed free =
@@ -164,21 +165,21 @@ module _ (own : SystemId) (up : List Bool) (spent : Bool) (f : Flood) (es : List
       aged_kept Older is free = flags_kept h.id (send_on link) (has_aged (entry_in es h.id) (head_summary h) Older is refl) (keeps_send f.up link there)
 
       -- the own one, where the router isn't spent, is known and not newer, or it is to be issued anew
-      not_own : (s b : Bool) (age : Age) → spent ≡ false → s ≡ true → (s && (not spent && is_newer age)) ≡ b → b ≡ false → is_newer age ≡ false
-      not_own true b age unspent same is free = ap (λ (x : Bool). not x && is_newer age) (sym unspent) ∙ is ∙ free
+      not_own : (s b : Bool) (age : Age) → spent ≡ false → s ≡ true → (s && (not spent && is_newer_or_confused age)) ≡ b → b ≡ false → is_newer_or_confused age ≡ false
+      not_own true b age unspent same is free = ap (λ (x : Bool). not x && is_newer_or_confused age) (sym unspent) ∙ is ∙ free
       not_own false b age unspent same is free = absurd (false≢true same)
 
       freed : (age : Age) → age ≡ age_of (entry_in es h.id) (head_summary h) → is_own_ahead f h.id spent age ≡ false → Free age
       freed age is ahead unspent same =
           let known : is_unknown age ≡ false = own_known own spent es h.id (head_summary h) age k.stands is unspent same in
-          ap (λ (b : Bool). b || is_newer age) known ∙ not_own (same_id h.id (fragment_0 f.own)) false age unspent (ap (λ (o : SystemId). same_id h.id (fragment_0 o)) k.own_is ∙ same) ahead refl
+          ap (λ (b : Bool). b || is_newer_or_confused age) known ∙ not_own (same_id h.id (fragment_0 f.own)) false age unspent (ap (λ (o : SystemId). same_id h.id (fragment_0 o)) k.own_is ∙ same) ahead refl
 
-      strays : (t : Bool) (live : Bool) (age : Age) → (t && (live && (is_unknown age || is_newer age))) ≡ true → (is_unknown age || is_newer age) ≡ true
+      strays : (t : Bool) (live : Bool) (age : Age) → (t && (live && (is_unknown age || is_newer_or_confused age))) ≡ true → (is_unknown age || is_newer_or_confused age) ≡ true
       strays true true age h = h
       strays true false age h = absurd (false≢true h)
       strays false live age h = absurd (false≢true h)
 
-      ahead_unspent : (s u : Bool) (age : Age) → (s && (not u && is_newer age)) ≡ true → u ≡ false
+      ahead_unspent : (s u : Bool) (age : Age) → (s && (not u && is_newer_or_confused age)) ≡ true → u ≡ false
       ahead_unspent true true age h = absurd (false≢true h)
       ahead_unspent true false age h = refl
       ahead_unspent false u age h = absurd (false≢true h)
@@ -196,7 +197,7 @@ module _ (own : SystemId) (up : List Bool) (spent : Bool) (f : Flood) (es : List
               (λ unspent same. absurd (true≢false (sym (strays (same_system h.id.system f.own) (nat_lt 0 h.life) age q) ∙ freed age is p unspent same)))
           cases false false false full p q = aged_kept age is (freed age is p)
 
-pub lsp_kept : (own : SystemId) (up : List Bool) (spent : Bool) (f : Flood) (es : List Entry) → Kept own up spent f es → (link : ℕ) → get_or up link false ≡ true → (h : Head) (tlvs : List ℕ) → length tlvs ≤ 1470
+pub lsp_kept : (own : SystemId) (up : List Bool) (spent : Bool) (f : Flood) (es : List Entry) → Kept own up spent f es → (link : ℕ) → get_or up link false ≡ true → (h : Head) (tlvs : List ℕ) → length tlvs ≤ MOST_CONTENT
     → LspKept own up spent (on_lsp f es link h tlvs spent)
 unfolding on_lsp
 lsp_kept own up spent f es k link open_ h tlvs short = lsp_in_kept own up spent f es k link open_ h tlvs short (age_of (entry_in es h.id) (head_summary h)) refl

@@ -4,6 +4,7 @@ pub mod EntryLaws
 pub mod EventLaws
 pub mod FlagLaws
 pub mod ForecastLaws
+pub mod IdleLaws
 pub mod KeptLaws
 pub mod OwnLaws
 pub mod ReceivedLaws

@@ -6,6 +6,7 @@ use Rattle.std.proofs.lemmas.List.{length-take-le}
 use Rattle.std.specs.Prelude.{option_map}
 use Rattle.byteorder.specs.Endian.{big_bytes}
 use Rattle.byteorder.specs.Numbers.{length-bytes_high_first}
+use Rattle.wire_base.specs.declared.limits.TheConstants.{MOST_CONTENT}
 use Rattle.wire_base.specs.declared.addresses.SystemId.{SystemId}
 use Rattle.wire_base.specs.declared.addresses.LspId.{LspId}
 use Rattle.wire_base.specs.declared.cause.Cause.TheVariants as cause
@@ -103,7 +104,7 @@ module _ (r : RouterConf) (f : Flood) (es : List Entry) (spent : Bool) (k : IsRo
   stays : (f' : Flood) (es' : List Entry) → Kept r.system f.up spent f' es' → IsDatabase es' → IsRouter (control_of r f' es' spent)
   stays f' es' kept database = router_of r f.up spent f' es' k.sound k.control.links kept database
 
-  module _ (h : Head) (tlvs : List ℕ) (short : length tlvs ≤ 1470) (f' : Flood) (es' : List Entry) (answer : FloodOut) (is : on_lsp f es link h tlvs spent ≡ record { flood = f'; entries = es'; answer = answer }) where
+  module _ (h : Head) (tlvs : List ℕ) (short : length tlvs ≤ MOST_CONTENT) (f' : Flood) (es' : List Entry) (answer : FloodOut) (is : on_lsp f es link h tlvs spent ≡ record { flood = f'; entries = es'; answer = answer }) where
     lsp_is : LspKept r.system f.up spent (record { flood = f'; entries = es'; answer = answer })
     lsp_is = subst (λ (a : LspAnswer). LspKept r.system f.up spent a) is (lsp_kept r.system f.up spent f es whole link open_ h tlvs short)
 

@@ -4,6 +4,7 @@ use Rattle.std.proofs.lemmas.List.{append-nil, length-take-le, take_all, drop_al
 use Rattle.std.specs.List.{AllByRecursion, flat_map}
 use Rattle.byteorder.specs.Endian.{big_bytes}
 use Rattle.byteorder.specs.Numbers.{length-bytes_high_first}
+use Rattle.wire_base.specs.declared.limits.TheConstants.{MOST_LISTED}
 use Rattle.wire_base.specs.declared.addresses.SystemId.{SystemId}
 use Rattle.wire_base.specs.declared.addresses.LspId.{LspId}
 use Rattle.wire_base.specs.declared.conf.Level.{Level}
@@ -34,17 +35,17 @@ listed_within (suc m) (s ∷ rows) h all =
     let few = length-take 15 (s ∷ rows) in
     omega (arith, first, more, one, few, length-drop 15 (s ∷ rows))
 
-pub rows_short : (rows : List Summary) → length rows ≤ 90 → AllByRecursion SummaryFits rows → length (row_tlvs rows) ≤ 1452
+pub rows_short : (rows : List Summary) → length rows ≤ MOST_LISTED → AllByRecursion SummaryFits rows → length (row_tlvs rows) ≤ 1452
 unfolding row_tlvs
 rows_short rows few all = omega (arith, listed_within (length rows) rows (omega arith) all, few)
 
-pub psnp_short : (level : Level) (source : SystemId) (rows : List Summary) (octets : List ℕ) → octets ≡ psnp level source (row_tlvs rows) → length source.0 ≡ 6 → length rows ≤ 90 → AllByRecursion SummaryFits rows → length octets ≤ 1497
+pub psnp_short : (level : Level) (source : SystemId) (rows : List Summary) (octets : List ℕ) → octets ≡ psnp level source (row_tlvs rows) → length source.0 ≡ 6 → length rows ≤ MOST_LISTED → AllByRecursion SummaryFits rows → length octets ≤ 1497
 psnp_short level source rows octets is six few all =
     let a = length-append (big_bytes 2 (17 + length (row_tlvs rows))) (source.0 ++ (0 ∷ row_tlvs rows)) in
     let b = length-append source.0 (0 ∷ row_tlvs rows) in
     omega (arith, ap length is, a, b, six, length-bytes_high_first 2 (17 + length (row_tlvs rows)), rows_short rows few all)
 
-pub csnp_short : (level : Level) (source : SystemId) (start last : LspId) (rows : List Summary) (octets : List ℕ) → octets ≡ csnp level source start last (row_tlvs rows) → length source.0 ≡ 6 → length start.system.0 ≡ 6 → length last.system.0 ≡ 6 → length rows ≤ 90 → AllByRecursion SummaryFits rows → length octets ≤ 1497
+pub csnp_short : (level : Level) (source : SystemId) (start last : LspId) (rows : List Summary) (octets : List ℕ) → octets ≡ csnp level source start last (row_tlvs rows) → length source.0 ≡ 6 → length start.system.0 ≡ 6 → length last.system.0 ≡ 6 → length rows ≤ MOST_LISTED → AllByRecursion SummaryFits rows → length octets ≤ 1497
 csnp_short level source start last rows octets is six first second few all =
     let a = length-append (big_bytes 2 (33 + length (row_tlvs rows))) (source.0 ++ (0 ∷ (lsp_id start ++ (lsp_id last ++ row_tlvs rows)))) in
     let b = length-append source.0 (0 ∷ (lsp_id start ++ (lsp_id last ++ row_tlvs rows))) in
@@ -64,22 +65,22 @@ last_is id (r ∷ []) (suc n) d long = absurd (omega (arith, long))
 last_is id (r ∷ t ∷ rows) zero d long = absurd (omega (arith, long))
 last_is id (r ∷ t ∷ rows) (suc n) d long = last_is r.id (t ∷ rows) n d (omega (arith, long))
 
-csnps_more : (c : Control) (start : LspId) (block rest : List Summary) → 0 < length rest → csnps c start (block ∷ blocks 90 rest) ≡ csnp_of c start (last_listed start block) block ∷ csnps c (id_after (last_listed start block)) (blocks 90 rest)
+csnps_more : (c : Control) (start : LspId) (block rest : List Summary) → 0 < length rest → csnps c start (block ∷ blocks MOST_LISTED rest) ≡ csnp_of c start (last_listed start block) block ∷ csnps c (id_after (last_listed start block)) (blocks MOST_LISTED rest)
 csnps_more c start block [] some = absurd (omega (arith, some))
 csnps_more c start block (s ∷ rest) some = refl
 
-csnps_cut : (c : Control) (start : LspId) (rest : List Summary) → 90 < length rest → csnps c start (blocks 90 rest) ≡ csnp_of c start (last_listed start (take 90 rest)) (take 90 rest) ∷ csnps c (id_after (last_listed start (take 90 rest))) (blocks 90 (drop 90 rest))
+csnps_cut : (c : Control) (start : LspId) (rest : List Summary) → MOST_LISTED < length rest → csnps c start (blocks MOST_LISTED rest) ≡ csnp_of c start (last_listed start (take MOST_LISTED rest)) (take MOST_LISTED rest) ∷ csnps c (id_after (last_listed start (take MOST_LISTED rest))) (blocks MOST_LISTED (drop MOST_LISTED rest))
 csnps_cut c start rest more =
-    ap (λ (bs : List (List Summary)). csnps c start bs) (blocks_step 90 90 rest (omega arith) (omega (arith, more)) (omega (arith, more)))
-    ∙ csnps_more c start (take 90 rest) (drop 90 rest) (omega (arith, more, length-drop 90 rest))
+    ap (λ (bs : List (List Summary)). csnps c start bs) (blocks_step MOST_LISTED MOST_LISTED rest (omega arith) (omega (arith, more)) (omega (arith, more)))
+    ∙ csnps_more c start (take MOST_LISTED rest) (drop MOST_LISTED rest) (omega (arith, more, length-drop MOST_LISTED rest))
 
-csnps_last : (c : Control) (start : LspId) (rest : List Summary) → length rest ≤ 90 → csnps c start (blocks 90 rest) ≡ csnp_of c start last_id rest ∷ []
+csnps_last : (c : Control) (start : LspId) (rest : List Summary) → length rest ≤ MOST_LISTED → csnps c start (blocks MOST_LISTED rest) ≡ csnp_of c start last_id rest ∷ []
 csnps_last c start [] few = refl
 csnps_last c start (s ∷ rest) few =
     ap (λ (bs : List (List Summary)). csnps c start bs)
-    (blocks_step 90 (length (s ∷ rest)) (s ∷ rest) (omega arith) (omega arith) (omega (arith, few))
-    ∙ ap (λ (l : List Summary). l ∷ blocks 90 (drop (length (s ∷ rest)) (s ∷ rest))) (take_all (length (s ∷ rest)) (s ∷ rest) (omega arith))
-    ∙ ap (λ (l : List Summary). (s ∷ rest) ∷ blocks 90 l) (drop_all (length (s ∷ rest)) (s ∷ rest) (omega arith)))
+    (blocks_step MOST_LISTED (length (s ∷ rest)) (s ∷ rest) (omega arith) (omega arith) (omega (arith, few))
+    ∙ ap (λ (l : List Summary). l ∷ blocks MOST_LISTED (drop (length (s ∷ rest)) (s ∷ rest))) (take_all (length (s ∷ rest)) (s ∷ rest) (omega arith))
+    ∙ ap (λ (l : List Summary). (s ∷ rest) ∷ blocks MOST_LISTED l) (drop_all (length (s ∷ rest)) (s ∷ rest) (omega arith)))
 
 module _ (r : RouterConf) (link : ℕ) (c : Control) where
   joined_step : (out new total : List Sent) (p : Pdu) (all rest : List Pdu) → out ++ frames_of r link all ≡ total → all ≡ p ∷ rest → new ≡ out ++ frames_of r link (p ∷ []) → new ++ frames_of r link rest ≡ total
@@ -88,34 +89,34 @@ module _ (r : RouterConf) (link : ℕ) (c : Control) where
       ∙ ap (λ (ps : List Pdu). out ++ frames_of r link ps) (sym split) ∙ so
 
   -- one CSNP more
-  pub csnp_step : (out new total : List Sent) (start : LspId) (rest block after : List Summary) (d : Summary) → out ++ frames_of r link (csnps c start (blocks 90 rest)) ≡ total → 90 < length rest → block ≡ take 90 rest → after ≡ drop 90 rest
-      → new ≡ out ++ frames_of r link (csnp_of c start (get_or block 89 d).id block ∷ []) → (next : LspId) → next ≡ id_after (get_or block 89 d).id → new ++ frames_of r link (csnps c next (blocks 90 after)) ≡ total
+  pub csnp_step : (out new total : List Sent) (start : LspId) (rest block after : List Summary) (d : Summary) → out ++ frames_of r link (csnps c start (blocks MOST_LISTED rest)) ≡ total → MOST_LISTED < length rest → block ≡ take MOST_LISTED rest → after ≡ drop MOST_LISTED rest
+      → new ≡ out ++ frames_of r link (csnp_of c start (get_or block 89 d).id block ∷ []) → (next : LspId) → next ≡ id_after (get_or block 89 d).id → new ++ frames_of r link (csnps c next (blocks MOST_LISTED after)) ≡ total
   csnp_step out new total start rest block after d so more front back added next is =
-      let last : last_listed start block ≡ (get_or block 89 d).id = last_is start block 89 d (ap length front ∙ length-take-le 90 rest (omega (arith, more))) in
-      joined_step out new total (csnp_of c start (get_or block 89 d).id block) (csnps c start (blocks 90 rest)) (csnps c next (blocks 90 after)) so
+      let last : last_listed start block ≡ (get_or block 89 d).id = last_is start block 89 d (ap length front ∙ length-take-le MOST_LISTED rest (omega (arith, more))) in
+      joined_step out new total (csnp_of c start (get_or block 89 d).id block) (csnps c start (blocks MOST_LISTED rest)) (csnps c next (blocks MOST_LISTED after)) so
       (csnps_cut c start rest more
-      ∙ ap (λ (l : List Summary). csnp_of c start (last_listed start l) l ∷ csnps c (id_after (last_listed start l)) (blocks 90 (drop 90 rest))) (sym front)
-      ∙ ap (λ (i : LspId). csnp_of c start i block ∷ csnps c (id_after i) (blocks 90 (drop 90 rest))) last
-      ∙ ap (λ (i : LspId). csnp_of c start (get_or block 89 d).id block ∷ csnps c i (blocks 90 (drop 90 rest))) (sym is)
-      ∙ ap (λ (l : List Summary). csnp_of c start (get_or block 89 d).id block ∷ csnps c next (blocks 90 l)) (sym back))
+      ∙ ap (λ (l : List Summary). csnp_of c start (last_listed start l) l ∷ csnps c (id_after (last_listed start l)) (blocks MOST_LISTED (drop MOST_LISTED rest))) (sym front)
+      ∙ ap (λ (i : LspId). csnp_of c start i block ∷ csnps c (id_after i) (blocks MOST_LISTED (drop MOST_LISTED rest))) last
+      ∙ ap (λ (i : LspId). csnp_of c start (get_or block 89 d).id block ∷ csnps c i (blocks MOST_LISTED (drop MOST_LISTED rest))) (sym is)
+      ∙ ap (λ (l : List Summary). csnp_of c start (get_or block 89 d).id block ∷ csnps c next (blocks MOST_LISTED l)) (sym back))
       added
 
   -- the last CSNP
-  pub csnp_end : (out new total : List Sent) (start last : LspId) (rest : List Summary) → out ++ frames_of r link (csnps c start (blocks 90 rest)) ≡ total → length rest ≤ 90 → last ≡ last_id → new ≡ out ++ frames_of r link (csnp_of c start last rest ∷ []) → new ≡ total
+  pub csnp_end : (out new total : List Sent) (start last : LspId) (rest : List Summary) → out ++ frames_of r link (csnps c start (blocks MOST_LISTED rest)) ≡ total → length rest ≤ MOST_LISTED → last ≡ last_id → new ≡ out ++ frames_of r link (csnp_of c start last rest ∷ []) → new ≡ total
   csnp_end out new total start last rest so few is added =
       added ∙ ap (λ (i : LspId). out ++ frames_of r link (csnp_of c start i rest ∷ [])) is ∙ ap (λ (ps : List Pdu). out ++ frames_of r link ps) (sym (csnps_last c start rest few)) ∙ so
 
   -- one PSNP more
-  pub psnp_step : (out new total : List Sent) (rest block after : List Summary) (n : ℕ) → out ++ frames_of r link (map (psnp_of c) (blocks 90 rest)) ≡ total → 0 < length rest → n ≡ min (length rest) 90 → block ≡ take n rest → after ≡ drop n rest
-      → new ≡ out ++ frames_of r link (psnp_of c block ∷ []) → new ++ frames_of r link (map (psnp_of c) (blocks 90 after)) ≡ total
+  pub psnp_step : (out new total : List Sent) (rest block after : List Summary) (n : ℕ) → out ++ frames_of r link (map (psnp_of c) (blocks MOST_LISTED rest)) ≡ total → 0 < length rest → n ≡ min (length rest) MOST_LISTED → block ≡ take n rest → after ≡ drop n rest
+      → new ≡ out ++ frames_of r link (psnp_of c block ∷ []) → new ++ frames_of r link (map (psnp_of c) (blocks MOST_LISTED after)) ≡ total
   psnp_step out new total rest block after n so some is front back added =
-      joined_step out new total (psnp_of c block) (map (psnp_of c) (blocks 90 rest)) (map (psnp_of c) (blocks 90 after)) so
-      (ap (λ (bs : List (List Summary)). map (psnp_of c) bs) (blocks_step 90 n rest (omega arith) some is)
-      ∙ ap (λ (l : List Summary). psnp_of c l ∷ map (psnp_of c) (blocks 90 (drop n rest))) (sym front)
-      ∙ ap (λ (l : List Summary). psnp_of c block ∷ map (psnp_of c) (blocks 90 l)) (sym back))
+      joined_step out new total (psnp_of c block) (map (psnp_of c) (blocks MOST_LISTED rest)) (map (psnp_of c) (blocks MOST_LISTED after)) so
+      (ap (λ (bs : List (List Summary)). map (psnp_of c) bs) (blocks_step MOST_LISTED n rest (omega arith) some is)
+      ∙ ap (λ (l : List Summary). psnp_of c l ∷ map (psnp_of c) (blocks MOST_LISTED (drop n rest))) (sym front)
+      ∙ ap (λ (l : List Summary). psnp_of c block ∷ map (psnp_of c) (blocks MOST_LISTED l)) (sym back))
       added
 
-  pub psnp_end : (out total : List Sent) (rest : List Summary) → out ++ frames_of r link (map (psnp_of c) (blocks 90 rest)) ≡ total → length rest ≡ 0 → out ≡ total
+  pub psnp_end : (out total : List Sent) (rest : List Summary) → out ++ frames_of r link (map (psnp_of c) (blocks MOST_LISTED rest)) ≡ total → length rest ≡ 0 → out ≡ total
   psnp_end out total [] so none = sym (append-nil out) ∙ so
   psnp_end out total (s ∷ rest) so none = absurd (omega (arith, none))
 
@@ -140,7 +141,7 @@ lsps_are r f link (e ∷ es) = cases (srm_in f.rows e.id link) (lsps_are r f lin
 
 due_alone : (r : RouterConf) (f : Flood) (es : List Entry) (spent due : Bool) → due_csnps (control_of r f es false) due ≡ due_csnps (control_of r f es spent) due
 due_alone r f es spent false = refl
-due_alone r f es spent true = csnps_alone (control_of r f es false) (control_of r f es spent) zero_id (blocks 90 (map summary_of (filter is_known es))) refl
+due_alone r f es spent true = csnps_alone (control_of r f es false) (control_of r f es spent) zero_id (blocks MOST_LISTED (map summary_of (filter is_known es))) refl
 
 frames_joined : (r : RouterConf) (link : ℕ) (ps qs : List Pdu) → frames_of r link (ps ++ qs) ≡ frames_of r link ps ++ frames_of r link qs
 frames_joined r link ps qs = map-append (λ p. record { link = link; octets = pdu_frame r (slice_get r.ends link) p }) ps qs
@@ -149,18 +150,18 @@ pub due_is : (r : RouterConf) (f : Flood) (es : List Entry) (spent : Bool) (link
     → first ≡ frames_of r link (due_csnps (control_of r f es false) (slice_index_or f.due link false))
     → second ≡ first ++ flat_map (lsp_frames r f.rows link) es
     → rows ≡ map summary_of (filter (λ e. ssn_in f.rows e.id link) es)
-    → third ≡ second ++ frames_of r link (map (psnp_of (conf_alone r)) (blocks 90 rows))
+    → third ≡ second ++ frames_of r link (map (psnp_of (conf_alone r)) (blocks MOST_LISTED rows))
     → third ≡ frames_of r link (send_of (control_of r f es spent) link)
 unfolding send_of
 due_is r f es spent link first second third rows a b p q =
     let lsps : List Pdu = map lsp_of (filter (λ e. srm_in f.rows e.id link) es) in
-    let psnps : List Pdu = map (psnp_of (conf_alone r)) (blocks 90 (map summary_of (filter (λ e. ssn_in f.rows e.id link) es))) in
+    let psnps : List Pdu = map (psnp_of (conf_alone r)) (blocks MOST_LISTED (map summary_of (filter (λ e. ssn_in f.rows e.id link) es))) in
     let due : List Pdu = due_csnps (control_of r f es spent) (slice_index_or f.due link false) in
     q
-    ∙ ap (λ (l : List Sent). l ++ frames_of r link (map (psnp_of (conf_alone r)) (blocks 90 rows))) b
-    ∙ ap (λ (l : List Sent). (l ++ flat_map (lsp_frames r f.rows link) es) ++ frames_of r link (map (psnp_of (conf_alone r)) (blocks 90 rows))) (a ∙ ap (λ (ps : List Pdu). frames_of r link ps) (due_alone r f es spent (slice_index_or f.due link false)))
-    ∙ ap (λ (l : List Sent). (frames_of r link due ++ l) ++ frames_of r link (map (psnp_of (conf_alone r)) (blocks 90 rows))) (lsps_are r f link es)
-    ∙ ap (λ (l : List Summary). (frames_of r link due ++ frames_of r link lsps) ++ frames_of r link (map (psnp_of (conf_alone r)) (blocks 90 l))) p
+    ∙ ap (λ (l : List Sent). l ++ frames_of r link (map (psnp_of (conf_alone r)) (blocks MOST_LISTED rows))) b
+    ∙ ap (λ (l : List Sent). (l ++ flat_map (lsp_frames r f.rows link) es) ++ frames_of r link (map (psnp_of (conf_alone r)) (blocks MOST_LISTED rows))) (a ∙ ap (λ (ps : List Pdu). frames_of r link ps) (due_alone r f es spent (slice_index_or f.due link false)))
+    ∙ ap (λ (l : List Sent). (frames_of r link due ++ l) ++ frames_of r link (map (psnp_of (conf_alone r)) (blocks MOST_LISTED rows))) (lsps_are r f link es)
+    ∙ ap (λ (l : List Summary). (frames_of r link due ++ frames_of r link lsps) ++ frames_of r link (map (psnp_of (conf_alone r)) (blocks MOST_LISTED l))) p
     ∙ append_assoc (frames_of r link due) (frames_of r link lsps) (frames_of r link psnps)
     ∙ ap (λ (l : List Sent). frames_of r link due ++ l) (sym (frames_joined r link lsps psnps))
     ∙ sym (frames_joined r link due (lsps ++ psnps))

@@ -1,5 +1,6 @@
 -- PDUs that are received.
 use Rattle.std.specs.Prelude.{◌≤◌, Bool, true, false, length, None}
+use Rattle.wire_base.specs.declared.limits.TheConstants.{MOST_CONTENT}
 use Rattle.wire_base.specs.declared.cause.Cause.{Cause}
 use Rattle.wire_base.specs.declared.flood_out.FloodOut.{FloodOut}
 use Rattle.wire_base.specs.declared.flood_out.FloodOut.TheVariants as out
@@ -8,7 +9,7 @@ use Rattle.wire_base.specs.model.Pdu.{Pdu, LspPdu, CsnpPdu, PsnpPdu, HelloPdu, O
 
 -- the TLVs of a PDU that came in a frame find room in one
 abbrev pub HasRoom : Pdu → Type 0
-HasRoom (LspPdu head tlvs) = length tlvs ≤ 1470
+HasRoom (LspPdu head tlvs) = length tlvs ≤ MOST_CONTENT
 HasRoom (CsnpPdu source start last tlvs) = length tlvs ≤ 1497
 HasRoom (PsnpPdu source tlvs) = length tlvs ≤ 1497
 HasRoom HelloPdu = Unit {0}

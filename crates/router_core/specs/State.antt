@@ -1,6 +1,7 @@
 -- What contracts see of a router, and what every router keeps.
 use Rattle.std.specs.Prelude.{◌≡◌, ℕ, ◌+◌, ◌≤◌, ◌<◌, Bool, false, List, length, min, Some, slice_index_or}
 use Rattle.std.specs.List.{AllByRecursion}
+use Rattle.wire_base.specs.declared.limits.TheConstants.{MOST_CONTENT, REFRESH_LIFE}
 use Rattle.wire_base.specs.declared.conf.RouterConf.{RouterConf}
 use Rattle.wire_base.specs.declared.entry.Entry.{Entry}
 use Rattle.wire_base.specs.model.Configuration.{IsSound}
@@ -13,14 +14,14 @@ pub record RouterState : Type 0 where
 
 -- a link state PDU of that content fits a frame of IS-IS, whose length counts at most 1,500 octets
 abbrev pub most_content : ℕ
-most_content = 1470
+most_content = MOST_CONTENT
 
 abbrev pub IsShort : Entry → Type 0
 IsShort e = length e.content ≤ most_content
 
 -- A router that isn't spent has its own link state PDU, live, and with more than the seconds at which it is issued anew.
 abbrev pub HasOwn : Control → Type 0
-HasOwn c = c.spent ≡ false → (e : Entry) × ((own_entry_in c ≡ Some e) × (300 < e.life))
+HasOwn c = c.spent ≡ false → (e : Entry) × ((own_entry_in c ≡ Some e) × (REFRESH_LIFE < e.life))
 
 -- what every router keeps
 pub record IsRouter (c : Control) : Type 0 where

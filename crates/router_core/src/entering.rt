@@ -1,11 +1,12 @@
 //! Payloads that enter the domain (RFC 8279, 3; RFC 8296, 3).
-ghost use Rattle.std.specs.Prelude.{◌≡◌, ◌<◌, ◌^◌, None, IfOk, MatchResult};
-ghost use Rattle.wire_base.specs.model.Ingress.{edge_fault, inject_directly};
+ghost use Rattle.std.specs.Prelude.{◌≡◌, ◌<◌, ◌≤◌, ◌^◌, None, IfOk, MatchResult, length};
+ghost use Rattle.wire_base.specs.model.Ingress.{edge_fault, inject};
 ghost use Rattle.bfr_edge.specs.Entry.{Refuses};
 
 use crate::control::Control;
 use bfr_edge::ingress;
 use bier_forward::{Effects, enter_packets};
+use wire_base::limits::MOST_PAYLOAD;
 use wire_base::{Bsl, EdgeFault};
 
 impl Control {
@@ -19,9 +20,10 @@ impl Control {
         entropy: u32,
         payload: &[u8],
     ) -> Result<Effects, EdgeFault>
-        requires { entropy < 2 ^ 20 }
+        requires entropy { entropy < 2 ^ 20 }
+        requires payload { length payload.now ≤ MOST_PAYLOAD }
         ensures refused { MatchResult result (λ _. edge_fault self.now.conf sd bsl ids.now ≡ None) (λ e. Refuses (edge_fault self.now.conf sd bsl ids.now) e) }
-        ensures effects { IfOk result (λ e. e ≡ inject_directly self.now sd bsl ids.now ttl entropy payload.now) }
+        ensures effects { IfOk result (λ e. e ≡ inject self.now sd bsl ids.now ttl entropy payload.now) }
     {
         let alloc = self.allocator();
         let packets = ingress(alloc, &self.conf, sd, bsl, ids)?;

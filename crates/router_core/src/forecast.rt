@@ -19,10 +19,8 @@ use bier_forward::DropNote;
 use isis_flood::Flood;
 use lsp_store::Store;
 use std::alloc::Global;
+use wire_base::limits::MOST_ENTRIES;
 use wire_base::{Age, Cause, Entry, LspId, M, Rows, Summary};
-
-/// The most entries of a database.
-const MOST_ENTRIES: usize = 4096;
 
 /// What is made ready for a list of entries.
 #[derive(Drop)]

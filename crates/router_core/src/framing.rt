@@ -8,6 +8,7 @@ ghost use Rattle.router_core.specs.Sending.{conf_alone, octets_on};
 use isis_pdu::{LspHead, write_csnp, write_lsp, write_psnp};
 use link_frame::write_eth;
 use std::alloc::Global;
+use wire_base::limits::{MOST_CONTENT, MOST_LISTED};
 use wire_base::{Entry, LspId, M, Mac, Octets, RouterConf, Rows, Sent, Summary, SystemId};
 
 /// All intermediate systems of a link (ISO/IEC 10589, 8.4.8).
@@ -50,7 +51,7 @@ fn octets(system: &SystemId) -> &[u8]
 /// Appends the frame of an entry's link state PDU.
 pub(crate) fn push_lsp(out: &mut Rows<Sent>, conf: &RouterConf, link: u16, e: &Entry) -> M<()>
     requires link { link < length conf.now.ends }
-    requires short { length e.now.content ≤ 1470 }
+    requires short { length e.now.content ≤ MOST_CONTENT }
     ensures { OnOk result (out.new ≡ out.old ++ frames_of conf.now link (lsp_of e.now ∷ [])) }
 {
     let head = LspHead {
@@ -74,7 +75,7 @@ pub(crate) fn push_csnp(
     rows: &[Summary],
 ) -> M<()>
     requires link { link < length conf.now.ends }
-    requires few { length rows.now ≤ 90 }
+    requires few { length rows.now ≤ MOST_LISTED }
     ensures { OnOk result (out.new ≡ out.old ++ frames_of conf.now link (csnp_of (conf_alone conf.now) start last rows.now ∷ [])) }
 {
     // What the PDU's length counts on: systems have six octets.
@@ -93,7 +94,7 @@ pub(crate) fn push_psnp(
     rows: &[Summary],
 ) -> M<()>
     requires link { link < length conf.now.ends }
-    requires few { length rows.now ≤ 90 }
+    requires few { length rows.now ≤ MOST_LISTED }
     ensures { OnOk result (out.new ≡ out.old ++ frames_of conf.now link (psnp_of (conf_alone conf.now) rows.now ∷ [])) }
 {
     // What the PDU's length counts on: systems have six octets.

@@ -14,6 +14,7 @@ use crate::forecast::issue_ready;
 use crate::framing::push_psnp;
 use bier_forward::{DropNote, Effects};
 use isis_pdu::{LspHead, Pdu, read_pdu};
+use wire_base::limits::MOST_CONTENT;
 use wire_base::{Cause, FloodOut, LspId, M, Rows, Summary};
 
 /// Nothing is sent or delivered, and those entries are dropped.
@@ -71,7 +72,7 @@ impl Control {
     #[tactic(auto, unfolding(wire_base::specs::model::Flooding::on_pdu))]
     fn on_lsp(&mut self, link: u16, head: &LspHead, tlvs: &[u8]) -> M<Effects>
         requires up { is_up self.old link ≡ true }
-        requires short { length tlvs.now ≤ 1470 }
+        requires short { length tlvs.now ≤ MOST_CONTENT }
         ensures next { IfOk result (λ e. record { control = self.new; effects = e } ≡ framed link (on_pdu self.old link (LspPdu (head_of head.now) tlvs.now))) }
         ensures err { OnErr result (self.new ≡ self.old) }
     {

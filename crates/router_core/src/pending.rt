@@ -9,9 +9,7 @@ use crate::control::Control;
 use isis_flood::Flood;
 use lsp_store::Store;
 use wire_base::Entry;
-
-/// The most entries that a sequence numbers PDU lists.
-pub(crate) const MOST_LISTED: usize = 90;
+use wire_base::limits::{MOST_ENTRIES, MOST_LISTED};
 
 pub(crate) fn is_known(e: &Entry) -> bool
     ensures { result ≡ is_known e.now }
@@ -33,6 +31,9 @@ fn marked(entries: &[Entry], flood: &Flood, link: u16) -> usize
     ensures marked { result ≡ length (filter (λ e. srm_in flood.now.flood.rows e.id link) entries.now) }
     ensures few { result ≤ length entries.now }
 {
+    if !flood.has_flags(link) {
+        return 0;
+    }
     entries.iter().filter(|e| flood.srm(e.id, link)).count()
 }
 
@@ -42,13 +43,16 @@ fn asked(entries: &[Entry], flood: &Flood, link: u16) -> usize
     ensures asked { result ≡ length (filter (λ e. ssn_in flood.now.flood.rows e.id link) entries.now) }
     ensures few { result ≤ length entries.now }
 {
+    if !flood.has_flags(link) {
+        return 0;
+    }
     entries.iter().filter(|e| flood.ssn(e.id, link)).count()
 }
 
 /// How many sequence numbers PDUs list so many entries.
 fn lists(entries: usize) -> usize
-    requires { entries ≤ 4096 }
-    ensures lists { result ≡ (entries + 89) / 90 }
+    requires { entries ≤ MOST_ENTRIES }
+    ensures lists { result ≡ (entries + 89) / MOST_LISTED }
     ensures few { result ≤ 46 }
 {
     (entries + (MOST_LISTED - 1)) / MOST_LISTED
@@ -56,8 +60,8 @@ fn lists(entries: usize) -> usize
 
 /// How many CSNPs list those entries, where they are due.
 fn csnps(entries: &[Entry], due: bool) -> usize
-    requires { length entries.now ≤ 4096 }
-    ensures csnps { result ≡ (if due then max ((length (filter is_known entries.now) + 89) / 90) 1 else 0) }
+    requires { length entries.now ≤ MOST_ENTRIES }
+    ensures csnps { result ≡ (if due then max ((length (filter is_known entries.now) + 89) / MOST_LISTED) 1 else 0) }
     ensures few { result ≤ 46 }
 {
     if due {

@@ -1,8 +1,8 @@
 ghost use Rattle.std.specs.Prelude.{◌≡◌, ◌<◌, ◌≤◌, ◌^◌, length, true, false, None, IfOk, OnOk, OnErr, MatchResult};
 ghost use Rattle.wire_base.specs.model.Configuration.{IsSound};
 ghost use Rattle.wire_base.specs.model.Flooding.{first_control, tick, send, send_of, end_up, end_down, restart};
-ghost use Rattle.wire_base.specs.model.Ingress.{edge_fault, inject_directly};
-ghost use Rattle.wire_base.specs.model.OnFrame.{nothing, framed, on_frame_directly};
+ghost use Rattle.wire_base.specs.model.Ingress.{edge_fault, inject};
+ghost use Rattle.wire_base.specs.model.OnFrame.{nothing, framed, on_frame};
 ghost use Rattle.wire_base.specs.model.View.{control_view};
 ghost use Rattle.bfr_edge.specs.Entry.{Refuses};
 ghost use Rattle.router_core.specs.State.{IsRouter, is_up, counted};
@@ -11,6 +11,7 @@ use crate::control::Control;
 use bier_forward::Effects;
 use std::alloc::Global;
 use std::marker::Model;
+use wire_base::limits::{MOST_FRAME, MOST_PAYLOAD};
 use wire_base::{Bsl, EdgeFault, M, Memory, RouterConf, View};
 
 /// One router: its configuration, its database and what flooding keeps beside it, and how many frames it has taken.
@@ -73,13 +74,14 @@ impl Router {
     }
 
     /// Takes a frame of at most 65,000 octets that came on a link. It has no refusal: what isn't taken is a drop with its
-    /// cause. An IS-IS PDU is flooded, a BIER packet is delivered and forwarded by the view that the router has now; a
-    /// frame of another class, IPv4 among them, a hello and a PDU of another type are passed over
-    /// (ISO/IEC 10589, 7.3.15; RFC 8279, 6). Where memory runs out, all is as it was.
+    /// cause. An IS-IS PDU is flooded, and a BIER packet is delivered and forwarded by the view that the router has now. A
+    /// tunnel packet to the router's own prefix has such a packet inside; another one is sent on toward its destination. A
+    /// frame of another class, a hello and a PDU of another type are passed over (ISO/IEC 10589, 7.3.15; RFC 8279, 6;
+    /// RFC 2784). Where memory runs out, all is as it was.
     pub fn frame(&mut self, link: u16, bytes: &[u8]) -> M<Effects>
         requires link { link < length self.old.control.conf.ends }
-        requires short { length bytes.now ≤ 65000 }
-        ensures next { IfOk result (λ e. record { control = self.new.control; effects = e } ≡ on_frame_directly self.old.control link bytes.now) }
+        requires short { length bytes.now ≤ MOST_FRAME }
+        ensures next { IfOk result (λ e. record { control = self.new.control; effects = e } ≡ on_frame self.old.control link bytes.now) }
         ensures heard { OnOk result (self.new.heard ≡ counted self.old.heard) }
         ensures err { OnErr result (self.new ≡ self.old) }
     {
@@ -168,9 +170,9 @@ impl Router {
     ) -> Result<Effects, EdgeFault>
         requires ttl { 0 < ttl }
         requires entropy { entropy < 2 ^ 20 }
-        requires payload { length payload.now ≤ 2000 }
+        requires payload { length payload.now ≤ MOST_PAYLOAD }
         ensures refused { MatchResult result (λ _. edge_fault self.old.control.conf sd bsl ids.now ≡ None) (λ e. Refuses (edge_fault self.old.control.conf sd bsl ids.now) e) }
-        ensures effects { IfOk result (λ e. e ≡ inject_directly self.old.control sd bsl ids.now ttl entropy payload.now) }
+        ensures effects { IfOk result (λ e. e ≡ inject self.old.control sd bsl ids.now ttl entropy payload.now) }
         ensures state { self.new ≡ self.old }
     {
         self.control.inject(sd, bsl, ids, ttl, entropy, payload)

@@ -11,10 +11,8 @@ use crate::ends::seq_of;
 use crate::own::{fragment_0, issue_within, own_past, spent_past};
 use isis_flood::Flood;
 use lsp_store::Store;
+use wire_base::limits::{MOST_ENTRIES, REFRESH_LIFE};
 use wire_base::{Aged, Entry, LspId, M};
-
-/// The own link state PDU is issued anew when so many seconds of its life are left.
-const REFRESH_LIFE: u16 = 300;
 
 /// What a second means for the flags of an entry: one that expires is to be sent on all links that are up, and one that
 /// goes loses its flags.
@@ -32,7 +30,7 @@ fn flag_aged(flood: &mut Flood, id: LspId, answer: Aged)
 
 /// The place of the entry after one at a place that has aged.
 fn next_place(place: usize, answer: Aged) -> usize
-    requires { place < 4096 }
+    requires { place < MOST_ENTRIES }
     ensures { result ≡ place + count_left answer }
 {
     match answer {

@@ -10,12 +10,13 @@ ghost use Rattle.router_core.specs.State.{IsShort, is_up, control_of};
 
 use crate::control::Control;
 use crate::framing::{push_csnp, push_lsp, push_psnp};
-use crate::pending::{MOST_LISTED, is_known};
+use crate::pending::is_known;
 use bier_forward::Effects;
 use byteorder::{BigEndian, ByteOrder};
 use isis_flood::Flood;
 use lsp_store::Store;
 use std::alloc::Global;
+use wire_base::limits::{MOST_CONTENT, MOST_LISTED};
 use wire_base::{Entry, LspId, M, RouterConf, Rows, Sent, Summary, SystemId};
 
 /// The least identifier.
@@ -57,11 +58,14 @@ fn known_rows(alloc: Global, entries: &[Entry]) -> M<Vec<Summary>>
     )
 }
 
-/// The entries to be acknowledged or asked for on a link.
+/// The entries to be acknowledged or asked for on a link. Where nothing is flagged there, none is looked at.
 fn asked_rows(alloc: Global, entries: &[Entry], flood: &Flood, link: u16) -> M<Vec<Summary>>
     requires { link < length flood.now.flood.up }
     ensures { IfOk result (λ rows. rows.items ≡ map summary_of (filter (λ e. ssn_in flood.now.flood.rows e.id link) entries.now)) }
 {
+    if !flood.has_flags(link) {
+        return Ok(Vec::new(alloc));
+    }
     Ok(
         entries
             .iter()
@@ -90,7 +94,7 @@ fn id_after(id: LspId) -> LspId
 /// least, each other one above the one before, and the last ends at the greatest.
 fn push_csnps(out: &mut Rows<Sent>, conf: &RouterConf, link: u16, rows: &[Summary]) -> M<()>
     requires { link < length conf.now.ends }
-    ensures { OnOk result (out.new ≡ out.old ++ frames_of conf.now link (csnps (conf_alone conf.now) zero_id (blocks 90 rows.now))) }
+    ensures { OnOk result (out.new ≡ out.old ++ frames_of conf.now link (csnps (conf_alone conf.now) zero_id (blocks MOST_LISTED rows.now))) }
 {
     let mut start = ZERO_ID;
     let mut rest = rows;
@@ -115,7 +119,7 @@ fn push_marked(
 ) -> M<()>
     requires end { link < length conf.now.ends }
     requires link { link < length flood.now.flood.up }
-    requires short { length e.now.content ≤ 1470 }
+    requires short { length e.now.content ≤ MOST_CONTENT }
     ensures { OnOk result (out.new ≡ out.old ++ lsp_frames conf.now flood.now.flood.rows link e.now) }
 {
     if flood.srm(e.id, link) {
@@ -124,7 +128,7 @@ fn push_marked(
     Ok(())
 }
 
-/// Appends the frames of the entries that are to be sent on a link.
+/// Appends the frames of the entries that are to be sent on a link. Where nothing is flagged there, none is looked at.
 fn push_lsps(
     out: &mut Rows<Sent>,
     conf: &RouterConf,
@@ -137,6 +141,9 @@ fn push_lsps(
     requires short { AllByRecursion IsShort entries.now }
     ensures { OnOk result (out.new ≡ out.old ++ flat_map (lsp_frames conf.now flood.now.flood.rows link) entries.now) }
 {
+    if !flood.has_flags(link) {
+        return Ok(());
+    }
     for e in entries {
         push_marked(out, conf, link, flood, e)?;
     }
@@ -146,7 +153,7 @@ fn push_lsps(
 /// Appends the PSNPs that list those entries, in blocks of 90.
 fn push_psnps(out: &mut Rows<Sent>, conf: &RouterConf, link: u16, rows: &[Summary]) -> M<()>
     requires { link < length conf.now.ends }
-    ensures { OnOk result (out.new ≡ out.old ++ frames_of conf.now link (map (psnp_of (conf_alone conf.now)) (blocks 90 rows.now))) }
+    ensures { OnOk result (out.new ≡ out.old ++ frames_of conf.now link (map (psnp_of (conf_alone conf.now)) (blocks MOST_LISTED rows.now))) }
 {
     let mut rest = rows;
     'cuts: while !rest.is_empty() {

@@ -27,21 +27,21 @@ fn octets_of(alloc: Global, digits: &str) -> M<Octets> {
     }
 }
 
-/// A router takes a frame on its first link, where it has one.
-fn hear(router: &mut Router, frame: &[u8]) -> M<Option<Effects>> {
+/// A router takes a frame on a link, where it has that.
+fn hear(router: &mut Router, link: u16, frame: &[u8]) -> M<Option<Effects>> {
     let links = router.conf().ends.len();
-    if links == 0 || frame.len() > 65_000 {
+    if usize::from(link) >= links || frame.len() > 65_000 {
         return Ok(None);
     }
-    Ok(Some(router.frame(0, frame)?))
+    Ok(Some(router.frame(link, frame)?))
 }
 
-/// A router sends what is due on its first link, where that is up.
-fn let_send(router: &mut Router) -> M<Option<Effects>> {
-    if !router.is_up(0) {
+/// A router sends what is due on a link, where that is up.
+fn let_send(router: &mut Router, link: u16) -> M<Option<Effects>> {
+    if !router.is_up(link) {
         return Ok(None);
     }
-    Ok(Some(router.send(0)?))
+    Ok(Some(router.send(link)?))
 }
 
 /// How much is due on a router's first link.
@@ -53,14 +53,14 @@ fn due(router: &Router) -> usize {
     }
 }
 
-/// One router sends, and the other takes all of it. Whether nothing was dropped.
-fn carry(from: &mut Router, to: &mut Router) -> M<bool> {
-    let Some(effects) = let_send(from)? else {
+/// One router sends on a link, and the other takes all of it on the end that leads back. Whether nothing was dropped.
+pub fn carry(from: &mut Router, link: u16, to: &mut Router, back: u16) -> M<bool> {
+    let Some(effects) = let_send(from, link)? else {
         return Ok(false);
     };
     let mut whole = true;
     for sent in effects.sent.as_slice() {
-        if let Some(taken) = hear(to, sent.octets.as_slice())? {
+        if let Some(taken) = hear(to, back, sent.octets.as_slice())? {
             whole = whole && taken.drops.len() == 0;
         }
     }
@@ -89,7 +89,7 @@ fn push_node(out: &mut Octets, node: &ViewNode) -> M<()> {
 }
 
 /// A view as a text.
-fn seen(alloc: Global, view: &View) -> M<Octets> {
+pub fn seen(alloc: Global, view: &View) -> M<Octets> {
     let mut out = Octets::new(alloc);
     for node in view.as_slice() {
         push_node(&mut out, node)?;
@@ -137,7 +137,7 @@ fn show(router: &Router, effects: &Effects) -> M<Shown> {
 
 /// What a router shows of a frame, where it has a link.
 fn shown_of(router: &mut Router, frame: &[u8]) -> M<Option<Shown>> {
-    match hear(router, frame)? {
+    match hear(router, 0, frame)? {
         Some(effects) => Ok(Some(show(router, &effects)?)),
         None => Ok(None),
     }
@@ -172,7 +172,7 @@ struct Answer {
 
 /// What a router sends, and whether the last of it are those octets.
 fn make_answer(router: &mut Router, wanted: &[u8]) -> M<Option<Answer>> {
-    match let_send(router)? {
+    match let_send(router, 0)? {
         Some(effects) => Ok(Some(Answer {
             sent: effects.sent.len(),
             acknowledged: last(&effects) == wanted,
@@ -195,8 +195,8 @@ fn first_answer(alloc: Global, frame: &[u8], wanted: &[u8]) -> M<Option<Answer>>
 
 /// Both routers send, and each takes what the other sent. Whether nothing was dropped.
 fn exchange(a: &mut Router, b: &mut Router) -> M<bool> {
-    let there = carry(a, b)?;
-    let back = carry(b, a)?;
+    let there = carry(a, 0, b, 0)?;
+    let back = carry(b, 0, a, 0)?;
     Ok(there && back)
 }
 

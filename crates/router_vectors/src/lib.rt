@@ -6,3 +6,5 @@
 mod frames;
 #[cfg(test)]
 mod pair;
+#[cfg(test)]
+mod ring;

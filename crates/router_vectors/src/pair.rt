@@ -55,9 +55,9 @@ metric_ab = 10
 metric_ba = 10
 "#;
 
-/// The domain, where its file isn't refused.
-fn pair(alloc: Global) -> M<Option<Domain>> {
-    match read_domain(alloc, PAIR.as_bytes()) {
+/// The domain of a file, where that isn't refused.
+pub fn domain_in(alloc: Global, file: &str) -> M<Option<Domain>> {
+    match read_domain(alloc, file.as_bytes()) {
         Ok(domain) => Ok(Some(domain)),
         Err(ConfFault::Memory) => Err(Memory),
         Err(_) => Ok(None),
@@ -65,14 +65,14 @@ fn pair(alloc: Global) -> M<Option<Domain>> {
 }
 
 /// The configurations of a domain's routers, each of which is sound.
-fn confs(domain: &Domain) -> &[RouterConf]
+pub fn confs(domain: &Domain) -> &[RouterConf]
     ensures { AllByRecursion IsSound result.now }
 {
     domain.routers.as_slice()
 }
 
 /// A router of its own that has just started.
-fn start(alloc: Global, conf: &RouterConf) -> M<Router>
+pub fn start(alloc: Global, conf: &RouterConf) -> M<Router>
     requires { IsSound conf.now }
 {
     Router::new(alloc, conf.copy()?)
@@ -80,7 +80,7 @@ fn start(alloc: Global, conf: &RouterConf) -> M<Router>
 
 /// Both routers, just started.
 pub fn started(alloc: Global) -> M<Option<(Router, Router)>> {
-    let Some(domain) = pair(alloc)? else {
+    let Some(domain) = domain_in(alloc, PAIR)? else {
         return Ok(None);
     };
     match confs(&domain) {

@@ -8,6 +8,7 @@ pub mod Choice
 pub mod Configuration
 pub mod Control
 pub mod Ethernet
+pub mod Faults
 pub mod Fields
 pub mod Flooding
 pub mod Graph

@@ -18,3 +18,38 @@ pub struct LspId {
     pub pseudonode: u8,
     pub fragment: u8,
 }
+
+impl std::fmt::Display for SystemId {
+    /// As `0000.0000.0001`.
+    fn fmt<W: std::fmt::Write>(&self, f: &mut std::fmt::Formatter<W>) -> std::fmt::Result {
+        let [a, b, c, d, e, g] = self.0;
+        write!(f, "{a:02x}{b:02x}.{c:02x}{d:02x}.{e:02x}{g:02x}")
+    }
+}
+
+impl std::fmt::Display for Mac {
+    /// As `02:00:00:01:00:00`.
+    fn fmt<W: std::fmt::Write>(&self, f: &mut std::fmt::Formatter<W>) -> std::fmt::Result {
+        let [a, b, c, d, e, g] = self.0;
+        write!(f, "{a:02x}:{b:02x}:{c:02x}:{d:02x}:{e:02x}:{g:02x}")
+    }
+}
+
+impl std::fmt::Display for Ipv4 {
+    /// As `10.0.0.1`.
+    fn fmt<W: std::fmt::Write>(&self, f: &mut std::fmt::Formatter<W>) -> std::fmt::Result {
+        let [a, b, c, d] = self.0;
+        write!(f, "{a}.{b}.{c}.{d}")
+    }
+}
+
+impl std::fmt::Display for LspId {
+    /// As `0000.0000.0001.00-00`: the system, the pseudonode and the fragment.
+    fn fmt<W: std::fmt::Write>(&self, f: &mut std::fmt::Formatter<W>) -> std::fmt::Result {
+        write!(
+            f,
+            "{}.{:02x}-{:02x}",
+            self.system, self.pseudonode, self.fragment
+        )
+    }
+}

@@ -319,7 +319,15 @@ impl Sink for QuietSink {
         Ok(count)
     }
 
-    fn finish(&mut self) -> Result<(), Failed> {
+    /// Always succeeds, and keeps the room.
+    fn finish(&mut self) -> Result<(), Failed>
+        ensures bytes { Keeps (Some self.old.taken.bytes.items) (Some self.new.taken.bytes.items) }
+        ensures cause { HasCause 0 0 result }
+        ensures nothing { self.new.zeros ≡ self.old.zeros }
+        ensures open { after_finish self.old.unfinished result self.new.unfinished }
+        ensures succeeds { result ≡ Ok tt }
+        ensures room { self.new.taken.room ≡ self.old.taken.room }
+    {
         self.unfinished = false;
         Ok(())
     }

@@ -2,6 +2,7 @@ ghost use Rattle.std.specs.Prelude.{◌≡◌, ◌++◌, ◌∷◌, [], length, 
 ghost use Rattle.std.specs.Fmt.{decimal};
 
 use crate::memory::{M, Memory};
+use itoa::Buffer;
 use std::alloc::Global;
 use std::marker::Model;
 
@@ -45,6 +46,13 @@ impl Octets {
         Ok(Octets {
             items: Vec::from_slice(alloc, octets)?,
         })
+    }
+
+    /// The octets of a vector.
+    pub fn from_vec(octets: Vec<u8>) -> Self
+        ensures { result ≡ octets.items }
+    {
+        Octets { items: octets }
     }
 
     /// An equal list.
@@ -105,8 +113,8 @@ impl Octets {
         ensures ok { OnOk result (self.new ≡ self.old ++ decimal number) }
         ensures err { OnErr result (self.new ≡ self.old) }
     {
-        let text = number.to_string(*self.items.allocator())?;
-        self.append(text.as_bytes())
+        let mut digits = Buffer::new();
+        self.append(digits.format(number).as_bytes())
     }
 
     /// Keeps the first octets.

@@ -1,6 +1,7 @@
 -- Small domains at work.
 use Rattle.std.specs.Prelude.{ℕ, true, List, [], ◌∷◌, length, map, slice_get, Option, Some, None}
 use Rattle.wire_base.specs.declared.bsl.Bsl.TheVariants.{B64}
+use Rattle.wire_base.specs.declared.cause.Cause.{Cause}
 use Rattle.wire_base.specs.declared.entry.Entry.{Entry}
 use Rattle.wire_base.specs.model.Configuration.{DomainConf}
 use Rattle.wire_base.specs.model.Control.{Control}
@@ -13,10 +14,10 @@ use Rattle.replay_text.specs.declared.event.Line.TheVariants.{Empty, One, Settle
 use Rattle.model_examples.specs.Domains.{pair, pair_a, pair_b, ring, fork}
 use Rattle.model_examples.specs.Frames.{settled, fork_lsps}
 use Rattle.model_examples.specs.Views.{ring_lsps}
-use Rattle.domain_core.specs.World.{WorldState, no_flights, first_world}
-use Rattle.domain_core.specs.Moves.{Sending}
-use Rattle.domain_core.specs.Run.{Progress, schedule_done}
-use Rattle.domain_core.specs.Step.{happens, happens_with}
+use Rattle.domain_model.specs.World.{WorldState, no_flights, first_world}
+use Rattle.domain_model.specs.Moves.{Sending, Made, none_made}
+use Rattle.domain_model.specs.Run.{Progress, schedule_done}
+use Rattle.domain_model.specs.Step.{happens}
 
 abbrev pub sending : ℕ → ℕ → ℕ → Item → Sending
 sending a link b x = record { from = a; link = link; to = b; item = x }
@@ -64,9 +65,16 @@ for_c = after ring_at_rest (enters (3 ∷ []) 8 0)
 abbrev pub for_b_and_c : WorldState
 for_b_and_c = after ring_at_rest (enters (2 ∷ 3 ∷ []) 1 0)
 
--- the fork where A, which knows tunnels, has sent something for C
+-- the fork where A has sent something for C, or for C and D
 abbrev pub through_p : WorldState
-through_p = (happens_with true fork_at_rest (enters (3 ∷ []) 8 0)).world
+through_p = after fork_at_rest (enters (3 ∷ []) 8 0)
+
+abbrev pub for_c_and_d : WorldState
+for_c_and_d = after fork_at_rest (enters (3 ∷ 4 ∷ []) 8 0)
+
+-- P drops the copy for C
+abbrev pub dropped_at_p : Cause → Made
+dropped_at_p why = record none_made { drops = record { router = 1; injection = Some 1; cause = why; ids = 3 ∷ [] } ∷ [] }
 
 -- both databases of the pair once all is settled
 abbrev pub pair_lsps : List Entry

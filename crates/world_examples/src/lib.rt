@@ -9,8 +9,8 @@ mod runs;
 
 pub use control_events::{a_lost_pdu, a_pdu_arrives, a_pdu_comes_again, pair_sends};
 pub use packet_events::{
-    fork_sends_in_tunnels, ring_sends_a_packet_on, the_ttl_of_a_packet_ends,
-    what_has_no_owner_is_dropped,
+    copies_end_in_a_tunnel, fork_sends_in_a_tunnel, fork_sends_in_two_tunnels,
+    ring_sends_a_packet_on, the_ttl_of_a_packet_ends, what_has_no_owner_is_dropped,
 };
 pub use refusals::{what_enters_nowhere, what_is_refused, what_is_refused_first};
 pub use runs::{pair_settles_in_two_rounds, refused_lines_end_a_schedule};

@@ -5,10 +5,9 @@ ghost use Rattle.wire_base.specs.model.BierHeader.{coded_header_at};
 ghost use Rattle.bier_head.specs.Views.{header_of};
 ghost use Rattle.replay_run.specs.Sight as sight;
 
-use crate::hop::forward::positions;
 use bier_head::{Header, read_by_field};
 use link_frame::{Class, classify, read_stack};
-use replay_text::push_ids;
+use replay_text::push_positions;
 use std::alloc::Global;
 use wire_base::{HeadFault, Kind, M, Octets};
 
@@ -46,7 +45,7 @@ fn push_three(out: &mut Octets, first: u32, second: u32, third: u32) -> M<()>
 }
 
 /// Appends the fields of a header.
-fn push_fields(alloc: Global, out: &mut Octets, header: &Header) -> M<()>
+fn push_fields(out: &mut Octets, header: &Header) -> M<()>
     ensures { OnOk result (out.new ≡ out.old ++ sight.header_text (header_of header.now)) }
 {
     let bits = header.bits.bsl().bits();
@@ -57,13 +56,13 @@ fn push_fields(alloc: Global, out: &mut Octets, header: &Header) -> M<()>
         u32::from(header.proto),
         u32::from(header.bfir),
     )?;
-    push_ids(out, &positions(alloc, &header.bits)?)?;
+    push_positions(out, &header.bits)?;
     out.push(b'\n')
 }
 
 /// Appends the line of a record whose octets are a BIER packet, and answers how many headers it has: one, or none
 /// where they are no header.
-fn push_header(alloc: Global, out: &mut Octets, number: u64, kind: Kind, bytes: &[u8]) -> M<u64>
+fn push_header(out: &mut Octets, number: u64, kind: Kind, bytes: &[u8]) -> M<u64>
     ensures text { OnOk result (out.new ≡ out.old ++ sight.sight_text number (sight.sight_by kind (coded_header_at kind bytes.now))) }
     ensures count { IfOk result (λ count. count ≡ sight.sight_count (sight.sight_by kind (coded_header_at kind bytes.now))) }
 {
@@ -71,7 +70,7 @@ fn push_header(alloc: Global, out: &mut Octets, number: u64, kind: Kind, bytes: 
         Ok(header) => {
             out.append_number(number)?;
             out.append(kind_text(kind))?;
-            push_fields(alloc, out, &header)?;
+            push_fields(out, &header)?;
             Ok(1)
         }
         Err(fault) => {
@@ -94,7 +93,7 @@ fn begins_bier(bytes: &[u8]) -> bool
 
 /// Appends the line of a record that carries a packet behind labels, whose last one is the first number of a header.
 /// Where the stack can't be read, or no BIER header follows it, there is none.
-fn push_behind_stack(alloc: Global, out: &mut Octets, number: u64, bytes: &[u8]) -> M<u64>
+fn push_behind_stack(out: &mut Octets, number: u64, bytes: &[u8]) -> M<u64>
     ensures text { OnOk result (out.new ≡ out.old ++ sight.sight_text number (sight.behind_stack bytes.now (stack_at 8 bytes.now))) }
     ensures count { IfOk result (λ count. count ≡ sight.sight_count (sight.behind_stack bytes.now (stack_at 8 bytes.now))) }
 {
@@ -103,7 +102,7 @@ fn push_behind_stack(alloc: Global, out: &mut Octets, number: u64, bytes: &[u8])
     };
     let last = 4 * (labels.len() - 1);
     if begins_bier(&bytes[last + 4..]) {
-        push_header(alloc, out, number, Kind::Mpls, &bytes[last..])
+        push_header(out, number, Kind::Mpls, &bytes[last..])
     } else {
         Ok(0)
     }
@@ -112,19 +111,13 @@ fn push_behind_stack(alloc: Global, out: &mut Octets, number: u64, bytes: &[u8])
 /// Appends the line of a record with that frame, where it is one of a BIER packet, and answers how many headers it has:
 /// one, or none.
 #[tactic(auto, unfolding(crate::specs::Sight::sight_of))]
-pub fn push_record(alloc: Global, out: &mut Octets, number: u64, frame: &[u8]) -> M<u64>
+pub fn push_record(_alloc: Global, out: &mut Octets, number: u64, frame: &[u8]) -> M<u64>
     ensures text { OnOk result (out.new ≡ out.old ++ sight.sight_text number (sight.sight_of frame.now)) }
     ensures count { IfOk result (λ count. count ≡ sight.sight_count (sight.sight_of frame.now)) }
 {
     match classify(frame) {
-        Ok(Class::Mpls { from }) => push_behind_stack(alloc, out, number, &frame[from..]),
-        Ok(Class::Bier { from }) => push_header(
-            alloc,
-            out,
-            number,
-            Kind::Configured,
-            &frame[from..],
-        ),
+        Ok(Class::Mpls { from }) => push_behind_stack(out, number, &frame[from..]),
+        Ok(Class::Bier { from }) => { push_header(out, number, Kind::Configured, &frame[from..]) }
         _ => Ok(0),
     }
 }

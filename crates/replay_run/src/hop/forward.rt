@@ -15,7 +15,7 @@ use crate::hop::ways::{AnyTable, Ways};
 use bier_bits::{AnyBits, BitString};
 use bier_hop::{Hop, Out};
 use bift_table::Table;
-use replay_text::push_ids;
+use replay_text::push_set;
 use std::alloc::Global;
 use std::marker::Brand;
 use std::sync::ledger::{Blank, Ledger};
@@ -23,35 +23,6 @@ use wire_base::{First, M, Name, Octets, Steps};
 
 /// A TTL with which each copy goes on.
 const TTL: u16 = 255;
-
-/// The positions of a bit string, ascending.
-pub fn positions(alloc: Global, bits: &AnyBits) -> M<Vec<u16>>
-    ensures { IfOk result (λ ids. ids.items ≡ positions_of bits.now) }
-{
-    let mut ids = Vec::new(alloc);
-    let length = bits.bsl().bits();
-    for place in 0..length {
-        if bits.has(place + 1) {
-            ids.push(place + 1)?;
-        }
-    }
-    Ok(ids)
-}
-
-/// The positions of a set, ascending.
-fn members<const W: usize>(alloc: Global, bits: &BitString<W>) -> M<Vec<u16>>
-    requires { IsTrue (is_width W) }
-    ensures { IfOk result (λ ids. ids.items ≡ bits.now) }
-{
-    let mut ids = Vec::new(alloc);
-    let length = bits.width();
-    for place in 0..length {
-        if bits.has(place + 1) {
-            ids.push(place + 1)?;
-        }
-    }
-    Ok(ids)
-}
 
 /// The number of a packet's line, and what follows it.
 fn begin_line(out: &mut Octets, line: u64, what: &[u8]) -> M<()>
@@ -82,28 +53,29 @@ fn push_local(out: &mut Octets, line: u64, own: u16) -> M<()>
 }
 
 /// One copy.
-fn push_copy(out: &mut Octets, line: u64, name: &[u8], ids: &[u16]) -> M<()>
-    ensures { OnOk result (out.new ≡ out.old ++ forward.outcome_text line (forward.Copy name.now ids.now)) }
+fn push_copy<const W: usize>(out: &mut Octets, line: u64, name: &[u8], set: &BitString<W>) -> M<()>
+    requires { IsTrue (is_width W) }
+    ensures { OnOk result (out.new ≡ out.old ++ forward.outcome_text line (forward.Copy name.now set.now)) }
 {
     begin_line(out, line, b" copy ")?;
     out.append(name)?;
     out.push(b' ')?;
-    push_ids(out, ids)?;
+    push_set(out, set)?;
     out.push(b'\n')
 }
 
 /// The ids without a row are dropped.
-fn push_drop(out: &mut Octets, line: u64, ids: &[u16]) -> M<()>
-    ensures { OnOk result (out.new ≡ out.old ++ forward.outcome_text line (forward.Dropped ids.now)) }
+fn push_drop<const W: usize>(out: &mut Octets, line: u64, set: &BitString<W>) -> M<()>
+    requires { IsTrue (is_width W) }
+    ensures { OnOk result (out.new ≡ out.old ++ forward.outcome_text line (forward.Dropped set.now)) }
 {
     begin_line(out, line, b" drop none ")?;
-    push_ids(out, ids)?;
+    push_set(out, set)?;
     out.push(b'\n')
 }
 
 /// The line of an outcome.
 fn push_outcome<const W: usize>(
-    alloc: Global,
     out: &mut Octets,
     line: u64,
     names: &[Name],
@@ -114,20 +86,13 @@ fn push_outcome<const W: usize>(
 {
     match one {
         Out::Local(own) => push_local(out, line, *own),
-        Out::Copy { to, set, .. } => {
-            let ids = members(alloc, set)?;
-            push_copy(out, line, name_of(names, to), &ids)
-        }
-        Out::Dropped { set, .. } => {
-            let ids = members(alloc, set)?;
-            push_drop(out, line, &ids)
-        }
+        Out::Copy { to, set, .. } => push_copy(out, line, name_of(names, to), set),
+        Out::Dropped { set, .. } => push_drop(out, line, set),
     }
 }
 
 /// The lines of the outcomes that are left of a packet.
 fn push_left<const W: usize, L: Ledger>(
-    alloc: Global,
     out: &mut Octets,
     line: u64,
     names: &[Name],
@@ -139,7 +104,7 @@ fn push_left<const W: usize, L: Ledger>(
     ensures { OnOk result (out.new ≡ out.old ++ texts line names.now (left (chosen hop.entry.table) hop.entry)) }
 {
     'outcomes: while let Some(one) = hop.next(steps) {
-        push_outcome(alloc, out, line, names, &one)?;
+        push_outcome(out, line, names, &one)?;
     }
     Ok(())
 }
@@ -157,7 +122,6 @@ fn own_position(own: u16, bits: u16) -> Option<u16>
 
 /// The lines of a packet at a table.
 fn push_hop<const W: usize, L: Ledger>(
-    alloc: Global,
     out: &mut Octets,
     line: u64,
     names: &[Name],
@@ -172,12 +136,11 @@ fn push_hop<const W: usize, L: Ledger>(
 {
     let own = own_position(own, set.width());
     let hop = Hop::begin(table, own, set.copy(), TTL);
-    push_left(alloc, out, line, names, hop, steps)
+    push_left(out, line, names, hop, steps)
 }
 
 /// The lines of a packet at a table of its length, with a ledger for the steps, which nobody reads.
 fn push_along<L: Ledger>(
-    alloc: Global,
     out: &mut Octets,
     line: u64,
     own: u16,
@@ -196,25 +159,25 @@ fn push_along<L: Ledger>(
     let names = ways.names.as_slice();
     match (&ways.table, bits) {
         (AnyTable::B64(table), AnyBits::B64(set)) => {
-            push_hop(alloc, out, line, names, own, table, set, &mut steps)
+            push_hop(out, line, names, own, table, set, &mut steps)
         }
         (AnyTable::B128(table), AnyBits::B128(set)) => {
-            push_hop(alloc, out, line, names, own, table, set, &mut steps)
+            push_hop(out, line, names, own, table, set, &mut steps)
         }
         (AnyTable::B256(table), AnyBits::B256(set)) => {
-            push_hop(alloc, out, line, names, own, table, set, &mut steps)
+            push_hop(out, line, names, own, table, set, &mut steps)
         }
         (AnyTable::B512(table), AnyBits::B512(set)) => {
-            push_hop(alloc, out, line, names, own, table, set, &mut steps)
+            push_hop(out, line, names, own, table, set, &mut steps)
         }
         (AnyTable::B1024(table), AnyBits::B1024(set)) => {
-            push_hop(alloc, out, line, names, own, table, set, &mut steps)
+            push_hop(out, line, names, own, table, set, &mut steps)
         }
         (AnyTable::B2048(table), AnyBits::B2048(set)) => {
-            push_hop(alloc, out, line, names, own, table, set, &mut steps)
+            push_hop(out, line, names, own, table, set, &mut steps)
         }
         (AnyTable::B4096(table), AnyBits::B4096(set)) => {
-            push_hop(alloc, out, line, names, own, table, set, &mut steps)
+            push_hop(out, line, names, own, table, set, &mut steps)
         }
         _ => unreachable!(),
     }
@@ -223,7 +186,7 @@ fn push_along<L: Ledger>(
 /// Appends the lines of a packet: the line's number, and what is done with each id. It is one hop over the table of the rows,
 /// seen by names.
 pub fn push_outcomes(
-    alloc: Global,
+    _alloc: Global,
     out: &mut Octets,
     line: u64,
     own: u16,
@@ -235,5 +198,5 @@ pub fn push_outcomes(
     ensures { (rows : List HopRow) → AreWays rows ways.now → OnOk result (out.new ≡ out.old ++ forward.outcomes_text line (forward.outcomes own rows (positions_of bits.now))) }
 {
     let _bsl = bits.bsl();
-    push_along::<Brand>(alloc, out, line, own, ways, bits, Blank::new(1))
+    push_along::<Brand>(out, line, own, ways, bits, Blank::new(1))
 }

@@ -5,6 +5,7 @@ ghost use Rattle.replay_text.specs.declared.fault.TextFault.TheVariants as fault
 ghost use Rattle.bier_bits.specs.Any.{positions_of};
 ghost use Rattle.wire_base.specs.declared.status.Status.TheVariants as status;
 ghost use Rattle.replay_run.specs.declared.reader.Found.TheVariants as found;
+ghost use Rattle.replay_text.specs.Fault.{rule_text, fault_text};
 ghost use Rattle.replay_run.specs.HopText as text;
 ghost use Rattle.replay_run.specs.Texts.{Close, Ended, Longer};
 ghost use Rattle.replay_run.specs.HopReached.{GoesOn, EndsWith, Turns};
@@ -16,8 +17,9 @@ use crate::hop::forward::push_outcomes;
 use crate::hop::ways::{Ways, ways_of};
 use crate::reader::Found;
 use bier_bits::AnyBits;
-use replay_text::{HopLine, HopRow, HopState, TextFault, read_hop_line};
+use replay_text::{HopLine, HopRow, HopState, TextFault, push_rule, read_hop_line};
 use std::alloc::Global;
+use wire_base::limits::LINE_LIMIT;
 use wire_base::{Bsl, M, Memory, Octets, Rows, Status};
 
 /// Nothing done yet.
@@ -38,28 +40,14 @@ pub fn begin(alloc: Global) -> Reached
     }
 }
 
-/// The number and the name of a rule that a line breaks.
-fn fault_text(fault: TextFault) -> &'static [u8]
-    ensures { result.now ≡ text.fault_text fault }
-{
-    match fault {
-        TextFault::Word => b"1 Word",
-        TextFault::Number => b"2 Number",
-        TextFault::Name => b"3 Name",
-        TextFault::Hex => b"4 Hex",
-        TextFault::LineLong => b"5 LineLong",
-        TextFault::Memory => b"",
-    }
-}
-
 /// The line of a refusal.
-fn push_refused(out: &mut Octets, line: u64, why: &[u8]) -> M<()>
-    ensures { OnOk result (out.new ≡ out.old ++ text.refused_text line why.now) }
+fn push_refused(out: &mut Octets, line: u64, number: u8, name: &[u8]) -> M<()>
+    ensures { OnOk result (out.new ≡ out.old ++ text.refused_text line (rule_text number name.now)) }
 {
     out.append(b"refused ")?;
     out.append_number(line)?;
     out.append(b" text ")?;
-    out.append(why)?;
+    push_rule(out, number, name)?;
     out.push(b'\n')
 }
 
@@ -149,12 +137,12 @@ fn accept(
 fn refuse(out: &mut Octets, line: u64, why: TextFault) -> M<Status>
     ensures known { OnOk result (why ≢ fault.Memory) }
     ensures status { IfOk result (λ ended. ended ≡ status.InputRefused) }
-    ensures text { OnOk result (out.new ≡ out.old ++ text.refused_text line (text.fault_text why)) }
+    ensures text { OnOk result (out.new ≡ out.old ++ text.refused_text line (fault_text why)) }
 {
     if why == TextFault::Memory {
         return Err(Memory);
     }
-    push_refused(out, line, fault_text(why))?;
+    push_refused(out, line, why.number(), why.name())?;
     Ok(Status::InputRefused)
 }
 
@@ -171,14 +159,14 @@ fn stop_at_limit(reached: &mut Reached, lines: u64) -> M<Status>
     requires { lines + 1 < 2 ^ 64 }
     ensures { IfOk result (λ ended. EndsWith Longer lines [] reached.old reached.new (Some ended)) }
 {
-    push_refused(&mut reached.lines, lines + 1, b"6 TooLong")?;
+    push_refused(&mut reached.lines, lines + 1, 6, b"TooLong")?;
     Ok(Status::InputRefused)
 }
 
 /// Ends the report at a line that is too long.
 fn stop_at_long(reached: &mut Reached, lines: u64) -> M<Status>
     requires { lines + 1 < 2 ^ 64 }
-    ensures { IfOk result (λ ended. (close : Close) (long : List ℕ) (more : List (List ℕ)) → 16384 < length long → EndsWith close lines (long ∷ more) reached.old reached.new (Some ended)) }
+    ensures { IfOk result (λ ended. (close : Close) (long : List ℕ) (more : List (List ℕ)) → LINE_LIMIT < length long → EndsWith close lines (long ∷ more) reached.old reached.new (Some ended)) }
 {
     refuse(&mut reached.lines, lines + 1, TextFault::LineLong)
 }

@@ -3,7 +3,8 @@ ghost use Rattle.std.specs.Prelude.{◌≡◌, ◌<◌, ◌≤◌, ◌+◌, ◌^
 ghost use Rattle.wire_base.specs.declared.status.Status.TheVariants as status;
 ghost use Rattle.replay_text.specs.declared.fault.TextFault.TheVariants as texts;
 ghost use Rattle.replay_text.specs.Events.{LineFits};
-ghost use Rattle.domain_replay.specs.Lines.{text_refused_text, text_fault};
+ghost use Rattle.domain_replay.specs.Lines.{text_refused_text};
+ghost use Rattle.replay_text.specs.Fault.{fault_text};
 ghost use Rattle.domain_replay.specs.Telling.{LineNamesOnce};
 ghost use Rattle.domain_replay.specs.Texts.{names_of, line_reaches};
 ghost use Rattle.replay_run.specs.declared.reader.Found.TheVariants as found;
@@ -14,12 +15,13 @@ use crate::reader::Found;
 use domain_replay::Replay;
 use replay_text::{Line, TextFault, read_line};
 use std::alloc::Global;
+use wire_base::limits::{LINE_LIMIT, MOST_ROUTERS, TEXT_LIMIT};
 use wire_base::{Domain, M, Name, Rows, Status};
 
 /// The names of a domain's routers, by place.
 pub fn names_in(alloc: Global, domain: &Domain) -> M<Rows<Name>>
     ensures names { IfOk result (λ names. names ≡ names_of domain.now) }
-    ensures few { IfOk result (λ names. length names ≤ 250) }
+    ensures few { IfOk result (λ names. length names ≤ MOST_ROUTERS) }
 {
     let mut names = Rows::new(alloc);
     for router in domain.routers.as_slice() {
@@ -32,7 +34,7 @@ pub fn names_in(alloc: Global, domain: &Domain) -> M<Rows<Name>>
 fn refuse(alloc: Global, replay: &mut Replay, line: u64, why: TextFault) -> M<Status>
     ensures known { OnOk result (why ≢ texts.Memory) }
     ensures status { IfOk result (λ ended. ended ≡ status.InputRefused) }
-    ensures report { OnOk result (replay.new ≡ record replay.old { report = replay.old.report ++ text_refused_text line (text_fault why) }) }
+    ensures report { OnOk result (replay.new ≡ record replay.old { report = replay.old.report ++ text_refused_text line (fault_text why) }) }
 {
     replay.refuse_text(alloc, line, why)?;
     Ok(Status::InputRefused)
@@ -62,8 +64,8 @@ fn do_line(
     lines: u64,
     line: &[u8],
 ) -> M<Option<Status>>
-    requires lines { lines ≤ 67108864 }
-    requires few { length names.now ≤ 250 }
+    requires lines { lines ≤ TEXT_LIMIT }
+    requires few { length names.now ≤ MOST_ROUTERS }
     requires names { names.now ≡ names_of replay.old.world.domain }
     ensures { IfOk result (λ ended. (course : Course) → IsAt course replay.old → Reaches (next_reaches lines course line.now) course replay.new ended) }
 {
@@ -83,7 +85,7 @@ fn finish(alloc: Global, replay: &mut Replay, lines: u64) -> M<Status>
 
 /// Ends the report at the line that makes a schedule too long.
 fn stop_at_limit(alloc: Global, replay: &mut Replay, lines: u64) -> M<Status>
-    requires { lines ≤ 67108864 }
+    requires { lines ≤ TEXT_LIMIT }
     ensures { IfOk result (λ ended. (course : Course) → IsAt course replay.old → EndsWith Longer lines [] course replay.new (Some ended)) }
 {
     replay.refuse_length(alloc, lines + 1)?;
@@ -92,8 +94,8 @@ fn stop_at_limit(alloc: Global, replay: &mut Replay, lines: u64) -> M<Status>
 
 /// Ends the report at a line that is too long.
 fn stop_at_long(alloc: Global, replay: &mut Replay, lines: u64) -> M<Status>
-    requires { lines ≤ 67108864 }
-    ensures { IfOk result (λ ended. (course : Course) → IsAt course replay.old → (long : List ℕ) → 16384 < length long → Reaches (next_reaches lines course long) course replay.new (Some ended)) }
+    requires { lines ≤ TEXT_LIMIT }
+    ensures { IfOk result (λ ended. (course : Course) → IsAt course replay.old → (long : List ℕ) → LINE_LIMIT < length long → Reaches (next_reaches lines course long) course replay.new (Some ended)) }
 {
     refuse(alloc, replay, lines + 1, TextFault::LineLong)
 }
@@ -106,8 +108,8 @@ fn do_last(
     lines: u64,
     line: &[u8],
 ) -> M<Status>
-    requires lines { lines ≤ 67108864 }
-    requires few { length names.now ≤ 250 }
+    requires lines { lines ≤ TEXT_LIMIT }
+    requires few { length names.now ≤ MOST_ROUTERS }
     requires names { names.now ≡ names_of replay.old.world.domain }
     ensures { IfOk result (λ ended. (course : Course) → IsAt course replay.old → EndsWith Ended lines (line.now ∷ []) course replay.new (Some ended)) }
 {
@@ -126,8 +128,8 @@ pub fn take_found(
     lines: u64,
     line: &[u8],
 ) -> M<Option<Status>>
-    requires lines { lines ≤ 67108864 }
-    requires few { length names.now ≤ 250 }
+    requires lines { lines ≤ TEXT_LIMIT }
+    requires few { length names.now ≤ MOST_ROUTERS }
     requires names { names.now ≡ names_of replay.old.world.domain }
     ensures turn { IfOk result (λ ended. (course : Course) → IsAt course replay.old → Turns what lines line.now course replay.new ended) }
     ensures known { OnErr result (what ≢ found.Failed) }

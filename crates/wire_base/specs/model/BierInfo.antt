@@ -2,6 +2,7 @@
 use Rattle.std.specs.Prelude.{◌≡◌, ℕ, zero, suc, ◌+◌, ◌-◌, ◌*◌, ◌/◌, ◌%◌, ◌^◌, ◌<◌, ◌≤◌, Bool, true, false, not, ◌&&◌, ◌||◌, List, [], ◌∷◌, ◌++◌, length, map, drop, replicate, slice_index, get_or, set, Option, Some, None, Result, Ok, Err, nat_lt, nat_le, ◌==◌, slice_get, IsSomeAnd, if◌then◌else◌}
 use Rattle.std.specs.List.{flat_map, filter_map, list_any, AllByRecursion}
 use Rattle.byteorder.specs.Endian.{big_bytes, big_number}
+use Rattle.wire_base.specs.declared.limits.TheConstants.{LAST_LABEL}
 use Rattle.wire_base.specs.declared.faults.TlvFault.{TlvFault}
 use Rattle.wire_base.specs.declared.faults.InfoFault.{InfoFault}
 use Rattle.wire_base.specs.declared.faults.InfoFault.TheVariants as faults
@@ -39,7 +40,7 @@ info_tlv i = record { code = 32; value = info i }
 -- The last label of a range is one of 20 bits.
 pub record RangeFits (r : LabelRange) : Type 0 where
   pub max_si : r.max_si < 256
-  pub last : r.label + r.max_si ≤ 1048575
+  pub last : r.label + r.max_si ≤ LAST_LABEL
 
 -- no two of the lengths are the same
 abbrev pub AreApart : List Bsl → Type 0
@@ -62,7 +63,7 @@ word_bsl word = bsl_coded (word / 1048576 % 16)
 -- a range of that length, where its last label is one of 20 bits
 abbrev pub range_with : Option Bsl → ℕ → Option LabelRange
 range_with None word = None
-range_with (Some bsl) word = if nat_lt 1048575 (word % 1048576 + word / 16777216) then None else Some (record { bsl = bsl; max_si = word / 16777216; label = word % 1048576 })
+range_with (Some bsl) word = if nat_lt LAST_LABEL (word % 1048576 + word / 16777216) then None else Some (record { bsl = bsl; max_si = word / 16777216; label = word % 1048576 })
 
 abbrev pub is_range : Tlv → Bool
 is_range t = t.code == 1
@@ -101,7 +102,7 @@ abbrev pub take_known : Parts → Bsl → ℕ → Result Parts InfoFault
 take_known p bsl word =
     let place = code_of bsl - 1 in
     if get_or p.seen place false then Err faults.RepeatedLength
-    else Ok (record { seen = set p.seen place true; ranges = if nat_lt 1048575 (word % 1048576 + word / 16777216) then p.ranges else p.ranges ++ record { bsl = bsl; max_si = word / 16777216; label = word % 1048576 } ∷ [] })
+    else Ok (record { seen = set p.seen place true; ranges = if nat_lt LAST_LABEL (word % 1048576 + word / 16777216) then p.ranges else p.ranges ++ record { bsl = bsl; max_si = word / 16777216; label = word % 1048576 } ∷ [] })
 
 abbrev pub take_if : Parts → Option Bsl → ℕ → Result Parts InfoFault
 take_if p None word = Ok p

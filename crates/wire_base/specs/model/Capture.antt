@@ -2,6 +2,7 @@
 -- format, version 2.4). The magic number tells in which order the octets of all numbers stand.
 use Rattle.std.specs.Prelude.{◌≡◌, ℕ, zero, suc, ◌+◌, ◌-◌, ◌/◌, ◌%◌, ◌<◌, ◌≤◌, Bool, true, false, ◌&&◌, List, [], ◌∷◌, ◌++◌, length, take, drop, Result, Ok, Err, Option, Some, None, nat_lt, ◌==◌, not, if◌then◌else◌}
 use Rattle.byteorder.specs.Endian.{big_bytes, little_bytes, big_number, little_number}
+use Rattle.wire_base.specs.declared.limits.TheConstants.{MOST_CAPTURED}
 use Rattle.wire_base.specs.declared.faults.CaptureFault.{CaptureFault}
 use Rattle.wire_base.specs.declared.faults.CaptureFault.TheVariants as faults
 
@@ -20,7 +21,7 @@ pub record CaptureRecord : Type 0 where
 
 -- the most octets of a record's frame
 abbrev pub most_captured : ℕ
-most_captured = 262144
+most_captured = MOST_CAPTURED
 
 -- a number in its octets
 abbrev pub octets_in : CaptureForm → ℕ → ℕ → List ℕ

@@ -35,20 +35,9 @@ is_length (Some n) m = n == m
 unfoldable pub is_direct : List ViewNode → ℕ → ℕ → Bool
 is_direct g u x = list_any (λ e. (e.to == x) && is_length (dist g u x) e.metric) (edges_of g u)
 
--- the choice where it is direct, for a router that has no tunnels
-abbrev pub if_direct : List ViewNode → ℕ → ℕ → Option ℕ
-if_direct g u x = if is_direct g u x then Some x else None
-
-unfoldable pub direct_choice : List ViewNode → (ℕ → Bool) → ℕ → ℕ → ℕ → Option ℕ
-direct_choice g c d class u = option_and_then (if_direct g u) (choice g c d class u)
-
 -- where u sends the id k in packets of a triple: none where no node, or more than one, has k in the triple's subdomain
 abbrev pub choose : List ViewNode → List SubKind → List TableRow → Triple → ℕ → ℕ → ℕ → Option ℕ
 choose g kinds table t class u k = option_and_then (λ d. choice g (covers_at kinds table t g) d class u) (owner g t.sd k)
-
-abbrev pub choose_direct : List ViewNode → List SubKind → List TableRow → Triple → ℕ → ℕ → ℕ → Option ℕ
-choose_direct g kinds table t class u k =
-    option_and_then (λ d. direct_choice g (covers_at kinds table t g) d class u) (owner g t.sd k)
 
 -- The candidates of each bit position, as a forwarding table is built from them.
 

@@ -2,6 +2,7 @@
 use Rattle.std.specs.Prelude.{◌≡◌, ℕ, ◌+◌, ◌*◌, ◌%◌, ◌<◌, ◌≤◌, Bool, true, false, ◌==◌, ◌&&◌, ◌||◌, nat_le, List, [], ◌∷◌, length, slice_index, slice_get, sum_by, flat_map, filter_map, Option, Some, None, if◌then◌else◌}
 use Rattle.std.specs.List.{AllByRecursion, list_all}
 use Rattle.std.specs.Str.{bytes_eq}
+use Rattle.wire_base.specs.declared.limits.TheConstants.{LAST_LABEL, MOST_ENDS, MOST_ROUTERS, MOST_SUB_OCTETS, MOST_SUBDOMAINS, MOST_TABLE_ROWS}
 use Rattle.wire_base.specs.declared.addresses.SystemId.{SystemId}
 use Rattle.wire_base.specs.declared.conf.Kind.{Kind}
 use Rattle.wire_base.specs.declared.conf.Kind.TheVariants.{Mpls, Configured}
@@ -58,13 +59,13 @@ pub record IsStation (octets : List ℕ) : Type 0 where
 pub record IsLabelRange (x : LabelRange) : Type 0 where
   pub max_si : x.max_si < 256
   pub first : 16 ≤ x.label
-  pub last : x.label + x.max_si ≤ 1048575
+  pub last : x.label + x.max_si ≤ LAST_LABEL
 
 pub record IsTableRow (row : TableRow) : Type 0 where
   pub sd : row.triple.sd < 256
   pub si : row.triple.si < 256
   pub some : 1 ≤ row.bift
-  pub last : row.bift ≤ 1048575
+  pub last : row.bift ≤ LAST_LABEL
 
 -- the metric is below the one that keeps a link out of paths (RFC 5305, 3)
 pub record IsEnd (e : End) : Type 0 where
@@ -124,17 +125,17 @@ pub record IsSound (r : RouterConf) : Type 0 where
   pub name : is_name r.name ≡ true
   pub system : IsOctets 6 r.system.0
   pub prefix : IsPrefix r.prefix.0
-  pub few_subs : length r.subs ≤ 8
+  pub few_subs : length r.subs ≤ MOST_SUBDOMAINS
   pub subs : AllByRecursion IsOwnSub r.subs
   pub subdomains : AreApart same_sub r.subs
   pub labels : AreApart share_label (all_ranges r.subs)
-  pub room : sub_octets r.subs ≤ 245
+  pub room : sub_octets r.subs ≤ MOST_SUB_OCTETS
   pub kinds : AllByRecursion (λ k. k.sd < 256) r.kinds
   pub kinds_once : AreApart same_kind r.kinds
   pub rows : AllByRecursion IsTableRow r.table
   pub triples : AreApart same_row r.table
   pub bifts : AreApart same_bift r.table
-  pub few_ends : length r.ends ≤ 64
+  pub few_ends : length r.ends ≤ MOST_ENDS
   pub ends : AllByRecursion IsEnd r.ends
   pub peers : AreApart same_peer r.ends
   pub peer_macs : AreApart same_peer_mac r.ends
@@ -225,10 +226,10 @@ HaveEnds d i (r ∷ rs) = AreEnds d.routers r (peers_of i d.links) r.ends × Hav
 -- When a domain is valid. BFR-ids may repeat between routers.
 pub record IsValid (d : DomainConf) : Type 0 where
   pub some : 1 ≤ length d.routers
-  pub few : length d.routers ≤ 250
+  pub few : length d.routers ≤ MOST_ROUTERS
   pub sound : AllByRecursion IsSound d.routers
-  pub few_kinds : AllByRecursion (λ r. length r.kinds ≤ 8) d.routers
-  pub few_rows : AllByRecursion (λ r. length r.table ≤ 2048) d.routers
+  pub few_kinds : AllByRecursion (λ r. length r.kinds ≤ MOST_SUBDOMAINS) d.routers
+  pub few_rows : AllByRecursion (λ r. length r.table ≤ MOST_TABLE_ROWS) d.routers
   pub names : AreApart same_name d.routers
   pub systems : AreApart same_system d.routers
   pub prefixes : AreApart same_prefix d.routers

@@ -6,6 +6,7 @@ use Rattle.std.specs.Ordering.{nat_cmp, ordering_then, match_ordering, is_lt}
 use Rattle.std.specs.Cmp.Lexicographic.{slice_cmp}
 use Rattle.std.specs.List.{AllByRecursion}
 use Rattle.std.specs.Str.{bytes_eq}
+use Rattle.wire_base.specs.declared.limits.TheConstants.{MOST_ENDS, MOST_ENTRIES, PURGE_HOLD}
 use Rattle.wire_base.specs.declared.addresses.SystemId.{SystemId}
 use Rattle.wire_base.specs.declared.addresses.LspId.{LspId}
 use Rattle.wire_base.specs.declared.conf.RouterConf.{RouterConf}
@@ -43,7 +44,7 @@ AreAscending (x ∷ xs) = AllByRecursion (λ y. is_below x y ≡ true) xs × Are
 -- ---- the database: entries in the order of their identifiers, none twice
 
 abbrev pub most_entries : ℕ
-most_entries = 4096
+most_entries = MOST_ENTRIES
 
 abbrev pub ids_of : List Entry → List LspId
 ids_of entries = map (λ e. e.id) entries
@@ -72,11 +73,12 @@ summary_of e = record { life = e.life; id = e.id; seq = e.seq; sum = e.sum }
 
 -- a dead entry: for a minute its sequence number is kept, and nothing else of it (ISO/IEC 10589, 7.3.16.4)
 abbrev pub purge : LspId → ℕ → Entry
-purge id seq = record { id = id; seq = seq; life = 0; hold = 60; sum = 0; flags = 0; content = [] }
+purge id seq = record { id = id; seq = seq; life = 0; hold = PURGE_HOLD; sum = 0; flags = 0; content = [] }
 
 -- ---- how new something is beside an entry (ISO/IEC 10589, 7.3.16.2)
 
--- at one sequence number: whether the entry is dead, whether the other is, whether the checksums agree
+-- At one sequence number: whether the entry is dead, whether the other is, whether the checksums agree. Two live ones whose
+-- checksums differ are LSP confusion (ISO/IEC 10589, 7.3.16.2).
 abbrev pub age_by_life : Bool → Bool → Bool → Age
 age_by_life true true sums = Equal
 age_by_life true false sums = Older
@@ -98,13 +100,13 @@ is_unknown Equal = false
 is_unknown Older = false
 is_unknown Confused = false
 
--- newer, or at odds with the entry
-abbrev pub is_newer : Age → Bool
-is_newer Unknown = false
-is_newer Newer = true
-is_newer Equal = false
-is_newer Older = false
-is_newer Confused = true
+-- newer, or of equal sequence number and another checksum (LSP confusion)
+abbrev pub is_newer_or_confused : Age → Bool
+is_newer_or_confused Unknown = false
+is_newer_or_confused Newer = true
+is_newer_or_confused Equal = false
+is_newer_or_confused Older = false
+is_newer_or_confused Confused = true
 
 -- ---- one second (ISO/IEC 10589, 7.3.16.3 and 7.3.16.4)
 
@@ -200,7 +202,7 @@ pub record IsFlagRow (up : List Bool) (row : FlagRow) : Type 0 where
 
 -- what every flood state keeps
 pub record IsFlood (f : Flood) : Type 0 where
-  pub few : length f.up ≤ 64
+  pub few : length f.up ≤ MOST_ENDS
   pub due_up : IsWithinLinks f.due f.up
   pub rows : AllByRecursion (IsFlagRow f.up) f.rows
   pub in_order : AreAscending (map (λ row. row.id) f.rows)

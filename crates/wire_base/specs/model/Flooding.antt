@@ -6,6 +6,7 @@
 use Rattle.std.specs.Prelude.{ℕ, ◌+◌, ◌==◌, ◌&&◌, ◌||◌, not, nat_lt, Bool, true, false, List, [], ◌∷◌, ◌++◌, length, map, filter, fold, take, replicate, slice_index, slice_index_or, slice_set, Option, Some, None, if◌then◌else◌}
 use Rattle.std.specs.List.{filter_map, list_any}
 use Rattle.byteorder.specs.Endian.{big_bytes, big_number}
+use Rattle.wire_base.specs.declared.limits.TheConstants.{MOST_LISTED, PURGE_HOLD, REFRESH_LIFE}
 use Rattle.wire_base.specs.declared.addresses.SystemId.{SystemId}
 use Rattle.wire_base.specs.declared.addresses.LspId.{LspId}
 use Rattle.wire_base.specs.declared.cause.Cause.{Cause}
@@ -24,7 +25,7 @@ use Rattle.wire_base.specs.model.Lists.{blocks}
 use Rattle.wire_base.specs.model.Tlv.{lsp_id, rows_of}
 use Rattle.wire_base.specs.model.Pdu.{Head, head_summary, row_tlvs}
 use Rattle.wire_base.specs.model.Pdu.{Pdu, LspPdu, CsnpPdu, PsnpPdu, HelloPdu, OtherPdu}
-use Rattle.wire_base.specs.model.Control.{same_system, same_id, is_below, entry_in, put_entry, is_full, seq_of, summary_of, purge, age_of, is_unknown, is_newer, aged, after_second, FlagRow, at_row, without_row, Flood, srm, ssn, Control, fragment_0, own_entry_in}
+use Rattle.wire_base.specs.model.Control.{same_system, same_id, is_below, entry_in, put_entry, is_full, seq_of, summary_of, purge, age_of, is_unknown, is_newer_or_confused, aged, after_second, FlagRow, at_row, without_row, Flood, srm, ssn, Control, fragment_0, own_entry_in}
 use Rattle.wire_base.specs.model.OwnLsp.{own_lsp}
 
 -- ---- flags
@@ -94,7 +95,9 @@ kept h tlvs =
 abbrev pub stores : Flood → List Entry → ℕ → Entry → LspAnswer
 stores f entries link e = record { flood = pass_on f e.id link; entries = put_entry e entries; answer = out.Kept }
 
--- by how new it is, where it isn't a matter of the own LSPs
+-- By how new it is, where it isn't a matter of the own LSPs. One of equal sequence number and another checksum is LSP
+-- confusion (ISO/IEC 10589, 7.3.16.2): nobody can tell which of the two its system meant, so the entry becomes a purge of
+-- that sequence number, which goes out on all links, and the system that issued it issues a newer one when it hears the purge.
 abbrev pub lsp_aged : Flood → List Entry → ℕ → Head → List ℕ → Age → LspAnswer
 lsp_aged f entries link h tlvs Unknown =
     if h.life == 0 then only_says f entries (out.Ack (head_summary h))
@@ -107,11 +110,11 @@ lsp_aged f entries link h tlvs Older = flags_alone (with_row f h.id (send_on lin
 
 -- an LSP of the own system that the router didn't issue, or issued before it restarted
 abbrev pub is_stray : Flood → Head → Age → Bool
-is_stray f h age = same_system h.id.system f.own && (nat_lt 0 h.life && (is_unknown age || is_newer age))
+is_stray f h age = same_system h.id.system f.own && (nat_lt 0 h.life && (is_unknown age || is_newer_or_confused age))
 
 -- the own LSP, at another sequence number or another content than the router's
 abbrev pub is_own_ahead : Flood → LspId → Bool → Age → Bool
-is_own_ahead f id spent age = same_id id (fragment_0 f.own) && (not spent && is_newer age)
+is_own_ahead f id spent age = same_id id (fragment_0 f.own) && (not spent && is_newer_or_confused age)
 
 abbrev pub lsp_in : Flood → List Entry → ℕ → Head → List ℕ → Bool → Age → LspAnswer
 lsp_in f entries link h tlvs spent age =
@@ -137,7 +140,7 @@ with_flags a id change = record a { flood = with_row a.flood id change }
 -- A peer has an LSP that is unknown here. An empty entry of sequence number 0 stands for it until it comes, and asks
 -- for it.
 abbrev pub wanted : Summary → Entry
-wanted s = record { id = s.id; seq = 0; life = 0; hold = 60; sum = 0; flags = 0; content = [] }
+wanted s = record { id = s.id; seq = 0; life = 0; hold = PURGE_HOLD; sum = 0; flags = 0; content = [] }
 
 abbrev pub asks : SnpAnswer → ℕ → Summary → SnpAnswer
 asks a link s =
@@ -148,7 +151,8 @@ asks a link s =
 abbrev pub is_live_summary : Summary → Bool
 is_live_summary s = nat_lt 0 s.life && (nat_lt 0 s.seq && nat_lt 0 s.sum)
 
--- by how new the listed one is; its sequence number is above 0
+-- By how new the listed one is; its sequence number is above 0. Confusion purges here too, but of the own LSP, which is issued
+-- anew past that number.
 abbrev pub listed_aged : SnpAnswer → ℕ → Summary → Bool → Age → SnpAnswer
 listed_aged a link s spent Unknown = if is_live_summary s then asks a link s else a
 listed_aged a link s spent Newer = with_flags a s.id (ask_on link)
@@ -298,7 +302,7 @@ aged_all c = record c { flood = fold flood_aged c.flood c.entries; entries = fil
 
 -- the own LSP is issued anew when so many seconds of its life are left
 abbrev pub refresh_life : ℕ
-refresh_life = 300
+refresh_life = REFRESH_LIFE
 
 abbrev pub is_stale : Option Entry → Bool
 is_stale None = false
@@ -342,7 +346,7 @@ csnps c start (block ∷ next ∷ more) = csnp_of c start (last_listed start blo
 
 -- a sequence number PDU lists so many entries
 abbrev pub most_listed : ℕ
-most_listed = 90
+most_listed = MOST_LISTED
 
 abbrev pub is_known : Entry → Bool
 is_known e = nat_lt 0 e.seq

@@ -1,6 +1,7 @@
 -- The routers that one router knows of and the links between them, as a graph. A node is named by its place in the list.
 use Rattle.std.specs.Prelude.{◌≡◌, ℕ, ◌≤◌, ◌<◌, ◌^◌, ◌==◌, ◌&&◌, ◌||◌, nat_lt, Bool, true, false, List, [], ◌∷◌, length, slice_get, All, AllPairs, Option, Some, None, is_some, option_map, filter, if◌then◌else◌}
 use Rattle.std.specs.List.{list_any, range_with_len}
+use Rattle.wire_base.specs.declared.limits.TheConstants.{MOST_NODES}
 use Rattle.wire_base.specs.declared.addresses.SystemId.{SystemId}
 use Rattle.wire_base.specs.declared.conf.SubKind.{SubKind}
 use Rattle.wire_base.specs.declared.conf.TableRow.{TableRow}
@@ -58,7 +59,7 @@ ShareNoPrefix a b = All (λ s. All (λ r. s.prefix ≡ r.prefix → ⊥) b.subs)
 
 -- what every view keeps: the nodes stand in the order of their systems, each once
 pub record IsGraph (g : List ViewNode) : Type 0 where
-  pub few : length g ≤ 65536
+  pub few : length g ≤ MOST_NODES
   pub in_order : AllPairs (λ a b. IsBefore a.system b.system) g
   pub nodes : All (λ n. IsNode (length g) n) g
   pub prefixes_differ : AllPairs ShareNoPrefix g

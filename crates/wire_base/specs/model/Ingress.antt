@@ -1,6 +1,6 @@
 -- Where a packet enters the domain: the packets that a list of BFR-ids makes, one for each set identifier, and what the
 -- router does with them (RFC 8279, 3 and 6.5; RFC 8296, 3).
-use Rattle.std.specs.Prelude.{ℕ, ◌+◌, ◌==◌, ◌&&◌, nat_lt, Bool, true, false, List, [], ◌∷◌, map, filter, find, is_none, Option, Some, None, unwrap_or, if◌then◌else◌}
+use Rattle.std.specs.Prelude.{ℕ, ◌+◌, ◌==◌, ◌&&◌, nat_lt, Bool, false, List, [], ◌∷◌, map, filter, find, is_none, Option, Some, None, unwrap_or, if◌then◌else◌}
 use Rattle.std.specs.List.{list_any}
 use Rattle.wire_base.specs.declared.bsl.Bsl.{Bsl}
 use Rattle.wire_base.specs.declared.conf.Kind.{Kind}
@@ -91,13 +91,5 @@ entering r ttl entropy payload p =
 
 -- A payload enters for a list of BFR-ids: each packet is hopped with one more than the given TTL, so that its copies
 -- carry that TTL.
-unfoldable pub inject_with : Bool → Control → ℕ → Bsl → List ℕ → ℕ → ℕ → List ℕ → Effects
-inject_with tunnels c sd bsl ids ttl entropy payload =
-    joined (map (λ p. hop_in tunnels c (entering c.conf ttl entropy payload p) (ttl + 1)) (packets_for sd bsl ids))
-
-abbrev pub inject : Control → ℕ → Bsl → List ℕ → ℕ → ℕ → List ℕ → Effects
-inject c sd bsl ids ttl entropy payload = inject_with true c sd bsl ids ttl entropy payload
-
--- at a router that knows no tunnels
-abbrev pub inject_directly : Control → ℕ → Bsl → List ℕ → ℕ → ℕ → List ℕ → Effects
-inject_directly c sd bsl ids ttl entropy payload = inject_with false c sd bsl ids ttl entropy payload
+unfoldable pub inject : Control → ℕ → Bsl → List ℕ → ℕ → ℕ → List ℕ → Effects
+inject c sd bsl ids ttl entropy payload = joined (map (λ p. hop_in c (entering c.conf ttl entropy payload p) (ttl + 1)) (packets_for sd bsl ids))

@@ -22,7 +22,7 @@ use Rattle.wire_base.specs.declared.faults.PduFault.{PduFault}
 use Rattle.wire_base.specs.declared.triple.Triple.{Triple}
 use Rattle.wire_base.specs.declared.view.ViewNode.{ViewNode}
 use Rattle.wire_base.specs.model.BierHeader.{BierHeader, header_at, header_length, header_octets}
-use Rattle.wire_base.specs.model.Choice.{choose, choose_direct, is_direct, end_toward}
+use Rattle.wire_base.specs.model.Choice.{choose, is_direct, end_toward}
 use Rattle.wire_base.specs.model.Control.{same_system, Control}
 use Rattle.wire_base.specs.model.Ethernet.{Carried, IsisPdu, MplsPacket, BierPacket, IpPacket, OtherFrame, frame_at}
 use Rattle.wire_base.specs.model.Flooding.{Reply, on_pdu}
@@ -203,30 +203,29 @@ outcome_done r g u p (Copy x ids ttl) = copied r g u p x ids ttl
 outcome_done r g u p (Expired ids) = one_drop cause.Ttl (Some (positions_in p ids))
 outcome_done r g u p (NoRow ids) = one_drop cause.NoRow (Some (positions_in p ids))
 
--- where a router with that view sends a BFR-id; without tunnels it knows the routers alone that it reaches directly
-abbrev pub choice_of : Bool → RouterConf → List ViewNode → ℕ → Packet → ℕ → Option ℕ
-choice_of true r g u p k = choose g r.kinds r.table p.triple (class_of p) u k
-choice_of false r g u p k = choose_direct g r.kinds r.table p.triple (class_of p) u k
+-- where a router with that view sends a BFR-id
+abbrev pub choice_of : RouterConf → List ViewNode → ℕ → Packet → ℕ → Option ℕ
+choice_of r g u p k = choose g r.kinds r.table p.triple (class_of p) u k
 
 -- the hop of a packet with a TTL, at the router whose node of the view g is u
-unfoldable pub hop_at : Bool → RouterConf → List ViewNode → ℕ → Packet → ℕ → Effects
-hop_at tunnels r g u p ttl =
-    joined (map (outcome_done r g u p) (hop (own_id r p.triple.sd) (choice_of tunnels r g u p) (ids_in p) ttl))
+unfoldable pub hop_at : RouterConf → List ViewNode → ℕ → Packet → ℕ → Effects
+hop_at r g u p ttl =
+    joined (map (outcome_done r g u p) (hop (own_id r p.triple.sd) (choice_of r g u p) (ids_in p) ttl))
 
 -- the same in the view of a control state
-abbrev pub hop_in : Bool → Control → Packet → ℕ → Effects
-hop_in tunnels c p ttl = hop_at tunnels c.conf (control_view c) (node_place (control_view c) c.conf.system) p ttl
+abbrev pub hop_in : Control → Packet → ℕ → Effects
+hop_in c p ttl = hop_at c.conf (control_view c) (node_place (control_view c) c.conf.system) p ttl
 
 -- ---- the octets of a BIER packet
 
-abbrev pub header_read : Bool → Control → Kind → Triple → List ℕ → Result BierHeader HeadFault → Effects
-header_read tunnels c kind t octets (Ok h) =
-    hop_in tunnels c (record { triple = t; kind = kind; header = h; payload = drop (header_length t.bsl) octets }) h.ttl
-header_read tunnels c kind t octets (Err fault) = dropped (cause.Head fault)
+abbrev pub header_read : Control → Kind → Triple → List ℕ → Result BierHeader HeadFault → Effects
+header_read c kind t octets (Ok h) =
+    hop_in c (record { triple = t; kind = kind; header = h; payload = drop (header_length t.bsl) octets }) h.ttl
+header_read c kind t octets (Err fault) = dropped (cause.Head fault)
 
-abbrev pub meaning_read : Bool → Control → Kind → List ℕ → Option Triple → Effects
-meaning_read tunnels c kind octets None = dropped cause.Label
-meaning_read tunnels c kind octets (Some t) = header_read tunnels c kind t octets (header_at kind t.bsl octets)
+abbrev pub meaning_read : Control → Kind → List ℕ → Option Triple → Effects
+meaning_read c kind octets None = dropped cause.Label
+meaning_read c kind octets (Some t) = header_read c kind t octets (header_at kind t.bsl octets)
 
 -- whether a label isn't the last of its stack
 abbrev pub is_not_last : Kind → ℕ → Bool
@@ -234,11 +233,11 @@ is_not_last Mpls word = word / 256 % 2 == 0
 is_not_last Configured word = false
 
 -- A packet whose BIFT-id is of that kind. Its first number has the BIFT-id, which tells the length of its BitString.
-unfoldable pub on_packet : Bool → Control → Kind → List ℕ → Effects
-on_packet tunnels c kind octets =
+unfoldable pub on_packet : Control → Kind → List ℕ → Effects
+on_packet c kind octets =
     if nat_lt (length octets) 4 then dropped (cause.Head head_fault.Short) else
     if is_not_last kind (big_number 4 octets) then dropped cause.Label else
-    meaning_read tunnels c kind octets (means c.conf kind (big_number 4 octets / 4096))
+    meaning_read c kind octets (means c.conf kind (big_number 4 octets / 4096))
 
 -- ---- tunnels
 
@@ -264,41 +263,32 @@ in_transit c octets t =
 -- at its end its inside is a packet that came without a tunnel
 abbrev pub tunnel_taken : Control → List ℕ → TunnelPacket → Effects
 tunnel_taken c octets t =
-    if bytes_eq t.dst.0 c.conf.prefix.0 then on_packet true c t.inner t.carried else in_transit c octets t
+    if bytes_eq t.dst.0 c.conf.prefix.0 then on_packet c t.inner t.carried else in_transit c octets t
 
 abbrev pub tunnel_read : Control → List ℕ → Result TunnelPacket IpFault → Effects
 tunnel_read c octets (Ok t) = tunnel_taken c octets t
 tunnel_read c octets (Err fault) = dropped (cause.Ip fault)
 
--- a router without tunnels passes over what comes in one
-abbrev pub on_tunnel : Bool → Control → List ℕ → Effects
-on_tunnel true c octets = tunnel_read c octets (tunnel_at octets)
-on_tunnel false c octets = passed_over
+-- A packet that came in IPv4.
+unfoldable pub on_tunnel : Control → List ℕ → Effects
+on_tunnel c octets = tunnel_read c octets (tunnel_at octets)
 
 -- ---- a frame
 
-abbrev pub carried_taken : Bool → Control → ℕ → Carried → Next
-carried_taken tunnels c link (IsisPdu octets) = pdu_read c link (pdu_at c.conf.level octets)
-carried_taken tunnels c link (MplsPacket octets) = unchanged c (on_packet tunnels c Mpls octets)
-carried_taken tunnels c link (BierPacket octets) = unchanged c (on_packet tunnels c Configured octets)
-carried_taken tunnels c link (IpPacket octets) = unchanged c (on_tunnel tunnels c octets)
-carried_taken tunnels c link OtherFrame = unchanged c passed_over
+abbrev pub carried_taken : Control → ℕ → Carried → Next
+carried_taken c link (IsisPdu octets) = pdu_read c link (pdu_at c.conf.level octets)
+carried_taken c link (MplsPacket octets) = unchanged c (on_packet c Mpls octets)
+carried_taken c link (BierPacket octets) = unchanged c (on_packet c Configured octets)
+carried_taken c link (IpPacket octets) = unchanged c (on_tunnel c octets)
+carried_taken c link OtherFrame = unchanged c passed_over
 
-abbrev pub frame_read : Bool → Control → ℕ → Result Carried FrameFault → Next
-frame_read tunnels c link (Ok carried) = carried_taken tunnels c link carried
-frame_read tunnels c link (Err fault) = unchanged c (dropped (cause.Frame fault))
+abbrev pub frame_read : Control → ℕ → Result Carried FrameFault → Next
+frame_read c link (Ok carried) = carried_taken c link carried
+frame_read c link (Err fault) = unchanged c (dropped (cause.Frame fault))
 
--- A frame on a link of a router, which knows tunnels or doesn't.
-unfoldable pub on_frame_with : Bool → Control → ℕ → List ℕ → Next
-on_frame_with tunnels c link octets =
+-- A frame on a link of a router.
+unfoldable pub on_frame : Control → ℕ → List ℕ → Next
+on_frame c link octets =
     if slice_index_or c.flood.up link false
-    then frame_read tunnels c link (frame_at octets)
+    then frame_read c link (frame_at octets)
     else unchanged c (dropped cause.Link)
-
--- a frame on a link
-abbrev pub on_frame : Control → ℕ → List ℕ → Next
-on_frame c link octets = on_frame_with true c link octets
-
--- the same of a router that knows no tunnels: it reaches its neighbours alone, and passes over what comes in a tunnel
-abbrev pub on_frame_directly : Control → ℕ → List ℕ → Next
-on_frame_directly c link octets = on_frame_with false c link octets

@@ -2,6 +2,7 @@
 -- RFC 5305, 3 and 4; RFC 8401, 6.1 and 6.2).
 use Rattle.std.specs.Prelude.{ℕ, ◌+◌, Bool, true, false, List, [], ◌∷◌, ◌++◌, length, map, if◌then◌else◌}
 use Rattle.std.specs.List.{flat_map}
+use Rattle.wire_base.specs.declared.limits.TheConstants.{FULL_LIFE}
 use Rattle.wire_base.specs.declared.conf.Level.{Level}
 use Rattle.wire_base.specs.declared.conf.Level.TheVariants.{One, Two}
 use Rattle.wire_base.specs.declared.conf.OwnSub.{OwnSub}
@@ -84,7 +85,7 @@ own_flags r = level_bits r.level + (if r.overload then 4 else 0)
 
 -- the LSP lives for twenty minutes (ISO/IEC 10589, 7.3.16.3)
 abbrev pub full_life : ℕ
-full_life = 1200
+full_life = FULL_LIFE
 
 -- its head; the checksum covers all but the lifetime
 abbrev pub own_head : RouterConf → ℕ → Head

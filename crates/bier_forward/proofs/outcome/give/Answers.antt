@@ -6,8 +6,8 @@ use Rattle.bier_forward.specs.Hops.{after, place_of}
 use Rattle.bier_forward.proofs.CopyLaws.{drop-is}
 use Rattle.bier_forward.proofs.outcome.give.Goals as goal
 
-pub returns-in-Dropped : goal.returns-in-Dropped
-returns-in-Dropped g c =
-    let is = drop-is c.args.conf.now c.args.nodes.now c.args.packet.now (place_of c.args.nodes.now) c.args.out.now c.in-Dropped.set (positions_of c.any_of-in-Dropped.result) c.in-Dropped.why c.packet.inside.triple c.cause_of.result
+pub returns-in-Dropped-clause-given : goal.returns-in-Dropped-clause-given
+returns-in-Dropped-clause-given g c =
+    let is = drop-is c.args.conf.now c.args.view.now.nodes c.args.packet.now (place_of c.args.view.now.nodes) c.args.out.now c.in-Dropped.set (positions_of c.any_of-in-Dropped.result) c.in-Dropped.why c.packet.inside.triple c.cause_of.result
     c.in-Dropped.is (ap (λ (q : Packet). q.triple) c.packet.view_is) c.any_of-in-Dropped.ensures.positions c.any_of-in-Dropped.ensures.ordered c.cause_of.ensures in
     on_ok_weaker c.drop_set.result (λ e. e ∙ ap (after c.args.effects.now) is) c.drop_set.ensures

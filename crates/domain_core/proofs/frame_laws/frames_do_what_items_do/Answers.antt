@@ -1,7 +1,7 @@
 use Rattle.domain_core.proofs.FramedCopies.{packet_framed, down_framed}
 use Rattle.domain_core.proofs.FramedPdus.{pdu_framed}
 use Rattle.domain_core.proofs.FramedWorld.{conf_there, control_there, item_there, item_over, frame_short}
-use Rattle.domain_core.specs.World.{peer_place}
+use Rattle.domain_model.specs.World.{peer_place}
 use Rattle.domain_core.proofs.frame_laws.frames_do_what_items_do.Goals as goal
 
 pub returns-clause-pdu : goal.returns-clause-pdu

@@ -1,5 +1,5 @@
 use Rattle.std.proofs.Common.{refl}
-use Rattle.wire_base.specs.model.Ingress.{inject_directly}
+use Rattle.wire_base.specs.model.Ingress.{inject}
 use Rattle.domain_core.proofs.FramedCopies.{inject_framed}
 use Rattle.domain_core.proofs.FramedPdus.{send_framed}
 use Rattle.domain_core.proofs.FramedWorld.{conf_there, control_there}
@@ -9,5 +9,5 @@ pub returns-clause-due : goal.returns-clause-due
 returns-clause-due _ w a link c t at within next e q = send_framed w.domain t.valid a c (conf_there w t a c at) (control_there w t a c at) link within next e q
 
 pub returns-clause-entered : goal.returns-clause-entered
-returns-clause-entered _ w a sd bsl ks ttl entropy payload other c t at fits ok =
-    inject_framed w.domain t.valid a c (conf_there w t a c at) (control_there w t a c at) w.injections sd bsl ks ttl entropy payload other fits ok (inject_directly c sd bsl ks ttl entropy payload) refl
+returns-clause-entered _ w a sd bsl ks ttl entropy payload c t at fits ok =
+    inject_framed w.domain t.valid a c (conf_there w t a c at) (control_there w t a c at) w.injections sd bsl ks ttl entropy payload fits ok (inject c sd bsl ks ttl entropy payload) refl

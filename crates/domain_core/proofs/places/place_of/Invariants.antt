@@ -1,5 +1,5 @@
 use Rattle.std.proofs.Common.{◌≡◌, ◌+◌, drop}
-use Rattle.domain_core.specs.World.{place_of}
+use Rattle.domain_model.specs.World.{place_of}
 use Rattle.domain_core.proofs.places.place_of.Given as goal
 
 abbrev pub invariant-loop-place : goal.invariant-loop-place

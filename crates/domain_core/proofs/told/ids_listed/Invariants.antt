@@ -2,7 +2,7 @@ use Rattle.std.proofs.Common.{◌≡◌, map, filter}
 use Rattle.wire_base.specs.model.BitSet.{has_member, up_to}
 use Rattle.wire_base.specs.model.Place.{id_at}
 use Rattle.bier_bits.specs.Any.{positions_of}
-use Rattle.domain_core.specs.Moves.{listed}
+use Rattle.domain_model.specs.Moves.{listed}
 use Rattle.domain_core.proofs.told.ids_listed.Given as goal
 
 abbrev pub invariant-loop-position : goal.invariant-loop-position

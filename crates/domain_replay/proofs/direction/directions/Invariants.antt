@@ -1,5 +1,5 @@
 use Rattle.std.proofs.Common.{◌≡◌, ◌++◌, drop}
-use Rattle.domain_core.specs.Run.{directions, directions_from}
+use Rattle.domain_model.specs.Run.{directions, directions_from}
 use Rattle.domain_replay.proofs.direction.directions.Given as goal
 
 abbrev pub invariant-loop-place : goal.invariant-loop-place

@@ -1,7 +1,7 @@
 use Rattle.std.proofs.Common.{◌≡◌, ◌+◌, ◌++◌, ◌∷◌, [], List, ℕ, map, ap, sym, ◌∙◌, append_assoc, arith}
 use Rattle.std.specs.List.{range_with_len}
 use Rattle.std.proofs.lemmas.List.FromFn.{map-range_with_len_more}
-use Rattle.domain_core.specs.Run.{Direction, direction_over}
+use Rattle.domain_model.specs.Run.{Direction, direction_over}
 use Rattle.domain_replay.proofs.direction.push_from.Goals as goal
 
 pub loop-link-preserved : goal.loop-link-preserved

@@ -1,6 +1,6 @@
 use Rattle.std.proofs.Common.{◌≡◌, ◌++◌, map}
 use Rattle.std.specs.List.{range_with_len}
-use Rattle.domain_core.specs.Run.{direction_over}
+use Rattle.domain_model.specs.Run.{direction_over}
 use Rattle.domain_replay.proofs.direction.push_from.Given as goal
 
 abbrev pub invariant-loop-link : goal.invariant-loop-link

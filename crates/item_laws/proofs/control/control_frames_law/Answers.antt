@@ -1,4 +1,4 @@
-use Rattle.item_laws.proofs.ControlFrames.{control_back, isis_carries, sendable_reads, control_taken}
+use Rattle.item_laws.proofs.ControlFrames.{isis_carries, sendable_reads, control_taken}
 use Rattle.item_laws.proofs.control.control_frames_law.Goals as goal
 
 pub returns-clause-read : goal.returns-clause-read
@@ -9,6 +9,3 @@ returns-clause-carried c = isis_carries
 
 pub returns-clause-taken : goal.returns-clause-taken
 returns-clause-taken c = control_taken
-
-pub returns-clause-item : goal.returns-clause-item
-returns-clause-item c = control_back

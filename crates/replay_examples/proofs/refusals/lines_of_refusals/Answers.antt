@@ -21,3 +21,11 @@ returns-clause-long c = refl
 pub returns-clause-edge : goal.returns-clause-edge
 unfolding digits
 returns-clause-edge c = refl
+
+pub returns-clause-pdu : goal.returns-clause-pdu
+unfolding digits
+returns-clause-pdu c = refl
+
+pub returns-clause-ip : goal.returns-clause-ip
+unfolding digits
+returns-clause-ip c = refl

@@ -1,4 +1,5 @@
 use Rattle.std.proofs.Common.{◌≡◌, ◌-◌, ◌<◌, length}
+use Rattle.replay_run.specs.declared.whole.TheConstants.{PIECE}
 use Rattle.replay_run.proofs.Captures.{Sofar}
 use Rattle.replay_run.proofs.headers.read_capture.Given as goal
 
@@ -9,6 +10,7 @@ invariant-pieces g l = record {
   report_quiet : g.R.Sink.faults l.report ≡ g.R.Sink.faults l.initial.report;
   report_takes : g.R.Sink.zeros l.report ≡ g.R.Sink.zeros l.initial.report;
   room : 0 < length l.buffer.items;
+  small : length l.progress.lines < PIECE;
 }
 
 abbrev pub decreases-pieces : goal.decreases-pieces

@@ -1,4 +1,4 @@
-use Rattle.std.proofs.Common.{◌<◌, ◌-◌, Some, None, refl, ◌∙◌, arith}
+use Rattle.std.proofs.Common.{◌<◌, ◌-◌, Some, None, refl, ap, length, ◌∙◌, arith}
 use Rattle.replay_run.proofs.Written.{on_err}
 use Rattle.replay_run.proofs.HopLoop.{hops_first, hops_front, untouched_front, step_made, step_ends, step_known, step_counts, step_goes, step_write_front}
 use Rattle.replay_run.proofs.hop.do_text.Goals as goal
@@ -9,6 +9,7 @@ lines-init g c = record {
   input_quiet = refl;
   report_quiet = refl;
   ways = tt;
+  small = omega (arith, ap length c.begin-reached.ensures.lines);
   report_takes = refl;
 }
 
@@ -80,6 +81,7 @@ lines-preserved g c =
       input_quiet = c.in_ok-what.ensures.quiet (step_known (g.S.Source.left c.args.input.now) (g.S.Source.left c.lines.input) (g.S.Source.left c.next.new.input) (g.R.Sink.written c.args.report.now) (g.R.Sink.written c.lines.report) c.lines.reader c.next.new.self c.lines.reached c.take_found.new.reached c.in_ok-what.what step) ∙ c.lines.invariant.input_quiet;
       report_quiet = c.in-Ok.ensures.quiet ∙ c.lines.invariant.report_quiet;
       ways = c.in_ok-ended.ensures.ways c.in_default.is;
+      small = c.in-Ok.ensures.small;
       report_takes = c.in-Ok.ensures.no_zeros ∙ c.lines.invariant.report_takes;
     }
 

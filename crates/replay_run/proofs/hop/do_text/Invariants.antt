@@ -1,6 +1,7 @@
-use Rattle.std.proofs.Common.{◌≡◌, ◌-◌}
+use Rattle.std.proofs.Common.{◌≡◌, ◌-◌, ◌<◌, length}
 use Rattle.std.specs.Prelude.{IfSome}
 use Rattle.replay_run.specs.Ways.{AreWays}
+use Rattle.replay_run.specs.declared.whole.TheConstants.{PIECE}
 use Rattle.replay_run.proofs.HopLoop.{HopsOn}
 use Rattle.replay_run.proofs.hop.do_text.Given as goal
 
@@ -10,6 +11,7 @@ invariant-lines g l = record {
   input_quiet : g.S.Source.faults l.input ≡ g.S.Source.faults l.initial.input;
   report_quiet : g.R.Sink.faults l.report ≡ g.R.Sink.faults l.initial.report;
   ways : IfSome l.ways (λ built. AreWays l.reached.state.rows built);
+  small : length l.reached.lines < PIECE;
   report_takes : g.R.Sink.zeros l.report ≡ g.R.Sink.zeros l.initial.report;
 }
 

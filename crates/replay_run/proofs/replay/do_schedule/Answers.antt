@@ -1,4 +1,5 @@
 use Rattle.std.proofs.Common.{◌<◌, ◌-◌, length, Some, None, refl, ap, ◌∙◌, arith}
+use Rattle.domain_replay.specs.Telling.{Telling}
 use Rattle.replay_run.proofs.Written.{on_err}
 use Rattle.replay_run.proofs.ScheduleLoop.{course_first, course_front, untouched, step_made, step_ends, step_known, step_counts, step_goes, step_fronts}
 use Rattle.replay_run.proofs.replay.do_schedule.Goals as goal
@@ -20,6 +21,7 @@ lines-init g c = record {
   course = course_first c.args.domain _ c.in_ok-reader.reader c.in_ok-replay.replay c.in_ok-reader.ensures c.in_ok-replay.ensures;
   names = c.names.view_is ∙ c.in_ok-names.ensures.names;
   few = omega (arith, ap length c.names.view_is, c.in_ok-names.ensures.few);
+  small = (omega (arith, ap (λ (t : Telling). length t.frames) c.in_ok-replay.ensures), omega (arith, ap (λ (t : Telling). length t.report) c.in_ok-replay.ensures));
   input_quiet = refl;
   frames_quiet = refl;
   frames_take = refl;
@@ -83,6 +85,7 @@ lines-preserved g c =
       course = step_goes _ c.flush_both.new.replay c.in-Ok.ensures.frames.0 c.in-Ok.ensures.report.0 step refl c.in-Ok.ensures.frames.1 c.in-Ok.ensures.report.1 c.in-Ok.ensures.frames.2 c.in-Ok.ensures.report.2 c.in-Ok.ensures.rest;
       names = c.lines.invariant.names;
       few = c.lines.invariant.few;
+      small = c.in-Ok.ensures.small;
       input_quiet = c.in_ok-what.ensures.quiet (step_known step) ∙ c.lines.invariant.input_quiet;
       frames_quiet = c.in-Ok.ensures.frames_quiet ∙ c.lines.invariant.frames_quiet;
       frames_take = c.in-Ok.ensures.frames_take ∙ c.lines.invariant.frames_take;

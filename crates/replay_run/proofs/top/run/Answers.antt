@@ -1,7 +1,7 @@
 use Rattle.std.proofs.Common.{sym, ◌∙◌}
 use Rattle.replay_run.specs.declared.words.Form.TheVariants as form
 use Rattle.replay_run.specs.Outside.{Meets, AppendsFront}
-use Rattle.replay_run.proofs.Owed.{told, in_form, no_fault, hop_meets, hop_front, hop_done, hop_reports, headers_meets, headers_done, usage_meets, usage_front, write_fault}
+use Rattle.replay_run.proofs.Owed.{told, in_form, no_fault, hop_meets, hop_front, hop_done, hop_reports, headers_meets, headers_front, headers_done, usage_meets, usage_front, write_fault}
 use Rattle.replay_run.proofs.Replays.{no_fault_of_four, replay_done}
 use Rattle.replay_run.proofs.top.run.Goals as goal
 
@@ -17,7 +17,7 @@ returns-in-Replay-clause-verdict g c decided =
     told _ (g.D.Source.left c.args.conf.now) (g.S.Source.left c.args.input.now) (λ owed. Meets owed c.replay.result (g.R.Sink.written c.args.report.now) (g.R.Sink.written c.replay.new.report) (g.C.Sink.written c.args.frames.now) (g.C.Sink.written c.replay.new.frames)) (returns-in-Replay-clause-some_held g c decided)
 
 pub returns-in-Replay-clause-front : goal.returns-in-Replay-clause-front
-returns-in-Replay-clause-front g c other stopped =
+returns-in-Replay-clause-front g c stopped =
     in_form _ form.Replay (g.D.Source.left c.args.conf.now) (g.S.Source.left c.args.input.now) (λ owed. AppendsFront (g.R.Sink.written c.args.report.now) (g.R.Sink.written c.replay.new.report) owed.report × AppendsFront (g.C.Sink.written c.args.frames.now) (g.C.Sink.written c.replay.new.frames) owed.frames) (sym c.form_of.ensures ∙ c.in-Replay.is) (c.replay.ensures.front stopped)
 
 pub returns-in-Replay-clause-decided : goal.returns-in-Replay-clause-decided
@@ -40,7 +40,7 @@ returns-in-Hop-clause-verdict g c decided =
     told _ (g.D.Source.left c.args.conf.now) (g.S.Source.left c.args.input.now) (λ owed. Meets owed c.hop.result (g.R.Sink.written c.args.report.now) (g.R.Sink.written c.hop.new.report) (g.C.Sink.written c.args.frames.now) (g.C.Sink.written c.args.frames.now)) (returns-in-Hop-clause-some_held g c decided)
 
 pub returns-in-Hop-clause-front : goal.returns-in-Hop-clause-front
-returns-in-Hop-clause-front g c other stopped =
+returns-in-Hop-clause-front g c stopped =
     in_form _ form.Hop (g.D.Source.left c.args.conf.now) (g.S.Source.left c.args.input.now) (λ owed. AppendsFront (g.R.Sink.written c.args.report.now) (g.R.Sink.written c.hop.new.report) owed.report × AppendsFront (g.C.Sink.written c.args.frames.now) (g.C.Sink.written c.args.frames.now) owed.frames) (sym c.form_of.ensures ∙ c.in-Hop.is)
     (hop_front (g.D.Source.left c.args.conf.now) (g.S.Source.left c.args.input.now) (g.R.Sink.written c.args.report.now) (g.R.Sink.written c.hop.new.report) (g.C.Sink.written c.args.frames.now) (c.hop.ensures.front stopped))
 
@@ -64,6 +64,11 @@ pub returns-in-Headers-clause-verdict : goal.returns-in-Headers-clause-verdict
 returns-in-Headers-clause-verdict g c decided =
     told _ (g.D.Source.left c.args.conf.now) (g.S.Source.left c.args.input.now) (λ owed. Meets owed c.headers.result (g.R.Sink.written c.args.report.now) (g.R.Sink.written c.headers.new.report) (g.C.Sink.written c.args.frames.now) (g.C.Sink.written c.args.frames.now)) (returns-in-Headers-clause-some_held g c decided)
 
+pub returns-in-Headers-clause-front : goal.returns-in-Headers-clause-front
+returns-in-Headers-clause-front g c stopped =
+    in_form _ form.Headers (g.D.Source.left c.args.conf.now) (g.S.Source.left c.args.input.now) (λ owed. AppendsFront (g.R.Sink.written c.args.report.now) (g.R.Sink.written c.headers.new.report) owed.report × AppendsFront (g.C.Sink.written c.args.frames.now) (g.C.Sink.written c.args.frames.now) owed.frames) (sym c.form_of.ensures ∙ c.in-Headers.is)
+    (headers_front (g.D.Source.left c.args.conf.now) (g.S.Source.left c.args.input.now) (g.R.Sink.written c.args.report.now) (g.R.Sink.written c.headers.new.report) (g.C.Sink.written c.args.frames.now) (c.headers.ensures.front stopped))
+
 pub returns-in-Headers-clause-decided : goal.returns-in-Headers-clause-decided
 returns-in-Headers-clause-decided g c conf input frames_faults frames_zeros faults zeros = no_fault c.headers.result _ _ _ _ _ _ c.headers.ensures.read c.headers.ensures.write input faults zeros
 
@@ -82,6 +87,6 @@ returns-in-Unknown-clause-verdict g c decided =
     told _ (g.D.Source.left c.args.conf.now) (g.S.Source.left c.args.input.now) (λ owed. Meets owed c.deliver.result (g.R.Sink.written c.args.report.now) (g.R.Sink.written c.deliver.new.report) (g.C.Sink.written c.args.frames.now) (g.C.Sink.written c.args.frames.now)) (returns-in-Unknown-clause-some_held g c decided)
 
 pub returns-in-Unknown-clause-front : goal.returns-in-Unknown-clause-front
-returns-in-Unknown-clause-front g c other stopped =
+returns-in-Unknown-clause-front g c stopped =
     in_form _ form.Unknown (g.D.Source.left c.args.conf.now) (g.S.Source.left c.args.input.now) (λ owed. AppendsFront (g.R.Sink.written c.args.report.now) (g.R.Sink.written c.deliver.new.report) owed.report × AppendsFront (g.C.Sink.written c.args.frames.now) (g.C.Sink.written c.args.frames.now) owed.frames) (sym c.form_of.ensures ∙ c.in-Unknown.is)
     (usage_front (g.D.Source.left c.args.conf.now) (g.S.Source.left c.args.input.now) (g.R.Sink.written c.args.report.now) (g.R.Sink.written c.deliver.new.report) (g.C.Sink.written c.args.frames.now) (c.deliver.ensures.front (write_fault _ c.deliver.result tt c.deliver.ensures.status stopped)))

@@ -1,7 +1,7 @@
 use Rattle.std.proofs.Common.{◌≡◌, ◌∙◌, List, ℕ, Option, None, MatchResult, sym, ap, subst}
 use Rattle.replay_text.specs.declared.event.Event.{Event}
 use Rattle.replay_text.specs.declared.event.Event.TheVariants.{Down, Up, Send}
-use Rattle.domain_core.specs.declared.fault.EventFault.{EventFault}
+use Rattle.domain_model.specs.declared.fault.EventFault.{EventFault}
 use Rattle.domain_core.specs.Answers.{early_fault, Refuses}
 use Rattle.domain_core.specs.Held.{world_in, inject_fault}
 use Rattle.domain_core.proofs.EventLaws.{late_fault, late_is}

@@ -1,35 +1,17 @@
-use Rattle.std.proofs.Common.{◌≡◌, ◌∙◌, ◌+◌, ℕ, List, slice_set, Option, option_map, unwrap_or, sym, ap}
-use Rattle.wire_base.specs.declared.conf.Kind.{Kind}
-use Rattle.wire_base.specs.declared.conf.Kind.TheVariants.{Mpls}
+use Rattle.std.proofs.Common.{◌≡◌, ◌∙◌, ◌+◌, ℕ, List, [], slice_set, Option, Some, option_map, sym, ap}
 use Rattle.wire_base.specs.declared.conf.RouterConf.{RouterConf}
-use Rattle.wire_base.specs.declared.conf.SubKind.{SubKind}
 use Rattle.wire_base.specs.declared.faults.EdgeFault.{EdgeFault}
-use Rattle.wire_base.specs.declared.triple.Triple.{Triple}
 use Rattle.wire_base.specs.model.Control.{Control}
-use Rattle.wire_base.specs.model.Ingress.{ingress_kind}
-use Rattle.wire_base.specs.model.Place.{kind_of}
-use Rattle.domain_core.specs.declared.fault.EventFault.TheVariants as faults
-use Rattle.domain_core.specs.declared.flight.Load.{Load}
-use Rattle.domain_core.specs.declared.flight.Load.TheVariants as noted
+use Rattle.domain_model.specs.declared.fault.EventFault.TheVariants as faults
 use Rattle.domain_core.specs.Answers.{told, told_of}
-use Rattle.domain_core.specs.Faults.{entry_fault}
+use Rattle.domain_model.specs.Faults.{entry_fault}
 use Rattle.domain_core.specs.Flights.{items_seen, push_all_sent}
 use Rattle.domain_core.specs.Held.{state_of}
-use Rattle.domain_core.specs.Step.{Happened}
+use Rattle.domain_model.specs.Step.{Happened}
 use Rattle.domain_core.proofs.CarryLaws.{set_same, inject_is, inject_carried, inject_world}
 use Rattle.domain_core.proofs.TransitLaws.{same_frames}
 use Rattle.domain_core.proofs.TurnLaws.{router_there, control_at}
 use Rattle.domain_core.proofs.network.Network.inject.Goals as goal
-
-pub carry-requires-clause-long : goal.carry-requires-clause-long
-carry-requires-clause-long c =
-    let n = state_of c.args.self.now in
-    let r = c.index_mut-router.result.now in
-    let there = router_there n.routers c.from.result c.args.at r c.from.ensures c.requires.place c.index_mut-router.ensures.value in
-    let other : Triple = record { sd = c.args.sd; bsl = c.args.bsl; si = 0 } in
-    let kind : c.unwrap_or-kind.result ≡ ingress_kind r.control.conf c.args.sd =
-    c.unwrap_or-kind.ensures ∙ ap (λ (o : Option Kind). unwrap_or o Mpls) (c.kind_of.ensures ∙ ap (λ (l : List SubKind). kind_of l c.args.sd) (c.as_slice.ensures ∙ ap (λ (q : RouterConf). q.kinds) c.conf.ensures.conf)) in
-    (inject_carried n c.requires.truth c.args.at r there c.args.sd c.args.bsl c.args.ids.now c.args.ttl c.args.entropy c.args.payload.now c.requires.fits c.in-Ok.ensures.refused other c.unwrap_or-kind.result kind c.in-Ok.effects c.in-Ok.ensures.effects).long
 
 pub returns-clause-refused : goal.returns-clause-refused
 returns-clause-refused c =
@@ -44,19 +26,15 @@ returns-clause-done c =
     let n = state_of c.args.self.now in
     let r = c.index_mut-router.result.now in
     let there = router_there n.routers c.from.result c.args.at r c.from.ensures c.requires.place c.index_mut-router.ensures.value in
-    let other : Triple = record { sd = c.args.sd; bsl = c.args.bsl; si = 0 } in
-    let kind : c.unwrap_or-kind.result ≡ ingress_kind r.control.conf c.args.sd =
-    c.unwrap_or-kind.ensures ∙ ap (λ (o : Option Kind). unwrap_or o Mpls) (c.kind_of.ensures ∙ ap (λ (l : List SubKind). kind_of l c.args.sd) (c.as_slice.ensures ∙ ap (λ (q : RouterConf). q.kinds) c.conf.ensures.conf)) in
-    let k = inject_carried n c.requires.truth c.args.at r there c.args.sd c.args.bsl c.args.ids.now c.args.ttl c.args.entropy c.args.payload.now c.requires.fits c.in-Ok.ensures.refused other c.unwrap_or-kind.result kind c.in-Ok.effects c.in-Ok.ensures.effects in
+    let k = inject_carried n c.requires.truth c.args.at r there c.args.sd c.args.bsl c.args.ids.now c.args.ttl c.args.entropy c.args.payload.now c.requires.fits c.in-Ok.ensures.refused c.in-Ok.effects c.in-Ok.ensures.effects in
     let happened = inject_is n c.requires.truth c.args.at r there c.args.sd c.args.bsl c.args.ids.now c.args.ttl c.args.entropy c.args.payload.now in
-    let load : Load = noted.Packet (n.injections + 1) other c.unwrap_or-kind.result in
-    let sent : c.carry.new.flights ≡ push_all_sent n.domain.routers c.args.at load n.flights c.in-Ok.effects.sent =
-    c.in_ok-out.ensures.ok ∙ ap (λ (cs : List RouterConf). push_all_sent cs c.args.at load n.flights c.in-Ok.effects.sent) c.confs_of-confs.ensures.confs in
+    let sent : c.carry.new.flights ≡ push_all_sent n.domain.routers c.args.at (Some (n.injections + 1)) n.flights c.in-Ok.effects.sent =
+    c.in_ok-out.ensures.ok ∙ ap (λ (cs : List RouterConf). push_all_sent cs c.args.at (Some (n.injections + 1)) n.flights c.in-Ok.effects.sent) c.confs_of-confs.ensures.confs in
     let routers : slice_set n.routers c.from.result c.inject-entered.new.self ≡ n.routers =
     ap (slice_set n.routers c.from.result) c.in-Ok.ensures.state ∙ ap (λ (i : ℕ). slice_set n.routers i r) c.from.ensures ∙ set_same n.routers c.args.at r there in
     record {
-      world = inject_world n c.requires.truth c.args.at r there c.args.sd c.args.bsl c.args.ids.now c.args.ttl c.args.entropy c.args.payload.now _ c.carry.new.flights _ _ routers (ap items_seen sent ∙ k.seen) happened;
+      world = inject_world n c.requires.truth c.args.at r there c.args.sd c.args.bsl c.args.ids.now c.args.ttl c.args.entropy c.args.payload.now _ c.carry.new.flights _ _ routers (ap (items_seen n.domain.routers) sent ∙ k.seen) happened;
       frames = same_frames n.domain.routers c.carry.new.flights _ sent k.frames;
-      answer = c.in_ok-out.ensures.out ∙ ap (λ (cs : List RouterConf). told_of cs c.args.at load c.in-Ok.effects) c.confs_of-confs.ensures.confs
+      answer = c.in_ok-out.ensures.out ∙ ap (λ (cs : List RouterConf). told_of cs c.args.at (Some (n.injections + 1)) [] c.in-Ok.effects) c.confs_of-confs.ensures.confs
           ∙ k.out ∙ sym (ap (λ (h : Happened). told n.domain.routers h.made) happened);
     }

@@ -1,7 +1,7 @@
 use Rattle.std.proofs.Common.{◌≡◌, slice_get, Some, ap}
 use Rattle.wire_base.specs.model.Flooding.{tick}
 use Rattle.domain_core.specs.Held.{state_of}
-use Rattle.domain_core.specs.Step.{Happened}
+use Rattle.domain_model.specs.Step.{Happened}
 use Rattle.domain_core.proofs.TurnLaws.{router_there, nothing_told, change_is, turn_world, same_heard}
 use Rattle.domain_core.proofs.network.Network.tick.Goals as goal
 

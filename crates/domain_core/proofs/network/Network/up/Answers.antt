@@ -1,8 +1,8 @@
 use Rattle.std.proofs.Common.{◌≡◌, slice_get, Some, sym, ap}
 use Rattle.wire_base.specs.model.Flooding.{end_up}
 use Rattle.domain_core.specs.Held.{state_of, world_in}
-use Rattle.domain_core.specs.Step.{Happened}
-use Rattle.domain_core.specs.World.{link_between}
+use Rattle.domain_model.specs.Step.{Happened}
+use Rattle.domain_model.specs.World.{link_between}
 use Rattle.domain_core.proofs.RefusalLaws.{down_at_up, link_within}
 use Rattle.domain_core.proofs.TurnLaws.{router_there, nothing_told, control_at, end_change_is, turn_world, same_heard}
 use Rattle.domain_core.proofs.network.Network.up.Goals as goal

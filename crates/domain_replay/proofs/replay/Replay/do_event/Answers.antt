@@ -1,7 +1,7 @@
 use Rattle.std.proofs.Common.{ap, sym, ◌∙◌}
 use Rattle.std.proofs.lemmas.Result.{err_from_is_err_and}
 use Rattle.wire_base.specs.model.Configuration.{DomainConf}
-use Rattle.domain_core.specs.World.{WorldState}
+use Rattle.domain_model.specs.World.{WorldState}
 use Rattle.domain_replay.proofs.Stays.{happens_domain}
 use Rattle.domain_replay.specs.Telling.{Telling, told, tells_on}
 use Rattle.domain_replay.proofs.EventTells.{event_told, event_refused}

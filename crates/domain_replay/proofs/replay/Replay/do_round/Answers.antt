@@ -1,7 +1,7 @@
 use Rattle.std.proofs.Common.{◌≡◌, ◌∙◌, ap, subst, sym, List}
 use Rattle.std.proofs.lemmas.Result.{err_from_is_err_and}
 use Rattle.replay_text.specs.declared.event.Event.{Event}
-use Rattle.domain_core.specs.Run.{Direction, directions, round_sends, round_takes, world_after}
+use Rattle.domain_model.specs.Run.{Direction, directions, round_sends, round_takes, world_after}
 use Rattle.domain_replay.specs.Telling.{Telling, Told, told, tells_all}
 use Rattle.domain_replay.specs.Replaying.{Tells}
 use Rattle.domain_replay.proofs.TellsLaws.{err_at, round_split, round_left}

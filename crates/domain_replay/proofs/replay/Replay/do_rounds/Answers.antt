@@ -1,6 +1,6 @@
 use Rattle.std.proofs.Common.{◌∙◌, ◌+◌, ◌-◌}
 use Rattle.std.proofs.lemmas.Result.{err_from_is_err_and}
-use Rattle.domain_core.specs.Run.{round_events, settle_events, world_after}
+use Rattle.domain_model.specs.Run.{round_events, settle_events, world_after}
 use Rattle.domain_replay.proofs.TellsLaws.{err_at, rounds_split, rounds_at, rounds_none}
 use Rattle.domain_replay.proofs.replay.Replay.do_rounds.Goals as goal
 

@@ -1,5 +1,5 @@
 use Rattle.std.proofs.Common.{◌≡◌, ◌-◌}
-use Rattle.domain_core.specs.Run.{settle_events}
+use Rattle.domain_model.specs.Run.{settle_events}
 use Rattle.domain_replay.specs.Telling.{told, tells_all}
 use Rattle.domain_replay.proofs.replay.Replay.do_rounds.Given as goal
 

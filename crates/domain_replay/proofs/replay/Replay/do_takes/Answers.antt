@@ -1,6 +1,6 @@
 use Rattle.std.proofs.Common.{◌∙◌, ◌+◌, drop}
 use Rattle.std.proofs.lemmas.Result.{err_from_is_err_and}
-use Rattle.domain_core.specs.Run.{taken_now, round_takes, world_after}
+use Rattle.domain_model.specs.Run.{taken_now, round_takes, world_after}
 use Rattle.domain_replay.proofs.TellsLaws.{err_at, takes_at, takes_split, takes_none}
 use Rattle.domain_replay.proofs.replay.Replay.do_takes.Goals as goal
 

@@ -1,5 +1,5 @@
 use Rattle.std.proofs.Common.{◌≡◌, drop}
-use Rattle.domain_core.specs.Run.{round_takes}
+use Rattle.domain_model.specs.Run.{round_takes}
 use Rattle.domain_replay.specs.Telling.{told, tells_all}
 use Rattle.domain_replay.proofs.replay.Replay.do_takes.Given as goal
 

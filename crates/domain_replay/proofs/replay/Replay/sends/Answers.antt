@@ -1,7 +1,7 @@
 use Rattle.std.proofs.Common.{◌∙◌, ◌++◌, ◌+◌, drop, sym, ap, subst, List, length}
 use Rattle.std.specs.List.{AllByRecursion}
 use Rattle.replay_text.specs.declared.event.Event.{Event}
-use Rattle.domain_core.specs.Run.{Direction}
+use Rattle.domain_model.specs.Run.{Direction}
 use Rattle.domain_replay.specs.Replaying.{IsAsked}
 use Rattle.domain_replay.proofs.SendLaws.{sends_in, sends_first, sends_none, each_asked}
 use Rattle.domain_replay.proofs.replay.Replay.sends.Goals as goal

@@ -5,6 +5,7 @@ use Rattle.std.proofs.lemmas.List.{length-take}
 use Rattle.replay_run.specs.Reader.{TakesPart}
 use Rattle.replay_run.proofs.LineLaws.{length-kept, seeks_first, seeks_line, seeks_on, seeks_more, seeks_too_long, seeks_failed, seeks_last, part_less, end_passed, none_long}
 use Rattle.replay_run.proofs.reader.LineReader.next.Goals as goal
+use Rattle.wire_base.specs.declared.limits.TheConstants.{TEXT_LIMIT}
 
 pub parts-init : goal.parts-init
 parts-init g c = record {
@@ -45,16 +46,16 @@ found_last-requires g c =
     let takes : TakesPart false c.parts.self.unread c.parts.self.line c.take_part.new.unread c.take_part.new.line = rw c.if-branch.false at c.in_ok-take_part.ensures.part in
     let less = part_less false c.parts.self.unread c.parts.self.line c.take_part.new.unread c.take_part.new.line takes in
     let octets = c.in-Ok.ensures.octets in
-    let rest = length-take (67108864 - c.parts.self.taken) octets.0 in
+    let rest = length-take (TEXT_LIMIT - c.parts.self.taken) octets.0 in
     omega (arith, less, rest, ap length octets.3, octets.2, c.in-Ok.ensures.taken, c.refill.ensures.number, ap length c.refill.ensures.line, c.parts.invariant.few, c.if-count-eq0.true)
 
 pub returns-then-count-eq0-clause-found : goal.returns-then-count-eq0-clause-found
 returns-then-count-eq0-clause-found g c =
     let takes : TakesPart false c.parts.self.unread c.parts.self.line c.take_part.new.unread c.take_part.new.line = rw c.if-branch.false at c.in_ok-take_part.ensures.part in
-    let room = 67108864 - c.parts.self.taken in
+    let room = TEXT_LIMIT - c.parts.self.taken in
     let octets = c.in-Ok.ensures.octets in
     let on = seeks_on (g.S.Source.left c.args.input.now) (g.S.Source.left c.parts.input) c.args.self.now c.parts.self.unread c.parts.self.line c.parts.self.number c.parts.self.taken c.parts.self.over c.take_part.new.unread c.take_part.new.line c.parts.invariant.seeks takes in
-    let within : c.parts.self.taken + room ≡ 67108864 = omega (arith, c.parts.self.within) in
+    let within : c.parts.self.taken + room ≡ TEXT_LIMIT = omega (arith, c.parts.self.within) in
     let count : c.refill.new.self.taken ≡ c.parts.self.taken + min (length octets.0) room = c.in-Ok.ensures.taken ∙ ap (λ (n : ℕ). c.parts.self.taken + min n room) (sym octets.2) in
     let more = seeks_more (g.S.Source.left c.args.input.now) (g.S.Source.left c.parts.input) (g.S.Source.left c.refill.new.input) c.args.self.now c.take_part.new.unread c.take_part.new.line c.parts.self.number c.parts.self.taken c.parts.self.over octets.0 c.refill.new.self.unread c.refill.new.self.line room c.refill.new.self.number c.refill.new.self.taken c.refill.new.self.over
     on octets.1 c.if-self.false takes.1 within octets.3 c.refill.ensures.line c.refill.ensures.number count (c.in-Ok.ensures.over ∙ ap (λ (n : ℕ). nat_lt room n) (sym octets.2)) in
@@ -66,10 +67,10 @@ returns-then-count-eq0-clause-found g c =
 pub parts-preserved : goal.parts-preserved
 parts-preserved g c =
     let takes : TakesPart false c.parts.self.unread c.parts.self.line c.take_part.new.unread c.take_part.new.line = rw c.if-branch.false at c.in_ok-take_part.ensures.part in
-    let room = 67108864 - c.parts.self.taken in
+    let room = TEXT_LIMIT - c.parts.self.taken in
     let octets = c.in-Ok.ensures.octets in
     let on = seeks_on (g.S.Source.left c.args.input.now) (g.S.Source.left c.parts.input) c.args.self.now c.parts.self.unread c.parts.self.line c.parts.self.number c.parts.self.taken c.parts.self.over c.take_part.new.unread c.take_part.new.line c.parts.invariant.seeks takes in
-    let within : c.parts.self.taken + room ≡ 67108864 = omega (arith, c.parts.self.within) in
+    let within : c.parts.self.taken + room ≡ TEXT_LIMIT = omega (arith, c.parts.self.within) in
     let count : c.refill.new.self.taken ≡ c.parts.self.taken + min (length octets.0) room = c.in-Ok.ensures.taken ∙ ap (λ (n : ℕ). c.parts.self.taken + min n room) (sym octets.2) in
     let less = part_less false c.parts.self.unread c.parts.self.line c.take_part.new.unread c.take_part.new.line takes in
     let rest = length-take room octets.0 in

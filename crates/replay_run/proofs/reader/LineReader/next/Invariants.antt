@@ -1,6 +1,7 @@
 use Rattle.std.proofs.Common.{◌≡◌, ◌≤◌, ◌+◌, ◌-◌, length, cond}
 use Rattle.replay_run.proofs.LineLaws.{Seeks}
 use Rattle.replay_run.proofs.reader.LineReader.next.Given as goal
+use Rattle.wire_base.specs.declared.limits.TheConstants.{TEXT_LIMIT}
 
 abbrev pub invariant-parts : goal.invariant-parts
 invariant-parts g l = record {
@@ -10,4 +11,4 @@ invariant-parts g l = record {
 }
 
 abbrev pub decreases-parts : goal.decreases-parts
-decreases-parts g l = (67108864 - l.self.taken) + cond l.self.over 0 1
+decreases-parts g l = (TEXT_LIMIT - l.self.taken) + cond l.self.over 0 1

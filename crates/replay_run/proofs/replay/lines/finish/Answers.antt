@@ -1,7 +1,7 @@
 use Rattle.std.proofs.Common.{ap}
 use Rattle.wire_base.specs.declared.status.Status.TheVariants as status
 use Rattle.domain_replay.specs.Lines.{done_text}
-use Rattle.domain_core.specs.World.{ids_in_flight}
+use Rattle.domain_model.specs.World.{ids_in_flight}
 use Rattle.domain_replay.specs.Telling.{Telling}
 use Rattle.std.proofs.Common.{ℕ, List}
 use Rattle.replay_run.specs.Texts.{Ended}

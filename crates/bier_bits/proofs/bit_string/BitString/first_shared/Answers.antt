@@ -1,0 +1,15 @@
+use Rattle.std.proofs.Common.{◌∙◌}
+use Rattle.wire_base.specs.model.BitSet.{intersection}
+use Rattle.bier_bits.specs.Sets.{has_both}
+use Rattle.bier_bits.proofs.Places.{from_shared, found_among, none_among}
+use Rattle.bier_bits.proofs.bit_string.BitString.first_shared.Goals as goal
+
+pub returns-in_err-place : goal.returns-in_err-place
+returns-in_err-place g c = c.from_residual.ensures ∙
+    none_among g.row.W 0 c.self.inside.lanes (has_both c.self.inside.lanes c.other.inside.lanes) (intersection c.args.self.now c.args.other.now) c.self.told
+    (from_shared g.row.W c.self.inside.lanes c.other.inside.lanes c.args.self.now c.args.other.now c.self.view_is c.other.view_is) c.in_err-place.ensures
+
+pub returns : goal.returns
+returns g c =
+    found_among g.row.W 0 c.in_ok-place.place c.self.inside.lanes (has_both c.self.inside.lanes c.other.inside.lanes) (intersection c.args.self.now c.args.other.now) c.self.told
+    (from_shared g.row.W c.self.inside.lanes c.other.inside.lanes c.args.self.now c.args.other.now c.self.view_is c.other.view_is) c.in_ok-place.ensures

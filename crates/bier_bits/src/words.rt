@@ -1,0 +1,170 @@
+//! Words of 64 bits, eight at once where there are as many.
+ghost use Rattle.std.specs.Prelude.{◌≡◌, ◌≤◌, ◌<◌, ◌+◌, ◌*◌, ◌==◌, ℕ, length, slice_index, bit_and, bit_or, MatchOption};
+ghost use Rattle.std.specs.Int.{bit_not, w64};
+ghost use Rattle.std.specs.List.{list_all};
+ghost use Rattle.std.specs.Simd.Lanes.{zip2, chunk, put_chunk};
+ghost use Rattle.bier_bits.specs.Sets.{AreWords, IsNextPlace, NoPlace, has_place, has_both, places_in, and_not};
+
+use std::simd::prelude::*;
+
+/// What is done with two words, one pair at a time and eight at once.
+pub trait Joint {
+    ghost word: { ℕ → ℕ → ℕ };
+
+    fn one(a: u64, b: u64) -> u64
+        ensures { result ≡ word a b };
+
+    fn eight(a: u64x8, b: u64x8) -> u64x8
+        ensures { result ≡ zip2 word a b };
+}
+
+/// The bits that both have.
+pub struct Both;
+
+impl Joint for Both {
+    ghost word = { bit_and };
+
+    fn one(a: u64, b: u64) -> u64 {
+        a & b
+    }
+
+    fn eight(a: u64x8, b: u64x8) -> u64x8 {
+        a & b
+    }
+}
+
+/// The bits of the first that the second hasn't.
+pub struct Without;
+
+impl Joint for Without {
+    ghost word = { and_not };
+
+    fn one(a: u64, b: u64) -> u64 {
+        a & !b
+    }
+
+    fn eight(a: u64x8, b: u64x8) -> u64x8 {
+        a & !b
+    }
+}
+
+/// The bits that one or the other has.
+pub struct Either;
+
+impl Joint for Either {
+    ghost word = { bit_or };
+
+    fn one(a: u64, b: u64) -> u64 {
+        a | b
+    }
+
+    fn eight(a: u64x8, b: u64x8) -> u64x8 {
+        a | b
+    }
+}
+
+/// Joins the words of two lists, place by place: eight at once, and then those that are left.
+pub fn join<J: Joint>(a: &[u64], b: &[u64], out: &mut [u64])
+    requires b { length b.now ≡ length a.now }
+    requires out { length out.old ≡ length a.now }
+    ensures fits { AreWords b.now }
+    ensures joined { (k : ℕ) → k < length a.now → slice_index out.new k ≡ J.word (slice_index a.now k) (slice_index b.now k) }
+{
+    let whole = a.len() / 8 * 8;
+    let mut at = 0;
+    while at < whole {
+        join_eight::<J>(a, b, out, at);
+        at += 8;
+    }
+    for k in whole..a.len() {
+        out[k] = J::one(a[k], b[k]);
+    }
+}
+
+fn join_eight<J: Joint>(a: &[u64], b: &[u64], out: &mut [u64], at: usize)
+    requires a { at + 8 ≤ length a.now }
+    requires b { at + 8 ≤ length b.now }
+    requires out { at + 8 ≤ length out.old }
+    ensures { out.new ≡ put_chunk at out.old (zip2 J.word (chunk at 8 a.now) (chunk at 8 b.now)) }
+{
+    let joined = J::eight(u64x8::from_slice(&a[at..]), u64x8::from_slice(&b[at..]));
+    joined.copy_to_slice(&mut out[at..]);
+}
+
+/// Whether no word has a bit.
+pub fn are_zero(words: &[u64]) -> bool
+    ensures fits { AreWords words.now }
+    ensures zero { result ≡ list_all (λ x. x == 0) words.now }
+{
+    let whole = words.len() / 8 * 8;
+    let mut at = 0;
+    while at < whole {
+        if !are_eight_zero(words, at) {
+            return false;
+        }
+        at += 8;
+    }
+    for k in whole..words.len() {
+        if words[k] != 0 {
+            return false;
+        }
+    }
+    true
+}
+
+fn are_eight_zero(words: &[u64], at: usize) -> bool
+    requires { at + 8 ≤ length words.now }
+    ensures { result ≡ list_all (λ x. x == 0) (chunk at 8 words.now) }
+{
+    u64x8::from_slice(&words[at..]).reduce_or() == 0
+}
+
+/// The first place from one on whose bit is set, the bits being counted from 0 through all words, the least of each word
+/// first.
+pub fn next_place(words: &[u64], from: usize) -> Option<usize>
+    requires { length words.now ≤ 64 }
+    ensures { MatchOption result (NoPlace (has_place words.now) from (64 * length words.now)) (λ q. IsNextPlace (has_place words.now) from (64 * length words.now) q) }
+{
+    let first = from / 64;
+    if first >= words.len() {
+        return None;
+    }
+    let above = words[first] >> (from % 64);
+    if above != 0 {
+        return Some(from + above.trailing_zeros() as usize);
+    }
+    for k in first + 1..words.len() {
+        if words[k] != 0 {
+            return Some(64 * k + words[k].trailing_zeros() as usize);
+        }
+    }
+    None
+}
+
+/// The first place whose bit both have.
+pub fn first_shared(a: &[u64], b: &[u64]) -> Option<usize>
+    requires few { length a.now ≤ 64 }
+    requires same { length b.now ≡ length a.now }
+    ensures { MatchOption result (NoPlace (has_both a.now b.now) 0 (64 * length a.now)) (λ q. IsNextPlace (has_both a.now b.now) 0 (64 * length a.now) q) }
+{
+    for k in 0..a.len() {
+        let both = a[k] & b[k];
+        if both != 0 {
+            return Some(64 * k + both.trailing_zeros() as usize);
+        }
+    }
+    None
+}
+
+/// How many bits are set.
+pub fn count(words: &[u64]) -> usize
+    requires { length words.now ≤ 64 }
+    ensures value { result ≡ length (places_in words.now) }
+    ensures bound { result ≤ 64 * length words.now }
+{
+    let mut count = 0;
+    for k in 0..words.len() {
+        count += words[k].count_ones() as usize;
+    }
+    count
+}

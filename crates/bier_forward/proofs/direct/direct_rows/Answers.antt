@@ -1,9 +1,0 @@
-use Rattle.std.proofs.lemmas.Result.{IfOk-weaker}
-use Rattle.wire_base.specs.model.OnFrame.{node_place}
-use Rattle.bier_forward.proofs.TableLaws.{rows-without-node}
-use Rattle.bier_forward.proofs.direct.direct_rows.Goals as goal
-
-pub returns-in-None-clause-rows : goal.returns-in-None-clause-rows
-returns-in-None-clause-rows c =
-    let none = rw c.as_slice.ensures.nodes at c.in-None.ensures in
-    IfOk-weaker c.no_rows.result _ _ (λ set e. rows-without-node c.args.conf.now c.args.view.now.nodes c.args.triple c.args.class c.bits.result set.bits none e) c.no_rows.ensures

@@ -1,0 +1,32 @@
+-- What tunnels need of a view, and a tunnel packet that goes on.
+use Rattle.std.specs.Prelude.{◌≡◌, ℕ, nat_le, List, length, Option, Some, None, if◌then◌else◌}
+use Rattle.wire_base.specs.declared.cause.Cause.TheVariants as cause
+use Rattle.wire_base.specs.declared.conf.RouterConf.{RouterConf}
+use Rattle.wire_base.specs.declared.view.ViewNode.{ViewNode}
+use Rattle.wire_base.specs.model.OnFrame.{Effects, dropped, forwarded, node_place}
+use Rattle.wire_base.specs.model.Tunnel.{TunnelPacket}
+use Rattle.bier_tunnel.specs.Ways.{AreWays}
+use Rattle.bier_tunnel.specs.declared.next.Next.{Next}
+use Rattle.bier_tunnel.specs.declared.next.Next.TheVariants.{Leave, On, Outer, Route}
+use Rattle.bier_tunnel.specs.declared.ways.Way.{Way}
+
+-- The ways from the router's node, where they were sought.
+abbrev pub IsBuilt : RouterConf → List ViewNode → Option (List Way) → Type 0
+IsBuilt r g None = Unit {0}
+IsBuilt r g (Some ways) = AreWays r g (node_place g r.system) ways
+
+-- Where there are none although they were sought, the router has no node.
+abbrev pub HasNode : RouterConf → List ViewNode → Option (List Way) → Type 0
+HasNode r g None = node_place g r.system ≡ length g
+HasNode r g (Some ways) = Unit {0}
+
+-- a tunnel packet for another router, at a router with that view
+abbrev pub carried_on : RouterConf → List ViewNode → List ℕ → TunnelPacket → Effects
+carried_on r g octets t = if nat_le t.ttl 1 then dropped cause.Outer else forwarded r g (node_place g r.system) octets t
+
+-- the link over which a packet goes on
+abbrev pub link_of : Next → Option ℕ
+link_of Leave = None
+link_of (On link ttl) = Some link
+link_of Outer = None
+link_of Route = None

@@ -1,0 +1,98 @@
+//! The BIFT-id by which a router knows the packets of a triple (RFC 8279, 6.9; RFC 8401, 6.2).
+ghost use Rattle.std.specs.Prelude.{◌≡◌, ◌<◌, ◌+◌, ◌%◌, ◌^◌, nat_le, Some, None, if◌then◌else◌, IfSome, option_map};
+ghost use Rattle.wire_base.specs.model.Graph.{node_bift, place_in};
+ghost use Rattle.wire_base.specs.model.Place.{label_in, row_in, same_triple};
+ghost use Rattle.bier_forward.specs.Hops.{bift_toward, node_in};
+
+use wire_base::{
+    Kind, LabelRange, RouterConf, SystemId, TableRow, Triple, ViewNode, ViewSub, kind_of,
+};
+
+/// The BIFT-id that a system's node gives the triple: the lowest 20 bits of it, which a header has room for.
+pub(crate) fn bift_at(
+    conf: &RouterConf,
+    nodes: &[ViewNode],
+    triple: Triple,
+    system: SystemId,
+) -> Option<u32>
+    ensures value { result ≡ option_map (λ bift. bift % 2 ^ 20) (bift_toward conf.now nodes.now triple system) }
+    ensures small { IfSome result (λ bift. bift < 2 ^ 20) }
+{
+    let node = node_of(nodes, system)?;
+    node_bift(conf, triple, node)
+}
+
+fn node_of(nodes: &[ViewNode], system: SystemId) -> Option<&ViewNode>
+    ensures { option_map (λ n. n.now) result ≡ node_in nodes.now system }
+{
+    for node in nodes {
+        if node.system == system {
+            return Some(node);
+        }
+    }
+    None
+}
+
+#[tactic(auto, unfolding(wire_base::specs::model::Graph::node_bift))]
+fn node_bift(conf: &RouterConf, triple: Triple, node: &ViewNode) -> Option<u32>
+    ensures { result ≡ option_map (λ bift. bift % 2 ^ 20) (node_bift conf.now.kinds conf.now.table triple node.now) }
+{
+    let sub = place_in(node.subs.as_slice(), triple.sd)?;
+    match kind_of(conf.kinds.as_slice(), triple.sd)? {
+        Kind::Mpls => label_in(sub.ranges.as_slice(), triple),
+        Kind::Configured => row_in(conf.table.as_slice(), triple),
+    }
+}
+
+fn place_in(subs: &[ViewSub], sd: u8) -> Option<&ViewSub>
+    ensures { option_map (λ s. s.now) result ≡ place_in subs.now sd }
+{
+    for sub in subs {
+        if sub.sd == sd {
+            return Some(sub);
+        }
+    }
+    None
+}
+
+/// The label of the triple's set in the range of its length.
+fn label_in(ranges: &[LabelRange], triple: Triple) -> Option<u32>
+    ensures { result ≡ option_map (λ bift. bift % 2 ^ 20) (label_in ranges.now triple) }
+{
+    for range in ranges {
+        if range.bsl.code() == triple.bsl.code() {
+            return label_of(*range, triple.si);
+        }
+    }
+    None
+}
+
+fn label_of(range: LabelRange, si: u8) -> Option<u32>
+    ensures { result ≡ (if nat_le si range.max_si then Some ((range.label + si) % 2 ^ 20) else None) }
+{
+    if si <= range.max_si {
+        Some(((u64::from(range.label) + u64::from(si)) % 0x10_0000) as u32)
+    } else {
+        None
+    }
+}
+
+/// The BIFT-id of the triple in the written table.
+fn row_in(table: &[TableRow], triple: Triple) -> Option<u32>
+    ensures { result ≡ option_map (λ bift. bift % 2 ^ 20) (row_in table.now triple) }
+{
+    for row in table {
+        if is_row_for(row, triple) {
+            return Some(row.bift % 0x10_0000);
+        }
+    }
+    None
+}
+
+fn is_row_for(row: &TableRow, triple: Triple) -> bool
+    ensures { result ≡ same_triple row.now.triple triple }
+{
+    row.triple.sd == triple.sd
+        && row.triple.bsl.code() == triple.bsl.code()
+        && row.triple.si == triple.si
+}

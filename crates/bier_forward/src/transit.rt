@@ -1,0 +1,118 @@
+//! Tunnel packets for another router, which go on (RFC 2784; RFC 1812, 5.2.1 and 5.3.1).
+ghost use Rattle.std.specs.Prelude.{◌≡◌, ◌<◌, ◌≤◌, ◌-◌, ◌++◌, Some, false, IfOk, length, take, drop, option_and_then};
+ghost use Rattle.std.specs.Str.{bytes_eq};
+ghost use Rattle.wire_base.specs.model.Configuration.{IsSound};
+ghost use Rattle.wire_base.specs.model.Item.{ip_frame};
+ghost use Rattle.wire_base.specs.model.OnFrame.{next_link, node_place, node_with, or_no_route, sent_on};
+ghost use Rattle.wire_base.specs.model.Tunnel.{total_of, tunnel_on};
+ghost use Rattle.gre_ip.specs.Tunnels.{HasPlaces, packet_of};
+ghost use Rattle.bier_forward.specs.Tunnels.{carried_on, link_of};
+
+use crate::copy::ip_head;
+use crate::effects::Effects;
+use crate::table_rows::own_place;
+use crate::ways::end_at;
+use bier_tunnel::{Fib, Next};
+use gre_ip::{Tunnel, write_onward};
+use std::alloc::Global;
+use wire_base::{Cause, End, M, Octets, RouterConf, Sent, View};
+
+/// What a router does with a tunnel packet for another router, by a view of its domain: it sends it on toward the router
+/// with that prefix, with a lower time to live and the checksum for it. Octets past the packet's total length stay behind.
+///
+/// Its drop is `Outer` where the time to live has ended, and `Route` where no way leads to a router with that prefix.
+pub fn carry_on(
+    alloc: Global,
+    conf: &RouterConf,
+    view: &View,
+    octets: &[u8],
+    tunnel: &Tunnel,
+) -> M<Effects>
+    requires sound { IsSound conf.now }
+    requires places { HasPlaces octets.now tunnel.now }
+    requires elsewhere { bytes_eq tunnel.now.dst.0 conf.now.prefix.0 ≡ false }
+    ensures { IfOk result (λ e. e ≡ carried_on conf.now view.now.nodes octets.now (packet_of octets.now tunnel.now)) }
+{
+    if tunnel.ttl <= 1 {
+        return Effects::dropped(alloc, Cause::Outer);
+    }
+    match link_toward(alloc, conf, view, tunnel)? {
+        None => Effects::dropped(alloc, Cause::Route),
+        Some(link) => send_on(alloc, conf, octets, tunnel, link),
+    }
+}
+
+/// The link toward the router with the destination's prefix. A router without a node in the view reaches no other.
+fn link_toward(alloc: Global, conf: &RouterConf, view: &View, tunnel: &Tunnel) -> M<Option<u16>>
+    requires sound { IsSound conf.now }
+    requires elsewhere { bytes_eq tunnel.now.dst.0 conf.now.prefix.0 ≡ false }
+    requires onward { 1 < tunnel.now.ttl }
+    ensures { IfOk result (λ link. link ≡ option_and_then (next_link conf.now view.now.nodes (node_place view.now.nodes conf.now.system)) (node_with view.now.nodes tunnel.now.dst)) }
+{
+    match own_place(view.as_slice(), conf.system) {
+        None => Ok(None),
+        Some(u) => {
+            let fib = Fib::build(alloc, view, conf, u)?;
+            Ok(link_of(fib.transit(conf.prefix, tunnel)))
+        }
+    }
+}
+
+/// The link over which a packet goes on.
+fn link_of(next: Next) -> Option<u16>
+    ensures { result ≡ link_of next }
+{
+    match next {
+        Next::On { link, ttl: _ } => Some(link),
+        Next::Leave | Next::Outer | Next::Route => None,
+    }
+}
+
+/// Sends the packet on over a link, where it has an end.
+fn send_on(
+    alloc: Global,
+    conf: &RouterConf,
+    octets: &[u8],
+    tunnel: &Tunnel,
+    link: u16,
+) -> M<Effects>
+    requires places { HasPlaces octets.now tunnel.now }
+    requires onward { 1 < tunnel.now.ttl }
+    ensures { IfOk result (λ e. e ≡ or_no_route (sent_on conf.now (Some link) (λ end. ip_frame end.peer_mac end.own_mac (tunnel_on octets.now (tunnel.now.ttl - 1))))) }
+{
+    match end_at(conf, link) {
+        None => Effects::dropped(alloc, Cause::Route),
+        Some(end) => {
+            let frame = onward_frame(alloc, end, octets, tunnel)?;
+            let mut effects = Effects::nothing(alloc);
+            effects.send(Sent {
+                link,
+                octets: frame,
+            })?;
+            Ok(effects)
+        }
+    }
+}
+
+/// The frame of the packet on an end, with a time to live of one less.
+fn onward_frame(alloc: Global, end: End, octets: &[u8], tunnel: &Tunnel) -> M<Octets>
+    requires places { HasPlaces octets.now tunnel.now }
+    requires onward { 1 < tunnel.now.ttl }
+    ensures { IfOk result (λ frame. frame ≡ ip_frame end.peer_mac end.own_mac (tunnel_on octets.now (tunnel.now.ttl - 1))) }
+{
+    let head = ip_head(end);
+    let mut frame = Vec::with_capacity(alloc, head.len() + tunnel.to)?;
+    frame.extend_from_slice(&head)?;
+    frame.extend_from_slice(&octets[..tunnel.to])?;
+    write_behind(frame.as_mut_slice(), tunnel.ttl - 1);
+    Ok(Octets::from_vec(frame))
+}
+
+/// Gives the tunnel packet behind the first 14 octets of a frame another time to live.
+fn write_behind(frame: &mut [u8], ttl: u8)
+    requires head { 20 ≤ total_of (drop 14 frame.old) }
+    requires whole { total_of (drop 14 frame.old) ≤ length (drop 14 frame.old) }
+    ensures { frame.new ≡ take 14 frame.old ++ (tunnel_on (drop 14 frame.old) ttl ++ drop (total_of (drop 14 frame.old)) (drop 14 frame.old)) }
+{
+    write_onward(&mut frame[14..], ttl);
+}

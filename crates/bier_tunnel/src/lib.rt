@@ -1,0 +1,15 @@
+//! The ways of a router to the others: over which link a tunnel to a router goes, to which BFR-prefix, and what a router
+//! does with a tunnel packet that it receives (RFC 8279, 6.9; RFC 2784).
+#![tactic(auto)]
+
+mod fib;
+mod first_steps;
+mod laws;
+mod next;
+#[cfg(test)]
+mod tests;
+mod ways;
+
+pub use fib::Fib;
+pub use laws::tunnel_ways;
+pub use next::Next;

@@ -1,0 +1,3 @@
+pub mod BranchLaws
+pub mod CarriedLaws
+pub mod CourseCases

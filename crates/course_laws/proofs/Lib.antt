@@ -1,0 +1,11 @@
+pub mod KnownLaws
+pub mod FollowLaws
+pub mod NodeLaws
+pub mod HopLaws
+pub mod TransitLaws
+pub mod StepLaws
+pub mod KeptLaws
+pub mod FirstLaws
+pub mod OnceLaws
+pub mod LawLaws
+pub mod WayLaws

@@ -1,0 +1,2 @@
+-- Courses.
+pub mod Course

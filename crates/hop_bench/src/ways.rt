@@ -1,0 +1,33 @@
+//! The rows of 4,096 positions over 512 neighbours.
+ghost use Rattle.std.specs.Prelude.{◌≡◌, IfOk, length};
+
+use std::alloc::Global;
+use wire_base::{First, M, RowSet, Rows, SystemId};
+
+const NEIGHBOURS: u16 = 512;
+
+/// Where each position leads.
+pub fn rows(alloc: Global) -> M<RowSet>
+    ensures { IfOk result (λ rows. length rows.bits ≡ 4096) }
+{
+    let mut bits = Rows::new(alloc);
+    for place in 0..4096 {
+        bits.push(row(alloc, place)?)?;
+    }
+    Ok(RowSet { bits })
+}
+
+/// Every sixteenth position has no row; the others lead to all neighbours in turn.
+fn row(alloc: Global, place: u16) -> M<Rows<First>> {
+    if place % 16 == 15 {
+        return Ok(Rows::new(alloc));
+    }
+    let neighbour = place % NEIGHBOURS;
+    Rows::from_slice(
+        alloc,
+        &[First {
+            system: SystemId([2, 0, 0, 0, (neighbour / 256) as u8, (neighbour % 256) as u8]),
+            direct: Some(neighbour),
+        }],
+    )
+}

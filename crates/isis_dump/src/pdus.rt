@@ -1,0 +1,107 @@
+//! A PDU: its line, and the lines of its TLVs (ISO/IEC 10589, 9.5 to 9.13).
+ghost use Rattle.std.specs.Prelude.{◌≡◌};
+ghost use Rattle.isis_dump.specs.Levels.{type_in, level_in};
+
+use crate::octets::show_refused;
+use crate::tlvs::show_tlvs;
+use isis_pdu::{LspHead, Pdu, read_pdu};
+use std::fmt::Write;
+use wire_base::{Level, LspId, M, SystemId};
+
+/// What became of a frame.
+#[derive(Clone, Copy, Debug, PartialEq, Eq)]
+pub enum Shown {
+    /// It was read.
+    Whole,
+    /// It breaks a rule.
+    Refused,
+}
+
+/// The type of a PDU: the low five bits of its fifth octet; 0 where there is none.
+fn type_of(pdu: &[u8]) -> u8
+    ensures { result ≡ type_in pdu.now }
+{
+    match pdu {
+        [_, _, _, _, number, ..] => *number % 32,
+        _ => 0,
+    }
+}
+
+/// The level that a PDU's type tells, and 2 where it tells none.
+fn level_of(pdu: &[u8]) -> Level
+    ensures { result ≡ level_in pdu.now }
+{
+    match type_of(pdu) {
+        18 | 24 | 26 => Level::One,
+        _ => Level::Two,
+    }
+}
+
+fn level_number(level: Level) -> u8 {
+    match level {
+        Level::One => 1,
+        Level::Two => 2,
+    }
+}
+
+/// Appends what stands behind the record's number and time, and the lines of the TLVs; or the first rule that is broken.
+pub fn show_pdu(text: &mut String, pdu: &[u8]) -> M<Shown> {
+    let level = level_of(pdu);
+    let number = level_number(level);
+    match read_pdu(level, pdu) {
+        Ok(Pdu::Lsp { head, tlvs }) => {
+            show_lsp(text, number, &head)?;
+            show_tlvs(text, tlvs)?;
+        }
+        Ok(
+            Pdu::Csnp {
+                source,
+                start,
+                last,
+                tlvs,
+            },
+        ) => {
+            show_csnp(text, number, source, start, last)?;
+            show_tlvs(text, tlvs)?;
+        }
+        Ok(Pdu::Psnp { source, tlvs }) => {
+            writeln!(text, "psnp {number} source {source}")?;
+            show_tlvs(text, tlvs)?;
+        }
+        Ok(Pdu::Hello) => {
+            let kind = type_of(pdu);
+            writeln!(text, "hello type {kind}")?;
+        }
+        Ok(Pdu::Other(kind)) => writeln!(text, "other type {kind}")?,
+        Err(fault) => {
+            show_refused(text, "", "pdu", fault.number(), fault.name())?;
+            return Ok(Shown::Refused);
+        }
+    }
+    Ok(Shown::Whole)
+}
+
+/// A live LSP that was read has the right sums; of one whose life is 0 they aren't used.
+fn show_lsp(text: &mut String, level: u8, head: &LspHead) -> M<()> {
+    let LspHead {
+        life,
+        id,
+        seq,
+        sum,
+        flags,
+    } = *head;
+    let right = if life > 0 { "right" } else { "unused" };
+    writeln!(
+        text,
+        "lsp {level} {id} seq {seq} life {life} sum {sum:04x} {right} flags {flags:02x}"
+    )?;
+    Ok(())
+}
+
+fn show_csnp(text: &mut String, level: u8, source: SystemId, start: LspId, last: LspId) -> M<()> {
+    writeln!(
+        text,
+        "csnp {level} source {source} first {start} last {last}"
+    )?;
+    Ok(())
+}

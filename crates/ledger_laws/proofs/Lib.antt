@@ -1,0 +1,17 @@
+pub mod SumLaws
+pub mod ShapeLaws
+pub mod FlightLaws
+pub mod OutcomeLaws
+pub mod CopyLaws
+pub mod MeasureLaws
+pub mod GroupLaws
+pub mod MadeLaws
+pub mod WorldLaws
+pub mod CountLaws
+pub mod LedgerLaws
+pub mod SourceLaws
+pub mod TotalLaws
+pub mod RunLaws
+pub mod WeightLaws
+pub mod FallLaws
+pub mod DeliveryLaws

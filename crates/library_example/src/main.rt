@@ -1,0 +1,50 @@
+//! Reads a capture of IS-IS from standard input, builds the database and the view that a router makes of it, and says how
+//! far each router is and where each bit goes. `docs/library.md` quotes it.
+//!
+//! It stands on the codecs, the database, the view and the routes.
+#![tactic(auto)]
+
+mod conf;
+mod database;
+mod routes;
+
+use conf::own_conf;
+use database::database;
+use routes::{show_distances, show_rows};
+use std::alloc::Global;
+use std::io;
+use std::io::{Read, Write};
+use std::process::ExitCode;
+use view_graph::view;
+use wire_base::Status;
+
+/// What the program says of a capture.
+fn report(alloc: Global, capture: &[u8]) -> Result<String, Status> {
+    let conf = own_conf(alloc)?;
+    let store = database(alloc, conf.level, capture)?;
+    let seen = view(alloc, &conf, &[true, true], &store)?;
+    let mut text = String::new(alloc);
+    show_distances(alloc, &mut text, &seen)?;
+    show_rows(alloc, &mut text, &seen, &conf)?;
+    Ok(text)
+}
+
+fn run(rt: &HostRuntime) -> Result<(), Status> {
+    let mut capture = Vec::new(rt.alloc());
+    if rt.reader().read_to_end(&mut capture).is_err() {
+        return Err(Status::ReadFault);
+    }
+    let text = report(rt.alloc(), capture.as_slice())?;
+    match io::writer(rt).write_all(text.as_bytes()) {
+        Ok(()) => Ok(()),
+        Err(_) => Err(Status::WriteFault),
+    }
+}
+
+fn main(rt: HostRuntime) -> ExitCode {
+    let status = match run(&rt) {
+        Ok(()) => Status::Done,
+        Err(status) => status,
+    };
+    ExitCode::from(status.number())
+}

@@ -1,0 +1,61 @@
+//! What a view says: distances, and the rows of a forwarding table.
+ghost use Rattle.std.specs.Prelude.{◌≤◌, length};
+
+use birt_rows::rows;
+use path_tree::distances_to;
+use std::alloc::Global;
+use std::fmt::Write;
+use wire_base::{Bsl, First, M, RouterConf, Rows, Triple, View};
+
+/// A line for each router: how far each router is from it, `-` where no walk leads to it.
+pub fn show_distances(alloc: Global, text: &mut String, seen: &View) -> M<()> {
+    let nodes = seen.as_slice();
+    for d in 0..nodes.len() {
+        let found = distances_to(alloc, seen, d as u16)?;
+        write!(text, "to {}:", nodes[d].system)?;
+        for distance in found.as_slice() {
+            match distance {
+                Some(sum) => write!(text, " {sum}")?,
+                None => text.push_str(" -")?,
+            }
+        }
+        text.push('\n')?;
+    }
+    Ok(())
+}
+
+/// A line for each bit position of set 0 of 64 bits in subdomain 0 that has a row at the view's first router: the routers
+/// to which its bit may be sent, and the end where each is reached directly.
+pub fn show_rows(alloc: Global, text: &mut String, seen: &View, conf: &RouterConf) -> M<()>
+    requires { length conf.now.ends ≤ 65536 }
+{
+    let triple = Triple {
+        sd: 0,
+        bsl: Bsl::B64,
+        si: 0,
+    };
+    if seen.as_slice().is_empty() {
+        return Ok(());
+    }
+    let set = rows(alloc, seen, conf, 0, triple)?;
+    for (place, row) in set.bits.as_slice().iter().enumerate() {
+        if row.len() > 0 {
+            show_row(text, place, row)?;
+        }
+    }
+    Ok(())
+}
+
+/// The bit position is the place in the set, from 1.
+fn show_row(text: &mut String, place: usize, row: &Rows<First>) -> M<()> {
+    let position = place.saturating_add(1);
+    write!(text, "bit {position}:")?;
+    for first in row.as_slice() {
+        match first.direct {
+            Some(end) => write!(text, " {} over end {end}", first.system)?,
+            None => write!(text, " {} by a tunnel", first.system)?,
+        }
+    }
+    text.push('\n')?;
+    Ok(())
+}

@@ -1,0 +1,32 @@
+-- A set that is written position by position.
+use Rattle.std.proofs.Common.{◌≡◌, ℕ, ◌++◌, List, [], ◌∷◌, Result, Ok, Err, OnOk, sym, ap, ◌∙◌, append_assoc, refl}
+use Rattle.std.specs.List.{flat_map}
+use Rattle.std.specs.Fmt.{decimal}
+use Rattle.std.proofs.lemmas.List.Concat.{flat_map-append}
+use Rattle.bier_bits.specs.Sets.{from_on}
+use Rattle.bier_bits.proofs.Places.{from-zero}
+use Rattle.replay_text.specs.Ids.{ids_text}
+
+abbrev pub behind_comma : ℕ → List ℕ
+behind_comma next = 44 ∷ decimal next
+
+pub written_more : (old out pushed new done : List ℕ) (p : ℕ) → out ≡ old ++ flat_map behind_comma done → pushed ≡ out ++ 44 ∷ [] → new ≡ pushed ++ decimal p → new ≡ old ++ flat_map behind_comma (done ++ p ∷ [])
+written_more old out pushed new done p so_far comma number =
+    number ∙ ap (λ (l : List ℕ). l ++ decimal p) comma ∙ append_assoc out (44 ∷ []) (decimal p) ∙ ap (λ (l : List ℕ). l ++ behind_comma p) so_far ∙ append_assoc old (flat_map behind_comma done) (behind_comma p)
+    ∙ ap (λ (l : List ℕ). old ++ l) (sym (flat_map-append behind_comma done (p ∷ []) ∙ ap (λ (l : List ℕ). flat_map behind_comma done ++ l) (append_nil (behind_comma p))))
+  where
+    append_nil : (l : List ℕ) → l ++ [] ≡ l
+    append_nil [] = refl
+    append_nil (x ∷ xs) = ap (λ (l : List ℕ). x ∷ l) (append_nil xs)
+
+pub left_more : (whole done rest more : List ℕ) (p : ℕ) → whole ≡ done ++ rest → rest ≡ p ∷ more → whole ≡ (done ++ p ∷ []) ++ more
+left_more whole done rest more p so_far next = so_far ∙ ap (λ (l : List ℕ). done ++ l) next ∙ sym (append_assoc done (p ∷ []) more)
+
+-- the whole text, once the first position is known
+pub whole_text : (set more : List ℕ) (p : ℕ) → from_on 0 set ≡ p ∷ more → ids_text set ≡ decimal p ++ flat_map behind_comma more
+whole_text set more p first = ap ids_text (sym (from-zero set) ∙ first)
+
+pub whole_written : {T E : Type 0} (result : Result T E) (old mid new set more : List ℕ) (p : ℕ) → from_on 0 set ≡ p ∷ more → mid ≡ old ++ decimal p → OnOk result (new ≡ mid ++ flat_map behind_comma more) → OnOk result (new ≡ old ++ ids_text set)
+whole_written (Ok x) old mid new set more p first number rest =
+    rest ∙ ap (λ (l : List ℕ). l ++ flat_map behind_comma more) number ∙ append_assoc old (decimal p) (flat_map behind_comma more) ∙ ap (λ (l : List ℕ). old ++ l) (sym (whole_text set more p first))
+whole_written (Err e) old mid new set more p first number rest = tt

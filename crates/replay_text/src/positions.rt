@@ -1,0 +1,71 @@
+//! The positions of bit strings, written as ids with no list between.
+ghost use Rattle.std.specs.Prelude.{◌≡◌, ◌≤◌, ◌*◌, ◌++◌, ◌∷◌, length, take, IsTrue, OnOk, OnErr};
+ghost use Rattle.std.specs.Fmt.{decimal};
+ghost use Rattle.std.specs.List.{flat_map};
+ghost use Rattle.bier_bits.specs.Any.{positions_of};
+ghost use Rattle.bier_bits.specs.Sets.{is_width, from_on};
+ghost use Rattle.replay_text.specs.Ids.{ids_text};
+
+use bier_bits::{AnyBits, BitString};
+use wire_base::{M, Octets};
+
+/// Appends the positions of a bit string with commas between them, or `-` for none. Where memory is refused, nothing is
+/// appended.
+pub fn push_positions(out: &mut Octets, bits: &AnyBits) -> M<()>
+    ensures ok { OnOk result (out.new ≡ out.old ++ ids_text (positions_of bits.now)) }
+    ensures err { OnErr result (out.new ≡ out.old) }
+{
+    match bits {
+        AnyBits::B64(set) => push_set(out, set),
+        AnyBits::B128(set) => push_set(out, set),
+        AnyBits::B256(set) => push_set(out, set),
+        AnyBits::B512(set) => push_set(out, set),
+        AnyBits::B1024(set) => push_set(out, set),
+        AnyBits::B2048(set) => push_set(out, set),
+        AnyBits::B4096(set) => push_set(out, set),
+    }
+}
+
+/// The same of a bit string of one width.
+pub fn push_set<const W: usize>(out: &mut Octets, set: &BitString<W>) -> M<()>
+    requires { IsTrue (is_width W) }
+    ensures ok { OnOk result (out.new ≡ out.old ++ ids_text set.now) }
+    ensures err { OnErr result (out.new ≡ out.old) }
+{
+    let len = out.len();
+    let pushed = push_members(out, set);
+    if pushed.is_err() {
+        out.truncate(len);
+    }
+    pushed
+}
+
+/// The same, but for what stands behind the old end where memory is refused.
+#[tactic(auto, using(crate::proofs::Appended::front, crate::proofs::Appended::front_kept))]
+fn push_members<const W: usize>(out: &mut Octets, set: &BitString<W>) -> M<()>
+    requires { IsTrue (is_width W) }
+    ensures ok { OnOk result (out.new ≡ out.old ++ ids_text set.now) }
+    ensures err { OnErr result (take (length out.old) out.new ≡ out.old) }
+{
+    let Some(first) = set.next_from(0) else {
+        return out.push(b'-');
+    };
+    out.append_number(u64::from(first))?;
+    push_from(out, set, first + 1)
+}
+
+/// Appends a comma and the number of each position from one on.
+#[tactic(auto, using(crate::proofs::Appended::front, crate::proofs::Appended::front_of_front))]
+fn push_from<const W: usize>(out: &mut Octets, set: &BitString<W>, start: u16) -> M<()>
+    requires { IsTrue (is_width W) }
+    ensures ok { OnOk result (out.new ≡ out.old ++ flat_map (λ next. 44 ∷ decimal next) (from_on start set.now)) }
+    ensures err { OnErr result (take (length out.old) out.new ≡ out.old) }
+{
+    let mut low = start;
+    'positions: while let Some(position) = set.next_from(low) {
+        out.push(b',')?;
+        out.append_number(u64::from(position))?;
+        low = position + 1;
+    }
+    Ok(())
+}
