@@ -1,6 +1,8 @@
 #!/usr/bin/env python3
 """A second implementation of `replay`, written from the rules alone, to compare with the program.
-usage: ref.py CONF SCHEDULE FRAMES [--tunnels]"""
+
+tools/independent/replay.py replay CONF SCHEDULE FRAMES    the words, report, capture and status of the program's `replay`
+"""
 import sys, tomllib, struct, heapq, re
 
 BSLS = {64: 1, 128: 2, 256: 3, 512: 4, 1024: 5, 2048: 6, 4096: 7}
@@ -14,12 +16,34 @@ class ConfFault(Exception):
 def fault(num, name, path):
     raise ConfFault(f"{num} {name} {path}")
 
+def read_toml(data):
+    """The document, by TOML 1.1. Python's reader knows 1.0, so inline tables over several lines are joined for it."""
+    try:
+        text = data.decode("utf-8-sig")  # a byte order mark at the front is passed
+        try: return tomllib.loads(text)
+        except tomllib.TOMLDecodeError: return tomllib.loads(joined_tables(text))
+    except (UnicodeDecodeError, tomllib.TOMLDecodeError, RecursionError):
+        fault(1, "Toml", "-")
+
+# The strings of TOML, a comment, an end of line, and any other character.
+TOKEN = re.compile(r'"""(?:[^\\]|\\.)*?"{3,5}|\'\'\'.*?\'{3,5}|"(?:[^"\\\n]|\\.)*"|\'[^\'\n]*\'|#[^\n]*|\r?\n|.', re.S)
+
+def joined_tables(text):
+    """Inline tables each in one line, without the comma that may stand behind their last value."""
+    out, depth = [], []
+    for token in TOKEN.findall(text):
+        if token in "{[": depth.append(token)
+        elif token in "}]" and depth:
+            if depth.pop() == "{":
+                while out and out[-1].isspace(): out.pop()
+                if out and out[-1] == ",": out.pop()
+        elif "{" in depth and (token[0] == "#" or token in ("\n", "\r\n")): token = " "
+        out.append(token)
+    return "".join(out)
+
 def read_domain(data):
     if len(data) > 4194304: fault(7, "Limit", "-")
-    try:
-        doc = tomllib.loads(data.decode("utf-8"))
-    except Exception:
-        fault(1, "Toml", "-")
+    doc = read_toml(data)
     tops = ["level", "area", "subdomain", "row", "router", "bier", "labels", "link"]
     for k in sorted(doc, key=lambda s: s.encode()):
         if k not in tops: fault(2, "Field", k)
@@ -246,9 +270,14 @@ def walk_tlvs(b):
 
 # ---------------------------------------------------------------- one router
 
+class View(list):
+    """The nodes of a view, and the distances to those that were asked for."""
+    def __init__(self, nodes):
+        super().__init__(nodes); self.dist = {}
+
 class Router:
-    def __init__(self, conf, tunnels):
-        self.conf, self.tunnels = conf, tunnels
+    def __init__(self, conf):
+        self.conf, self.seen = conf, (None, None)
         self.up = [True] * len(conf["ends"])
         self.start()
 
@@ -371,6 +400,12 @@ class Router:
 
     # ---- view
     def view(self):
+        """The view of now; the last one where nothing that it rests on has changed."""
+        rests_on = tuple(self.up), tuple((i, e["life"] > 0, e["flags"], e["content"]) for i, e in self.entries.items())
+        if self.seen[0] != rests_on: self.seen = rests_on, View(self.view_anew())
+        return self.seen[1]
+
+    def view_anew(self):
         conf = self.conf
         kinds = dict(conf["kinds"])
         claims = {conf["system"]: dict(overload=conf["overload"], links=[(e["peer"], e["metric"]) for e, u in zip(conf["ends"], self.up) if u],
@@ -448,16 +483,20 @@ class Router:
 
     # ---- routes
     def dist_to(self, V, d):
+        if d not in V.dist: V.dist[d] = self.dist_anew(V, d)
+        return V.dist[d]
+
+    def dist_anew(self, V, d):
         D = {d: 0}; q = [(0, d)]; done = set()
         while q:
             x, v = heapq.heappop(q)
             if v in done: continue
             done.add(v)
             if v != d and V[v]["overload"]: continue
-            for u in range(len(V)):
-                if v in V[u]["edges"]:
-                    y = x + V[u]["edges"][v]
-                    if u not in D or y < D[u]: D[u] = y; heapq.heappush(q, (y, u))
+            for u in V[v]["edges"]:
+                # An edge has both ends.
+                y = x + V[u]["edges"][v]
+                if u not in D or y < D[u]: D[u] = y; heapq.heappush(q, (y, u))
         return D
 
     def tight(self, V, D, u, d):
@@ -492,7 +531,6 @@ class Router:
         x = first[cls % len(first)]
         du = self.dist_to(V, x).get(u)
         direct = x in V[u]["edges"] and V[u]["edges"][x] == du
-        if not direct and not self.tunnels: return None
         return x, direct
 
     def next_link(self, V, u, x):
@@ -583,7 +621,7 @@ class Router:
             else: out["passed"] = True
         elif n == 0x8847: self.data("mpls", b[14:], out)
         elif n == 0xAB37: self.data("configured", b[14:], out)
-        elif n == 0x0800 and self.tunnels: self.ip(b[14:], out)
+        elif n == 0x0800: self.ip(b[14:], out)
         else: out["passed"] = True
         return out
 
@@ -679,12 +717,11 @@ class Refused(Exception):
     pass
 
 class Replay:
-    def __init__(self, routers, tunnels):
-        self.tunnels = tunnels
-        self.conf = routers; self.routers = [Router(r, tunnels) for r in routers]
+    def __init__(self, routers):
+        self.conf = routers; self.routers = [Router(r) for r in routers]
         self.q = {(a, e["peer_at"]): [] for a, r in enumerate(routers) for e in r["ends"]}
         self.events = self.injections = self.named = self.got = self.dropped = 0
-        self.cap = bytes.fromhex("d4c3b2a1020004000000000000000000ffff000001000000"); self.report = []
+        self.cap = bytearray.fromhex("d4c3b2a1020004000000000000000000ffff000001000000"); self.report = []
         self.names = {r["name"]: i for i, r in enumerate(routers)}
 
     def end(self, a, b): return next((i for i, e in enumerate(self.conf[a]["ends"]) if e["peer_at"] == b), None)
@@ -826,18 +863,28 @@ class Replay:
         self.report.append(f"done lines {len(lines)} injected {self.injections} named {self.named} got {self.got} dropped {self.dropped} flight {fl}")
         return 0
 
-def main():
-    tunnels = "--tunnels" in sys.argv
-    conf, sched, frames = [a for a in sys.argv[1:] if not a.startswith("--")]
+USAGE = "usage: replay.py replay CONF SCHEDULE FRAMES"
+
+def read(path):
     try:
-        routers = read_domain(open(conf, "rb").read())
-    except ConfFault as e:
-        print(f"refused conf {e}"); sys.exit(3)
-    r = Replay(routers, tunnels)
-    st = r.run(open(sched, "rb").read())
-    open(frames, "wb").write(r.cap)
-    for l in r.report: print(l)
-    sys.exit(st)
+        with open(path, "rb") as file: return file.read()
+    except OSError as error:
+        sys.exit(f"replay.py: {path}: {error.strerror}")
+
+def main():
+    words = sys.argv[1:]
+    if words in (["--help"], ["-h"]): print(__doc__.strip()); return 0
+    if len(words) != 4 or words[0] != "replay": print(USAGE); return 2
+    _, conf, schedule, frames = words
+    try:
+        routers = read_domain(read(conf))
+    except ConfFault as fault:
+        print(f"refused conf {fault}"); return 3
+    run = Replay(routers)
+    status = run.run(read(schedule))
+    with open(frames, "wb") as file: file.write(run.cap)
+    sys.stdout.write("".join(line + "\n" for line in run.report))
+    return status
 
 if __name__ == "__main__":
-    main()
+    sys.exit(main())

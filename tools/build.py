@@ -1,0 +1,61 @@
+#!/usr/bin/env python3
+"""Proves and builds the program where it isn't built yet, or a source has changed since: tools/build.py"""
+import glob
+import os
+import subprocess
+import sys
+import time
+
+ROOT = os.path.dirname(os.path.dirname(os.path.realpath(__file__)))
+CRATE = os.path.join(ROOT, "crates", "bier_domain")
+PROGRAM = os.path.join(CRATE, "out", "bier_domain")
+STAMP = os.path.join(CRATE, "out", ".built")
+PARTS = ("src", "specs", "proofs")
+
+
+def say(text):
+    print(f"bier_domain: {text}", file=sys.stderr, flush=True)
+
+
+def sources():
+    yield os.path.join(ROOT, "crates.txt")
+    for part in PARTS:
+        for path in glob.iglob(os.path.join(ROOT, "crates", "*", part, "**"), recursive=True):
+            if os.path.isfile(path):
+                yield path
+
+
+def is_stale():
+    if not (os.access(PROGRAM, os.X_OK) and os.path.exists(STAMP)):
+        return True
+    built = os.path.getmtime(STAMP)
+    return any(os.path.getmtime(it) > built for it in sources())
+
+
+def build():
+    if not any(os.access(os.path.join(it, "rt"), os.X_OK) for it in os.get_exec_path()):
+        say("the Rattle kit's command rt isn't in PATH")
+        sys.exit(127)
+    say("proving and building the program, which the first time takes a while; examples/first-look shows a report before")
+    started = time.time()
+    status = subprocess.run([sys.executable, os.path.join(ROOT, "tools", "prove"), "bier_domain"]).returncode
+    if status:
+        sys.exit(status if status == 130 else 1)
+    # With no words the program answers its usage line, so its own status says nothing of the build.
+    log = os.path.join(CRATE, "out", "build.log")
+    with open(log, "w", encoding="utf-8") as file:
+        subprocess.run(["rt", "run"], cwd=CRATE, stdout=file, stderr=subprocess.STDOUT, stdin=subprocess.DEVNULL)
+    with open(log, encoding="utf-8", errors="replace") as file:
+        if not any(line.startswith("rt: running") for line in file):
+            say(f"the program wasn't built; {os.path.relpath(log)} says why")
+            sys.exit(1)
+    with open(STAMP, "w", encoding="utf-8"):
+        pass
+    # What was changed while this ran is built the next time.
+    os.utime(STAMP, (started, started))
+    say(f"proved and built in {int(time.time() - started) // 60} min {int(time.time() - started) % 60} s")
+
+
+if __name__ == "__main__":
+    if is_stale():
+        build()

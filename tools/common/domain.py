@@ -1,0 +1,88 @@
+"""Domain files, read by the rules of the user guide, through the independent implementation in tools/independent."""
+from . import places  # sets where the independent program is found
+from .trouble import Trouble, read_octets
+
+import replay as independent
+
+
+class Router:
+    """A router as the tools show it, over the independent program's configuration of it."""
+
+    def __init__(self, place, conf):
+        self.place, self.conf = place, conf
+        self.name, self.overload = conf["name"], conf["overload"]
+        self.system, self.prefix = conf["system"], conf["prefix"]
+        self.subs = conf["subs"]
+
+    @property
+    def plain(self):
+        """Whether it knows no BIER."""
+        return not self.subs
+
+    def ids(self):
+        """Its BFR-ids, as pairs of subdomain and id; an id of 0 only passes packets on."""
+        return [(sub["sd"], sub["id"]) for sub in self.subs]
+
+    def id_in(self, subdomain):
+        return next((sub["id"] for sub in self.subs if sub["sd"] == subdomain), 0)
+
+    def ranges(self):
+        """Its label ranges: subdomain, length, highest set identifier, label of set 0."""
+        return [(sub["sd"], *entry) for sub in self.subs for entry in sub["ranges"]]
+
+
+class Domain:
+    def __init__(self, confs):
+        self.confs = confs
+        self.routers = [Router(place, conf) for place, conf in enumerate(confs)]
+        self.place = {router.name: router.place for router in self.routers}
+        self.by_prefix = {router.prefix: router.place for router in self.routers}
+        self.by_system = {router.system: router.place for router in self.routers}
+        self.kinds = dict(confs[0]["kinds"])
+        self.table = confs[0]["table"]
+
+    def name(self, place):
+        return self.routers[place].name
+
+    def ends(self, place):
+        return self.confs[place]["ends"]
+
+    def links(self):
+        """Each link once: the two places, and the metric from each to the other."""
+        for a, conf in enumerate(self.confs):
+            for end in conf["ends"]:
+                b = end["peer_at"]
+                if a < b:
+                    back = next(other["metric"] for other in self.ends(b) if other["peer_at"] == a)
+                    yield a, b, end["metric"], back
+
+    def peer_of(self, place, octets):
+        """The router at whose end a data frame of this router arrives, by the frame's destination."""
+        return next((end["peer_at"] for end in self.ends(place) if end["peer_mac"] == octets[:6]), None)
+
+    def sender_of(self, octets):
+        """The two routers of a data frame's way, by its addresses."""
+        for place, conf in enumerate(self.confs):
+            for end in conf["ends"]:
+                if end["own_mac"] == octets[6:12] and end["peer_mac"] == octets[:6]:
+                    return place, end["peer_at"]
+        return None
+
+    def owners(self, subdomain, bfr_id):
+        return [router for router in self.routers if bfr_id and (subdomain, bfr_id) in router.ids()]
+
+    def triple(self, place, is_mpls, bift):
+        """What a BIFT-id means at a router: subdomain, length, set identifier; None where it means nothing."""
+        if not is_mpls:
+            return next((triple for triple, number in self.table if number == bift), None)
+        for subdomain, bits, highest, label in self.routers[place].ranges():
+            if label <= bift <= label + highest:
+                return subdomain, bits, bift - label
+        return None
+
+
+def read_domain(path):
+    try:
+        return Domain(independent.read_domain(read_octets(path)))
+    except independent.ConfFault as fault:
+        raise Trouble(f"{path}: not a domain file, refused as {fault} (docs/user-guide.md, The domain file)")

@@ -1,0 +1,120 @@
+"""Data frames and the headers in them: RFC 8296, RFC 3032, RFC 2784."""
+MPLS, BIER, IPV4 = 0x8847, 0xAB37, 0x0800
+LENGTHS = {1: 64, 2: 128, 3: 256, 4: 512, 5: 1024, 6: 2048, 7: 4096}
+# No label stack of the domain is deeper, and `headers` passes those that are.
+DEEPEST_STACK = 8
+
+
+class Header:
+    """A BIER header, the length of its bit string taken from its own field."""
+
+    __slots__ = ("is_mpls", "bift", "ttl", "bits", "entropy", "protocol", "bfir", "bitstring", "payload")
+
+
+class Tunnel:
+    """The outer header of a packet that is carried by GRE in IPv4."""
+
+    __slots__ = ("source", "destination", "ttl")
+
+    def __init__(self, source, destination, ttl):
+        self.source, self.destination, self.ttl = source, destination, ttl
+
+
+def number(octets, start, count):
+    return int.from_bytes(octets[start : start + count], "big")
+
+
+def is_isis(octets):
+    return len(octets) >= 17 and number(octets, 12, 2) <= 1500 and octets[14:17] == b"\xfe\xfe\x03"
+
+
+def bottom_of_stack(octets):
+    """Where the last label of a stack begins; None where the stack can't be read."""
+    for place in range(DEEPEST_STACK):
+        at = 4 * place
+        if at + 4 > len(octets):
+            return None
+        if octets[at + 2] & 1:
+            return at
+    return None
+
+
+def fault_of(octets, is_mpls):
+    """The first rule that a header breaks, as `headers` names it; None where it can be read."""
+    if len(octets) < 12:
+        return "1 Short"
+    if is_mpls and octets[4] >> 4 != 5:
+        return "2 Nibble"
+    if octets[4] & 15:
+        return "3 Version"
+    if octets[5] >> 4 not in LENGTHS:
+        return "4 BslCode"
+    if len(octets) < 12 + LENGTHS[octets[5] >> 4] // 8:
+        return "1 Short"
+    return None
+
+
+def header_of(octets, is_mpls):
+    """The header at the front of octets that `fault_of` finds whole."""
+    header = Header()
+    header.is_mpls = is_mpls
+    header.bift, header.ttl = number(octets, 0, 3) >> 4, octets[3]
+    header.bits, header.entropy = LENGTHS[octets[5] >> 4], number(octets, 4, 4) & 0xFFFFF
+    header.protocol, header.bfir = octets[9] & 63, number(octets, 10, 2)
+    end = 12 + header.bits // 8
+    header.bitstring, header.payload = number(octets, 12, end - 12), octets[end:]
+    return header
+
+
+def positions(bitstring):
+    """The set positions of a bit string, ascending from 1."""
+    found, at = [], 1
+    while bitstring:
+        if bitstring & 1:
+            found.append(at)
+        bitstring >>= 1
+        at += 1
+    return found
+
+
+def bier_in(octets):
+    """The octets from a frame's BIER header on and whether it is behind labels; None where the frame has no BIER header."""
+    if len(octets) < 14:
+        return None
+    kind, inside = number(octets, 12, 2), octets[14:]
+    if kind == BIER:
+        return inside, False
+    if kind != MPLS:
+        return None
+    bottom = bottom_of_stack(inside)
+    # Behind the stack the first four bits tell BIER (5) from IP.
+    if bottom is None or len(inside) < bottom + 5 or inside[bottom + 4] >> 4 != 5:
+        return None
+    return inside[bottom:], True
+
+
+def data_of(octets):
+    """The header of a data frame that a router of the domain sent, and its tunnel or None; None for any other frame."""
+    tunnel = None
+    if len(octets) > 38 and number(octets, 12, 2) == IPV4 and octets[23] == 47:
+        tunnel = Tunnel(octets[26:30], octets[30:34], octets[22])
+        octets = octets[:12] + octets[36:]
+    found = bier_in(octets)
+    if found is None or fault_of(*found):
+        return None
+    return header_of(*found), tunnel
+
+
+def header_line(octets):
+    """A frame's line of `headers` without the record's number; None for a frame that is passed."""
+    found = bier_in(octets)
+    if found is None:
+        return None
+    fault = fault_of(*found)
+    if fault:
+        return f"bad {fault}"
+    header = header_of(*found)
+    kind = "mpls" if header.is_mpls else "bier"
+    places = ",".join(map(str, positions(header.bitstring))) or "-"
+    words = (header.bift, header.ttl, header.bits, header.entropy, header.protocol, header.bfir)
+    return f"{kind} {' '.join(map(str, words))} {places}"

@@ -1,0 +1,129 @@
+"""Where the routers of a domain stand in a picture: as far from each other as there are links between them, as well as a
+plane allows (the stress of a drawing, lessened step by step). The same domain always looks the same."""
+import math
+from collections import deque
+
+BOX = (0.95, 0.72)  # what a router takes, in units of a link
+FAR = 3  # links added for routers that no walk joins, beyond the longest walk
+
+
+def hops_from(start, neighbours):
+    hops, queue = {start: 0}, deque([start])
+    while queue:
+        a = queue.popleft()
+        for b in neighbours[a]:
+            if b not in hops:
+                hops[b] = hops[a] + 1
+                queue.append(b)
+    return hops
+
+
+def walk_order(neighbours):
+    """The routers in the order of a walk that goes as far as it can, so that rings come out as rings."""
+    order, seen = [], set()
+    for start in range(len(neighbours)):
+        stack = [start]
+        while stack:
+            a = stack.pop()
+            if a not in seen:
+                seen.add(a)
+                order.append(a)
+                stack.extend(b for b in reversed(neighbours[a]) if b not in seen)
+    return order
+
+
+def on_circle(order):
+    count = len(order)
+    radius = count / (2 * math.pi)
+    places = [None] * count
+    for step, a in enumerate(order):
+        turn = 2 * math.pi * step / count
+        places[a] = (radius * math.cos(turn), radius * math.sin(turn))
+    return places
+
+
+def distances(neighbours):
+    count = len(neighbours)
+    rows = [hops_from(a, neighbours) for a in range(count)]
+    longest = max(max(row.values()) for row in rows) + FAR
+    return [[rows[a].get(b, longest) for b in range(count)] for a in range(count)]
+
+
+def lessen(places, wanted, turns):
+    """Moves each router to where the others want it, by distance; the stress never rises."""
+    count = len(places)
+    for _ in range(turns):
+        moved = []
+        for a in range(count):
+            x = y = total = 0.0
+            for b in range(count):
+                if a == b:
+                    continue
+                weight = 1.0 / (wanted[a][b] * wanted[a][b])
+                dx, dy = places[a][0] - places[b][0], places[a][1] - places[b][1]
+                pull = wanted[a][b] / max(math.hypot(dx, dy), 1e-9)
+                x += weight * (places[b][0] + pull * dx)
+                y += weight * (places[b][1] + pull * dy)
+                total += weight
+            moved.append((x / total, y / total))
+        places = moved
+    return places
+
+
+def stress(places, wanted):
+    total = 0.0
+    for a in range(len(places)):
+        for b in range(a):
+            apart = math.hypot(places[a][0] - places[b][0], places[a][1] - places[b][1])
+            total += ((apart - wanted[a][b]) / wanted[a][b]) ** 2
+    return total
+
+
+def laid_flat(places):
+    """Turned so that the longest way across lies level, which suits a screen."""
+    far = max(
+        ((a, b) for a in range(len(places)) for b in range(a)),
+        key=lambda pair: math.dist(places[pair[0]], places[pair[1]]),
+        default=None,
+    )
+    if far is None:
+        return places
+    (ax, ay), (bx, by) = places[far[0]], places[far[1]]
+    turn = -math.atan2(by - ay, bx - ax)
+    return [(x * math.cos(turn) - y * math.sin(turn), x * math.sin(turn) + y * math.cos(turn)) for x, y in places]
+
+
+def pushed_apart(places):
+    """No two routers so close that their boxes overlap: of two that are, each gives way by half, on the shorter side."""
+    places = [list(place) for place in places]
+    for _ in range(300):
+        pairs = [(a, b) for a in range(len(places)) for b in range(a) if push(places[a], places[b])]
+        if not pairs:
+            break
+    return [tuple(place) for place in places]
+
+
+def push(one, other):
+    over_x = BOX[0] - abs(one[0] - other[0])
+    over_y = BOX[1] - abs(one[1] - other[1])
+    if over_x <= 1e-6 or over_y <= 1e-6:
+        return False
+    axis, over = (0, over_x) if over_x / BOX[0] < over_y / BOX[1] else (1, over_y)
+    step = over / 2 if one[axis] >= other[axis] else -over / 2
+    one[axis] += step
+    other[axis] -= step
+    return True
+
+
+def place(domain):
+    """A place for each router, in units of one link; the least coordinates are 0."""
+    count = len(domain.routers)
+    neighbours = [[end["peer_at"] for end in domain.ends(a)] for a in range(count)]
+    if count == 1:
+        return [(0.0, 0.0)]
+    wanted, turns = distances(neighbours), 200 if count <= 60 else 40
+    starts = (list(range(count)), walk_order(neighbours))
+    drawings = [lessen(on_circle(order), wanted, turns) for order in starts]
+    places = pushed_apart(laid_flat(min(drawings, key=lambda drawing: stress(drawing, wanted))))
+    left, low = min(x for x, _ in places), min(y for _, y in places)
+    return [(x - left, y - low) for x, y in places]

@@ -1,0 +1,36 @@
+"""Where the program and the parts of the repository are."""
+import os
+import subprocess
+import sys
+
+from .trouble import Trouble
+
+ROOT = os.path.dirname(os.path.dirname(os.path.dirname(os.path.abspath(__file__))))
+TOOLS = os.path.join(ROOT, "tools")
+BUILT = os.path.join(ROOT, "crates", "bier_domain", "out", "bier_domain")
+
+sys.path.insert(0, os.path.join(TOOLS, "independent"))
+
+
+def program(given=None):
+    """The program's path: the option, or BIER_DOMAIN, or what the script at the root has built.
+
+    The script is run once, on no words, so that many runs at once don't each begin to build.
+    """
+    path = given or os.environ.get("BIER_DOMAIN")
+    script = os.path.abspath(path or os.path.join(ROOT, "bier_domain"))
+    try:
+        done = subprocess.run([script], stdin=subprocess.DEVNULL, stdout=subprocess.PIPE, timeout=None if path is None else 60)
+    except (OSError, subprocess.TimeoutExpired) as error:
+        raise Trouble(f"{script}: {getattr(error, 'strerror', None) or 'no answer'}")
+    if done.returncode != 2 or not done.stdout.startswith(b"usage"):
+        raise Trouble(f"{script}: not the program, it has no usage line")
+    return script if path else BUILT
+
+
+def built_program():
+    """A program that is there without a build, for tests; None where there is none."""
+    for path in (os.environ.get("BIER_DOMAIN"), BUILT):
+        if path and os.access(path, os.X_OK):
+            return os.path.abspath(path)
+    return None

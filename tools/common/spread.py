@@ -1,0 +1,203 @@
+"""Spreads the runs of a sweep over the cores of this machine, or over machines by GNU parallel."""
+import json
+import os
+import queue
+import shlex
+import shutil
+import subprocess
+import sys
+import threading
+import time
+
+from . import places
+from .trouble import Trouble, read_text, write_octets
+
+SWEEP = os.path.join(places.TOOLS, "sweep")
+MOST_IN_BATCH = 16
+CORES = 8  # what a machine may have, for the size of batches
+
+
+class Progress:
+    """How far a sweep is, on standard error: in one line that is renewed on a terminal, else a line every ten seconds."""
+
+    def __init__(self, done, count):
+        self.done, self.count, self.before = done, count, done
+        self.started = self.told = time.monotonic()
+        self.is_terminal = sys.stderr.isatty()
+
+    def step(self, is_new):
+        self.done += is_new
+        now = time.monotonic()
+        if now - self.told >= (0.2 if self.is_terminal else 10):
+            self.told = now
+            self.show()
+
+    def show(self):
+        speed = (self.done - self.before) / max(time.monotonic() - self.started, 1e-6)
+        left = (self.count - self.done) / speed if speed else 0
+        text = f"{self.done} of {self.count} runs, {speed:.1f} a second, {left:.0f} s left"
+        print(f"\r{text}\x1b[K" if self.is_terminal else text, end="" if self.is_terminal else "\n", file=sys.stderr, flush=True)
+
+    def say(self, text):
+        print(f"\r\x1b[K{text}" if self.is_terminal else text, file=sys.stderr, flush=True)
+
+    def end(self):
+        self.show()
+        if self.is_terminal:
+            print(file=sys.stderr)
+
+
+def batches(numbers, workers):
+    """Runs in batches: few enough that each worker gets several, since a worker settles the domain once."""
+    size = max(1, min(MOST_IN_BATCH, len(numbers) // (4 * workers)))
+    return [numbers[start : start + size] for start in range(0, len(numbers), size)]
+
+
+def results(job, numbers, given, left_out, folder):
+    """The results of runs as they come; a run that broke gives a result that says so, or none."""
+    if given.hosts:
+        yield from over_hosts(job, numbers, given, left_out, folder)
+    else:
+        yield from over_cores(job, numbers, max(1, given.jobs or os.cpu_count() or 1))
+
+
+# This machine
+
+
+def over_cores(job, numbers, workers):
+    todo, done = queue.Queue(), queue.Queue()
+    for batch in batches(numbers, workers):
+        todo.put(batch)
+    threads = [threading.Thread(target=serve, args=(job, todo, done), daemon=True) for _ in range(workers)]
+    for thread in threads:
+        thread.start()
+    alive = len(threads)
+    while alive:
+        result = done.get()
+        if result is None:
+            alive -= 1
+        else:
+            yield result
+
+
+def serve(job, todo, done):
+    """Feeds one worker with batches. A worker that ends early is started anew, and the runs that it had are named."""
+    worker = None
+    while True:
+        try:
+            batch = todo.get_nowait()
+        except queue.Empty:
+            break
+        if worker is None:
+            worker = subprocess.Popen(
+                [sys.executable, SWEEP, "--worker"], stdin=subprocess.PIPE, stdout=subprocess.PIPE, text=True
+            )
+        if not serve_batch(worker, job, batch, done):
+            worker = None
+    if worker:
+        worker.stdin.close()
+        worker.wait()
+    done.put(None)
+
+
+def serve_batch(worker, job, batch, done):
+    """Gives a worker a batch and passes its results on; False where the worker ended."""
+    left = set(batch)
+    try:
+        worker.stdin.write(json.dumps({**job, "runs": batch}) + "\n")
+        worker.stdin.flush()
+        while left:
+            line = worker.stdout.readline()
+            if not line:
+                break
+            result = json.loads(line)
+            left.discard(result["run"])
+            done.put(result)
+    except (BrokenPipeError, ValueError):
+        pass
+    if not left:
+        return True
+    worker.kill()
+    status = worker.wait()
+    for number in sorted(left):
+        done.put({"run": number, "host": "this machine", "broken": f"its worker ended with status {status}"})
+    return False
+
+
+# Machines
+
+
+def hosts_of(path):
+    lines = [line.strip() for line in read_text(path).splitlines()]
+    found = [line for line in lines if line and not line.startswith("#")]
+    if not found:
+        raise Trouble(f"{path}: names no machine")
+    return found
+
+
+def parallel_words(log, login, given):
+    """GNU parallel's words: each line of its input is a job, which gets it as its standard input on some machine."""
+    command = f"cd {shlex.quote(places.ROOT)} && exec python3 tools/sweep --worker"
+    words = ["parallel", "--will-cite", "--pipe", "-N", "1", "--line-buffer", "--joblog", log, "--sshloginfile", login]
+    # A machine that says nothing any more is given up at last.
+    words += ["--timeout", str(given.limit * MOST_IN_BATCH), "-j", str(given.jobs or "100%")]
+    return [*words, command]
+
+
+def over_hosts(job, numbers, given, left_out, folder):
+    """One job of GNU parallel is one batch, which the worker there reads from its standard input."""
+    if not shutil.which("parallel"):
+        raise Trouble("GNU parallel isn't installed (Debian: parallel), which --hosts needs")
+    every = hosts_of(given.hosts)
+    hosts = [host for host in every if host not in left_out] or every
+    log, login = os.path.join(folder, "joblog"), os.path.join(folder, "hosts")
+    write_octets(login, "".join(host + "\n" for host in hosts).encode())
+    write_octets(log, b"")
+    all_batches, said = batches(numbers, len(hosts) * (given.jobs or CORES)), []
+    pipes = {"stdin": subprocess.PIPE, "stdout": subprocess.PIPE, "stderr": subprocess.PIPE}
+    parallel = subprocess.Popen(parallel_words(log, login, given), text=True, **pipes)
+    feeder = threading.Thread(target=feed, args=(parallel.stdin, job, all_batches), daemon=True)
+    listener = threading.Thread(target=lambda: said.extend(parallel.stderr), daemon=True)
+    feeder.start()
+    listener.start()
+    yield from parsed(parallel.stdout)
+    parallel.wait()
+    listener.join()
+    left_out |= name_broken(log, said, len(hosts) > 1)
+
+
+def feed(stream, job, all_batches):
+    try:
+        for batch in all_batches:
+            stream.write(json.dumps({**job, "runs": batch}) + "\n")
+        stream.close()
+    except BrokenPipeError:
+        pass
+
+
+def parsed(stream):
+    """Results, line by line; what a machine says besides is passed."""
+    for line in stream:
+        try:
+            result = json.loads(line)
+            if isinstance(result, dict) and isinstance(result.get("run"), int) and "host" in result:
+                yield result
+        except ValueError:
+            pass
+
+
+def name_broken(log, said, has_others):
+    """Names the machines on which jobs failed; those on which none succeeded are left out from now on."""
+    failed, well = {}, set()
+    for line in read_text(log).splitlines()[1:]:
+        cells = line.split("\t")
+        if len(cells) > 6:
+            if cells[6] == "0" and cells[7] == "0":
+                well.add(cells[1])
+            else:
+                failed[cells[1]] = failed.get(cells[1], 0) + 1
+    for host, many in failed.items():
+        print(f"machine {host}: {many} jobs broke; their runs are tried again", file=sys.stderr)
+    for line in said[:5] if failed else []:
+        print(f"  {line.rstrip()}", file=sys.stderr)
+    return {host for host in failed if host not in well} if has_others else set()

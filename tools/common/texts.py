@@ -1,0 +1,65 @@
+"""Reports and schedules, line by line."""
+from .trouble import Trouble, read_octets, read_text
+
+CAUSES = ("none", "ttl", "lost", "link", "outer", "route")
+
+
+class Told:
+    """A line of a report: what a router delivered, or dropped and why. Control frames have no injection and no ids."""
+
+    __slots__ = ("text", "line", "is_got", "router", "injection", "cause", "ids", "payload")
+
+
+class Report:
+    def __init__(self, told, end):
+        self.told, self.end = told, end
+        self.is_done = end.startswith("done ")
+
+    def numbers(self):
+        """The numbers of a `done` line by their names."""
+        words = self.end.split()[1:]
+        return {name: int(value) for name, value in zip(words[::2], words[1::2])}
+
+
+def ids_of(word):
+    return [] if word == "-" else [int(number) for number in word.split(",")]
+
+
+def told_of(path, number, text):
+    """One line of a report but the last."""
+    words, told = text.split(" "), Told()
+    told.text, told.payload, told.cause = text, "", ""
+    try:
+        told.line, told.is_got, told.router = int(words[0]), words[1] == "got", words[2]
+        told.injection = None if words[3] == "-" else int(words[3])
+        if told.is_got:
+            told.ids, told.payload = [int(words[4])], words[5]
+        elif words[1] == "drop":
+            told.cause, told.ids = words[4], ids_of(words[5])
+        else:
+            raise ValueError
+    except (IndexError, ValueError):
+        raise Trouble(f"{path}: line {number} is no line of a replay's report: {text[:60]}")
+    return told
+
+
+def read_report(path):
+    return report_of(path, read_text(path))
+
+
+def report_of(path, text):
+    lines = text.splitlines()
+    if not lines or not lines[-1].startswith(("done lines ", "refused ")):
+        raise Trouble(f"{path}: not a whole report of a replay: its last line begins with neither `done` nor `refused`")
+    if lines[-1].startswith(("refused conf", "refused record")):
+        raise Trouble(f"{path}: the report of a run that did nothing: {lines[-1]}")
+    told = [told_of(path, number, line) for number, line in enumerate(lines[:-1], 1)]
+    return Report(told, lines[-1])
+
+
+def read_schedule(path):
+    """The lines of a schedule without their ends. A comment may hold any octets."""
+    lines = read_octets(path).decode("utf-8", "replace").split("\n")
+    if lines[-1] == "":
+        lines.pop()
+    return [line.removesuffix("\r") for line in lines]

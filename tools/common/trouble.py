@@ -1,0 +1,55 @@
+"""One way to end a tool that can't go on: a line on standard error, and never a traceback."""
+import os
+import sys
+
+
+class Trouble(Exception):
+    """What is wrong, in words for whoever called the tool."""
+
+
+def run(main):
+    """Runs a tool's main, and ends with its status; 1 where there was trouble."""
+    try:
+        sys.exit(main())
+    except Trouble as trouble:
+        print(f"{os.path.basename(sys.argv[0])}: {trouble}", file=sys.stderr)
+        sys.exit(1)
+    except BrokenPipeError:
+        # Whoever read our output has seen enough, as `head` does.
+        os.dup2(os.open(os.devnull, os.O_WRONLY), sys.stdout.fileno())
+        sys.exit(1)
+    except KeyboardInterrupt:
+        sys.exit(130)
+    except OSError as error:
+        where = f"{error.filename}: " if error.filename else ""
+        print(f"{os.path.basename(sys.argv[0])}: {where}{error.strerror}", file=sys.stderr)
+        sys.exit(1)
+
+
+def read_octets(path):
+    try:
+        with open(path, "rb") as file:
+            return file.read()
+    except OSError as error:
+        raise Trouble(f"{path}: {error.strerror}")
+
+
+def read_text(path):
+    try:
+        return read_octets(path).decode("utf-8")
+    except UnicodeDecodeError:
+        raise Trouble(f"{path}: not a text")
+
+
+def write_octets(path, octets):
+    try:
+        with open(path, "wb") as file:
+            file.write(octets)
+    except OSError as error:
+        raise Trouble(f"{path}: {error.strerror}")
+
+
+def replace_octets(path, octets):
+    """Writes a file whole or not at all, whenever this process is stopped."""
+    write_octets(path + ".new", octets)
+    os.replace(path + ".new", path)

@@ -1,0 +1,80 @@
+"""What the tests share: the examples, their replays, and ways to call the tools."""
+import functools
+import os
+import shutil
+import subprocess
+import sys
+import tempfile
+import unittest
+
+HERE = os.path.dirname(os.path.abspath(__file__))
+sys.path.insert(0, os.path.dirname(HERE))
+from common import places
+
+EXAMPLES = os.path.join(places.ROOT, "examples")
+INDEPENDENT = os.path.join(places.TOOLS, "independent", "replay.py")
+REPLAYS = sorted(name for name in os.listdir(EXAMPLES) if name.startswith("replay-"))
+SCRATCH = tempfile.TemporaryDirectory()
+
+
+def needs(command, package):
+    return unittest.skipUnless(shutil.which(command), f"{command} isn't installed (Debian: {package})")
+
+
+def program():
+    """A program that is built, or the independent one, which has the same words."""
+    return places.built_program() or INDEPENDENT
+
+
+def tool(name, *words, env=None, timeout=120):
+    """Runs a tool; what it prints, and its status."""
+    path = os.path.join(places.TOOLS, name)
+    return subprocess.run([path, *words], capture_output=True, text=True, timeout=timeout, env={**os.environ, **(env or {})})
+
+
+class Replay:
+    """An example that was replayed: its files."""
+
+    def __init__(self, name, folder):
+        self.name, self.folder = name, folder
+        self.domain, self.schedule, self.report, self.frames = (
+            os.path.join(folder, part) for part in ("domain.toml", "schedule", "report", "frames")
+        )
+        self.files = [self.domain, self.schedule, self.report, self.frames]
+
+
+@functools.cache
+def replayed(name):
+    """Replays an example; the capture of one whose schedule is refused counts as well."""
+    folder = os.path.join(SCRATCH.name, name)
+    os.makedirs(folder)
+    for part in ("domain.toml", "schedule"):
+        shutil.copyfile(os.path.join(EXAMPLES, name, part), os.path.join(folder, part))
+    done = subprocess.run(
+        [program(), "replay", "domain.toml", "schedule", "frames"], cwd=folder, capture_output=True, timeout=120
+    )
+    assert done.returncode in (0, 4), (name, done.returncode, done.stderr)
+    with open(os.path.join(folder, "report"), "wb") as file:
+        file.write(done.stdout)
+    return Replay(name, folder)
+
+
+def scratch(name):
+    """A path for a file that a test writes."""
+    return os.path.join(SCRATCH.name, name)
+
+
+def write(name, octets):
+    path = scratch(name)
+    with open(path, "wb") as file:
+        file.write(octets if isinstance(octets, bytes) else octets.encode())
+    return path
+
+
+@functools.cache
+def python_alone():
+    """A folder with python3 and nothing else, for the path of a tool that is to find nothing besides."""
+    folder = scratch("python")
+    os.makedirs(folder)
+    os.symlink(os.path.realpath(sys.executable), os.path.join(folder, "python3"))
+    return folder

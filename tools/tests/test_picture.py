@@ -1,0 +1,109 @@
+"""Pictures of domains and of a packet's way."""
+import os
+import re
+import unittest
+import xml.etree.ElementTree as ElementTree
+
+from support import EXAMPLES, REPLAYS, needs, python_alone, replayed, scratch, tool, write
+
+GREEN, RED, BLUE = "#2a9d4a", "#c9302c", "#1d5fa8"
+DOMAINS = sorted(name for name in os.listdir(EXAMPLES) if os.path.exists(os.path.join(EXAMPLES, name, "domain.toml")))
+DIFFERENT_METRICS = """
+[[subdomain]]
+sd = 0
+kind = "configured"
+[[router]]
+name = "A"
+system = "0000.0000.0001"
+prefix = "10.0.0.1"
+overload = true
+[[router]]
+name = "B"
+system = "0000.0000.0002"
+prefix = "10.0.0.2"
+[[bier]]
+router = "A"
+sd = 0
+id = 0
+[[link]]
+a = "A"
+b = "B"
+metric_ab = 10
+metric_ba = 77
+"""
+
+
+def drawn(*words):
+    """The picture in Graphviz's language, which needs no Graphviz."""
+    path = scratch("picture.dot")
+    done = tool("picture", *words, "-o", path)
+    assert done.returncode == 0, done.stderr
+    with open(path) as file:
+        return file.read()
+
+
+class Picture(unittest.TestCase):
+    def test_domains(self):
+        for name in DOMAINS:
+            with self.subTest(name):
+                path = os.path.join(EXAMPLES, name, "domain.toml")
+                with open(path) as file:
+                    text = file.read()
+                dot = drawn(path)
+                for router in re.findall(r'^name = "(.*)"', text, re.M):
+                    self.assertIn(f'label="{router}\\n', dot)
+                self.assertEqual(dot.count("dir=none"), text.count("[[link]]"))
+
+    def test_kinds_of_routers(self):
+        fork = drawn(os.path.join(EXAMPLES, "fork", "domain.toml"), "--labels")
+        self.assertIn("P\\nno BIER", fork)
+        self.assertIn("64 bits: 300", fork)
+        self.assertIn("overloaded", drawn(os.path.join(EXAMPLES, "line", "domain.toml")))
+        mixed = drawn(write("mixed.toml", DIFFERENT_METRICS))
+        self.assertIn('taillabel="10", headlabel="77"', mixed)
+        self.assertIn("A\\npasses on\\noverloaded", mixed)
+
+    def test_a_loop(self):
+        """The packet of the ring's example that goes back and forth until its time to live ends."""
+        it = replayed("replay-ring")
+        for words in ([], ["--schedule", it.schedule]):
+            dot = drawn(it.domain, it.report, it.frames, "4", *words)
+            self.assertEqual(dot.count(f'fontcolor="{BLUE}"'), 2)  # two ways
+            self.assertIn("line 11, TTL 3<br/><b>3</b><br/>line 13, TTL 1", dot)
+            self.assertIn("dropped 3: ttl, line 14", dot)
+            self.assertIn(RED, dot)
+            self.assertNotIn(GREEN, dot)
+
+    def test_each_injection(self):
+        for name in REPLAYS:
+            it = replayed(name)
+            with open(it.report) as file:
+                told = [line.split() for line in file if line.split()[1] in ("got", "drop")]
+            for number in sorted({words[3] for words in told if words[3] != "-"}):
+                dot = drawn(it.domain, it.report, it.frames, number)
+                with self.subTest(name=name, number=number):
+                    mine = [words for words in told if words[3] == number]
+                    self.assertEqual(dot.count("\\ngot "), sum(words[1] == "got" for words in mine))
+                    self.assertEqual(dot.count("\\ndropped "), sum(words[1] == "drop" for words in mine))
+
+    @needs("dot", "graphviz")
+    def test_drawing(self):
+        it = replayed("replay-television")
+        done = tool("picture", it.domain, it.report, it.frames, "3")
+        words = {element.text for element in ElementTree.fromstring(done.stdout).iter() if element.text}
+        self.assertIn("dropped 6,7: link, line 14", words)
+        self.assertIn("got 11, line 14", words)
+        path = scratch("picture.png")
+        self.assertEqual(tool("picture", it.domain, "-o", path).returncode, 0)
+        with open(path, "rb") as file:
+            self.assertEqual(file.read(8), b"\x89PNG\r\n\x1a\n")
+
+    def test_without_graphviz(self):
+        it = replayed("replay-ring")
+        done = tool("picture", it.domain, env={"PATH": python_alone()})
+        self.assertEqual((done.returncode, done.stdout), (1, ""))
+        self.assertIn("Graphviz isn't installed (Debian: graphviz)", done.stderr)
+
+
+if __name__ == "__main__":
+    unittest.main()

@@ -1,0 +1,223 @@
+"""The page of a replay: its data, and in Chromium what it shows."""
+import base64
+import html
+import json
+import os
+import re
+import subprocess
+import tempfile
+import unittest
+
+from support import REPLAYS, needs, replayed, scratch, tool
+from common import capture
+
+TRIES = 3  # Chromium may fail to start where a machine is busy
+
+
+# Does what a person does, one after the other, and writes the line and the address after each step.
+KEYS = """
+  const note = (name, text) => { steps[name] = [shownLine, text === undefined ? location.hash : text]; };
+  const key = (name, key, shiftKey = false) => { document.dispatchEvent(new KeyboardEvent("keydown", { key, shiftKey })); note(name); };
+  note("start");
+  key("right", "ArrowRight"); key("left", "ArrowLeft"); key("shift", "ArrowRight", true); key("home", "Home"); key("end", "End");
+  key("p", "p"); key("p again", "p"); key("n", "n");
+  document.querySelectorAll("#schedule .row")[4].click(); note("row");
+  const bar = document.getElementById("bar"), box = bar.getBoundingClientRect();
+  bar.dispatchEvent(new PointerEvent("pointerdown", { clientX: box.left + 12, clientY: box.top + 5 })); note("bar");
+  window.dispatchEvent(new PointerEvent("pointerup"));
+  goTo(14); showFrame(514); note("frame");
+  key("tab", "3"); key("closed", "Escape");
+  document.querySelectorAll(".router")[2].dispatchEvent(new MouseEvent("click", { bubbles: true }));
+  note("router", document.getElementById("sent-count").textContent);
+  location.hash = "#line=9"; await new Promise((done) => setTimeout(done, 200)); note("hash");
+"""
+# Follows the links to some lines, and writes what the page shows at each.
+VISIT = """
+  for (const line of lines) {
+    location.hash = `#line=${line}`; await new Promise((done) => setTimeout(done, 100));
+    const rows = [...document.querySelectorAll("#told .row")].map((row) => row.textContent);
+    steps[line] = { told: rows, text: $("line-text").textContent, sent: $("sent-count").textContent };
+  }
+"""
+WRITE = """
+  const out = document.createElement("pre");
+  out.id = "steps"; out.textContent = JSON.stringify(steps); document.body.append(out);
+"""
+
+
+def page(name):
+    """The page of an example's replay, and its path."""
+    it, path = replayed(name), scratch(name + ".html")
+    done = tool("player", *it.files, "-o", path)
+    assert done.returncode == 0, done.stderr
+    with open(path) as file:
+        return file.read(), path
+
+
+def data_of(text):
+    return json.loads(re.search(r'<script type="application/json" id="data">(.*?)</script>', text, re.S).group(1))
+
+
+def told_by_line(name):
+    """The report's lines, by the line of the schedule."""
+    told = {}
+    with open(replayed(name).report) as file:
+        for line in file.read().splitlines()[:-1]:
+            told.setdefault(int(line.split(" ")[0]), []).append(line)
+    return told
+
+
+def three_lines(name, count):
+    """The first line that delivers or drops, one with a drop, and the last."""
+    told = told_by_line(name)
+    drops = [line for line, texts in told.items() if any(" drop " in text for text in texts)]
+    return [min(told, default=1), drops[0] if drops else max(told, default=1), count]
+
+
+def opened(path, link):
+    """What Chromium has made of the page, and what it wrote to its console."""
+    with tempfile.TemporaryDirectory() as profile:
+        command = [
+            "chromium",
+            "--headless=new",
+            "--no-sandbox",
+            "--disable-gpu",
+            "--disable-dev-shm-usage",
+            f"--user-data-dir={profile}",
+        ]
+        command += [
+            "--window-size=1500,900",
+            "--enable-logging=stderr",
+            "--log-level=0",
+            "--virtual-time-budget=4000",
+            "--dump-dom",
+            f"file://{path}{link}",
+        ]
+        for _ in range(TRIES):
+            done = subprocess.run(command, capture_output=True, text=True, timeout=120)
+            if "</html>" in done.stdout:
+                break
+    console = [line for line in done.stderr.splitlines() if "CONSOLE" in line]
+    return done.stdout, console
+
+
+def written(dom):
+    """What a script in the page wrote down."""
+    return json.loads(html.unescape(re.search(r'<pre id="steps">(.*?)</pre>', dom).group(1)))
+
+
+def with_script(text, name, script):
+    """A copy of a page that runs a script and writes down the steps that it made."""
+    path = scratch(name)
+    with open(path, "w") as file:
+        file.write(text.replace("</body>", f"<script>(async () => {{ const steps = {{}};{script}{WRITE} }})();</script></body>"))
+    return path
+
+
+class Page(unittest.TestCase):
+    def test_data(self):
+        """Nothing of the report and the capture is missing on the page."""
+        for name in REPLAYS:
+            text, _ = page(name)
+            data, it = data_of(text), replayed(name)
+            with self.subTest(name), open(it.report) as report:
+                lines = report.read().splitlines()
+                self.assertEqual([told for line in data["lines"] for told in line["g"]], lines[:-1])
+                self.assertEqual(data["end"], lines[-1])
+                octets = [
+                    bytes.fromhex(data["heads"][frame[3]]) + base64.b64decode(data["bodies"][frame[4]])
+                    for frame in data["frames"]
+                ]
+                self.assertEqual(octets, [record.octets for record in capture.read_capture(it.frames)])
+
+    def test_needs_nothing(self):
+        text, _ = page("replay-ring")
+        script = text.replace("http://www.w3.org/2000/svg", "")
+        self.assertNotRegex(script, r"https?://|<link|src=|@import|fetch\(|XMLHttpRequest")
+
+    def test_odd_texts(self):
+        """What stands in a schedule's comments can't end the page's script."""
+        it, path = replayed("replay-pair"), scratch("odd.html")
+        with open(it.schedule) as file:
+            lines = file.read().splitlines()
+        comment = next(place for place, line in enumerate(lines) if line.startswith("#"))
+        lines[comment] = "# </script><b>@SCRIPT@ & ü"
+        odd = scratch("odd")
+        with open(odd, "w") as file:
+            file.write("\n".join(lines) + "\n")
+        self.assertEqual(tool("player", it.domain, odd, it.report, it.frames, "-o", path).returncode, 0)
+        with open(path) as file:
+            self.assertEqual(data_of(file.read())["lines"][comment]["t"], lines[comment])
+
+    @needs("chromium", "chromium")
+    def test_in_chromium(self):
+        """Each example opens; at three lines, by their links, it shows what the report says."""
+        for name in REPLAYS:
+            text, _ = page(name)
+            data, told = data_of(text), told_by_line(name)
+            lines = three_lines(name, len(data["lines"]))
+            dom, console = opened(with_script(text, name + "-lines.html", f"const lines = {lines};{VISIT}"), f"#line={lines[0]}")
+            self.assertEqual(console, [])
+            for line in lines:
+                with self.subTest(name=name, line=line):
+                    shown = written(dom)[str(line)]
+                    self.assertEqual(shown["told"][:8], told.get(line, [])[:8])
+                    self.assertEqual(shown["text"], data["lines"][line - 1]["t"])
+                    self.assertEqual(shown["sent"], f'{data["lines"][line - 1]["s"][1]} frames')
+
+    @needs("chromium", "chromium")
+    def test_keys_and_mouse(self):
+        """Each key and click leads where the guide says; the page writes down what it then shows."""
+        text, _ = page("replay-television")
+        path = with_script(text, "keys.html", KEYS)
+        dom, console = opened(path, "#line=3")
+        self.assertEqual(console, [])
+        found = written(dom)
+        lines = {
+            "start": 3,
+            "right": 4,
+            "left": 3,
+            "shift": 13,
+            "home": 0,
+            "end": 24,
+            "p": 17,
+            "p again": 14,
+            "n": 17,
+            "row": 5,
+            "bar": 1,
+        }
+        self.assertEqual({name: line for name, (line, _) in found.items() if name in lines}, lines)
+        self.assertEqual(found["frame"][1], "#line=14&frame=514")
+        self.assertEqual(found["tab"][1], "#line=14&frame=514&tab=databases")
+        self.assertEqual(found["closed"][1], "#line=14&tab=databases")
+        self.assertEqual(found["router"][1], "4 frames of core-2")
+        self.assertEqual(found["hash"][0], 9)
+
+    @needs("chromium", "chromium")
+    def test_a_frame_in_chromium(self):
+        """The first packet of the ring's example, field by field, and the state of the map where a link is down."""
+        text, path = page("replay-ring")
+        data = data_of(text)
+        number = next(place for place, frame in enumerate(data["frames"], 1) if frame[2])
+        dom, console = opened(path, f"#line=3&frame={number}")
+        self.assertEqual(console, [])
+        self.assertIn(f"Frame {number}: A → B, injection 1, subdomain 0, for 3", dom)
+        for field, value in (
+            ("BIFT-id (label)", "200"),
+            ("TTL", "8"),
+            ("BSL", "1, 64 bits"),
+            ("BFIR-id", "1"),
+            ("BitString", "positions 3"),
+            ("Payload", "00ff"),
+        ):
+            spans = rf'<span class="name"[^>]*>{re.escape(field)}</span><span class="value">{re.escape(value)}</span>'
+            self.assertRegex(dom, spans)
+        down = next(place for place, line in enumerate(data["lines"], 1) if line["t"].startswith("down"))
+        dom, _ = opened(path, f"#line={down}&tab=databases")
+        self.assertEqual(len(re.findall(r'class="link down"', dom)), 1)
+        self.assertIn("3 of 4 routers agree", dom)
+        self.assertIn("B.00-00: sequence 2, others sequence 1", dom)
+
+
+if __name__ == "__main__":
+    unittest.main()

@@ -1,0 +1,203 @@
+"""Sweeps: their counts, that they go on where they were stopped, and what they do with runs and machines that break."""
+import fcntl
+import json
+import os
+import signal
+import stat
+import subprocess
+import time
+import unittest
+
+from support import EXAMPLES, needs, places, program, python_alone, scratch, tool, write
+
+RING = os.path.join(EXAMPLES, "ring", "domain.toml")
+RULE = ["--lose", "0,0.2", "--reorder", "0.5", "--repeat", "0.1", "--seeds", "2", "--packets", "2", "--mend"]
+# Programs that break: each schedule the first time; one run always; a report without one of its lines. And an ssh to machines that are this one, are dead,
+# or have nothing.
+AT_TIMES = """#!/bin/sh
+[ $# = 0 ] && exec {program}
+mark={mark}/$(cksum schedule | tr " " -)
+[ -e $mark ] || {{ touch $mark; exit 9; }}
+exec {program} "$@"
+"""
+ALWAYS = """#!/bin/sh
+[ $# = 0 ] && exec {program}
+grep -q "Run 3:" schedule && {{ echo "refused 1 text 1 Word"; exit 4; }}
+exec {program} "$@"
+"""
+WRONG = """#!/bin/sh
+[ $# = 0 ] && exec {program}
+{program} "$@" | sed "0,/ got /{{/ got /d}}"
+"""
+SSH = """#!/bin/sh
+while [ $# -gt 0 ]; do case $1 in -*) shift ;; *) host=$1; shift; break ;; esac; done
+[ "$1" = -- ] && shift
+case $host in
+dead*) echo "no route to $host" >&2; exit 255 ;;
+bare*) cat >/dev/null; echo "what is python3?"; exit 127 ;;
+esac
+exec sh -c "$*"
+"""
+RUNS = 5 * 2 * 2  # four links and none, two rates, two seeds
+
+
+def swept(name, *words, env=None, using=None):
+    return tool("sweep", RING, "--out", scratch(name), "--jobs", "2", "--program", using or program(), *RULE, *words, env=env)
+
+
+def lines_of(name):
+    with open(os.path.join(scratch(name), "results.jsonl")) as file:
+        return [json.loads(line) for line in file]
+
+
+def table_of(name):
+    with open(os.path.join(scratch(name), "table.txt")) as file:
+        return file.read()
+
+
+def script(name, text):
+    path = write(name, text)
+    os.chmod(path, os.stat(path).st_mode | stat.S_IXUSR)
+    return path
+
+
+class Sweep(unittest.TestCase):
+    @classmethod
+    def setUpClass(cls):
+        cls.done = swept("whole")
+        cls.table = table_of("whole")
+
+    def test_counts(self):
+        self.assertEqual(self.done.returncode, 0, self.done.stderr)
+        self.assertEqual(self.done.stdout, self.table)
+        self.assertTrue(self.table.startswith(f"{RUNS} of {RUNS} runs, 0 broken\n"))
+        self.assertIn(f"{RUNS} of {RUNS} runs", self.done.stderr)  # progress
+        head, *rows = [line.split() for line in self.table.splitlines()[2:8]]
+        self.assertEqual(head[:5], ["egress", "BFR-id", "named", "delivered", "share"])
+        # Without failures a run has four packets for all; each link that fails and comes up again has three more.
+        named = 4 * (RUNS // 5) + 7 * (RUNS - RUNS // 5)
+        self.assertEqual([row[:3] for row in rows[:4]], [[name, str(place), str(named)] for place, name in enumerate("ABCD", 1)])
+        for row in rows[:4]:
+            self.assertEqual(int(row[2]), sum(map(int, row[3:4] + row[5:])))
+
+    def test_no_loss(self):
+        """Where nothing fails and nothing is lost, all is delivered."""
+        self.assertEqual(
+            tool(
+                "sweep", RING, "--out", scratch("rest"), "--fail", "none", "--seeds", "2", "--jobs", "1", "--program", program()
+            ).returncode,
+            0,
+        )
+        self.assertIn("all", table_of("rest").splitlines()[7])
+        _, named, delivered, share = table_of("rest").splitlines()[7].split()
+        self.assertEqual((named, share), (delivered, "100.00%"))
+
+    def test_worst_runs(self):
+        """The kept schedules give what was counted, and the player takes them."""
+        counted = {
+            result["run"]: sum(count["named"] - count.get("got", 0) for count in result["fates"].values())
+            for result in lines_of("whole")
+        }
+        folder = os.path.join(scratch("whole"), "worst")
+        kept = sorted(os.listdir(folder))
+        self.assertTrue(1 <= len(kept) <= 5)
+        for name in kept:
+            rank, run = int(name.split("-")[0]), int(name.split("-")[2])
+            files = [os.path.join(folder, name, part) for part in ("domain.toml", "schedule", "report", "frames")]
+            with open(files[2]) as file:
+                words = file.read().splitlines()[-1].split()
+            self.assertEqual(int(words[6]) - int(words[8]), counted[run])
+            self.assertEqual(sorted(counted.values(), reverse=True)[rank - 1], counted[run])
+            self.assertEqual(tool("player", *files, "-o", scratch("worst.html")).returncode, 0)
+
+    def test_plot(self):
+        with open(os.path.join(scratch("whole"), "plot.svg")) as file:
+            plot = file.read()
+        for name in ("A (1)", "B (2)", "C (3)", "D (4)", "delivered"):
+            self.assertIn(f">{name}<", plot)
+
+    def test_goes_on(self):
+        """Stopped by force, with half a line written: the rest is done, each run once, and the table is the same."""
+        words = [
+            os.path.join(places.TOOLS, "sweep"),
+            RING,
+            "--out",
+            scratch("stopped"),
+            "--jobs",
+            "1",
+            "--program",
+            program(),
+            *RULE,
+        ]
+        running = subprocess.Popen(words, stdout=subprocess.DEVNULL, stderr=subprocess.DEVNULL, start_new_session=True)
+        results, began = os.path.join(scratch("stopped"), "results.jsonl"), time.monotonic()
+        while running.poll() is None and time.monotonic() - began < 60:
+            if os.path.exists(results) and os.path.getsize(results) > 600:
+                break
+            time.sleep(0.05)
+        os.killpg(running.pid, signal.SIGKILL)
+        running.wait()
+        with open(results, "a") as file:
+            file.write('{"run": 7, "ho')
+        self.assertEqual(swept("stopped").returncode, 0)
+        self.assertEqual(sorted(result["run"] for result in lines_of("stopped")), list(range(RUNS)))
+        self.assertEqual(table_of("stopped"), self.table)
+        again = swept("stopped")
+        self.assertIn(f"{RUNS} runs, {RUNS} done before", again.stderr)
+        self.assertEqual(table_of("stopped"), self.table)
+
+    def test_two_at_once(self):
+        with open(os.path.join(scratch("whole"), "lock")) as lock:
+            fcntl.flock(lock, fcntl.LOCK_EX)
+            done = swept("whole")
+        self.assertEqual(done.returncode, 1)
+        self.assertIn("another sweep is at work there", done.stderr)
+
+    def test_another_rule(self):
+        done = tool("sweep", RING, "--out", scratch("whole"), "--seeds", "1", "--program", program())
+        self.assertEqual(done.returncode, 1)
+        self.assertIn("another domain or rule", done.stderr)
+
+    def test_a_program_that_breaks_at_times(self):
+        """Each run breaks the first time: it is named and tried again, and counted once."""
+        mark = scratch("marks")
+        os.makedirs(mark, exist_ok=True)
+        text = AT_TIMES.format(mark=mark, program=program())
+        done = swept("at-times", using=script("at-times.sh", text))
+        self.assertEqual(done.returncode, 0, done.stderr)
+        self.assertIn("run 3 broke on", done.stderr)
+        self.assertIn("try 2 of 3", done.stderr)
+        self.assertEqual(table_of("at-times"), self.table)
+
+    def test_a_run_that_always_breaks(self):
+        done = swept("always", using=script("always.sh", ALWAYS.format(program=program())))
+        self.assertEqual(done.returncode, 1)
+        self.assertIn(f"{RUNS - 1} of {RUNS} runs, 1 broken", done.stdout)
+        self.assertIn("run 3 broke: status 4, refused 1 text 1 Word", done.stdout)
+
+    def test_a_report_that_doesn_t_add_up(self):
+        using = script("wrong.sh", WRONG.format(program=program()))
+        done = swept("wrong", "--tries", "1", "--fail", "none", using=using)
+        self.assertEqual(done.returncode, 1)
+        self.assertIn("its lines and its last line differ in got", done.stdout)
+
+    @needs("parallel", "parallel")
+    def test_machines(self):
+        """Over this machine, one more that answers, one that doesn't, and one that can't: their runs go to the others."""
+        hosts = write("hosts", "# machines\n:\nalive\ndead\nbare\n")
+        done = swept("machines", "--hosts", hosts, env={"PARALLEL_SSH": script("ssh.sh", SSH)})
+        self.assertEqual(done.returncode, 0, done.stderr)
+        for host in ("dead", "bare"):
+            self.assertIn(f"machine {host}", done.stderr)
+        self.assertEqual(sorted(result["run"] for result in lines_of("machines")), list(range(RUNS)))
+        self.assertEqual(table_of("machines"), self.table)
+
+    def test_without_parallel(self):
+        # The independent program is run by the words of its first line, which need python3 alone.
+        done = swept("no-parallel", "--hosts", write("hosts", ":\n"), env={"PATH": python_alone()})
+        self.assertEqual(done.returncode, 1)
+        self.assertIn("GNU parallel isn't installed", done.stderr)
+
+
+if __name__ == "__main__":
+    unittest.main()
