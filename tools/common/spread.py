@@ -138,7 +138,7 @@ def hosts_of(path):
 def parallel_words(log, login, given):
     """GNU parallel's words: each line of its input is a job, which gets it as its standard input on some machine."""
     command = f"cd {shlex.quote(places.ROOT)} && exec python3 tools/sweep --worker"
-    words = ["parallel", "--will-cite", "--pipe", "-N", "1", "--line-buffer", "--joblog", log, "--sshloginfile", login]
+    words = ["parallel", "--will-cite", "--pipe", "-N", "1", "--joblog", log, "--sshloginfile", login]
     # A machine that says nothing any more is given up at last.
     words += ["--timeout", str(given.limit * MOST_IN_BATCH), "-j", str(given.jobs or "100%")]
     return [*words, command]
@@ -198,6 +198,6 @@ def name_broken(log, said, has_others):
                 failed[cells[1]] = failed.get(cells[1], 0) + 1
     for host, many in failed.items():
         print(f"machine {host}: {many} jobs broke; their runs are tried again", file=sys.stderr)
-    for line in said[:5] if failed else []:
+    for line in said[:5]:
         print(f"  {line.rstrip()}", file=sys.stderr)
     return {host for host in failed if host not in well} if has_others else set()

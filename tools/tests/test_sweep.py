@@ -13,7 +13,7 @@ from support import EXAMPLES, needs, places, program, python_alone, scratch, too
 RING = os.path.join(EXAMPLES, "ring", "domain.toml")
 RULE = ["--lose", "0,0.2", "--reorder", "0.5", "--repeat", "0.1", "--seeds", "2", "--packets", "2", "--mend"]
 # Programs that break: each schedule the first time; one run always; a report without one of its lines. And an ssh to machines that are this one, are dead,
-# or have nothing.
+# have nothing, or say nothing.
 AT_TIMES = """#!/bin/sh
 [ $# = 0 ] && exec {program}
 mark={mark}/$(cksum schedule | tr " " -)
@@ -35,6 +35,7 @@ while [ $# -gt 0 ]; do case $1 in -*) shift ;; *) host=$1; shift; break ;; esac;
 case $host in
 dead*) echo "no route to $host" >&2; exit 255 ;;
 bare*) cat >/dev/null; echo "what is python3?"; exit 127 ;;
+mute*) cat >/dev/null; exit 0 ;;
 esac
 exec sh -c "$*"
 """
@@ -183,8 +184,8 @@ class Sweep(unittest.TestCase):
 
     @needs("parallel", "parallel")
     def test_machines(self):
-        """Over this machine, one more that answers, one that doesn't, and one that can't: their runs go to the others."""
-        hosts = write("hosts", "# machines\n:\nalive\ndead\nbare\n")
+        """Over this machine, one more that answers, and three that don't, can't and say nothing: their runs go to the others."""
+        hosts = write("hosts", "# machines\n:\nalive\ndead\nbare\nmute\n")
         done = swept("machines", "--hosts", hosts, env={"PARALLEL_SSH": script("ssh.sh", SSH)})
         self.assertEqual(done.returncode, 0, done.stderr)
         for host in ("dead", "bare"):
