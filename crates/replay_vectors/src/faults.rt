@@ -1,0 +1,154 @@
+//! A failure at each call of a source or a sink in turn, and what stands after it.
+use crate::replays::RING;
+use replay_run::run;
+use std::alloc::Global;
+use std::test::Fail;
+use wire_base::{BytesSink, BytesSource, M, Octets, Rows, Status};
+
+/// The objects that a run is handed.
+#[derive(Clone, Copy, PartialEq, Eq)]
+enum Object {
+    Conf,
+    Input,
+    Frames,
+    Report,
+}
+
+/// The words of a run, and what its sources hold.
+#[derive(Clone, Copy)]
+struct Work {
+    words: &'static [&'static str],
+    conf: &'static str,
+    input: &'static [u8],
+}
+
+const HOP: Work = Work {
+    words: &["hop", "input"],
+    conf: "",
+    input: b"bsl 64\nself 1\nrow 2 B\nrow 3 B\nrow 4 D\npacket 1,2,3,4\n",
+};
+
+// A record of a frame with a label and a BIER header.
+const HEADERS: Work = Work {
+    words: &["headers", "input"],
+    conf: "",
+    input: b"\xd4\xc3\xb2\xa1\x02\x00\x04\x00\x00\x00\x00\x00\x00\x00\x00\x00\xff\xff\x00\x00\x01\x00\x00\x00\x01\x00\x00\x00\x00\x00\x00\x00\x22\x00\x00\x00\x22\x00\x00\x00\x02\x00\x00\x01\x00\x00\x02\x00\x00\x00\x00\x01\x88\x47\x00\x06\x41\x40\x50\x10\x00\x0a\x00\x04\x00\x01\x00\x00\x00\x00\x00\x00\x00\x05",
+};
+
+// Two packets around the ring.
+const REPLAY: Work = Work {
+    words: &["replay", "conf", "input", "frames"],
+    conf: RING,
+    input: b"settle 4\ninject A 0 64 3 8 0 00ff\ninject A 0 64 3 8 1 00ff\nsettle 4\n",
+};
+
+/// What a run answered and wrote.
+#[derive(Drop)]
+struct Outcome {
+    status: Status,
+    report: BytesSink,
+    frames: BytesSink,
+}
+
+/// The numbers of an object's calls that fail.
+fn fails(alloc: Global, broken: Object, call: u32, object: Object) -> M<Rows<u32>> {
+    if broken == object {
+        return Rows::from_slice(alloc, &[call]);
+    }
+    Ok(Rows::new(alloc))
+}
+
+/// Runs the work over objects of which one fails at one of its calls; the call 0 is none.
+fn ran(alloc: Global, work: Work, broken: Object, call: u32) -> M<Outcome> {
+    let text = Octets::from_slice(alloc, work.conf.as_bytes())?;
+    let mut conf = BytesSource::new(text, fails(alloc, broken, call, Object::Conf)?);
+    let octets = Octets::from_slice(alloc, work.input)?;
+    let mut input = BytesSource::new(octets, fails(alloc, broken, call, Object::Input)?);
+    let mut frames = BytesSink::new(alloc, 10_000, fails(alloc, broken, call, Object::Frames)?)?;
+    let mut report = BytesSink::new(alloc, 1_000, fails(alloc, broken, call, Object::Report)?)?;
+    let status = run(
+        alloc,
+        work.words,
+        &mut conf,
+        &mut input,
+        &mut frames,
+        &mut report,
+    );
+    Ok(Outcome {
+        status,
+        report,
+        frames,
+    })
+}
+
+/// How many octets a report has before its last line.
+fn before_last_line(report: &[u8]) -> usize {
+    let mut at = 0;
+    for place in 1..report.len() {
+        if report[place - 1] == b'\n' {
+            at = place;
+        }
+    }
+    at
+}
+
+/// Whether a text is a front of the whole one, as a fault of a sink leaves it.
+fn is_front(front: &[u8], whole: &[u8]) -> bool {
+    whole.starts_with(front)
+}
+
+/// Whether a run stands as promised in which a call of an object failed, beside the whole run.
+fn stands(work: Work, broken: Object, call: u32, stopped: &Outcome, whole: &Outcome) -> bool {
+    let report = stopped.report.as_slice();
+    let frames = stopped.frames.as_slice();
+    let all = whole.report.as_slice();
+    match broken {
+        Object::Conf => stopped.status == Status::ReadFault && report.is_empty() && frames.is_empty(),
+        Object::Input if call == 1 => {
+            stopped.status == Status::ReadFault && report.is_empty() && frames.len() == head_of(work)
+        }
+        // All lines and records were read, and done.
+        Object::Input => {
+            stopped.status == Status::ReadFault
+                && report == &all[..before_last_line(all)]
+                && frames == whole.frames.as_slice()
+        }
+        Object::Frames | Object::Report => {
+            stopped.status == Status::WriteFault
+                && is_front(report, all)
+                && is_front(frames, whole.frames.as_slice())
+        }
+    }
+}
+
+/// How many octets of frames are written before the first line or record is read.
+fn head_of(work: Work) -> usize {
+    if work.conf.is_empty() { 0 } else { 24 }
+}
+
+/// Whether both runs answered and wrote the same.
+fn same(one: &Outcome, other: &Outcome) -> bool {
+    one.status == other.status
+        && one.report.as_slice() == other.report.as_slice()
+        && one.frames.as_slice() == other.frames.as_slice()
+}
+
+/// Each call of each object fails in turn; past its last call all is as without a failure.
+#[test]
+fn each_call_fails_in_turn(rt: HostRuntime) -> Result<(), Fail> {
+    let alloc = rt.alloc();
+    for work in [HOP, HEADERS, REPLAY] {
+        let whole = ran(alloc, work, Object::Conf, 0)?;
+        assert_eq!(rt; whole.status, Status::Done);
+        for broken in [Object::Conf, Object::Input, Object::Frames, Object::Report] {
+            let mut is_past = false;
+            for call in 1..5 {
+                let stopped = ran(alloc, work, broken, call)?;
+                is_past = same(&stopped, &whole);
+                assert!(rt; is_past || stands(work, broken, call, &stopped, &whole), "{} at call {call}", work.words[0]);
+            }
+            assert!(rt; is_past, "{} has more calls", work.words[0]);
+        }
+    }
+    Ok(())
+}
