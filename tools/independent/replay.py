@@ -1,7 +1,8 @@
 #!/usr/bin/env python3
-"""A second implementation of `replay`, written from the rules alone, to compare with the program.
+"""A second implementation of `replay` and `node`, written from the rules alone, to compare with the program.
 
-tools/independent/replay.py replay CONF SCHEDULE FRAMES    the words, report, capture and status of the program's `replay`
+tools/independent/replay.py replay CONF SCHEDULE FRAMES        the words, report, capture and status of the program's `replay`
+tools/independent/replay.py node CONF ROUTER CAPTURE FRAMES    those of its `node`
 """
 import sys, tomllib, struct, heapq, re
 
@@ -863,7 +864,83 @@ class Replay:
         self.report.append(f"done lines {len(lines)} injected {self.injections} named {self.named} got {self.got} dropped {self.dropped} flight {fl}")
         return 0
 
-USAGE = "usage: replay.py replay CONF SCHEDULE FRAMES"
+# ---------------------------------------------------------------- one router on a capture
+
+HEADER = bytes.fromhex("d4c3b2a1020004000000000000000000ffff000001000000")
+MOST_CAPTURE, MOST_RECORD, MOST_GAP = 268435456, 262144, 65535
+
+class Broken(Exception):
+    """A capture breaks a rule at a record."""
+    def __init__(self, record, text): super().__init__(f"refused record {record} {text}")
+
+def records_of(octets):
+    """The records of a capture, each with its number, time, whether it is whole, and its frame."""
+    magics = {b"\xd4\xc3\xb2\xa1": ("<", 1), b"\x4d\x3c\xb2\xa1": ("<", 1000), b"\xa1\xb2\xc3\xd4": (">", 1), b"\xa1\xb2\x3c\x4d": (">", 1000)}
+    if len(octets) >= 4 and octets[:4] not in magics: raise Broken(0, "1 Magic")
+    if len(octets) < 24: raise Broken(0, "4 CutHeader")
+    order, divisor = magics[octets[:4]]
+    if struct.unpack(order + "HH", octets[4:8]) != (2, 4): raise Broken(0, "2 Version")
+    if struct.unpack(order + "I", octets[20:24])[0] & 0xFFFF != 1: raise Broken(0, "3 LinkType")
+    at, number = 24, 1
+    while at < len(octets):
+        if at + 16 <= min(len(octets), MOST_CAPTURE):
+            sec, fraction, held, original = struct.unpack(order + "IIII", octets[at:at + 16])
+            if held > MOST_RECORD: raise Broken(number, "6 LongRecord")
+            if at + 16 + held <= min(len(octets), MOST_CAPTURE):
+                yield number, sec, fraction // divisor, held == original, octets[at + 16:at + 16 + held]
+                at += 16 + held; number += 1
+                continue
+        raise Broken(number, "8 TooLong" if len(octets) > MOST_CAPTURE else "5 CutRecord")
+
+class Node:
+    """A router and the clock that the records of a capture set."""
+    def __init__(self, conf):
+        self.router, self.clock, self.ticks = Router(conf), None, 0
+        self.used = self.passed = self.got = self.dropped = self.sent = self.records = 0
+        self.cap, self.report = bytearray(HEADER), []
+
+    def write(self, sec, usec, sent):
+        for _, octets in sent:
+            self.cap += struct.pack("<IIII", sec, usec, len(octets), len(octets)) + octets; self.sent += 1
+
+    def tick(self):
+        self.router.tick(); self.ticks += 1; self.clock += 1
+        if self.ticks % 5 == 0:
+            for link, is_up in enumerate(self.router.up):
+                if is_up: self.write(self.clock, 0, self.router.send(link))
+
+    def move(self, number, sec):
+        if self.clock is None: self.clock = sec
+        if sec - self.clock > MOST_GAP: raise Broken(number, f"7 Gap {self.clock} {sec}")
+        while self.clock < sec: self.tick()
+
+    def link_of(self, is_whole, frame):
+        """The end whose peer sent a frame; None where the record is passed over."""
+        if not is_whole or not 12 <= len(frame) <= 65000: return None
+        return next((i for i, e in enumerate(self.router.conf["ends"]) if e["peer_mac"] == frame[6:12]), None)
+
+    def take(self, number, sec, usec, is_whole, frame):
+        self.move(number, sec)
+        self.records = number
+        link = self.link_of(is_whole, frame)
+        out = self.router.frame(link, frame) if link is not None else None
+        if out is None or out["passed"]: self.passed += 1; return
+        self.used += 1
+        self.write(sec, usec, out["sent"])
+        for g in out["got"]: self.report.append(f"{number} got {g['sd']} {g['id']} {g['bfir']} {g['payload'].hex() or '-'}"); self.got += 1
+        for cause, dropped in out["drops"]:
+            ids = [k for k in dropped[1] if k <= 65535] if dropped else []
+            self.report.append(f"{number} drop {cause} {','.join(map(str, ids)) or '-'}"); self.dropped += 1
+
+    def run(self, octets):
+        try:
+            for record in records_of(octets): self.take(*record)
+        except Broken as why:
+            self.report.append(str(why)); return 8
+        self.report.append(f"done records {self.records} used {self.used} passed {self.passed} got {self.got} dropped {self.dropped} sent {self.sent}")
+        return 0
+
+USAGE = "usage: replay.py replay CONF SCHEDULE FRAMES | node CONF ROUTER CAPTURE FRAMES"
 
 def read(path):
     try:
@@ -871,18 +948,24 @@ def read(path):
     except OSError as error:
         sys.exit(f"replay.py: {path}: {error.strerror}")
 
+def begun(words):
+    """The run that the words ask for, and the octets that it is on."""
+    routers = read_domain(read(words[1]))
+    if words[0] == "replay": return Replay(routers), read(words[2])
+    conf = next((r for r in routers if r["name"] == words[2]), None)
+    if conf is None: fault(6, "Reference", "words[2]")
+    return Node(conf), read(words[3])
+
 def main():
     words = sys.argv[1:]
     if words in (["--help"], ["-h"]): print(__doc__.strip()); return 0
-    if len(words) != 4 or words[0] != "replay": print(USAGE); return 2
-    _, conf, schedule, frames = words
+    if not words or {"replay": 4, "node": 5}.get(words[0]) != len(words): print(USAGE); return 2
     try:
-        routers = read_domain(read(conf))
-    except ConfFault as fault:
-        print(f"refused conf {fault}"); return 3
-    run = Replay(routers)
-    status = run.run(read(schedule))
-    with open(frames, "wb") as file: file.write(run.cap)
+        run, octets = begun(words)
+    except ConfFault as why:
+        print(f"refused conf {why}"); return 3
+    status = run.run(octets)
+    with open(words[-1], "wb") as file: file.write(run.cap)
     sys.stdout.write("".join(line + "\n" for line in run.report))
     return status
 

@@ -1,9 +1,10 @@
-"""The independent implementation of `replay` in tools/independent, and the checks of captures."""
+"""The independent implementation in tools/independent, the checks of captures, and frames that no honest router sends."""
 import os
+import struct
 import subprocess
 import unittest
 
-from support import EXAMPLES, INDEPENDENT, REPLAYS, replayed, scratch, tool, write
+from support import EXAMPLES, INDEPENDENT, REPLAYS, program, replayed, scratch, tool, write
 from common import capture
 
 # Packets in tunnels in the domain FORK, computed by hand: A to C by way of P, which knows no BIER, on both links; A to D.
@@ -23,19 +24,11 @@ def modelled(folder, schedule=None):
         return done.returncode, done.stdout, file.read()
 
 
-def has_plain_routers(folder):
-    with open(os.path.join(folder, "domain.toml")) as file:
-        text = file.read()
-    return text.count("[[router]]") > text.count("[[bier]]")
-
-
 class Model(unittest.TestCase):
     def test_stored_replays(self):
-        """What stands beside the examples; those with routers that know no BIER wait for the program's tunnels."""
+        """What stands beside the examples."""
         for name in REPLAYS:
             folder = os.path.join(EXAMPLES, name)
-            if has_plain_routers(folder):
-                continue
             with self.subTest(name):
                 status, report, frames = modelled(folder)
                 with open(os.path.join(folder, "report")) as file:
@@ -54,6 +47,50 @@ class Model(unittest.TestCase):
         records = [record.octets.hex() for record in capture.read_capture(write("fork.pcap", frames))]
         for tunnel in TUNNELS:
             self.assertIn(tunnel.replace(" ", ""), records)
+
+
+# The pair of routers, and what B hears of A: its first link state PDU, twice in five seconds, or the second one much later.
+PAIR = """
+subdomain=[{sd=0,kind='mpls'}]
+router=[{name='A',system='0000.0000.0001',prefix='10.0.0.1'},{name='B',system='0000.0000.0002',prefix='10.0.0.2'}]
+bier=[{router='A',sd=0,id=1},{router='B',sd=0,id=2}]
+labels=[{router='A',sd=0,bsl=64,max_si=0,label=100},{router='B',sd=0,bsl=64,max_si=0,label=200}]
+link=[{a='A',b='B',metric_ab=10,metric_ba=10}]
+"""
+FIRST_LSP = bytes.fromhex(
+    "09002b000005 020000000001 0050 fefe03 831b010014010000 004d 04b0 0000000000010000 00000001 554e 03 010403490001 8101cc 890141 160b"
+    "00000000000200 00000a 00 8717 00000000 60 0a000001 0d 200b 0000000001 0104 00100064"
+)
+
+
+def heard(*seconds):
+    header = bytes.fromhex("d4c3b2a1020004000000000000000000ffff000001000000")
+    size = len(FIRST_LSP)
+    return write("heard.pcap", header + b"".join(struct.pack("<IIII", at, 0, size, size) + FIRST_LSP for at in seconds))
+
+
+class Node(unittest.TestCase):
+    def answer(self, router, *seconds):
+        frames = scratch("node.pcap")
+        words = [INDEPENDENT, "node", write("pair.toml", PAIR), router, heard(*seconds), frames]
+        done = subprocess.run(words, capture_output=True, text=True)
+        return done.returncode, done.stdout, frames
+
+    def test_clock(self):
+        self.assertEqual(self.answer("B", 100, 105)[:2], (0, "done records 2 used 2 passed 0 got 0 dropped 0 sent 3\n"))
+        psnp = "831101001b01000000230000000000020009 1004ab00000000000100000000 0001554e".replace(" ", "")
+        with open(scratch("node.pcap"), "rb") as file:
+            self.assertTrue(file.read().hex().endswith(psnp))
+        self.assertEqual(self.answer("B", 100, 1000)[:2], (0, "done records 2 used 2 passed 0 got 0 dropped 0 sent 182\n"))
+        self.assertEqual(self.answer("B", 100, 70000)[:2], (8, "refused record 2 7 Gap 100 70000\n"))
+        self.assertEqual(self.answer("Z", 100)[:2], (3, "refused conf 6 Reference words[2]\n"))
+
+
+class Storm(unittest.TestCase):
+    def test_few_frames(self):
+        words = ["storm", "--frames", "2000", "--jobs", "1", "--keep", scratch("storm")]
+        done = tool(*words, "--program", program())
+        self.assertIn("0 runs differ", done.stdout, done.stderr)
 
 
 class Captures(unittest.TestCase):
