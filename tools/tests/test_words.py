@@ -4,7 +4,7 @@ import unittest
 
 from support import program, replayed, scratch, tool, write
 
-NAMES = ["picture", "player", "sweep", "storm", "check", "check-capture"]
+NAMES = ["picture", "player", "sweep", "storm", "fail-each", "check", "check-capture"]
 
 
 class Words(unittest.TestCase):
