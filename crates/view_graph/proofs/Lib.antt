@@ -3,6 +3,8 @@ pub mod EdgeLaws
 pub mod ExampleLaws
 pub mod GraphLaws
 pub mod ListLaws
+pub mod KeepLaws
+pub mod SameLaws
 pub mod SystemLaws
 pub mod ViewLaws
 pub mod WalkLaws

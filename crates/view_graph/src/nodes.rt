@@ -29,7 +29,7 @@ fn node_of(alloc: Global, claims: &[Claim], halves: &[Rows<ViewEdge>], place: us
     })
 }
 
-fn nodes_of(alloc: Global, claims: &[Claim]) -> M<Rows<ViewNode>>
+pub(crate) fn nodes_of(alloc: Global, claims: &[Claim]) -> M<Rows<ViewNode>>
     requires order { AreInOrder claims.now }
     requires few { length claims.now ≤ 65536 }
     ensures { IfOk result (λ nodes. nodes ≡ nodes_of claims.now) }
