@@ -1,6 +1,7 @@
 pub mod ClaimLaws
 pub mod EdgeLaws
 pub mod ExampleLaws
+pub mod FragmentLaws
 pub mod GraphLaws
 pub mod ListLaws
 pub mod KeepLaws
