@@ -20,7 +20,7 @@ use Rattle.view_graph.specs.Edges.{is_before}
 use Rattle.view_graph.proofs.SystemLaws.{tie_is_same, before_trans, before_differs, same_turned}
 use Rattle.view_graph.proofs.GraphLaws.{all_weaker, and_both}
 
-same_is : (a b : SystemId) → same_system a b ≡ true → a ≡ b
+pub same_is : (a b : SystemId) → same_system a b ≡ true → a ≡ b
 same_is a b h = rw ((bytes_eq-Decides a.0 b.0).0 h) refl
 
 -- what is above an identifier is above all systems that the system of that one is above

@@ -5,6 +5,7 @@ pub mod FragmentLaws
 pub mod GraphLaws
 pub mod ListLaws
 pub mod KeepLaws
+pub mod OwnerLaws
 pub mod SameLaws
 pub mod SystemLaws
 pub mod ViewLaws

@@ -1,3 +1,4 @@
 pub mod Edges
 pub mod Places
 pub mod Keep
+pub mod Owners

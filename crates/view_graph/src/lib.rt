@@ -10,6 +10,7 @@ mod keep;
 mod known;
 mod links;
 mod nodes;
+mod owners;
 mod places;
 mod same;
 #[cfg(test)]
