@@ -1,2 +1,3 @@
 pub mod Bift
 pub mod Neighbours
+pub mod Any

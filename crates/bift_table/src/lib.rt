@@ -5,10 +5,12 @@
 //! F-BM) of two routers that share no position.
 #![tactic(auto)]
 
+mod any;
 mod build;
 mod neighbour;
 mod table;
 #[cfg(test)]
 mod tests;
 
+pub use any::AnyTable;
 pub use table::{Row, Table};

@@ -5,7 +5,7 @@ use std::alloc::Global;
 use std::marker::Brand;
 use std::sync::ledger::{Blank, Ledger};
 use std::test::Fail;
-use wire_base::{First, M, RowSet, Rows, Steps, SystemId};
+use wire_base::{Bsl, First, M, RowSet, Rows, Steps, SystemId};
 
 // A class, and of the positions from 1 on the last octet of the router's system, its end, and how many positions its mask
 // has and the least of them.
@@ -68,6 +68,8 @@ fn classes_share_the_ways(rt: HostRuntime) -> Result<(), Fail> {
             (table.routed().count(), table.routed().first()),
             (4, Some(2))
         );
+        let any = AnyTable::build(rt.alloc(), Bsl::B64, &rows, case.class % 16)?;
+        assert_eq!(rt; any.bsl(), Bsl::B64);
     }
     Ok(())
 }

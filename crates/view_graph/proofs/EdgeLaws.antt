@@ -1,17 +1,18 @@
 -- Where a system stands among the claims, what a link adds to the metrics, and which edges count.
 use mathlib.Core.Bool.{false≢true, true≢false}
-use Rattle.std.proofs.Common.{◌≡◌, ℕ, zero, suc, ◌+◌, ◌<◌, ◌≤◌, ◌==◌, min, Bool, true, false, if◌then◌else◌, List, [], ◌∷◌, ◌++◌, length, get_or, set, take, map, filter, Option, Some, None, is_some, slice_get, refl, sym, ap, subst, ◌∙◌, arith}
+use Rattle.std.proofs.Common.{◌≡◌, ℕ, zero, suc, ◌+◌, ◌<◌, ◌≤◌, ◌==◌, nat_lt, min, Bool, true, false, if◌then◌else◌, List, [], ◌∷◌, ◌++◌, length, get_or, set, take, drop, map, filter, Option, Some, None, is_some, slice_get, refl, sym, ap, subst, ◌∙◌, arith}
 use Rattle.std.specs.declared.cmp.Ordering.{Ordering}
 use Rattle.std.specs.declared.cmp.Ordering.TheVariants.{Less, Equal, Greater}
 use Rattle.std.specs.Ordering.{is_eq, is_lt, is_gt, match_ordering}
-use Rattle.std.specs.List.{AllByRecursion}
+use Rattle.std.specs.List.{AllByRecursion, insert}
 use Rattle.std.proofs.Math.Seq.{take-suc}
-use Rattle.std.proofs.lemmas.Bool.{eqb-true, eq-eqb}
+use Rattle.std.proofs.lemmas.Bool.{eqb-true, eq-eqb, ltb-true, lt-ltb}
+use Rattle.std.proofs.lemmas.List.{length-map}
 use Rattle.wire_base.specs.declared.addresses.SystemId.{SystemId}
 use Rattle.wire_base.specs.declared.view.ViewEdge.{ViewEdge}
 use Rattle.wire_base.specs.model.Control.{same_system, system_order}
 use Rattle.wire_base.specs.model.View.{Claim, Link, least_of, metric_to, lists, edges_from}
-use Rattle.view_graph.specs.Edges.{is_before, AreInOrder, place_in, stands_at, metrics_to, counted, half_edges, half_edges_of, leads_to, whole_edges}
+use Rattle.view_graph.specs.Edges.{is_before, AreInOrder, place_in, stands_at, metrics_to, counted, edge_place, leads_at, put_edge, half_edges, half_edges_of, leads_to, whole_edges}
 use Rattle.view_graph.proofs.SystemLaws.{tie_is_same, before_trans, above_trans, before_differs, above_differs, same_before}
 
 -- ---- each element
@@ -96,16 +97,6 @@ same_all : (s : SystemId) (c : SystemId) (cs : List Claim) → same_system s c �
 same_all s c [] h all = tt
 same_all s c (d ∷ ds) h all = (before_differs s d.system (same_before s c d.system h all.0), same_all s c ds h all.1)
 
-pub counted_there : (l : Link) (cs : List Claim) (ms : List (Option ℕ)) (m : Option ℕ) → AreInOrder cs → length ms ≡ length cs → stands_at cs (place_in l.neighbour cs) l.neighbour ≡ true → m ≡ get_or ms (place_in l.neighbour cs) m → set ms (place_in l.neighbour cs) (Some (least_of l.metric m)) ≡ counted l cs ms
-counted_there l [] ms m asc same stands at = absurd (false≢true stands)
-counted_there l (c ∷ cs) [] m asc same stands at = absurd (omega (arith, same))
-counted_there l (c ∷ cs) (x ∷ xs) m asc same stands at = cases (λ k a. counted_there l cs xs m asc.1 (omega (arith, same)) k a) (system_order l.neighbour c.system) refl stands at
-  where
-    cases : (stands_at cs (place_in l.neighbour cs) l.neighbour ≡ true → m ≡ get_or xs (place_in l.neighbour cs) m → set xs (place_in l.neighbour cs) (Some (least_of l.metric m)) ≡ counted l cs xs) → (o : Ordering) → system_order l.neighbour c.system ≡ o → stands_at (c ∷ cs) (match_ordering o 0 0 (suc (place_in l.neighbour cs))) l.neighbour ≡ true → m ≡ get_or (x ∷ xs) (match_ordering o 0 0 (suc (place_in l.neighbour cs))) m → set (x ∷ xs) (match_ordering o 0 0 (suc (place_in l.neighbour cs))) (Some (least_of l.metric m)) ≡ counted l (c ∷ cs) (x ∷ xs)
-    cases again Less o k a = absurd (true≢false (sym k ∙ before_differs l.neighbour c.system (ap is_lt o)))
-    cases again Equal o k a = rw k (rw (sym a) (ap (λ (ys : List (Option ℕ)). Some (least_of l.metric m) ∷ ys) (sym (none_counted l cs xs (omega (arith, same)) (same_all l.neighbour c.system cs k asc.0)))))
-    cases again Greater o k a = rw (above_differs l.neighbour c.system (ap is_gt o)) (ap (λ (ys : List (Option ℕ)). x ∷ ys) (again k a))
-
 pub counted_not : (l : Link) (cs : List Claim) (ms : List (Option ℕ)) → AreInOrder cs → length ms ≡ length cs → stands_at cs (place_in l.neighbour cs) l.neighbour ≡ false → ms ≡ counted l cs ms
 counted_not l [] ms asc same stands = refl
 counted_not l (c ∷ cs) [] asc same stands = refl
@@ -115,14 +106,6 @@ counted_not l (c ∷ cs) (x ∷ xs) asc same stands = cases (λ k. counted_not l
     cases again Less o k = rw k (ap (λ (ys : List (Option ℕ)). x ∷ ys) (sym (none_counted l cs xs (omega (arith, same)) (below_all l.neighbour c.system cs (ap is_lt o) asc.0))))
     cases again Equal o k = absurd (true≢false (sym (ap is_eq o) ∙ tie_is_same l.neighbour c.system ∙ k))
     cases again Greater o k = rw (above_differs l.neighbour c.system (ap is_gt o)) (ap (λ (ys : List (Option ℕ)). x ∷ ys) (again k))
-
-pub count_there : (l x : Link) (cs : List Claim) (ms : List (Option ℕ)) (m : Option ℕ) (place least : ℕ) → l ≡ x → AreInOrder cs → length ms ≡ length cs → place ≡ place_in l.neighbour cs → stands_at cs place l.neighbour ≡ true → m ≡ get_or ms place m → least ≡ least_of l.metric m → set ms place (Some least) ≡ counted x cs ms
-count_there l x cs ms m place least lx asc same p stands at e =
-    ap (λ n. set ms n (Some least)) p ∙ ap (λ k. set ms (place_in l.neighbour cs) (Some k)) e
-    ∙ counted_there l cs ms m asc same (ap (λ n. stands_at cs n l.neighbour) (sym p) ∙ stands) (at ∙ ap (λ n. get_or ms n m) p) ∙ ap (λ (y : Link). counted y cs ms) lx
-
-pub count_not : (l x : Link) (cs : List Claim) (ms : List (Option ℕ)) (place : ℕ) → l ≡ x → AreInOrder cs → length ms ≡ length cs → place ≡ place_in l.neighbour cs → stands_at cs place l.neighbour ≡ false → ms ≡ counted x cs ms
-count_not l x cs ms place lx asc same p stands = counted_not l cs ms asc same (ap (λ n. stands_at cs n l.neighbour) (sym p) ∙ stands) ∙ ap (λ (y : Link). counted y cs ms) lx
 
 -- one link more at the end of a list
 pub metric_push : (links : List Link) (l : Link) (s : SystemId) → metric_to (links ++ l ∷ []) s ≡ (if same_system l.neighbour s then Some (least_of l.metric (metric_to links s)) else metric_to links s)
@@ -142,19 +125,87 @@ pub metrics_push : (links : List Link) (l : Link) (cs : List Claim) → counted 
 metrics_push links l [] = refl
 metrics_push links l (c ∷ cs) = rw (metric_push links l c.system, metrics_push links l cs) refl
 
-pub metrics_step : (links : List Link) (i : ℕ) (l : Link) (cs : List Claim) (old new : List (Option ℕ)) → i < length links → l ≡ get_or links i l → old ≡ metrics_to (take i links) cs → new ≡ counted l cs old → new ≡ metrics_to (take (i + 1) links) cs
-metrics_step links i l cs old new lt at before step =
-    let one : i + 1 ≡ suc i = omega arith in
-    step ∙ ap (counted l cs) before ∙ metrics_push (take i links) l cs ∙ sym (ap (λ k. metrics_to (take k links) cs) one ∙ ap (λ ls. metrics_to ls cs) (take-suc links i l lt ∙ ap (λ x. take i links ++ x ∷ []) (sym at)))
-
--- ---- edges
-
 apart : (a b : ℕ) → (a ≡ b → ⊥) → (a == b) ≡ false
 apart a b h = by (a == b) refl
   where
     by : (t : Bool) → (a == b) ≡ t → t ≡ false
     by false e = refl
     by true e = absurd (h (eqb-true a b e))
+
+-- ---- an edge at its place
+
+pub put_there : (es : List ViewEdge) (to m : ℕ) (e : ViewEdge) → leads_at to (drop (edge_place to es) es) ≡ true → e ≡ get_or es (edge_place to es) e → set es (edge_place to es) (record { to = to; metric = min m e.metric }) ≡ put_edge to m es
+put_there [] to m e leads at = absurd (false≢true leads)
+put_there (x ∷ xs) to m e leads at = by (nat_lt x.to to) refl leads at (λ l a. put_there xs to m e l a)
+  where
+    by : (b : Bool) → nat_lt x.to to ≡ b → leads_at to (drop (if b then suc (edge_place to xs) else 0) (x ∷ xs)) ≡ true → e ≡ get_or (x ∷ xs) (if b then suc (edge_place to xs) else 0) e
+        → (leads_at to (drop (edge_place to xs) xs) ≡ true → e ≡ get_or xs (edge_place to xs) e → set xs (edge_place to xs) (record { to = to; metric = min m e.metric }) ≡ put_edge to m xs)
+        → set (x ∷ xs) (edge_place to (x ∷ xs)) (record { to = to; metric = min m e.metric }) ≡ put_edge to m (x ∷ xs)
+    by true f l a more = rw f (ap (λ (ys : List ViewEdge). x ∷ ys) (more l a))
+    by false f l a more = rw (f, l, a) refl
+
+pub put_new : (es : List ViewEdge) (to m : ℕ) → leads_at to (drop (edge_place to es) es) ≡ false → insert es (edge_place to es) (record { to = to; metric = m }) ≡ put_edge to m es
+put_new [] to m leads = refl
+put_new (x ∷ xs) to m leads = by (nat_lt x.to to) refl leads (λ l. put_new xs to m l)
+  where
+    by : (b : Bool) → nat_lt x.to to ≡ b → leads_at to (drop (if b then suc (edge_place to xs) else 0) (x ∷ xs)) ≡ false
+        → (leads_at to (drop (edge_place to xs) xs) ≡ false → insert xs (edge_place to xs) (record { to = to; metric = m }) ≡ put_edge to m xs)
+        → insert (x ∷ xs) (edge_place to (x ∷ xs)) (record { to = to; metric = m }) ≡ put_edge to m (x ∷ xs)
+    by true f l more = rw f (ap (λ (ys : List ViewEdge). x ∷ ys) (more l))
+    by false f l more = rw (f, l) refl
+
+not_less : (a b : ℕ) → b ≤ a → nat_lt a b ≡ false
+not_less a b h = by (nat_lt a b) refl
+  where
+    by : (t : Bool) → nat_lt a b ≡ t → t ≡ false
+    by false e = refl
+    by true e = let lt = ltb-true a b e in absurd (omega (arith, lt, h))
+
+-- before all of them
+put_first : (p q m : ℕ) (ms : List (Option ℕ)) → p < q → put_edge p m (half_edges q ms) ≡ record { to = p; metric = m } ∷ half_edges q ms
+put_first p q m [] h = refl
+put_first p q m (None ∷ ms) h = put_first p (q + 1) m ms (omega (arith, h))
+put_first p q m (Some n ∷ ms) h = rw (not_less q p (omega (arith, h)), apart q p (λ e. omega (arith, h, e))) refl
+
+half_put : (p : ℕ) (l : Link) (cs : List Claim) (ms : List (Option ℕ)) → AreInOrder cs → length ms ≡ length cs → stands_at cs (place_in l.neighbour cs) l.neighbour ≡ true → put_edge (p + place_in l.neighbour cs) l.metric (half_edges p ms) ≡ half_edges p (counted l cs ms)
+half_put p l [] ms asc same stands = absurd (false≢true stands)
+half_put p l (c ∷ cs) [] asc same stands = absurd (omega (arith, same))
+half_put p l (c ∷ cs) (x ∷ xs) asc same stands = cases (λ k. half_put (p + 1) l cs xs asc.1 (omega (arith, same)) k) (system_order l.neighbour c.system) refl stands
+  where
+    here : (y : Option ℕ) → put_edge p l.metric (half_edges p (y ∷ xs)) ≡ record { to = p; metric = least_of l.metric y } ∷ half_edges (p + 1) xs
+    here None = put_first p (p + 1) l.metric xs (omega arith)
+    here (Some n) = rw (not_less p p (omega arith), eq-eqb p p refl) refl
+
+    later : (y : Option ℕ) → put_edge ((p + 1) + place_in l.neighbour cs) l.metric (half_edges (p + 1) xs) ≡ half_edges (p + 1) (counted l cs xs) → put_edge (p + suc (place_in l.neighbour cs)) l.metric (half_edges p (y ∷ xs)) ≡ half_edges p (y ∷ counted l cs xs)
+    later None more = let e : p + suc (place_in l.neighbour cs) ≡ (p + 1) + place_in l.neighbour cs = omega arith in ap (λ k. put_edge k l.metric (half_edges (p + 1) xs)) e ∙ more
+    later (Some n) more =
+        let e : p + suc (place_in l.neighbour cs) ≡ (p + 1) + place_in l.neighbour cs = omega arith in
+        rw (lt-ltb p (p + suc (place_in l.neighbour cs)) (omega arith)) (ap (λ (es : List ViewEdge). record { to = p; metric = n } ∷ es) (ap (λ k. put_edge k l.metric (half_edges (p + 1) xs)) e ∙ more))
+
+    cases : (stands_at cs (place_in l.neighbour cs) l.neighbour ≡ true → put_edge ((p + 1) + place_in l.neighbour cs) l.metric (half_edges (p + 1) xs) ≡ half_edges (p + 1) (counted l cs xs)) → (o : Ordering) → system_order l.neighbour c.system ≡ o
+        → stands_at (c ∷ cs) (match_ordering o 0 0 (suc (place_in l.neighbour cs))) l.neighbour ≡ true → put_edge (p + match_ordering o 0 0 (suc (place_in l.neighbour cs))) l.metric (half_edges p (x ∷ xs)) ≡ half_edges p (counted l (c ∷ cs) (x ∷ xs))
+    cases again Less o k = absurd (true≢false (sym k ∙ before_differs l.neighbour c.system (ap is_lt o)))
+    cases again Equal o k =
+        let e : p + 0 ≡ p = omega arith in
+        ap (λ q. put_edge q l.metric (half_edges p (x ∷ xs))) e ∙ here x ∙ rw k (ap (λ (ys : List (Option ℕ)). record { to = p; metric = least_of l.metric x } ∷ half_edges (p + 1) ys) (sym (none_counted l cs xs (omega (arith, same)) (same_all l.neighbour c.system cs k asc.0))))
+    cases again Greater o k = later x (again k) ∙ rw (above_differs l.neighbour c.system (ap is_gt o)) refl
+
+pub count_put : (links : List Link) (l x : Link) (cs : List Claim) (place metric : ℕ) (old new : List ViewEdge) → l ≡ x → AreInOrder cs → place ≡ place_in l.neighbour cs → stands_at cs place l.neighbour ≡ true → metric ≡ l.metric → old ≡ half_edges 0 (metrics_to links cs) → new ≡ put_edge place metric old → new ≡ half_edges 0 (metrics_to (links ++ x ∷ []) cs)
+count_put links l x cs place metric old new lx asc p stands m before step =
+    let zero_in : place ≡ 0 + place_in l.neighbour cs = p ∙ omega arith in
+    step ∙ ap (put_edge place metric) before ∙ ap (λ k. put_edge k metric (half_edges 0 (metrics_to links cs))) zero_in ∙ ap (λ k. put_edge (0 + place_in l.neighbour cs) k (half_edges 0 (metrics_to links cs))) m
+    ∙ half_put 0 l cs (metrics_to links cs) asc (length-map cs (λ c. metric_to links c.system)) (ap (λ n. stands_at cs n l.neighbour) (sym p) ∙ stands)
+    ∙ ap (half_edges 0) (metrics_push links l cs) ∙ ap (λ (y : Link). half_edges 0 (metrics_to (links ++ y ∷ []) cs)) lx
+
+pub count_not : (links : List Link) (l x : Link) (cs : List Claim) (place : ℕ) (old : List ViewEdge) → l ≡ x → AreInOrder cs → place ≡ place_in l.neighbour cs → stands_at cs place l.neighbour ≡ false → old ≡ half_edges 0 (metrics_to links cs) → old ≡ half_edges 0 (metrics_to (links ++ x ∷ []) cs)
+count_not links l x cs place old lx asc p stands before =
+    before ∙ ap (half_edges 0) (counted_not l cs (metrics_to links cs) asc (length-map cs (λ c. metric_to links c.system)) (ap (λ n. stands_at cs n l.neighbour) (sym p) ∙ stands)) ∙ ap (half_edges 0) (metrics_push links l cs) ∙ ap (λ (y : Link). half_edges 0 (metrics_to (links ++ y ∷ []) cs)) lx
+
+pub none_listed : (p : ℕ) (cs : List Claim) → [] ≡ half_edges p (metrics_to [] cs)
+none_listed p [] = refl
+none_listed p (c ∷ cs) = none_listed (p + 1) cs
+
+-- ---- edges
 
 -- no edge leads to a place before the first
 half_none : (q p : ℕ) (ms : List (Option ℕ)) → q < p → leads_to q (half_edges p ms) ≡ false
@@ -204,3 +255,10 @@ edges_are claims i c at =
     let own : get_or halves i [] ≡ half_edges_of claims c = get_map (half_edges_of claims) claims i c [] at in
     ap (λ es. filter (λ e. leads_to i (get_or halves e.to [])) es) own
     ∙ sym (edges_whole (λ k. get_or halves k []) i c claims 0 (λ k d there. let e : 0 + k ≡ k = omega arith in ap (λ q. leads_to i (get_or halves q [])) e ∙ ap (λ es. leads_to i es) (get_map (half_edges_of claims) claims k d [] there) ∙ from_start i (metrics_to d.links claims) ∙ ap is_some (get_map (λ (x : Claim). metric_to d.links x.system) claims i c None at)))
+
+pub put_at : (es : List ViewEdge) (place to m : ℕ) (e : ViewEdge) → place ≡ edge_place to es → leads_at to (drop place es) ≡ true → e ≡ get_or es place e → set es place (record { to = to; metric = min m e.metric }) ≡ put_edge to m es
+put_at es place to m e p leads at =
+    ap (λ k. set es k (record { to = to; metric = min m e.metric })) p ∙ put_there es to m e (ap (λ k. leads_at to (drop k es)) (sym p) ∙ leads) (at ∙ ap (λ k. get_or es k e) p)
+
+pub put_new_at : (es : List ViewEdge) (place to m : ℕ) → place ≡ edge_place to es → leads_at to (drop place es) ≡ false → insert es place (record { to = to; metric = m }) ≡ put_edge to m es
+put_new_at es place to m p leads = ap (λ k. insert es k (record { to = to; metric = m })) p ∙ put_new es to m (ap (λ k. leads_at to (drop k es)) (sym p) ∙ leads)

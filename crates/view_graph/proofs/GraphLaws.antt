@@ -82,7 +82,7 @@ first_of own e h =
     let c = and_both _ _ b.1 in
     record { other = not_true _ a.0; pseudonode = eqb-true _ 0 b.0; fragment = eqb-true _ 0 c.0 }
 
-others : List Entry → SystemId → List Entry → List Claim
+unfoldable pub others : List Entry → SystemId → List Entry → List Claim
 others all own es = map (claim_of all) (filter (is_other own) es)
 
 others_above : (all : List Entry) (own : SystemId) (e : Entry) → IsFirst own e → (es : List Entry) → AllByRecursion (λ y. is_below e.id y ≡ true) (ids_of es) → AllByRecursion (λ d. is_before e.id.system d.system ≡ true) (others all own es)
@@ -103,7 +103,7 @@ others_in_order all own (x ∷ xs) asc = by (is_other own x) refl (others_in_ord
     by true h more = rw h (others_above all own x (first_of own x h) xs asc.0, more)
     by false h more = rw h more
 
-others_apart : (all : List Entry) (own : SystemId) (es : List Entry) → AllByRecursion (λ d. same_system d.system own ≡ false) (others all own es)
+pub others_apart : (all : List Entry) (own : SystemId) (es : List Entry) → AllByRecursion (λ d. same_system d.system own ≡ false) (others all own es)
 unfolding others
 others_apart all own [] = tt
 others_apart all own (x ∷ xs) = by (is_other own x) refl (others_apart all own xs)

@@ -1,8 +1,12 @@
 pub mod ClaimLaws
 pub mod EdgeLaws
 pub mod ExampleLaws
+pub mod FragmentLaws
 pub mod GraphLaws
 pub mod ListLaws
+pub mod KeepLaws
+pub mod OwnerLaws
+pub mod SameLaws
 pub mod SystemLaws
 pub mod ViewLaws
 pub mod WalkLaws

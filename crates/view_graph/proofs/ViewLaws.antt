@@ -1,5 +1,5 @@
 -- A view is a graph.
-use Rattle.std.proofs.Common.{Bool, List, length, map, All, sym, subst, arith}
+use Rattle.std.proofs.Common.{Bool, List, ◌≡◌, length, map, All, sym, ap, subst, ◌∙◌, arith}
 use Rattle.std.proofs.lemmas.List.{length-map}
 use Rattle.wire_base.specs.declared.conf.RouterConf.{RouterConf}
 use Rattle.wire_base.specs.declared.entry.Entry.{Entry}
@@ -7,7 +7,7 @@ use Rattle.wire_base.specs.declared.view.ViewNode.{ViewNode}
 use Rattle.wire_base.specs.model.Configuration.{IsSound}
 use Rattle.wire_base.specs.model.Control.{IsDatabase}
 use Rattle.wire_base.specs.model.Graph.{IsGraph, IsNode}
-use Rattle.wire_base.specs.model.View.{Claim, with_known, claims_of, node_of, view_of}
+use Rattle.wire_base.specs.model.View.{Claim, with_known, claims_of, node_of, nodes_of, view_of}
 use Rattle.view_graph.proofs.GraphLaws.{claims_in_order, few_claims, all_from, known_good, nodes_good, order_pairs, share_pairs, none_passes}
 use Rattle.view_graph.proofs.ClaimLaws.{claims_good}
 
@@ -24,3 +24,8 @@ view_is_graph r up entries sound base =
       nodes = subst (λ n. All (λ (x : ViewNode). IsNode n x) (map (node_of k) k)) (sym long) (all_from (λ (x : ViewNode). IsNode (length k) x) (map (node_of k) k) (nodes_good k k (known_good r.kinds (claims_of r up entries) (claims_good r up entries sound))));
       prefixes_differ = share_pairs k k order (λ p h. none_passes p k h);
     }
+
+-- the same of the nodes of those claims
+pub made_graph : (r : RouterConf) (up : List Bool) (entries : List Entry) (claims : List Claim) (nodes : List ViewNode) → IsSound r → IsDatabase entries → claims ≡ map (with_known r.kinds) (claims_of r up entries) → nodes ≡ nodes_of claims → IsGraph nodes
+unfolding view_of
+made_graph r up entries claims nodes sound base all made = subst IsGraph (sym (made ∙ ap nodes_of all)) (view_is_graph r up entries sound base)

@@ -61,3 +61,7 @@ step_end old new (Some t) w = tt
 -- the rest of a slice
 pub rest_is : (octets : List ℕ) (n : ℕ) → take (length octets - n) (drop n octets) ≡ drop n octets
 rest_is octets n = take_rest octets n
+
+-- the rest of any slice
+pub rest_of : {X : Type 0} (xs : List X) (n : ℕ) → take (length xs - n) (drop n xs) ≡ drop n xs
+rest_of xs n = take_rest xs n

@@ -1,5 +1,5 @@
 -- Words of the code on links that count.
-use Rattle.std.specs.Prelude.{◌≡◌, ℕ, zero, suc, ◌+◌, ◌==◌, Bool, true, false, List, [], ◌∷◌, ◌++◌, map, filter, slice_index_or, option_map, option_to_list, Option, Some, if◌then◌else◌}
+use Rattle.std.specs.Prelude.{◌≡◌, ℕ, zero, suc, ◌+◌, ◌==◌, nat_lt, min, Bool, true, false, List, [], ◌∷◌, ◌++◌, map, filter, slice_index_or, option_map, option_to_list, Option, Some, if◌then◌else◌}
 use Rattle.std.specs.List.{list_any, AllByRecursion}
 use Rattle.std.specs.Ordering.{is_lt, match_ordering}
 use Rattle.wire_base.specs.declared.addresses.SystemId.{SystemId}
@@ -40,6 +40,24 @@ counted l (c ∷ cs) (m ∷ ms) = (if same_system l.neighbour c.system then Some
 abbrev pub half_edges : ℕ → List (Option ℕ) → List ViewEdge
 half_edges place [] = []
 half_edges place (m ∷ ms) = option_to_list (option_map (λ n. record { to = place; metric = n }) m) ++ half_edges (place + 1) ms
+
+-- how many edges lead to a place before that one
+abbrev pub edge_place : ℕ → List ViewEdge → ℕ
+edge_place to [] = 0
+edge_place to (e ∷ es) = if nat_lt e.to to then suc (edge_place to es) else 0
+
+-- whether the first leads there
+abbrev pub leads_at : ℕ → List ViewEdge → Bool
+leads_at to [] = false
+leads_at to (e ∷ es) = e.to == to
+
+-- an edge at its place; of two to one place the lesser metric
+abbrev pub put_edge : ℕ → ℕ → List ViewEdge → List ViewEdge
+put_edge to m [] = record { to = to; metric = m } ∷ []
+put_edge to m (e ∷ es) =
+    if nat_lt e.to to
+    then e ∷ put_edge to m es
+    else (if e.to == to then record { to = to; metric = min m e.metric } ∷ es else record { to = to; metric = m } ∷ e ∷ es)
 
 abbrev pub half_edges_of : List Claim → Claim → List ViewEdge
 half_edges_of claims c = half_edges 0 (metrics_to c.links claims)

@@ -1,2 +1,4 @@
 pub mod Edges
 pub mod Places
+pub mod Keep
+pub mod Owners

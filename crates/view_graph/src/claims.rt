@@ -1,7 +1,7 @@
 //! What each system claims of itself: its links, and its places in subdomains.
 ghost use Rattle.std.specs.Prelude.{◌≡◌, ◌++◌, ◌≤◌, ◌∷◌, [], map, filter, length, IfOk, OnOk, if◌then◌else◌};
 ghost use Rattle.std.specs.List.{flat_map};
-ghost use Rattle.wire_base.specs.model.Control.{same_system, system_order};
+ghost use Rattle.wire_base.specs.model.Control.{AreAscending, ids_of, same_system, system_order};
 ghost use Rattle.wire_base.specs.model.Tlv.{tlvs_before};
 ghost use Rattle.wire_base.specs.model.OwnLsp.{picked, info_of};
 ghost use Rattle.wire_base.specs.model.View.{links_in, subs_in, is_part_of, is_overload_flag, claim_of, is_other, end_link, own_claim, claims_of, sub_of, tlvs_of, with_known};
@@ -98,14 +98,18 @@ fn add_entry(claim: &mut Claim, entry: &Entry) -> M<()>
     }
 }
 
-/// Adds what the fragments of its system say.
+/// Adds what the fragments of its system say. Entries ascend, so the first entry of a higher system ends them.
 fn add_fragments(claim: &mut Claim, entries: &[Entry]) -> M<()>
+    requires { AreAscending (ids_of entries.now) }
     ensures links { OnOk result (claim.new.links ≡ claim.old.links ++ flat_map links_in (tlvs_of entries.now claim.old.system)) }
     ensures subs { OnOk result (claim.new.subs ≡ claim.old.subs ++ flat_map subs_in (tlvs_of entries.now claim.old.system)) }
     ensures system { claim.new.system ≡ claim.old.system }
     ensures overload { claim.new.overload ≡ claim.old.overload }
 {
     'fragments: for entry in entries {
+        if is_before(&claim.system, &entry.id.system) {
+            return Ok(());
+        }
         add_entry(claim, entry)?;
     }
     Ok(())
@@ -113,6 +117,7 @@ fn add_fragments(claim: &mut Claim, entries: &[Entry]) -> M<()>
 
 /// What the system of a fragment 0 claims; it is overloaded where that fragment says so.
 fn claim_of(alloc: Global, entries: &[Entry], entry: &Entry) -> M<Claim>
+    requires { AreAscending (ids_of entries.now) }
     ensures { IfOk result (λ c. c ≡ claim_of entries.now entry.now) }
 {
     let mut claim = no_claim(alloc, entry.id.system, entry.flags / 4 % 2 == 1);
@@ -207,14 +212,16 @@ fn is_other(own: &SystemId, entry: &Entry) -> bool
     entry.id.system != *own && entry.id.pseudonode == 0 && entry.id.fragment == 0 && entry.life > 0
 }
 
-/// What all other systems claim, in the order of their entries.
+/// What all other systems claim, in the order of their entries. A system's fragments stand from its fragment 0 on.
 fn other_claims(alloc: Global, conf: &RouterConf, entries: &[Entry]) -> M<Vec<Claim>>
+    requires { AreAscending (ids_of entries.now) }
     ensures { IfOk result (λ claims. claims.items ≡ map (with_known conf.now.kinds) (map (claim_of entries.now) (filter (is_other conf.now.system) entries.now))) }
 {
     let mut claims = Vec::new(alloc);
-    'systems: for entry in entries {
+    'systems: for place in 0..entries.len() {
+        let entry = &entries[place];
         if is_other(&conf.system, entry) {
-            let claim = claim_of(alloc, entries, entry)?;
+            let claim = claim_of(alloc, &entries[place..], entry)?;
             claims.push(with_known(alloc, conf.kinds.as_slice(), claim)?)?;
         }
     }
@@ -249,7 +256,8 @@ pub(crate) fn claims_of(
     up: &[bool],
     entries: &[Entry],
 ) -> M<Vec<Claim>>
-    requires { length up.now ≡ length conf.now.ends }
+    requires one_each { length up.now ≡ length conf.now.ends }
+    requires ascending { AreAscending (ids_of entries.now) }
     ensures { IfOk result (λ claims. claims.items ≡ map (with_known conf.now.kinds) (claims_of conf.now up.now entries.now)) }
 {
     let mut claims = other_claims(alloc, conf, entries)?;

@@ -1,9 +1,9 @@
 //! Which links count: those that both systems list.
-ghost use Rattle.std.specs.Prelude.{◌≡◌, ◌≤◌, ◌<◌, [], length, map, IfOk, OnOk, option_to_list, option_map, slice_index_or, ◌++◌};
+ghost use Rattle.std.specs.Prelude.{◌≡◌, ◌≤◌, ◌<◌, List, [], ◌∷◌, length, drop, map, IfOk, OnOk, slice_index_or, ◌++◌};
 ghost use Rattle.std.specs.Ordering.{is_gt};
 ghost use Rattle.wire_base.specs.model.Control.{system_order};
-ghost use Rattle.wire_base.specs.model.View.{least_of};
-ghost use Rattle.view_graph.specs.Edges.{AreInOrder, place_in, stands_at, metrics_to, counted, half_edges, half_edges_of, leads_to, whole_edges};
+ghost use Rattle.wire_base.specs.model.View.{Link as LinkItem};
+ghost use Rattle.view_graph.specs.Edges.{AreInOrder, place_in, stands_at, metrics_to, edge_place, leads_at, put_edge, half_edges, half_edges_of, leads_to, whole_edges};
 
 use crate::claims::Claim;
 use crate::links::Link;
@@ -47,70 +47,67 @@ fn stands_at(claims: &[Claim], place: usize, system: &SystemId) -> bool
     }
 }
 
-fn least_of(metric: u32, least: Option<u32>) -> u32
-    ensures { result ≡ least_of metric least }
+/// How many edges lead to a place before that one.
+fn edge_place(edges: &[ViewEdge], to: u16) -> usize
+    ensures within { result ≤ length edges.now }
+    ensures place { result ≡ edge_place to edges.now }
 {
-    match least {
-        Some(other) => metric.min(other),
-        None => metric,
+    'edges: for place in 0..edges.len() {
+        if edges[place].to >= to {
+            return place;
+        }
     }
+    edges.len()
 }
 
-/// Counts one link more.
-fn count(claims: &[Claim], metrics: &mut Vec<Option<u32>>, link: &Link)
+fn leads_at(edges: &[ViewEdge], place: usize, to: u16) -> bool
+    ensures { result ≡ leads_at to (drop place edges.now) }
+{
+    place < edges.len() && edges[place].to == to
+}
+
+/// Adds an edge at its place; of two to one system the lesser metric stays.
+fn put_edge(edges: &mut Vec<ViewEdge>, to: u16, metric: u32) -> M<()>
+    ensures { OnOk result (edges.new.items ≡ put_edge to metric edges.old.items) }
+{
+    let place = edge_place(edges, to);
+    if leads_at(edges, place, to) {
+        let first = edges[place].metric;
+        edges[place] = ViewEdge {
+            to,
+            metric: metric.min(first),
+        };
+        return Ok(());
+    }
+    edges.insert(place, ViewEdge { to, metric })?;
+    Ok(())
+}
+
+/// Adds the edge of one link more, where the system that it leads to is known.
+fn count(claims: &[Claim], edges: &mut Vec<ViewEdge>, link: &Link) -> M<()>
     requires order { AreInOrder claims.now }
-    requires long { length metrics.old.items ≡ length claims.now }
-    ensures counted { metrics.new.items ≡ counted link.now claims.now metrics.old.items }
-    ensures long { length metrics.new.items ≡ length claims.now }
+    requires few { length claims.now ≤ 65536 }
+    ensures { OnOk result ((links : List LinkItem) → edges.old.items ≡ half_edges 0 (metrics_to links claims.now) → edges.new.items ≡ half_edges 0 (metrics_to (links ++ link.now ∷ []) claims.now)) }
 {
     let place = place_in(claims, &link.neighbour);
-    if stands_at(claims, place, &link.neighbour) {
-        let least = metrics[place];
-        metrics[place] = Some(least_of(link.metric, least));
+    if !stands_at(claims, place, &link.neighbour) {
+        return Ok(());
     }
+    put_edge(edges, place as u16, link.metric)?;
+    Ok(())
 }
 
-fn no_metrics(alloc: Global, claims: &[Claim]) -> M<Vec<Option<u32>>>
-    ensures { IfOk result (λ metrics. metrics.items ≡ metrics_to [] claims.now) }
+/// The edges that a system lists itself, in the order of the systems that they lead to.
+fn half_edges(alloc: Global, claims: &[Claim], links: &[Link]) -> M<Rows<ViewEdge>>
+    requires order { AreInOrder claims.now }
+    requires few { length claims.now ≤ 65536 }
+    ensures { IfOk result (λ edges. edges ≡ half_edges 0 (metrics_to links.now claims.now)) }
 {
-    let mut metrics: Vec<Option<u32>> = Vec::new(alloc);
-    'systems: for _claim in claims {
-        metrics.push(None)?;
-    }
-    Ok(metrics)
-}
-
-/// For each system the least metric of the links to it, None where there is none.
-fn metrics_to(alloc: Global, claims: &[Claim], links: &[Link]) -> M<Vec<Option<u32>>>
-    requires { AreInOrder claims.now }
-    ensures { IfOk result (λ metrics. metrics.items ≡ metrics_to links.now claims.now) }
-{
-    let mut metrics = no_metrics(alloc, claims)?;
+    let mut edges: Vec<ViewEdge> = Vec::new(alloc);
     'links: for link in links {
-        count(claims, &mut metrics, link);
+        count(claims, &mut edges, link)?;
     }
-    Ok(metrics)
-}
-
-fn append_half(edges: &mut Rows<ViewEdge>, place: u16, metric: Option<u32>) -> M<()>
-    ensures { OnOk result (edges.new ≡ edges.old ++ option_to_list (option_map (λ n. record { to = place; metric = n }) metric)) }
-{
-    match metric {
-        Some(metric) => edges.push(ViewEdge { to: place, metric }),
-        None => Ok(()),
-    }
-}
-
-/// The edges that one end lists, by what it says of each place.
-fn half_edges(alloc: Global, metrics: &[Option<u32>]) -> M<Rows<ViewEdge>>
-    requires { length metrics.now ≤ 65536 }
-    ensures { IfOk result (λ edges. edges ≡ half_edges 0 metrics.now) }
-{
-    let mut edges = Rows::new(alloc);
-    'places: for place in 0..metrics.len() {
-        append_half(&mut edges, place as u16, metrics[place])?;
-    }
-    Ok(edges)
+    Rows::from_slice(alloc, edges.as_slice())
 }
 
 /// For each system the edges that it lists itself, in the order of the systems that they lead to.
@@ -121,8 +118,7 @@ pub(crate) fn all_half_edges(alloc: Global, claims: &[Claim]) -> M<Vec<Rows<View
 {
     let mut halves = Vec::new(alloc);
     'systems: for claim in claims {
-        let metrics = metrics_to(alloc, claims, claim.links.as_slice())?;
-        halves.push(half_edges(alloc, metrics.as_slice())?)?;
+        halves.push(half_edges(alloc, claims, claim.links.as_slice())?)?;
     }
     Ok(halves)
 }

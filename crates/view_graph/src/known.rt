@@ -5,11 +5,14 @@ ghost use Rattle.std.specs.Str.{bytes_eq};
 ghost use Rattle.wire_base.specs.model.Control.{same_system};
 ghost use Rattle.wire_base.specs.model.Place.{kind_of};
 ghost use Rattle.wire_base.specs.model.View.{all_ranges, first_each, known_subs, has_prefix, is_shared, own_subs};
+ghost use Rattle.view_graph.specs.Owners.{owner_at, is_several};
 ghost use Rattle.view_graph.specs.Places.{has_sd};
 
 use crate::claims::Claim;
+use crate::owners::is_several;
 use bier_subtlv::overlaps;
 use std::alloc::Global;
+use std::collections::BTreeMap;
 use wire_base::{Ipv4, LabelRange, M, Rows, SubKind, SystemId, ViewSub, kind_of};
 
 /// The label ranges of all places of a system.
@@ -103,6 +106,23 @@ pub(crate) fn own_subs(alloc: Global, claims: &[Claim], claim: &Claim) -> M<Rows
     let mut kept = Rows::new(alloc);
     'subs: for sub in claim.subs.as_slice() {
         if !is_shared(claims, &claim.system, &sub.prefix) {
+            kept.push(copy_of(sub)?)?;
+        }
+    }
+    Ok(kept)
+}
+
+/// The same by the systems that have the prefixes.
+pub(crate) fn alone_subs(
+    alloc: Global,
+    owners: &BTreeMap<Ipv4, Option<SystemId>>,
+    claim: &Claim,
+) -> M<Rows<ViewSub>>
+    ensures { IfOk result (λ kept. kept ≡ filter (λ s. not (is_several (owner_at owners.now s.prefix))) claim.now.subs) }
+{
+    let mut kept = Rows::new(alloc);
+    'subs: for sub in claim.subs.as_slice() {
+        if !is_several(owners, &sub.prefix) {
             kept.push(copy_of(sub)?)?;
         }
     }

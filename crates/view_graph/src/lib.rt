@@ -6,12 +6,16 @@
 
 mod claims;
 mod edges;
+mod keep;
 mod known;
 mod links;
 mod nodes;
+mod owners;
 mod places;
+mod same;
 #[cfg(test)]
 mod tests;
 mod walks;
 
+pub use keep::ViewKeep;
 pub use nodes::{supports, view};

@@ -5,19 +5,31 @@ ghost use Rattle.wire_base.specs.model.Configuration.{IsSound};
 ghost use Rattle.wire_base.specs.model.Control.{IsDatabase};
 ghost use Rattle.wire_base.specs.model.Graph.{IsGraph, covers};
 ghost use Rattle.view_graph.specs.Edges.{AreInOrder, half_edges_of};
+ghost use Rattle.view_graph.specs.Owners.{AreOwners, prefixes_of};
 
 use crate::claims::{Claim, claims_of};
 use crate::edges::{all_half_edges, whole_edges};
-use crate::known::own_subs;
+use crate::known::alone_subs;
+use crate::owners::owners_of;
 use lsp_store::Store;
 use std::alloc::Global;
-use wire_base::{Entry, M, RouterConf, Rows, Triple, View, ViewEdge, ViewNode};
+use std::collections::BTreeMap;
+use wire_base::{
+    Entry, Ipv4, M, RouterConf, Rows, SystemId, Triple, View, ViewEdge, ViewNode,
+};
 
 /// The node of the system at a place.
-fn node_of(alloc: Global, claims: &[Claim], halves: &[Rows<ViewEdge>], place: usize) -> M<ViewNode>
+fn node_of(
+    alloc: Global,
+    claims: &[Claim],
+    halves: &[Rows<ViewEdge>],
+    owners: &BTreeMap<Ipv4, Option<SystemId>>,
+    place: usize,
+) -> M<ViewNode>
     requires within { place < length claims.now }
     requires few { length claims.now ≤ 65536 }
     requires halves { halves.now ≡ map (half_edges_of claims.now) claims.now }
+    requires owners { AreOwners (prefixes_of claims.now) owners.now }
     ensures { IfOk result (λ n. (c : ClaimItem) → slice_get claims.now place ≡ Some c → n ≡ node_of claims.now c) }
 {
     let claim = &claims[place];
@@ -25,19 +37,20 @@ fn node_of(alloc: Global, claims: &[Claim], halves: &[Rows<ViewEdge>], place: us
         system: claim.system,
         overload: claim.overload,
         edges: whole_edges(alloc, halves, place as u16)?,
-        subs: own_subs(alloc, claims, claim)?,
+        subs: alone_subs(alloc, owners, claim)?,
     })
 }
 
-fn nodes_of(alloc: Global, claims: &[Claim]) -> M<Rows<ViewNode>>
+pub(crate) fn nodes_of(alloc: Global, claims: &[Claim]) -> M<Rows<ViewNode>>
     requires order { AreInOrder claims.now }
     requires few { length claims.now ≤ 65536 }
     ensures { IfOk result (λ nodes. nodes ≡ nodes_of claims.now) }
 {
     let halves = all_half_edges(alloc, claims)?;
+    let owners = owners_of(alloc, claims)?;
     let mut nodes = Rows::new(alloc);
     'systems: for place in 0..claims.len() {
-        nodes.push(node_of(alloc, claims, halves.as_slice(), place)?)?;
+        nodes.push(node_of(alloc, claims, halves.as_slice(), &owners, place)?)?;
     }
     Ok(nodes)
 }

@@ -1,17 +1,14 @@
-use Rattle.std.proofs.Common.{sym, ◌∙◌, arith}
-use Rattle.view_graph.proofs.EdgeLaws.{stands_within, count_there, count_not}
+use Rattle.std.proofs.Common.{refl, sym, ◌∙◌, arith}
+use Rattle.view_graph.proofs.EdgeLaws.{stands_within, count_put, count_not}
 use Rattle.view_graph.proofs.edges.count.Goals as goal
 
-pub index-least-requires : goal.index-least-requires
-index-least-requires c = omega (arith, stands_within c.args.claims.now c.place_in-place.result c.link.inside.neighbour (sym c.stands_at.ensures ∙ c.if-stands_at.true), c.requires.long, c.args.metrics.now.ok.0)
+pub overflow_cast-place : goal.overflow_cast-place
+overflow_cast-place c = omega (arith, stands_within c.args.claims.now c.place_in-place.result c.link.inside.neighbour (sym c.stands_at.ensures ∙ c.if-not-stands_at.false), c.requires.few)
 
-pub index_mut-requires : goal.index_mut-requires
-index_mut-requires c = omega (arith, stands_within c.args.claims.now c.place_in-place.result c.link.inside.neighbour (sym c.stands_at.ensures ∙ c.if-stands_at.true), c.requires.long, c.args.metrics.now.ok.0)
+pub returns-then-not-stands_at : goal.returns-then-not-stands_at
+returns-then-not-stands_at c = λ links before.
+    count_not links (record { neighbour = c.link.inside.neighbour; metric = c.link.inside.metric }) c.args.link.now c.args.claims.now c.place_in-place.result c.args.edges.now.items c.link.view_is c.requires.order c.place_in-place.ensures (sym c.stands_at.ensures ∙ c.if-not-stands_at.true) before
 
-pub returns-then-stands_at-clause-counted : goal.returns-then-stands_at-clause-counted
-returns-then-stands_at-clause-counted c =
-    count_there (record { neighbour = c.link.inside.neighbour; metric = c.link.inside.metric }) c.args.link.now c.args.claims.now c.args.metrics.now.items c.index-least.result.now c.place_in-place.result c.least_of.result c.link.view_is c.requires.order c.requires.long c.place_in-place.ensures (sym c.stands_at.ensures ∙ c.if-stands_at.true) c.index-least.ensures c.least_of.ensures
-
-pub returns-else-stands_at-clause-counted : goal.returns-else-stands_at-clause-counted
-returns-else-stands_at-clause-counted c =
-    count_not (record { neighbour = c.link.inside.neighbour; metric = c.link.inside.metric }) c.args.link.now c.args.claims.now c.args.metrics.now.items c.place_in-place.result c.link.view_is c.requires.order c.requires.long c.place_in-place.ensures (sym c.stands_at.ensures ∙ c.if-stands_at.false)
+pub returns : goal.returns
+returns c = λ links before.
+    count_put links (record { neighbour = c.link.inside.neighbour; metric = c.link.inside.metric }) c.args.link.now c.args.claims.now c.place_in-place.result c.link.inside.metric c.args.edges.now.items c.put_edge.new.edges.items c.link.view_is c.requires.order c.place_in-place.ensures (sym c.stands_at.ensures ∙ c.if-not-stands_at.false) refl before c.in_ok-put_edge.ensures

@@ -1,0 +1,131 @@
+-- The fragments of a system stand together, from its fragment 0 on, since entries ascend.
+use mathlib.Core.Bool.{false≢true}
+use Rattle.std.proofs.Common.{◌≡◌, ℕ, zero, suc, ◌+◌, ◌-◌, ◌<◌, ◌==◌, ◌&&◌, nat_lt, Bool, true, false, if◌then◌else◌, List, [], ◌∷◌, ◌++◌, length, get_or, take, drop, map, filter, refl, sym, ap, subst, ◌∙◌, arith, append-nil}
+use Rattle.std.specs.declared.cmp.Ordering.{Ordering}
+use Rattle.std.specs.declared.cmp.Ordering.TheVariants.{Less, Equal, Greater}
+use Rattle.std.specs.Ordering.{nat_cmp, ordering_then, is_eq, is_lt}
+use Rattle.std.specs.List.{AllByRecursion}
+use Rattle.std.proofs.Math.Seq.{take-suc}
+use Rattle.std.proofs.lemmas.Bool.{eqb-true, ltb-true}
+use Rattle.std.proofs.lemmas.List.{map-append}
+use Rattle.std.proofs.lemmas.List.Elements.{filter-append}
+use Rattle.std.proofs.lemmas.Slice.Eq.{bytes_eq-Decides}
+use Rattle.wire_base.specs.declared.addresses.SystemId.{SystemId}
+use Rattle.wire_base.specs.declared.addresses.LspId.{LspId}
+use Rattle.wire_base.specs.declared.conf.SubKind.{SubKind}
+use Rattle.wire_base.specs.declared.entry.Entry.{Entry}
+use Rattle.wire_base.specs.model.Control.{same_system, system_order, is_below, AreAscending, ids_of}
+use Rattle.wire_base.specs.model.View.{Claim, is_part_of, tlvs_of, claim_of, is_other, with_known}
+use Rattle.view_graph.specs.Edges.{is_before}
+use Rattle.view_graph.proofs.SystemLaws.{tie_is_same, before_trans, before_differs, same_turned}
+use Rattle.view_graph.proofs.GraphLaws.{all_weaker, and_both}
+
+pub same_is : (a b : SystemId) → same_system a b ≡ true → a ≡ b
+same_is a b h = rw ((bytes_eq-Decides a.0 b.0).0 h) refl
+
+-- what is above an identifier is above all systems that the system of that one is above
+above_step : (s : SystemId) (a b : LspId) → is_before s a.system ≡ true → is_below a b ≡ true → is_before s b.system ≡ true
+above_step s a b h below = by (system_order a.system b.system) refl below
+  where
+    by : (o : Ordering) → system_order a.system b.system ≡ o → is_below a b ≡ true → is_before s b.system ≡ true
+    by Less e k = before_trans s a.system b.system h (ap is_lt e)
+    by Equal e k = subst (λ t. is_before s t ≡ true) (same_is a.system b.system (sym (tie_is_same a.system b.system) ∙ ap is_eq e)) h
+    by Greater e k = absurd (false≢true (sym (ap (λ o. is_lt (ordering_then o (ordering_then (nat_cmp a.pseudonode b.pseudonode) (nat_cmp a.fragment b.fragment)))) e) ∙ k))
+
+all_above : (s : SystemId) (a : LspId) (ids : List LspId) → is_before s a.system ≡ true → AllByRecursion (λ y. is_below a y ≡ true) ids → AllByRecursion (λ y. is_before s y.system ≡ true) ids
+all_above s a ids h all = all_weaker (λ (y : LspId). is_below a y ≡ true) (λ (y : LspId). is_before s y.system ≡ true) (λ y k. above_step s a y h k) ids all
+
+-- no fragment stands among the entries of higher systems
+none_above : (s : SystemId) (es : List Entry) → AllByRecursion (λ y. is_before s y.system ≡ true) (ids_of es) → filter (is_part_of s) es ≡ []
+none_above s [] all = refl
+none_above s (e ∷ es) all = rw (same_turned e.id.system s ∙ before_differs s e.id.system all.0) (none_above s es all.1)
+
+-- so a walk over the fragments ends at the first higher system
+parts_end : (s : SystemId) (es : List Entry) (i : ℕ) (e : Entry) → AreAscending (ids_of es) → i < length es → e ≡ get_or es i e → is_before s e.id.system ≡ true → filter (is_part_of s) (take i es) ≡ filter (is_part_of s) es
+parts_end s [] i e asc lt at high = absurd (omega (arith, lt))
+parts_end s (x ∷ xs) zero e asc lt at high =
+    let first : is_before s x.id.system ≡ true = subst (λ (y : Entry). is_before s y.id.system ≡ true) at high in
+    sym (none_above s (x ∷ xs) (first, all_above s x.id (ids_of xs) first asc.0))
+parts_end s (x ∷ xs) (suc i) e asc lt at high = by (is_part_of s x) refl (parts_end s xs i e asc.1 (omega (arith, lt)) at high)
+  where
+    by : (b : Bool) → is_part_of s x ≡ b → filter (is_part_of s) (take i xs) ≡ filter (is_part_of s) xs → filter (is_part_of s) (take (suc i) (x ∷ xs)) ≡ filter (is_part_of s) (x ∷ xs)
+    by true e more = rw e (ap (λ (ys : List Entry). x ∷ ys) more)
+    by false e more = rw e more
+
+pub tlvs_end : (s : SystemId) (es : List Entry) (i : ℕ) (e : Entry) → AreAscending (ids_of es) → i < length es → e ≡ get_or es i e → is_before s e.id.system ≡ true → tlvs_of (take i es) s ≡ tlvs_of es s
+tlvs_end s es i e asc lt at high = rw (parts_end s es i e asc lt at high) refl
+
+all_at : {X : Type 0} (P : X → Type 0) (f : Entry → X) (es : List Entry) (i : ℕ) (e : Entry) → AllByRecursion P (map f es) → i < length es → e ≡ get_or es i e → P (f e)
+all_at P f [] i e all lt at = absurd (omega (arith, lt))
+all_at P f (x ∷ xs) zero e all lt at = subst (λ y. P (f y)) (sym at) all.0
+all_at P f (x ∷ xs) (suc i) e all lt at = all_at P f xs i e all.1 (omega (arith, lt)) at
+
+-- what is below a fragment 0 is of a lower system
+below_first : (a b : LspId) → b.pseudonode ≡ 0 → b.fragment ≡ 0 → is_below a b ≡ true → is_before a.system b.system ≡ true
+below_first a b p f h = by (system_order a.system b.system) refl (rw (p, f) at h)
+  where
+    least : (n : ℕ) → nat_lt n 0 ≡ false
+    least n = by (nat_lt n 0) refl
+      where
+        by : (b : Bool) → nat_lt n 0 ≡ b → b ≡ false
+        by true e = absurd (omega (arith, ltb-true n 0 e))
+        by false e = refl
+
+    cases : (a b : Bool) → is_lt (ordering_then (if a then Equal else Greater) (if b then Equal else Greater)) ≡ false
+    cases true true = refl
+    cases true false = refl
+    cases false b = refl
+
+    never : (m n : ℕ) → is_lt (ordering_then (nat_cmp m 0) (nat_cmp n 0)) ≡ false
+    never m n = rw (least m, least n) (cases (m == 0) (n == 0))
+
+    by : (o : Ordering) → system_order a.system b.system ≡ o → is_lt (ordering_then (system_order a.system b.system) (ordering_then (nat_cmp a.pseudonode 0) (nat_cmp a.fragment 0))) ≡ true → is_before a.system b.system ≡ true
+    by Less e k = ap is_lt e
+    by Equal e k = absurd (false≢true (sym (never a.pseudonode a.fragment) ∙ sym (ap (λ o. is_lt (ordering_then o (ordering_then (nat_cmp a.pseudonode 0) (nat_cmp a.fragment 0)))) e) ∙ k))
+    by Greater e k = absurd (false≢true (sym (ap (λ o. is_lt (ordering_then o (ordering_then (nat_cmp a.pseudonode 0) (nat_cmp a.fragment 0)))) e) ∙ k))
+
+-- and it begins at fragment 0
+parts_begin : (es : List Entry) (i : ℕ) (e : Entry) → AreAscending (ids_of es) → i < length es → e ≡ get_or es i e → e.id.pseudonode ≡ 0 → e.id.fragment ≡ 0 → filter (is_part_of e.id.system) (drop i es) ≡ filter (is_part_of e.id.system) es
+parts_begin [] i e asc lt at p f = absurd (omega (arith, lt))
+parts_begin (x ∷ xs) zero e asc lt at p f = refl
+parts_begin (x ∷ xs) (suc i) e asc lt at p f =
+    let below : is_below x.id e.id ≡ true = all_at (λ (y : LspId). is_below x.id y ≡ true) (λ (y : Entry). y.id) xs i e asc.0 (omega (arith, lt)) at in
+    rw (before_differs x.id.system e.id.system (below_first x.id e.id p f below)) (parts_begin xs i e asc.1 (omega (arith, lt)) at p f)
+
+first_parts : (own : SystemId) (e : Entry) → is_other own e ≡ true → (e.id.pseudonode ≡ 0) × (e.id.fragment ≡ 0)
+first_parts own e h =
+    let a = and_both _ _ h in
+    let b = and_both _ _ a.1 in
+    let c = and_both _ _ b.1 in
+    (eqb-true _ 0 b.0, eqb-true _ 0 c.0)
+
+claim_begins : (own : SystemId) (es : List Entry) (i : ℕ) (e : Entry) → AreAscending (ids_of es) → i < length es → e ≡ get_or es i e → is_other own e ≡ true → claim_of (drop i es) e ≡ claim_of es e
+claim_begins own es i e asc lt at other =
+    let f = first_parts own e other in
+    rw (parts_begin es i e asc lt at f.0 f.1) refl
+
+step_of : (own : SystemId) (es : List Entry) (i : ℕ) (e : Entry) → i < length es → e ≡ get_or es i e → filter (is_other own) (take (i + 1) es) ≡ filter (is_other own) (take i es) ++ filter (is_other own) (e ∷ [])
+step_of own es i e lt at =
+    let one : i + 1 ≡ suc i = omega arith in
+    ap (λ k. filter (is_other own) (take k es)) one ∙ ap (filter (is_other own)) (take-suc es i e lt ∙ ap (λ x. take i es ++ x ∷ []) (sym at)) ∙ filter-append (is_other own) (take i es) (e ∷ [])
+
+pub other_more : (kinds : List SubKind) (own : SystemId) (es rest : List Entry) (i : ℕ) (e : Entry) (c k : Claim) (old new : List Claim) → AreAscending (ids_of es) → i < length es → e ≡ get_or es i e → is_other own e ≡ true → rest ≡ drop i es → c ≡ claim_of rest e → k ≡ with_known kinds c
+    → old ≡ map (with_known kinds) (map (claim_of es) (filter (is_other own) (take i es))) → new ≡ old ++ k ∷ [] → new ≡ map (with_known kinds) (map (claim_of es) (filter (is_other own) (take (i + 1) es)))
+other_more kinds own es rest i e c k old new asc lt at other r is known before step =
+    let one : filter (is_other own) (e ∷ []) ≡ e ∷ [] = rw other refl in
+    let claim : k ≡ with_known kinds (claim_of es e) = known ∙ ap (with_known kinds) (is ∙ ap (λ (l : List Entry). claim_of l e) r ∙ claim_begins own es i e asc lt at other) in
+    step ∙ ap (λ (l : List Claim). l ++ k ∷ []) before ∙ ap (λ (x : Claim). map (with_known kinds) (map (claim_of es) (filter (is_other own) (take i es))) ++ x ∷ []) claim
+    ∙ sym (ap (λ (l : List Entry). map (with_known kinds) (map (claim_of es) l)) (step_of own es i e lt at ∙ ap (λ (l : List Entry). filter (is_other own) (take i es) ++ l) one)
+        ∙ ap (map (with_known kinds)) (map-append (claim_of es) (filter (is_other own) (take i es)) (e ∷ [])) ∙ map-append (with_known kinds) (map (claim_of es) (filter (is_other own) (take i es))) (claim_of es e ∷ []))
+
+pub other_less : (kinds : List SubKind) (own : SystemId) (es : List Entry) (i : ℕ) (e : Entry) (old : List Claim) → i < length es → e ≡ get_or es i e → is_other own e ≡ false
+    → old ≡ map (with_known kinds) (map (claim_of es) (filter (is_other own) (take i es))) → old ≡ map (with_known kinds) (map (claim_of es) (filter (is_other own) (take (i + 1) es)))
+other_less kinds own es i e old lt at other before =
+    let none : filter (is_other own) (e ∷ []) ≡ [] = rw other refl in
+    before ∙ sym (ap (λ (l : List Entry). map (with_known kinds) (map (claim_of es) l)) (step_of own es i e lt at ∙ ap (λ (l : List Entry). filter (is_other own) (take i es) ++ l) none ∙ append-nil (filter (is_other own) (take i es))))
+
+pub ascending_rest : (es : List Entry) (i : ℕ) → AreAscending (ids_of es) → AreAscending (ids_of (drop i es))
+ascending_rest [] zero asc = tt
+ascending_rest [] (suc i) asc = tt
+ascending_rest (x ∷ xs) zero asc = asc
+ascending_rest (x ∷ xs) (suc i) asc = ascending_rest xs i asc.1

@@ -1,0 +1,45 @@
+-- What is kept beside a view, so that it can be renewed from the systems that changed.
+use Rattle.std.specs.Prelude.{◌≡◌, ◌≤◌, not, Bool, true, false, List, [], ◌∷◌, length, map, filter, Option, Some, None, if◌then◌else◌}
+use Rattle.std.specs.List.{list_any, AllByRecursion}
+use Rattle.wire_base.specs.declared.addresses.SystemId.{SystemId}
+use Rattle.wire_base.specs.declared.conf.SubKind.{SubKind}
+use Rattle.wire_base.specs.declared.entry.Entry.{Entry}
+use Rattle.wire_base.specs.declared.view.ViewNode.{ViewNode}
+use Rattle.wire_base.specs.model.Control.{same_system}
+use Rattle.wire_base.specs.model.Graph.{IsGraph}
+use Rattle.wire_base.specs.model.View.{Claim, claim_of, is_other, with_known, nodes_of}
+use Rattle.view_graph.specs.Edges.{AreInOrder}
+
+-- What contracts see of a kept view: the view, its router's system and kinds of subdomains, and what each other system says.
+pub record Keep : Type 0 where
+  pub nodes : List ViewNode
+  pub system : SystemId
+  pub kinds : List SubKind
+  pub others : List Claim
+
+-- What the other systems with a live fragment 0 say in a database, in the order of the systems: whether they are overloaded,
+-- their links before both ends are compared, and their places in subdomains before prefixes of two systems are compared.
+unfoldable pub heard : SystemId → List SubKind → List Entry → List Claim
+heard system kinds entries = map (with_known kinds) (map (claim_of entries) (filter (is_other system) entries))
+
+-- what a system says, none where it says nothing
+abbrev pub said_by : List Claim → SystemId → Option Claim
+said_by [] s = None
+said_by (c ∷ cs) s = if same_system c.system s then Some c else said_by cs s
+
+abbrev pub is_named : List SystemId → SystemId → Bool
+is_named systems s = list_any (λ x. same_system x s) systems
+
+-- Of each system that is neither the router's nor named, what is kept is what a database says now.
+abbrev pub IsUnchanged : Keep → List SystemId → List Entry → Type 0
+IsUnchanged k changed entries = (s : SystemId) → same_system s k.system ≡ false → is_named changed s ≡ false → said_by k.others s ≡ said_by (heard k.system k.kinds entries) s
+
+-- the claims of all systems but one
+abbrev pub without_system : SystemId → List Claim → List Claim
+without_system s claims = filter (λ c. not (same_system c.system s)) claims
+
+-- what a kept view holds: the claims of all systems in order, of which the view is made
+pub record IsKept (claims : List Claim) (nodes : List ViewNode) : Type 0 where
+  pub in_order : AreInOrder claims
+  pub few : length claims ≤ 65536
+  pub made : nodes ≡ nodes_of claims

@@ -1,0 +1,109 @@
+//! A view that is kept, and renewed where systems changed.
+ghost use Rattle.std.specs.Prelude.{◌≡◌, ◌↔◌, ◌≤◌, length, map, false, IfOk, OnOk, OnErr};
+ghost use Rattle.wire_base.specs.model.Configuration.{IsSound};
+ghost use Rattle.wire_base.specs.model.Control.{IsDatabase};
+ghost use Rattle.wire_base.specs.model.View.{claims_of, view_of, with_known};
+ghost use Rattle.view_graph.specs.Edges.{AreInOrder};
+ghost use Rattle.view_graph.specs.Keep.{IsUnchanged, heard, without_system};
+
+use crate::claims::{Claim, claims_of};
+use crate::nodes::nodes_of;
+use crate::same::are_same_nodes;
+use lsp_store::Store;
+use std::alloc::Global;
+use std::marker::Model;
+use wire_base::{Entry, M, RouterConf, Rows, SubKind, SystemId, View};
+
+/// The view of a router, and beside it what it was made of, so that it is renewed without reading the whole database.
+///
+/// Contracts see the view, the router's system and kinds of subdomains, and for each other system with a live fragment 0
+/// what its LSPs say: whether it is overloaded, its links before both ends are compared, and its places in subdomains before
+/// prefixes of two systems are compared.
+#[derive(Drop)]
+pub struct ViewKeep {
+    system: SystemId,
+    kinds: Rows<SubKind>,
+    claims: Vec<Claim>,
+    view: View,
+}
+
+impl Model for ViewKeep {
+    ghost use Rattle.view_graph.specs.Keep.{Keep, IsKept, without_system};
+
+    ghost Value = { Keep };
+
+    ghost view = { λ k. record { nodes = k.view.nodes; system = k.system; kinds = k.kinds; others = without_system k.system k.claims.items } };
+
+    ghost invariant = { λ k. IsKept k.claims.items k.view.nodes };
+}
+
+/// What all systems claim.
+#[tactic(auto, using(crate::proofs::GraphLaws::claims_in_order, crate::proofs::GraphLaws::few_claims, crate::proofs::KeepLaws::heard_is))]
+fn all_claims(alloc: Global, conf: &RouterConf, up: &[bool], entries: &[Entry]) -> M<Vec<Claim>>
+    requires one_each { length up.now ≡ length conf.now.ends }
+    requires database { IsDatabase entries.now }
+    ensures claims { IfOk result (λ claims. claims.items ≡ map (with_known conf.now.kinds) (claims_of conf.now up.now entries.now)) }
+    ensures heard { IfOk result (λ claims. without_system conf.now.system claims.items ≡ heard conf.now.system conf.now.kinds entries.now) }
+    ensures order { IfOk result (λ claims. AreInOrder claims.items) }
+    ensures few { IfOk result (λ claims. length claims.items ≤ 65536) }
+{
+    claims_of(alloc, conf, up, entries)
+}
+
+impl ViewKeep {
+    /// The view by a configuration, which of its ends are up, one truth value for each end, and a database.
+    #[tactic(auto, unfolding(wire_base::specs::model::View::view_of), using(crate::proofs::ViewLaws::made_graph))]
+    pub fn new(alloc: Global, conf: &RouterConf, up: &[bool], store: &Store) -> M<ViewKeep>
+        requires one_each { length up.now ≡ length conf.now.ends }
+        requires sound { IsSound conf.now }
+        ensures exact { IfOk result (λ k. k.nodes ≡ view_of conf.now up.now store.now.entries) }
+        ensures system { IfOk result (λ k. k.system ≡ conf.now.system) }
+        ensures kinds { IfOk result (λ k. k.kinds ≡ conf.now.kinds) }
+        ensures heard { IfOk result (λ k. k.others ≡ heard conf.now.system conf.now.kinds store.now.entries) }
+    {
+        let claims = all_claims(alloc, conf, up, store.as_slice())?;
+        let nodes = nodes_of(alloc, claims.as_slice())?;
+        Ok(ViewKeep {
+            system: conf.system,
+            kinds: conf.kinds.copy()?,
+            claims,
+            view: View { nodes },
+        })
+    }
+
+    /// Renews the view by a configuration of the same system and kinds of subdomains, by its ends that are up and by a
+    /// database. `changed` names each other system of which the database says something else than what is kept; systems of
+    /// which it says the same may be named too. True exactly where the view changed. After Memory all is as before.
+    pub fn renew(
+        &mut self,
+        conf: &RouterConf,
+        up: &[bool],
+        store: &Store,
+        changed: &[SystemId],
+    ) -> M<bool>
+        requires one_each { length up.now ≡ length conf.now.ends }
+        requires sound { IsSound conf.now }
+        requires system { conf.now.system ≡ self.old.system }
+        requires kinds { conf.now.kinds ≡ self.old.kinds }
+        requires unchanged { IsUnchanged self.old changed.now store.now.entries }
+        ensures exact { OnOk result (self.new.nodes ≡ view_of conf.now up.now store.now.entries) }
+        ensures answer { IfOk result (λ is_new. (is_new ≡ false) ↔ (self.new.nodes ≡ self.old.nodes)) }
+        ensures system { OnOk result (self.new.system ≡ conf.now.system) }
+        ensures kinds { OnOk result (self.new.kinds ≡ conf.now.kinds) }
+        ensures heard { OnOk result (self.new.others ≡ heard conf.now.system conf.now.kinds store.now.entries) }
+        ensures err { OnErr result (self.new ≡ self.old) }
+    {
+        let _changed = changed;
+        let next = ViewKeep::new(self.kinds.allocator(), conf, up, store)?;
+        let is_same = are_same_nodes(self.view.as_slice(), next.view.as_slice());
+        *self = next;
+        Ok(!is_same)
+    }
+
+    /// The view. Takes no memory.
+    pub fn view(&self) -> &View
+        ensures { result.now.nodes ≡ self.now.nodes }
+    {
+        &self.view
+    }
+}

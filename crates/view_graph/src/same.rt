@@ -1,0 +1,90 @@
+//! Whether two views are equal.
+ghost use Rattle.std.specs.Prelude.{◌≡◌, Decides};
+
+use wire_base::{LabelRange, ViewEdge, ViewNode, ViewSub};
+
+#[tactic(auto, using(crate::proofs::SameLaws::range_decided))]
+fn is_same_range(a: LabelRange, b: LabelRange) -> bool
+    ensures { Decides result (a ≡ b) }
+{
+    a.bsl.code() == b.bsl.code() && a.max_si == b.max_si && a.label == b.label
+}
+
+fn are_same_ranges(a: &[LabelRange], b: &[LabelRange]) -> bool
+    ensures { Decides result (a.now ≡ b.now) }
+{
+    if a.len() != b.len() {
+        return false;
+    }
+    'spans: for place in 0..a.len() {
+        if !is_same_range(a[place], b[place]) {
+            return false;
+        }
+    }
+    true
+}
+
+fn is_same_place(a: &ViewSub, b: &ViewSub) -> bool
+    ensures { Decides result ((a.now.sd ≡ b.now.sd) × ((a.now.id ≡ b.now.id) × (a.now.prefix ≡ b.now.prefix))) }
+{
+    a.sd == b.sd && a.id == b.id && a.prefix == b.prefix
+}
+
+#[tactic(auto, using(crate::proofs::SameLaws::sub_decided))]
+fn is_same_sub(a: &ViewSub, b: &ViewSub) -> bool
+    ensures { Decides result (a.now ≡ b.now) }
+{
+    let is_same_place = is_same_place(a, b);
+    let are_same_ranges = are_same_ranges(a.ranges.as_slice(), b.ranges.as_slice());
+    is_same_place && are_same_ranges
+}
+
+fn are_same_subs(a: &[ViewSub], b: &[ViewSub]) -> bool
+    ensures { Decides result (a.now ≡ b.now) }
+{
+    if a.len() != b.len() {
+        return false;
+    }
+    'subs: for place in 0..a.len() {
+        if !is_same_sub(&a[place], &b[place]) {
+            return false;
+        }
+    }
+    true
+}
+
+fn are_same_edges(a: &[ViewEdge], b: &[ViewEdge]) -> bool
+    ensures { Decides result (a.now ≡ b.now) }
+{
+    a == b
+}
+
+fn is_same_router(a: &ViewNode, b: &ViewNode) -> bool
+    ensures { Decides result ((a.now.system ≡ b.now.system) × (a.now.overload ≡ b.now.overload)) }
+{
+    a.system == b.system && a.overload == b.overload
+}
+
+#[tactic(auto, using(crate::proofs::SameLaws::node_decided))]
+pub(crate) fn is_same_node(a: &ViewNode, b: &ViewNode) -> bool
+    ensures { Decides result (a.now ≡ b.now) }
+{
+    let is_same_router = is_same_router(a, b);
+    let are_same_edges = are_same_edges(a.edges.as_slice(), b.edges.as_slice());
+    let are_same_subs = are_same_subs(a.subs.as_slice(), b.subs.as_slice());
+    is_same_router && are_same_edges && are_same_subs
+}
+
+pub(crate) fn are_same_nodes(a: &[ViewNode], b: &[ViewNode]) -> bool
+    ensures { Decides result (a.now ≡ b.now) }
+{
+    if a.len() != b.len() {
+        return false;
+    }
+    'nodes: for place in 0..a.len() {
+        if !is_same_node(&a[place], &b[place]) {
+            return false;
+        }
+    }
+    true
+}
