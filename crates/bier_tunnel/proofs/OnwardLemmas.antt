@@ -1,5 +1,5 @@
 -- Tunnels go nearer to their ends with each link.
-use Rattle.std.proofs.Common.{◌≡◌, ℕ, zero, suc, ◌+◌, ◌-◌, ◌<◌, ◌≤◌, ◌==◌, ◌⊎◌, ◌↔◌, inl, inr, Bool, true, false, List, [], ◌∷◌, length, Contains, is_some, nat_le, Option, Some, None, IfSome, option_map, option_and_then, if◌then◌else◌, slice_get, refl, ap, arith, sym, ◌∙◌, subst}
+use Rattle.std.proofs.Common.{◌≡◌, ℕ, zero, suc, ◌+◌, ◌-◌, ◌<◌, ◌≤◌, ◌==◌, ◌↔◌, inl, inr, Bool, true, false, List, [], ◌∷◌, length, Contains, is_some, nat_le, Option, Some, None, IfSome, option_map, option_and_then, if◌then◌else◌, slice_get, refl, ap, arith, sym, ◌∙◌, subst}
 use Rattle.std.specs.List.{AllByRecursion}
 use Rattle.std.specs.Str.{bytes_eq}
 use Rattle.std.proofs.lemmas.Bool.{cases_Bool, ne_eqb}
@@ -16,18 +16,17 @@ use Rattle.wire_base.specs.model.Choice.{end_toward, is_system}
 use Rattle.wire_base.specs.model.Graph.{IsGraph, edges_of}
 use Rattle.wire_base.specs.model.HopCount.{follow, tunnel_links}
 use Rattle.wire_base.specs.model.Item.{ip_frame}
-use Rattle.wire_base.specs.model.OnFrame.{Effects, dropped, forwarded, link_to, next_link, node_with, or_no_route, sent_on}
+use Rattle.wire_base.specs.model.OnFrame.{dropped, forwarded, link_to, next_link, node_with, or_no_route, sent_on}
 use Rattle.wire_base.specs.model.Tight.{IsTight, next_step}
 use Rattle.wire_base.specs.model.Tunnel.{TunnelPacket, tunnel_on}
 use Rattle.wire_base.specs.model.Walk.{dist}
-use Rattle.route_laws.specs.Nearer.{Nearer}
-use Rattle.route_laws.proofs.DescentLemmas.{IsTight-nearer, IsTight-within, dist-end, edge-within}
+use Rattle.route_laws.proofs.DescentLemmas.{IsTight-nearer, dist-end, edge-within}
 use Rattle.route_laws.proofs.RouteLemmas.{next_step-some, next_step-tight, tunnel_links-some}
 use Rattle.route_laws.proofs.WalkLemmas.{Contains-cases}
 use Rattle.gre_ip.specs.declared.tunnel.Tunnel.{Tunnel}
 use Rattle.bier_tunnel.specs.declared.next.Next.{Next}
 use Rattle.bier_tunnel.specs.declared.next.Next.TheVariants.{Leave, Outer, Route}
-use Rattle.bier_tunnel.specs.Onward.{GoesOver, IsNoWay, IsNoWayTo, LeadsOver, LeadsToEnds, passed_on}
+use Rattle.bier_tunnel.specs.Onward.{GoesOver, IsNoWay, IsNoWayTo, Lasts, LeadsOver, LeadsToEnds, passed_on}
 use Rattle.bier_tunnel.specs.Ways.{next_of, next_on}
 
 -- ---- ends
@@ -123,6 +122,11 @@ module _ (g : List ViewNode) (good : IsGraph g) (u : ℕ) (node : u < length g) 
   pub result-over : (r : RouterConf) (x : ℕ) (o : Option ℕ) → o ≡ next_link r g u x → IfSome o (LeadsOver r g u x)
   result-over r x None q = tt
   result-over r x (Some link) q = leads-over r x link (sym q)
+
+  -- few nodes have few links between them
+  pub result-lasts : (r : RouterConf) (x : ℕ) (o : Option ℕ) → length g ≤ 250 → o ≡ next_link r g u x → IfSome o (λ link. Lasts g u x)
+  result-lasts r x None few q = tt
+  result-lasts r x (Some link) few q = let over = leads-over r x link (sym q) in record { links = over.left + 1; are = over.here; few = omega (arith, few, over.few) }
 
   -- ---- no way
 

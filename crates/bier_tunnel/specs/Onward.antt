@@ -1,5 +1,5 @@
 -- Where a tunnel goes on from a router, and what the router does with its packet.
-use Rattle.std.specs.Prelude.{◌≡◌, ℕ, ◌+◌, ◌<◌, ◌⊎◌, true, List, length, is_some, Option, Some, None}
+use Rattle.std.specs.Prelude.{◌≡◌, ℕ, ◌+◌, ◌<◌, ◌≤◌, ◌⊎◌, true, List, length, is_some, Option, Some, None}
 use Rattle.std.specs.List.{AllByRecursion}
 use Rattle.wire_base.specs.declared.cause.Cause.TheVariants as cause
 use Rattle.wire_base.specs.declared.conf.RouterConf.{RouterConf}
@@ -39,6 +39,12 @@ pub record LeadsOver (r : RouterConf) (g : List ViewNode) (u x link : ℕ) : Typ
   pub here : tunnel_links g x u ≡ Some (left + 1)
   pub there : tunnel_links g x next ≡ Some left
   pub few : left + 1 < length g
+
+-- A tunnel from u to x has fewer links than an outer TTL of 255 covers: at most 249 where there are at most 250 routers.
+pub record Lasts (g : List ViewNode) (u x : ℕ) : Type 0 where
+  pub links : ℕ
+  pub are : tunnel_links g x u ≡ Some links
+  pub few : links ≤ 249
 
 -- what goes on over a link
 abbrev pub GoesOver : (ℕ → Type 0) → Next → Type 0

@@ -2,13 +2,14 @@
 ghost use Rattle.std.specs.Prelude.{◌≡◌, ◌≤◌, ◌<◌, ◌↔◌, ℕ, List, None, false, IfOk, IfSome, length, option_and_then, option_map};
 ghost use Rattle.std.specs.Str.{bytes_eq};
 ghost use Rattle.wire_base.specs.declared.conf.RouterConf.{RouterConf};
+ghost use Rattle.wire_base.specs.declared.limits.TheConstants.{MOST_ROUTERS};
 ghost use Rattle.wire_base.specs.declared.view.ViewNode.{ViewNode};
 ghost use Rattle.wire_base.specs.model.Control.{Control};
 ghost use Rattle.wire_base.specs.model.OnFrame.{in_transit, next_link, node_place, node_with, prefix_of};
 ghost use Rattle.wire_base.specs.model.Tunnel.{TunnelPacket};
 ghost use Rattle.wire_base.specs.model.View.{control_view};
 ghost use Rattle.bier_tunnel.specs.declared.next.Next.TheVariants.{Leave, Outer, Route};
-ghost use Rattle.bier_tunnel.specs.Onward.{GoesOver, IsNoWay, IsNoWayTo, LeadsOver, LeadsToEnds, passed_on};
+ghost use Rattle.bier_tunnel.specs.Onward.{GoesOver, IsNoWay, IsNoWayTo, Lasts, LeadsOver, LeadsToEnds, passed_on};
 ghost use Rattle.bier_tunnel.specs.Ways.{AreWays, link_to, link_with, next_of, prefix_to, way_of};
 
 use crate::first_steps::first_steps;
@@ -59,6 +60,8 @@ impl Fib {
             → result ≡ next_link r g u (node_place g target) }
         ensures onward { (r : RouterConf) (g : List ViewNode) (u : ℕ) → AreWays r g u self.now
             → IfSome result (LeadsOver r g u (node_place g target)) }
+        ensures lasts { (r : RouterConf) (g : List ViewNode) (u : ℕ) → AreWays r g u self.now → length g ≤ MOST_ROUTERS
+            → IfSome result (λ link. Lasts g u (node_place g target)) }
         ensures within { (r : RouterConf) (g : List ViewNode) (u : ℕ) → AreWays r g u self.now
             → IfSome result (λ link. link < length r.ends) }
         ensures none { (r : RouterConf) (g : List ViewNode) (u : ℕ) → AreWays r g u self.now → LeadsToEnds r g u

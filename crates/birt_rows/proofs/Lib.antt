@@ -1,3 +1,4 @@
+mod DescentLaws
 mod EntryLemmas
 mod OwnerLemmas
 mod RowLemmas

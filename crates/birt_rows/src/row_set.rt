@@ -1,8 +1,10 @@
 ghost use Rattle.std.specs.Prelude.{◌≡◌, ◌<◌, ◌≤◌, ◌+◌, ◌-◌, ℕ, Bool, true, false, [], List, IfOk, length, slice_index_or, filter, map};
+ghost use Rattle.std.specs.List.{AllByRecursion};
 ghost use Rattle.wire_base.specs.model.Place.{bits_of, id_at};
 ghost use Rattle.wire_base.specs.model.Graph.{covers_at};
 ghost use Rattle.wire_base.specs.model.Choice.{row};
 ghost use Rattle.birt_rows.specs.declared.owner.Found.TheVariants.{Nobody};
+ghost use Rattle.birt_rows.specs.Descent.{ComesNearer};
 ghost use Rattle.birt_rows.specs.Owner.{owner_among};
 ghost use Rattle.birt_rows.specs.Rows.{beyond, row_of_owner};
 
@@ -16,11 +18,14 @@ use wire_base::{First, M, RouterConf, RowSet, Rows, Triple, View, ViewNode};
 /// the first supporting routers on shortest walks toward the one owner of the position's BFR-id (RFC 8279, 6.9). A row is
 /// empty where the id has no owner or several, where the owner doesn't support the triple or is `u`, and where no walk leads
 /// there. `u` is the node of the configuration `conf`.
+///
+/// Each router of a row is nearer to the owner, and has a row for the bit itself unless it is the owner (RFC 8279, 6.5).
 pub fn rows(alloc: Global, v: &View, conf: &RouterConf, u: u16, t: Triple) -> M<RowSet>
     requires ends { length conf.now.ends ≤ 65536 }
     requires node { u < length v.now.nodes }
     ensures bits { IfOk result (λ set. length set.bits ≡ bits_of t.bsl) }
     ensures rows { IfOk result (λ set. (p : ℕ) → 0 < p → p ≤ bits_of t.bsl → slice_index_or set.bits (p - 1) [] ≡ row conf.now.kinds conf.now.table conf.now.ends v.now.nodes t u p) }
+    ensures descent { IfOk result (λ set. (p : ℕ) → 0 < p → p ≤ bits_of t.bsl → AllByRecursion (ComesNearer conf.now v.now.nodes t u p) (slice_index_or set.bits (p - 1) [])) }
 {
     let nodes = v.as_slice();
     let dist = distances_from(alloc, v, u)?;

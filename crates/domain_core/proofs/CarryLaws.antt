@@ -6,9 +6,8 @@ use Rattle.wire_base.specs.declared.bsl.Bsl.{Bsl}
 use Rattle.wire_base.specs.model.Control.{Control}
 use Rattle.wire_base.specs.model.Flooding.{on_pdu, send}
 use Rattle.wire_base.specs.model.Ingress.{edge_fault, inject}
-use Rattle.wire_base.specs.model.Item.{Item, ControlItem, PacketItem, DataItem, Outer}
+use Rattle.wire_base.specs.model.Item.{Item, ControlItem, PacketItem, Outer}
 use Rattle.wire_base.specs.model.OnFrame.{Effects, Next, Packet, framed, on_frame}
-use Rattle.wire_base.specs.model.Pdu.{Pdu}
 use Rattle.router_core.specs.State.{RouterState}
 use Rattle.domain_core.specs.declared.flight.Flight.{Flight}
 use Rattle.domain_core.specs.declared.flight.Note.{Note}

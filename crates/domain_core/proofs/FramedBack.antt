@@ -4,7 +4,6 @@ use mathlib.Core.Bool.{false≢true}
 use Rattle.std.specs.List.{AllByRecursion}
 use Rattle.wire_base.specs.declared.conf.End.{End}
 use Rattle.wire_base.specs.declared.conf.RouterConf.{RouterConf}
-use Rattle.wire_base.specs.declared.effects.Sent.{Sent}
 use Rattle.wire_base.specs.model.Item.{Item, frame_of}
 use Rattle.wire_base.specs.model.OnFrame.{Effects}
 use Rattle.domain_core.specs.declared.step_out.WireFrame.{WireFrame}

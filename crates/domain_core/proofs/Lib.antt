@@ -1,4 +1,5 @@
 pub mod CarryLaws
+pub mod CourseStep
 pub mod EventLaws
 pub mod FlightLaws
 pub mod FramedBack

@@ -1,5 +1,5 @@
 -- The item of a frame is read off it again.
-use Rattle.std.proofs.Common.{◌≡◌, ℕ, zero, suc, ◌<◌, ◌/◌, List, [], ◌∷◌, length, drop, slice_get, Option, Some, None, Result, Ok, refl, sym, ap, ◌∙◌, arith}
+use Rattle.std.proofs.Common.{◌≡◌, ℕ, zero, suc, ◌<◌, ◌/◌, List, [], ◌∷◌, length, drop, slice_get, Option, Some, None, Result, Ok, refl, ap, ◌∙◌, arith}
 use Rattle.byteorder.specs.Endian.{big_number}
 use Rattle.wire_base.specs.declared.addresses.Mac.{Mac}
 use Rattle.wire_base.specs.declared.cause.Cause.{Cause}
@@ -9,7 +9,6 @@ use Rattle.wire_base.specs.declared.conf.Kind.TheVariants.{Mpls, Configured}
 use Rattle.wire_base.specs.declared.conf.Level.{Level}
 use Rattle.wire_base.specs.declared.conf.RouterConf.{RouterConf}
 use Rattle.wire_base.specs.declared.faults.FrameFault.{FrameFault}
-use Rattle.wire_base.specs.declared.faults.IpFault.{IpFault}
 use Rattle.wire_base.specs.declared.faults.PduFault.{PduFault}
 use Rattle.wire_base.specs.model.BierHeader.{header_length}
 use Rattle.wire_base.specs.model.Configuration.{DomainConf, IsValid}
@@ -18,7 +17,6 @@ use Rattle.wire_base.specs.model.Item.{ControlItem, PacketItem, DataItem, Outer,
 use Rattle.wire_base.specs.model.OnFrame.{Packet}
 use Rattle.wire_base.specs.model.Pdu.{Pdu, pdu, pdu_at}
 use Rattle.wire_base.specs.model.Place.{means}
-use Rattle.wire_base.specs.model.Tunnel.{TunnelPacket}
 use Rattle.item_laws.specs.Fits.{IsSendable, ItemFits, OuterFits}
 use Rattle.item_laws.proofs.ControlFrames.{isis_carries, sendable_reads, sendable_short}
 use Rattle.item_laws.proofs.PacketFrames.{ids_again, item_header_reads, payload_after, head_reads, carried_by, copy_carries, tunnel_back}
@@ -26,7 +24,7 @@ use Rattle.bier_forward.specs.Packets.{packet_at}
 use Rattle.domain_model.specs.Moves.{packet_of}
 use Rattle.domain_model.specs.Truth.{IsAmong, MeansAt, router_at}
 use Rattle.domain_model.proofs.DomainLaws.{alike}
-use Rattle.domain_core.specs.Read.{pdu_or_hello, pdu_carried, level_at, level_of, pdu_in, packet_or_none, packet_read, tunnel_carried, packet_carried, packet_in, outer_or_none, outer_carried, outer_in, copy_read, copy_in, item_in}
+use Rattle.domain_core.specs.Read.{pdu_or_hello, pdu_carried, level_at, level_of, packet_or_none, packet_read, tunnel_carried, packet_carried, packet_in, outer_or_none, outer_carried, outer_in, copy_read, copy_in, item_in}
 
 -- ---- PDUs
 

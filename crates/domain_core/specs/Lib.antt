@@ -1,4 +1,5 @@
 pub mod Answers
+pub mod Course
 pub mod Flights
 pub mod Framed
 pub mod Held

@@ -3,6 +3,7 @@ ghost use Rattle.std.specs.Prelude.{◌≡◌, ◌<◌, length, map, slice_get, 
 ghost use Rattle.std.specs.List.{AllByRecursion};
 ghost use Rattle.domain_core.specs.Answers.{IsShortFrame, Refuses, Stays, StaysAt, told};
 ghost use Rattle.domain_model.specs.Faults.{event_fault};
+ghost use Rattle.domain_core.specs.Course.{KeepsCourse};
 ghost use Rattle.domain_core.specs.Ledger.{KeepsLedger};
 ghost use Rattle.domain_core.specs.Network.{heard_after};
 ghost use Rattle.domain_model.specs.Step.{happens};
@@ -59,7 +60,8 @@ impl World {
     /// arrives at an end that is up is taken by a router.
     ///
     /// Each BFR-id of a packet that is on the way before the event, or enters by it, is afterwards in one copy, one delivery or
-    /// one drop (RFC 8279, 6.5).
+    /// one drop (RFC 8279, 6.5). While views agree, a copy for a BFR-id that is reachable over a path that its TTL covers is on a
+    /// shortest way to the id's owner, and no event drops it but one that loses it (RFC 8279, 6.9).
     pub fn step(&mut self, event: &Event) -> Result<StepOut, EventFault>
         requires { EventFits (length self.old.world.domain.routers) event.now }
         ensures refused { MatchResult result (λ _. event_fault self.old.world event.now ≡ None) (λ e. Refuses (event_fault self.old.world event.now) e) }
@@ -68,6 +70,7 @@ impl World {
         ensures drops { IfOk result (λ out. AreWorldDrops out.drops) }
         ensures short { IfOk result (λ out. AllByRecursion IsShortFrame out.sent) }
         ensures ledger { IfOk result (λ out. KeepsLedger self.old.world self.new.world event.now out) }
+        ensures course { IfOk result (λ out. KeepsCourse self.old.world self.new.world event.now out) }
         ensures heard { OnOk result (self.new.heard ≡ heard_after self.old.world self.old.heard event.now) }
         ensures stays { IfErr result (λ e. Stays (self.new ≡ self.old) e) }
         ensures whole { OnErr result (StaysAt (self.new ≡ self.old) event.now) }

@@ -1,4 +1,4 @@
-use Rattle.bier_tunnel.proofs.OnwardLemmas.{in-transit, leads-over, link-within, no-way}
+use Rattle.bier_tunnel.proofs.OnwardLemmas.{leads-over, link-within, no-way}
 use Rattle.bier_tunnel.proofs.laws.tunnel_ways.Goals as goal
 
 pub returns-clause-onward : goal.returns-clause-onward

@@ -1,11 +1,8 @@
-use Rattle.std.proofs.Common.{◌≡◌, ◌∙◌, ◌<◌, ◌↔◌, ℕ, List, Option, None, length, subst, sym}
-use Rattle.wire_base.specs.declared.conf.RouterConf.{RouterConf}
-use Rattle.wire_base.specs.declared.view.ViewNode.{ViewNode}
-use Rattle.wire_base.specs.model.OnFrame.{next_link, node_place}
+use Rattle.std.proofs.Common.{◌≡◌, ◌∙◌, ◌↔◌, ℕ, Option, None, subst, sym}
+use Rattle.wire_base.specs.model.OnFrame.{node_place}
 use Rattle.bier_tunnel.specs.Onward.{IsNoWay}
-use Rattle.bier_tunnel.specs.Ways.{AreWays}
 use Rattle.bier_tunnel.proofs.WayLemmas.{link-is}
-use Rattle.bier_tunnel.proofs.OnwardLemmas.{result-over, result-within, no-way}
+use Rattle.bier_tunnel.proofs.OnwardLemmas.{result-lasts, result-over, result-within, no-way}
 use Rattle.bier_tunnel.proofs.fib.Fib.next_link.Goals as goal
 
 pub returns-clause-link : goal.returns-clause-link
@@ -14,6 +11,10 @@ returns-clause-link c r g u are = c.link_to.ensures ∙ link-is r g u c.args.sel
 pub returns-clause-onward : goal.returns-clause-onward
 returns-clause-onward c r g u are =
     result-over g are.graph u are.within r (node_place g c.args.target) c.link_to.result (c.link_to.ensures ∙ link-is r g u c.args.self.now are c.args.target)
+
+pub returns-clause-lasts : goal.returns-clause-lasts
+returns-clause-lasts c r g u are few =
+    result-lasts g are.graph u are.within r (node_place g c.args.target) c.link_to.result few (c.link_to.ensures ∙ link-is r g u c.args.self.now are c.args.target)
 
 pub returns-clause-within : goal.returns-clause-within
 returns-clause-within c r g u are =

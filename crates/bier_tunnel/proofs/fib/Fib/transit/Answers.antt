@@ -1,4 +1,4 @@
-use Rattle.std.proofs.Common.{◌≡◌, ◌<◌, ℕ, length, option_and_then, subst, sym, ap, ◌∙◌}
+use Rattle.std.proofs.Common.{◌<◌, length, option_and_then, subst, sym, ap, ◌∙◌}
 use Rattle.wire_base.specs.model.OnFrame.{next_link, node_place, node_with}
 use Rattle.wire_base.specs.model.View.{control_view}
 use Rattle.bier_tunnel.specs.declared.next.Next.{Next}

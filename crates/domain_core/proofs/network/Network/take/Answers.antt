@@ -16,7 +16,7 @@ use Rattle.domain_model.specs.World.{WorldState, is_up, queue_over}
 use Rattle.domain_core.proofs.CarryLaws.{set_same, cut_short, is_short, left_frames, left_world, arrival, taken_done}
 use Rattle.domain_core.proofs.RefusalLaws.{toward, link_within}
 use Rattle.domain_core.proofs.SeenLaws.{none_seen_at, some_seen_at, frames_left}
-use Rattle.domain_core.proofs.TransitLaws.{gone_world, lost_world, lost_told, same_frames, none_taken, down_taken, up_taken, unheard, none_heard, one_heard}
+use Rattle.domain_core.proofs.TransitLaws.{gone_world, lost_world, lost_told, same_frames, none_taken, down_taken, unheard, none_heard, one_heard}
 use Rattle.domain_core.proofs.TurnLaws.{on_err, router_there, nothing_told, control_at, same_heard, counted_heard}
 use Rattle.domain_core.proofs.network.Network.take.Goals as goal
 

@@ -1,9 +1,11 @@
 use Rattle.std.proofs.Common.{◌∙◌, length, IfOk, sym, ap, subst}
 use Rattle.domain_model.specs.Faults.{event_fault}
+use Rattle.domain_core.specs.Course.{KeepsCourse}
 use Rattle.domain_core.specs.Held.{world_in}
 use Rattle.domain_core.specs.Ledger.{KeepsLedger}
 use Rattle.domain_core.specs.Network.{Seen}
 use Rattle.domain_model.specs.Truth.{EventFits}
+use Rattle.domain_core.proofs.CourseStep.{step_course}
 use Rattle.domain_core.proofs.EventLaws.{early_is, refuses_first}
 use Rattle.domain_core.proofs.LedgerStep.{step_keeps}
 use Rattle.domain_core.proofs.ShortLaws.{step_short}
@@ -23,4 +25,10 @@ pub returns-clause-ledger : goal.returns-clause-ledger
 returns-clause-ledger c =
     subst (λ (s : Seen). IfOk c.carry_out.result (λ out. KeepsLedger s.world (world_in c.carry_out.new.self) c.args.event.now out)) c.self.view_is
     (step_keeps c.carry_out.result (world_in c.self.inside.network) (world_in c.carry_out.new.self) c.self.invariant.truth c.args.event.now
+    (subst (λ (s : Seen). EventFits (length s.world.domain.routers) c.args.event.now) (sym c.self.view_is) c.requires) c.carry_out.ensures.refused c.carry_out.ensures.world c.carry_out.ensures.told)
+
+pub returns-clause-course : goal.returns-clause-course
+returns-clause-course c =
+    subst (λ (s : Seen). IfOk c.carry_out.result (λ out. KeepsCourse s.world (world_in c.carry_out.new.self) c.args.event.now out)) c.self.view_is
+    (step_course c.carry_out.result (world_in c.self.inside.network) (world_in c.carry_out.new.self) c.self.invariant.truth c.args.event.now
     (subst (λ (s : Seen). EventFits (length s.world.domain.routers) c.args.event.now) (sym c.self.view_is) c.requires) c.carry_out.ensures.refused c.carry_out.ensures.world c.carry_out.ensures.told)
