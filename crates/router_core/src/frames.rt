@@ -45,12 +45,7 @@ impl Control {
     }
 
     /// A tunnel packet that was read: where it ends here, its inside is a packet that came without a tunnel; else it goes on.
-    fn take_tunnel(
-        &self,
-        kept: &mut Option<Kept>,
-        octets: &[u8],
-        tunnel: &Tunnel,
-    ) -> M<Effects>
+    fn take_tunnel(&self, kept: &mut Option<Kept>, octets: &[u8], tunnel: &Tunnel) -> M<Effects>
         requires short { length octets.now ≤ MOST_FRAME }
         requires places { HasTunnel octets.now tunnel.now }
         requires kept { MayKeep self.now kept.old }
@@ -116,12 +111,7 @@ impl Control {
 
     /// A frame that came on a link; or all is as it was.
     #[tactic(auto, unfolding(wire_base::specs::model::OnFrame::on_frame))]
-    pub(crate) fn frame(
-        &mut self,
-        kept: &mut Option<Kept>,
-        link: u16,
-        bytes: &[u8],
-    ) -> M<Effects>
+    pub(crate) fn frame(&mut self, kept: &mut Option<Kept>, link: u16, bytes: &[u8]) -> M<Effects>
         requires short { length bytes.now ≤ MOST_FRAME }
         requires kept { MayKeep self.old kept.old }
         ensures next { IfOk result (λ e. record { control = self.new; effects = e } ≡ on_frame self.old link bytes.now) }

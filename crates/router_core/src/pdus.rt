@@ -117,12 +117,7 @@ impl Control {
     }
 
     /// A PDU; hellos and other types are passed over. Or all is as it was.
-    fn take_pdu(
-        &mut self,
-        kept: &mut Option<Kept>,
-        link: u16,
-        pdu: Pdu<'_>,
-    ) -> M<Effects>
+    fn take_pdu(&mut self, kept: &mut Option<Kept>, link: u16, pdu: Pdu<'_>) -> M<Effects>
         requires up { is_up self.old link ≡ true }
         requires short { HasRoom (pdu_of pdu) }
         requires kept { MayKeep self.old kept.old }
@@ -153,12 +148,7 @@ impl Control {
     }
 
     /// The octets of a PDU, as a frame of IS-IS carries them; or all is as it was.
-    pub(crate) fn on_pdu(
-        &mut self,
-        kept: &mut Option<Kept>,
-        link: u16,
-        octets: &[u8],
-    ) -> M<Effects>
+    pub(crate) fn on_pdu(&mut self, kept: &mut Option<Kept>, link: u16, octets: &[u8]) -> M<Effects>
         requires up { is_up self.old link ≡ true }
         requires short { length octets.now ≤ 1497 }
         requires kept { MayKeep self.old kept.old }
