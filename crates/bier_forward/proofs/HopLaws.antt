@@ -15,10 +15,10 @@ use Rattle.bier_bits.specs.Any.{bsl_of, positions_of}
 use Rattle.bier_head.specs.declared.header.Header.{Header}
 use Rattle.bier_head.specs.Views.{header_of}
 use Rattle.bift_table.specs.Bift.{member_at, router_at}
-use Rattle.bier_forward.specs.Hops.{AreNext, AreRows, after, given, over_ids, own_position, place_of}
+use Rattle.bier_forward.specs.Hops.{AreRows, after, given, over_ids, own_position, place_of}
 use Rattle.bier_forward.specs.Packets.{LeadsToEnds, hopped}
 use Rattle.bier_forward.proofs.ImageLaws.{hop-image}
-use Rattle.bier_forward.proofs.TableLaws.{table-chosen, table-next}
+use Rattle.bier_forward.proofs.TableLaws.{table-chosen}
 
 done-over : (f : Outcome → Effects) (h : Outcome → Outcome) (os : List Outcome) → map f (map h os) ≡ map (λ o. f (h o)) os
 done-over f h [] = refl
@@ -38,10 +38,6 @@ hopped-is r g p ttl rows table ps graph ends are at set within =
     ∙ ap (λ (qs : List ℕ). hop (own_id r p.triple.sd) (choice_of r g u p) (map (id_at p.triple) qs) ttl) set))
 
 -- The same where the class has another name in the code.
-
-pub over-next : (r : RouterConf) (g : List ViewNode) (p : Packet) (class : ℕ) (rows : List (List First)) (table : List (Option First)) (size : ℕ) → IsGraph g → LeadsToEnds r g
-    → length rows ≡ size → bits_of p.triple.bsl ≡ size → AreRows r g p.triple rows → ((q : ℕ) → 1 ≤ q → router_at table q ≡ member_at class (get_or rows (q - 1) [])) → AreNext r g table
-over-next r g p class rows table size graph ends long bits are at = table-next r g p.triple class rows table graph ends (long ∙ sym bits) are at
 
 pub over-is : (r : RouterConf) (g : List ViewNode) (p : Packet) (ttl class : ℕ) (rows : List (List First)) (table : List (Option First)) (ps : List ℕ) (size : ℕ) → IsGraph g → LeadsToEnds r g → class ≡ class_of p
     → bits_of p.triple.bsl ≡ size → AreRows r g p.triple rows → ((q : ℕ) → 1 ≤ q → router_at table q ≡ member_at class (get_or rows (q - 1) []))

@@ -6,6 +6,7 @@ pub mod HopLaws
 pub mod IdLaws
 pub mod ImageLaws
 pub mod JoinLaws
+pub mod KeptLaws
 pub mod OnwardLaws
 pub mod OwnEdges
 pub mod ReadLaws

@@ -1,4 +1,5 @@
 pub mod Hops
+pub mod Kept
 pub mod Packets
 pub mod Sets
 pub mod Tunnels

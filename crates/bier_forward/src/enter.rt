@@ -1,5 +1,5 @@
 //! Packets that enter the domain at a router.
-ghost use Rattle.std.specs.Prelude.{◌≡◌, ◌<◌, ◌≤◌, ◌^◌, IfOk, List, ℕ, length, map};
+ghost use Rattle.std.specs.Prelude.{◌≡◌, ◌<◌, ◌≤◌, ◌^◌, IfOk, OnOk, List, ℕ, length, map};
 ghost use Rattle.std.specs.List.{AllByRecursion};
 ghost use Rattle.wire_base.specs.declared.bsl.Bsl.{Bsl};
 ghost use Rattle.wire_base.specs.model.Configuration.{IsSound};
@@ -7,12 +7,14 @@ ghost use Rattle.wire_base.specs.model.Control.{Control};
 ghost use Rattle.wire_base.specs.model.Ingress.{inject, packets_for};
 ghost use Rattle.wire_base.specs.model.View.{control_view};
 ghost use Rattle.bfr_edge.specs.Entry.{placed, positions_in};
+ghost use Rattle.bier_forward.specs.Kept.{AreRoutes};
 ghost use Rattle.bier_forward.specs.Packets.{LeadsToEnds, entered, entering_with};
 ghost use Rattle.bier_forward.specs.Sets.{HasLength};
 
 use crate::effects::Effects;
 use crate::forward::{hop_onto, own_id};
 use crate::incoming::Incoming;
+use crate::routes::Routes;
 use bfr_edge::{Packet, head_of};
 use std::alloc::Global;
 use wire_base::limits::MOST_PAYLOAD;
@@ -24,6 +26,7 @@ pub fn enter_packets(
     alloc: Global,
     conf: &RouterConf,
     view: &View,
+    routes: &mut Routes,
     packets: &[Packet],
     ttl: u8,
     entropy: u32,
@@ -31,17 +34,26 @@ pub fn enter_packets(
 ) -> M<Effects>
     requires sound { IsSound conf.now }
     requires ends { LeadsToEnds conf.now view.now.nodes }
+    requires kept { AreRoutes conf.now view.now.nodes routes.old }
     requires lengths { AllByRecursion HasLength packets.now }
     requires entropy { entropy < 2 ^ 20 }
     requires payload { length payload.now ≤ MOST_PAYLOAD }
     ensures exact { IfOk result (λ e. e ≡ entered conf.now view.now.nodes ttl entropy payload.now (map positions_in packets.now)) }
     ensures injected { IfOk result (λ e. (c : Control) (sd : ℕ) (bsl : Bsl) (ids : List ℕ) → c.conf ≡ conf.now → control_view c ≡ view.now.nodes
         → map positions_in packets.now ≡ map placed (packets_for sd bsl ids) → e ≡ inject c sd bsl ids ttl entropy payload.now) }
+    ensures kept { OnOk result (AreRoutes conf.now view.now.nodes routes.new) }
 {
     let mut effects = Effects::nothing(alloc);
     for packet in packets {
         let incoming = entering(conf, packet, ttl, entropy, payload);
-        hop_onto(conf, view, &incoming, u16::from(ttl) + 1, &mut effects)?;
+        hop_onto(
+            conf,
+            view,
+            routes,
+            &incoming,
+            u16::from(ttl) + 1,
+            &mut effects,
+        )?;
     }
     Ok(effects)
 }

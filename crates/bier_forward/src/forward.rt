@@ -8,42 +8,49 @@ ghost use Rattle.wire_base.specs.model.Place.{bits_of, id_at, id_of, sub_in};
 ghost use Rattle.bier_bits.specs.Sets.{is_width};
 ghost use Rattle.bift_table.specs.Bift.{router_at};
 ghost use Rattle.bier_hop.specs.Outcomes.{IsOwn};
-ghost use Rattle.bier_forward.specs.Hops.{AreNext, AreRows, after, given, own_position, place_of};
+ghost use Rattle.bier_forward.specs.Hops.{AreNext, after, given, own_position, place_of};
+ghost use Rattle.bier_forward.specs.Kept.{AreRoutes, HasTable, LeadsAs};
 ghost use Rattle.bier_forward.specs.Packets.{IsShort, LeadsToEnds, hopped};
+ghost use Rattle.bier_forward.specs.Tunnels.{IsBuilt};
 
 use crate::effects::Effects;
 use crate::incoming::Incoming;
 use crate::outcome::give;
-use crate::table_rows::table_rows;
+use crate::routes::Routes;
 use bier_bits::{AnyBits, BitString};
 use bier_hop::Hop;
-use bift_table::Table;
+use bier_tunnel::Fib;
+use bift_table::{AnyTable, Table};
 use std::alloc::Global;
 use std::marker::Brand;
 use std::sync::ledger::{Blank, Ledger};
-use wire_base::{M, OwnSub, RouterConf, RowSet, Steps, Triple, View};
+use wire_base::{M, OwnSub, RouterConf, Steps, Triple, View};
 
 /// What a router does with a packet that has a TTL of at most 256, by a view of its domain (RFC 8279, 6.5): it delivers the
 /// payload where its own BFR-id is among the packet's, sends one copy to each router to which others lead, and drops those
 /// whose TTL has ended or that lead nowhere. A copy is the packet with the BIFT-id of that router, a TTL one lower and the
 /// positions that lead to it; all else, and the octets after the header, are as they came. A copy to a router that no link
 /// leads to directly goes in a tunnel to its BFR-prefix (RFC 8279, 6.9; RFC 2784); the positions of one that has no
-/// prefix in the subdomain are dropped.
+/// prefix in the subdomain are dropped. The rows, tables and ways that it needs of the view are kept, and made where they
+/// aren't yet.
 pub fn hop_packet(
     alloc: Global,
     conf: &RouterConf,
     view: &View,
+    routes: &mut Routes,
     packet: &Incoming<'_>,
     ttl: u16,
 ) -> M<Effects>
     requires sound { IsSound conf.now }
     requires ends { LeadsToEnds conf.now view.now.nodes }
+    requires kept { AreRoutes conf.now view.now.nodes routes.old }
     requires short { IsShort packet.now }
     requires ttl { ttl ≤ 256 }
-    ensures { IfOk result (λ e. e ≡ hopped conf.now view.now.nodes packet.now ttl) }
+    ensures effects { IfOk result (λ e. e ≡ hopped conf.now view.now.nodes packet.now ttl) }
+    ensures kept { OnOk result (AreRoutes conf.now view.now.nodes routes.new) }
 {
     let mut effects = Effects::nothing(alloc);
-    hop_onto(conf, view, packet, ttl, &mut effects)?;
+    hop_onto(conf, view, routes, packet, ttl, &mut effects)?;
     Ok(effects)
 }
 
@@ -51,23 +58,27 @@ pub fn hop_packet(
 pub(crate) fn hop_onto(
     conf: &RouterConf,
     view: &View,
+    routes: &mut Routes,
     packet: &Incoming<'_>,
     ttl: u16,
     effects: &mut Effects,
 ) -> M<()>
     requires sound { IsSound conf.now }
     requires ends { LeadsToEnds conf.now view.now.nodes }
+    requires kept { AreRoutes conf.now view.now.nodes routes.old }
     requires short { IsShort packet.now }
     requires ttl { ttl ≤ 256 }
-    ensures { OnOk result (effects.new ≡ after effects.old (hopped conf.now view.now.nodes packet.now ttl)) }
+    ensures effects { OnOk result (effects.new ≡ after effects.old (hopped conf.now view.now.nodes packet.now ttl)) }
+    ensures kept { OnOk result (AreRoutes conf.now view.now.nodes routes.new) }
 {
-    hop_counted::<Brand>(conf, view, packet, ttl, Blank::new(1), effects)
+    hop_counted::<Brand>(conf, view, routes, packet, ttl, Blank::new(1), effects)
 }
 
 /// The same, with a ledger for the steps over the table, which nobody reads.
 fn hop_counted<L: Ledger>(
     conf: &RouterConf,
     view: &View,
+    routes: &mut Routes,
     packet: &Incoming<'_>,
     ttl: u16,
     blank: Blank,
@@ -78,22 +89,34 @@ fn hop_counted<L: Ledger>(
     requires some { 0 < blank.parts }
     requires sound { IsSound conf.now }
     requires ends { LeadsToEnds conf.now view.now.nodes }
+    requires kept { AreRoutes conf.now view.now.nodes routes.old }
     requires short { IsShort packet.now }
     requires ttl { ttl ≤ 256 }
-    ensures { OnOk result (effects.new ≡ after effects.old (hopped conf.now view.now.nodes packet.now ttl)) }
+    ensures effects { OnOk result (effects.new ≡ after effects.old (hopped conf.now view.now.nodes packet.now ttl)) }
+    ensures kept { OnOk result (AreRoutes conf.now view.now.nodes routes.new) }
 {
-    let rows = table_rows(effects.allocator(), conf, view, packet.triple)?;
+    let place = routes.keep_table(conf, view, packet.triple, class_of(packet))?;
     let mut steps = Steps::<L>::new(blank);
-    hop_by_width(conf, view, packet, &rows, ttl, &mut steps, effects)
+    hop_by_width(
+        conf,
+        view,
+        packet,
+        &routes.tables[place].table,
+        ttl,
+        &mut routes.fib,
+        &mut steps,
+        effects,
+    )
 }
 
-/// The hop at the width of the packet's BitString.
+/// The hop at the width of the packet's BitString, which is that of its table.
 fn hop_by_width<L: Ledger>(
     conf: &RouterConf,
     view: &View,
     packet: &Incoming<'_>,
-    rows: &RowSet,
+    table: &AnyTable,
     ttl: u16,
+    fib: &mut Option<Fib>,
     steps: &mut Steps<L>,
     effects: &mut Effects,
 ) -> M<()>
@@ -101,18 +124,54 @@ fn hop_by_width<L: Ledger>(
     requires ends { LeadsToEnds conf.now view.now.nodes }
     requires short { IsShort packet.now }
     requires ttl { ttl ≤ 256 }
-    requires lists { length rows.now.bits ≡ bits_of packet.now.triple.bsl }
-    requires rows { AreRows conf.now view.now.nodes packet.now.triple rows.now.bits }
-    ensures { OnOk result (effects.new ≡ after effects.old (hopped conf.now view.now.nodes packet.now ttl)) }
+    requires table { HasTable conf.now view.now.nodes packet.now.triple (class_of packet.now) table.now }
+    requires built { IsBuilt conf.now view.now.nodes fib.old }
+    ensures effects { OnOk result (effects.new ≡ after effects.old (hopped conf.now view.now.nodes packet.now ttl)) }
+    ensures built { OnOk result (IsBuilt conf.now view.now.nodes fib.new) }
 {
     match &packet.header.bits {
-        AnyBits::B64(bits) => hop_over(conf, view, packet, rows, bits, ttl, steps, effects),
-        AnyBits::B128(bits) => hop_over(conf, view, packet, rows, bits, ttl, steps, effects),
-        AnyBits::B256(bits) => hop_over(conf, view, packet, rows, bits, ttl, steps, effects),
-        AnyBits::B512(bits) => hop_over(conf, view, packet, rows, bits, ttl, steps, effects),
-        AnyBits::B1024(bits) => hop_over(conf, view, packet, rows, bits, ttl, steps, effects),
-        AnyBits::B2048(bits) => hop_over(conf, view, packet, rows, bits, ttl, steps, effects),
-        AnyBits::B4096(bits) => hop_over(conf, view, packet, rows, bits, ttl, steps, effects),
+        AnyBits::B64(bits) => {
+            let AnyTable::B64(table) = table else {
+                unreachable!()
+            };
+            hop_over(conf, view, packet, table, bits, ttl, fib, steps, effects)
+        }
+        AnyBits::B128(bits) => {
+            let AnyTable::B128(table) = table else {
+                unreachable!()
+            };
+            hop_over(conf, view, packet, table, bits, ttl, fib, steps, effects)
+        }
+        AnyBits::B256(bits) => {
+            let AnyTable::B256(table) = table else {
+                unreachable!()
+            };
+            hop_over(conf, view, packet, table, bits, ttl, fib, steps, effects)
+        }
+        AnyBits::B512(bits) => {
+            let AnyTable::B512(table) = table else {
+                unreachable!()
+            };
+            hop_over(conf, view, packet, table, bits, ttl, fib, steps, effects)
+        }
+        AnyBits::B1024(bits) => {
+            let AnyTable::B1024(table) = table else {
+                unreachable!()
+            };
+            hop_over(conf, view, packet, table, bits, ttl, fib, steps, effects)
+        }
+        AnyBits::B2048(bits) => {
+            let AnyTable::B2048(table) = table else {
+                unreachable!()
+            };
+            hop_over(conf, view, packet, table, bits, ttl, fib, steps, effects)
+        }
+        AnyBits::B4096(bits) => {
+            let AnyTable::B4096(table) = table else {
+                unreachable!()
+            };
+            hop_over(conf, view, packet, table, bits, ttl, fib, steps, effects)
+        }
     }
 }
 
@@ -124,14 +183,15 @@ fn class_of(packet: &Incoming<'_>) -> u8
     (packet.header.entropy % 16) as u8
 }
 
-/// The hop over the table of those rows.
+/// The hop over the packet's table.
 fn hop_over<const W: usize, L: Ledger>(
     conf: &RouterConf,
     view: &View,
     packet: &Incoming<'_>,
-    rows: &RowSet,
+    table: &Table<W>,
     bits: &BitString<W>,
     ttl: u16,
+    fib: &mut Option<Fib>,
     steps: &mut Steps<L>,
     effects: &mut Effects,
 ) -> M<()>
@@ -142,14 +202,24 @@ fn hop_over<const W: usize, L: Ledger>(
     requires ttl { ttl ≤ 256 }
     requires bits { bits_of packet.now.triple.bsl ≡ 64 * W }
     requires set { bits.now ≡ packet.now.header.positions }
-    requires lists { length rows.now.bits ≡ 64 * W }
-    requires rows { AreRows conf.now view.now.nodes packet.now.triple rows.now.bits }
-    ensures { OnOk result (effects.new ≡ after effects.old (hopped conf.now view.now.nodes packet.now ttl)) }
+    requires leads { LeadsAs conf.now view.now.nodes packet.now.triple (class_of packet.now) table.now }
+    requires built { IsBuilt conf.now view.now.nodes fib.old }
+    ensures effects { OnOk result (effects.new ≡ after effects.old (hopped conf.now view.now.nodes packet.now ttl)) }
+    ensures built { OnOk result (IsBuilt conf.now view.now.nodes fib.new) }
 {
     let _width = bits.width();
     let _graph = view.as_slice();
-    let table = Table::build(effects.allocator(), rows, class_of(packet))?;
-    give_all(conf, view, packet, &table, bits.copy(), ttl, steps, effects)
+    give_all(
+        conf,
+        view,
+        packet,
+        table,
+        bits.copy(),
+        ttl,
+        fib,
+        steps,
+        effects,
+    )
 }
 
 /// Gives the outcomes of a set of positions over a table, one after the other.
@@ -160,6 +230,7 @@ fn give_all<const W: usize, L: Ledger>(
     table: &Table<W>,
     set: BitString<W>,
     ttl: u16,
+    fib: &mut Option<Fib>,
     steps: &mut Steps<L>,
     effects: &mut Effects,
 ) -> M<()>
@@ -170,14 +241,15 @@ fn give_all<const W: usize, L: Ledger>(
     requires ttl { ttl ≤ 256 }
     requires bits { bits_of packet.now.triple.bsl ≡ 64 * W }
     requires next { AreNext conf.now view.now.nodes table.now }
-    ensures { OnOk result (effects.new ≡ after effects.old (on_frame.joined (map (given conf.now view.now.nodes packet.now)
+    requires built { IsBuilt conf.now view.now.nodes fib.old }
+    ensures effects { OnOk result (effects.new ≡ after effects.old (on_frame.joined (map (given conf.now view.now.nodes packet.now)
         (hop (own_position conf.now packet.now.triple) (λ p. option_map (place_of view.now.nodes) (router_at table.now p)) set.entry ttl)))) }
+    ensures built { OnOk result (IsBuilt conf.now view.now.nodes fib.new) }
 {
     let own = own_position(conf, packet.triple);
     let mut hop = Hop::begin(table, own, set, ttl);
-    let mut fib = None;
     'outcomes: while let Some(out) = hop.next(steps) {
-        give(conf, view, packet, &out, &mut fib, effects)?;
+        give(conf, view, packet, &out, fib, effects)?;
     }
     Ok(())
 }

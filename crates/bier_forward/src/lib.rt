@@ -13,6 +13,7 @@ mod enter;
 mod forward;
 mod incoming;
 mod outcome;
+mod routes;
 mod table_rows;
 #[cfg(test)]
 mod tests;
@@ -23,4 +24,5 @@ pub use effects::{DropNote, Effects};
 pub use enter::enter_packets;
 pub use forward::hop_packet;
 pub use incoming::{Incoming, read_packet};
+pub use routes::Routes;
 pub use transit::carry_on;

@@ -126,7 +126,17 @@ fn entered(alloc: Global, conf: &RouterConf, view: &View, set: u64, entropy: u32
     };
     let bits = AnyBits::read(Bsl::B64, &set.to_be_bytes());
     let packets = [Packet { triple, bits }];
-    let effects = enter_packets(alloc, conf, view, &packets, 8, entropy, b"\0\xff")?;
+    let mut routes = Routes::new(alloc);
+    let effects = enter_packets(
+        alloc,
+        conf,
+        view,
+        &mut routes,
+        &packets,
+        8,
+        entropy,
+        b"\0\xff",
+    )?;
     tell(alloc, &effects)
 }
 
@@ -141,7 +151,8 @@ fn forwarded(alloc: Global, conf: &RouterConf, view: &View, digits: &[u8]) -> M<
     match read_packet(conf, Kind::Mpls, octets.as_slice()) {
         Ok(packet) => {
             let ttl = u16::from(packet.header.ttl);
-            let effects = hop_packet(alloc, conf, view, &packet, ttl)?;
+            let mut routes = Routes::new(alloc);
+            let effects = hop_packet(alloc, conf, view, &mut routes, &packet, ttl)?;
             tell(alloc, &effects)
         }
         Err(cause) => {

@@ -1,17 +1,18 @@
 //! Tunnel packets for another router, which go on (RFC 2784; RFC 1812, 5.2.1 and 5.3.1).
-ghost use Rattle.std.specs.Prelude.{◌≡◌, ◌<◌, ◌≤◌, ◌-◌, ◌++◌, Some, false, IfOk, length, take, drop, option_and_then};
+ghost use Rattle.std.specs.Prelude.{◌≡◌, ◌<◌, ◌≤◌, ◌-◌, ◌++◌, Some, false, IfOk, OnOk, length, take, drop, option_and_then};
 ghost use Rattle.std.specs.Str.{bytes_eq};
 ghost use Rattle.wire_base.specs.model.Configuration.{IsSound};
 ghost use Rattle.wire_base.specs.model.Item.{ip_frame};
 ghost use Rattle.wire_base.specs.model.OnFrame.{next_link, node_place, node_with, or_no_route, sent_on};
 ghost use Rattle.wire_base.specs.model.Tunnel.{total_of, tunnel_on};
 ghost use Rattle.gre_ip.specs.Tunnels.{HasPlaces, packet_of};
-ghost use Rattle.bier_forward.specs.Tunnels.{carried_on, link_of};
+ghost use Rattle.bier_forward.specs.Kept.{AreRoutes};
+ghost use Rattle.bier_forward.specs.Tunnels.{IsBuilt, carried_on, link_of};
 
 use crate::copy::ip_head;
 use crate::effects::Effects;
-use crate::table_rows::own_place;
-use crate::ways::end_at;
+use crate::routes::Routes;
+use crate::ways::{build, end_at};
 use bier_tunnel::{Fib, Next};
 use gre_ip::{Tunnel, write_onward};
 use std::alloc::Global;
@@ -25,36 +26,45 @@ pub fn carry_on(
     alloc: Global,
     conf: &RouterConf,
     view: &View,
+    routes: &mut Routes,
     octets: &[u8],
     tunnel: &Tunnel,
 ) -> M<Effects>
     requires sound { IsSound conf.now }
     requires places { HasPlaces octets.now tunnel.now }
     requires elsewhere { bytes_eq tunnel.now.dst.0 conf.now.prefix.0 ≡ false }
-    ensures { IfOk result (λ e. e ≡ carried_on conf.now view.now.nodes octets.now (packet_of octets.now tunnel.now)) }
+    requires kept { AreRoutes conf.now view.now.nodes routes.old }
+    ensures effects { IfOk result (λ e. e ≡ carried_on conf.now view.now.nodes octets.now (packet_of octets.now tunnel.now)) }
+    ensures kept { OnOk result (AreRoutes conf.now view.now.nodes routes.new) }
 {
     if tunnel.ttl <= 1 {
         return Effects::dropped(alloc, Cause::Outer);
     }
-    match link_toward(alloc, conf, view, tunnel)? {
+    match link_toward(alloc, conf, view, &mut routes.fib, tunnel)? {
         None => Effects::dropped(alloc, Cause::Route),
         Some(link) => send_on(alloc, conf, octets, tunnel, link),
     }
 }
 
 /// The link toward the router with the destination's prefix. A router without a node in the view reaches no other.
-fn link_toward(alloc: Global, conf: &RouterConf, view: &View, tunnel: &Tunnel) -> M<Option<u16>>
+fn link_toward(
+    alloc: Global,
+    conf: &RouterConf,
+    view: &View,
+    fib: &mut Option<Fib>,
+    tunnel: &Tunnel,
+) -> M<Option<u16>>
     requires sound { IsSound conf.now }
     requires elsewhere { bytes_eq tunnel.now.dst.0 conf.now.prefix.0 ≡ false }
     requires onward { 1 < tunnel.now.ttl }
-    ensures { IfOk result (λ link. link ≡ option_and_then (next_link conf.now view.now.nodes (node_place view.now.nodes conf.now.system)) (node_with view.now.nodes tunnel.now.dst)) }
+    requires built { IsBuilt conf.now view.now.nodes fib.old }
+    ensures link { IfOk result (λ link. link ≡ option_and_then (next_link conf.now view.now.nodes (node_place view.now.nodes conf.now.system)) (node_with view.now.nodes tunnel.now.dst)) }
+    ensures built { OnOk result (IsBuilt conf.now view.now.nodes fib.new) }
 {
-    match own_place(view.as_slice(), conf.system) {
+    build(alloc, conf, view, fib)?;
+    match fib {
         None => Ok(None),
-        Some(u) => {
-            let fib = Fib::build(alloc, view, conf, u)?;
-            Ok(link_of(fib.transit(conf.prefix, tunnel)))
-        }
+        Some(fib) => Ok(link_of(fib.transit(conf.prefix, tunnel))),
     }
 }
 

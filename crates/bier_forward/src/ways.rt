@@ -70,7 +70,7 @@ fn way_by(
 }
 
 /// Seeks what tunnels need of the view, where it isn't there yet; a router without a node has none.
-fn build(alloc: Global, conf: &RouterConf, view: &View, fib: &mut Option<Fib>) -> M<()>
+pub(crate) fn build(alloc: Global, conf: &RouterConf, view: &View, fib: &mut Option<Fib>) -> M<()>
     requires sound { IsSound conf.now }
     requires built { IsBuilt conf.now view.now.nodes fib.old }
     ensures built { OnOk result (IsBuilt conf.now view.now.nodes fib.new) }

@@ -1,6 +1,6 @@
 -- Where no flag stands on a link, no entry is to be sent, acknowledged or asked for there.
 use mathlib.Core.Bool.{true≢false}
-use Rattle.std.proofs.Common.{◌≡◌, ◌∙◌, ℕ, ◌||◌, Bool, true, false, List, [], ◌∷◌, ◌++◌, filter, length, map, slice_index_or, cond, refl, sym, ap, if◌then◌else◌}
+use Rattle.std.proofs.Common.{◌≡◌, ◌∙◌, ℕ, ◌||◌, Bool, true, false, List, [], ◌∷◌, ◌++◌, filter, slice_index_or, refl, sym, ap, if◌then◌else◌}
 use Rattle.std.proofs.lemmas.List.{append-nil}
 use Rattle.std.specs.List.{flat_map}
 use Rattle.std.proofs.lemmas.List.Concat.{flat_map-cons}
@@ -8,7 +8,7 @@ use Rattle.wire_base.specs.declared.addresses.LspId.{LspId}
 use Rattle.wire_base.specs.declared.conf.RouterConf.{RouterConf}
 use Rattle.wire_base.specs.declared.effects.Sent.{Sent}
 use Rattle.wire_base.specs.declared.entry.Entry.{Entry}
-use Rattle.wire_base.specs.model.Control.{FlagRow, same_id, srm_in, ssn_in, summary_of}
+use Rattle.wire_base.specs.model.Control.{FlagRow, same_id, srm_in, ssn_in}
 use Rattle.wire_base.specs.model.Flooding.{lsp_of}
 use Rattle.wire_base.specs.model.OnFrame.{frames_of}
 use Rattle.isis_flood.specs.Flags.{has_flags, is_flagged}

@@ -5,6 +5,7 @@ pub mod EventLaws
 pub mod FlagLaws
 pub mod ForecastLaws
 pub mod IdleLaws
+pub mod KeepLaws
 pub mod KeptLaws
 pub mod OwnLaws
 pub mod ReceivedLaws

@@ -1,5 +1,6 @@
 pub mod Aging
 pub mod Forecast
+pub mod Keeping
 pub mod Own
 pub mod Received
 pub mod Sending

@@ -38,6 +38,12 @@ impl Control {
         &self.conf
     }
 
+    pub(crate) fn store(&self) -> &Store
+        ensures { result.now.entries ≡ self.now.entries }
+    {
+        &self.store
+    }
+
     pub(crate) fn is_up(&self, link: u16) -> bool
         ensures { result ≡ is_up self.now link }
     {

@@ -2,8 +2,10 @@
 ghost use Rattle.std.specs.Prelude.{◌≡◌, ◌<◌, ◌≤◌, ◌^◌, None, IfOk, MatchResult, length};
 ghost use Rattle.wire_base.specs.model.Ingress.{edge_fault, inject};
 ghost use Rattle.bfr_edge.specs.Entry.{Refuses};
+ghost use Rattle.router_core.specs.Keeping.{MayKeep};
 
 use crate::control::Control;
+use crate::kept::Kept;
 use bfr_edge::ingress;
 use bier_forward::{Effects, enter_packets};
 use wire_base::limits::MOST_PAYLOAD;
@@ -13,6 +15,7 @@ impl Control {
     /// A payload enters for a list of BFR-ids.
     pub(crate) fn inject(
         &self,
+        kept: &mut Option<Kept>,
         sd: u8,
         bsl: Bsl,
         ids: &[u16],
@@ -22,20 +25,25 @@ impl Control {
     ) -> Result<Effects, EdgeFault>
         requires entropy { entropy < 2 ^ 20 }
         requires payload { length payload.now ≤ MOST_PAYLOAD }
+        requires kept { MayKeep self.now kept.old }
         ensures refused { MatchResult result (λ _. edge_fault self.now.conf sd bsl ids.now ≡ None) (λ e. Refuses (edge_fault self.now.conf sd bsl ids.now) e) }
         ensures effects { IfOk result (λ e. e ≡ inject self.now sd bsl ids.now ttl entropy payload.now) }
+        ensures kept { MayKeep self.now kept.new }
     {
         let alloc = self.allocator();
         let packets = ingress(alloc, &self.conf, sd, bsl, ids)?;
-        let view = self.view()?;
-        Ok(enter_packets(
+        let mut now = self.keep(kept.take())?;
+        let effects = enter_packets(
             alloc,
             &self.conf,
-            &view,
+            &now.view,
+            &mut now.routes,
             packets.as_slice(),
             ttl,
             entropy,
             payload,
-        )?)
+        )?;
+        *kept = Some(now);
+        Ok(effects)
     }
 }

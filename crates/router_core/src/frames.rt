@@ -4,9 +4,11 @@ ghost use Rattle.wire_base.specs.model.Ethernet.{IsFrame};
 ghost use Rattle.wire_base.specs.model.OnFrame.{on_packet, tunnel_taken, on_tunnel, carried_taken, on_frame};
 ghost use Rattle.gre_ip.specs.Tunnels.{HasPlaces as HasTunnel, packet_of};
 ghost use Rattle.link_frame.specs.Frames.{carried, HasPlaces};
+ghost use Rattle.router_core.specs.Keeping.{MayKeep};
 ghost use Rattle.router_core.specs.State.{is_up};
 
 use crate::control::Control;
+use crate::kept::Kept;
 use bier_forward::{Effects, carry_on, hop_packet, read_packet};
 use gre_ip::{Tunnel, read_tunnel};
 use link_frame::{Class, classify};
@@ -14,79 +16,107 @@ use wire_base::limits::MOST_FRAME;
 use wire_base::{Cause, Kind, M};
 
 impl Control {
-    /// The octets of a BIER packet, whose BIFT-id is of that kind. The view that it is forwarded by is that of now, and a
-    /// packet that isn't read needs none.
-    fn on_packet(&self, kind: Kind, octets: &[u8]) -> M<Effects>
-        requires { length octets.now ≤ MOST_FRAME }
-        ensures { IfOk result (λ e. e ≡ on_packet self.now kind octets.now) }
+    /// The octets of a BIER packet, whose BIFT-id is of that kind. The view that it is forwarded by is that of now, which is
+    /// kept for the next packet; one that isn't read needs none.
+    fn on_packet(&self, kept: &mut Option<Kept>, kind: Kind, octets: &[u8]) -> M<Effects>
+        requires short { length octets.now ≤ MOST_FRAME }
+        requires kept { MayKeep self.now kept.old }
+        ensures effects { IfOk result (λ e. e ≡ on_packet self.now kind octets.now) }
+        ensures kept { MayKeep self.now kept.new }
     {
         let alloc = self.allocator();
         let read = read_packet(&self.conf, kind, octets);
         match read {
             Err(cause) => Effects::dropped(alloc, cause),
             Ok(packet) => {
-                let view = self.view()?;
-                hop_packet(
+                let mut now = self.keep(kept.take())?;
+                let effects = hop_packet(
                     alloc,
                     &self.conf,
-                    &view,
+                    &now.view,
+                    &mut now.routes,
                     &packet,
                     u16::from(packet.header.ttl),
-                )
+                )?;
+                *kept = Some(now);
+                Ok(effects)
             }
         }
     }
 
     /// A tunnel packet that was read: where it ends here, its inside is a packet that came without a tunnel; else it goes on.
-    fn take_tunnel(&self, octets: &[u8], tunnel: &Tunnel) -> M<Effects>
+    fn take_tunnel(&self, kept: &mut Option<Kept>, octets: &[u8], tunnel: &Tunnel) -> M<Effects>
         requires short { length octets.now ≤ MOST_FRAME }
         requires places { HasTunnel octets.now tunnel.now }
-        ensures { IfOk result (λ e. e ≡ tunnel_taken self.now octets.now (packet_of octets.now tunnel.now)) }
+        requires kept { MayKeep self.now kept.old }
+        ensures effects { IfOk result (λ e. e ≡ tunnel_taken self.now octets.now (packet_of octets.now tunnel.now)) }
+        ensures kept { MayKeep self.now kept.new }
     {
         if tunnel.dst == self.conf.prefix {
-            return self.on_packet(tunnel.inner, &octets[tunnel.from..tunnel.to]);
+            return self.on_packet(kept, tunnel.inner, &octets[tunnel.from..tunnel.to]);
         }
-        let view = self.view()?;
-        carry_on(self.allocator(), &self.conf, &view, octets, tunnel)
+        let mut now = self.keep(kept.take())?;
+        let effects = carry_on(
+            self.allocator(),
+            &self.conf,
+            &now.view,
+            &mut now.routes,
+            octets,
+            tunnel,
+        )?;
+        *kept = Some(now);
+        Ok(effects)
     }
 
     /// The octets of an IPv4 packet.
     #[tactic(auto, unfolding(wire_base::specs::model::OnFrame::on_tunnel))]
-    fn on_tunnel(&self, octets: &[u8]) -> M<Effects>
-        requires { length octets.now ≤ MOST_FRAME }
-        ensures { IfOk result (λ e. e ≡ on_tunnel self.now octets.now) }
+    fn on_tunnel(&self, kept: &mut Option<Kept>, octets: &[u8]) -> M<Effects>
+        requires short { length octets.now ≤ MOST_FRAME }
+        requires kept { MayKeep self.now kept.old }
+        ensures effects { IfOk result (λ e. e ≡ on_tunnel self.now octets.now) }
+        ensures kept { MayKeep self.now kept.new }
     {
         let read = read_tunnel(octets);
         match read {
             Err(fault) => Effects::dropped(self.allocator(), Cause::Ip(fault)),
-            Ok(tunnel) => self.take_tunnel(octets, &tunnel),
+            Ok(tunnel) => self.take_tunnel(kept, octets, &tunnel),
         }
     }
 
     /// What a frame carries, by its class; or all is as it was.
-    fn take_class(&mut self, link: u16, class: Class, bytes: &[u8]) -> M<Effects>
+    fn take_class(
+        &mut self,
+        kept: &mut Option<Kept>,
+        link: u16,
+        class: Class,
+        bytes: &[u8],
+    ) -> M<Effects>
         requires up { is_up self.old link ≡ true }
         requires short { length bytes.now ≤ MOST_FRAME }
         requires places { HasPlaces (length bytes.now) class }
         requires found { IsFrame bytes.now (carried bytes.now class) }
+        requires kept { MayKeep self.old kept.old }
         ensures next { IfOk result (λ e. record { control = self.new; effects = e } ≡ carried_taken self.old link (carried bytes.now class)) }
         ensures err { OnErr result (self.new ≡ self.old) }
+        ensures kept { MayKeep self.new kept.new }
     {
         match class {
-            Class::Isis { from, to } => self.on_pdu(link, &bytes[from..to]),
-            Class::Mpls { from } => self.on_packet(Kind::Mpls, &bytes[from..]),
-            Class::Bier { from } => self.on_packet(Kind::Configured, &bytes[from..]),
-            Class::Ip { from } => self.on_tunnel(&bytes[from..]),
+            Class::Isis { from, to } => self.on_pdu(kept, link, &bytes[from..to]),
+            Class::Mpls { from } => self.on_packet(kept, Kind::Mpls, &bytes[from..]),
+            Class::Bier { from } => self.on_packet(kept, Kind::Configured, &bytes[from..]),
+            Class::Ip { from } => self.on_tunnel(kept, &bytes[from..]),
             Class::Other => Ok(Effects::passed_over(self.allocator())),
         }
     }
 
     /// A frame that came on a link; or all is as it was.
     #[tactic(auto, unfolding(wire_base::specs::model::OnFrame::on_frame))]
-    pub(crate) fn frame(&mut self, link: u16, bytes: &[u8]) -> M<Effects>
-        requires { length bytes.now ≤ MOST_FRAME }
+    pub(crate) fn frame(&mut self, kept: &mut Option<Kept>, link: u16, bytes: &[u8]) -> M<Effects>
+        requires short { length bytes.now ≤ MOST_FRAME }
+        requires kept { MayKeep self.old kept.old }
         ensures next { IfOk result (λ e. record { control = self.new; effects = e } ≡ on_frame self.old link bytes.now) }
         ensures err { OnErr result (self.new ≡ self.old) }
+        ensures kept { MayKeep self.new kept.new }
     {
         if !self.is_up(link) {
             return Effects::dropped(self.allocator(), Cause::Link);
@@ -94,7 +124,7 @@ impl Control {
         let read = classify(bytes);
         match read {
             Err(fault) => Effects::dropped(self.allocator(), Cause::Frame(fault)),
-            Ok(class) => self.take_class(link, class, bytes),
+            Ok(class) => self.take_class(kept, link, class, bytes),
         }
     }
 }

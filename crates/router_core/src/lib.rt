@@ -11,6 +11,7 @@ mod entering;
 mod forecast;
 mod frames;
 mod framing;
+mod kept;
 mod listed;
 mod own;
 mod pdus;

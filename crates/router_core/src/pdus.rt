@@ -6,12 +6,14 @@ ghost use Rattle.wire_base.specs.model.Flooding.{on_pdu, psnp_of, answer_lsp};
 ghost use Rattle.wire_base.specs.model.OnFrame.{nothing, framed, frames_of, pdu_taken, pdu_read};
 ghost use Rattle.wire_base.specs.model.Pdu.{LspPdu, CsnpPdu, PsnpPdu, pdu_at};
 ghost use Rattle.isis_pdu.specs.Views.{head_of, pdu_of};
+ghost use Rattle.router_core.specs.Keeping.{MayKeep};
 ghost use Rattle.router_core.specs.Received.{HasRoom, is_kept};
 ghost use Rattle.router_core.specs.State.{is_up};
 
 use crate::control::Control;
 use crate::forecast::issue_ready;
 use crate::framing::push_psnp;
+use crate::kept::Kept;
 use bier_forward::{DropNote, Effects};
 use isis_pdu::{LspHead, Pdu, read_pdu};
 use wire_base::limits::MOST_CONTENT;
@@ -115,37 +117,50 @@ impl Control {
     }
 
     /// A PDU; hellos and other types are passed over. Or all is as it was.
-    fn take_pdu(&mut self, link: u16, pdu: Pdu<'_>) -> M<Effects>
+    fn take_pdu(&mut self, kept: &mut Option<Kept>, link: u16, pdu: Pdu<'_>) -> M<Effects>
         requires up { is_up self.old link ≡ true }
         requires short { HasRoom (pdu_of pdu) }
+        requires kept { MayKeep self.old kept.old }
         ensures next { IfOk result (λ e. record { control = self.new; effects = e } ≡ pdu_taken self.old link (pdu_of pdu.entry)) }
         ensures err { OnErr result (self.new ≡ self.old) }
+        ensures kept { MayKeep self.new kept.new }
     {
         match pdu {
-            Pdu::Lsp { head, tlvs } => self.on_lsp(link, &head, tlvs),
+            Pdu::Lsp { head, tlvs } => {
+                *kept = None;
+                self.on_lsp(link, &head, tlvs)
+            }
             Pdu::Csnp {
                 source: _,
                 start,
                 last,
                 tlvs,
-            } => self.on_csnp(link, start, last, tlvs),
-            Pdu::Psnp { source: _, tlvs } => self.on_psnp(link, tlvs),
+            } => {
+                *kept = None;
+                self.on_csnp(link, start, last, tlvs)
+            }
+            Pdu::Psnp { source: _, tlvs } => {
+                *kept = None;
+                self.on_psnp(link, tlvs)
+            }
             Pdu::Hello | Pdu::Other(_) => Ok(Effects::passed_over(self.allocator())),
         }
     }
 
     /// The octets of a PDU, as a frame of IS-IS carries them; or all is as it was.
-    pub(crate) fn on_pdu(&mut self, link: u16, octets: &[u8]) -> M<Effects>
+    pub(crate) fn on_pdu(&mut self, kept: &mut Option<Kept>, link: u16, octets: &[u8]) -> M<Effects>
         requires up { is_up self.old link ≡ true }
         requires short { length octets.now ≤ 1497 }
+        requires kept { MayKeep self.old kept.old }
         ensures next { IfOk result (λ e. record { control = self.new; effects = e } ≡ pdu_read self.old link (pdu_at self.old.conf.level octets.now)) }
         ensures err { OnErr result (self.new ≡ self.old) }
+        ensures kept { MayKeep self.new kept.new }
     {
         let level = self.conf().level;
         let read = read_pdu(level, octets);
         match read {
             Err(fault) => Effects::dropped(self.allocator(), Cause::Pdu(fault)),
-            Ok(pdu) => self.take_pdu(link, pdu),
+            Ok(pdu) => self.take_pdu(kept, link, pdu),
         }
     }
 }

@@ -8,7 +8,9 @@ ghost use Rattle.bfr_edge.specs.Entry.{Refuses};
 ghost use Rattle.router_core.specs.State.{IsRouter, is_up, counted};
 
 use crate::control::Control;
+use crate::kept::Kept;
 use bier_forward::Effects;
+use lsp_store::Store;
 use std::alloc::Global;
 use std::marker::Model;
 use wire_base::limits::{MOST_FRAME, MOST_PAYLOAD};
@@ -16,18 +18,25 @@ use wire_base::{Bsl, EdgeFault, M, Memory, RouterConf, View};
 
 /// One router: its configuration, its database and what flooding keeps beside it, and how many frames it has taken.
 /// Contracts see its control state and that count.
+///
+/// It also keeps the view by which it forwarded the last packet, with rows, tables and ways of that view. Its type keeps
+/// that these are of the view that its control state has now; whatever may change that view lets them go.
 #[derive(Drop)]
 pub struct Router {
     control: Control,
+    kept: Option<Kept>,
     heard: u64,
 }
 
 impl Model for Router {
+    ghost use Rattle.router_core.specs.Keeping.{MayKeep};
     ghost use Rattle.router_core.specs.State.{RouterState};
 
     ghost Value = { RouterState };
 
     ghost view = { λ r. record { control = r.control; heard = r.heard } };
+
+    ghost invariant = { λ r. MayKeep r.control r.kept };
 }
 
 impl Router {
@@ -40,6 +49,7 @@ impl Router {
     {
         Ok(Router {
             control: Control::new(alloc, conf)?,
+            kept: None,
             heard: 0,
         })
     }
@@ -66,6 +76,13 @@ impl Router {
         self.control.is_up(link)
     }
 
+    /// Its database. It takes no memory.
+    pub fn store(&self) -> &Store
+        ensures { result.now.entries ≡ self.now.control.entries }
+    {
+        self.control.store()
+    }
+
     /// The view that it has now (ISO/IEC 10589, 7.2.5; RFC 8401, 4).
     pub fn current_view(&self) -> M<View>
         ensures { IfOk result (λ v. v.nodes ≡ control_view self.now.control) }
@@ -85,7 +102,7 @@ impl Router {
         ensures heard { OnOk result (self.new.heard ≡ counted self.old.heard) }
         ensures err { OnErr result (self.new ≡ self.old) }
     {
-        let effects = self.control.frame(link, bytes)?;
+        let effects = self.control.frame(&mut self.kept, link, bytes)?;
         self.heard = self.heard.saturating_add(1);
         Ok(effects)
     }
@@ -98,6 +115,7 @@ impl Router {
         ensures err { OnErr result (self.new ≡ self.old) }
         ensures heard { self.new.heard ≡ self.old.heard }
     {
+        self.kept = None;
         self.control.tick()?;
         Ok(Effects::nothing(self.control.allocator()))
     }
@@ -130,6 +148,7 @@ impl Router {
         ensures err { OnErr result (self.new ≡ self.old) }
         ensures heard { self.new.heard ≡ self.old.heard }
     {
+        self.kept = None;
         self.control.end_up(link)
     }
 
@@ -141,6 +160,7 @@ impl Router {
         ensures err { OnErr result (self.new ≡ self.old) }
         ensures heard { self.new.heard ≡ self.old.heard }
     {
+        self.kept = None;
         self.control.end_down(link)
     }
 
@@ -150,6 +170,7 @@ impl Router {
         ensures err { OnErr result (self.new ≡ self.old) }
         ensures heard { self.new.heard ≡ self.old.heard }
     {
+        self.kept = None;
         self.control.restart()
     }
 
@@ -175,6 +196,7 @@ impl Router {
         ensures effects { IfOk result (λ e. e ≡ inject self.old.control sd bsl ids.now ttl entropy payload.now) }
         ensures state { self.new ≡ self.old }
     {
-        self.control.inject(sd, bsl, ids, ttl, entropy, payload)
+        self.control
+            .inject(&mut self.kept, sd, bsl, ids, ttl, entropy, payload)
     }
 }

@@ -40,8 +40,8 @@ outcomes-preserved g c =
           next c.in_ok-give.ensures.given c.outcomes.invariant.whole;
     }
 
-pub returns : goal.returns
-returns g c =
+pub returns-clause-effects : goal.returns-clause-effects
+returns-clause-effects g c =
     let h = c.outcomes.hop in
     let table : h.table ≡ c.args.table.now = table-kept c.outcomes.hop c.begin-hop.result c.args.table.now c.own_position-own.result c.args.set c.args.ttl c.outcomes.invariant.table c.begin-hop.ensures.state in
     let choose : ℕ → Option ℕ = λ p. option_map (place_of c.args.view.now.nodes) (router_at c.args.table.now p) in

@@ -1,0 +1,140 @@
+//! What a router keeps of the view that it forwards by: rows, tables and the ways of tunnels, each made at first use.
+ghost use Rattle.std.specs.Prelude.{◌≡◌, ◌<◌, ◌≤◌, Some, IfOk, IfSome, OnOk, List, length, slice_get};
+ghost use Rattle.std.specs.List.{AllByRecursion};
+ghost use Rattle.wire_base.specs.declared.conf.RouterConf.{RouterConf as Conf};
+ghost use Rattle.wire_base.specs.declared.view.ViewNode.{ViewNode as Node};
+ghost use Rattle.wire_base.specs.model.Place.{same_triple};
+ghost use Rattle.bier_forward.specs.Kept.{AreRoutes, HasRows, HasTable, IsKeptRows, IsKeptTable};
+ghost use Rattle.bier_forward.specs.Tunnels.{IsBuilt};
+
+use crate::table_rows::table_rows;
+use bier_tunnel::Fib;
+use bift_table::AnyTable;
+use std::alloc::Global;
+use wire_base::{M, RouterConf, RowSet, Triple, View};
+
+/// So many triples have their rows kept.
+const MOST_ROWS: usize = 4;
+
+/// So many tables are kept: of one triple those of all classes.
+const MOST_TABLES: usize = 16;
+
+/// The rows of a triple.
+#[derive(Drop)]
+pub struct TripleRows {
+    triple: Triple,
+    rows: RowSet,
+}
+
+/// The table of a triple for packets of a class.
+#[derive(Drop)]
+pub struct ClassTable {
+    triple: Triple,
+    class: u8,
+    pub(crate) table: AnyTable,
+}
+
+/// What a router keeps of the view that it forwards by: the rows of the last few triples, the tables of the last few triples
+/// and classes, the newest first, and the ways of tunnels. All are made at first use, and all are of one view: another one
+/// begins with new ones.
+#[derive(Drop)]
+pub struct Routes {
+    rows: Vec<TripleRows>,
+    pub(crate) tables: Vec<ClassTable>,
+    pub(crate) fib: Option<Fib>,
+}
+
+fn is_same(a: Triple, b: Triple) -> bool
+    ensures { result ≡ same_triple a b }
+{
+    a.sd == b.sd && a.bsl.code() == b.bsl.code() && a.si == b.si
+}
+
+/// Where the rows of a triple stand.
+fn rows_place(rows: &[TripleRows], triple: Triple) -> Option<usize>
+    ensures rows { (r : Conf) (g : List Node) → AllByRecursion (IsKeptRows r g) rows.now → IfSome result (λ i. IfSome (slice_get rows.now i) (λ k. HasRows r g triple k.rows.bits)) }
+    ensures within { IfSome result (λ i. i < length rows.now) }
+{
+    for place in 0..rows.len() {
+        if is_same(rows[place].triple, triple) {
+            return Some(place);
+        }
+    }
+    None
+}
+
+/// Where the table of a triple and a class stands.
+fn table_place(tables: &[ClassTable], triple: Triple, class: u8) -> Option<usize>
+    ensures table { (r : Conf) (g : List Node) → AllByRecursion (IsKeptTable r g) tables.now → IfSome result (λ i. IfSome (slice_get tables.now i) (λ k. HasTable r g triple class k.table)) }
+    ensures within { IfSome result (λ i. i < length tables.now) }
+{
+    for place in 0..tables.len() {
+        if is_same(tables[place].triple, triple) && tables[place].class == class {
+            return Some(place);
+        }
+    }
+    None
+}
+
+/// The place of a triple's rows, which are made where they aren't kept.
+fn keep_rows(kept: &mut Vec<TripleRows>, conf: &RouterConf, view: &View, triple: Triple) -> M<usize>
+    requires ends { length conf.now.ends ≤ 65536 }
+    requires kept { AllByRecursion (IsKeptRows conf.now view.now.nodes) kept.old.items }
+    ensures kept { OnOk result (AllByRecursion (IsKeptRows conf.now view.now.nodes) kept.new.items) }
+    ensures rows { IfOk result (λ i. IfSome (slice_get kept.new.items i) (λ k. HasRows conf.now view.now.nodes triple k.rows.bits)) }
+    ensures within { IfOk result (λ i. i < length kept.new.items) }
+{
+    if let Some(place) = rows_place(kept.as_slice(), triple) {
+        return Ok(place);
+    }
+    let rows = table_rows(*kept.allocator(), conf, view, triple)?;
+    kept.truncate(MOST_ROWS - 1);
+    kept.insert(0, TripleRows { triple, rows })?;
+    Ok(0)
+}
+
+impl Routes {
+    /// Nothing is kept yet, of any view.
+    pub fn new(alloc: Global) -> Routes
+        ensures { (r : Conf) (g : List Node) → AreRoutes r g result }
+    {
+        Routes {
+            rows: Vec::new(alloc),
+            tables: Vec::new(alloc),
+            fib: None,
+        }
+    }
+
+    /// The place of the table of a triple for packets of a class, which is made where it isn't kept.
+    pub(crate) fn keep_table(
+        &mut self,
+        conf: &RouterConf,
+        view: &View,
+        triple: Triple,
+        class: u8,
+    ) -> M<usize>
+        requires class { class < 16 }
+        requires ends { length conf.now.ends ≤ 65536 }
+        requires kept { AreRoutes conf.now view.now.nodes self.old }
+        ensures kept { OnOk result (AreRoutes conf.now view.now.nodes self.new) }
+        ensures table { IfOk result (λ i. IfSome (slice_get self.new.tables.items i) (λ k. HasTable conf.now view.now.nodes triple class k.table)) }
+        ensures within { IfOk result (λ i. i < length self.new.tables.items) }
+    {
+        if let Some(place) = table_place(self.tables.as_slice(), triple, class) {
+            return Ok(place);
+        }
+        let place = keep_rows(&mut self.rows, conf, view, triple)?;
+        let alloc = *self.tables.allocator();
+        let table = AnyTable::build(alloc, triple.bsl, &self.rows[place].rows, class)?;
+        self.tables.truncate(MOST_TABLES - 1);
+        self.tables.insert(
+            0,
+            ClassTable {
+                triple,
+                class,
+                table,
+            },
+        )?;
+        Ok(0)
+    }
+}
