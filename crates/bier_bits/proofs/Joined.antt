@@ -9,7 +9,7 @@ use Rattle.std.proofs.lemmas.List.{drop_more, drop_all}
 use Rattle.std.proofs.lemmas.List.Folds.{list_all-append, list_all_at}
 use Rattle.std.proofs.lemmas.Nat.{le_or_l, le_or_r}
 use Rattle.std.proofs.lemmas.Nat.Bits.{bit_at_and, bit_at_or, bit_at_not, bit_at-lt, bit_at-zero, same_from_bits_below}
-use Rattle.std.proofs.lemmas.Simd.{chunk-drop, length-chunk, length-zip2, get_or-put_chunk_below, get_or-put_chunk_at, get_or-zip2, get_or-chunk}
+use Rattle.std.proofs.lemmas.Simd.{chunk-drop, length-chunk, length-zip2, get_or-put_chunk_below, get_or-put_chunk_at, get_or-put_chunk_above, get_or-zip2, get_or-chunk}
 use Rattle.std.proofs.Math.Bool.{and_assoc}
 use Rattle.wire_base.specs.model.BitSet.{has_member, IsWithin, intersection, difference, union}
 use Rattle.wire_base.proofs.SetLaws.{has-intersection, has-difference, has-union, has_head, within-intersection, within-difference, within-union}
@@ -18,8 +18,9 @@ use Rattle.bier_bits.proofs.WordLaws.{has_members, members_is, place_at, within_
 
 -- ---- eight more words
 
-pub eight_more : (f : ℕ → ℕ → ℕ) (a b out : List ℕ) (at : ℕ) → at + 8 ≤ length a → length b ≡ length a → length out ≡ length a → ((k : ℕ) → k < at → get_or out k 0 ≡ f (get_or a k 0) (get_or b k 0)) → (k : ℕ) → k < at + 8 → get_or (put_chunk at out (zip2 f (chunk at 8 a) (chunk at 8 b))) k 0 ≡ f (get_or a k 0) (get_or b k 0)
-eight_more f a b out at room same fits h k lt =
+-- words are read where the first list still has what it began with
+eight_from : (f : ℕ → ℕ → ℕ) (first a b out : List ℕ) (at : ℕ) → at + 8 ≤ length a → length b ≡ length a → length out ≡ length a → ((k : ℕ) → at ≤ k → get_or a k 0 ≡ get_or first k 0) → ((k : ℕ) → k < at → get_or out k 0 ≡ f (get_or first k 0) (get_or b k 0)) → (k : ℕ) → k < at + 8 → get_or (put_chunk at out (zip2 f (chunk at 8 a) (chunk at 8 b))) k 0 ≡ f (get_or first k 0) (get_or b k 0)
+eight_from f first a b out at room same fits kept h k lt =
     let xs = chunk at 8 a in
     let ys = chunk at 8 b in
     let len_x : length xs ≡ 8 = length-chunk at 8 a room in
@@ -32,8 +33,28 @@ eight_more f a b out at room same fits h k lt =
           let e : k ≡ at + j = omega arith in
           let p = get_or-put_chunk_at at out (zip2 f xs ys) j 0 (omega (arith, len)) (omega (arith, len)) in
           let q = get_or-zip2 f xs ys j 0 0 0 (omega (arith, len_x)) (omega (arith, len_y)) in
-          rw e (p ∙ q ∙ rw (get_or-chunk at 8 a j 0 (omega arith), get_or-chunk at 8 b j 0 (omega arith)) refl)
+          rw e (p ∙ q ∙ rw (get_or-chunk at 8 a j 0 (omega arith), get_or-chunk at 8 b j 0 (omega arith), kept (at + j) (omega arith)) refl)
     ]
+
+pub eight_more : (f : ℕ → ℕ → ℕ) (a b out : List ℕ) (at : ℕ) → at + 8 ≤ length a → length b ≡ length a → length out ≡ length a → ((k : ℕ) → k < at → get_or out k 0 ≡ f (get_or a k 0) (get_or b k 0)) → (k : ℕ) → k < at + 8 → get_or (put_chunk at out (zip2 f (chunk at 8 a) (chunk at 8 b))) k 0 ≡ f (get_or a k 0) (get_or b k 0)
+eight_more f a b out at room same fits h k lt = eight_from f a a b out at room same fits (λ k from. refl) h k lt
+
+-- how far words were cut: those before a place are what is left and what was taken, and those from it on are as they were
+pub record IsCut (first words mask taken : List ℕ) (at : ℕ) : Type 0 where
+  pub cut : (k : ℕ) → k < at → get_or taken k 0 ≡ bit_and (get_or first k 0) (get_or mask k 0)
+  pub left : (k : ℕ) → k < at → get_or words k 0 ≡ and_not (get_or first k 0) (get_or mask k 0)
+  pub kept : (k : ℕ) → at ≤ k → get_or words k 0 ≡ get_or first k 0
+
+pub cut_eight : (first words mask taken left took : List ℕ) (at : ℕ) → at + 8 ≤ length words → length mask ≡ length words → length taken ≡ length words → took ≡ put_chunk at taken (zip2 bit_and (chunk at 8 words) (chunk at 8 mask)) → left ≡ put_chunk at words (zip2 and_not (chunk at 8 words) (chunk at 8 mask)) → IsCut first words mask taken at → IsCut first left mask took (at + 8)
+cut_eight first words mask taken left took at room same fits is_took is_left so_far = record {
+  cut = λ k lt. rw is_took (eight_from bit_and first words mask taken at room same fits so_far.kept so_far.cut k lt);
+  left = λ k lt. rw is_left (eight_from and_not first words mask words at room same refl so_far.kept so_far.left k lt);
+  kept = λ k from.
+      let len_x = length-chunk at 8 words room in
+      let len_y = length-chunk at 8 mask (omega arith) in
+      let len = length-zip2 and_not (chunk at 8 words) (chunk at 8 mask) (len_x ∙ sym len_y) ∙ len_x in
+      rw is_left (get_or-put_chunk_above at words (zip2 and_not (chunk at 8 words) (chunk at 8 mask)) k 0 (omega (arith, len, from)) ∙ so_far.kept k (omega (arith, from)));
+}
 
 pub without_eight : (xs ys : List ℕ) → zip2 bit_and xs (map (bit_not w64) ys) ≡ zip2 and_not xs ys
 without_eight [] ys = refl

@@ -91,6 +91,40 @@ fn join_eight<J: Joint>(a: &[u64], b: &[u64], out: &mut [u64], at: usize)
     joined.copy_to_slice(&mut out[at..]);
 }
 
+/// Takes the bits that a mask has out of words, and puts them into `taken`: eight words at once, and then those that are
+/// left.
+pub fn cut(words: &mut [u64], mask: &[u64], taken: &mut [u64])
+    requires mask { length mask.now ≡ length words.old }
+    requires taken { length taken.old ≡ length words.old }
+    ensures fits { AreWords mask.now }
+    ensures taken { (k : ℕ) → k < length words.old → slice_index taken.new k ≡ bit_and (slice_index words.old k) (slice_index mask.now k) }
+    ensures left { (k : ℕ) → k < length words.old → slice_index words.new k ≡ and_not (slice_index words.old k) (slice_index mask.now k) }
+{
+    let whole = words.len() / 8 * 8;
+    let mut at = 0;
+    while at < whole {
+        cut_eight(words, mask, taken, at);
+        at += 8;
+    }
+    for k in whole..words.len() {
+        taken[k] = words[k] & mask[k];
+        words[k] &= !mask[k];
+    }
+}
+
+fn cut_eight(words: &mut [u64], mask: &[u64], taken: &mut [u64], at: usize)
+    requires words { at + 8 ≤ length words.old }
+    requires mask { at + 8 ≤ length mask.now }
+    requires taken { at + 8 ≤ length taken.old }
+    ensures taken { taken.new ≡ put_chunk at taken.old (zip2 bit_and (chunk at 8 words.old) (chunk at 8 mask.now)) }
+    ensures left { words.new ≡ put_chunk at words.old (zip2 and_not (chunk at 8 words.old) (chunk at 8 mask.now)) }
+{
+    let eight = u64x8::from_slice(&words[at..]);
+    let mask = u64x8::from_slice(&mask[at..]);
+    Both::eight(eight, mask).copy_to_slice(&mut taken[at..]);
+    Without::eight(eight, mask).copy_to_slice(&mut words[at..]);
+}
+
 /// Whether no word has a bit.
 pub fn are_zero(words: &[u64]) -> bool
     ensures fits { AreWords words.now }
