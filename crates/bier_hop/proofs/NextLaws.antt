@@ -14,8 +14,9 @@ use Rattle.bift_table.specs.Bift.{router_at, leads_to, same_router, mask_of, rou
 use Rattle.bift_table.proofs.BiftLaws.{has-mask, has-routed, same_router-is, same_router-refl}
 use Rattle.bier_hop.specs.declared.out.Out.{Out}
 use Rattle.bier_hop.specs.declared.out.Out.TheVariants.{Local, Copy, Dropped}
+use Rattle.bier_hop.specs.declared.out.Why.{Why}
 use Rattle.bier_hop.specs.declared.out.Why.TheVariants.{NoRow, Ttl}
-use Rattle.bier_hop.specs.Outcomes.{HopState, IsOwn, IsNumbering, number_in, choose_in, own_in, drop_of, IsCopy, IsNext}
+use Rattle.bier_hop.specs.Outcomes.{HopState, IsOwn, IsNumbering, number_in, choose_in, own_in, drop_of, left_after, IsCopy, IsNext}
 use Rattle.bier_hop.proofs.CopyLaws.{filter-same, filter-filter, filter-none, filter-every, filter_map-none, filter_map-first, copies-first}
 
 -- ---- hops over any choice
@@ -189,10 +190,10 @@ this-is table number choose is p f at k = ap (λ o. is_this o (number f)) (is.ch
 
 -- ---- what is left
 
-difference-shared : (rest ys : List ℕ) → difference rest (intersection rest ys) ≡ difference rest ys
+pub difference-shared : (rest ys : List ℕ) → difference rest (intersection rest ys) ≡ difference rest ys
 difference-shared rest ys = filter-same (λ p. not (has_member p (intersection rest ys))) (λ p. not (has_member p ys)) rest (λ p is. ap not (has-filter p (λ q. has_member q ys) rest ∙ rw is refl))
 
-difference-itself : (rest : List ℕ) → difference rest rest ≡ []
+pub difference-itself : (rest : List ℕ) → difference rest rest ≡ []
 difference-itself rest = filter-same (λ p. not (has_member p rest)) (λ p. false) rest (λ p is. ap not is) ∙ filter-none rest
 
 not-longer : (q : ℕ → Bool) (xs : List ℕ) → length (filter q xs) ≤ length xs
@@ -355,6 +356,20 @@ copied {w} bits table own rest set ttl p (Some (Copy to sent (suc n))) low q e f
       shorter = left-shorter rest sent p inside taken;
       local = tt;
     }
+
+-- ---- what each outcome leaves
+
+-- all that is left goes
+pub all-left : {w : ℕ} (rest set : List ℕ) (why : Why) (result : Option (Out w)) → set ≡ [] → result ≡ drop_of rest why → set ≡ left_after rest result
+all-left [] set why None none e = none
+all-left [] set why (Some out) none e = cc
+all-left (p ∷ ps) set why None none e = cc
+all-left {w} (p ∷ ps) set why (Some out) none e = none ∙ sym (difference-itself (p ∷ ps)) ∙ ap (left_after {w = w} (p ∷ ps)) (sym e)
+
+-- what was cut by a mask goes, where it isn't nothing
+pub last-left : {w : ℕ} (rest mask set : List ℕ) (why : Why) (p : ℕ) (result : Option (Out w)) → set ≡ intersection rest mask → first_member set ≡ Some p → result ≡ drop_of set why → difference rest mask ≡ left_after rest result
+last-left rest mask [] why p result e first is = cc
+last-left {w} rest mask (q ∷ qs) why p result e first is = sym (difference-shared rest mask) ∙ ap (difference rest) (sym e) ∙ ap (left_after {w = w} rest) (sym is)
 
 -- ---- numbers that every table has
 

@@ -7,10 +7,11 @@ ghost use Rattle.bier_bits.specs.Sets.{is_width};
 ghost use Rattle.bift_table.specs.Bift.{router_at, routed_of, routers_of};
 ghost use Rattle.bier_hop.specs.Outcomes.{IsNumbering, IsOwn, IsOwnWithin, HopState, left, number_in, choose_in, outcome, positions_of, own_in, cost, left_after, drop_of, IsCopy, IsNext};
 
-use crate::out::{Out, Why, without};
+use crate::out::{Out, Why};
 use bier_bits::BitString;
 use bift_table::Table;
 use std::marker::Model;
+use std::mem;
 use std::sync::ledger::Ledger;
 use wire_base::{First, Steps};
 
@@ -77,16 +78,14 @@ impl<'t, const W: usize> Hop<'t, W> {
         ensures ttl { self.new.ttl ≡ self.old.ttl }
         ensures steps { steps.new ≡ steps.old + cost result }
     {
-        let out = outcome(
+        outcome(
             self.table,
             self.routers,
             self.own,
-            &self.rest,
+            &mut self.rest,
             self.ttl,
             steps,
-        )?;
-        self.rest = without(&self.rest, &out);
-        Some(out)
+        )
     }
 }
 
@@ -95,7 +94,7 @@ fn outcome<'t, const W: usize, L: Ledger>(
     table: &Table<W>,
     routers: &'t [First],
     own: Option<u16>,
-    rest: &BitString<W>,
+    rest: &mut BitString<W>,
     ttl: u16,
     steps: &mut Steps<L>,
 ) -> Option<Out<'t, W>>
@@ -103,18 +102,20 @@ fn outcome<'t, const W: usize, L: Ledger>(
     requires routers { routers.now ≡ routers_of table.now }
     requires own { IsOwn (64 * W) own }
     requires ttl { ttl ≤ 256 }
-    ensures next { IsNext (64 * W) (record { table = table.now; own = own; rest = rest.now; ttl = ttl }) result }
+    ensures next { IsNext (64 * W) (record { table = table.now; own = own; rest = rest.old; ttl = ttl }) result }
+    ensures rest { rest.new ≡ left_after rest.old result }
     ensures steps { steps.new ≡ steps.old + cost result }
 {
     if ttl == 0 {
-        return dropped(rest.copy(), Why::Ttl);
+        return drop_all(rest, Why::Ttl);
     }
     if let Some(bp) = own_in(own, rest) {
+        rest.remove(bp);
         return Some(Out::Local(bp));
     }
     match first_routed(table, rest) {
-        None => dropped(rest.copy(), Why::NoRow),
-        Some(_) if ttl == 1 => dropped(rest.and(table.routed()), Why::Ttl),
+        None => drop_all(rest, Why::NoRow),
+        Some(_) if ttl == 1 => dropped(rest.cut(table.routed()), Why::Ttl),
         Some(bp) => copy_toward(table, routers, bp, rest, ttl, steps),
     }
 }
@@ -145,7 +146,7 @@ fn copy_toward<'t, const W: usize, L: Ledger>(
     table: &Table<W>,
     routers: &'t [First],
     bp: u16,
-    rest: &BitString<W>,
+    rest: &mut BitString<W>,
     ttl: u16,
     steps: &mut Steps<L>,
 ) -> Option<Out<'t, W>>
@@ -156,15 +157,25 @@ fn copy_toward<'t, const W: usize, L: Ledger>(
     requires onward { 1 < ttl }
     requires ttl { ttl ≤ 256 }
     requires routed { has_member bp (routed_of table.now) ≡ true }
-    ensures copy { IsCopy (record { table = table.now; own = None; rest = rest.now; ttl = ttl }) bp result }
+    ensures copy { IsCopy (record { table = table.now; own = None; rest = rest.old; ttl = ttl }) bp result }
+    ensures rest { rest.new ≡ left_after rest.old result }
     ensures steps { steps.new ≡ steps.old + 1 }
 {
     let row = table.row(bp, steps)?;
     Some(Out::Copy {
         to: &routers[usize::from(row.number)],
-        set: rest.and(row.mask),
+        set: rest.cut(row.mask),
         ttl: (ttl - 1) as u8,
     })
+}
+
+// A drop of all that is left.
+fn drop_all<'t, const W: usize>(rest: &mut BitString<W>, why: Why) -> Option<Out<'t, W>>
+    requires { IsTrue (is_width W) }
+    ensures drop { result ≡ drop_of rest.old why }
+    ensures rest { rest.new ≡ left_after rest.old result }
+{
+    dropped(mem::replace(rest, BitString::zero()), why)
 }
 
 // A drop of a set that isn't empty.
