@@ -1,6 +1,6 @@
 ghost use Rattle.std.specs.Prelude.{◌≡◌, ◌≤◌, ◌+◌, ◌*◌, ◌==◌, [], ◌∷◌, length, IsTrue, IfSome};
 ghost use Rattle.wire_base.specs.model.BitSet.{has_member, with_member, first_member, IsWithin, intersection, difference, union, set_of, octets_of};
-ghost use Rattle.bier_bits.specs.Sets.{is_width, from_on};
+ghost use Rattle.bier_bits.specs.Sets.{is_width, from_on, AreApartBelow};
 
 use crate::octets::{read_words, write_words};
 use crate::words::{Both, Either, Without, are_zero, count, cut, first_shared, join, next_place};
@@ -124,7 +124,23 @@ impl<const W: usize> BitString<W> {
         ensures left { self.new ≡ difference self.old mask.now }
     {
         let mut lanes = [0; W];
-        cut(&mut self.lanes, &mask.lanes, &mut lanes);
+        cut(&mut self.lanes, &mask.lanes, &mut lanes, 0);
+        BitString { lanes }
+    }
+
+    /// The same, where it is known that the mask has none of the positions below `bp`: those aren't looked at.
+    #[tactic(auto, using(crate::proofs::Widths::width_le))]
+    pub fn cut_from(&mut self, mask: &Self, bp: u16) -> Self
+        requires width { IsTrue (is_width W) }
+        requires low { 1 ≤ bp }
+        requires high { bp ≤ 64 * W }
+        requires apart { AreApartBelow bp self.old mask.now }
+        ensures taken { result ≡ intersection self.old mask.now }
+        ensures left { self.new ≡ difference self.old mask.now }
+    {
+        let from = usize::from(bp - 1) / 64;
+        let mut lanes = [0; W];
+        cut(&mut self.lanes, &mask.lanes, &mut lanes, from);
         BitString { lanes }
     }
 
@@ -185,7 +201,22 @@ impl<const W: usize> BitString<W> {
         requires { IsTrue (is_width W) }
         ensures { result ≡ first_member (intersection self.now other.now) }
     {
-        let place = first_shared(&self.lanes, &other.lanes)?;
+        let place = first_shared(&self.lanes, &other.lanes, 0)?;
+        Some(place as u16 + 1)
+    }
+
+    /// The same, where it is known that they share none below `bp`: those aren't looked at.
+    #[tactic(auto, using(crate::proofs::Widths::width_le))]
+    pub fn first_shared_from(&self, other: &Self, bp: u16) -> Option<u16>
+        requires width { IsTrue (is_width W) }
+        requires low { 1 ≤ bp }
+        requires high { bp ≤ 64 * W + 1 }
+        requires apart { AreApartBelow bp self.now other.now }
+        ensures first { result ≡ first_member (intersection self.now other.now) }
+        ensures apart { IfSome result (λ p. AreApartBelow p self.now other.now) }
+    {
+        let from = usize::from(bp - 1) / 64;
+        let place = first_shared(&self.lanes, &other.lanes, from)?;
         Some(place as u16 + 1)
     }
 
