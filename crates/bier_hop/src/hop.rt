@@ -3,9 +3,9 @@ ghost use Rattle.std.specs.List.{list_any};
 ghost use Rattle.wire_base.specs.declared.view.First.{First};
 ghost use Rattle.wire_base.specs.model.BitSet.{difference, first_member, has_member, intersection, IsWithin};
 ghost use Rattle.wire_base.specs.model.Hop.{hop};
-ghost use Rattle.bier_bits.specs.Sets.{is_width};
+ghost use Rattle.bier_bits.specs.Sets.{is_width, AreApartBelow};
 ghost use Rattle.bift_table.specs.Bift.{router_at, routed_of, routers_of};
-ghost use Rattle.bier_hop.specs.Outcomes.{IsNumbering, IsOwn, IsOwnWithin, HopState, left, number_in, choose_in, outcome, positions_of, own_in, cost, left_after, drop_of, IsCopy, IsNext};
+ghost use Rattle.bier_hop.specs.Outcomes.{IsFrom, IsNumbering, IsOwn, IsOwnWithin, HopState, left, number_in, choose_in, outcome, positions_of, own_in, cost, left_after, drop_of, IsCopy, IsNext};
 
 use crate::out::{Out, Why};
 use bier_bits::BitString;
@@ -17,25 +17,28 @@ use wire_base::{First, Steps};
 
 /// A packet on its way through one router, seen as the router's table, its own position, the positions that are not yet
 /// given and the packet's TTL.
+///
+/// Of the positions that are left none below `from` has a row, so a hop looks at each word of the packet about once.
 #[derive(Drop)]
 pub struct Hop<'t, const W: usize> {
     table: &'t Table<W>,
     routers: &'t [First],
     own: Option<u16>,
     rest: BitString<W>,
+    from: u16,
     ttl: u16,
 }
 
 impl<'t, const W: usize> Model for Hop<'t, W> {
     ghost use Rattle.std.specs.Prelude.{◌≡◌, ◌≤◌, ◌*◌};
-    ghost use Rattle.bift_table.specs.Bift.{routers_of};
-    ghost use Rattle.bier_hop.specs.Outcomes.{HopState, IsOwn};
+    ghost use Rattle.bift_table.specs.Bift.{routed_of, routers_of};
+    ghost use Rattle.bier_hop.specs.Outcomes.{HopState, IsOwn, IsFrom};
 
     ghost Value = { HopState };
 
     ghost view = { λ h. record { table = h.table.now; own = h.own; rest = h.rest; ttl = h.ttl } };
 
-    ghost invariant = { λ h. (h.routers.now ≡ routers_of h.table.now) × IsOwn (64 * W) h.own × (h.ttl ≤ 256) };
+    ghost invariant = { λ h. (h.routers.now ≡ routers_of h.table.now) × IsOwn (64 * W) h.own × (h.ttl ≤ 256) × IsFrom (64 * W) h.from h.rest (routed_of h.table.now) };
 }
 
 impl<'t, const W: usize> Hop<'t, W> {
@@ -53,6 +56,7 @@ impl<'t, const W: usize> Hop<'t, W> {
             routers: table.routers(),
             own,
             rest: set,
+            from: 1,
             ttl,
         }
     }
@@ -83,18 +87,20 @@ impl<'t, const W: usize> Hop<'t, W> {
             self.routers,
             self.own,
             &mut self.rest,
+            &mut self.from,
             self.ttl,
             steps,
         )
     }
 }
 
-// The outcome of the positions that are left.
+// The outcome of the positions that are left, of which none below `from` has a row.
 fn outcome<'t, const W: usize, L: Ledger>(
     table: &Table<W>,
     routers: &'t [First],
     own: Option<u16>,
     rest: &mut BitString<W>,
+    from: &mut u16,
     ttl: u16,
     steps: &mut Steps<L>,
 ) -> Option<Out<'t, W>>
@@ -102,8 +108,10 @@ fn outcome<'t, const W: usize, L: Ledger>(
     requires routers { routers.now ≡ routers_of table.now }
     requires own { IsOwn (64 * W) own }
     requires ttl { ttl ≤ 256 }
+    requires from { IsFrom (64 * W) from.old rest.old (routed_of table.now) }
     ensures next { IsNext (64 * W) (record { table = table.now; own = own; rest = rest.old; ttl = ttl }) result }
     ensures rest { rest.new ≡ left_after rest.old result }
+    ensures from { IsFrom (64 * W) from.new rest.new (routed_of table.now) }
     ensures steps { steps.new ≡ steps.old + cost result }
 {
     if ttl == 0 {
@@ -113,10 +121,13 @@ fn outcome<'t, const W: usize, L: Ledger>(
         rest.remove(bp);
         return Some(Out::Local(bp));
     }
-    match first_routed(table, rest) {
+    match first_routed(table, rest, *from) {
         None => drop_all(rest, Why::NoRow),
         Some(_) if ttl == 1 => dropped(rest.cut(table.routed()), Why::Ttl),
-        Some(bp) => copy_toward(table, routers, bp, rest, ttl, steps),
+        Some(bp) => {
+            *from = bp;
+            copy_toward(table, routers, bp, rest, ttl, steps)
+        }
     }
 }
 
@@ -130,15 +141,21 @@ fn own_in<const W: usize>(own: Option<u16>, rest: &BitString<W>) -> Option<u16>
     if rest.has(bp) { Some(bp) } else { None }
 }
 
-// The least position of a set that has a row.
-fn first_routed<const W: usize>(table: &Table<W>, rest: &BitString<W>) -> Option<u16>
-    requires { IsTrue (is_width W) }
+// The least position of a set that has a row, where none below `from` has one.
+fn first_routed<const W: usize>(
+    table: &Table<W>,
+    rest: &BitString<W>,
+    from: u16,
+) -> Option<u16>
+    requires width { IsTrue (is_width W) }
+    requires from { IsFrom (64 * W) from rest.now (routed_of table.now) }
     ensures first { result ≡ first_member (intersection rest.now (routed_of table.now)) }
     ensures low { IfSome result (λ p. 1 ≤ p) }
     ensures high { IfSome result (λ p. p ≤ 64 * W) }
     ensures routed { IfSome result (λ p. has_member p (routed_of table.now) ≡ true) }
+    ensures apart { IfSome result (λ p. AreApartBelow p rest.now (routed_of table.now)) }
 {
-    rest.first_shared(table.routed())
+    rest.first_shared_from(table.routed(), from)
 }
 
 // The copy to the router of a position that has a row.
@@ -157,6 +174,7 @@ fn copy_toward<'t, const W: usize, L: Ledger>(
     requires onward { 1 < ttl }
     requires ttl { ttl ≤ 256 }
     requires routed { has_member bp (routed_of table.now) ≡ true }
+    requires apart { AreApartBelow bp rest.old (routed_of table.now) }
     ensures copy { IsCopy (record { table = table.now; own = None; rest = rest.old; ttl = ttl }) bp result }
     ensures rest { rest.new ≡ left_after rest.old result }
     ensures steps { steps.new ≡ steps.old + 1 }
@@ -164,7 +182,7 @@ fn copy_toward<'t, const W: usize, L: Ledger>(
     let row = table.row(bp, steps)?;
     Some(Out::Copy {
         to: &routers[usize::from(row.number)],
-        set: rest.cut(row.mask),
+        set: rest.cut_from(row.mask, bp),
         ttl: (ttl - 1) as u8,
     })
 }
