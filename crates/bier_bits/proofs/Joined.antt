@@ -1,25 +1,27 @@
 -- Words that are joined place by place, eight at once, and the sets that they stand for.
-use Rattle.std.proofs.Common.{◌≡◌, ℕ, suc, ◌+◌, ◌-◌, ◌*◌, ◌/◌, ◌%◌, ◌^◌, ◌<◌, ◌≤◌, ◌==◌, ◌&&◌, ◌||◌, not, min, max, Bool, true, false, List, [], ◌∷◌, drop, map, length, get_or, bit_and, bit_or, w64, refl, sym, ap, ◌∙◌, arith, inl, inr}
+use Rattle.std.proofs.Common.{◌≡◌, ℕ, zero, suc, ◌+◌, ◌-◌, ◌*◌, ◌/◌, ◌%◌, ◌^◌, ◌<◌, ◌≤◌, ◌==◌, ◌&&◌, ◌||◌, not, min, max, Bool, true, false, List, [], ◌∷◌, drop, map, length, get_or, bit_and, bit_or, w64, refl, sym, ap, ◌∙◌, arith, inl, inr}
 use Rattle.std.specs.Int.{bit_at, bit_not}
 use Rattle.std.specs.List.{list_all}
 use Rattle.std.specs.Simd.Lanes.{zip2, chunk, put_chunk, fold_l}
 use Rattle.std.proofs.lemmas.Bool.{cases_lt, cases_eq, ne_eqb, true≢false}
-use Rattle.std.proofs.lemmas.Bool.Decides.{nat_tests}
+use Rattle.std.proofs.lemmas.Bool.Decides.{nat_tests, eqb_tells}
 use Rattle.std.proofs.lemmas.List.{drop_more, drop_all}
 use Rattle.std.proofs.lemmas.List.Folds.{list_all-append, list_all_at}
-use Rattle.std.proofs.lemmas.Nat.{le_or_l, le_or_r}
+use Rattle.std.proofs.lemmas.Nat.{le_or_l, le_or_r, and_le_l}
 use Rattle.std.proofs.lemmas.Nat.Bits.{bit_at_and, bit_at_or, bit_at_not, bit_at-lt, bit_at-zero, same_from_bits_below}
-use Rattle.std.proofs.lemmas.Simd.{chunk-drop, length-chunk, length-zip2, get_or-put_chunk_below, get_or-put_chunk_at, get_or-zip2, get_or-chunk}
+use Rattle.std.proofs.lemmas.Simd.{chunk-drop, length-chunk, length-zip2, get_or-put_chunk_below, get_or-put_chunk_at, get_or-put_chunk_above, get_or-zip2, get_or-chunk}
 use Rattle.std.proofs.Math.Bool.{and_assoc}
 use Rattle.wire_base.specs.model.BitSet.{has_member, IsWithin, intersection, difference, union}
 use Rattle.wire_base.proofs.SetLaws.{has-intersection, has-difference, has-union, has_head, within-intersection, within-difference, within-union}
-use Rattle.bier_bits.specs.Sets.{and_not, has_place, members_of}
+use Rattle.bier_bits.specs.Sets.{and_not, has_both, has_place, members_of, NoPlace}
+use Rattle.bier_bits.proofs.Places.{both_word}
 use Rattle.bier_bits.proofs.WordLaws.{has_members, members_is, place_at, within_members}
 
 -- ---- eight more words
 
-pub eight_more : (f : ℕ → ℕ → ℕ) (a b out : List ℕ) (at : ℕ) → at + 8 ≤ length a → length b ≡ length a → length out ≡ length a → ((k : ℕ) → k < at → get_or out k 0 ≡ f (get_or a k 0) (get_or b k 0)) → (k : ℕ) → k < at + 8 → get_or (put_chunk at out (zip2 f (chunk at 8 a) (chunk at 8 b))) k 0 ≡ f (get_or a k 0) (get_or b k 0)
-eight_more f a b out at room same fits h k lt =
+-- words are read where the first list still has what it began with
+eight_from : (f : ℕ → ℕ → ℕ) (first a b out : List ℕ) (at : ℕ) → at + 8 ≤ length a → length b ≡ length a → length out ≡ length a → ((k : ℕ) → at ≤ k → get_or a k 0 ≡ get_or first k 0) → ((k : ℕ) → k < at → get_or out k 0 ≡ f (get_or first k 0) (get_or b k 0)) → (k : ℕ) → k < at + 8 → get_or (put_chunk at out (zip2 f (chunk at 8 a) (chunk at 8 b))) k 0 ≡ f (get_or first k 0) (get_or b k 0)
+eight_from f first a b out at room same fits kept h k lt =
     let xs = chunk at 8 a in
     let ys = chunk at 8 b in
     let len_x : length xs ≡ 8 = length-chunk at 8 a room in
@@ -32,8 +34,54 @@ eight_more f a b out at room same fits h k lt =
           let e : k ≡ at + j = omega arith in
           let p = get_or-put_chunk_at at out (zip2 f xs ys) j 0 (omega (arith, len)) (omega (arith, len)) in
           let q = get_or-zip2 f xs ys j 0 0 0 (omega (arith, len_x)) (omega (arith, len_y)) in
-          rw e (p ∙ q ∙ rw (get_or-chunk at 8 a j 0 (omega arith), get_or-chunk at 8 b j 0 (omega arith)) refl)
+          rw e (p ∙ q ∙ rw (get_or-chunk at 8 a j 0 (omega arith), get_or-chunk at 8 b j 0 (omega arith), kept (at + j) (omega arith)) refl)
     ]
+
+pub eight_more : (f : ℕ → ℕ → ℕ) (a b out : List ℕ) (at : ℕ) → at + 8 ≤ length a → length b ≡ length a → length out ≡ length a → ((k : ℕ) → k < at → get_or out k 0 ≡ f (get_or a k 0) (get_or b k 0)) → (k : ℕ) → k < at + 8 → get_or (put_chunk at out (zip2 f (chunk at 8 a) (chunk at 8 b))) k 0 ≡ f (get_or a k 0) (get_or b k 0)
+eight_more f a b out at room same fits h k lt = eight_from f a a b out at room same fits (λ k from. refl) h k lt
+
+-- how far words were cut: those before a place are what is left and what was taken, and those from it on are as they were
+pub record IsCut (first words mask taken : List ℕ) (at : ℕ) : Type 0 where
+  pub cut : (k : ℕ) → k < at → get_or taken k 0 ≡ bit_and (get_or first k 0) (get_or mask k 0)
+  pub left : (k : ℕ) → k < at → get_or words k 0 ≡ and_not (get_or first k 0) (get_or mask k 0)
+  pub kept : (k : ℕ) → at ≤ k → get_or words k 0 ≡ get_or first k 0
+
+pub cut_eight : (first words mask taken left took : List ℕ) (at : ℕ) → at + 8 ≤ length words → length mask ≡ length words → length taken ≡ length words → took ≡ put_chunk at taken (zip2 bit_and (chunk at 8 words) (chunk at 8 mask)) → left ≡ put_chunk at words (zip2 and_not (chunk at 8 words) (chunk at 8 mask)) → IsCut first words mask taken at → IsCut first left mask took (at + 8)
+cut_eight first words mask taken left took at room same fits is_took is_left so_far = record {
+  cut = λ k lt. rw is_took (eight_from bit_and first words mask taken at room same fits so_far.kept so_far.cut k lt);
+  left = λ k lt. rw is_left (eight_from and_not first words mask words at room same refl so_far.kept so_far.left k lt);
+  kept = λ k from.
+      let len_x = length-chunk at 8 words room in
+      let len_y = length-chunk at 8 mask (omega arith) in
+      let len = length-zip2 and_not (chunk at 8 words) (chunk at 8 mask) (len_x ∙ sym len_y) ∙ len_x in
+      rw is_left (get_or-put_chunk_above at words (zip2 and_not (chunk at 8 words) (chunk at 8 mask)) k 0 (omega (arith, len, from)) ∙ so_far.kept k (omega (arith, from)));
+}
+
+-- a word that shares no bit with the mask stays
+without_apart : (x y : ℕ) → x < 2 ^ 64 → y < 2 ^ 64 → bit_and x y ≡ 0 → x ≡ and_not x y
+without_apart x y fits_x fits_y apart = same_from_bits_below 64 x (and_not x y) fits_x (omega (arith, and_le_l x (bit_not w64 y), fits_x)) (λ i low.
+    sym (bit_at_and x (bit_not w64 y) i ∙ rw (bit_at_not w64 y i fits_y low) (stays (bit_at x i) (bit_at y i) (bit_at-lt x i) (bit_at-lt y i) (sym (bit_at_and x y i) ∙ ap (λ (n : ℕ). bit_at n i) apart ∙ bit_at-zero i))))
+  where
+    stays : (a b : ℕ) → a < 2 → b < 2 → min a b ≡ 0 → min a (1 - b) ≡ a
+    stays a b p q none = grind (arith, nat_tests)
+
+-- words that share no place share no bit
+words_apart : (a b : List ℕ) (from k : ℕ) → get_or a k 0 < 2 ^ 64 → NoPlace (has_both a b) 0 (64 * from) → k < from → bit_and (get_or a k 0) (get_or b k 0) ≡ 0
+words_apart a b from k fits none lt =
+    let both = bit_and (get_or a k 0) (get_or b k 0) in
+    same_from_bits_below 64 both 0 (omega (arith, and_le_l (get_or a k 0) (get_or b k 0), fits)) (omega arith) (λ i low.
+    no-bit (bit_at both i) (bit_at-lt both i) (sym (both_word a b k i low) ∙ none (64 * k + i) (omega arith) (omega (arith, lt, low))) ∙ sym (bit_at-zero i))
+  where
+    no-bit : (b : ℕ) → b < 2 → (b == 1) ≡ false → b ≡ 0
+    no-bit b small h = grind (arith, nat_tests)
+
+-- words below a place that have no bit of the mask are cut already
+pub cut_start : (words mask taken : List ℕ) (at from : ℕ) → at ≤ from → ((k : ℕ) → get_or words k 0 < 2 ^ 64) → ((k : ℕ) → get_or mask k 0 < 2 ^ 64) → NoPlace (has_both words mask) 0 (64 * from) → ((k : ℕ) → get_or taken k 0 ≡ 0) → IsCut words words mask taken at
+cut_start words mask taken at from le fits_w fits_m none empty = record {
+  cut = λ k lt. empty k ∙ sym (words_apart words mask from k (fits_w k) none (omega (arith, lt, le)));
+  left = λ k lt. without_apart (get_or words k 0) (get_or mask k 0) (fits_w k) (fits_m k) (words_apart words mask from k (fits_w k) none (omega (arith, lt, le)));
+  kept = λ k from. refl;
+}
 
 pub without_eight : (xs ys : List ℕ) → zip2 bit_and xs (map (bit_not w64) ys) ≡ zip2 and_not xs ys
 without_eight [] ys = refl
@@ -103,6 +151,27 @@ zero_one words k all lt so_far = ap (list_all (λ x. x == 0)) (sym (drop_more wo
 
 pub zero_end : (words : List ℕ) (k : ℕ) (all : Bool) → length words ≤ k → list_all (λ x. x == 0) (drop k words) ≡ all → true ≡ all
 zero_end words k all le so_far = ap (list_all (λ x. x == 0)) (sym (drop_all k words le)) ∙ so_far
+
+-- each word of a list where none has a bit
+pub zero_at : (xs : List ℕ) → list_all (λ x. x == 0) xs ≡ true → (k : ℕ) → get_or xs k 0 ≡ 0
+zero_at [] all k = refl
+zero_at (x ∷ xs) all zero = elim (eqb_tells x 0) [
+  | inl same ↦ same.1
+  | inr some ↦ absurd (true≢false (sym all ∙ ap (λ (b : Bool). b && list_all (λ y. y == 0) xs) some.0))
+]
+zero_at (x ∷ xs) all (suc k) = elim (eqb_tells x 0) [
+  | inl same ↦ zero_at xs (ap (λ (b : Bool). b && list_all (λ y. y == 0) xs) (sym same.0) ∙ all) k
+  | inr some ↦ absurd (true≢false (sym all ∙ ap (λ (b : Bool). b && list_all (λ y. y == 0) xs) some.0))
+]
+
+pub zero_more : (words : List ℕ) (from at : ℕ) → at + 8 ≤ length words → list_all (λ x. x == 0) (chunk at 8 words) ≡ true → ((k : ℕ) → from ≤ k → k < at → get_or words k 0 ≡ 0) → (k : ℕ) → from ≤ k → k < at + 8 → get_or words k 0 ≡ 0
+zero_more words from at room none so_far k low lt = elim (cases_lt k at) [
+  | inl below ↦ so_far k low below
+  | inr here ↦
+      let j = k - at in
+      let e : k ≡ at + j = omega (arith, here) in
+      rw e (sym (get_or-chunk at 8 words j 0 (omega (arith, lt, here))) ∙ zero_at (chunk at 8 words) none j)
+]
 
 -- no word has a bit where the set is empty
 pub empty_is : (w : ℕ) (words s : List ℕ) → length words ≡ w → ((k : ℕ) → get_or words k 0 < 2 ^ 64) → members_of w words ≡ s → list_all (λ x. x == 0) words ≡ (length s == 0)

@@ -1,5 +1,5 @@
 -- The first place whose bit is set, word by word.
-use Rattle.std.proofs.Common.{◌≡◌, ℕ, ◌+◌, ◌-◌, ◌*◌, ◌/◌, ◌%◌, ◌^◌, ◌<◌, ◌≤◌, ◌==◌, ◌&&◌, nat_le, Bool, true, false, List, [], ◌∷◌, length, get_or, bit_and, min, max, w64, Some, None, refl, sym, ap, subst, ◌∙◌, arith, inl, inr}
+use Rattle.std.proofs.Common.{◌≡◌, ℕ, ◌+◌, ◌-◌, ◌*◌, ◌/◌, ◌%◌, ◌^◌, ◌<◌, ◌≤◌, ◌==◌, ◌&&◌, nat_le, Bool, true, false, List, [], ◌∷◌, length, get_or, bit_and, min, max, w64, Option, Some, None, IfSome, refl, sym, ap, subst, ◌∙◌, arith, inl, inr}
 use Rattle.std.specs.Int.{bit_at, trailing_zeros}
 use Rattle.std.proofs.lemmas.Bool.{cases_lt, cases_order, eq-eqb, le-leb, lt-leb, true≢false}
 use Rattle.std.proofs.lemmas.Bool.Decides.{nat_tests}
@@ -9,7 +9,7 @@ use Rattle.std.proofs.lemmas.Nat.Bits.{bit_at-trailing_zeros, bit_at_and, bit_at
 use Rattle.std.proofs.Math.Nat.{div-div-eq-div-mul}
 use Rattle.wire_base.specs.model.BitSet.{has_member, first_member, IsWithin, intersection}
 use Rattle.wire_base.proofs.SetLaws.{has-filter, has-intersection, has_head, none_above, none_below, within-filter, within-intersection}
-use Rattle.bier_bits.specs.Sets.{from_on, has_both, has_place, members_of, IsNextPlace, NoPlace}
+use Rattle.bier_bits.specs.Sets.{from_on, has_both, has_place, members_of, AreApartBelow, IsNextPlace, NoPlace}
 use Rattle.bier_bits.proofs.WordLaws.{has_members, place_at, within_members}
 
 -- a test of places that one word answers for 64 of them
@@ -29,6 +29,13 @@ word_none test low k next word is none step so_far i above below = elim (cases_l
   | inr here ↦
       let split : i ≡ 64 * k + (i - 64 * k) = omega (arith, here) in
       ap test split ∙ is (i - 64 * k) (omega (arith, below, step, here)) ∙ ap (λ (n : ℕ). bit_at n (i - 64 * k) == 1) none ∙ ap (λ (b : ℕ). b == 1) (bit_at-zero (i - 64 * k))
+]
+
+-- no bit in several words
+pub words_none : (words : List ℕ) (low k next : ℕ) → NoPlace (has_place words) low (64 * k) → ((j : ℕ) → k ≤ j → j < next → get_or words j 0 ≡ 0) → NoPlace (has_place words) low (64 * next)
+words_none words low k next so_far none i above below = elim (cases_lt i (64 * k)) [
+  | inl before ↦ so_far i above before
+  | inr here ↦ rw (none (i / 64) (omega (arith, here)) (omega (arith, below)), bit_at-zero (i % 64)) refl
 ]
 
 zero_bit : (b : ℕ) → b ≡ 0 → (b == 1) ≡ false
@@ -61,6 +68,12 @@ first_none test from k word above next is at cut none step i low high =
     let j = i - from in
     let split : i ≡ 64 * k + (r + j) = omega (arith, at, low) in
     ap test split ∙ is (r + j) (omega (arith, split, high, step)) ∙ zero_bit (bit_at word (r + j)) (sym (shifted word r j) ∙ ap (λ (n : ℕ). bit_at n j) (sym cut ∙ none) ∙ bit_at-zero j)
+
+-- no bit of the first word, from a place within it on, nor of those behind it
+pub passed_words : (words : List ℕ) (from k : ℕ) → get_or words (from / 64) 0 / 2 ^ (from % 64) ≡ 0 → ((j : ℕ) → from / 64 + 1 ≤ j → j < k → get_or words j 0 ≡ 0) → NoPlace (has_place words) from (64 * k)
+passed_words words from k none zero =
+    let word = get_or words (from / 64) 0 in
+    words_none words from (from / 64 + 1) k (first_none (has_place words) from (from / 64) word (word / 2 ^ (from % 64)) (from / 64 + 1) (place_at words (from / 64)) refl refl none refl) zero
 
 pub first_some : (test : ℕ → Bool) (from k word above high : ℕ) → IsWord test k word → k ≡ from / 64 → above ≡ word / 2 ^ (from % 64) → 0 < above → above < 2 ^ 64 → word < 2 ^ 64 → 64 * k + 64 ≤ high → IsNextPlace test from high (from + trailing_zeros w64 above)
 first_some test from k word above high is at cut some small fits ge =
@@ -170,6 +183,23 @@ from_shared w a b xs ys in_a in_b = (
   λ j lt.
       has-intersection (j + 1) xs ys ∙ rw (has_members w j a xs in_a lt, has_members w j b ys in_b lt, le-leb 0 j (omega arith)) refl,
 )
+
+-- sets that share nothing below a position have no place that both have below its word
+pub none_apart : (w bp from : ℕ) (a b xs ys : List ℕ) → members_of w a ≡ xs → members_of w b ≡ ys → 1 ≤ bp → bp ≤ 64 * w + 1 → from ≡ (bp - 1) / 64 → AreApartBelow bp xs ys → NoPlace (has_both a b) 0 (64 * from)
+none_apart w bp from a b xs ys in_a in_b low high at apart i start lt =
+    let inside : i < 64 * w = omega (arith, high, at, lt) in
+    sym (has-intersection (i + 1) xs ys ∙ rw (has_members w i a xs in_a inside, has_members w i b ys in_b inside) refl) ∙ apart (i + 1) (omega arith) (omega (arith, low, at, lt))
+
+-- two sets share nothing below the first position that they share
+pub first_apart : (w : ℕ) (words xs ys : List ℕ) (result : Option ℕ) → members_of w words ≡ xs → result ≡ first_member (intersection xs ys) → IfSome result (λ p. AreApartBelow p xs ys)
+first_apart w words xs ys None is first = tt
+first_apart w words xs ys (Some p) is first = before (intersection xs ys) 0 (64 * w) (within-intersection 0 (64 * w) xs ys (within_members w words xs is)) (sym first)
+  where
+    before : (zs : List ℕ) (low high : ℕ) → IsWithin low high zs → first_member zs ≡ Some p → (q : ℕ) → 1 ≤ q → q < p → has_member q zs ≡ false
+    before [] low high within at = λ q some lt. refl
+    before (z ∷ zs) low high within at = λ q some lt.
+        let same : z ≡ p = same_Some z p at in
+        none_below q (z - 1) high (z ∷ zs) (omega (arith, within.0), within.1, within.2) (omega (arith, same, lt))
 
 -- the same where the end is that of the words
 pub found_among : (w from i : ℕ) (words : List ℕ) (test : ℕ → Bool) (xs : List ℕ) → length words ≡ w → IsFrom (64 * w) from test xs → IsNextPlace test from (64 * length words) i → Some (i + 1) ≡ first_member xs

@@ -1,11 +1,11 @@
 -- Words of 64 bits and the set of positions that they stand for.
-use Rattle.std.proofs.Common.{◌≡◌, ℕ, ◌+◌, ◌-◌, ◌*◌, ◌/◌, ◌%◌, ◌^◌, ◌<◌, ◌≤◌, ◌≢◌, ◌==◌, ◌||◌, true, false, cond, List, [], length, get_or, set, replicate, bit_and, bit_or, w64, refl, sym, ap, subst, ◌∙◌, arith, inl, inr}
-use Rattle.std.specs.Int.{bit_at}
+use Rattle.std.proofs.Common.{◌≡◌, ℕ, ◌+◌, ◌-◌, ◌*◌, ◌/◌, ◌%◌, ◌^◌, ◌<◌, ◌≤◌, ◌≢◌, ◌==◌, ◌&&◌, ◌||◌, not, Bool, true, false, cond, List, [], ◌∷◌, length, get_or, set, replicate, bit_and, bit_or, w64, refl, sym, ap, subst, ◌∙◌, arith, inl, inr}
+use Rattle.std.specs.Int.{bit_at, bit_not}
 use Rattle.std.proofs.lemmas.Bool.{cases_eq, eq-eqb, ne_eqb}
 use Rattle.std.proofs.lemmas.List.{get_or-replicate, get_or-set_same, get_or-set_other}
-use Rattle.std.proofs.lemmas.Nat.Bits.{bit_at-zero, bit_at_set_same, bit_at_set_other, shr_and_one}
-use Rattle.wire_base.specs.model.BitSet.{has_member, with_member, IsWithin, up_to}
-use Rattle.wire_base.proofs.SetLaws.{filter-is, has-filter, has-up_to, has-with, none_above, none_below, within-filter, within-up_to, within-with}
+use Rattle.std.proofs.lemmas.Nat.Bits.{bit_at-zero, bit_at_set_same, bit_at_set_other, bit_at_clear_same, bit_at_clear_other, shr_and_one}
+use Rattle.wire_base.specs.model.BitSet.{has_member, with_member, IsWithin, difference, up_to}
+use Rattle.wire_base.proofs.SetLaws.{filter-is, has-filter, has-up_to, has-with, has-difference, none_above, none_below, within-filter, within-up_to, within-with, within-difference}
 use Rattle.bier_bits.specs.Sets.{has_place, members_of}
 
 pub within_members : (w : ℕ) (words s : List ℕ) → members_of w words ≡ s → IsWithin 0 (64 * w) s
@@ -62,6 +62,41 @@ set_is w bp words s long is low high =
     shifted i = elim (cases_eq i (bp - 1)) [
       | inl e ↦ rw (eq-eqb i (bp - 1) e, eq-eqb (i + 1) bp (omega arith)) refl
       | inr ne ↦ rw (ne_eqb i (bp - 1) ne, ne_eqb (i + 1) bp (λ h. ne (omega arith))) refl
+    ]
+
+-- what a bit of the words is after another is cleared
+bit_cleared : (words : List ℕ) (n i : ℕ) → n / 64 < length words → has_place (set words (n / 64) (bit_and (get_or words (n / 64) 0) (bit_not w64 (1 * 2 ^ (n % 64) % 2 ^ 64)))) i ≡ cond (i == n) false (has_place words i)
+bit_cleared words n i within =
+    let x = get_or words (n / 64) 0 in
+    let y = bit_and x (bit_not w64 (1 * 2 ^ (n % 64) % 2 ^ 64)) in
+    elim (cases_eq i n) [
+      | inl e ↦ rw (e, get_or-set_same words (n / 64) y 0 within, bit_at_clear_same w64 x (n % 64) (omega arith), eq-eqb n n refl) refl
+      | inr ne ↦ rw (ne_eqb i n ne) (elim (cases_eq (i / 64) (n / 64)) [
+        | inl same ↦
+            let apart : i % 64 ≢ n % 64 = λ h. ne (omega arith) in
+            rw (same, get_or-set_same words (n / 64) y 0 within, bit_at_clear_other w64 x (n % 64) (omega arith) (i % 64) (omega arith) apart) refl
+        | inr other ↦ rw (get_or-set_other words (n / 64) (i / 64) y 0 other) refl
+      ])
+    ]
+
+pub removed_is : (w bp : ℕ) (words s : List ℕ) → length words ≡ w → members_of w words ≡ s → 1 ≤ bp → bp ≤ 64 * w
+    → members_of w (set words ((bp - 1) / 64) (bit_and (get_or words ((bp - 1) / 64) 0) (bit_not w64 (1 * 2 ^ ((bp - 1) % 64) % 2 ^ 64)))) ≡ difference s (bp ∷ [])
+removed_is w bp words s long is low high =
+    members_is w _ (difference s (bp ∷ [])) (within-difference 0 (64 * w) s (bp ∷ []) (within_members w words s is)) (λ i lt.
+      has-difference (i + 1) s (bp ∷ []) ∙ rw (has_members w i words s is lt) (sym (bit_cleared words (bp - 1) i (omega arith) ∙ shifted i)))
+  where
+    no-false : (b : Bool) → (b && false) ≡ false
+    no-false true = refl
+    no-false false = refl
+
+    no-true : (b : Bool) → (b && true) ≡ b
+    no-true true = refl
+    no-true false = refl
+
+    shifted : (i : ℕ) → cond (i == (bp - 1)) false (has_place words i) ≡ (has_place words i && not ((i + 1 == bp) || false))
+    shifted i = elim (cases_eq i (bp - 1)) [
+      | inl e ↦ rw (eq-eqb i (bp - 1) e, eq-eqb (i + 1) bp (omega arith)) (sym (no-false (has_place words i)))
+      | inr ne ↦ rw (ne_eqb i (bp - 1) ne, ne_eqb (i + 1) bp (λ h. ne (omega arith))) (sym (no-true (has_place words i)))
     ]
 
 -- what is read at a position, outside of the words and inside

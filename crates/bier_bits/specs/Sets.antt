@@ -2,7 +2,7 @@
 use Rattle.std.specs.Prelude.{ℕ, ◌≤◌, ◌<◌, ◌≡◌, ◌*◌, ◌-◌, ◌/◌, ◌%◌, ◌^◌, ◌&&◌, Bool, true, false, ◌||◌, List, ◌==◌, nat_le, filter, length, drop, slice_index, bit_and}
 use Rattle.std.specs.Int.{bit_at, bit_not, w64}
 use Rattle.byteorder.specs.Endian.{big_number}
-use Rattle.wire_base.specs.model.BitSet.{up_to}
+use Rattle.wire_base.specs.model.BitSet.{up_to, has_member, intersection}
 
 -- the widths that a BitString can have, in units of 64 bits (RFC 8296, 2.1.2)
 abbrev pub is_width : ℕ → Bool
@@ -11,6 +11,10 @@ is_width w = (w == 1) || (w == 2) || (w == 4) || (w == 8) || (w == 16) || (w == 
 -- the members from a number on
 abbrev pub from_on : ℕ → List ℕ → List ℕ
 from_on low set = filter (λ p. nat_le low p) set
+
+-- two sets share no position below one
+abbrev pub AreApartBelow : ℕ → List ℕ → List ℕ → Type 0
+AreApartBelow bp xs ys = (p : ℕ) → 1 ≤ p → p < bp → has_member p (intersection xs ys) ≡ false
 
 -- whether the bit at a place is set, which is counted from 0 through all words, the least bit of each word first
 abbrev pub has_place : List ℕ → ℕ → Bool

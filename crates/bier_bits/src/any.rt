@@ -1,7 +1,7 @@
-ghost use Rattle.std.specs.Prelude.{◌≡◌, ◌≤◌, ◌*◌, ◌/◌, ◌==◌, length, [], ◌∷◌, ◌+◌, IfSome};
+ghost use Rattle.std.specs.Prelude.{◌≡◌, ◌≤◌, ◌*◌, ◌/◌, ◌==◌, length, [], ◌∷◌, ◌+◌, IfSome, IsTrue};
 ghost use Rattle.wire_base.specs.model.Place.{bits_of};
 ghost use Rattle.wire_base.specs.model.BitSet.{has_member, first_member, with_member, IsWithin, intersection, difference, union, set_of, octets_of};
-ghost use Rattle.bier_bits.specs.Sets.{from_on};
+ghost use Rattle.bier_bits.specs.Sets.{is_width, from_on};
 ghost use Rattle.bier_bits.specs.Any.{bsl_of, positions_of, any_of};
 
 use crate::bit_string::BitString;
@@ -36,6 +36,24 @@ impl AnyBits {
             Bsl::B1024 => AnyBits::B1024(BitString::zero()),
             Bsl::B2048 => AnyBits::B2048(BitString::zero()),
             Bsl::B4096 => AnyBits::B4096(BitString::zero()),
+        }
+    }
+
+    /// A set with that many bits as one of any length.
+    pub fn from_set<const W: usize>(bsl: Bsl, set: &BitString<W>) -> Self
+        requires width { IsTrue (is_width W) }
+        requires bits { bits_of bsl ≡ 64 * W }
+        ensures positions { positions_of result ≡ set.now }
+        ensures bsl { bsl_of result ≡ bsl }
+    {
+        match bsl {
+            Bsl::B64 => AnyBits::B64(set.as_wide()),
+            Bsl::B128 => AnyBits::B128(set.as_wide()),
+            Bsl::B256 => AnyBits::B256(set.as_wide()),
+            Bsl::B512 => AnyBits::B512(set.as_wide()),
+            Bsl::B1024 => AnyBits::B1024(set.as_wide()),
+            Bsl::B2048 => AnyBits::B2048(set.as_wide()),
+            Bsl::B4096 => AnyBits::B4096(set.as_wide()),
         }
     }
 

@@ -1,9 +1,9 @@
 ghost use Rattle.std.specs.Prelude.{◌≡◌, ◌≤◌, ◌+◌, ◌*◌, ◌==◌, [], ◌∷◌, length, IsTrue, IfSome};
 ghost use Rattle.wire_base.specs.model.BitSet.{has_member, with_member, first_member, IsWithin, intersection, difference, union, set_of, octets_of};
-ghost use Rattle.bier_bits.specs.Sets.{is_width, from_on};
+ghost use Rattle.bier_bits.specs.Sets.{is_width, from_on, AreApartBelow};
 
 use crate::octets::{read_words, write_words};
-use crate::words::{Both, Either, Without, are_zero, count, first_shared, join, next_place};
+use crate::words::{Both, Either, Without, are_zero, count, cut, first_shared, join, next_place};
 use std::marker::Model;
 
 /// A BitString of 64 W bits, seen as a set of bit positions, which are counted from 1 to 64 W (RFC 8279, 3; RFC 8296,
@@ -40,6 +40,17 @@ impl<const W: usize> BitString<W> {
         BitString { lanes: self.lanes }
     }
 
+    /// An equal set whose width is written as another number.
+    pub(crate) fn as_wide<const V: usize>(&self) -> BitString<V>
+        requires width { IsTrue (is_width W) }
+        requires same { V ≡ W }
+        ensures { result ≡ self.now }
+    {
+        let mut lanes = [0; V];
+        lanes.copy_from_slice(&self.lanes);
+        BitString { lanes }
+    }
+
     /// How many bits the string has, which is the highest position. The set is an ascending list of positions from 1 to
     /// it.
     #[tactic(auto, using(crate::proofs::Widths::width_le))]
@@ -61,6 +72,17 @@ impl<const W: usize> BitString<W> {
     {
         let place = usize::from(bp - 1);
         self.lanes[place / 64] |= 1 << (place % 64);
+    }
+
+    /// Takes a position, from 1 to the width, out of the set.
+    pub fn remove(&mut self, bp: u16)
+        requires width { IsTrue (is_width W) }
+        requires low { 1 ≤ bp }
+        requires high { bp ≤ 64 * W }
+        ensures { self.new ≡ difference self.old (bp ∷ []) }
+    {
+        let place = usize::from(bp - 1);
+        self.lanes[place / 64] &= !(1 << (place % 64));
     }
 
     /// Whether a position is in the set. False outside 1 to the width.
@@ -95,15 +117,31 @@ impl<const W: usize> BitString<W> {
         BitString { lanes }
     }
 
-    /// Takes the positions that the mask has out of the set, and gives them.
+    /// Takes the positions that the mask has out of the set, in place, and gives them.
     pub fn cut(&mut self, mask: &Self) -> Self
         requires { IsTrue (is_width W) }
         ensures taken { result ≡ intersection self.old mask.now }
         ensures left { self.new ≡ difference self.old mask.now }
     {
-        let taken = self.and(mask);
-        *self = self.and_not(mask);
-        taken
+        let mut lanes = [0; W];
+        cut(&mut self.lanes, &mask.lanes, &mut lanes, 0);
+        BitString { lanes }
+    }
+
+    /// The same, where it is known that the mask has none of the positions below `bp`: those aren't looked at.
+    #[tactic(auto, using(crate::proofs::Widths::width_le))]
+    pub fn cut_from(&mut self, mask: &Self, bp: u16) -> Self
+        requires width { IsTrue (is_width W) }
+        requires low { 1 ≤ bp }
+        requires high { bp ≤ 64 * W }
+        requires apart { AreApartBelow bp self.old mask.now }
+        ensures taken { result ≡ intersection self.old mask.now }
+        ensures left { self.new ≡ difference self.old mask.now }
+    {
+        let from = usize::from(bp - 1) / 64;
+        let mut lanes = [0; W];
+        cut(&mut self.lanes, &mask.lanes, &mut lanes, from);
+        BitString { lanes }
     }
 
     /// The positions of this set and those of the other.
@@ -163,7 +201,22 @@ impl<const W: usize> BitString<W> {
         requires { IsTrue (is_width W) }
         ensures { result ≡ first_member (intersection self.now other.now) }
     {
-        let place = first_shared(&self.lanes, &other.lanes)?;
+        let place = first_shared(&self.lanes, &other.lanes, 0)?;
+        Some(place as u16 + 1)
+    }
+
+    /// The same, where it is known that they share none below `bp`: those aren't looked at.
+    #[tactic(auto, using(crate::proofs::Widths::width_le))]
+    pub fn first_shared_from(&self, other: &Self, bp: u16) -> Option<u16>
+        requires width { IsTrue (is_width W) }
+        requires low { 1 ≤ bp }
+        requires high { bp ≤ 64 * W + 1 }
+        requires apart { AreApartBelow bp self.now other.now }
+        ensures first { result ≡ first_member (intersection self.now other.now) }
+        ensures apart { IfSome result (λ p. AreApartBelow p self.now other.now) }
+    {
+        let from = usize::from(bp - 1) / 64;
+        let place = first_shared(&self.lanes, &other.lanes, from)?;
         Some(place as u16 + 1)
     }
 

@@ -91,6 +91,42 @@ fn join_eight<J: Joint>(a: &[u64], b: &[u64], out: &mut [u64], at: usize)
     joined.copy_to_slice(&mut out[at..]);
 }
 
+/// Takes the bits that a mask has out of words, and puts them into `taken`, which is empty: eight words at once, and
+/// then those that are left. Below the word `from` the mask has none of them.
+pub fn cut(words: &mut [u64], mask: &[u64], taken: &mut [u64], from: usize)
+    requires mask { length mask.now ≡ length words.old }
+    requires taken { length taken.old ≡ length words.old }
+    requires none { NoPlace (has_both words.old mask.now) 0 (64 * from) }
+    requires empty { (k : ℕ) → slice_index taken.old k ≡ 0 }
+    ensures fits { AreWords mask.now }
+    ensures taken { (k : ℕ) → k < length words.old → slice_index taken.new k ≡ bit_and (slice_index words.old k) (slice_index mask.now k) }
+    ensures left { (k : ℕ) → k < length words.old → slice_index words.new k ≡ and_not (slice_index words.old k) (slice_index mask.now k) }
+{
+    let whole = words.len() / 8 * 8;
+    let mut at = whole.min(from / 8 * 8);
+    while at < whole {
+        cut_eight(words, mask, taken, at);
+        at += 8;
+    }
+    for k in whole..words.len() {
+        taken[k] = words[k] & mask[k];
+        words[k] &= !mask[k];
+    }
+}
+
+fn cut_eight(words: &mut [u64], mask: &[u64], taken: &mut [u64], at: usize)
+    requires words { at + 8 ≤ length words.old }
+    requires mask { at + 8 ≤ length mask.now }
+    requires taken { at + 8 ≤ length taken.old }
+    ensures taken { taken.new ≡ put_chunk at taken.old (zip2 bit_and (chunk at 8 words.old) (chunk at 8 mask.now)) }
+    ensures left { words.new ≡ put_chunk at words.old (zip2 and_not (chunk at 8 words.old) (chunk at 8 mask.now)) }
+{
+    let eight = u64x8::from_slice(&words[at..]);
+    let mask = u64x8::from_slice(&mask[at..]);
+    Both::eight(eight, mask).copy_to_slice(&mut taken[at..]);
+    Without::eight(eight, mask).copy_to_slice(&mut words[at..]);
+}
+
 /// Whether no word has a bit.
 pub fn are_zero(words: &[u64]) -> bool
     ensures fits { AreWords words.now }
@@ -133,21 +169,42 @@ pub fn next_place(words: &[u64], from: usize) -> Option<usize>
     if above != 0 {
         return Some(from + above.trailing_zeros() as usize);
     }
-    for k in first + 1..words.len() {
-        if words[k] != 0 {
-            return Some(64 * k + words[k].trailing_zeros() as usize);
-        }
+    let k = next_word(words, first + 1);
+    if k >= words.len() {
+        return None;
     }
-    None
+    Some(64 * k + words[k].trailing_zeros() as usize)
 }
 
-/// The first place whose bit both have.
-pub fn first_shared(a: &[u64], b: &[u64]) -> Option<usize>
+/// The first place from one on whose word has a bit, or the end where none has: eight words at once, as long as they have
+/// none, and then one by one.
+fn next_word(words: &[u64], from: usize) -> usize
+    requires few { length words.now ≤ 64 }
+    requires within { from ≤ length words.now }
+    ensures low { from ≤ result }
+    ensures high { result ≤ length words.now }
+    ensures zero { (k : ℕ) → from ≤ k → k < result → slice_index words.now k ≡ 0 }
+    ensures found { result < length words.now → 0 < slice_index words.now result }
+{
+    let mut at = from;
+    'eights: while at + 8 <= words.len() && are_eight_zero(words, at) {
+        at += 8;
+    }
+    'ones: while at < words.len() && words[at] == 0 {
+        at += 1;
+    }
+    at
+}
+
+/// The first place whose bit both have. Below the word `from` they share none.
+pub fn first_shared(a: &[u64], b: &[u64], from: usize) -> Option<usize>
     requires few { length a.now ≤ 64 }
     requires same { length b.now ≡ length a.now }
+    requires within { from ≤ length a.now }
+    requires none { NoPlace (has_both a.now b.now) 0 (64 * from) }
     ensures { MatchOption result (NoPlace (has_both a.now b.now) 0 (64 * length a.now)) (λ q. IsNextPlace (has_both a.now b.now) 0 (64 * length a.now) q) }
 {
-    for k in 0..a.len() {
+    for k in from..a.len() {
         let both = a[k] & b[k];
         if both != 0 {
             return Some(64 * k + both.trailing_zeros() as usize);

@@ -10,12 +10,14 @@ use Rattle.wire_base.specs.model.BitSet.{has_member, IsWithin, first_member, int
 use Rattle.wire_base.specs.model.Hop as model
 use Rattle.wire_base.specs.model.Hop.{Outcome, has, hop, local, forward, copies, unless_empty, is_this, distinct}
 use Rattle.wire_base.proofs.SetLaws.{has_head, has-filter, none_below, none_above}
+use Rattle.bier_bits.specs.Sets.{AreApartBelow}
 use Rattle.bift_table.specs.Bift.{router_at, leads_to, same_router, mask_of, routed_of}
 use Rattle.bift_table.proofs.BiftLaws.{has-mask, has-routed, same_router-is, same_router-refl}
 use Rattle.bier_hop.specs.declared.out.Out.{Out}
 use Rattle.bier_hop.specs.declared.out.Out.TheVariants.{Local, Copy, Dropped}
+use Rattle.bier_hop.specs.declared.out.Why.{Why}
 use Rattle.bier_hop.specs.declared.out.Why.TheVariants.{NoRow, Ttl}
-use Rattle.bier_hop.specs.Outcomes.{HopState, IsOwn, IsNumbering, number_in, choose_in, own_in, drop_of, IsCopy, IsNext}
+use Rattle.bier_hop.specs.Outcomes.{HopState, IsOwn, IsNumbering, number_in, choose_in, own_in, drop_of, left_after, positions_of, IsCopy, IsNext}
 use Rattle.bier_hop.proofs.CopyLaws.{filter-same, filter-filter, filter-none, filter-every, filter_map-none, filter_map-first, copies-first}
 
 -- ---- hops over any choice
@@ -189,10 +191,10 @@ this-is table number choose is p f at k = ap (λ o. is_this o (number f)) (is.ch
 
 -- ---- what is left
 
-difference-shared : (rest ys : List ℕ) → difference rest (intersection rest ys) ≡ difference rest ys
+pub difference-shared : (rest ys : List ℕ) → difference rest (intersection rest ys) ≡ difference rest ys
 difference-shared rest ys = filter-same (λ p. not (has_member p (intersection rest ys))) (λ p. not (has_member p ys)) rest (λ p is. ap not (has-filter p (λ q. has_member q ys) rest ∙ rw is refl))
 
-difference-itself : (rest : List ℕ) → difference rest rest ≡ []
+pub difference-itself : (rest : List ℕ) → difference rest rest ≡ []
 difference-itself rest = filter-same (λ p. not (has_member p rest)) (λ p. false) rest (λ p is. ap not is) ∙ filter-none rest
 
 not-longer : (q : ℕ → Bool) (xs : List ℕ) → length (filter q xs) ≤ length xs
@@ -355,6 +357,48 @@ copied {w} bits table own rest set ttl p (Some (Copy to sent (suc n))) low q e f
       shorter = left-shorter rest sent p inside taken;
       local = tt;
     }
+
+-- ---- what each outcome leaves
+
+-- all that is left goes
+pub all-left : {w : ℕ} (rest set : List ℕ) (why : Why) (result : Option (Out w)) → set ≡ [] → result ≡ drop_of rest why → set ≡ left_after rest result
+all-left [] set why None none e = none
+all-left [] set why (Some out) none e = cc
+all-left (p ∷ ps) set why None none e = cc
+all-left {w} (p ∷ ps) set why (Some out) none e = none ∙ sym (difference-itself (p ∷ ps)) ∙ ap (left_after {w = w} (p ∷ ps)) (sym e)
+
+-- what was cut by a mask goes, where it isn't nothing
+pub last-left : {w : ℕ} (rest mask set : List ℕ) (why : Why) (p : ℕ) (result : Option (Out w)) → set ≡ intersection rest mask → first_member set ≡ Some p → result ≡ drop_of set why → difference rest mask ≡ left_after rest result
+last-left rest mask [] why p result e first is = cc
+last-left {w} rest mask (q ∷ qs) why p result e first is = sym (difference-shared rest mask) ∙ ap (difference rest) (sym e) ∙ ap (left_after {w = w} rest) (sym is)
+
+-- ---- what isn't looked at
+
+-- no position that has a row comes back
+pub apart-after : {w : ℕ} (low : ℕ) (rest routed left : List ℕ) (result : Option (Out w)) → left ≡ left_after rest result → AreApartBelow low rest routed → AreApartBelow low left routed
+apart-after low rest routed left None is apart p some lt = ap (λ (l : List ℕ). has_member p (intersection l routed)) is ∙ apart p some lt
+apart-after low rest routed left (Some out) is apart p some lt =
+    ap (λ (l : List ℕ). has_member p (intersection l routed)) is
+    ∙ fewer (has_member p (difference rest (positions_of out))) (has_member p rest) (has_member p routed) _ _ (has-filter p (λ k. has_member k routed) (difference rest (positions_of out)))
+    (has-filter p (λ k. not (has_member k (positions_of out))) rest) (sym (has-filter p (λ k. has_member k routed) rest) ∙ apart p some lt)
+  where
+    fewer : (a b c d e : Bool) → d ≡ (a && c) → a ≡ (b && e) → (b && c) ≡ false → d ≡ false
+    fewer a true c d e is_d is_a none = is_d ∙ ap (λ (k : Bool). a && k) none ∙ and-false a
+    fewer a false c d e is_d is_a none = is_d ∙ ap (λ (k : Bool). k && c) is_a
+
+-- the mask of a router has only positions with a row
+pub apart-mask : (table : List (Option First)) (f : First) (low : ℕ) (rest : List ℕ) → AreApartBelow low rest (routed_of table) → AreApartBelow low rest (mask_of table f)
+apart-mask table f low rest apart p some lt =
+    has-filter p (λ k. has_member k (mask_of table f)) rest
+    ∙ fewer (has_member p rest) (has_member p (mask_of table f)) (has_member p (routed_of table)) (λ h. has-routed table p ∙ leads (router_at table p) (sym (has-mask table f p) ∙ h)) (sym (has-filter p (λ k. has_member k (routed_of table)) rest) ∙ apart p some lt)
+  where
+    leads : (o : Option First) → leads_to o f ≡ true → is_some o ≡ true
+    leads None h = h
+    leads (Some g) h = refl
+
+    fewer : (a b c : Bool) → (b ≡ true → c ≡ true) → (a && c) ≡ false → (a && b) ≡ false
+    fewer a false c more none = and-false a
+    fewer a true c more none = ap (λ (k : Bool). a && k) (sym (more refl)) ∙ none
 
 -- ---- numbers that every table has
 

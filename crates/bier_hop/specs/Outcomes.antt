@@ -1,9 +1,10 @@
 -- What a hop over a forwarding table gives, as the outcomes of one hop.
-use Rattle.std.specs.Prelude.{ℕ, suc, ◌≡◌, ◌≤◌, ◌<◌, ◌==◌, List, [], ◌∷◌, length, Option, Some, None, option_map, is_none, IfSome, MatchOption, if◌then◌else◌}
+use Rattle.std.specs.Prelude.{ℕ, suc, ◌+◌, ◌≡◌, ◌≤◌, ◌<◌, ◌==◌, List, [], ◌∷◌, length, Option, Some, None, option_map, is_none, IfSome, MatchOption, if◌then◌else◌}
 use Rattle.wire_base.specs.declared.view.First.{First}
 use Rattle.wire_base.specs.model.BitSet.{has_member, difference, intersection}
 use Rattle.wire_base.specs.model.Hop as model
 use Rattle.wire_base.specs.model.Hop.{Outcome, hop}
+use Rattle.bier_bits.specs.Sets.{AreApartBelow}
 use Rattle.bift_table.specs.Bift.{router_at, leads_to, mask_of}
 use Rattle.bier_hop.specs.declared.out.Out.{Out}
 use Rattle.bier_hop.specs.declared.out.Out.TheVariants.{Local, Copy, Dropped}
@@ -68,6 +69,10 @@ cost (Some (Copy to set ttl)) = 1
 cost (Some (Dropped set why)) = 0
 
 -- how the parts of the code give it
+
+-- no position below one is left that has a row
+abbrev pub IsFrom : ℕ → ℕ → List ℕ → List ℕ → Type 0
+IsFrom bits low rest routed = (1 ≤ low) × (low ≤ bits + 1) × AreApartBelow low rest routed
 
 abbrev pub IsOwnWithin : {w : ℕ} → ℕ → Out w → Type 0
 IsOwnWithin bits (Local p) = (1 ≤ p) × (p ≤ bits)

@@ -3,38 +3,42 @@ ghost use Rattle.std.specs.List.{list_any};
 ghost use Rattle.wire_base.specs.declared.view.First.{First};
 ghost use Rattle.wire_base.specs.model.BitSet.{difference, first_member, has_member, intersection, IsWithin};
 ghost use Rattle.wire_base.specs.model.Hop.{hop};
-ghost use Rattle.bier_bits.specs.Sets.{is_width};
+ghost use Rattle.bier_bits.specs.Sets.{is_width, AreApartBelow};
 ghost use Rattle.bift_table.specs.Bift.{router_at, routed_of, routers_of};
-ghost use Rattle.bier_hop.specs.Outcomes.{IsNumbering, IsOwn, IsOwnWithin, HopState, left, number_in, choose_in, outcome, positions_of, own_in, cost, left_after, drop_of, IsCopy, IsNext};
+ghost use Rattle.bier_hop.specs.Outcomes.{IsFrom, IsNumbering, IsOwn, IsOwnWithin, HopState, left, number_in, choose_in, outcome, positions_of, own_in, cost, left_after, drop_of, IsCopy, IsNext};
 
-use crate::out::{Out, Why, without};
+use crate::out::{Out, Why};
 use bier_bits::BitString;
 use bift_table::Table;
 use std::marker::Model;
+use std::mem;
 use std::sync::ledger::Ledger;
 use wire_base::{First, Steps};
 
 /// A packet on its way through one router, seen as the router's table, its own position, the positions that are not yet
 /// given and the packet's TTL.
+///
+/// Of the positions that are left none below `from` has a row, so a hop looks at each word of the packet about once.
 #[derive(Drop)]
 pub struct Hop<'t, const W: usize> {
     table: &'t Table<W>,
     routers: &'t [First],
     own: Option<u16>,
     rest: BitString<W>,
+    from: u16,
     ttl: u16,
 }
 
 impl<'t, const W: usize> Model for Hop<'t, W> {
     ghost use Rattle.std.specs.Prelude.{◌≡◌, ◌≤◌, ◌*◌};
-    ghost use Rattle.bift_table.specs.Bift.{routers_of};
-    ghost use Rattle.bier_hop.specs.Outcomes.{HopState, IsOwn};
+    ghost use Rattle.bift_table.specs.Bift.{routed_of, routers_of};
+    ghost use Rattle.bier_hop.specs.Outcomes.{HopState, IsOwn, IsFrom};
 
     ghost Value = { HopState };
 
     ghost view = { λ h. record { table = h.table.now; own = h.own; rest = h.rest; ttl = h.ttl } };
 
-    ghost invariant = { λ h. (h.routers.now ≡ routers_of h.table.now) × IsOwn (64 * W) h.own × (h.ttl ≤ 256) };
+    ghost invariant = { λ h. (h.routers.now ≡ routers_of h.table.now) × IsOwn (64 * W) h.own × (h.ttl ≤ 256) × IsFrom (64 * W) h.from h.rest (routed_of h.table.now) };
 }
 
 impl<'t, const W: usize> Hop<'t, W> {
@@ -52,6 +56,7 @@ impl<'t, const W: usize> Hop<'t, W> {
             routers: table.routers(),
             own,
             rest: set,
+            from: 1,
             ttl,
         }
     }
@@ -77,25 +82,25 @@ impl<'t, const W: usize> Hop<'t, W> {
         ensures ttl { self.new.ttl ≡ self.old.ttl }
         ensures steps { steps.new ≡ steps.old + cost result }
     {
-        let out = outcome(
+        outcome(
             self.table,
             self.routers,
             self.own,
-            &self.rest,
+            &mut self.rest,
+            &mut self.from,
             self.ttl,
             steps,
-        )?;
-        self.rest = without(&self.rest, &out);
-        Some(out)
+        )
     }
 }
 
-// The outcome of the positions that are left.
+// The outcome of the positions that are left, of which none below `from` has a row.
 fn outcome<'t, const W: usize, L: Ledger>(
     table: &Table<W>,
     routers: &'t [First],
     own: Option<u16>,
-    rest: &BitString<W>,
+    rest: &mut BitString<W>,
+    from: &mut u16,
     ttl: u16,
     steps: &mut Steps<L>,
 ) -> Option<Out<'t, W>>
@@ -103,19 +108,26 @@ fn outcome<'t, const W: usize, L: Ledger>(
     requires routers { routers.now ≡ routers_of table.now }
     requires own { IsOwn (64 * W) own }
     requires ttl { ttl ≤ 256 }
-    ensures next { IsNext (64 * W) (record { table = table.now; own = own; rest = rest.now; ttl = ttl }) result }
+    requires from { IsFrom (64 * W) from.old rest.old (routed_of table.now) }
+    ensures next { IsNext (64 * W) (record { table = table.now; own = own; rest = rest.old; ttl = ttl }) result }
+    ensures rest { rest.new ≡ left_after rest.old result }
+    ensures from { IsFrom (64 * W) from.new rest.new (routed_of table.now) }
     ensures steps { steps.new ≡ steps.old + cost result }
 {
     if ttl == 0 {
-        return dropped(rest.copy(), Why::Ttl);
+        return drop_all(rest, Why::Ttl);
     }
     if let Some(bp) = own_in(own, rest) {
+        rest.remove(bp);
         return Some(Out::Local(bp));
     }
-    match first_routed(table, rest) {
-        None => dropped(rest.copy(), Why::NoRow),
-        Some(_) if ttl == 1 => dropped(rest.and(table.routed()), Why::Ttl),
-        Some(bp) => copy_toward(table, routers, bp, rest, ttl, steps),
+    match first_routed(table, rest, *from) {
+        None => drop_all(rest, Why::NoRow),
+        Some(_) if ttl == 1 => dropped(rest.cut(table.routed()), Why::Ttl),
+        Some(bp) => {
+            *from = bp;
+            copy_toward(table, routers, bp, rest, ttl, steps)
+        }
     }
 }
 
@@ -129,15 +141,21 @@ fn own_in<const W: usize>(own: Option<u16>, rest: &BitString<W>) -> Option<u16>
     if rest.has(bp) { Some(bp) } else { None }
 }
 
-// The least position of a set that has a row.
-fn first_routed<const W: usize>(table: &Table<W>, rest: &BitString<W>) -> Option<u16>
-    requires { IsTrue (is_width W) }
+// The least position of a set that has a row, where none below `from` has one.
+fn first_routed<const W: usize>(
+    table: &Table<W>,
+    rest: &BitString<W>,
+    from: u16,
+) -> Option<u16>
+    requires width { IsTrue (is_width W) }
+    requires from { IsFrom (64 * W) from rest.now (routed_of table.now) }
     ensures first { result ≡ first_member (intersection rest.now (routed_of table.now)) }
     ensures low { IfSome result (λ p. 1 ≤ p) }
     ensures high { IfSome result (λ p. p ≤ 64 * W) }
     ensures routed { IfSome result (λ p. has_member p (routed_of table.now) ≡ true) }
+    ensures apart { IfSome result (λ p. AreApartBelow p rest.now (routed_of table.now)) }
 {
-    rest.first_shared(table.routed())
+    rest.first_shared_from(table.routed(), from)
 }
 
 // The copy to the router of a position that has a row.
@@ -145,7 +163,7 @@ fn copy_toward<'t, const W: usize, L: Ledger>(
     table: &Table<W>,
     routers: &'t [First],
     bp: u16,
-    rest: &BitString<W>,
+    rest: &mut BitString<W>,
     ttl: u16,
     steps: &mut Steps<L>,
 ) -> Option<Out<'t, W>>
@@ -156,15 +174,26 @@ fn copy_toward<'t, const W: usize, L: Ledger>(
     requires onward { 1 < ttl }
     requires ttl { ttl ≤ 256 }
     requires routed { has_member bp (routed_of table.now) ≡ true }
-    ensures copy { IsCopy (record { table = table.now; own = None; rest = rest.now; ttl = ttl }) bp result }
+    requires apart { AreApartBelow bp rest.old (routed_of table.now) }
+    ensures copy { IsCopy (record { table = table.now; own = None; rest = rest.old; ttl = ttl }) bp result }
+    ensures rest { rest.new ≡ left_after rest.old result }
     ensures steps { steps.new ≡ steps.old + 1 }
 {
     let row = table.row(bp, steps)?;
     Some(Out::Copy {
         to: &routers[usize::from(row.number)],
-        set: rest.and(row.mask),
+        set: rest.cut_from(row.mask, bp),
         ttl: (ttl - 1) as u8,
     })
+}
+
+// A drop of all that is left.
+fn drop_all<'t, const W: usize>(rest: &mut BitString<W>, why: Why) -> Option<Out<'t, W>>
+    requires { IsTrue (is_width W) }
+    ensures drop { result ≡ drop_of rest.old why }
+    ensures rest { rest.new ≡ left_after rest.old result }
+{
+    dropped(mem::replace(rest, BitString::zero()), why)
 }
 
 // A drop of a set that isn't empty.

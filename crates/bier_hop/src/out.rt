@@ -1,8 +1,3 @@
-ghost use Rattle.std.specs.Prelude.{◌≡◌, ◌≤◌, ◌*◌, IsTrue};
-ghost use Rattle.wire_base.specs.model.BitSet.{difference};
-ghost use Rattle.bier_bits.specs.Sets.{is_width};
-ghost use Rattle.bier_hop.specs.Outcomes.{positions_of, IsOwnWithin};
-
 use bier_bits::BitString;
 use wire_base::First;
 
@@ -29,21 +24,4 @@ pub enum Out<'t, const W: usize> {
 pub enum Why {
     NoRow,
     Ttl,
-}
-
-// The positions that an outcome leaves of a set.
-pub fn without<const W: usize>(set: &BitString<W>, out: &Out<'_, W>) -> BitString<W>
-    requires width { IsTrue (is_width W) }
-    requires local { IsOwnWithin (64 * W) out.now }
-    ensures { result ≡ difference set.now (positions_of out.now) }
-{
-    match out {
-        Out::Local(bp) => {
-            let mut own = BitString::zero();
-            own.set(*bp);
-            set.and_not(&own)
-        }
-        Out::Copy { set: sent, .. } => set.and_not(sent),
-        Out::Dropped { set: dropped, .. } => set.and_not(dropped),
-    }
 }

@@ -10,10 +10,13 @@ use Rattle.replay_text.specs.Ids.{ids_text}
 abbrev pub behind_comma : ℕ → List ℕ
 behind_comma next = 44 ∷ decimal next
 
-pub written_more : (old out pushed new done : List ℕ) (p : ℕ) → out ≡ old ++ flat_map behind_comma done → pushed ≡ out ++ 44 ∷ [] → new ≡ pushed ++ decimal p → new ≡ old ++ flat_map behind_comma (done ++ p ∷ [])
-written_more old out pushed new done p so_far comma number =
-    number ∙ ap (λ (l : List ℕ). l ++ decimal p) comma ∙ append_assoc out (44 ∷ []) (decimal p) ∙ ap (λ (l : List ℕ). l ++ behind_comma p) so_far ∙ append_assoc old (flat_map behind_comma done) (behind_comma p)
-    ∙ ap (λ (l : List ℕ). old ++ l) (sym (flat_map-append behind_comma done (p ∷ []) ∙ ap (λ (l : List ℕ). flat_map behind_comma done ++ l) (append_nil (behind_comma p))))
+-- a text and the block behind it, with the comma and the number of one position more
+pub written_more : (old base out block out' block' comma number done : List ℕ) (p : ℕ) → out ++ block ≡ old ++ (base ++ flat_map behind_comma done) → out' ++ block' ≡ out ++ block → comma ≡ block' ++ 44 ∷ [] → number ≡ comma ++ decimal p → out' ++ number ≡ old ++ (base ++ flat_map behind_comma (done ++ p ∷ []))
+written_more old base out block out' block' comma number done p so_far moved is_comma is_number =
+    ap (λ (l : List ℕ). out' ++ l) (is_number ∙ ap (λ (l : List ℕ). l ++ decimal p) is_comma ∙ append_assoc block' (44 ∷ []) (decimal p))
+    ∙ sym (append_assoc out' block' (behind_comma p)) ∙ ap (λ (l : List ℕ). l ++ behind_comma p) (moved ∙ so_far)
+    ∙ append_assoc old (base ++ flat_map behind_comma done) (behind_comma p) ∙ ap (λ (l : List ℕ). old ++ l) (append_assoc base (flat_map behind_comma done) (behind_comma p)
+    ∙ ap (λ (l : List ℕ). base ++ l) (sym (flat_map-append behind_comma done (p ∷ []) ∙ ap (λ (l : List ℕ). flat_map behind_comma done ++ l) (append_nil (behind_comma p)))))
   where
     append_nil : (l : List ℕ) → l ++ [] ≡ l
     append_nil [] = refl
@@ -26,7 +29,7 @@ left_more whole done rest more p so_far next = so_far ∙ ap (λ (l : List ℕ).
 pub whole_text : (set more : List ℕ) (p : ℕ) → from_on 0 set ≡ p ∷ more → ids_text set ≡ decimal p ++ flat_map behind_comma more
 whole_text set more p first = ap ids_text (sym (from-zero set) ∙ first)
 
-pub whole_written : {T E : Type 0} (result : Result T E) (old mid new set more : List ℕ) (p : ℕ) → from_on 0 set ≡ p ∷ more → mid ≡ old ++ decimal p → OnOk result (new ≡ mid ++ flat_map behind_comma more) → OnOk result (new ≡ old ++ ids_text set)
-whole_written (Ok x) old mid new set more p first number rest =
-    rest ∙ ap (λ (l : List ℕ). l ++ flat_map behind_comma more) number ∙ append_assoc old (decimal p) (flat_map behind_comma more) ∙ ap (λ (l : List ℕ). old ++ l) (sym (whole_text set more p first))
-whole_written (Err e) old mid new set more p first number rest = tt
+pub whole_written : {T E : Type 0} (result : Result T E) (old block new set more : List ℕ) (p : ℕ) → from_on 0 set ≡ p ∷ more → block ≡ decimal p → OnOk result (new ≡ old ++ (block ++ flat_map behind_comma more)) → OnOk result (new ≡ old ++ ids_text set)
+whole_written (Ok x) old block new set more p first number rest =
+    rest ∙ ap (λ (l : List ℕ). old ++ (l ++ flat_map behind_comma more)) number ∙ ap (λ (l : List ℕ). old ++ l) (sym (whole_text set more p first))
+whole_written (Err e) old block new set more p first number rest = tt

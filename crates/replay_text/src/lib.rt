@@ -4,6 +4,7 @@
 #![tactic(auto)]
 
 mod arguments;
+mod block;
 mod event;
 mod fault;
 mod hop;

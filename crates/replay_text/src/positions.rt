@@ -6,6 +6,7 @@ ghost use Rattle.bier_bits.specs.Any.{positions_of};
 ghost use Rattle.bier_bits.specs.Sets.{is_width, from_on};
 ghost use Rattle.replay_text.specs.Ids.{ids_text};
 
+use crate::block::{Block, make_room, put_number};
 use bier_bits::{AnyBits, BitString};
 use wire_base::{M, Octets};
 
@@ -41,7 +42,7 @@ pub fn push_set<const W: usize>(out: &mut Octets, set: &BitString<W>) -> M<()>
 }
 
 /// The same, but for what stands behind the old end where memory is refused.
-#[tactic(auto, using(crate::proofs::Appended::front, crate::proofs::Appended::front_kept))]
+#[tactic(auto, using(crate::proofs::Appended::front, bier_bits::proofs::Widths::width_le))]
 fn push_members<const W: usize>(out: &mut Octets, set: &BitString<W>) -> M<()>
     requires { IsTrue (is_width W) }
     ensures ok { OnOk result (out.new ≡ out.old ++ ids_text set.now) }
@@ -50,22 +51,29 @@ fn push_members<const W: usize>(out: &mut Octets, set: &BitString<W>) -> M<()>
     let Some(first) = set.next_from(0) else {
         return out.push(b'-');
     };
-    out.append_number(u64::from(first))?;
-    push_from(out, set, first + 1)
+    let mut block = Block::new();
+    put_number(&mut block, first);
+    push_from(out, set, first + 1, block)
 }
 
-/// Appends a comma and the number of each position from one on.
-#[tactic(auto, using(crate::proofs::Appended::front, crate::proofs::Appended::front_of_front))]
-fn push_from<const W: usize>(out: &mut Octets, set: &BitString<W>, start: u16) -> M<()>
+/// Appends a block, and a comma and the number of each position from one on.
+#[tactic(auto, using(crate::proofs::Appended::front, bier_bits::proofs::Widths::width_le))]
+fn push_from<const W: usize>(
+    out: &mut Octets,
+    set: &BitString<W>,
+    start: u16,
+    mut block: Block,
+) -> M<()>
     requires { IsTrue (is_width W) }
-    ensures ok { OnOk result (out.new ≡ out.old ++ flat_map (λ next. 44 ∷ decimal next) (from_on start set.now)) }
+    ensures ok { OnOk result (out.new ≡ out.old ++ (block.items ++ flat_map (λ next. 44 ∷ decimal next) (from_on start set.now))) }
     ensures err { OnErr result (take (length out.old) out.new ≡ out.old) }
 {
     let mut low = start;
     'positions: while let Some(position) = set.next_from(low) {
-        out.push(b',')?;
-        out.append_number(u64::from(position))?;
+        make_room(out, &mut block)?;
+        block.push(b',');
+        put_number(&mut block, position);
         low = position + 1;
     }
-    Ok(())
+    out.append(block.as_slice())
 }

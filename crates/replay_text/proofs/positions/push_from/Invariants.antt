@@ -1,12 +1,13 @@
-use Rattle.std.proofs.Common.{◌≡◌, ◌-◌, ◌++◌, ◌∷◌, ℕ, List}
+use Rattle.std.proofs.Common.{◌≡◌, ◌-◌, ◌++◌, ◌∷◌, ℕ, List, length, take}
 use Rattle.std.specs.List.{flat_map}
 use Rattle.std.specs.Fmt.{decimal}
 use Rattle.bier_bits.specs.Sets.{from_on}
 use Rattle.replay_text.proofs.positions.push_from.Given as goal
 
--- what is written and what is left make the whole text
+-- what is written, with what stands in the block, and what is left make the whole text
 abbrev pub invariant-positions : goal.invariant-positions
-invariant-positions g l = (done : List ℕ) × (l.out ≡ l.fn.out ++ flat_map (λ next. 44 ∷ decimal next) done) × (from_on l.start l.set ≡ done ++ from_on l.low l.set)
+invariant-positions g l =
+    (done : List ℕ) × (l.out ++ l.block.items ≡ l.fn.out ++ (l.fn.block.items ++ flat_map (λ next. 44 ∷ decimal next) done)) × (from_on l.start l.set ≡ done ++ from_on l.low l.set) × (take (length l.fn.out) l.out ≡ l.fn.out)
 
 abbrev pub decreases-positions : goal.decreases-positions
 decreases-positions g l = 65536 - l.low
