@@ -1,4 +1,5 @@
 pub mod AgingLaws
+pub mod BoundLaws
 pub mod CountLaws
 pub mod EntryLaws
 pub mod EventLaws

@@ -1,4 +1,5 @@
 pub mod Aging
+pub mod Bounds
 pub mod Forecast
 pub mod Keeping
 pub mod Own

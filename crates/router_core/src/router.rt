@@ -1,10 +1,12 @@
 ghost use Rattle.std.specs.Prelude.{◌≡◌, ◌<◌, ◌≤◌, ◌^◌, length, true, false, None, IfOk, OnOk, OnErr, MatchResult};
+ghost use Rattle.std.specs.List.{list_any};
 ghost use Rattle.wire_base.specs.model.Configuration.{IsSound};
 ghost use Rattle.wire_base.specs.model.Flooding.{first_control, tick, send, send_of, end_up, end_down, restart};
 ghost use Rattle.wire_base.specs.model.Ingress.{edge_fault, inject};
 ghost use Rattle.wire_base.specs.model.OnFrame.{nothing, framed, on_frame};
 ghost use Rattle.wire_base.specs.model.View.{control_view};
 ghost use Rattle.bfr_edge.specs.Entry.{Refuses};
+ghost use Rattle.router_core.specs.Bounds.{leaves_state, packet_hopped, most_sent};
 ghost use Rattle.router_core.specs.State.{IsRouter, is_up, counted};
 
 use crate::control::Control;
@@ -13,7 +15,7 @@ use bier_forward::Effects;
 use lsp_store::Store;
 use std::alloc::Global;
 use std::marker::Model;
-use wire_base::limits::{MOST_FRAME, MOST_PAYLOAD};
+use wire_base::limits::{MOST_ENTRIES, MOST_FRAME, MOST_PAYLOAD};
 use wire_base::{Bsl, EdgeFault, M, Memory, RouterConf, View};
 
 /// One router: its configuration, its database and what flooding keeps beside it, and how many frames it has taken.
@@ -95,14 +97,23 @@ impl Router {
     /// tunnel packet to the router's own prefix has such a packet inside; another one is sent on toward its destination. A
     /// frame of another class, a hello and a PDU of another type are passed over (ISO/IEC 10589, 7.3.15; RFC 8279, 6;
     /// RFC 2784). Where memory runs out, all is as it was.
+    ///
+    /// Whatever the octets are, a drop of any cause but a full database leaves the control state as it was; a packet that is
+    /// hopped here makes the router send at most one frame for each of its positions, and any other frame at most one; and
+    /// the database has at most 4,096 entries.
     pub fn frame(&mut self, link: u16, bytes: &[u8]) -> M<Effects>
         requires link { link < length self.old.control.conf.ends }
         requires short { length bytes.now ≤ MOST_FRAME }
         ensures next { IfOk result (λ e. record { control = self.new.control; effects = e } ≡ on_frame self.old.control link bytes.now) }
+        ensures untaken { IfOk result (λ e. list_any leaves_state e.drops ≡ true → self.new.control ≡ self.old.control) }
+        ensures few { IfOk result (λ e. length e.sent ≤ most_sent (packet_hopped self.old.control.conf bytes.now)) }
+        ensures entries { length self.new.control.entries ≤ MOST_ENTRIES }
         ensures heard { OnOk result (self.new.heard ≡ counted self.old.heard) }
         ensures err { OnErr result (self.new ≡ self.old) }
     {
+        let _few = self.control.conf();
         let effects = self.control.frame(&mut self.kept, link, bytes)?;
+        let _still_few = self.control.conf();
         self.heard = self.heard.saturating_add(1);
         Ok(effects)
     }
