@@ -12,4 +12,4 @@ mod write;
 pub use header::Header;
 pub use read::{read_by_field, read_header};
 pub use wire_base::HeadFault;
-pub use write::write_header;
+pub use write::{write_copy, write_header};

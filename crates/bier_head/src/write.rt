@@ -1,12 +1,15 @@
-ghost use Rattle.std.specs.Prelude.{◌≡◌, ◌≤◌, ◌++◌, ℕ, List, length, Ok};
+ghost use Rattle.std.specs.Prelude.{◌≡◌, ◌≤◌, ◌<◌, ◌*◌, ◌^◌, ◌++◌, ℕ, List, length, drop, Ok, IsTrue};
+ghost use Rattle.byteorder.specs.Endian.{big_bytes};
 ghost use Rattle.wire_base.specs.declared.conf.Kind.{Kind};
 ghost use Rattle.wire_base.specs.declared.conf.Kind.TheVariants as kinds;
-ghost use Rattle.wire_base.specs.model.Place.{code_of};
+ghost use Rattle.wire_base.specs.model.Place.{bits_of, code_of};
 ghost use Rattle.wire_base.specs.model.BierHeader.{BierHeader, FieldsFit, IsHeader, header_length, header_octets, header_at, coded_header_at, first_word, second_word, third_word};
 ghost use Rattle.bier_bits.specs.Any.{bsl_of};
+ghost use Rattle.bier_bits.specs.Sets.{is_width};
 ghost use Rattle.bier_head.specs.Views.{header_of};
 
 use crate::header::Header;
+use bier_bits::BitString;
 use byteorder::{BigEndian, ByteOrder};
 
 /// Writes a header (RFC 8296, 2.1 and 2.2) over all of `out`, which has as many octets as the header: 12 and those of the
@@ -27,24 +30,56 @@ pub fn write_header(h: &Header, out: &mut [u8])
     write_words(h, out);
 }
 
+/// Writes the header of a copy over all of `out`: as the packet's came, but for the BIFT-id, the TTL and the BitString
+/// (RFC 8279, 6.5), whose length stays.
+pub fn write_copy<const W: usize>(
+    h: &Header,
+    bift: u32,
+    ttl: u8,
+    set: &BitString<W>,
+    out: &mut [u8],
+)
+    requires width { IsTrue (is_width W) }
+    requires bits { bits_of (bsl_of h.now.bits) ≡ 64 * W }
+    requires room { length out.old ≡ header_length (bsl_of h.now.bits) }
+    requires fits { FieldsFit (header_of h.now) }
+    requires bift { bift < 2 ^ 20 }
+    ensures { out.new ≡ header_octets (record (header_of h.now) { bift = bift; ttl = ttl; positions = set.now }) }
+{
+    write_numbers(h, bift, ttl, out);
+    set.to_be_bytes(&mut out[12..]);
+}
+
 // Writes the three numbers and the BitString.
 fn write_words(h: &Header, out: &mut [u8])
     requires room { length out.old ≡ header_length (bsl_of h.now.bits) }
     requires fits { FieldsFit (header_of h.now) }
     ensures { out.new ≡ header_octets (header_of h.now) }
 {
-    BigEndian::write_u32(out, first_number(h));
-    BigEndian::write_u32(&mut out[4..], second_number(h));
-    BigEndian::write_u32(&mut out[8..], third_number(h));
+    write_numbers(h, h.bift, h.ttl, out);
     h.bits.to_be_bytes(&mut out[12..]);
 }
 
-// BIFT-id, traffic class, S and TTL.
-fn first_number(h: &Header) -> u32
-    requires { FieldsFit (header_of h.now) }
-    ensures { result ≡ first_word (header_of h.now) }
+// Writes the three numbers, with that BIFT-id and that TTL.
+fn write_numbers(h: &Header, bift: u32, ttl: u8, out: &mut [u8])
+    requires room { 12 ≤ length out.old }
+    requires fits { FieldsFit (header_of h.now) }
+    requires bift { bift < 2 ^ 20 }
+    ensures { let front = record (header_of h.now) { bift = bift; ttl = ttl } in
+        out.new ≡ big_bytes 4 (first_word front) ++ (big_bytes 4 (second_word front) ++ (big_bytes 4 (third_word front) ++ drop 12 out.old)) }
 {
-    h.bift * 0x1000 + u32::from(h.tc) * 0x200 + u32::from(h.s) * 0x100 + u32::from(h.ttl)
+    BigEndian::write_u32(out, first_number(h, bift, ttl));
+    BigEndian::write_u32(&mut out[4..], second_number(h));
+    BigEndian::write_u32(&mut out[8..], third_number(h));
+}
+
+// BIFT-id, traffic class, S and TTL.
+fn first_number(h: &Header, bift: u32, ttl: u8) -> u32
+    requires fits { FieldsFit (header_of h.now) }
+    requires bift { bift < 2 ^ 20 }
+    ensures { result ≡ first_word (record (header_of h.now) { bift = bift; ttl = ttl }) }
+{
+    bift * 0x1000 + u32::from(h.tc) * 0x200 + u32::from(h.s) * 0x100 + u32::from(ttl)
 }
 
 // Nibble, version 0, the code of a length, and entropy.
