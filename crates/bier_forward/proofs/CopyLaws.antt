@@ -3,7 +3,6 @@ use Rattle.std.proofs.Common.{◌≡◌, ℕ, suc, ◌+◌, ◌*◌, ◌/◌, �
 use Rattle.byteorder.specs.Endian.{big_bytes}
 use Rattle.wire_base.specs.declared.addresses.Ipv4.{Ipv4}
 use Rattle.wire_base.specs.declared.addresses.SystemId.{SystemId}
-use Rattle.wire_base.specs.declared.bsl.Bsl.{Bsl}
 use Rattle.wire_base.specs.declared.cause.Cause.{Cause}
 use Rattle.wire_base.specs.declared.cause.Cause.TheVariants as cause
 use Rattle.wire_base.specs.declared.conf.End.{End}
@@ -22,8 +21,6 @@ use Rattle.wire_base.specs.model.Hop as hops
 use Rattle.wire_base.specs.model.Item as item
 use Rattle.wire_base.specs.model.OnFrame.{Effects, Packet, node_place, copy_of, copy_sent, delivery, direct_copy, link_to, next_link, one_drop, one_sent, or_drop, positions_in, prefix_of, sent_on, tunnel_copy}
 use Rattle.wire_base.specs.model.Place.{bits_of, id_at}
-use Rattle.bier_bits.specs.declared.any.AnyBits.{AnyBits}
-use Rattle.bier_bits.specs.Any.{bsl_of, positions_of}
 use Rattle.bier_head.specs.declared.header.Header.{Header}
 use Rattle.bier_head.specs.Views.{header_of}
 use Rattle.bier_hop.specs.declared.out.Out.{Out}
@@ -37,16 +34,11 @@ use Rattle.bier_forward.specs.Hops.{IsNext, bift_toward, cause_of, copy_head, co
 
 -- ---- the header
 
-pub head_written : (p : Packet) (t : Triple) (kind : Kind) (h x : Header) (payload : List ℕ) (bift ttl : ℕ) (bits : AnyBits) (out : List ℕ)
+pub head_written : (p : Packet) (t : Triple) (kind : Kind) (h : Header) (payload : List ℕ) (bift ttl : ℕ) (positions out : List ℕ)
     → (let q : Packet = record { triple = t; kind = kind; header = header_of h; payload = payload } in q ≡ p)
-    → bsl_of h.bits ≡ t.bsl → bsl_of bits ≡ p.triple.bsl
-    → header_of x ≡ record (header_of h) { bift = bift; ttl = ttl; bsl = bsl_of bits; positions = positions_of bits }
-    → out ≡ header_octets (header_of x) → out ≡ copy_head p bift (positions_of bits) ttl
+    → out ≡ header_octets (record (header_of h) { bift = bift; ttl = ttl; positions = positions }) → out ≡ copy_head p bift positions ttl
 unfolding copy_head
-head_written p t kind h x payload bift ttl bits out view own same header_is out_is =
-    subst (λ (q : Packet). bsl_of bits ≡ q.triple.bsl → out ≡ copy_head q bift (positions_of bits) ttl) view
-    (λ (e : bsl_of bits ≡ t.bsl). out_is ∙ ap header_octets header_is ∙ ap (λ (b : Bsl). header_octets (record (header_of h) { bift = bift; ttl = ttl; bsl = b; positions = positions_of bits })) (e ∙ sym own))
-    same
+head_written p t kind h payload bift ttl positions out view out_is = subst (λ (q : Packet). out ≡ copy_head q bift positions ttl) view out_is
 
 -- ---- numbers of 20 bits
 

@@ -1,18 +1,18 @@
 //! The frame of a copy: the packet with its own BIFT-id, TTL and BitString, on its own or in a tunnel.
-ghost use Rattle.std.specs.Prelude.{◌≡◌, ◌<◌, ◌≤◌, ◌+◌, ◌^◌, ◌++◌, IfOk, length};
+ghost use Rattle.std.specs.Prelude.{◌≡◌, ◌<◌, ◌≤◌, ◌+◌, ◌*◌, ◌^◌, ◌++◌, IfOk, IsTrue, length};
+ghost use Rattle.wire_base.specs.model.Place.{bits_of};
 ghost use Rattle.wire_base.specs.model.BierHeader.{header_length};
 ghost use Rattle.wire_base.specs.model.Ethernet.{ethernet, ip_type};
 ghost use Rattle.wire_base.specs.model.Item.{bier_frame, ip_frame};
 ghost use Rattle.wire_base.specs.model.Tunnel.{protocol_of, tunnel};
-ghost use Rattle.bier_bits.specs.Any.{bsl_of, positions_of};
-ghost use Rattle.bier_head.specs.Views.{header_of};
+ghost use Rattle.bier_bits.specs.Sets.{is_width};
 ghost use Rattle.bier_forward.specs.Hops.{copy_head, copy_octets, frame_in};
 ghost use Rattle.bier_forward.specs.Packets.{IsShort};
 
 use crate::incoming::Incoming;
 use crate::ways::Way;
-use bier_bits::AnyBits;
-use bier_head::{Header, write_header};
+use bier_bits::BitString;
+use bier_head::write_copy;
 use gre_ip::{Tunnel, write_tunnel};
 use link_frame::write_eth;
 use std::alloc::Global;
@@ -27,22 +27,23 @@ const OUTER_TTL: u8 = 255;
 
 /// The frame of a copy on its way: the packet with that BIFT-id, TTL and BitString. A tunnel leads from the router's own
 /// prefix to that of the way.
-pub(crate) fn frame_of(
+pub(crate) fn frame_of<const W: usize>(
     alloc: Global,
     conf: &RouterConf,
     packet: &Incoming<'_>,
     way: Way,
-    bits: AnyBits,
+    set: &BitString<W>,
     ttl: u8,
 ) -> M<Octets>
+    requires width { IsTrue (is_width W) }
+    requires bits { bits_of packet.now.triple.bsl ≡ 64 * W }
     requires bift { way.bift < 2 ^ 20 }
-    requires length { bsl_of bits ≡ packet.now.triple.bsl }
     requires short { IsShort packet.now }
-    ensures { IfOk result (λ frame. frame ≡ frame_in conf.now packet.now way.end (copy_octets packet.now way.bift (positions_of bits) ttl) way.tunnel) }
+    ensures { IfOk result (λ frame. frame ≡ frame_in conf.now packet.now way.end (copy_octets packet.now way.bift set.now ttl) way.tunnel) }
 {
-    let size = 12 + usize::from(bits.bsl().bits() / 8);
+    let size = 12 + usize::from(set.width() / 8);
     let mut head = [0; 524];
-    write_head(packet, way.bift, bits, ttl, &mut head[..size]);
+    write_head(packet, way.bift, set, ttl, &mut head[..size]);
     match way.tunnel {
         None => bare_frame(alloc, way.end, packet.kind, &head[..size], packet.payload),
         Some(dst) => tunnel_frame(
@@ -111,14 +112,20 @@ fn tunnel_frame(
 }
 
 /// Writes the header of a copy over all of `out`: as it came, but for the BIFT-id, the TTL and the BitString.
-fn write_head(packet: &Incoming<'_>, bift: u32, bits: AnyBits, ttl: u8, out: &mut [u8])
+fn write_head<const W: usize>(
+    packet: &Incoming<'_>,
+    bift: u32,
+    set: &BitString<W>,
+    ttl: u8,
+    out: &mut [u8],
+)
+    requires width { IsTrue (is_width W) }
+    requires bits { bits_of packet.now.triple.bsl ≡ 64 * W }
     requires bift { bift < 2 ^ 20 }
-    requires length { bsl_of bits ≡ packet.now.triple.bsl }
     requires room { length out.old ≡ header_length packet.now.triple.bsl }
-    ensures { out.new ≡ copy_head packet.now bift (positions_of bits) ttl }
+    ensures { out.new ≡ copy_head packet.now bift set.now ttl }
 {
-    let header = with_fields(&packet.header, bift, bits, ttl);
-    write_header(&header, out);
+    write_copy(&packet.header, bift, ttl, set, out);
 }
 
 /// The type of a frame that carries a packet.
@@ -128,26 +135,5 @@ fn protocol_of(kind: Kind) -> u16
     match kind {
         Kind::Mpls => 0x8847,
         Kind::Configured => 0xab37,
-    }
-}
-
-fn with_fields(header: &Header, bift: u32, bits: AnyBits, ttl: u8) -> Header
-    ensures header { header_of result ≡ record (header_of header.now) { bift = bift; ttl = ttl; bsl = bsl_of bits; positions = positions_of bits } }
-    ensures bits { result.bits ≡ bits }
-{
-    Header {
-        bift,
-        tc: header.tc,
-        s: header.s,
-        ttl,
-        nibble: header.nibble,
-        entropy: header.entropy,
-        oam: header.oam,
-        rsv: header.rsv,
-        dscp: header.dscp,
-        proto: header.proto,
-        bfir: header.bfir,
-        bsl_code: header.bsl_code,
-        bits,
     }
 }

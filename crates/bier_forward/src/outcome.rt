@@ -21,7 +21,7 @@ use bfr_edge::Packet;
 use bier_bits::{AnyBits, BitString};
 use bier_hop::{Out, Why};
 use bier_tunnel::Fib;
-use wire_base::{Bsl, Cause, First, Got, M, Octets, RouterConf, Sent, Triple, View};
+use wire_base::{Cause, First, Got, M, Octets, RouterConf, Sent, Triple, View};
 
 /// Delivers, sends a copy or drops, as the outcome says.
 pub(crate) fn give<const W: usize>(
@@ -42,27 +42,12 @@ pub(crate) fn give<const W: usize>(
     ensures given { OnOk result (effects.new ≡ after effects.old (given conf.now view.now.nodes packet.now (outcome (place_of view.now.nodes) out.now))) }
     ensures kept { OnOk result (IsBuilt conf.now view.now.nodes fib.new) }
 {
-    let triple = packet.triple;
     match out {
         Out::Local(bp) => deliver(packet, *bp, effects),
         Out::Copy { to, set, ttl } => {
-            send_copy(
-                conf,
-                view,
-                packet,
-                **to,
-                any_of(triple.bsl, set),
-                *ttl,
-                fib,
-                effects,
-            )
+            send_copy(conf, view, packet, **to, set, *ttl, fib, effects)
         }
-        Out::Dropped { set, why } => drop_set(
-            triple,
-            any_of(triple.bsl, set),
-            cause_of(*why),
-            effects,
-        ),
+        Out::Dropped { set, why } => drop_set(packet.triple, set, cause_of(*why), effects),
     }
 }
 
@@ -91,31 +76,32 @@ fn id_at(triple: Triple, bp: u16) -> u16
 }
 
 /// Sends a copy with those positions to a router; where no way leads there, drops them.
-fn send_copy(
+fn send_copy<const W: usize>(
     conf: &RouterConf,
     view: &View,
     packet: &Incoming<'_>,
     to: First,
-    bits: AnyBits,
+    set: &BitString<W>,
     ttl: u8,
     fib: &mut Option<Fib>,
     effects: &mut Effects,
 ) -> M<()>
+    requires width { IsTrue (is_width W) }
     requires sound { IsSound conf.now }
     requires ends { LeadsToEnds conf.now view.now.nodes }
     requires short { IsShort packet.now }
     requires next { IsNext conf.now view.now.nodes to }
-    requires length { bsl_of bits ≡ packet.now.triple.bsl }
-    requires within { IsWithin 0 (bits_of packet.now.triple.bsl) (positions_of bits) }
+    requires bits { bits_of packet.now.triple.bsl ≡ 64 * W }
     requires built { IsBuilt conf.now view.now.nodes fib.old }
-    ensures given { OnOk result (effects.new ≡ after effects.old (given conf.now view.now.nodes packet.now (hops.Copy (place_of view.now.nodes to) (positions_of bits) ttl))) }
+    ensures given { OnOk result (effects.new ≡ after effects.old (given conf.now view.now.nodes packet.now (hops.Copy (place_of view.now.nodes to) set.now ttl))) }
     ensures kept { OnOk result (IsBuilt conf.now view.now.nodes fib.new) }
 {
+    let _width = set.width();
     let alloc = effects.allocator();
     match way_to(alloc, conf, view, packet.triple, to, fib)? {
-        None => drop_set(packet.triple, bits, Cause::NoRow, effects),
+        None => drop_set(packet.triple, set, Cause::NoRow, effects),
         Some(way) => {
-            let octets = frame_of(alloc, conf, packet, way, bits, ttl)?;
+            let octets = frame_of(alloc, conf, packet, way, set, ttl)?;
             effects.send(Sent {
                 link: way.link,
                 octets,
@@ -125,10 +111,19 @@ fn send_copy(
 }
 
 /// Drops positions of a triple.
-fn drop_set(triple: Triple, bits: AnyBits, cause: Cause, effects: &mut Effects) -> M<()>
-    requires { bsl_of bits ≡ triple.bsl }
-    ensures { OnOk result (effects.new ≡ after effects.old (one_drop cause (Some (record { triple = triple; positions = positions_of bits })))) }
+fn drop_set<const W: usize>(
+    triple: Triple,
+    set: &BitString<W>,
+    cause: Cause,
+    effects: &mut Effects,
+) -> M<()>
+    requires width { IsTrue (is_width W) }
+    requires bits { bits_of triple.bsl ≡ 64 * W }
+    ensures dropped { OnOk result (effects.new ≡ after effects.old (one_drop cause (Some (record { triple = triple; positions = set.now })))) }
+    ensures ordered { IsWithin 0 (bits_of triple.bsl) set.now }
 {
+    let _width = set.width();
+    let bits = AnyBits::from_set(triple.bsl, set);
     effects.note(DropNote {
         cause,
         sets: Some(Packet { triple, bits }),
@@ -143,18 +138,4 @@ fn cause_of(why: Why) -> Cause
         Why::NoRow => Cause::NoRow,
         Why::Ttl => Cause::Ttl,
     }
-}
-
-/// The positions as a BitString of that length.
-fn any_of<const W: usize>(bsl: Bsl, set: &BitString<W>) -> AnyBits
-    requires width { IsTrue (is_width W) }
-    requires bits { bits_of bsl ≡ 64 * W }
-    ensures positions { positions_of result ≡ set.now }
-    ensures ordered { IsWithin 0 (bits_of bsl) (positions_of result) }
-    ensures bsl { bsl_of result ≡ bsl }
-{
-    let mut octets = [0; 512];
-    let count = usize::from(set.width() / 8);
-    set.to_be_bytes(&mut octets[..count]);
-    AnyBits::read(bsl, &octets[..count])
 }
