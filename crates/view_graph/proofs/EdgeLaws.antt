@@ -89,11 +89,11 @@ none_counted l [] ms same none = refl
 none_counted l (c ∷ cs) [] same none = refl
 none_counted l (c ∷ cs) (m ∷ ms) same none = rw none.0 (ap (λ (xs : List (Option ℕ)). m ∷ xs) (none_counted l cs ms (omega (arith, same)) none.1))
 
-below_all : (s : SystemId) (c : SystemId) (cs : List Claim) → is_before s c ≡ true → AllByRecursion (λ d. is_before c d.system ≡ true) cs → AllByRecursion (λ d. same_system s d.system ≡ false) cs
+pub below_all : (s : SystemId) (c : SystemId) (cs : List Claim) → is_before s c ≡ true → AllByRecursion (λ d. is_before c d.system ≡ true) cs → AllByRecursion (λ d. same_system s d.system ≡ false) cs
 below_all s c [] h all = tt
 below_all s c (d ∷ ds) h all = (before_differs s d.system (before_trans s c d.system h all.0), below_all s c ds h all.1)
 
-same_all : (s : SystemId) (c : SystemId) (cs : List Claim) → same_system s c ≡ true → AllByRecursion (λ d. is_before c d.system ≡ true) cs → AllByRecursion (λ d. same_system s d.system ≡ false) cs
+pub same_all : (s : SystemId) (c : SystemId) (cs : List Claim) → same_system s c ≡ true → AllByRecursion (λ d. is_before c d.system ≡ true) cs → AllByRecursion (λ d. same_system s d.system ≡ false) cs
 same_all s c [] h all = tt
 same_all s c (d ∷ ds) h all = (before_differs s d.system (same_before s c d.system h all.0), same_all s c ds h all.1)
 

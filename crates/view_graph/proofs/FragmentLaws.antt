@@ -17,6 +17,7 @@ use Rattle.wire_base.specs.declared.entry.Entry.{Entry}
 use Rattle.wire_base.specs.model.Control.{same_system, system_order, is_below, AreAscending, ids_of}
 use Rattle.wire_base.specs.model.View.{Claim, is_part_of, tlvs_of, claim_of, is_other, with_known}
 use Rattle.view_graph.specs.Edges.{is_before}
+use Rattle.view_graph.specs.Keep.{is_first_of}
 use Rattle.view_graph.proofs.SystemLaws.{tie_is_same, before_trans, before_differs, same_turned}
 use Rattle.view_graph.proofs.GraphLaws.{all_weaker, and_both}
 
@@ -91,6 +92,14 @@ parts_begin (x ∷ xs) zero e asc lt at p f = refl
 parts_begin (x ∷ xs) (suc i) e asc lt at p f =
     let below : is_below x.id e.id ≡ true = all_at (λ (y : LspId). is_below x.id y ≡ true) (λ (y : Entry). y.id) xs i e asc.0 (omega (arith, lt)) at in
     rw (before_differs x.id.system e.id.system (below_first x.id e.id p f below)) (parts_begin xs i e asc.1 (omega (arith, lt)) at p f)
+
+-- the claim of a live fragment 0, from the entries from its place on
+pub claim_at : (s : SystemId) (es : List Entry) (i : ℕ) (e : Entry) → AreAscending (ids_of es) → i < length es → e ≡ get_or es i e → is_first_of s e ≡ true → claim_of (drop i es) e ≡ claim_of es e
+claim_at s es i e asc lt at first =
+    let a = and_both _ _ first in
+    let b = and_both _ _ a.1 in
+    let c = and_both _ _ b.1 in
+    rw (parts_begin es i e asc lt at (eqb-true _ 0 b.0) (eqb-true _ 0 c.0)) refl
 
 first_parts : (own : SystemId) (e : Entry) → is_other own e ≡ true → (e.id.pseudonode ≡ 0) × (e.id.fragment ≡ 0)
 first_parts own e h =

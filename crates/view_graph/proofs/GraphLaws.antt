@@ -71,7 +71,7 @@ record IsFirst (own : SystemId) (e : Entry) : Type 0 where
   pub pseudonode : e.id.pseudonode ≡ 0
   pub fragment : e.id.fragment ≡ 0
 
-not_true : (b : Bool) → not b ≡ true → b ≡ false
+pub not_true : (b : Bool) → not b ≡ true → b ≡ false
 not_true true h = absurd (false≢true h)
 not_true false h = refl
 

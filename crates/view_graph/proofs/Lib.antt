@@ -4,6 +4,7 @@ pub mod ExampleLaws
 pub mod FragmentLaws
 pub mod GraphLaws
 pub mod ListLaws
+pub mod HeardLaws
 pub mod KeepLaws
 pub mod OwnerLaws
 pub mod SameLaws

@@ -1,5 +1,5 @@
 -- What is kept beside a view, so that it can be renewed from the systems that changed.
-use Rattle.std.specs.Prelude.{◌≡◌, ◌≤◌, not, Bool, true, false, List, [], ◌∷◌, length, map, filter, Option, Some, None, if◌then◌else◌}
+use Rattle.std.specs.Prelude.{◌≡◌, ◌≤◌, ◌==◌, ◌&&◌, nat_lt, not, Bool, true, false, List, [], ◌∷◌, length, map, filter, slice_get, Option, Some, None, if◌then◌else◌}
 use Rattle.std.specs.List.{list_any, AllByRecursion}
 use Rattle.wire_base.specs.declared.addresses.SystemId.{SystemId}
 use Rattle.wire_base.specs.declared.conf.SubKind.{SubKind}
@@ -26,6 +26,14 @@ heard system kinds entries = map (with_known kinds) (map (claim_of entries) (fil
 abbrev pub said_by : List Claim → SystemId → Option Claim
 said_by [] s = None
 said_by (c ∷ cs) s = if same_system c.system s then Some c else said_by cs s
+
+-- a live fragment 0 of a system
+abbrev pub is_first_of : SystemId → Entry → Bool
+is_first_of s e = same_system e.id.system s && ((e.id.pseudonode == 0) && ((e.id.fragment == 0) && nat_lt 0 e.life))
+
+-- what a system says in a database
+unfoldable pub said_in : List SubKind → List Entry → SystemId → Option Claim
+said_in kinds entries s = slice_get (map (with_known kinds) (map (claim_of entries) (filter (is_first_of s) entries))) 0
 
 abbrev pub is_named : List SystemId → SystemId → Bool
 is_named systems s = list_any (λ x. same_system x s) systems

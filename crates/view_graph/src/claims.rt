@@ -116,7 +116,7 @@ fn add_fragments(claim: &mut Claim, entries: &[Entry]) -> M<()>
 }
 
 /// What the system of a fragment 0 claims; it is overloaded where that fragment says so.
-fn claim_of(alloc: Global, entries: &[Entry], entry: &Entry) -> M<Claim>
+pub(crate) fn claim_of(alloc: Global, entries: &[Entry], entry: &Entry) -> M<Claim>
     requires { AreAscending (ids_of entries.now) }
     ensures { IfOk result (λ c. c ≡ claim_of entries.now entry.now) }
 {
@@ -126,7 +126,7 @@ fn claim_of(alloc: Global, entries: &[Entry], entry: &Entry) -> M<Claim>
 }
 
 /// A claim with the places alone that count by what the router knows of subdomains.
-fn with_known(alloc: Global, kinds: &[SubKind], claim: Claim) -> M<Claim>
+pub(crate) fn with_known(alloc: Global, kinds: &[SubKind], claim: Claim) -> M<Claim>
     ensures { IfOk result (λ c. c ≡ with_known kinds.now claim) }
 {
     let subs = known_subs(alloc, kinds, claim.subs.as_slice())?;
@@ -193,7 +193,7 @@ fn own_subs(alloc: Global, conf: &RouterConf) -> M<Rows<ViewSub>>
 }
 
 /// What the router claims: by its configuration and its ends that are up.
-fn own_claim(alloc: Global, conf: &RouterConf, up: &[bool]) -> M<Claim>
+pub(crate) fn own_claim(alloc: Global, conf: &RouterConf, up: &[bool]) -> M<Claim>
     requires { length up.now ≡ length conf.now.ends }
     ensures { IfOk result (λ c. c ≡ own_claim conf.now up.now) }
 {

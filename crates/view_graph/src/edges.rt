@@ -17,7 +17,7 @@ fn is_above(a: &SystemId, b: &SystemId) -> bool
 }
 
 /// How many claims are of systems below this one, by halving.
-fn place_in(claims: &[Claim], system: &SystemId) -> usize
+pub(crate) fn place_in(claims: &[Claim], system: &SystemId) -> usize
     requires { AreInOrder claims.now }
     ensures { result ≡ place_in system.now claims.now }
 {
@@ -36,7 +36,7 @@ fn place_in(claims: &[Claim], system: &SystemId) -> usize
 }
 
 /// Whether the claim at a place is of that system.
-fn stands_at(claims: &[Claim], place: usize, system: &SystemId) -> bool
+pub(crate) fn stands_at(claims: &[Claim], place: usize, system: &SystemId) -> bool
     ensures { result ≡ stands_at claims.now place system.now }
 {
     if place < claims.len() {

@@ -1,12 +1,13 @@
 //! A view that is kept, and renewed where systems changed.
-ghost use Rattle.std.specs.Prelude.{◌≡◌, ◌↔◌, ◌≤◌, length, map, false, IfOk, OnOk, OnErr};
+ghost use Rattle.std.specs.Prelude.{◌≡◌, ◌↔◌, ◌≤◌, length, map, true, false, IfOk, OnOk, OnErr};
 ghost use Rattle.wire_base.specs.model.Configuration.{IsSound};
-ghost use Rattle.wire_base.specs.model.Control.{IsDatabase};
+ghost use Rattle.wire_base.specs.model.Control.{AreAscending, IsDatabase, ids_of};
 ghost use Rattle.wire_base.specs.model.View.{claims_of, view_of, with_known};
 ghost use Rattle.view_graph.specs.Edges.{AreInOrder};
 ghost use Rattle.view_graph.specs.Keep.{IsUnchanged, heard, without_system};
 
 use crate::claims::{Claim, claims_of};
+use crate::heard::{are_kept, is_own_kept};
 use crate::nodes::nodes_of;
 use crate::same::are_same_nodes;
 use lsp_store::Store;
@@ -93,11 +94,38 @@ impl ViewKeep {
         ensures heard { OnOk result (self.new.others ≡ heard conf.now.system conf.now.kinds store.now.entries) }
         ensures err { OnErr result (self.new ≡ self.old) }
     {
-        let _changed = changed;
+        if self.is_as_kept(conf, up, store.as_slice(), changed)? {
+            return Ok(false);
+        }
         let next = ViewKeep::new(self.kinds.allocator(), conf, up, store)?;
         let is_same = are_same_nodes(self.view.as_slice(), next.view.as_slice());
         *self = next;
         Ok(!is_same)
+    }
+
+    /// Whether what is kept of each system is what is said now, so that nothing has changed.
+    fn is_as_kept(
+        &self,
+        conf: &RouterConf,
+        up: &[bool],
+        entries: &[Entry],
+        changed: &[SystemId],
+    ) -> M<bool>
+        requires one_each { length up.now ≡ length conf.now.ends }
+        requires ascending { AreAscending (ids_of entries.now) }
+        requires system { conf.now.system ≡ self.now.system }
+        requires kinds { conf.now.kinds ≡ self.now.kinds }
+        requires unchanged { IsUnchanged self.now changed.now entries.now }
+        ensures nodes { IfOk result (λ same. same ≡ true → self.now.nodes ≡ view_of conf.now up.now entries.now) }
+        ensures others { IfOk result (λ same. same ≡ true → self.now.others ≡ heard conf.now.system conf.now.kinds entries.now) }
+    {
+        let alloc = self.kinds.allocator();
+        let claims = self.claims.as_slice();
+        if !is_own_kept(alloc, claims, conf, up)? {
+            return Ok(false);
+        }
+        let same = are_kept(alloc, claims, conf.kinds.as_slice(), entries, changed)?;
+        Ok(same)
     }
 
     /// The view. Takes no memory.

@@ -6,6 +6,7 @@
 
 mod claims;
 mod edges;
+mod heard;
 mod keep;
 mod known;
 mod links;

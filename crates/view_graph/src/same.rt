@@ -39,7 +39,7 @@ fn is_same_sub(a: &ViewSub, b: &ViewSub) -> bool
     is_same_place && are_same_ranges
 }
 
-fn are_same_subs(a: &[ViewSub], b: &[ViewSub]) -> bool
+pub(crate) fn are_same_subs(a: &[ViewSub], b: &[ViewSub]) -> bool
     ensures { Decides result (a.now ≡ b.now) }
 {
     if a.len() != b.len() {

@@ -1,0 +1,137 @@
+-- What a system says in a database, and what is kept of it.
+use mathlib.Core.Bool.{false≢true, true≢false}
+use Rattle.std.proofs.Common.{◌≡◌, ℕ, zero, suc, ◌+◌, ◌<◌, ◌≤◌, ◌==◌, ◌&&◌, ◌||◌, nat_lt, not, Bool, true, false, if◌then◌else◌, List, [], ◌∷◌, ◌++◌, length, get_or, take, drop, map, filter, Option, Some, None, slice_get, refl, sym, ap, subst, ◌∙◌, arith}
+use Rattle.std.specs.declared.cmp.Ordering.{Ordering}
+use Rattle.std.specs.declared.cmp.Ordering.TheVariants.{Less, Equal, Greater}
+use Rattle.std.specs.Ordering.{is_eq, is_lt, is_gt, match_ordering}
+use Rattle.std.specs.List.{AllByRecursion, list_any}
+use Rattle.std.proofs.Math.Seq.{take-suc}
+use Rattle.std.proofs.lemmas.List.{take_all, get_or_default}
+use Rattle.std.proofs.lemmas.List.Elements.{filter-append}
+use Rattle.std.proofs.lemmas.List.Folds.{list_any-append}
+use Rattle.std.proofs.lemmas.Slice.Eq.{bytes_eq-Decides}
+use Rattle.format_laws.proofs.TlvLaws.{some_is}
+use Rattle.wire_base.specs.declared.addresses.SystemId.{SystemId}
+use Rattle.wire_base.specs.declared.conf.SubKind.{SubKind}
+use Rattle.wire_base.specs.declared.conf.RouterConf.{RouterConf}
+use Rattle.wire_base.specs.declared.entry.Entry.{Entry}
+use Rattle.wire_base.specs.model.Control.{same_system, system_order, AreAscending, ids_of}
+use Rattle.wire_base.specs.model.View.{Claim, claim_of, is_other, with_known, put_claim, own_claim, claims_of}
+use Rattle.view_graph.specs.Edges.{is_before, AreInOrder, place_in, stands_at}
+use Rattle.view_graph.specs.Keep.{heard, said_by, said_in, is_first_of, is_named, without_system}
+use Rattle.view_graph.proofs.EdgeLaws.{same_all, below_all}
+use Rattle.view_graph.proofs.FragmentLaws.{same_is, claim_at}
+use Rattle.view_graph.proofs.GraphLaws.{all_weaker, and_both}
+use Rattle.view_graph.proofs.SystemLaws.{tie_is_same, before_differs, above_differs, before_from_above, same_turned}
+
+same_self : (s : SystemId) → same_system s s ≡ true
+same_self s = (bytes_eq-Decides s.0 s.0).1 refl
+
+-- ---- the first entry that passes
+
+pub first_found : {X : Type 0} (f : X → Bool) (xs : List X) (i : ℕ) (x : X) → filter f (take i xs) ≡ [] → i < length xs → x ≡ get_or xs i x → f x ≡ true → slice_get (filter f xs) 0 ≡ Some x
+first_found f [] i x none lt at h = absurd (omega (arith, lt))
+first_found f (y ∷ ys) zero x none lt at h = rw (sym (ap f at) ∙ h) (ap (λ z. Some z) (sym at))
+first_found {X} f (y ∷ ys) (suc i) x none lt at h = by (f y) refl (λ k. first_found f ys i x k (omega (arith, lt)) at h)
+  where
+    by : (b : Bool) → f y ≡ b → (filter f (take i ys) ≡ [] → slice_get (filter f ys) 0 ≡ Some x) → slice_get (filter f (y ∷ ys)) 0 ≡ Some x
+    by true e more = let first : filter f (take (suc i) (y ∷ ys)) ≡ y ∷ filter f (take i ys) = rw e refl in let no : y ∷ filter f (take i ys) ≡ [] = sym first ∙ none in absurd cc
+    by false e more = let first : filter f (take (suc i) (y ∷ ys)) ≡ filter f (take i ys) = rw e refl in rw e (more (sym first ∙ none))
+
+pub none_more : {X : Type 0} (f : X → Bool) (xs : List X) (i : ℕ) (x : X) → filter f (take i xs) ≡ [] → i < length xs → x ≡ get_or xs i x → f x ≡ false → filter f (take (i + 1) xs) ≡ []
+none_more {X} f xs i x none lt at h =
+    let one : i + 1 ≡ suc i = omega arith in
+    let last : filter f (x ∷ []) ≡ [] = rw h refl in
+    ap (λ k. filter f (take k xs)) one ∙ ap (filter f) (take-suc xs i x lt ∙ ap (λ y. take i xs ++ y ∷ []) (sym at)) ∙ filter-append f (take i xs) (x ∷ []) ∙ ap (λ (l : List X). l ++ filter f (x ∷ [])) none ∙ last
+
+head_map : {X Y : Type 0} (f : X → Y) (xs : List X) (x : X) → slice_get xs 0 ≡ Some x → slice_get (map f xs) 0 ≡ Some (f x)
+head_map f [] x h = absurd cc
+head_map f (y ∷ ys) x h = ap (λ z. Some (f z)) (some_is y x h)
+
+pub said_found : (kinds : List SubKind) (es rest : List Entry) (s : SystemId) (i : ℕ) (e : Entry) (c k : Claim) → AreAscending (ids_of es) → filter (is_first_of s) (take i es) ≡ [] → i < length es → e ≡ get_or es i e → is_first_of s e ≡ true → rest ≡ drop i es → c ≡ claim_of rest e → k ≡ with_known kinds c → Some k ≡ said_in kinds es s
+unfolding said_in
+said_found kinds es rest s i e c k asc none lt at first r is known =
+    let claim : k ≡ with_known kinds (claim_of es e) = known ∙ ap (with_known kinds) (is ∙ ap (λ (l : List Entry). claim_of l e) r ∙ claim_at s es i e asc lt at first) in
+    ap (λ (x : Claim). Some x) claim ∙ sym (head_map (with_known kinds) (map (claim_of es) (filter (is_first_of s) es)) (claim_of es e) (head_map (claim_of es) (filter (is_first_of s) es) e (first_found (is_first_of s) es i e none lt at first)))
+
+pub said_none : (kinds : List SubKind) (es : List Entry) (s : SystemId) (i : ℕ) → length es ≤ i → filter (is_first_of s) (take i es) ≡ [] → None ≡ said_in kinds es s
+unfolding said_in
+said_none kinds es s i past none =
+    let all : filter (is_first_of s) es ≡ [] = sym (ap (filter (is_first_of s)) (take_all i es past)) ∙ none in
+    sym (ap (λ (l : List Entry). slice_get (map (with_known kinds) (map (claim_of es) l)) 0) all)
+
+-- ---- the claim of a system by its place
+
+none_said : (s : SystemId) (cs : List Claim) → AllByRecursion (λ d. same_system s d.system ≡ false) cs → said_by cs s ≡ None
+none_said s [] all = refl
+none_said s (c ∷ cs) all = rw (same_turned c.system s ∙ all.0) (none_said s cs all.1)
+
+pub said_there : (cs : List Claim) (s : SystemId) (c : Claim) → AreInOrder cs → stands_at cs (place_in s cs) s ≡ true → c ≡ get_or cs (place_in s cs) c → said_by cs s ≡ Some c
+said_there [] s c asc stands at = absurd (false≢true stands)
+said_there (d ∷ ds) s c asc stands at = by (system_order s d.system) refl stands at (λ k a. said_there ds s c asc.1 k a)
+  where
+    by : (o : Ordering) → system_order s d.system ≡ o → stands_at (d ∷ ds) (match_ordering o 0 0 (suc (place_in s ds))) s ≡ true → c ≡ get_or (d ∷ ds) (match_ordering o 0 0 (suc (place_in s ds))) c
+        → (stands_at ds (place_in s ds) s ≡ true → c ≡ get_or ds (place_in s ds) c → said_by ds s ≡ Some c) → said_by (d ∷ ds) s ≡ Some c
+    by Less o k a more = rw (same_turned d.system s ∙ k) (ap (λ (x : Claim). Some x) (sym a))
+    by Equal o k a more = rw (same_turned d.system s ∙ k) (ap (λ (x : Claim). Some x) (sym a))
+    by Greater o k a more = rw (same_turned d.system s ∙ above_differs s d.system (ap is_gt o)) (more k a)
+
+pub said_not : (cs : List Claim) (s : SystemId) → AreInOrder cs → stands_at cs (place_in s cs) s ≡ false → said_by cs s ≡ None
+said_not [] s asc stands = refl
+said_not (d ∷ ds) s asc stands = by (system_order s d.system) refl stands (λ k. said_not ds s asc.1 k)
+  where
+    by : (o : Ordering) → system_order s d.system ≡ o → stands_at (d ∷ ds) (match_ordering o 0 0 (suc (place_in s ds))) s ≡ false → (stands_at ds (place_in s ds) s ≡ false → said_by ds s ≡ None) → said_by (d ∷ ds) s ≡ None
+    by Less o k more = rw (same_turned d.system s ∙ k) (none_said s ds (below_all s d.system ds (ap is_lt o) asc.0))
+    by Equal o k more = absurd (true≢false (sym (ap is_eq o) ∙ tie_is_same s d.system ∙ k))
+    by Greater o k more = rw (same_turned d.system s ∙ above_differs s d.system (ap is_gt o)) (more k)
+
+-- ---- named systems
+
+pub named_step : (P : SystemId → Type 0) (systems : List SystemId) (i : ℕ) (x : SystemId) → i < length systems → x ≡ get_or systems i x → ((s : SystemId) → is_named (take i systems) s ≡ true → P s) → P x → (s : SystemId) → is_named (take (i + 1) systems) s ≡ true → P s
+named_step P systems i x lt at before new s h = by (is_named (take i systems) s) refl
+  where
+    longer : take (i + 1) systems ≡ take i systems ++ x ∷ []
+    longer = let one : i + 1 ≡ suc i = omega arith in ap (λ k. take k systems) one ∙ take-suc systems i x lt ∙ ap (λ y. take i systems ++ y ∷ []) (sym at)
+
+    now : (is_named (take i systems) s || (same_system x s || false)) ≡ true
+    now = sym (ap (λ l. is_named l s) longer ∙ list_any-append (λ y. same_system y s) (take i systems) (x ∷ [])) ∙ h
+
+    last : (b : Bool) → (b || false) ≡ true → b ≡ true
+    last true k = refl
+    last false k = k
+
+    by : (b : Bool) → is_named (take i systems) s ≡ b → P s
+    by true e = before s e
+    by false e = subst P (same_is x s (last (same_system x s) (sym (ap (λ b. b || (same_system x s || false)) e) ∙ now))) new
+
+-- ---- what the other systems say
+
+said_among : (kinds : List SubKind) (all es : List Entry) (own s : SystemId) → same_system s own ≡ false → said_by (map (with_known kinds) (map (claim_of all) (filter (is_other own) es))) s ≡ slice_get (map (with_known kinds) (map (claim_of all) (filter (is_first_of s) es))) 0
+said_among kinds all [] own s apart = refl
+said_among kinds all (e ∷ es) own s apart = by (same_system e.id.system s) refl (said_among kinds all es own s apart)
+  where
+    live : Bool
+    live = (e.id.pseudonode == 0) && ((e.id.fragment == 0) && nat_lt 0 e.life)
+
+    by : (b : Bool) → same_system e.id.system s ≡ b
+        → said_by (map (with_known kinds) (map (claim_of all) (filter (is_other own) es))) s ≡ slice_get (map (with_known kinds) (map (claim_of all) (filter (is_first_of s) es))) 0
+        → said_by (map (with_known kinds) (map (claim_of all) (filter (is_other own) (e ∷ es)))) s ≡ slice_get (map (with_known kinds) (map (claim_of all) (filter (is_first_of s) (e ∷ es)))) 0
+    by true h more =
+        let other : same_system e.id.system own ≡ false = ap (λ (t : SystemId). same_system t own) (same_is e.id.system s h) ∙ apart in
+        here other ((e.id.pseudonode == 0) && ((e.id.fragment == 0) && nat_lt 0 e.life)) refl
+      where
+        here : same_system e.id.system own ≡ false → (b : Bool) → ((e.id.pseudonode == 0) && ((e.id.fragment == 0) && nat_lt 0 e.life)) ≡ b → said_by (map (with_known kinds) (map (claim_of all) (filter (is_other own) (e ∷ es)))) s ≡ slice_get (map (with_known kinds) (map (claim_of all) (filter (is_first_of s) (e ∷ es)))) 0
+        here other true k = rw (other, h, k, h) refl
+        here other false k = rw (other, h, k) more
+    by false h more = here (is_other own e) refl
+      where
+        here : (b : Bool) → is_other own e ≡ b → said_by (map (with_known kinds) (map (claim_of all) (filter (is_other own) (e ∷ es)))) s ≡ slice_get (map (with_known kinds) (map (claim_of all) (filter (is_first_of s) (e ∷ es)))) 0
+        here true k = rw (k, h) more
+        here false k = rw (k, h) more
+
+pub said_heard : (kinds : List SubKind) (es : List Entry) (own s : SystemId) → same_system s own ≡ false → said_by (heard own kinds es) s ≡ said_in kinds es s
+unfolding heard said_in
+said_heard kinds es own s apart = said_among kinds es es own s apart
+
+pub named_next : (P : SystemId → Type 0) (systems : List SystemId) (i : ℕ) (d : SystemId) → i < length systems → ((s : SystemId) → is_named (take i systems) s ≡ true → P s) → P (get_or systems i d) → (s : SystemId) → is_named (take (i + 1) systems) s ≡ true → P s
+named_next P systems i d lt before new = named_step P systems i (get_or systems i d) lt (get_or_default systems i d (get_or systems i d) lt) before new
