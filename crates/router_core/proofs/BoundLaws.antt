@@ -1,10 +1,9 @@
 -- A frame of any octets: which drops leave the control state as it was, and how many frames it makes the router send.
-use Rattle.std.proofs.Common.{◌≡◌, ◌∙◌, ℕ, zero, suc, ◌+◌, ◌≤◌, ◌%◌, ◌/◌, ◌==◌, ◌&&◌, nat_lt, nat_le, not, Bool, true, false, List, [], ◌∷◌, ◌++◌, length, map, filter, replicate, drop, slice_get, slice_index_or, ◌-◌, Option, Some, None, is_some, option_map, option_and_then, Result, Ok, Err, if◌then◌else◌, refl, sym, ap, subst, length-append, arith}
+use Rattle.std.proofs.Common.{◌≡◌, ◌∙◌, ℕ, zero, suc, ◌+◌, ◌≤◌, ◌/◌, ◌==◌, ◌&&◌, nat_lt, nat_le, not, Bool, true, false, List, [], ◌∷◌, ◌++◌, length, map, filter, replicate, drop, slice_get, slice_index_or, ◌-◌, Option, Some, None, is_some, option_map, option_and_then, Result, Ok, Err, if◌then◌else◌, refl, sym, ap, subst, length-append, arith}
 use Rattle.std.proofs.lemmas.Bool.{false≢true}
 use Rattle.std.specs.List.{flat_map, filter_map, list_any, cons_option}
 use Rattle.std.specs.Str.{bytes_eq}
 use Rattle.byteorder.specs.Endian.{big_number}
-use Rattle.wire_base.specs.declared.cause.Cause.{Cause}
 use Rattle.wire_base.specs.declared.cause.Cause.TheVariants as cause
 use Rattle.wire_base.specs.declared.conf.Kind.{Kind}
 use Rattle.wire_base.specs.declared.conf.Kind.TheVariants.{Mpls, Configured}
@@ -26,9 +25,9 @@ use Rattle.wire_base.specs.declared.view.ViewNode.{ViewNode}
 use Rattle.wire_base.specs.model.BierHeader.{BierHeader, header_at, header_length}
 use Rattle.wire_base.specs.model.Control.{Control, Flood, entry_in, is_full, is_unknown, age_of, purge}
 use Rattle.wire_base.specs.model.Ethernet.{Carried, IsisPdu, MplsPacket, BierPacket, IpPacket, OtherFrame, frame_at}
-use Rattle.wire_base.specs.model.Flooding.{LspAnswer, SnpAnswer, only_says, puts_marked, stores, lsp_aged, is_own_ahead, is_stray, lsp_in, on_lsp, answer_lsp, lsp_done, snp_done, on_csnp, on_psnp, on_pdu, kept}
-use Rattle.wire_base.specs.model.Hop.{Outcome, Local, Copy, Expired, NoRow, has, is_this, distinct, copies, forward, local, unless_empty, hop}
-use Rattle.wire_base.specs.model.OnFrame.{Effects, Next, Drop, Packet, nothing, dropped, joined, unchanged, framed, pdu_taken, pdu_read, outcome_done, link_to, next_link, node_place, bift_at, prefix_of, copy_of, tunnel_for, copied, copy_sent, direct_copy, tunnel_copy, sent_on, or_drop, choice_of, ids_in, hop_at, hop_in, header_read, meaning_read, is_not_last, on_packet, forwarded, node_with, or_no_route, in_transit, tunnel_taken, tunnel_read, on_tunnel, carried_taken, frame_read, on_frame}
+use Rattle.wire_base.specs.model.Flooding.{LspAnswer, SnpAnswer, only_says, puts_marked, stores, lsp_aged, is_own_ahead, is_stray, on_lsp, answer_lsp, snp_done, on_csnp, on_psnp, on_pdu, kept}
+use Rattle.wire_base.specs.model.Hop.{Outcome, Local, Copy, Expired, NoRow, has, is_this, distinct, forward, local, unless_empty, hop}
+use Rattle.wire_base.specs.model.OnFrame.{Effects, Next, Packet, nothing, dropped, joined, unchanged, framed, pdu_read, outcome_done, link_to, next_link, node_place, bift_at, prefix_of, copy_of, tunnel_for, copy_sent, direct_copy, sent_on, or_drop, choice_of, ids_in, hop_at, header_read, meaning_read, is_not_last, on_packet, forwarded, node_with, or_no_route, in_transit, tunnel_read, on_tunnel, frame_read, on_frame}
 use Rattle.wire_base.specs.model.Pdu.{Head, head_summary, Pdu, LspPdu, CsnpPdu, PsnpPdu, HelloPdu, OtherPdu, pdu_at}
 use Rattle.wire_base.specs.model.Place.{id_at, means, own_id}
 use Rattle.wire_base.specs.model.Tunnel.{TunnelPacket, tunnel, tunnel_at, tunnel_on}

@@ -51,7 +51,7 @@ put_reads e (x ∷ xs) id = cases (put_reads e xs id) (id_order e.id x.id) refl
         ap (λ (r : Option Entry). if same_id x.id id then Some x else r) again
         ∙ other (same_id e.id id) (same_id x.id id) (λ p q. true≢false (sym (ap (λ (i : LspId). same_id e.id i) (same_is x.id id q) ∙ p) ∙ above_differs e.id x.id (ap is_gt o)))
 
-bytes_self : (xs : List ℕ) → bytes_eq xs xs ≡ true
+pub bytes_self : (xs : List ℕ) → bytes_eq xs xs ≡ true
 bytes_self [] = refl
 bytes_self (x ∷ xs) = and_from _ _ (eq-eqb x x refl) (bytes_self xs)
 

@@ -127,7 +127,7 @@ below_missing (e ∷ es) id low = cases (aged e) (below_missing es id low.1)
     cases Removed rest = rest
 
 -- an identifier has what its entry is a second later
-aged_reads : (es : List Entry) (id : LspId) → AreAscending (ids_of es) → entry_in (filter_map after_second es) id ≡ option_and_then after_second (entry_in es id)
+pub aged_reads : (es : List Entry) (id : LspId) → AreAscending (ids_of es) → entry_in (filter_map after_second es) id ≡ option_and_then after_second (entry_in es id)
 aged_reads [] id asc = refl
 aged_reads (e ∷ es) id asc = cases (same_id e.id id) refl (aged e) (aged_reads es id asc.1) ∙ sym (pushed (same_id e.id id))
   where

@@ -6,6 +6,7 @@ pub mod EventLaws
 pub mod FlagLaws
 pub mod ForecastLaws
 pub mod IdleLaws
+pub mod IssuedLaws
 pub mod KeepLaws
 pub mod KeptLaws
 pub mod OwnLaws

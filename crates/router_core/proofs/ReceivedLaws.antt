@@ -29,8 +29,9 @@ use Rattle.router_core.specs.declared.forecast.Ready.{Ready}
 use Rattle.router_core.specs.Forecast.{spent_if, flags_issued, entries_issued, count_full, past_of, IsReady}
 use Rattle.router_core.specs.Own.{own_past}
 use Rattle.router_core.specs.Received.{HasRoom, full_drop, is_kept}
-use Rattle.router_core.specs.State.{IsRouter, is_up, control_of}
+use Rattle.router_core.specs.State.{IsRouter, AreIssued, is_up, control_of}
 use Rattle.router_core.proofs.ForecastLaws.{past_is, full_is}
+use Rattle.router_core.proofs.IssuedLaws.{issued_now, marked_up}
 use Rattle.router_core.proofs.KeptLaws.{Kept, OwnStands, LspKept, SnpKept, lsp_kept, csnp_kept, psnp_kept}
 use Rattle.router_core.proofs.OwnLaws.{past_id, kept_of, router_of, reissued_is, reissued_keeps}
 
@@ -110,6 +111,9 @@ module _ (r : RouterConf) (f : Flood) (es : List Entry) (spent : Bool) (k : IsRo
 
     pub lsp_keeps : IsDatabase es' → IsRouter (control_of r f' es' spent)
     lsp_keeps database = stays f' es' lsp_is.kept database
+
+    pub lsp_up : f'.up ≡ f.up
+    lsp_up = lsp_is.kept.up_is
 
     pub lsp_asks : (s : ℕ) → answer ≡ out.Reissue s → spent ≡ false
     lsp_asks = lsp_is.asked
@@ -199,6 +203,21 @@ module _ (c before : Control) (k : IsRouter c) (is : c ≡ before) (rows : List 
             (subst (λ (b : Bool). Kept c.conf.system c.flood.up b f es) (sym z) (subst (λ (g : Flood). Kept c.conf.system c.flood.up c.spent g es) (sym x) (subst (λ (es' : List Entry). Kept c.conf.system c.flood.up c.spent a.flood es') (sym y) l.kept.kept)))
             database
         cases (Some s) (x, y, z) = reissued_keeps c.conf a.flood a.entries c.spent s c.flood.up (own_past c.conf c.flood.up s) refl f es ready.spent x y z c.flood.up c.spent k.sound k.control.links l.kept.kept database
+
+    pub ready_issued : AreIssued c.conf c.flood.up c.spent a.entries → AreIssued c.conf f.up ready.spent es
+    ready_issued all = cases (past_of c rows) issued l.asked
+      where
+        up_is : a.flood.up ≡ c.flood.up
+        up_is = l.kept.kept.up_is
+
+        cases : (o : Option ℕ) → Issued o → a.answer.reissue ≡ o → AreIssued c.conf f.up ready.spent es
+        cases None (x, y, z) asks =
+            subst (λ (b : Bool). AreIssued c.conf f.up b es) (sym z)
+            (subst (λ (l : List Entry). AreIssued c.conf f.up c.spent l) (sym y)
+            (subst (λ (u : List Bool). AreIssued c.conf u c.spent a.entries) (sym (ap (λ (g : Flood). g.up) x ∙ up_is)) all))
+        cases (Some s) (x, y, z) asks =
+            issued_now c.conf c.flood.up f.up c.flood.up c.spent c.spent ready.spent s (own_past c.conf c.flood.up s) a.entries es refl y z (l.kept.asked s asks)
+            (sym (ap (λ (g : Flood). g.up) x ∙ marked_up a.flood (own_past c.conf c.flood.up s).id ∙ up_is)) all
 
     ready_is : control_of c.conf f es ready.spent ≡ reissue_if (control_of c.conf a.flood a.entries c.spent) a.answer.reissue
     ready_is = cases (past_of c rows) issued ∙ ap (λ (o : Option ℕ). reissue_if (control_of c.conf a.flood a.entries c.spent) o) (sym l.asked)

@@ -1,6 +1,6 @@
 ghost use Rattle.std.specs.Prelude.{◌≡◌, IfOk};
 ghost use Rattle.wire_base.specs.model.View.{control_view};
-ghost use Rattle.router_core.specs.State.{IsRouter, is_up};
+ghost use Rattle.router_core.specs.State.{IsRouter, IssuesAlone, is_up};
 
 use isis_flood::Flood;
 use lsp_store::Store;
@@ -21,19 +21,20 @@ pub(crate) struct Control {
 
 impl Model for Control {
     ghost use Rattle.wire_base.specs.model.Control.{Control as ControlState};
-    ghost use Rattle.router_core.specs.State.{IsRouter, control_of};
+    ghost use Rattle.router_core.specs.State.{IsWhole, control_of};
 
     ghost Value = { ControlState };
 
     ghost view = { λ c. control_of c.conf c.flood.flood c.store.entries c.spent };
 
-    ghost invariant = { λ c. IsRouter (control_of c.conf c.flood.flood c.store.entries c.spent) };
+    ghost invariant = { λ c. IsWhole (control_of c.conf c.flood.flood c.store.entries c.spent) };
 }
 
 impl Control {
     pub(crate) fn conf(&self) -> &RouterConf
         ensures conf { result.now ≡ self.now.conf }
         ensures keeps { IsRouter self.now }
+        ensures issued { IssuesAlone self.now }
     {
         &self.conf
     }

@@ -144,8 +144,17 @@ fn count_full(store: &Store, rows: &[Summary]) -> M<usize>
     Ok(look.full)
 }
 
-/// One drop for each entry that finds no room.
+/// One drop for each entry that finds no room. Where there is none, nothing is prepared for one.
 fn full_drops(alloc: Global, full: usize) -> M<Rows<DropNote>>
+    ensures { IfOk result (λ drops. drops ≡ map full_drop (replicate full cause.Full)) }
+{
+    if full == 0 {
+        return Ok(Rows::new(alloc));
+    }
+    repeated_drops(alloc, full)
+}
+
+fn repeated_drops(alloc: Global, full: usize) -> M<Rows<DropNote>>
     ensures { IfOk result (λ drops. drops ≡ map full_drop (replicate full cause.Full)) }
 {
     let mut drops = Rows::new(alloc);

@@ -116,35 +116,41 @@ impl Control {
         Ok(dropped_each(ready.drops))
     }
 
-    /// A PDU; hellos and other types are passed over. Or all is as it was.
-    fn take_pdu(&mut self, kept: &mut Option<Kept>, link: u16, pdu: Pdu<'_>) -> M<Effects>
+    /// A PDU that floods; hellos and other types are passed over. Or all is as it was.
+    fn flood_pdu(&mut self, link: u16, pdu: Pdu<'_>) -> M<Effects>
         requires up { is_up self.old link ≡ true }
         requires short { HasRoom (pdu_of pdu) }
-        requires kept { MayKeep self.old kept.old }
         ensures next { IfOk result (λ e. record { control = self.new; effects = e } ≡ pdu_taken self.old link (pdu_of pdu.entry)) }
         ensures err { OnErr result (self.new ≡ self.old) }
-        ensures kept { MayKeep self.new kept.new }
     {
         match pdu {
-            Pdu::Lsp { head, tlvs } => {
-                *kept = None;
-                self.on_lsp(link, &head, tlvs)
-            }
+            Pdu::Lsp { head, tlvs } => self.on_lsp(link, &head, tlvs),
             Pdu::Csnp {
                 source: _,
                 start,
                 last,
                 tlvs,
-            } => {
-                *kept = None;
-                self.on_csnp(link, start, last, tlvs)
-            }
-            Pdu::Psnp { source: _, tlvs } => {
-                *kept = None;
-                self.on_psnp(link, tlvs)
-            }
+            } => self.on_csnp(link, start, last, tlvs),
+            Pdu::Psnp { source: _, tlvs } => self.on_psnp(link, tlvs),
             Pdu::Hello | Pdu::Other(_) => Ok(Effects::passed_over(self.allocator())),
         }
+    }
+
+    /// A PDU, which may change the view: what is kept of it goes. Or all else is as it was.
+    fn take_pdu(
+        &mut self,
+        kept: &mut Option<Kept>,
+        link: u16,
+        pdu: Pdu<'_>,
+    ) -> M<Effects>
+        requires up { is_up self.old link ≡ true }
+        requires short { HasRoom (pdu_of pdu) }
+        ensures next { IfOk result (λ e. record { control = self.new; effects = e } ≡ pdu_taken self.old link (pdu_of pdu.entry)) }
+        ensures err { OnErr result (self.new ≡ self.old) }
+        ensures kept { MayKeep self.new kept.new }
+    {
+        *kept = None;
+        self.flood_pdu(link, pdu)
     }
 
     /// The octets of a PDU, as a frame of IS-IS carries them; or all is as it was.

@@ -7,7 +7,7 @@ ghost use Rattle.wire_base.specs.model.OnFrame.{nothing, framed, on_frame};
 ghost use Rattle.wire_base.specs.model.View.{control_view};
 ghost use Rattle.bfr_edge.specs.Entry.{Refuses};
 ghost use Rattle.router_core.specs.Bounds.{leaves_state, packet_hopped, most_sent};
-ghost use Rattle.router_core.specs.State.{IsRouter, is_up, counted};
+ghost use Rattle.router_core.specs.State.{IsRouter, IssuesAlone, is_up, counted};
 
 use crate::control::Control;
 use crate::kept::Kept;
@@ -56,10 +56,13 @@ impl Router {
         })
     }
 
-    /// Its configuration.
+    /// Its configuration. What its database has of its own system and is live is its fragment 0, with the content and the
+    /// flags that it issues by this configuration and its ends that are up; one that isn't spent has it, and one that is
+    /// spent has none.
     pub fn conf(&self) -> &RouterConf
         ensures conf { result.now ≡ self.now.control.conf }
         ensures keeps { IsRouter self.now.control }
+        ensures issued { IssuesAlone self.now.control }
     {
         self.control.conf()
     }

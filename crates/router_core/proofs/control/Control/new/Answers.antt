@@ -1,3 +1,4 @@
+use Rattle.router_core.proofs.IssuedLaws.{started_issued}
 use Rattle.std.proofs.Common.{◌∙◌, ℕ, true, length, replicate, ap}
 use Rattle.std.proofs.lemmas.List.{length-replicate}
 use Rattle.router_core.proofs.EventLaws.{started_is, started_keeps, first_is}
@@ -5,9 +6,14 @@ use Rattle.router_core.proofs.control.Control.new.Goals as goal
 
 pub invariant_of-result : goal.invariant_of-result
 invariant_of-result c =
-    started_keeps c.args.conf _ c.in_ok-store.flood.flood c.in_ok-store.store.entries c.in_ok-store.ensures.entries c.in_ok-store.ensures.flood c.requires
-    (ap length (c.as_slice.ensures.value ∙ c.in_ok-up.ensures) ∙ length-replicate c.len.result true ∙ c.len.ensures)
-    c.in_ok-store.ensures.database
+    record {
+      router =
+          started_keeps c.args.conf _ c.in_ok-store.flood.flood c.in_ok-store.store.entries c.in_ok-store.ensures.entries c.in_ok-store.ensures.flood c.requires
+          (ap length (c.as_slice.ensures.value ∙ c.in_ok-up.ensures) ∙ length-replicate c.len.result true ∙ c.len.ensures)
+          c.in_ok-store.ensures.database;
+      issued =
+          started_issued c.args.conf _ c.in_ok-store.flood.flood c.in_ok-store.store.entries c.in_ok-store.ensures.entries c.in_ok-store.ensures.flood;
+    }
 
 pub returns : goal.returns
 returns c =

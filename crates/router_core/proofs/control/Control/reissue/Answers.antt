@@ -1,3 +1,4 @@
+use Rattle.router_core.proofs.IssuedLaws.{reissued_issued}
 use Rattle.std.proofs.Common.{◌∙◌, ap, sym}
 use Rattle.wire_base.specs.model.Control.{Control}
 use Rattle.wire_base.specs.model.Flooding.{reissue}
@@ -7,15 +8,22 @@ use Rattle.router_core.proofs.control.Control.reissue.Goals as goal
 
 pub issue-requires : goal.issue-requires
 issue-requires c =
-    own_not_refused c.self.inside.conf.system c.self.inside.store.entries c.in_ok-own.own.id (c.self.invariant.own (ap (λ (x : Control). x.spent) c.self.view_is ∙ c.requires))
+    own_not_refused c.self.inside.conf.system c.self.inside.store.entries c.in_ok-own.own.id (c.self.invariant.router.own (ap (λ (x : Control). x.spent) c.self.view_is ∙ c.requires))
     (made_id c.self.inside.conf c.self.inside.flood.flood c.self.inside.store.entries c.self.inside.spent c.args.seq _ c.in_ok-own.own c.in_ok-own.ensures)
 
 pub invariant_of-self-2 : goal.invariant_of-self-2
 invariant_of-self-2 c =
-    reissued_keeps c.self.inside.conf c.self.inside.flood.flood c.self.inside.store.entries c.self.inside.spent c.args.seq _ c.in_ok-own.own c.in_ok-own.ensures
-    c.issue.new.flood.flood c.issue.new.store.entries _ c.in_ok-issue.ensures.ok.0 c.in_ok-issue.ensures.ok.1 c.spent_past-self-inside.ensures
-    c.self.inside.flood.flood.up c.self.inside.spent c.self.invariant.sound c.self.invariant.control.links
-    (kept_of (control_of c.self.inside.conf c.self.inside.flood.flood c.self.inside.store.entries c.self.inside.spent) c.self.invariant) c.in_ok-issue.ensures.database
+    record {
+      router =
+          reissued_keeps c.self.inside.conf c.self.inside.flood.flood c.self.inside.store.entries c.self.inside.spent c.args.seq _ c.in_ok-own.own c.in_ok-own.ensures
+          c.issue.new.flood.flood c.issue.new.store.entries _ c.in_ok-issue.ensures.ok.0 c.in_ok-issue.ensures.ok.1 c.spent_past-self-inside.ensures
+          c.self.inside.flood.flood.up c.self.inside.spent c.self.invariant.router.sound c.self.invariant.router.control.links
+          (kept_of (control_of c.self.inside.conf c.self.inside.flood.flood c.self.inside.store.entries c.self.inside.spent) c.self.invariant.router) c.in_ok-issue.ensures.database;
+      issued =
+          reissued_issued c.self.inside.conf c.self.inside.flood.flood c.self.inside.store.entries c.self.inside.spent c.self.invariant.router c.self.invariant.issued c.args.seq _ c.in_ok-own.own c.in_ok-own.ensures
+          c.issue.new.flood.flood c.issue.new.store.entries _ c.spent_past-self-inside.ensures c.in_ok-issue.ensures.ok.0 c.in_ok-issue.ensures.ok.1 (ap (λ (x : Control). x.spent) c.self.view_is ∙ c.requires)
+          (c.as_slice.ensures.value ∙ c.in_ok-up.ensures ∙ ap (λ (x : Control). x.flood.up) (sym c.self.view_is));
+    }
 
 pub returns-clause-ok : goal.returns-clause-ok
 returns-clause-ok c =

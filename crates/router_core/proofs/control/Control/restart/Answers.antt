@@ -1,3 +1,4 @@
+use Rattle.router_core.proofs.IssuedLaws.{started_issued}
 use Rattle.std.proofs.Common.{◌∙◌, length, ap, sym}
 use Rattle.wire_base.specs.model.Control.{Control}
 use Rattle.router_core.specs.State.{control_of}
@@ -6,9 +7,14 @@ use Rattle.router_core.proofs.control.Control.restart.Goals as goal
 
 pub invariant_of-self : goal.invariant_of-self
 invariant_of-self c =
-    started_keeps c.self.inside.conf _ c.in_ok-store.flood.flood c.in_ok-store.store.entries c.in_ok-store.ensures.entries c.in_ok-store.ensures.flood c.self.invariant.sound
-    (ap length (c.as_slice.ensures.value ∙ c.in_ok-up.ensures) ∙ ap (λ (x : Control). length x.flood.up) (sym c.self.view_is) ∙ c.self.invariant.control.links)
-    c.in_ok-store.ensures.database
+    record {
+      router =
+          started_keeps c.self.inside.conf _ c.in_ok-store.flood.flood c.in_ok-store.store.entries c.in_ok-store.ensures.entries c.in_ok-store.ensures.flood c.self.invariant.router.sound
+          (ap length (c.as_slice.ensures.value ∙ c.in_ok-up.ensures) ∙ ap (λ (x : Control). length x.flood.up) (sym c.self.view_is) ∙ c.self.invariant.router.control.links)
+          c.in_ok-store.ensures.database;
+      issued =
+          started_issued c.self.inside.conf _ c.in_ok-store.flood.flood c.in_ok-store.store.entries c.in_ok-store.ensures.entries c.in_ok-store.ensures.flood;
+    }
 
 pub returns-clause-ok : goal.returns-clause-ok
 returns-clause-ok c =

@@ -1,7 +1,7 @@
 use Rattle.std.proofs.Common.{◌≡◌, ◌≤◌, ◌-◌, length, map, replicate}
 use Rattle.wire_base.specs.declared.cause.Cause.TheVariants as cause
 use Rattle.router_core.specs.Received.{full_drop}
-use Rattle.router_core.proofs.forecast.full_drops.Given as goal
+use Rattle.router_core.proofs.forecast.repeated_drops.Given as goal
 
 abbrev pub invariant-drops : goal.invariant-drops
 invariant-drops l = record {
