@@ -1,5 +1,5 @@
 use Rattle.router_core.proofs.EventLaws.{sent_keeps}
-use Rattle.router_core.proofs.control.Control.send.Goals as goal
+use Rattle.router_core.proofs.control.Control.sent.Goals as goal
 
 pub invariant_of-self : goal.invariant_of-self
 invariant_of-self c = sent_keeps c.self.inside.conf c.self.inside.flood.flood c.self.inside.store.entries c.self.inside.spent c.self.invariant c.args.link c.sent.new.self.flood c.sent.ensures.flood
