@@ -1,35 +1,45 @@
 -- What a router did on octets, put on its way, is what happens in the world.
-use Rattle.std.proofs.Common.{◌≡◌, ℕ, zero, suc, ◌+◌, ◌<◌, ◌≤◌, true, List, [], ◌∷◌, length, slice_get, slice_set, Option, Some, None, option_map, refl, sym, ap, subst, ◌∙◌}
+use Rattle.std.proofs.Common.{◌≡◌, ◌⊎◌, inl, inr, ℕ, zero, suc, ◌+◌, ◌<◌, ◌≤◌, true, List, [], ◌∷◌, length, map, slice_get, slice_set, Option, Some, None, option_map, refl, sym, ap, subst, ◌∙◌}
 use Rattle.std.proofs.lemmas.Option.{same_Some}
 use Rattle.wire_base.specs.declared.limits.TheConstants.{MOST_FRAME}
 use Rattle.wire_base.specs.declared.bsl.Bsl.{Bsl}
 use Rattle.wire_base.specs.model.Control.{Control}
-use Rattle.wire_base.specs.model.Flooding.{on_pdu, send}
+use Rattle.wire_base.specs.model.Flooding.{Reply, on_pdu, send}
 use Rattle.wire_base.specs.model.Ingress.{edge_fault, inject}
 use Rattle.wire_base.specs.model.Item.{Item, ControlItem, PacketItem, Outer}
 use Rattle.wire_base.specs.model.OnFrame.{Effects, Next, Packet, framed, on_frame}
-use Rattle.router_core.specs.State.{RouterState}
+use Rattle.wire_base.specs.model.Pdu.{Pdu}
+use Rattle.router_core.specs.State.{RouterState, counted}
+use Rattle.replay_text.specs.declared.event.Event.TheVariants.{Take}
 use Rattle.domain_core.specs.declared.flight.Flight.{Flight}
 use Rattle.domain_core.specs.declared.flight.Note.{Note}
 use Rattle.domain_core.specs.declared.step_out.StepOut.{StepOut}
-use Rattle.domain_core.specs.Answers.{told, told_of}
+use Rattle.domain_core.specs.Answers.{IsSilent, told, told_of}
 use Rattle.domain_core.specs.Flights.{item_seen, items_seen, ids_seen, number_of, frames_at, without_frame, push_all_sent}
 use Rattle.domain_core.specs.Framed.{frame_over, IsFramed, IsFlooded}
 use Rattle.domain_core.specs.Read.{pdu_in, copy_read, copy_in, outer_in, packet_in, item_in, item_ids}
 use Rattle.domain_model.specs.Moves.{Made, replied, packet_taken, inject_made}
-use Rattle.domain_core.specs.Network.{NetworkState, world_of, IsFrameOver, AreFramesOver, IsTrueNetwork}
+use Rattle.domain_core.specs.Network.{NetworkState, world_of, heard_after, IsFrameOver, AreFramesOver, IsTrueNetwork}
 use Rattle.domain_model.specs.Step.{Happened, makes, push_all, with_router, sends, injects, taken_off, arrives, takes_over}
-use Rattle.domain_model.specs.Truth.{IsTrueControl, IsTruePdu, IsTrueCopy, IsTrueItem, IsTruthful, InjectFits}
-use Rattle.domain_model.specs.World.{WorldState, is_up, link_between}
+use Rattle.domain_model.specs.Truth.{IsTrueControl, IsTruePdu, IsTrueCopy, IsTrueItem, InjectFits}
+use Rattle.domain_model.specs.World.{WorldState, is_up, link_between, queue_over}
+use Rattle.domain_model.proofs.ControlTruth.{IsTrueReply, on_pdu_true}
+use Rattle.domain_model.proofs.ControlTruth as control_truth
 use Rattle.domain_model.proofs.EachLaws.{each_got}
 use Rattle.domain_core.proofs.FramedWorld.{conf_there, control_there, item_there, frame_short}
 use Rattle.domain_core.proofs.FramedPdus.{pdu_framed, send_framed}
 use Rattle.domain_core.proofs.FramedCopies.{packet_framed, inject_framed}
+use Rattle.domain_core.proofs.RefusalLaws.{toward}
 use Rattle.domain_core.proofs.SeenLaws.{some_seen_at, frames_left}
 use Rattle.domain_core.proofs.SentLaws.{IsCarried, carried}
-use Rattle.domain_core.proofs.TransitLaws.{gone_world, same_frames, up_taken}
-use Rattle.domain_core.proofs.TurnLaws.{control_at, turned_world}
-use Rattle.domain_model.proofs.WorldTruth.{send_turned, pdu_turned, gone_true}
+use Rattle.domain_core.proofs.StillLaws.{pdu_still, silent_framed}
+use Rattle.domain_core.proofs.TransitLaws.{gone_world, same_frames, up_taken, one_heard}
+use Rattle.domain_core.proofs.TurnLaws.{control_at, turned_world, counted_heard}
+
+pub set_same : {X : Type 0} (xs : List X) (i : ℕ) (x : X) → slice_get xs i ≡ Some x → slice_set xs i x ≡ xs
+set_same [] i x h = refl
+set_same {X} (y ∷ ys) zero x h = ap (λ (z : X). z ∷ ys) (sym (same_Some y x h))
+set_same {X} (y ∷ ys) (suc i) x h = ap (λ (zs : List X). y ∷ zs) (set_same ys i x h)
 
 -- ---- the world afterwards
 
@@ -42,14 +52,18 @@ module _ (n : NetworkState) (a : ℕ) (r : RouterState) (at : slice_get n.router
       ∙ ap (λ (xs : List (List (List Item))). record (with_router (world_of n) a c) { flights = xs }) seen
       ∙ sym (ap (λ (x : Happened). x.world) happened)
 
-  -- it has turned, and nothing of what it sent is on its way
-  pub cut_short : (flights : List (List (List Flight))) (c : Control) → next.control ≡ c → flights ≡ n.flights → AreFramesOver n.domain.routers n.flights → IsTruthful (with_router (world_of n) a c) → IsTrueNetwork (record n { routers = slice_set n.routers i next; flights = flights })
-  cut_short flights c is none are truth = record {
-    truth = subst IsTruthful (sym (ap (λ (f : List (List (List Flight))). world_of (record n { routers = slice_set n.routers i next; flights = f })) none ∙ turned_world n a r at i next c same is)) truth;
-    frames = same_frames n.domain.routers flights n.flights none are;
-  }
+  -- it has taken a frame, and is as it was
+  pub still_world : next.control ≡ r.control → world_of (record n { routers = slice_set n.routers i next }) ≡ world_of n
+  still_world is =
+      turned_world n a r at i next r.control same is
+      ∙ ap (λ (cs : List Control). record (world_of n) { routers = cs }) (set_same (world_of n).routers a r.control (control_at n a r at))
 
 -- ---- what is due is sent
+
+-- the next state and what is answered, each by itself
+pub same_next : (link : ℕ) (r : Reply) (next : Control) (e : Effects) → next ≡ r.control → e ≡ (framed link r).effects → ◌≡◌ {A = Next} (record { control = next; effects = e }) (framed link r)
+unfolding framed
+same_next link r next e p q = ap (λ (c : Control). record { control = c; effects = e }) p ∙ ap (λ (f : Effects). record { control = r.control; effects = f }) q
 
 module _ (n : NetworkState) (t : IsTrueNetwork n) (a b link : ℕ) (r : RouterState) (at : slice_get n.routers a ≡ Some r) where
   pub send_is : link_between n.domain.routers a b ≡ Some link → sends (world_of n) a (slice_get (world_of n).routers a) (link_between n.domain.routers a b) ≡ makes (with_router (world_of n) a (send r.control link).control) (replied n.domain.routers a link (send r.control link))
@@ -67,15 +81,7 @@ module _ (n : NetworkState) (t : IsTrueNetwork n) (a b link : ℕ) (r : RouterSt
       → IsCarried n.domain.routers a None n.flights [] e (replied n.domain.routers a link (send r.control link))
   send_carried within next e done = carried n.domain.routers a None n.flights [] e (replied n.domain.routers a link (send r.control link)) t.frames (send_flooded within next e done).framed
 
-  pub send_true_still : IsTruthful (with_router (world_of n) a (send r.control link).control)
-  send_true_still = send_turned (world_of n) t.truth a link r.control (control_at n a r at)
-
 -- ---- what arrives
-
-pub set_same : {X : Type 0} (xs : List X) (i : ℕ) (x : X) → slice_get xs i ≡ Some x → slice_set xs i x ≡ xs
-set_same [] i x h = refl
-set_same {X} (y ∷ ys) zero x h = ap (λ (z : X). z ∷ ys) (sym (same_Some y x h))
-set_same {X} (y ∷ ys) (suc i) x h = ap (λ (zs : List X). y ∷ zs) (set_same ys i x h)
 
 -- a copy has the number that is noted
 number_read : (number : ℕ) (outer : Option Outer) (o : Option Packet) → (copy_read number outer o).number ≡ number
@@ -102,13 +108,15 @@ module _ (n : NetworkState) (t : IsTrueNetwork n) (a b link back i : ℕ) (r : R
   state : IsTrueControl n.domain.routers r.control
   state = control_there (world_of n) t.truth b r.control (control_at n b r at)
 
-  -- what a frame does at an end that is up
+  true_reply : (p : Pdu) → IsTruePdu n.domain.routers p → IsTrueReply n.domain.routers r.control (on_pdu r.control back p)
+  true_reply p says = on_pdu_true n.domain.routers t.truth.valid.few t.truth.valid.sound r.control state.among state.kept.control.links (control_truth.state_of n.domain.routers r.control state) back p says
+
+  -- What a frame does at an end that is up. Where anything is to be told or sent, the router is as it was.
   pub record IsArrival (next : Control) (e : Effects) : Type 0 where
     pub made : Made
     pub happened : arrives gone b back r.control (item_seen n.domain.routers f) ≡ makes (with_router gone b next) made
     pub framed : IsFramed n.domain.routers b (number_of f) (ids_seen n.domain.routers f) e made
-    pub kept : IsTruthful (with_router (world_of n) b next)
-    pub left : IsTruthful (with_router gone b next)
+    pub still : IsSilent e ⊎ (next ≡ r.control)
 
   module _ (next : Control) (e : Effects) (done : ◌≡◌ {A = Next} (record { control = next; effects = e }) (on_frame r.control back f.octets)) where
     over_item : (x : Item) → item_seen n.domain.routers f ≡ x → ◌≡◌ {A = Next} (record { control = next; effects = e }) (on_frame r.control back (frame_over n.domain.routers a link x))
@@ -126,8 +134,10 @@ module _ (n : NetworkState) (t : IsTrueNetwork n) (a b link back i : ℕ) (r : R
           made = m;
           happened = ap (arrives gone b back r.control) is ∙ ap (λ (c : Control). makes (with_router gone b c) m) (sym flooded.control);
           framed = subst (λ (o : Option Note). IsFramed n.domain.routers b (option_map (λ k. k.number) o) (item_ids (item_in n.domain.routers o f.octets)) e m) (sym none) flooded.framed;
-          kept = subst (λ (c : Control). IsTruthful (with_router (world_of n) b c)) (sym flooded.control) (pdu_turned (world_of n) t.truth b back r.control p (control_at n b r at) up says);
-          left = subst (λ (c : Control). IsTruthful (with_router gone b c)) (sym flooded.control) (pdu_turned gone (gone_true (world_of n) t.truth a link i) b back r.control p (control_at n b r at) up says);
+          still = elim (pdu_still r.control back p) [
+            | inl none ↦ inl (silent_framed n.domain.routers b e back (on_pdu r.control back p) flooded.framed none (true_reply p says).none)
+            | inr same ↦ inr (flooded.control ∙ same)
+          ];
         }
 
     packet_arrival : (note : Note) → f.note ≡ Some note → IsArrival next e
@@ -141,15 +151,13 @@ module _ (n : NetworkState) (t : IsTrueNetwork n) (a b link back i : ℕ) (r : R
         let number : x.number ≡ note.number = number_read note.number (outer_in f.octets) (packet_in n.domain.routers note.to f.octets) in
         let routers : slice_set (world_of n).routers b next ≡ (world_of n).routers =
         ap (slice_set (world_of n).routers b) hopped.control ∙ set_same (world_of n).routers b r.control (control_at n b r at) in
-        let same : with_router (world_of n) b next ≡ world_of n = ap (λ (cs : List Control). record (world_of n) { routers = cs }) routers in
         let same_gone : with_router gone b next ≡ gone = ap (λ (cs : List Control). record gone { routers = cs }) routers in
         record {
           made = m;
           happened = ap (arrives gone b back r.control) is ∙ ap (λ (w : WorldState). makes w m) (sym same_gone);
           framed = subst (λ (o : Option Note). IsFramed n.domain.routers b (option_map (λ k. k.number) o) (item_ids (item_in n.domain.routers o f.octets)) e m) (sym some)
               (subst (λ (k : ℕ). IsFramed n.domain.routers b (Some k) x.ids e m) number hopped.framed);
-          kept = subst IsTruthful (sym same) t.truth;
-          left = subst IsTruthful (sym same_gone) (gone_true (world_of n) t.truth a link i);
+          still = inr hopped.control;
         }
 
     pub arrival : IsArrival next e
@@ -158,6 +166,18 @@ module _ (n : NetworkState) (t : IsTrueNetwork n) (a b link back i : ℕ) (r : R
         by : (o : Option Note) → f.note ≡ o → IsArrival next e
         by None is = pdu_arrival is
         by (Some note) is = packet_arrival note is
+
+  -- where an answer isn't told or sent, the router is as it was
+  pub unmoved : (next : Control) (e : Effects) → ◌≡◌ {A = Next} (record { control = next; effects = e }) (on_frame r.control back f.octets) → (IsSilent e → ⊥) → next ≡ r.control
+  unmoved next e done tells = elim ((arrival next e done).still) [ inl silent ↦ absurd (tells silent) | inr same ↦ same ]
+
+  -- but for its count
+  pub heard_there : link_between n.domain.routers b a ≡ Some back → (k : ℕ) → k ≡ b → (next : RouterState) → next.heard ≡ counted r.heard → map (λ (x : RouterState). x.heard) (slice_set n.routers k next) ≡ heard_after (world_of n) (map (λ (x : RouterState). x.heard) n.routers) (Take a b i)
+  heard_there facing k same next is =
+      counted_heard n b r at k next same is
+      ∙ sym (one_heard (world_of n) (map (λ (x : RouterState). x.heard) n.routers) a b i (item_seen n.domain.routers f)
+      (toward (world_of n) b a back r.control (control_at n b r at) facing ∙ up)
+      (ap (λ (l : Option ℕ). slice_get (queue_over (world_of n).flights a l) i) joined ∙ some_seen_at n.domain.routers n.flights a link i f there))
 
   -- the frame is gone
   module _ (flights : List (List (List Flight))) (left : flights ≡ without_frame n.flights a link i) where

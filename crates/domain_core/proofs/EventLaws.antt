@@ -1,5 +1,5 @@
 -- What is left to be asked of an event once its own rules allow it.
-use Rattle.std.proofs.Common.{◌≡◌, ℕ, ◌+◌, ◌≤◌, nat_le, Bool, true, false, List, length, map, slice_get, Option, Some, None, sym, ap, subst, ◌∙◌}
+use Rattle.std.proofs.Common.{◌≡◌, inl, ℕ, ◌+◌, ◌≤◌, nat_le, Bool, true, false, List, length, map, slice_get, Option, Some, None, sym, ap, subst, ◌∙◌}
 use Rattle.std.proofs.lemmas.List.{length-map}
 use Rattle.wire_base.specs.declared.conf.RouterConf.{RouterConf}
 use Rattle.wire_base.specs.model.Configuration.{DomainConf}
@@ -14,7 +14,7 @@ use Rattle.domain_core.specs.declared.step_out.StepOut.{StepOut}
 use Rattle.domain_core.specs.Answers.{early_fault, early_rule, Refuses, told}
 use Rattle.domain_model.specs.Faults.{most_events, most_in_flight, first_fault, entry_fault, rule_fault, event_fault}
 use Rattle.domain_core.specs.Held.{state_of, world_in, IsDone}
-use Rattle.domain_core.specs.Network.{AreFramesOver, IsTrueNetwork}
+use Rattle.domain_core.specs.Network.{NetworkState, world_of, seen_of, AreFramesOver, IsAsBefore, IsTrueNetwork}
 use Rattle.domain_model.specs.Step.{doing, happens}
 use Rattle.domain_model.specs.Truth.{IsTruthful, EventFits, AreWorldDrops}
 use Rattle.domain_model.specs.World.{WorldState, in_flight}
@@ -78,6 +78,16 @@ early_is w e f h = by (nat_le most_events w.events) h
 -- what is as it was is true still
 pub still_true : (old new : Network) → state_of new ≡ state_of old → IsTrueNetwork (state_of old) → IsTrueNetwork (state_of new)
 still_true old new same true_before = subst IsTrueNetwork (sym same) true_before
+
+-- also where a router has counted a frame
+pub still_network : (old new : Network) → world_in new ≡ world_in old → new.flights ≡ old.flights → new.domain ≡ old.domain → IsTrueNetwork (state_of old) → IsTrueNetwork (state_of new)
+still_network old new same flights domain t = record {
+  truth = subst IsTruthful (sym same) t.truth;
+  frames = subst (λ (d : DomainConf). AreFramesOver d.routers new.flights) (sym domain) (subst (AreFramesOver old.domain.routers) (sym flights) t.frames);
+}
+
+pub as_before : (old new : Network) (e : Event) → state_of new ≡ state_of old → IsAsBefore (seen_of (state_of old)) (seen_of (state_of new)) e
+as_before old new e same = record { world = ap world_of same; heard = inl (ap (λ (n : NetworkState). (seen_of n).heard) same) }
 
 -- ---- an event that is done is counted
 

@@ -1,13 +1,14 @@
 -- A frame that was last put on its way, and is taken back.
-use Rattle.std.proofs.Common.{◌≡◌, ℕ, zero, suc, ◌+◌, ◌-◌, ◌<◌, List, [], ◌∷◌, ◌++◌, length, map, take, sum_by, slice_set, slice_index_or, refl, sym, ap, subst, ◌∙◌, arith, length-append}
+use Rattle.std.proofs.Common.{◌≡◌, ℕ, zero, suc, ◌+◌, ◌-◌, ◌<◌, ◌≤◌, List, [], ◌∷◌, ◌++◌, length, map, take, sum_by, slice_set, slice_index_or, Option, refl, sym, ap, subst, ◌∙◌, arith, length-append}
 use Rattle.std.specs.List.{remove}
 use Rattle.std.proofs.lemmas.List.{append-nil}
 use Rattle.std.proofs.lemmas.List.Sums.{sum_by-cons}
-use Rattle.std.proofs.lemmas.List.Edits.{remove-append_right}
+use Rattle.std.proofs.lemmas.List.Edits.{remove-append_left, remove-append_right}
 use Rattle.wire_base.specs.declared.conf.End.{End}
 use Rattle.wire_base.specs.declared.conf.RouterConf.{RouterConf}
+use Rattle.wire_base.specs.declared.effects.Sent.{Sent}
 use Rattle.domain_core.specs.declared.flight.Flight.{Flight}
-use Rattle.domain_core.specs.Flights.{frames_at, push_frame, without_frame, frame_count, no_frames}
+use Rattle.domain_core.specs.Flights.{frames_at, push_frame, without_frame, frame_count, no_frames, flight_of, push_sent, push_all_sent}
 
 last_gone : (q : List Flight) (f : Flight) → remove (q ++ f ∷ []) (length (q ++ f ∷ []) - 1) ≡ q
 last_gone q f =
@@ -51,6 +52,48 @@ taken_back flights before place link f is =
 -- where there is no frame, none was put there
 pub none_put : (flights before : List (List (List Flight))) (place link : ℕ) (f : Flight) → flights ≡ push_frame before place link f → length (frames_at flights place link) ≡ 0 → flights ≡ before
 none_put flights before place link f is none = is ∙ last_same before place link f (subst (λ (x : List (List (List Flight))). length (frames_at x place link) ≡ 0) is none)
+
+-- ---- a frame that goes as others come
+
+abbrev row_left : List (List Flight) → ℕ → ℕ → List (List Flight)
+row_left row link i = slice_set row link (remove (slice_index_or row link []) i)
+
+row_longer : (row : List (List Flight)) (link m : ℕ) (f : Flight) → length (slice_index_or row link []) ≤ length (slice_index_or (row_with row m f) link [])
+row_longer [] link m f = omega arith
+row_longer (q ∷ qs) zero zero f = let l = length-append q (f ∷ []) in omega (arith, l)
+row_longer (q ∷ qs) zero (suc m) f = omega arith
+row_longer (q ∷ qs) (suc link) zero f = omega arith
+row_longer (q ∷ qs) (suc link) (suc m) f = row_longer qs link m f
+
+row_turned : (row : List (List Flight)) (link i m : ℕ) (f : Flight) → i < length (slice_index_or row link []) → row_left (row_with row m f) link i ≡ row_with (row_left row link i) m f
+row_turned [] link i m f h = refl
+row_turned (q ∷ qs) zero i zero f h = ap (λ (p : List Flight). p ∷ qs) (remove-append_left q (f ∷ []) i h)
+row_turned (q ∷ qs) zero i (suc m) f h = refl
+row_turned (q ∷ qs) (suc link) i zero f h = refl
+row_turned (q ∷ qs) (suc link) i (suc m) f h = ap (λ (ps : List (List Flight)). q ∷ ps) (row_turned qs link i m f h)
+
+longer : (flights : List (List (List Flight))) (a link b m : ℕ) (f : Flight) → length (frames_at flights a link) ≤ length (frames_at (push_frame flights b m f) a link)
+longer [] a link b m f = omega arith
+longer (row ∷ rows) zero link zero m f = row_longer row link m f
+longer (row ∷ rows) zero link (suc b) m f = omega arith
+longer (row ∷ rows) (suc a) link zero m f = omega arith
+longer (row ∷ rows) (suc a) link (suc b) m f = longer rows a link b m f
+
+turned : (flights : List (List (List Flight))) (a link i b m : ℕ) (f : Flight) → i < length (frames_at flights a link) → without_frame (push_frame flights b m f) a link i ≡ push_frame (without_frame flights a link i) b m f
+turned [] a link i b m f h = refl
+turned (row ∷ rows) zero link i zero m f h = ap (λ (r : List (List Flight)). r ∷ rows) (row_turned row link i m f h)
+turned (row ∷ rows) zero link i (suc b) m f h = refl
+turned (row ∷ rows) (suc a) link i zero m f h = refl
+turned (row ∷ rows) (suc a) link i (suc b) m f h = ap (λ (rs : List (List (List Flight))). row ∷ rs) (turned rows a link i b m f h)
+
+-- whether it goes before or after them
+pub goes_after : (confs : List RouterConf) (b : ℕ) (number : Option ℕ) (sents : List Sent) (flights : List (List (List Flight))) (a link i : ℕ) → i < length (frames_at flights a link)
+    → without_frame (push_all_sent confs b number flights sents) a link i ≡ push_all_sent confs b number (without_frame flights a link i) sents
+goes_after confs b number [] flights a link i h = refl
+goes_after confs b number (s ∷ ss) flights a link i h =
+    let f = flight_of confs b number s in
+    goes_after confs b number ss (push_sent confs b number flights s) a link i (omega (arith, h, longer flights a link b s.link f))
+    ∙ ap (λ (x : List (List (List Flight))). push_all_sent confs b number x ss) (turned flights a link i b s.link f h)
 
 -- ---- the beginning
 

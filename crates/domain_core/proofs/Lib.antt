@@ -13,6 +13,7 @@ pub mod RefusalLaws
 pub mod SeenLaws
 pub mod SentLaws
 pub mod StartLaws
+pub mod StillLaws
 pub mod TransitLaws
 pub mod TurnLaws
 mod CarriedLaws

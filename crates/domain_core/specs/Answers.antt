@@ -1,5 +1,5 @@
 -- What one event answers.
-use Rattle.std.specs.Prelude.{◌≡◌, ℕ, ◌<◌, nat_le, List, length, map, Option, Some, None}
+use Rattle.std.specs.Prelude.{◌≡◌, ℕ, ◌<◌, nat_le, List, [], length, map, Option, Some, None}
 use Rattle.wire_base.specs.declared.conf.RouterConf.{RouterConf}
 use Rattle.wire_base.specs.declared.faults.EdgeFault.{EdgeFault}
 use Rattle.wire_base.specs.declared.faults.EdgeFault.TheVariants as edge
@@ -39,19 +39,6 @@ Stays same faults.NotControl = same
 Stays same (faults.Edge fault) = same
 Stays same faults.Memory = Unit {0}
 
--- Where memory is refused, all is as it was too, but at the two events at which a router floods and sends: there it may
--- have turned, and what it answered isn't on its way.
-abbrev pub StaysAt : Type 0 → Event → Type 0
-StaysAt same (Take a b i) = Unit {0}
-StaysAt same (Send a b) = Unit {0}
-StaysAt same (Inject a sd bsl ks ttl entropy payload) = same
-StaysAt same (Lose a b i) = same
-StaysAt same (Again a b i) = same
-StaysAt same (Down a b) = same
-StaysAt same (Up a b) = same
-StaysAt same (Tick a) = same
-StaysAt same (Restart a) = same
-
 -- what an event's own rules say, but for what a router says of an injection
 abbrev pub early_rule : WorldState → Event → Option EventFault
 early_rule w (Inject a sd bsl ks ttl entropy payload) = unless_room w None
@@ -81,6 +68,12 @@ entry_refused edge.Memory = faults.Memory
 -- what was sent, as frames, delivered and dropped
 abbrev pub told : List RouterConf → Made → StepOut
 told confs m = record { sent = map (wire_of confs) m.sent; got = m.got; drops = m.drops }
+
+-- nothing was sent, delivered or dropped, so nothing is told
+pub record IsSilent (e : Effects) : Type 0 where
+  pub sent : e.sent ≡ []
+  pub got : e.got ≡ []
+  pub drops : e.drops ≡ []
 
 -- a frame that fits a record of a capture
 abbrev pub IsShortFrame : WireFrame → Type 0

@@ -1,6 +1,6 @@
 -- A domain at work as it is held: routers with their counts of frames, and frames with what is noted beside them. And as it
 -- is seen: a world, and each router's count.
-use Rattle.std.specs.Prelude.{◌≡◌, ℕ, Bool, List, map, slice_get, slice_index_or, slice_set, Option, Some, None, if◌then◌else◌}
+use Rattle.std.specs.Prelude.{◌≡◌, ◌⊎◌, ℕ, Bool, List, map, slice_get, slice_index_or, slice_set, Option, Some, None, if◌then◌else◌}
 use Rattle.std.specs.List.{AllByRecursion}
 use Rattle.wire_base.specs.declared.conf.RouterConf.{RouterConf}
 use Rattle.wire_base.specs.model.Configuration.{DomainConf}
@@ -80,6 +80,12 @@ heard_after w heard (Up a b) = heard
 heard_after w heard (Send a b) = heard
 heard_after w heard (Tick a) = heard
 heard_after w heard (Restart a) = heard
+
+-- An event that isn't done leaves the world as it was. The count of a router that has taken a frame, for whose answer there
+-- was no memory then, may have risen.
+pub record IsAsBefore (old new : Seen) (e : Event) : Type 0 where
+  pub world : new.world ≡ old.world
+  pub heard : (new.heard ≡ old.heard) ⊎ (new.heard ≡ heard_after old.world old.heard e)
 
 -- ---- the beginning
 

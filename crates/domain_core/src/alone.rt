@@ -84,24 +84,25 @@ impl Network {
         Ok(StepOut::nothing(alloc))
     }
 
-    /// A router sends what is due toward another, over an end that is up.
+    /// A router sends what is due toward another, over an end that is up. It has sent that only once it is told and on its way.
     pub(crate) fn send(&mut self, from: u16, to: u16) -> M<StepOut>
         requires truth { IsTrueNetwork (state_of self.old) }
         requires place { from < length self.old.routers.items }
         requires allowed { event_fault (world_in self.old) (events.Send from to) ≡ None }
         ensures done { IfOk result (λ out. IsDone self.old self.new (doing (world_in self.old) (events.Send from to)) out) }
         ensures heard { OnOk result (heard_in self.new ≡ heard_in self.old) }
-        ensures kept { OnErr result (IsTrueNetwork (state_of self.new)) }
+        ensures err { OnErr result (state_of self.new ≡ state_of self.old) }
         ensures domain { self.new.domain ≡ self.old.domain }
     {
         let alloc = self.allocator();
         let Some(link) = self.link(from, to) else {
             return Ok(StepOut::nothing(alloc));
         };
-        let router = &mut self.routers[usize::from(from)];
-        let effects = router.send(link)?;
         let confs = confs_of(&self.domain);
+        let router = &mut self.routers[usize::from(from)];
+        let effects = router.due(link)?;
         let out = carry(&mut self.flights, confs, from, None, &effects)?;
+        router.sent(link);
         Ok(out)
     }
 

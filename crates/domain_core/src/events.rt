@@ -1,9 +1,9 @@
 //! One event, whichever it is.
 ghost use Rattle.std.specs.Prelude.{◌≡◌, length, None, IfOk, OnOk, OnErr, IfErr, MatchResult};
-ghost use Rattle.domain_core.specs.Answers.{early_fault, Refuses, Stays, StaysAt, told};
+ghost use Rattle.domain_core.specs.Answers.{early_fault, Refuses, Stays, told};
 ghost use Rattle.domain_model.specs.Faults.{event_fault};
 ghost use Rattle.domain_core.specs.Held.{state_of, world_in, heard_in, IsDone};
-ghost use Rattle.domain_core.specs.Network.{IsTrueNetwork, heard_after};
+ghost use Rattle.domain_core.specs.Network.{IsAsBefore, IsTrueNetwork, heard_after, seen_of};
 ghost use Rattle.domain_model.specs.Step.{doing, happens};
 ghost use Rattle.domain_model.specs.Truth.{EventFits, AreWorldDrops};
 
@@ -25,7 +25,7 @@ impl Network {
         ensures heard { OnOk result (heard_in self.new ≡ heard_after (world_in self.old) (heard_in self.old) event.now) }
         ensures kept { IsTrueNetwork (state_of self.new) }
         ensures stays { IfErr result (λ e. Stays (state_of self.new ≡ state_of self.old) e) }
-        ensures whole { OnErr result (StaysAt (state_of self.new ≡ state_of self.old) event.now) }
+        ensures whole { OnErr result (IsAsBefore (seen_of (state_of self.old)) (seen_of (state_of self.new)) event.now) }
         ensures domain { self.new.domain ≡ self.old.domain }
     {
         let out = self.dispatch(event)?;
@@ -44,7 +44,7 @@ impl Network {
         ensures heard { OnOk result (heard_in self.new ≡ heard_after (world_in self.old) (heard_in self.old) event.now) }
         ensures kept { OnErr result (IsTrueNetwork (state_of self.new)) }
         ensures stays { IfErr result (λ e. Stays (state_of self.new ≡ state_of self.old) e) }
-        ensures whole { OnErr result (StaysAt (state_of self.new ≡ state_of self.old) event.now) }
+        ensures whole { OnErr result (IsAsBefore (seen_of (state_of self.old)) (seen_of (state_of self.new)) event.now) }
         ensures domain { self.new.domain ≡ self.old.domain }
     {
         match event {

@@ -47,6 +47,7 @@ pub(crate) fn send_all(
     requires { length confs.now ≤ MOST_ROUTERS }
     ensures ok { OnOk result (flights.new ≡ push_all_sent confs.now at number flights.old sent.now) }
     ensures err { OnErr result (flights.new ≡ flights.old) }
+    ensures memory { OnErr result (sent.now ≡ [] → ⊥) }
 {
     match sent {
         [] => Ok(()),

@@ -1,5 +1,5 @@
 //! What is told of what a router does.
-ghost use Rattle.std.specs.Prelude.{◌≡◌, ◌≤◌, ◌++◌, ◌∷◌, [], ℕ, length, map, filter, Option, option_map, IfOk, OnOk};
+ghost use Rattle.std.specs.Prelude.{◌≡◌, ◌≤◌, ◌++◌, ◌∷◌, [], ℕ, length, map, filter, Option, option_map, IfOk, OnOk, OnErr};
 ghost use Rattle.std.specs.List.{AllByRecursion};
 ghost use Rattle.wire_base.specs.model.BitSet.{has_member};
 ghost use Rattle.wire_base.specs.model.Configuration.{IsSound};
@@ -8,7 +8,7 @@ ghost use Rattle.wire_base.specs.model.Place.{bits_of, id_at};
 ghost use Rattle.bfr_edge.specs.Entry.{positions_in};
 ghost use Rattle.bier_bits.specs.Any.{bsl_of, positions_of};
 ghost use Rattle.bier_forward.specs.Sets.{set_in, HasLength, HaveLength};
-ghost use Rattle.domain_core.specs.Answers.{told_of};
+ghost use Rattle.domain_core.specs.Answers.{IsSilent, told_of};
 ghost use Rattle.domain_core.specs.Flights.{item_seen, number_of, ids_seen, ids_taken};
 ghost use Rattle.domain_core.specs.Framed.{wire_from, got_line, drop_line, ids_dropped};
 ghost use Rattle.domain_core.specs.Read.{copy_read, packet_in};
@@ -25,7 +25,8 @@ use std::alloc::Global;
 use wire_base::limits::MOST_ROUTERS;
 use wire_base::{Cause, M, RouterConf, Rows, Triple};
 
-/// What is told of what the router at a place did, for that injection or for none, having taken that frame or none.
+/// What is told of what the router at a place did, for that injection or for none, having taken that frame or none. Where it
+/// did nothing, no memory is taken.
 pub(crate) fn told_of(
     alloc: Global,
     confs: &[RouterConf],
@@ -36,7 +37,8 @@ pub(crate) fn told_of(
 ) -> M<StepOut>
     requires few { length confs.now ≤ MOST_ROUTERS }
     requires sound { AllByRecursion IsSound confs.now }
-    ensures { IfOk result (λ out. out ≡ told_of confs.now at number (ids_taken confs.now (option_map (λ f. f.now) taken.entry)) effects.now) }
+    ensures out { IfOk result (λ out. out ≡ told_of confs.now at number (ids_taken confs.now (option_map (λ f. f.now) taken.entry)) effects.now) }
+    ensures memory { OnErr result (IsSilent effects.now → ⊥) }
 {
     Ok(StepOut {
         sent: wire_frames(alloc, confs, at, effects.sent.as_slice())?,
@@ -57,7 +59,8 @@ pub(crate) fn number_of(flight: &Flight) -> Option<u32>
 
 fn wire_frames(alloc: Global, confs: &[RouterConf], at: u16, sent: &[Sent]) -> M<Rows<WireFrame>>
     requires { length confs.now ≤ MOST_ROUTERS }
-    ensures { IfOk result (λ frames. frames ≡ map (wire_from confs.now at) sent.now) }
+    ensures frames { IfOk result (λ frames. frames ≡ map (wire_from confs.now at) sent.now) }
+    ensures memory { OnErr result (sent.now ≡ [] → ⊥) }
 {
     let mut frames = Rows::new(alloc);
     for frame in sent {
@@ -71,7 +74,8 @@ fn wire_frames(alloc: Global, confs: &[RouterConf], at: u16, sent: &[Sent]) -> M
 }
 
 fn got_lines(alloc: Global, at: u16, number: Option<u32>, got: &[Got]) -> M<Rows<GotLine>>
-    ensures { IfOk result (λ lines. lines ≡ map (got_line at number) got.now) }
+    ensures lines { IfOk result (λ lines. lines ≡ map (got_line at number) got.now) }
+    ensures memory { OnErr result (got.now ≡ [] → ⊥) }
 {
     let mut lines = Rows::new(alloc);
     for delivery in got {
@@ -95,7 +99,8 @@ fn drop_lines(
 ) -> M<Rows<DropLine>>
     requires few { length confs.now ≤ MOST_ROUTERS }
     requires sound { AllByRecursion IsSound confs.now }
-    ensures { IfOk result (λ lines. lines ≡ map (drop_line at number (ids_taken confs.now (option_map (λ f. f.now) taken.entry))) drops.now) }
+    ensures lines { IfOk result (λ lines. lines ≡ map (drop_line at number (ids_taken confs.now (option_map (λ f. f.now) taken.entry))) drops.now) }
+    ensures memory { OnErr result (drops.now ≡ [] → ⊥) }
 {
     let mut lines = Rows::new(alloc);
     for note in drops {

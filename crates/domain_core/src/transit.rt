@@ -2,7 +2,7 @@
 ghost use Rattle.std.specs.Prelude.{◌≡◌, ◌<◌, length, IfOk, OnOk, OnErr};
 ghost use Rattle.replay_text.specs.declared.event.Event.TheVariants as events;
 ghost use Rattle.domain_core.specs.Held.{state_of, world_in, heard_in, IsDone};
-ghost use Rattle.domain_core.specs.Network.{IsTrueNetwork, heard_after};
+ghost use Rattle.domain_core.specs.Network.{IsAsBefore, IsTrueNetwork, heard_after, seen_of};
 ghost use Rattle.domain_model.specs.Step.{doing};
 
 use crate::flight::Flight;
@@ -59,12 +59,16 @@ impl Network {
     }
 
     /// A frame arrives. At an end that is up the router takes it, and at one that is down the router drops it.
+    ///
+    /// A router that answers a frame stays as it was, and of one that changes there is nothing to be told. So after the router
+    /// has taken a frame memory may still run out, and the world is as it was; the frame leaves its place only at last.
     pub(crate) fn take(&mut self, from: u16, to: u16, i: u32) -> M<StepOut>
         requires truth { IsTrueNetwork (state_of self.old) }
         requires place { to < length self.old.routers.items }
         ensures done { IfOk result (λ out. IsDone self.old self.new (doing (world_in self.old) (events.Take from to i)) out) }
         ensures heard { OnOk result (heard_in self.new ≡ heard_after (world_in self.old) (heard_in self.old) (events.Take from to i)) }
-        ensures kept { OnErr result (IsTrueNetwork (state_of self.new)) }
+        ensures err { OnErr result (IsAsBefore (seen_of (state_of self.old)) (seen_of (state_of self.new)) (events.Take from to i)) }
+        ensures frames { OnErr result (self.new.flights ≡ self.old.flights) }
         ensures domain { self.new.domain ≡ self.old.domain }
     {
         let alloc = self.allocator();
@@ -87,7 +91,6 @@ impl Network {
         let number = number_of(flight);
         let effects = router.frame(back, flight.octets.as_slice())?;
         let out = told_of(alloc, confs, to, number, Some(flight), &effects)?;
-        self.flights.remove(from, link, i as usize);
         send_all(
             &mut self.flights,
             confs,
@@ -95,6 +98,7 @@ impl Network {
             number,
             effects.sent.as_slice(),
         )?;
+        self.flights.remove(from, link, i as usize);
         Ok(out)
     }
 }

@@ -1,11 +1,11 @@
 //! A domain at work.
 ghost use Rattle.std.specs.Prelude.{◌≡◌, ◌<◌, length, map, slice_get, Option, Some, None, IfOk, OnOk, OnErr, IfErr, MatchResult};
 ghost use Rattle.std.specs.List.{AllByRecursion};
-ghost use Rattle.domain_core.specs.Answers.{IsShortFrame, Refuses, Stays, StaysAt, told};
+ghost use Rattle.domain_core.specs.Answers.{IsShortFrame, Refuses, Stays, told};
 ghost use Rattle.domain_model.specs.Faults.{event_fault};
 ghost use Rattle.domain_core.specs.Course.{KeepsCourse};
 ghost use Rattle.domain_core.specs.Ledger.{KeepsLedger};
-ghost use Rattle.domain_core.specs.Network.{heard_after};
+ghost use Rattle.domain_core.specs.Network.{IsAsBefore, heard_after};
 ghost use Rattle.domain_model.specs.Step.{happens};
 ghost use Rattle.domain_model.specs.Truth.{IsTruthful, EventFits, AreWorldDrops};
 ghost use Rattle.domain_model.specs.World.{first_world, frames_between, ids_in_flight};
@@ -55,9 +55,8 @@ impl World {
     ///
     /// What is told of it is what was sent, as frames with the places of both routers, what was delivered and what was
     /// dropped, each in order. An event that isn't allowed is refused for the first reason that holds, and changes nothing.
-    /// Memory may come in place of any answer, and changes nothing either, but where a frame was to arrive or a router to
-    /// send: there the router may have turned, the frame may be gone, and what the router answered is lost. Only a frame that
-    /// arrives at an end that is up is taken by a router.
+    /// Memory may come in place of any answer, and leaves the world as it was too; only the count of frames that a router has
+    /// taken may have risen then. Only a frame that arrives at an end that is up is taken by a router.
     ///
     /// Each BFR-id of a packet that is on the way before the event, or enters by it, is afterwards in one copy, one delivery or
     /// one drop (RFC 8279, 6.5). While views agree, a copy for a BFR-id that is reachable over a path that its TTL covers is on a
@@ -73,7 +72,7 @@ impl World {
         ensures course { IfOk result (λ out. KeepsCourse self.old.world self.new.world event.now out) }
         ensures heard { OnOk result (self.new.heard ≡ heard_after self.old.world self.old.heard event.now) }
         ensures stays { IfErr result (λ e. Stays (self.new ≡ self.old) e) }
-        ensures whole { OnErr result (StaysAt (self.new ≡ self.old) event.now) }
+        ensures whole { OnErr result (IsAsBefore self.old self.new event.now) }
 
         // Whatever is answered, the world is truthful, and one of the same domain.
         ensures truth { IsTruthful self.new.world }

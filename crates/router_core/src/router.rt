@@ -145,6 +145,24 @@ impl Router {
         self.control.send(link)
     }
 
+    /// What [`Router::send`] would send now on a link that is up. Nothing changes: who has found room for it says by
+    /// [`Router::sent`] that it went out, and nothing has to be undone where there is none.
+    pub fn due(&self, link: u16) -> M<Effects>
+        requires { is_up self.now.control link ≡ true }
+        ensures { IfOk result (λ e. e ≡ (framed link (send self.now.control link)).effects) }
+    {
+        self.control.due(link)
+    }
+
+    /// What is due on a link that is up, as [`Router::due`] gives it, went out. Takes no memory.
+    pub fn sent(&mut self, link: u16)
+        requires { is_up self.old.control link ≡ true }
+        ensures control { self.new.control ≡ (send self.old.control link).control }
+        ensures heard { self.new.heard ≡ self.old.heard }
+    {
+        self.control.sent(link);
+    }
+
     /// How many frames [`Router::send`] would send now on a link that is up.
     pub fn pending(&self, link: u16) -> usize
         requires { is_up self.now.control link ≡ true }

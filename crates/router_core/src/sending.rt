@@ -200,21 +200,40 @@ fn due_frames(conf: &RouterConf, store: &Store, flood: &Flood, link: u16) -> M<R
 }
 
 impl Control {
-    /// Sends what is due on a link that is up; or all is as it was.
+    /// What is due on a link that is up.
     #[tactic(auto, unfolding(wire_base::specs::model::Flooding::send, wire_base::specs::model::OnFrame::framed))]
-    pub(crate) fn send(&mut self, link: u16) -> M<Effects>
-        requires { is_up self.old link ≡ true }
-        ensures next { IfOk result (λ e. record { control = self.new; effects = e } ≡ framed link (send self.old link)) }
-        ensures err { OnErr result (self.new ≡ self.old) }
+    pub(crate) fn due(&self, link: u16) -> M<Effects>
+        requires { is_up self.now link ≡ true }
+        ensures { IfOk result (λ e. e ≡ (framed link (send self.now link)).effects) }
     {
         let alloc = self.allocator();
         let sent = due_frames(&self.conf, &self.store, &self.flood, link)?;
-        self.flood.sent(link);
         Ok(Effects {
             sent,
             got: Rows::new(alloc),
             drops: Rows::new(alloc),
             passed: false,
         })
+    }
+
+    /// What is due on a link that is up went out.
+    #[tactic(auto, unfolding(wire_base::specs::model::Flooding::send))]
+    pub(crate) fn sent(&mut self, link: u16)
+        requires { is_up self.old link ≡ true }
+        ensures { self.new ≡ (send self.old link).control }
+    {
+        self.flood.sent(link);
+    }
+
+    /// Sends what is due on a link that is up; or all is as it was.
+    #[tactic(auto, unfolding(wire_base::specs::model::OnFrame::framed))]
+    pub(crate) fn send(&mut self, link: u16) -> M<Effects>
+        requires { is_up self.old link ≡ true }
+        ensures next { IfOk result (λ e. record { control = self.new; effects = e } ≡ framed link (send self.old link)) }
+        ensures err { OnErr result (self.new ≡ self.old) }
+    {
+        let effects = self.due(link)?;
+        self.sent(link);
+        Ok(effects)
     }
 }

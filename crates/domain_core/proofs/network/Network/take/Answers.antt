@@ -1,4 +1,4 @@
-use Rattle.std.proofs.Common.{◌≡◌, ◌∙◌, ◌≤◌, ℕ, true, false, List, length, slice_get, slice_set, Option, refl, sym, ap, subst}
+use Rattle.std.proofs.Common.{◌≡◌, inr, ◌∙◌, ◌≤◌, ℕ, true, false, List, length, slice_get, slice_set, Option, refl, sym, ap, subst}
 use Rattle.wire_base.specs.declared.limits.TheConstants.{MOST_FRAME}
 use Rattle.wire_base.specs.declared.cause.Cause.TheVariants as cause
 use Rattle.wire_base.specs.declared.conf.RouterConf.{RouterConf}
@@ -6,18 +6,20 @@ use Rattle.wire_base.specs.declared.effects.Sent.{Sent}
 use Rattle.wire_base.specs.model.OnFrame.{Effects, on_frame}
 use Rattle.domain_model.specs.Moves.{item_lost}
 use Rattle.router_core.specs.State.{RouterState}
+use Rattle.domain_model.proofs.QueueLaws.{got_within}
+use Rattle.domain_core.specs.declared.flight.Flight.{Flight}
 use Rattle.domain_core.specs.Answers.{told, told_of}
-use Rattle.domain_core.specs.Flights.{item_seen, ids_seen, number_of, push_all_sent}
+use Rattle.domain_core.specs.Flights.{item_seen, ids_seen, number_of, frames_at, without_frame, push_all_sent}
 use Rattle.domain_core.specs.Held.{state_of, world_in, heard_in}
 use Rattle.domain_core.specs.Network.{world_of, IsFrameOver}
-use Rattle.domain_model.specs.Step.{Happened, taken_off, with_router}
-use Rattle.domain_model.specs.Truth.{IsTruthful}
-use Rattle.domain_model.specs.World.{WorldState, is_up, queue_over}
-use Rattle.domain_core.proofs.CarryLaws.{set_same, cut_short, is_short, left_frames, left_world, arrival, taken_done}
+use Rattle.domain_model.specs.Step.{Happened, taken_off}
+use Rattle.domain_model.specs.World.{is_up, queue_over}
+use Rattle.domain_core.proofs.CarryLaws.{set_same, still_world, is_short, unmoved, heard_there, taken_done}
+use Rattle.domain_core.proofs.FlightLaws.{goes_after}
 use Rattle.domain_core.proofs.RefusalLaws.{toward, link_within}
 use Rattle.domain_core.proofs.SeenLaws.{none_seen_at, some_seen_at, frames_left}
-use Rattle.domain_core.proofs.TransitLaws.{gone_world, lost_world, lost_told, same_frames, none_taken, down_taken, unheard, none_heard, one_heard}
-use Rattle.domain_core.proofs.TurnLaws.{on_err, router_there, nothing_told, control_at, same_heard, counted_heard}
+use Rattle.domain_core.proofs.TransitLaws.{gone_world, lost_world, lost_told, same_frames, none_taken, down_taken, unheard, none_heard}
+use Rattle.domain_core.proofs.TurnLaws.{on_err, router_there, nothing_told, control_at, same_heard}
 use Rattle.domain_core.proofs.network.Network.take.Goals as goal
 
 pub returns-in_default-get-clause-done : goal.returns-in_default-get-clause-done
@@ -82,32 +84,37 @@ frame-requires-clause-short c =
     let up : is_up r.control c.in-Some-link.back ≡ true = sym c.if-not-is_up.ensures in
     subst (λ (octets : List ℕ). length octets ≤ MOST_FRAME) (sym c.as_slice.ensures) (is_short n c.requires.truth c.args.from c.args.to c.in-Some.link c.in-Some-link.back c.args.i r there (sym c.in-Some.ensures) up f c.in-Some-get.ensures)
 
-pub returns-in_err-out-2-clause-kept : goal.returns-in_err-out-2-clause-kept
-returns-in_err-out-2-clause-kept c =
+pub returns-in_err-out-2-clause-err : goal.returns-in_err-out-2-clause-err
+returns-in_err-out-2-clause-err c =
     let n = state_of c.args.self.now in
     let r = c.index_mut-router.result.now in
     let f = c.in-Some-get.flight.now in
     let there = router_there n.routers c.from.result c.args.to r c.from.ensures c.requires.place c.index_mut-router.ensures.value in
     let up : is_up r.control c.in-Some-link.back ≡ true = sym c.if-not-is_up.ensures in
     let done = c.in_ok-effects.ensures.next ∙ ap (λ (octets : List ℕ). on_frame r.control c.in-Some-link.back octets) c.as_slice.ensures in
-    let arrived = arrival n c.requires.truth c.args.from c.args.to c.in-Some.link c.in-Some-link.back c.args.i r there (sym c.in-Some.ensures) up f c.in-Some-get.ensures c.frame.new.self.control c.in_ok-effects.effects done in
+    let same = unmoved n c.requires.truth c.args.from c.args.to c.in-Some.link c.in-Some-link.back c.args.i r there (sym c.in-Some.ensures) up f c.in-Some-get.ensures c.frame.new.self.control c.in_ok-effects.effects done c.in_err-out-2.ensures.memory in
     on_err c.from_residual-in_err-out-2.result _
-    (cut_short n c.args.to r there c.from.result c.from.ensures c.frame.new.self n.flights c.frame.new.self.control refl refl c.requires.truth.frames arrived.kept)
+    (record {
+      world = still_world n c.args.to r there c.from.result c.from.ensures c.frame.new.self same;
+      heard = inr (heard_there n c.requires.truth c.args.from c.args.to c.in-Some.link c.in-Some-link.back c.args.i r there (sym c.in-Some.ensures) up f c.in-Some-get.ensures (sym c.in-Some-link.ensures) c.from.result c.from.ensures c.frame.new.self c.in_ok-effects.ensures.heard);
+    })
 
-pub returns-in_err-send_all-clause-kept : goal.returns-in_err-send_all-clause-kept
-returns-in_err-send_all-clause-kept c =
+pub returns-in_err-send_all-clause-err : goal.returns-in_err-send_all-clause-err
+returns-in_err-send_all-clause-err c =
     let n = state_of c.args.self.now in
     let r = c.index_mut-router.result.now in
     let f = c.in-Some-get.flight.now in
     let there = router_there n.routers c.from.result c.args.to r c.from.ensures c.requires.place c.index_mut-router.ensures.value in
     let up : is_up r.control c.in-Some-link.back ≡ true = sym c.if-not-is_up.ensures in
     let done = c.in_ok-effects.ensures.next ∙ ap (λ (octets : List ℕ). on_frame r.control c.in-Some-link.back octets) c.as_slice.ensures in
-    let arrived = arrival n c.requires.truth c.args.from c.args.to c.in-Some.link c.in-Some-link.back c.args.i r there (sym c.in-Some.ensures) up f c.in-Some-get.ensures c.frame.new.self.control c.in_ok-effects.effects done in
-    let gone = left_world n c.requires.truth c.args.from c.args.to c.in-Some.link c.in-Some-link.back c.args.i r there (sym c.in-Some.ensures) up f c.in-Some-get.ensures c.remove-2.new.self c.remove-2.ensures in
+    let sent : c.as_slice-2.result.now ≡ c.in_ok-effects.effects.sent = c.as_slice-2.ensures ∙ ap (λ (e : Effects). e.sent) c.effects.view_is in
+    let same = unmoved n c.requires.truth c.args.from c.args.to c.in-Some.link c.in-Some-link.back c.args.i r there (sym c.in-Some.ensures) up f c.in-Some-get.ensures c.frame.new.self.control c.in_ok-effects.effects done (λ silent. c.in_err-send_all.ensures.memory (sent ∙ silent.sent)) in
     on_err c.from_residual-in_err-send_all.result _
-    (cut_short (record n { flights = c.remove-2.new.self }) c.args.to r there c.from.result c.from.ensures c.frame.new.self c.send_all.new.flights c.frame.new.self.control refl c.in_err-send_all.ensures.err
-    (left_frames n c.requires.truth c.args.from c.args.to c.in-Some.link c.in-Some-link.back c.args.i r there (sym c.in-Some.ensures) up f c.in-Some-get.ensures c.remove-2.new.self c.remove-2.ensures)
-    (subst (λ (w : WorldState). IsTruthful (with_router w c.args.to c.frame.new.self.control)) (sym gone) arrived.left))
+    (record {
+      world = ap (λ (fs : List (List (List Flight))). world_of (record n { routers = slice_set n.routers c.from.result c.frame.new.self; flights = fs })) c.in_err-send_all.ensures.err
+          ∙ still_world n c.args.to r there c.from.result c.from.ensures c.frame.new.self same;
+      heard = inr (heard_there n c.requires.truth c.args.from c.args.to c.in-Some.link c.in-Some-link.back c.args.i r there (sym c.in-Some.ensures) up f c.in-Some-get.ensures (sym c.in-Some-link.ensures) c.from.result c.from.ensures c.frame.new.self c.in_ok-effects.ensures.heard);
+    })
 
 pub returns-clause-done : goal.returns-clause-done
 returns-clause-done c =
@@ -119,17 +126,20 @@ returns-clause-done c =
     let done = c.in_ok-effects.ensures.next ∙ ap (λ (octets : List ℕ). on_frame r.control c.in-Some-link.back octets) c.as_slice.ensures in
     let confs = c.confs_of-confs.ensures.confs in
     let effects = c.in_ok-effects.effects in
-    let sent : c.send_all.new.flights ≡ push_all_sent n.domain.routers c.args.to (number_of f) c.remove-2.new.self effects.sent =
+    let sent : c.send_all.new.flights ≡ push_all_sent n.domain.routers c.args.to (number_of f) n.flights effects.sent =
     c.in_ok-send_all.ensures.ok
-    ∙ ap (λ (ss : List Sent). push_all_sent c.confs_of-confs.result.now c.args.to c.number_of-number.result c.remove-2.new.self ss) (c.as_slice-2.ensures ∙ ap (λ (e : Effects). e.sent) c.effects.view_is)
-    ∙ ap (λ (cs : List RouterConf). push_all_sent cs c.args.to c.number_of-number.result c.remove-2.new.self effects.sent) confs
-    ∙ ap (λ (o : Option ℕ). push_all_sent n.domain.routers c.args.to o c.remove-2.new.self effects.sent) c.number_of-number.ensures in
+    ∙ ap (λ (ss : List Sent). push_all_sent c.confs_of-confs.result.now c.args.to c.number_of-number.result n.flights ss) (c.as_slice-2.ensures ∙ ap (λ (e : Effects). e.sent) c.effects.view_is)
+    ∙ ap (λ (cs : List RouterConf). push_all_sent cs c.args.to c.number_of-number.result n.flights effects.sent) confs
+    ∙ ap (λ (o : Option ℕ). push_all_sent n.domain.routers c.args.to o n.flights effects.sent) c.number_of-number.ensures in
+    let gone : c.remove-2.new.self ≡ push_all_sent n.domain.routers c.args.to (number_of f) (without_frame n.flights c.args.from c.in-Some.link c.args.i) effects.sent =
+    c.remove-2.ensures ∙ ap (λ (x : List (List (List Flight))). without_frame x c.args.from c.in-Some.link c.args.i) sent
+    ∙ goes_after n.domain.routers c.args.to (number_of f) effects.sent n.flights c.args.from c.in-Some.link c.args.i (got_within (frames_at n.flights c.args.from c.in-Some.link) c.args.i f (sym c.in-Some-get.ensures)) in
     let out : c.in_ok-out-2.out ≡ told_of n.domain.routers c.args.to (number_of f) (ids_seen n.domain.routers f) effects =
-    c.in_ok-out-2.ensures
+    c.in_ok-out-2.ensures.out
     ∙ ap (λ (cs : List RouterConf). told_of cs c.args.to c.number_of-number.result (ids_seen cs f) effects) confs
     ∙ ap (λ (o : Option ℕ). told_of n.domain.routers c.args.to o (ids_seen n.domain.routers f) effects) c.number_of-number.ensures in
-    let k = taken_done n c.requires.truth c.args.from c.args.to c.in-Some.link c.in-Some-link.back c.args.i r there (sym c.in-Some.ensures) up f c.in-Some-get.ensures c.remove-2.new.self c.remove-2.ensures
-    (sym c.in-Some-link.ensures) c.from.result c.from.ensures c.frame.new.self effects done c.send_all.new.flights sent c.in_ok-out-2.out out in
+    let k = taken_done n c.requires.truth c.args.from c.args.to c.in-Some.link c.in-Some-link.back c.args.i r there (sym c.in-Some.ensures) up f c.in-Some-get.ensures (without_frame n.flights c.args.from c.in-Some.link c.args.i) refl
+    (sym c.in-Some-link.ensures) c.from.result c.from.ensures c.frame.new.self effects done c.remove-2.new.self gone c.in_ok-out-2.out out in
     record { world = k.world; frames = k.frames; answer = k.answer }
 
 pub returns-clause-heard : goal.returns-clause-heard
@@ -139,8 +149,4 @@ returns-clause-heard c =
     let f = c.in-Some-get.flight.now in
     let there = router_there n.routers c.from.result c.args.to r c.from.ensures c.requires.place c.index_mut-router.ensures.value in
     let up : is_up r.control c.in-Some-link.back ≡ true = sym c.if-not-is_up.ensures in
-    let w = world_in c.args.self.now in
-    counted_heard n c.args.to r there c.from.result c.frame.new.self c.from.ensures c.in_ok-effects.ensures.heard
-    ∙ sym (one_heard w (heard_in c.args.self.now) c.args.from c.args.to c.args.i (item_seen n.domain.routers f)
-    (toward w c.args.to c.args.from c.in-Some-link.back r.control (control_at n c.args.to r there) (sym c.in-Some-link.ensures) ∙ up)
-    (ap (λ (l : Option ℕ). slice_get (queue_over w.flights c.args.from l) c.args.i) (sym c.in-Some.ensures) ∙ some_seen_at n.domain.routers n.flights c.args.from c.in-Some.link c.args.i f c.in-Some-get.ensures))
+    heard_there n c.requires.truth c.args.from c.args.to c.in-Some.link c.in-Some-link.back c.args.i r there (sym c.in-Some.ensures) up f c.in-Some-get.ensures (sym c.in-Some-link.ensures) c.from.result c.from.ensures c.frame.new.self c.in_ok-effects.ensures.heard

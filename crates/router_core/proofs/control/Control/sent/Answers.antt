@@ -1,6 +1,6 @@
 use Rattle.router_core.proofs.IssuedLaws.{sent_issued}
 use Rattle.router_core.proofs.EventLaws.{sent_keeps}
-use Rattle.router_core.proofs.control.Control.send.Goals as goal
+use Rattle.router_core.proofs.control.Control.sent.Goals as goal
 
 pub invariant_of-self : goal.invariant_of-self
 invariant_of-self c =
