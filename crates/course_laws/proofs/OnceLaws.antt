@@ -208,11 +208,11 @@ carried_once r e fs c n k i h =
 
 -- ---- runs from the start of a domain
 
-allowed_parts : (xs ys : List Event) (w : WorldState) → AreAllowed w (xs ++ ys) → AreAllowed w xs × AreAllowed (world_after w xs) ys
+pub allowed_parts : (xs ys : List Event) (w : WorldState) → AreAllowed w (xs ++ ys) → AreAllowed w xs × AreAllowed (world_after w xs) ys
 allowed_parts [] ys w all = (tt, all)
 allowed_parts (x ∷ xs) ys w all = let more = allowed_parts xs ys (happens w x).world all.2 in ((all.0, all.1, more.0), more.1)
 
-unlined-join : (es fs : List (ℕ × Event)) → unlined (es ++ fs) ≡ unlined es ++ unlined fs
+pub unlined-join : (es fs : List (ℕ × Event)) → unlined (es ++ fs) ≡ unlined es ++ unlined fs
 unlined-join [] fs = refl
 unlined-join (e ∷ es) fs = ap (λ (l : List Event). e.1 ∷ l) (unlined-join es fs)
 
@@ -220,11 +220,11 @@ world_next : (r : Run) (e : ℕ × Event) → (goes_on r e).world ≡ (happens r
 unfolding goes_on
 world_next r e = refl
 
-run_world : (es : List (ℕ × Event)) (r : Run) → (fold goes_on r es).world ≡ world_after r.world (unlined es)
+pub run_world : (es : List (ℕ × Event)) (r : Run) → (fold goes_on r es).world ≡ world_after r.world (unlined es)
 run_world [] r = refl
 run_world (e ∷ es) r = run_world es (goes_on r e) ∙ ap (λ (w : WorldState). world_after w (unlined es)) (world_next r e)
 
-truth_on : (es : List (ℕ × Event)) (r : Run) → IsTruthful r.world → AreAllowed r.world (unlined es) → IsTruthful (fold goes_on r es).world
+pub truth_on : (es : List (ℕ × Event)) (r : Run) → IsTruthful r.world → AreAllowed r.world (unlined es) → IsTruthful (fold goes_on r es).world
 truth_on [] r truth all = truth
 truth_on (e ∷ es) r truth all = truth_on es (goes_on r e) (next_truth r e truth all.0 all.1) (next_allowed r e (unlined es) all.2)
 

@@ -1,11 +1,13 @@
-//! The texts of a run tried on small domains: each function computes nothing, and what it ensures is proved by computing the
-//! definition.
+//! The texts of a run tried on small domains, and a run in which all holds that a packet's arrival rests on: each function computes
+//! nothing, and what it ensures is proved by computing the definition.
 #![tactic(auto)]
 
+mod arrivals;
 mod packets;
 mod pdus;
 mod refusals;
 
+pub use arrivals::premises_hold_of_a_whole_run;
 pub use packets::{packets_in_the_fork, packets_in_the_ring};
 pub use pdus::{a_lost_pdu, nothing_happens, pair_sends};
 pub use refusals::{lines_of_refusals, refused_lines};

@@ -9,6 +9,7 @@ pub mod Inputs
 pub mod DomainFiles
 pub mod Owed
 pub mod Replays
+pub mod RunsDone
 pub mod NamedOnce
 pub mod ScheduleSteps
 pub mod Grown

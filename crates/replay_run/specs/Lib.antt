@@ -16,4 +16,5 @@ pub mod DomainFile
 pub mod Judged
 pub mod Replayed
 pub mod Scheduling
+pub mod RunDone
 pub mod Ways

@@ -16,6 +16,10 @@ ghost use Rattle.replay_run.specs.ScheduleText.{schedule_cut};
 ghost use Rattle.replay_run.specs.Verdict.{IsDecided, verdict};
 ghost use Rattle.replay_run.specs.Outside.{Gave, Meets, AppendsFront};
 ghost use Rattle.replay_run.specs.Words.{form_in};
+ghost use Rattle.replay_run.specs.RunDone.{HasRun, RunDone};
+ghost use Rattle.replay_laws.specs.Moments.{HasLedgerThroughout, DeliversOnce};
+ghost use Rattle.replay_laws.specs.Reports.{IsReported};
+ghost use Rattle.replay_laws.specs.Once.{ArriveOnce};
 
 use crate::domain_file::{NoDomain, domain_in};
 use crate::headers::headers;
@@ -24,6 +28,7 @@ use crate::law::packets_are_parted;
 use crate::replay::play;
 use crate::whole::deliver;
 use crate::words::{Form, USAGE, form_of};
+use replay_laws::{replays_are_accounted, replays_arrive_once};
 use std::alloc::Global;
 use wire_base::{Sink, Source, Status};
 
@@ -173,6 +178,16 @@ pub fn run<D: Source, S: Source, C: Sink, R: Sink>(
     ensures front { (result ≡ status.WriteFault) ⊎ (result ≡ status.Memory) → OnHeld (form_in words.now) (D.left conf.old) (S.left input.old)
         (λ owed. AppendsFront (R.written report.old) (R.written report.new) owed.report × AppendsFront (C.written frames.old) (C.written frames.new) owed.frames) }
 
+    // The run of the model that `replay` did, of which status and texts are: over all lines of the schedule up to one that is refused,
+    // and where the schedule's source failed, over the lines that are whole in what was taken. At every moment of it each BFR-id that
+    // an injection names is in one copy, one delivery or one drop; the report says its deliveries and drops, and the numbers of its
+    // last line add up; no router delivers an injection twice, no BFR-id is delivered twice, and none that wasn't named; and a
+    // reachable BFR-id is never dropped, and arrives exactly once, while views agree, no copy is lost and the TTL covers its path.
+    ensures ledger { form_in words.now ≡ form.Replay → HasRun result → D.faults conf.new ≡ D.faults conf.old → RunDone result (D.left conf.old) (S.left input.old) (S.left input.new) (R.written report.old) (R.written report.new) (C.written frames.old) (C.written frames.new) HasLedgerThroughout }
+    ensures reported { form_in words.now ≡ form.Replay → HasRun result → D.faults conf.new ≡ D.faults conf.old → RunDone result (D.left conf.old) (S.left input.old) (S.left input.new) (R.written report.old) (R.written report.new) (C.written frames.old) (C.written frames.new) IsReported }
+    ensures delivered_once { form_in words.now ≡ form.Replay → HasRun result → D.faults conf.new ≡ D.faults conf.old → RunDone result (D.left conf.old) (S.left input.old) (S.left input.new) (R.written report.old) (R.written report.new) (C.written frames.old) (C.written frames.new) (λ d r. DeliversOnce r) }
+    ensures exactly_once { form_in words.now ≡ form.Replay → HasRun result → D.faults conf.new ≡ D.faults conf.old → RunDone result (D.left conf.old) (S.left input.old) (S.left input.new) (R.written report.old) (R.written report.new) (C.written frames.old) (C.written frames.new) ArriveOnce }
+
     // What the words don't name is as before, and so are the schedule and the frames where the domain file isn't accepted.
     ensures accepted { form_in words.now ≡ form.Replay → ((input.new ≡ input.old) × (frames.new ≡ frames.old)) ⊎ ((D.faults conf.new ≡ D.faults conf.old) × ((domain : DomainConf) × Says (D.left conf.old) domain)) }
     ensures refused { result ≡ status.ConfRefused → (input.new ≡ input.old) × (frames.new ≡ frames.old) }
@@ -181,6 +196,8 @@ pub fn run<D: Source, S: Source, C: Sink, R: Sink>(
     ensures unread { form_in words.now ≡ form.Unknown → input.new ≡ input.old }
 {
     packets_are_parted();
+    replays_are_accounted();
+    replays_arrive_once();
     match form_of(words) {
         Form::Replay => replay(alloc, conf, input, frames, report),
         Form::Hop => hop(alloc, input, report),

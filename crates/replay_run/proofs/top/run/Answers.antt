@@ -3,6 +3,10 @@ use Rattle.replay_run.specs.declared.words.Form.TheVariants as form
 use Rattle.replay_run.specs.Outside.{Meets, AppendsFront}
 use Rattle.replay_run.proofs.Owed.{told, in_form, no_fault, hop_meets, hop_front, hop_done, hop_reports, headers_meets, headers_front, headers_done, usage_meets, usage_front, write_fault}
 use Rattle.replay_run.proofs.Replays.{no_fault_of_four, replay_done}
+use Rattle.replay_run.proofs.RunsDone.{run_done}
+use Rattle.replay_laws.specs.Moments.{HasLedgerThroughout, DeliversOnce}
+use Rattle.replay_laws.specs.Reports.{IsReported}
+use Rattle.replay_laws.specs.Once.{ArriveOnce}
 use Rattle.replay_run.proofs.top.run.Goals as goal
 
 -- ---- words of the form Replay
@@ -27,6 +31,26 @@ pub returns-in-Replay-clause-replay_complete : goal.returns-in-Replay-clause-rep
 returns-in-Replay-clause-replay_complete g c is =
     replay_done (g.D.Source.left c.args.conf.now) (g.S.Source.left c.args.input.now) (g.R.Sink.written c.args.report.now) (g.R.Sink.written c.replay.new.report) (g.C.Sink.written c.args.frames.now) (g.C.Sink.written c.replay.new.frames) c.replay.result
     _ _ _ _ _ _ (returns-in-Replay-clause-decided g c) c.replay.ensures.answer
+
+pub returns-in-Replay-clause-ledger : goal.returns-in-Replay-clause-ledger
+returns-in-Replay-clause-ledger g c is =
+    run_done (g.D.Source.left c.args.conf.now) (g.S.Source.left c.args.input.now) (g.S.Source.left c.replay.new.input) (g.R.Sink.written c.args.report.now) (g.R.Sink.written c.replay.new.report) (g.C.Sink.written c.args.frames.now) (g.C.Sink.written c.replay.new.frames)
+    HasLedgerThroughout c.replays_are_accounted.ensures.moments c.replay.result _ _ _ _ _ c.replay.ensures.answer c.replay.ensures.stopped
+
+pub returns-in-Replay-clause-reported : goal.returns-in-Replay-clause-reported
+returns-in-Replay-clause-reported g c is =
+    run_done (g.D.Source.left c.args.conf.now) (g.S.Source.left c.args.input.now) (g.S.Source.left c.replay.new.input) (g.R.Sink.written c.args.report.now) (g.R.Sink.written c.replay.new.report) (g.C.Sink.written c.args.frames.now) (g.C.Sink.written c.replay.new.frames)
+    IsReported c.replays_are_accounted.ensures.reported c.replay.result _ _ _ _ _ c.replay.ensures.answer c.replay.ensures.stopped
+
+pub returns-in-Replay-clause-delivered_once : goal.returns-in-Replay-clause-delivered_once
+returns-in-Replay-clause-delivered_once g c is =
+    run_done (g.D.Source.left c.args.conf.now) (g.S.Source.left c.args.input.now) (g.S.Source.left c.replay.new.input) (g.R.Sink.written c.args.report.now) (g.R.Sink.written c.replay.new.report) (g.C.Sink.written c.args.frames.now) (g.C.Sink.written c.replay.new.frames)
+    (λ d r. DeliversOnce r) c.replays_are_accounted.ensures.delivered c.replay.result _ _ _ _ _ c.replay.ensures.answer c.replay.ensures.stopped
+
+pub returns-in-Replay-clause-exactly_once : goal.returns-in-Replay-clause-exactly_once
+returns-in-Replay-clause-exactly_once g c is =
+    run_done (g.D.Source.left c.args.conf.now) (g.S.Source.left c.args.input.now) (g.S.Source.left c.replay.new.input) (g.R.Sink.written c.args.report.now) (g.R.Sink.written c.replay.new.report) (g.C.Sink.written c.args.frames.now) (g.C.Sink.written c.replay.new.frames)
+    ArriveOnce c.replays_arrive_once.ensures c.replay.result _ _ _ _ _ c.replay.ensures.answer c.replay.ensures.stopped
 
 -- ---- words of the form Hop
 

@@ -1,0 +1,5 @@
+pub mod Fitting
+pub mod Reached
+pub mod MomentLaws
+pub mod ReportLaws
+pub mod Arriving

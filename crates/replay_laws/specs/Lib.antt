@@ -1,0 +1,4 @@
+-- Replays.
+pub mod Moments
+pub mod Reports
+pub mod Once

@@ -1,0 +1,8 @@
+//! What holds of the run that a replay does, whatever the lines of its schedule say: it is a run of allowed events, its ledger is
+//! right at every moment, its report says so, and while views agree each reachable BFR-id arrives exactly once. Definitions and
+//! laws; no code that runs.
+#![tactic(auto)]
+
+mod runs;
+
+pub use runs::{replays_are_accounted, replays_arrive_once};

@@ -1,0 +1,81 @@
+-- What a replay did is a run, and what holds of each run holds of it.
+use Rattle.std.proofs.Common.{◌≡◌, ℕ, ◌<◌, List, ◌++◌, length, Option, Some, None, Result, Ok, Err, refl, sym, subst, ◌∙◌, arith, inl, inr}
+use Rattle.std.specs.Prelude.{◌⊎◌, IfSome}
+use Rattle.std.specs.Io.KnownBytes.{Consumes, Appends}
+use Rattle.wire_base.specs.declared.status.Status.{Status}
+use Rattle.wire_base.specs.declared.status.Status.TheVariants.{Done, Usage, ConfRefused, InputRefused, CaptureRefused, ReadFault, WriteFault, Memory}
+use Rattle.wire_base.specs.model.Configuration.{DomainConf, IsValid}
+use Rattle.domain_model.specs.Run.{Run}
+use Rattle.domain_conf.specs.Domain.{domain_of}
+use Rattle.domain_conf.specs.declared.fault.ConfFault.{ConfFault}
+use Rattle.domain_conf.proofs.ValidFile.{domain_is_valid}
+use Rattle.domain_replay.specs.Texts.{Refusal, run_text, run_done_text, schedule_reaches}
+use Rattle.replay_run.specs.declared.words.Form.TheVariants.{Replay}
+use Rattle.replay_run.specs.DomainFile.{Says}
+use Rattle.replay_run.specs.Judged.{OnHeld}
+use Rattle.replay_run.specs.Outside.{Held, Meets}
+use Rattle.replay_run.specs.RunDone.{HasRun, AreRead, RunDone}
+use Rattle.replay_run.specs.ScheduleText.{answer_to, ending, schedule_answer, schedule_cut}
+use Rattle.replay_run.specs.Texts.{Close, Ended, Longer, Cut, close_of, is_short, lines_within}
+use Rattle.replay_run.specs.Verdict.{verdict, replay_on, IsDecided}
+
+-- a report that ends as done ends with the last line
+done_so : (close : Close) (n : ℕ) (r : Run) (o : Option (ℕ × Refusal)) → Done ≡ (ending close n r o).0 → (ending close n r o).1 ≡ run_done_text r n
+done_so Ended n r None is = refl
+done_so Longer n r None is = absurd cc
+done_so Cut n r None is = absurd cc
+done_so Ended n r (Some refused) is = absurd cc
+done_so Longer n r (Some refused) is = absurd cc
+done_so Cut n r (Some refused) is = absurd cc
+
+last_so : (close : Close) (d : DomainConf) (lines : List (List ℕ)) (ended : Status) (report report_now frames frames_now : Option (List ℕ)) → Meets (answer_to close d lines) ended report report_now frames frames_now
+    → ended ≡ Done → Appends report report_now (run_text d (schedule_reaches d lines).run ++ run_done_text (schedule_reaches d lines).run (length lines))
+last_so close d lines ended report report_now frames frames_now met is =
+    let reached = schedule_reaches d lines in
+    subst (λ (l : List ℕ). Appends report report_now (run_text d reached.run ++ l)) (done_so close (length lines) reached.run reached.refused (sym is ∙ met.status)) met.report
+
+module _ (conf input input_now report report_now frames frames_now : Option (List ℕ)) (Holds : DomainConf → Run → Type 0)
+    (law : (d : DomainConf) (lines : List (List ℕ)) → IsValid d → Holds d (schedule_reaches d lines).run) where
+  -- the run of lines that were read
+  of_lines : (ended : Status) (d : DomainConf) (says : Says conf d) (lines : List (List ℕ)) (close : Close) → AreRead ended input input_now lines close
+      → Meets (answer_to close d lines) ended report report_now frames frames_now → RunDone ended conf input input_now report report_now frames frames_now Holds
+  of_lines ended d says lines close read met = record {
+    domain = d;
+    says = says;
+    lines = lines;
+    close = close;
+    read = read;
+    texts = met;
+    last = last_so close d lines ended report report_now frames frames_now met;
+    holds = law d lines (domain_is_valid says.0 d says.2);
+  }
+
+  -- where the status is decided
+  of_schedule : (ended : Status) → ((lines : List (List ℕ)) (close : Close) → ((octets : List ℕ) × Held input octets × (lines ≡ lines_within octets) × (close ≡ close_of (is_short octets))) → AreRead ended input input_now lines close)
+      → (ended ≡ ConfRefused → ⊥) → OnHeld Replay conf input (λ owed. Meets owed ended report report_now frames frames_now) → RunDone ended conf input input_now report report_now frames frames_now Holds
+  unfolding verdict schedule_answer
+  of_schedule ended read accepted (file, octets, of_conf, of_input, met) = by (domain_of file) refl met
+    where
+      by : (said : Result DomainConf ConfFault) → domain_of file ≡ said → IfSome (replay_on said (Some octets)) (λ owed. Meets owed ended report report_now frames frames_now) → RunDone ended conf input input_now report report_now frames frames_now Holds
+      by (Err why) e m = absurd (accepted m.status)
+      by (Ok d) e m = of_lines ended d (file, of_conf, e) (lines_within octets) (close_of (is_short octets)) (read (lines_within octets) (close_of (is_short octets)) (octets, of_input, refl, refl)) m
+
+  -- where the schedule's source failed
+  of_cut : (d : DomainConf) → Says conf d → (octets : List ℕ) → Consumes input input_now octets → Meets (schedule_cut d octets) ReadFault report report_now frames frames_now → RunDone ReadFault conf input input_now report report_now frames frames_now Holds
+  unfolding schedule_cut
+  of_cut d says octets taken met = of_lines ReadFault d says _ Cut (octets, taken, refl, refl) met
+
+  pub run_done : (ended : Status) (before now : ℕ) (Input Frames Report : Type 0) → (IsDecided ended → OnHeld Replay conf input (λ owed. Meets owed ended report report_now frames frames_now))
+      → (ended ≡ ReadFault → ((before < now) × Input × Frames × Report) ⊎ ((now ≡ before) × ((d : DomainConf) × Says conf d × ((octets : List ℕ) × Consumes input input_now octets × Meets (schedule_cut d octets) ended report report_now frames frames_now))))
+      → HasRun ended → now ≡ before → RunDone ended conf input input_now report report_now frames frames_now Holds
+  run_done Done before now Input Frames Report answer stopped has quiet = of_schedule Done (λ lines close read. read) (λ is. absurd cc) (answer tt)
+  run_done InputRefused before now Input Frames Report answer stopped has quiet = of_schedule InputRefused (λ lines close read. read) (λ is. absurd cc) (answer tt)
+  run_done ReadFault before now Input Frames Report answer stopped has quiet = elim (stopped refl) [
+    | inl failed ↦ let rose = failed.0 in absurd (omega (arith, rose, quiet))
+    | inr cut ↦ of_cut cut.1.0 cut.1.1 cut.1.2.0 cut.1.2.1 cut.1.2.2
+  ]
+  run_done Usage before now Input Frames Report answer stopped has quiet = absurd has
+  run_done ConfRefused before now Input Frames Report answer stopped has quiet = absurd has
+  run_done CaptureRefused before now Input Frames Report answer stopped has quiet = absurd has
+  run_done WriteFault before now Input Frames Report answer stopped has quiet = absurd has
+  run_done Memory before now Input Frames Report answer stopped has quiet = absurd has

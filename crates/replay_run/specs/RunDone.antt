@@ -1,0 +1,47 @@
+-- The run that a replay did: the model's run over the lines that it read of its schedule, whose texts both sinks gained.
+use Rattle.std.specs.Prelude.{ℕ, ◌≡◌, ◌++◌, false, List, length, Option}
+use Rattle.std.specs.Io.KnownBytes.{Consumes, Appends}
+use Rattle.wire_base.specs.declared.status.Status.{Status}
+use Rattle.wire_base.specs.declared.status.Status.TheVariants.{Done, Usage, ConfRefused, InputRefused, CaptureRefused, ReadFault, WriteFault, Memory}
+use Rattle.wire_base.specs.model.Configuration.{DomainConf}
+use Rattle.replay_text.specs.Pieces.{lines_in}
+use Rattle.domain_model.specs.Run.{Run}
+use Rattle.domain_replay.specs.Texts.{run_text, run_done_text, schedule_reaches}
+use Rattle.replay_run.specs.DomainFile.{Says}
+use Rattle.replay_run.specs.Outside.{Held, Meets}
+use Rattle.replay_run.specs.ScheduleText.{answer_to}
+use Rattle.replay_run.specs.Texts.{Close, Cut, close_of, is_short, lines_within}
+
+-- the statuses with which a replay ends that did a run, to its end or to where it stopped
+abbrev pub HasRun : Status → Type 0
+HasRun Done = Unit {0}
+HasRun InputRefused = Unit {0}
+HasRun ReadFault = Unit {0}
+HasRun Usage = ⊥
+HasRun ConfRefused = ⊥
+HasRun CaptureRefused = ⊥
+HasRun WriteFault = ⊥
+HasRun Memory = ⊥
+
+-- The lines that were read of a schedule, and what is behind them: those that it held; where its source failed, those that
+-- are whole in what was taken of it.
+abbrev pub AreRead : Status → (input input_now : Option (List ℕ)) → List (List ℕ) → Close → Type 0
+AreRead ReadFault input input_now lines close = (octets : List ℕ) × Consumes input input_now octets × (lines ≡ lines_in false octets) × (close ≡ Cut)
+AreRead ended input input_now lines close = (octets : List ℕ) × Held input octets × (lines ≡ lines_within octets) × (close ≡ close_of (is_short octets))
+
+-- A replay ended so, and that holds of the run that it did. The domain file, the schedule and both sinks are seen as the octets
+-- that they tell, before it and after it.
+pub record RunDone (ended : Status) (conf input input_now report report_now frames frames_now : Option (List ℕ)) (Holds : DomainConf → Run → Type 0) : Type 0 where
+  -- the domain that the file says
+  pub domain : DomainConf
+  pub says : Says conf domain
+  -- the lines of the schedule, and what is behind them
+  pub lines : List (List ℕ)
+  pub close : Close
+  pub read : AreRead ended input input_now lines close
+  -- the status, the report and the capture are those of the run that the lines reach
+  pub texts : Meets (answer_to close domain lines) ended report report_now frames frames_now
+  -- where all lines are done, the report is the lines of that run and the last one, with its numbers
+  pub last : ended ≡ Done → Appends report report_now (run_text domain (schedule_reaches domain lines).run ++ run_done_text (schedule_reaches domain lines).run (length lines))
+  -- that run is as promised
+  pub holds : Holds domain (schedule_reaches domain lines).run
