@@ -125,7 +125,7 @@ other_more kinds own es rest i e c k old new asc lt at other r is known before s
     let claim : k ≡ with_known kinds (claim_of es e) = known ∙ ap (with_known kinds) (is ∙ ap (λ (l : List Entry). claim_of l e) r ∙ claim_begins own es i e asc lt at other) in
     step ∙ ap (λ (l : List Claim). l ++ k ∷ []) before ∙ ap (λ (x : Claim). map (with_known kinds) (map (claim_of es) (filter (is_other own) (take i es))) ++ x ∷ []) claim
     ∙ sym (ap (λ (l : List Entry). map (with_known kinds) (map (claim_of es) l)) (step_of own es i e lt at ∙ ap (λ (l : List Entry). filter (is_other own) (take i es) ++ l) one)
-        ∙ ap (map (with_known kinds)) (map-append (claim_of es) (filter (is_other own) (take i es)) (e ∷ [])) ∙ map-append (with_known kinds) (map (claim_of es) (filter (is_other own) (take i es))) (claim_of es e ∷ []))
+    ∙ ap (map (with_known kinds)) (map-append (claim_of es) (filter (is_other own) (take i es)) (e ∷ [])) ∙ map-append (with_known kinds) (map (claim_of es) (filter (is_other own) (take i es))) (claim_of es e ∷ []))
 
 pub other_less : (kinds : List SubKind) (own : SystemId) (es : List Entry) (i : ℕ) (e : Entry) (old : List Claim) → i < length es → e ≡ get_or es i e → is_other own e ≡ false
     → old ≡ map (with_known kinds) (map (claim_of es) (filter (is_other own) (take i es))) → old ≡ map (with_known kinds) (map (claim_of es) (filter (is_other own) (take (i + 1) es)))

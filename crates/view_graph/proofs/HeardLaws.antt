@@ -18,7 +18,7 @@ use Rattle.wire_base.specs.declared.entry.Entry.{Entry}
 use Rattle.wire_base.specs.model.Control.{same_system, system_order, AreAscending, ids_of}
 use Rattle.wire_base.specs.model.View.{Claim, claim_of, is_other, with_known, put_claim, own_claim, claims_of}
 use Rattle.view_graph.specs.Edges.{is_before, AreInOrder, place_in, stands_at}
-use Rattle.view_graph.specs.Keep.{heard, said_by, said_in, is_first_of, is_named, without_system}
+use Rattle.view_graph.specs.Keep.{Keep, IsUnchanged, heard, said_by, said_in, is_first_of, is_named, without_system}
 use Rattle.view_graph.proofs.EdgeLaws.{same_all, below_all}
 use Rattle.view_graph.proofs.FragmentLaws.{same_is, claim_at}
 use Rattle.view_graph.proofs.GraphLaws.{all_weaker, and_both}
@@ -135,3 +135,23 @@ said_heard kinds es own s apart = said_among kinds es es own s apart
 
 pub named_next : (P : SystemId → Type 0) (systems : List SystemId) (i : ℕ) (d : SystemId) → i < length systems → ((s : SystemId) → is_named (take i systems) s ≡ true → P s) → P (get_or systems i d) → (s : SystemId) → is_named (take (i + 1) systems) s ≡ true → P s
 named_next P systems i d lt before new = named_step P systems i (get_or systems i d) lt (get_or_default systems i d (get_or systems i d) lt) before new
+
+-- ---- entries of named systems alone
+
+pub named_more : (systems : List SystemId) (es : List Entry) (i : ℕ) (e : Entry) (s : SystemId) → i < length es → e ≡ get_or es i e → filter (is_first_of s) (take i es) ≡ [] → is_named systems s ≡ false → is_named systems e.id.system ≡ true → filter (is_first_of s) (take (i + 1) es) ≡ []
+named_more systems es i e s lt at none away named = none_more (is_first_of s) es i e none lt at (by (same_system e.id.system s) refl)
+  where
+    by : (b : Bool) → same_system e.id.system s ≡ b → is_first_of s e ≡ false
+    by true h = absurd (true≢false (sym named ∙ ap (is_named systems) (same_is e.id.system s h) ∙ away))
+    by false h = rw h refl
+
+-- of a system that isn't named they say nothing
+pub unnamed_said : (kinds : List SubKind) (es : List Entry) (own s : SystemId) → same_system s own ≡ false → filter (is_first_of s) es ≡ [] → said_by (heard own kinds es) s ≡ None
+unfolding said_in
+unnamed_said kinds es own s apart none = said_heard kinds es own s apart ∙ ap (λ (l : List Entry). slice_get (map (with_known kinds) (map (claim_of es) l)) 0) none
+
+pub all_named : (k : Keep) (own : SystemId) (kinds : List SubKind) (before after : List Entry) (changed : List SystemId) → k.system ≡ own → k.kinds ≡ kinds → k.others ≡ heard own kinds before
+    → ((s : SystemId) → is_named changed s ≡ false → filter (is_first_of s) before ≡ []) → ((s : SystemId) → is_named changed s ≡ false → filter (is_first_of s) after ≡ []) → IsUnchanged k changed after
+all_named k own kinds before after changed system_is kinds_are others old new s apart away =
+    let other : same_system s own ≡ false = ap (same_system s) (sym system_is) ∙ apart in
+    ap (λ (cs : List Claim). said_by cs s) others ∙ unnamed_said kinds before own s other (old s away) ∙ sym (unnamed_said k.kinds after k.system s apart (new s away))

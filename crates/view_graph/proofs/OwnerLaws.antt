@@ -101,8 +101,7 @@ same_step xs q u o is = by o is
       where
         cases : (b : Bool) → same_system t u ≡ b → IsOwner (xs ++ record { prefix = q; system = u } ∷ []) q (Some (if b then Some t else None))
         cases true e =
-            let turned : same_system u t ≡ true = same_turned u t ∙ e in
-            (
+            let turned : same_system u t ≡ true = same_turned u t ∙ e in (
               any_push (λ (x : Prefix). same_system x.system t && bytes_eq x.prefix.0 q.0) xs (record { prefix = q; system = u }) true true is.0 (ap (λ b. b && bytes_eq q.0 q.0) turned ∙ here),
               any_push (λ (x : Prefix). not (same_system x.system t) && bytes_eq x.prefix.0 q.0) xs (record { prefix = q; system = u }) false false is.1 (ap (λ b. not b && bytes_eq q.0 q.0) turned),
             )

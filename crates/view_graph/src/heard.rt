@@ -17,7 +17,10 @@ use wire_base::{Entry, M, RouterConf, SubKind, SystemId};
 fn is_first_of(system: &SystemId, entry: &Entry) -> bool
     ensures { result ≡ is_first_of system.now entry.now }
 {
-    entry.id.system == *system && entry.id.pseudonode == 0 && entry.id.fragment == 0 && entry.life > 0
+    entry.id.system == *system
+        && entry.id.pseudonode == 0
+        && entry.id.fragment == 0
+        && entry.life > 0
 }
 
 /// What a system says in a database. None where it has no live fragment 0.

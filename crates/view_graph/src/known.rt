@@ -4,7 +4,7 @@ ghost use Rattle.std.specs.List.{list_any};
 ghost use Rattle.std.specs.Str.{bytes_eq};
 ghost use Rattle.wire_base.specs.model.Control.{same_system};
 ghost use Rattle.wire_base.specs.model.Place.{kind_of};
-ghost use Rattle.wire_base.specs.model.View.{all_ranges, first_each, known_subs, has_prefix, is_shared, own_subs};
+ghost use Rattle.wire_base.specs.model.View.{all_ranges, first_each, known_subs};
 ghost use Rattle.view_graph.specs.Owners.{owner_at, is_several};
 ghost use Rattle.view_graph.specs.Places.{has_sd};
 
@@ -86,33 +86,7 @@ pub(crate) fn known_subs(alloc: Global, kinds: &[SubKind], subs: &[ViewSub]) -> 
     }
 }
 
-fn has_prefix(prefix: &Ipv4, subs: &[ViewSub]) -> bool
-    ensures { result ≡ has_prefix prefix.now subs.now }
-{
-    subs.iter().any(|sub| sub.prefix == *prefix)
-}
-
-/// Whether another system has a place with that prefix.
-fn is_shared(claims: &[Claim], system: &SystemId, prefix: &Ipv4) -> bool
-    ensures { result ≡ is_shared claims.now system.now prefix.now }
-{
-    claims.iter().any(|claim| claim.system != *system && has_prefix(prefix, claim.subs.as_slice()))
-}
-
-/// The places of a system whose prefix is no other system's.
-pub(crate) fn own_subs(alloc: Global, claims: &[Claim], claim: &Claim) -> M<Rows<ViewSub>>
-    ensures { IfOk result (λ kept. kept ≡ own_subs claims.now claim.now) }
-{
-    let mut kept = Rows::new(alloc);
-    'subs: for sub in claim.subs.as_slice() {
-        if !is_shared(claims, &claim.system, &sub.prefix) {
-            kept.push(copy_of(sub)?)?;
-        }
-    }
-    Ok(kept)
-}
-
-/// The same by the systems that have the prefixes.
+/// The places of a system whose prefix is no other system's, by the systems that have the prefixes.
 pub(crate) fn alone_subs(
     alloc: Global,
     owners: &BTreeMap<Ipv4, Option<SystemId>>,

@@ -14,9 +14,7 @@ use crate::owners::owners_of;
 use lsp_store::Store;
 use std::alloc::Global;
 use std::collections::BTreeMap;
-use wire_base::{
-    Entry, Ipv4, M, RouterConf, Rows, SystemId, Triple, View, ViewEdge, ViewNode,
-};
+use wire_base::{Entry, Ipv4, M, RouterConf, Rows, SystemId, Triple, View, ViewEdge, ViewNode};
 
 /// The node of the system at a place.
 fn node_of(

@@ -52,10 +52,7 @@ fn add_prefixes(
 }
 
 /// For each prefix the system that has it, None where several have it.
-pub(crate) fn owners_of(
-    alloc: Global,
-    claims: &[Claim],
-) -> M<BTreeMap<Ipv4, Option<SystemId>>>
+pub(crate) fn owners_of(alloc: Global, claims: &[Claim]) -> M<BTreeMap<Ipv4, Option<SystemId>>>
     ensures { IfOk result (λ owners. AreOwners (prefixes_of claims.now) owners) }
 {
     let mut owners = BTreeMap::new(alloc);

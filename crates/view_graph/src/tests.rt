@@ -1,8 +1,10 @@
-ghost use Rattle.std.specs.Prelude.{◌≡◌, IfOk, length};
+ghost use Rattle.std.specs.Prelude.{◌≡◌, [], true, false, filter, IfOk, length};
 ghost use Rattle.wire_base.specs.model.Configuration.{IsSound};
+ghost use Rattle.wire_base.specs.declared.addresses.SystemId.{SystemId};
 ghost use Rattle.model_examples.specs.Domains.{ring_a};
+ghost use Rattle.view_graph.specs.Keep.{is_first_of, is_named};
 
-use crate::{supports, view};
+use crate::{ViewKeep, supports, view};
 use lsp_store::Store;
 use std::alloc::Global;
 use wire_base::{
@@ -11,6 +13,13 @@ use wire_base::{
 };
 
 const UP: [bool; 2] = [true, true];
+
+/// The own LSP of the ring's router B, and the same without its link to A.
+const B_SAYS: &[u8] =
+    b"\x01\x04\x03\x49\0\x01\x81\x01\xcc\x89\x01B\x16\x16\0\0\0\0\0\x01\0\0\0\x0a\0\0\0\0\0\0\x03\0\0\0\x0a\0\x87\x17\0\0\0\0\x60\x0a\0\0\x02\x0d\x20\x0b\0\0\0\0\x02\x01\x04\0\x10\0\xc8";
+
+const B_SAYS_LESS: &[u8] =
+    b"\x01\x04\x03\x49\0\x01\x81\x01\xcc\x89\x01B\x16\x0b\0\0\0\0\0\x03\0\0\0\x0a\0\x87\x17\0\0\0\0\x60\x0a\0\0\x02\x0d\x20\x0b\0\0\0\0\x02\x01\x04\0\x10\0\xc8";
 
 /// In the settled ring each router has an edge to both neighbours and one label; an end that is down takes its edge away
 /// at both ends.
@@ -92,6 +101,81 @@ fn links_and_places(rt: HostRuntime) {
     }
 }
 
+/// A renewal of the settled ring's view: whether B's new LSP lists its link to A, which ends of A are up, whether the view
+/// changed, and the edges of A then.
+#[test]
+fn a_kept_view_is_renewed(rt: HostRuntime) {
+    let alloc = rt.alloc();
+    let conf = ring_a(alloc).expect(&rt, "memory");
+    let before = ring_database(alloc).expect(&rt, "memory");
+    let cases: [(bool, [bool; 2], bool, &[ViewEdge]); 4] = [
+        // a refresh; a lost link, as B says it and as A knows it; both
+        (true, [true, true], false, &[edge(1, 10), edge(3, 10)]),
+        (false, [true, true], true, &[edge(3, 10)]),
+        (true, [false, true], true, &[edge(3, 10)]),
+        (false, [false, true], true, &[edge(3, 10)]),
+    ];
+    for (lists, up, is_new, expected) in cases {
+        let mut after = ring_database(alloc).expect(&rt, "memory");
+        let content = if lists { B_SAYS } else { B_SAYS_LESS };
+        put_seq(&mut after, alloc, 2, 2, content).expect(&rt, "memory");
+        let (answer, keep) = renewed(
+            alloc,
+            &conf,
+            up.as_slice(),
+            &before,
+            &after,
+            [system(2), system(3), system(4)].as_slice(),
+        )
+        .expect(&rt, "memory");
+        assert_eq!(rt; answer, is_new);
+        assert!(rt; edges(keep.view(), 0) == expected);
+    }
+}
+
+/// Renews the view of a store; Memory too where either store has other systems than those that changed.
+fn renewed(
+    alloc: Global,
+    conf: &RouterConf,
+    up: &[bool],
+    before: &Store,
+    after: &Store,
+    changed: &[SystemId],
+) -> M<(bool, ViewKeep)>
+    requires sound { IsSound conf.now }
+    requires ends { length conf.now.ends ≡ 2 }
+    requires up { length up.now ≡ 2 }
+{
+    if !names_all(before.as_slice(), changed) {
+        return Err(Memory);
+    }
+    if !names_all(after.as_slice(), changed) {
+        return Err(Memory);
+    }
+    let mut keep = ViewKeep::new(alloc, conf, UP.as_slice(), before)?;
+    let is_new = keep.renew(conf, up, after, changed)?;
+    Ok((is_new, keep))
+}
+
+/// Whether each entry is of one of those systems.
+fn names_all(entries: &[Entry], systems: &[SystemId]) -> bool
+    ensures { result ≡ true → (s : SystemId) → is_named systems.now s ≡ false → filter (is_first_of s) entries.now ≡ [] }
+{
+    'entries: for place in 0..entries.len() {
+        let entry = &entries[place];
+        if !is_among(systems, &entry.id.system) {
+            return false;
+        }
+    }
+    true
+}
+
+fn is_among(systems: &[SystemId], system: &SystemId) -> bool
+    ensures { result ≡ is_named systems.now system.now }
+{
+    systems.iter().any(|other| *other == *system)
+}
+
 fn edge(to: u16, metric: u32) -> ViewEdge {
     ViewEdge { to, metric }
 }
@@ -128,13 +212,17 @@ fn supported(conf: &RouterConf, seen: &View, place: usize, si: u8) -> bool {
 
 /// Stores a live fragment 0.
 fn put(store: &mut Store, alloc: Global, n: u8, content: &[u8]) -> M<()> {
+    put_seq(store, alloc, n, 1, content)
+}
+
+fn put_seq(store: &mut Store, alloc: Global, n: u8, seq: u32, content: &[u8]) -> M<()> {
     let entry = Entry {
         id: LspId {
             system: system(n),
             pseudonode: 0,
             fragment: 0,
         },
-        seq: 1,
+        seq,
         life: 1200,
         hold: 0,
         sum: 1,
@@ -150,12 +238,7 @@ fn put(store: &mut Store, alloc: Global, n: u8, content: &[u8]) -> M<()> {
 /// The own LSPs of the ring's routers but A: two links of metric 10, the prefix and one label.
 fn ring_database(alloc: Global) -> M<Store> {
     let mut store = Store::new(alloc);
-    put(
-        &mut store,
-        alloc,
-        2,
-        b"\x01\x04\x03\x49\0\x01\x81\x01\xcc\x89\x01B\x16\x16\0\0\0\0\0\x01\0\0\0\x0a\0\0\0\0\0\0\x03\0\0\0\x0a\0\x87\x17\0\0\0\0\x60\x0a\0\0\x02\x0d\x20\x0b\0\0\0\0\x02\x01\x04\0\x10\0\xc8",
-    )?;
+    put(&mut store, alloc, 2, B_SAYS)?;
     put(
         &mut store,
         alloc,

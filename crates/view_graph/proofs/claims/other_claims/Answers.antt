@@ -11,12 +11,12 @@ claim_of-requires c = subst (λ es. AreAscending (ids_of es)) (sym (rest_of c.ar
 
 pub systems-preserved : goal.systems-preserved
 systems-preserved c = elim c.if-is_other.branch [
-  then-is_other+in_ok-claim+in_ok-with_known+in_ok-push w ↦
-    other_more c.args.conf.now.kinds c.args.conf.now.system c.args.entries.now _ c.systems.place c.index-entries-place.result w.in_ok-claim.claim w.in_ok-with_known.field-0 c.systems.claims.items c.if-is_other.claims.items
-    c.requires c.systems-test.true c.index-entries-place.is (sym c.is_other.ensures ∙ w.if-is_other.true) (rest_of c.args.entries.now c.systems.place) w.in_ok-claim.ensures
-    (w.in_ok-with_known.ensures ∙ ap (λ k. with_known k w.in_ok-claim.claim) w.as_slice.ensures) c.systems.invariant (ap items_of w.claims-is ∙ w.in_ok-push.ensures.items)
+  | then-is_other+in_ok-claim+in_ok-with_known+in_ok-push w ↦
+      other_more c.args.conf.now.kinds c.args.conf.now.system c.args.entries.now _ c.systems.place c.index-entries-place.result w.in_ok-claim.claim w.in_ok-with_known.field-0 c.systems.claims.items c.if-is_other.claims.items
+      c.requires c.systems-test.true c.index-entries-place.is (sym c.is_other.ensures ∙ w.if-is_other.true) (rest_of c.args.entries.now c.systems.place) w.in_ok-claim.ensures
+      (w.in_ok-with_known.ensures ∙ ap (λ k. with_known k w.in_ok-claim.claim) w.as_slice.ensures) c.systems.invariant (ap items_of w.claims-is ∙ w.in_ok-push.ensures.items)
   | else-is_other w ↦
-    ap items_of w.claims-is ∙ other_less c.args.conf.now.kinds c.args.conf.now.system c.args.entries.now c.systems.place c.index-entries-place.result c.systems.claims.items c.systems-test.true c.index-entries-place.is (sym c.is_other.ensures ∙ w.if-is_other.false) c.systems.invariant
+      ap items_of w.claims-is ∙ other_less c.args.conf.now.kinds c.args.conf.now.system c.args.entries.now c.systems.place c.index-entries-place.result c.systems.claims.items c.systems-test.true c.index-entries-place.is (sym c.is_other.ensures ∙ w.if-is_other.false) c.systems.invariant
 ]
   where
     items_of : Vec Claim Global → List Claim
