@@ -83,7 +83,7 @@ pub removed_is : (w bp : ℕ) (words s : List ℕ) → length words ≡ w → me
     → members_of w (set words ((bp - 1) / 64) (bit_and (get_or words ((bp - 1) / 64) 0) (bit_not w64 (1 * 2 ^ ((bp - 1) % 64) % 2 ^ 64)))) ≡ difference s (bp ∷ [])
 removed_is w bp words s long is low high =
     members_is w _ (difference s (bp ∷ [])) (within-difference 0 (64 * w) s (bp ∷ []) (within_members w words s is)) (λ i lt.
-      has-difference (i + 1) s (bp ∷ []) ∙ rw (has_members w i words s is lt) (sym (bit_cleared words (bp - 1) i (omega arith) ∙ shifted i)))
+    has-difference (i + 1) s (bp ∷ []) ∙ rw (has_members w i words s is lt) (sym (bit_cleared words (bp - 1) i (omega arith) ∙ shifted i)))
   where
     no-false : (b : Bool) → (b && false) ≡ false
     no-false true = refl

@@ -142,11 +142,7 @@ fn own_in<const W: usize>(own: Option<u16>, rest: &BitString<W>) -> Option<u16>
 }
 
 // The least position of a set that has a row, where none below `from` has one.
-fn first_routed<const W: usize>(
-    table: &Table<W>,
-    rest: &BitString<W>,
-    from: u16,
-) -> Option<u16>
+fn first_routed<const W: usize>(table: &Table<W>, rest: &BitString<W>, from: u16) -> Option<u16>
     requires width { IsTrue (is_width W) }
     requires from { IsFrom (64 * W) from rest.now (routed_of table.now) }
     ensures first { result ≡ first_member (intersection rest.now (routed_of table.now)) }

@@ -103,9 +103,13 @@ fn stands(work: Work, broken: Object, call: u32, stopped: &Outcome, whole: &Outc
     let frames = stopped.frames.as_slice();
     let all = whole.report.as_slice();
     match broken {
-        Object::Conf => stopped.status == Status::ReadFault && report.is_empty() && frames.is_empty(),
+        Object::Conf => stopped.status == Status::ReadFault
+            && report.is_empty()
+            && frames.is_empty(),
         Object::Input if call == 1 => {
-            stopped.status == Status::ReadFault && report.is_empty() && frames.len() == head_of(work)
+            stopped.status == Status::ReadFault
+                && report.is_empty()
+                && frames.len() == head_of(work)
         }
         // All lines and records were read, and done.
         Object::Input => {
@@ -145,7 +149,11 @@ fn each_call_fails_in_turn(rt: HostRuntime) -> Result<(), Fail> {
             for call in 1..5 {
                 let stopped = ran(alloc, work, broken, call)?;
                 is_past = same(&stopped, &whole);
-                assert!(rt; is_past || stands(work, broken, call, &stopped, &whole), "{} at call {call}", work.words[0]);
+                assert!(rt;
+                    is_past || stands(work, broken, call, &stopped, &whole),
+                    "{} at call {call}",
+                    work.words[0]
+                );
             }
             assert!(rt; is_past, "{} has more calls", work.words[0]);
         }
