@@ -25,6 +25,17 @@ sent_conf : (c : Control) (link : ℕ) → (framed link (send c link)).control.c
 unfolding framed send
 sent_conf c link = refl
 
+out_view : (c : Control) (link : ℕ) → control_view (send c link).control ≡ control_view c
+unfolding send sent_on
+out_view c link = refl
+
+out_conf : (c : Control) (link : ℕ) → (send c link).control.conf ≡ c.conf
+unfolding send
+out_conf c link = refl
+
+pub went_out : (c c' : Control) (link : ℕ) (k : Option Kept) → c' ≡ (send c link).control → MayKeep c k → MayKeep c' k
+went_out c c' link k is kept = moved c c' k (ap control_view is ∙ out_view c link) (ap (λ (x : Control). x.conf) is ∙ out_conf c link) kept
+
 pub sent_keeps : (c c' : Control) (link : ℕ) (k : Option Kept) (result : Result Effects Memory) → IfOk result (λ e. record { control = c'; effects = e } ≡ framed link (send c link)) → OnErr result (c' ≡ c) → MayKeep c k → MayKeep c' k
 sent_keeps c c' link k (Ok e) next err kept =
     let is : c' ≡ (framed link (send c link)).control = ap (λ (n : Next). n.control) next in
