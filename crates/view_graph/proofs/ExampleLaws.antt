@@ -1,6 +1,5 @@
 -- Router A of the ring is sound.
-use Rattle.std.proofs.Common.{◌≡◌, refl, sym, subst, arith, Result, Ok, Err}
-use Rattle.std.specs.Prelude.{IfOk}
+use Rattle.std.proofs.Common.{◌≡◌, refl, sym, subst, arith}
 use Rattle.wire_base.specs.declared.conf.RouterConf.{RouterConf}
 use Rattle.wire_base.specs.model.Configuration.{IsSound}
 use Rattle.model_examples.specs.Domains.{ring_a}

@@ -1,10 +1,10 @@
 -- What a system says in a database, and what is kept of it.
 use mathlib.Core.Bool.{false≢true, true≢false}
-use Rattle.std.proofs.Common.{◌≡◌, ℕ, zero, suc, ◌+◌, ◌<◌, ◌≤◌, ◌==◌, ◌&&◌, ◌||◌, nat_lt, not, Bool, true, false, if◌then◌else◌, List, [], ◌∷◌, ◌++◌, length, get_or, take, drop, map, filter, Option, Some, None, slice_get, refl, sym, ap, subst, ◌∙◌, arith}
+use Rattle.std.proofs.Common.{◌≡◌, ℕ, zero, suc, ◌+◌, ◌<◌, ◌≤◌, ◌==◌, ◌&&◌, ◌||◌, nat_lt, Bool, true, false, List, [], ◌∷◌, ◌++◌, length, get_or, take, drop, map, filter, Some, None, slice_get, refl, sym, ap, subst, ◌∙◌, arith}
 use Rattle.std.specs.declared.cmp.Ordering.{Ordering}
 use Rattle.std.specs.declared.cmp.Ordering.TheVariants.{Less, Equal, Greater}
 use Rattle.std.specs.Ordering.{is_eq, is_lt, is_gt, match_ordering}
-use Rattle.std.specs.List.{AllByRecursion, list_any}
+use Rattle.std.specs.List.{AllByRecursion}
 use Rattle.std.proofs.Math.Seq.{take-suc}
 use Rattle.std.proofs.lemmas.List.{take_all, get_or_default}
 use Rattle.std.proofs.lemmas.List.Elements.{filter-append}
@@ -13,16 +13,14 @@ use Rattle.std.proofs.lemmas.Slice.Eq.{bytes_eq-Decides}
 use Rattle.format_laws.proofs.TlvLaws.{some_is}
 use Rattle.wire_base.specs.declared.addresses.SystemId.{SystemId}
 use Rattle.wire_base.specs.declared.conf.SubKind.{SubKind}
-use Rattle.wire_base.specs.declared.conf.RouterConf.{RouterConf}
 use Rattle.wire_base.specs.declared.entry.Entry.{Entry}
 use Rattle.wire_base.specs.model.Control.{same_system, system_order, AreAscending, ids_of}
-use Rattle.wire_base.specs.model.View.{Claim, claim_of, is_other, with_known, put_claim, own_claim, claims_of}
-use Rattle.view_graph.specs.Edges.{is_before, AreInOrder, place_in, stands_at}
-use Rattle.view_graph.specs.Keep.{Keep, IsUnchanged, heard, said_by, said_in, is_first_of, is_named, without_system}
-use Rattle.view_graph.proofs.EdgeLaws.{same_all, below_all}
+use Rattle.wire_base.specs.model.View.{Claim, claim_of, is_other, with_known}
+use Rattle.view_graph.specs.Edges.{AreInOrder, place_in, stands_at}
+use Rattle.view_graph.specs.Keep.{Keep, IsUnchanged, heard, said_by, said_in, is_first_of, is_named}
+use Rattle.view_graph.proofs.EdgeLaws.{below_all}
 use Rattle.view_graph.proofs.FragmentLaws.{same_is, claim_at}
-use Rattle.view_graph.proofs.GraphLaws.{all_weaker, and_both}
-use Rattle.view_graph.proofs.SystemLaws.{tie_is_same, before_differs, above_differs, before_from_above, same_turned}
+use Rattle.view_graph.proofs.SystemLaws.{tie_is_same, above_differs, same_turned}
 
 same_self : (s : SystemId) → same_system s s ≡ true
 same_self s = (bytes_eq-Decides s.0 s.0).1 refl

@@ -101,28 +101,28 @@ fn links_and_places(rt: HostRuntime) {
     }
 }
 
-/// A renewal of the settled ring's view: whether B's new LSP lists its link to A, which ends of A are up, whether the view
-/// changed, and the edges of A then.
+/// A renewal of the settled ring's view: whether B's new LSP lists its link to A, whether A's end of it is up, whether the
+/// view changed, and the edges of A then.
 #[test]
 fn a_kept_view_is_renewed(rt: HostRuntime) {
     let alloc = rt.alloc();
     let conf = ring_a(alloc).expect(&rt, "memory");
     let before = ring_database(alloc).expect(&rt, "memory");
-    let cases: [(bool, [bool; 2], bool, &[ViewEdge]); 4] = [
+    let cases: [(bool, bool, bool, &[ViewEdge]); 4] = [
         // a refresh; a lost link, as B says it and as A knows it; both
-        (true, [true, true], false, &[edge(1, 10), edge(3, 10)]),
-        (false, [true, true], true, &[edge(3, 10)]),
-        (true, [false, true], true, &[edge(3, 10)]),
-        (false, [false, true], true, &[edge(3, 10)]),
+        (true, true, false, &[edge(1, 10), edge(3, 10)]),
+        (false, true, true, &[edge(3, 10)]),
+        (true, false, true, &[edge(3, 10)]),
+        (false, false, true, &[edge(3, 10)]),
     ];
-    for (lists, up, is_new, expected) in cases {
+    for (lists, is_up, is_new, expected) in cases {
         let mut after = ring_database(alloc).expect(&rt, "memory");
         let content = if lists { B_SAYS } else { B_SAYS_LESS };
         put_seq(&mut after, alloc, 2, 2, content).expect(&rt, "memory");
         let (answer, keep) = renewed(
             alloc,
             &conf,
-            up.as_slice(),
+            [is_up, true].as_slice(),
             &before,
             &after,
             [system(2), system(3), system(4)].as_slice(),

@@ -1,4 +1,4 @@
-use Rattle.std.proofs.Common.{[], filter, sym, ap, ◌∙◌, arith}
+use Rattle.std.proofs.Common.{filter, sym, ap, ◌∙◌, arith}
 use Rattle.std.proofs.lemmas.List.{take_all}
 use Rattle.view_graph.specs.Keep.{is_first_of}
 use Rattle.view_graph.proofs.HeardLaws.{named_more}
