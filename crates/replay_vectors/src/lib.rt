@@ -5,3 +5,5 @@
 mod faults;
 #[cfg(test)]
 mod replays;
+#[cfg(test)]
+mod twelve;

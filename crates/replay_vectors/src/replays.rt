@@ -60,7 +60,8 @@ pair | tick A / tick B => 0 | done lines 2 injected 0 named 0 got 0 dropped 0 fl
 pair | send A B / again A B 0 / take A B 0 / take A B 0 / take A B 0 / take A B 0 => 4 | refused 6 event 5 NoFrame 0 0
 pair | send A B / down B A / take A B 0 => 0 | 3 drop B - link - / done lines 3 injected 0 named 0 got 0 dropped 0 flight 0
 ring | settle 4 / inject A 0 64 3 8 0 00ff / down B A / take A B 0 => 0 | 4 drop B 1 link 3 / done lines 4 injected 1 named 1 got 0 dropped 1 flight 0
-ring | settle 4 / inject A 0 64 3 8 0 00ff / lose A B 0 => 0 | 3 drop B 1 lost 3 / done lines 3 injected 1 named 1 got 0 dropped 1 flight 0";
+ring | settle 4 / inject A 0 64 3 8 0 00ff / lose A B 0 => 0 | 3 drop B 1 lost 3 / done lines 3 injected 1 named 1 got 0 dropped 1 flight 0
+ring | settle 4 / inject A 0 64 1,2,3,4 8 0 00ff / lose A B 0 => 0 | 2 got A 1 1 00ff / 3 drop B 1 lost 2,3 / done lines 3 injected 1 named 4 got 1 dropped 2 flight 1";
 
 // A domain and a schedule, how many octets their capture has, and some that it holds.
 const CAPTURES: &str = "\
@@ -102,19 +103,26 @@ fn lines_of(alloc: Global, text: &str) -> Result<String, AllocError> {
 
 /// What a replay answered and wrote.
 #[derive(Drop)]
-struct Replayed {
-    status: Status,
-    report: BytesSink,
-    frames: BytesSink,
+pub(crate) struct Replayed {
+    pub(crate) status: Status,
+    pub(crate) report: BytesSink,
+    pub(crate) frames: BytesSink,
 }
 
-fn replay(alloc: Global, domain: &str, schedule: &str) -> M<Replayed> {
+/// The replay of a schedule in a domain, with room for so many octets of frames and of a report.
+pub(crate) fn replay(
+    alloc: Global,
+    domain: &str,
+    schedule: &str,
+    frames_room: usize,
+    report_room: usize,
+) -> M<Replayed> {
     let conf = Octets::from_slice(alloc, domain.as_bytes())?;
     let mut conf = BytesSource::new(conf, Rows::new(alloc));
     let input = Octets::from_slice(alloc, schedule.as_bytes())?;
     let mut input = BytesSource::new(input, Rows::new(alloc));
-    let mut frames = BytesSink::new(alloc, 10_000, Rows::new(alloc))?;
-    let mut report = BytesSink::new(alloc, 1_000, Rows::new(alloc))?;
+    let mut frames = BytesSink::new(alloc, frames_room, Rows::new(alloc))?;
+    let mut report = BytesSink::new(alloc, report_room, Rows::new(alloc))?;
     let words = ["replay", "domain", "schedule", "frames"];
     let status = run(
         alloc,
@@ -132,7 +140,7 @@ fn replay(alloc: Global, domain: &str, schedule: &str) -> M<Replayed> {
 }
 
 /// Whether octets stand somewhere in others.
-fn holds(octets: &[u8], wanted: &[u8]) -> bool {
+pub(crate) fn holds(octets: &[u8], wanted: &[u8]) -> bool {
     for at in 0..octets.len() {
         if octets[at..].starts_with(wanted) {
             return true;
@@ -153,7 +161,7 @@ fn row(alloc: Global, line: &str) -> Result<(Replayed, &str, &str), Fail> {
         return Err(Fail::new("what is wanted"));
     };
     let schedule = lines_of(alloc, schedule)?;
-    let replayed = replay(alloc, domain_of(domain), schedule.as_str())?;
+    let replayed = replay(alloc, domain_of(domain), schedule.as_str(), 10_000, 1_000)?;
     Ok((replayed, number, text))
 }
 
