@@ -1,8 +1,8 @@
 -- What is read of a schedule's line is what the grammar says, and the other way round.
-use Rattle.std.proofs.Common.{◌≡◌, ℕ, suc, ◌≤◌, Bool, true, false, cond, eqb, ltb, List, [], ◌∷◌, length, Option, Some, None, Result, Ok, Err, refl, sym, ap, subst, ◌∙◌, arith, inl, inr}
+use Rattle.std.proofs.Common.{◌≡◌, ℕ, Bool, true, false, cond, eqb, ltb, List, [], ◌∷◌, length, Option, Some, None, Result, Ok, Err, refl, sym, ap, subst, ◌∙◌, arith, inl, inr}
 use Rattle.std.specs.Prelude.{IfOk, codes, option_and_then}
 use Rattle.std.specs.Str.{bytes_eq}
-use Rattle.std.proofs.lemmas.Bool.{cases_Bool, eqb-true, le-ltb, ltb-false, true≢false}
+use Rattle.std.proofs.lemmas.Bool.{eqb-true, le-ltb, ltb-false}
 use Rattle.std.proofs.lemmas.Slice.Eq.{bytes_eq-Decides}
 use Rattle.wire_base.specs.declared.limits.TheConstants.{LINE_LIMIT, MOST_ROUNDS}
 use Rattle.wire_base.specs.declared.bsl.Bsl.{Bsl}
@@ -19,10 +19,10 @@ use Rattle.replay_text.specs.Pieces.{words_of}
 use Rattle.replay_text.specs.Tokens.{number_of}
 use Rattle.replay_text.specs.Ids.{id_of}
 use Rattle.replay_text.specs.Hop.{is_comment}
-use Rattle.replay_text.specs.Arguments.{counted, and_words, argument, place_of, at_most, number_to, length_from, listed_ids, payload_of, name_at, number_at, length_at, ids_at, ttl_at, payload_at}
+use Rattle.replay_text.specs.Arguments.{counted, and_words, argument, place_of, at_most, number_to, length_from, listed_ids, payload_of}
 use Rattle.replay_text.specs.Schedule.{router_named, link_named, frame_named, inject_event, event_line, settle_line, schedule_words, line_of_words, schedule_line}
 use Rattle.replay_text.specs.ScheduleGrammar.{IsNumber, IsOne, IsLink, IsFrame, IsInjection, Says, IsEvent, IsRounds, IsSaid, IsScheduleLine}
-use Rattle.replay_text.proofs.Spelled.{if_ok, then_ok, bits_are, with_bits, id_is, id_back}
+use Rattle.replay_text.proofs.Spelled.{if_ok, bits_are, with_bits, id_is, id_back}
 
 -- ---- steps
 

@@ -1,8 +1,8 @@
-use Rattle.std.proofs.Common.{◌/◌, ◌%◌, ◌+◌, ◌*◌, ◌^◌, arith, refl, get_or, length}
+use Rattle.std.proofs.Common.{◌/◌, ◌%◌, ◌*◌, ◌^◌, arith, refl, get_or, length}
 use Rattle.std.proofs.lemmas.Nat.{trailing_le}
 use Rattle.std.proofs.Math.Nat.{div-le_self}
 use Rattle.bier_bits.specs.Sets.{has_place}
-use Rattle.bier_bits.proofs.Places.{first_none, first_some, word_some, passed_words}
+use Rattle.bier_bits.proofs.Places.{first_some, word_some, passed_words}
 use Rattle.bier_bits.proofs.WordLaws.{place_at}
 use Rattle.bier_bits.proofs.words.next_place.Goals as goal
 

@@ -2,8 +2,8 @@ use Rattle.std.proofs.Common.{◌*◌, Some, refl, sym, ◌∙◌, ap, arith, su
 use Rattle.wire_base.specs.model.BitSet.{intersection, first_member}
 use Rattle.bift_table.specs.Bift.{routed_of}
 use Rattle.bier_hop.specs.declared.out.Out.TheVariants.{Local}
-use Rattle.bier_hop.specs.declared.out.Why.TheVariants.{NoRow, Ttl}
-use Rattle.bier_hop.specs.Outcomes.{HopState, drop_of, IsNext}
+use Rattle.bier_hop.specs.declared.out.Why.TheVariants.{Ttl}
+use Rattle.bier_hop.specs.Outcomes.{HopState, IsNext}
 use Rattle.bier_hop.proofs.NextLaws.{expired, delivered, unrouted, last, last-left, copied, apart-after}
 use Rattle.bier_hop.proofs.hop.outcome.Goals as goal
 

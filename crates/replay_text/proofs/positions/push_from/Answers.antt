@@ -1,4 +1,4 @@
-use Rattle.std.proofs.Common.{◌+◌, ◌++◌, ◌∷◌, [], ℕ}
+use Rattle.std.proofs.Common.{◌+◌, ◌++◌, ◌∷◌, []}
 use Rattle.bier_bits.specs.Sets.{from_on}
 use Rattle.replay_text.proofs.Walked.{written_more, left_more}
 use Rattle.replay_text.proofs.positions.push_from.Goals as goal
