@@ -137,12 +137,7 @@ impl Control {
     }
 
     /// A PDU, which may change the view: what is kept of it goes. Or all else is as it was.
-    fn take_pdu(
-        &mut self,
-        kept: &mut Option<Kept>,
-        link: u16,
-        pdu: Pdu<'_>,
-    ) -> M<Effects>
+    fn take_pdu(&mut self, kept: &mut Option<Kept>, link: u16, pdu: Pdu<'_>) -> M<Effects>
         requires up { is_up self.old link ≡ true }
         requires short { HasRoom (pdu_of pdu) }
         ensures next { IfOk result (λ e. record { control = self.new; effects = e } ≡ pdu_taken self.old link (pdu_of pdu.entry)) }
