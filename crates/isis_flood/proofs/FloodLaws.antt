@@ -1,5 +1,5 @@
 -- A table of masks as the rows of a flood state.
-use Rattle.std.proofs.Common.{◌≡◌, ℕ, zero, suc, ◌<◌, ◌≤◌, Bool, true, false, if◌then◌else◌, List, [], ◌∷◌, ◌++◌, length, get_or, set, take, drop, map, replicate, refl, sym, ap, subst, ◌∙◌, arith}
+use Rattle.std.proofs.Common.{◌≡◌, ℕ, zero, suc, ◌<◌, ◌≤◌, Bool, true, false, if◌then◌else◌, List, [], ◌∷◌, ◌++◌, length, get_or, slice_get, Option, Some, None, IfSome, set, take, drop, map, replicate, refl, sym, ap, subst, ◌∙◌, arith}
 use mathlib.Core.Bool.{false≢true}
 use Rattle.std.specs.declared.cmp.Ordering.{Ordering}
 use Rattle.std.specs.declared.cmp.Ordering.TheVariants.{Less, Equal, Greater}
@@ -133,6 +133,35 @@ module _ (own : SystemId) (n up due spare : ℕ) (rows : List Bits) (now : Flood
   pub srm_is : (link : ℕ) (id : LspId) (b : Bits) (answer : Bool) → b ≡ bits_in rows id → AreAscending (row_ids rows) → answer ≡ get_or (links_in n b.srm) link false → answer ≡ srm_in now.flood.rows id link
   srm_is link id b answer row asc is =
       is ∙ ap (λ (r : Bits). get_or (links_in n r.srm) link false) row ∙ srm_seen n link rows id asc ∙ ap (λ (f : Flood). srm_in f.rows id link) flood_seen
+
+  -- ---- rows by their places
+
+  pub rows_long : length now.flood.rows ≡ length rows
+  rows_long = sym (ap (λ (f : Flood). length f.rows) flood_seen) ∙ long rows
+    where
+      long : (bs : List Bits) → length (rows_of n bs) ≡ length bs
+      long [] = refl
+      long (b ∷ bs) = ap (λ m. suc m) (long bs)
+
+  row_at : (P : FlagRow → Type 0) (bs : List Bits) (place : ℕ) (d : Bits) → bs ≡ rows → place < length now.flood.rows → P (row_of n (get_or bs place d)) → IfSome (slice_get now.flood.rows place) P
+  row_at P bs place d same lt h =
+      subst (λ (f : Flood). IfSome (slice_get f.rows place) P) flood_seen
+      (subst (λ (l : List Bits). IfSome (slice_get (rows_of n l) place) P) same (at bs place (omega (arith, lt, rows_long, ap length same)) h))
+    where
+      at : (bs : List Bits) (i : ℕ) → i < length bs → P (row_of n (get_or bs i d)) → IfSome (slice_get (rows_of n bs) i) P
+      at [] i lt h = absurd (omega (arith, lt))
+      at (x ∷ xs) zero lt h = h
+      at (x ∷ xs) (suc i) lt h = at xs i (omega (arith, lt)) h
+
+  pub sent_row : (bs : List Bits) (place link : ℕ) (d : Bits) (flag : Bool) (answer : Option LspId) → bs ≡ rows → place < length now.flood.rows → flag ≡ get_or (links_in n (get_or bs place d).srm) link false → answer ≡ (if flag then Some (get_or bs place d).id else None)
+      → IfSome (slice_get now.flood.rows place) (λ row. answer ≡ (if get_or row.srm link false then Some row.id else None))
+  sent_row bs place link d flag answer same lt seen made =
+      row_at (λ row. answer ≡ (if get_or row.srm link false then Some row.id else None)) bs place d same lt (made ∙ ap (λ (x : Bool). if x then Some (get_or bs place d).id else None) seen)
+
+  pub asked_row : (bs : List Bits) (place link : ℕ) (d : Bits) (flag : Bool) (answer : Option LspId) → bs ≡ rows → place < length now.flood.rows → flag ≡ get_or (links_in n (get_or bs place d).ssn) link false → answer ≡ (if flag then Some (get_or bs place d).id else None)
+      → IfSome (slice_get now.flood.rows place) (λ row. answer ≡ (if get_or row.ssn link false then Some row.id else None))
+  asked_row bs place link d flag answer same lt seen made =
+      row_at (λ row. answer ≡ (if get_or row.ssn link false then Some row.id else None)) bs place d same lt (made ∙ ap (λ (x : Bool). if x then Some (get_or bs place d).id else None) seen)
 
   pub ssn_is : (link : ℕ) (id : LspId) (b : Bits) (answer : Bool) → b ≡ bits_in rows id → AreAscending (row_ids rows) → answer ≡ get_or (links_in n b.ssn) link false → answer ≡ ssn_in now.flood.rows id link
   ssn_is link id b answer row asc is =

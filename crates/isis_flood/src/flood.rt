@@ -1,4 +1,4 @@
-ghost use Rattle.std.specs.Prelude.{◌≡◌, ◌<◌, ◌≤◌, ◌+◌, length, slice_index_or, slice_set, true, false, IsOk, IfOk, OnOk, OnErr};
+ghost use Rattle.std.specs.Prelude.{◌≡◌, ◌<◌, ◌≤◌, ◌+◌, length, slice_get, slice_index_or, slice_set, Some, None, IfSome, if◌then◌else◌, true, false, IsOk, IfOk, OnOk, OnErr};
 ghost use Rattle.wire_base.specs.model.Control.{FlagRow, srm_in, ssn_in, without_row};
 ghost use Rattle.wire_base.specs.model.Flooding.{with_row, send_on, ask_on, set_srm, pass_on, mark_all, forget, link_down, sent_on, new_flood};
 ghost use Rattle.isis_flood.specs.Flags.{has_flags};
@@ -31,6 +31,12 @@ impl Model for Flood {
     ghost view = { λ f. record { flood = flood_of f.own f.links f.up f.due f.table.rows; spare = f.table.spare } };
 
     ghost invariant = { λ f. f.links ≤ 64 };
+}
+
+fn id_if(flag: bool, id: LspId) -> Option<LspId>
+    ensures { result ≡ (if flag then Some id else None) }
+{
+    if flag { Some(id) } else { None }
 }
 
 impl Flood {
@@ -88,6 +94,31 @@ impl Flood {
             return false;
         }
         self.table.has_flags(link)
+    }
+
+    /// How many identifiers have a row of flags, in their order; a row may be without flags.
+    pub fn rows(&self) -> usize
+        ensures { result ≡ length self.now.flood.rows }
+    {
+        self.table.as_slice().len()
+    }
+
+    /// The identifier of the row at a place, where its link state PDU is to be sent on a link.
+    pub fn sent_at(&self, place: usize, link: u16) -> Option<LspId>
+        requires { place < length self.now.flood.rows }
+        ensures { IfSome (slice_get self.now.flood.rows place) (λ row. result ≡ (if slice_index_or row.srm link false then Some row.id else None)) }
+    {
+        let row = self.table.as_slice()[place];
+        id_if(has_of(row.srm, self.links, link), row.id)
+    }
+
+    /// The identifier of the row at a place, where its link state PDU is to be acknowledged or asked for on a link.
+    pub fn asked_at(&self, place: usize, link: u16) -> Option<LspId>
+        requires { place < length self.now.flood.rows }
+        ensures { IfSome (slice_get self.now.flood.rows place) (λ row. result ≡ (if slice_index_or row.ssn link false then Some row.id else None)) }
+    {
+        let row = self.table.as_slice()[place];
+        id_if(has_of(row.ssn, self.links, link), row.id)
     }
 
     /// Makes room for that many rows more.

@@ -9,6 +9,7 @@ pub mod IdleLaws
 pub mod IssuedLaws
 pub mod KeepLaws
 pub mod KeptLaws
+pub mod MergeLaws
 pub mod OwnLaws
 pub mod ReceivedLaws
 pub mod SendLaws

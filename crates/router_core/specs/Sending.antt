@@ -1,10 +1,12 @@
 -- What a router sends on a link, as frames.
-use Rattle.std.specs.Prelude.{ℕ, List, [], ◌∷◌, false, Option, Some, None, if◌then◌else◌}
+use Rattle.std.specs.Prelude.{ℕ, Bool, List, [], ◌∷◌, map, false, Option, Some, None, slice_index_or, if◌then◌else◌}
+use Rattle.wire_base.specs.declared.addresses.LspId.{LspId}
+use Rattle.wire_base.specs.declared.triple.Summary.{Summary}
 use Rattle.wire_base.specs.declared.conf.End.{End}
 use Rattle.wire_base.specs.declared.conf.RouterConf.{RouterConf}
 use Rattle.wire_base.specs.declared.effects.Sent.{Sent}
 use Rattle.wire_base.specs.declared.entry.Entry.{Entry}
-use Rattle.wire_base.specs.model.Control.{Control, FlagRow, srm_in}
+use Rattle.wire_base.specs.model.Control.{Control, FlagRow, entry_in, srm_in, summary_of}
 use Rattle.wire_base.specs.model.Flooding.{lsp_of, new_flood}
 use Rattle.wire_base.specs.model.OnFrame.{frames_of}
 use Rattle.wire_base.specs.model.Item.{isis_frame}
@@ -13,6 +15,36 @@ use Rattle.router_core.specs.State.{control_of}
 -- a control state of a configuration, where nothing else of it matters
 abbrev pub conf_alone : RouterConf → Control
 conf_alone r = control_of r (new_flood r.system []) [] false
+
+-- what stands for an entry, where there is one
+abbrev pub found : {X : Type 0} → (Entry → List X) → Option Entry → List X
+found f None = []
+found f (Some e) = f e
+
+-- for the entry of an identifier, where one is named
+abbrev pub found_of : {X : Type 0} → (Entry → List X) → List Entry → Option LspId → List X
+found_of f es None = []
+found_of f es (Some id) = found f (entry_in es id)
+
+-- for the entry of a row's identifier, where the row has the flag
+abbrev pub found_at : {X : Type 0} → (Entry → List X) → List Entry → LspId → Bool → List X
+found_at f es id flag = if flag then found f (entry_in es id) else []
+
+abbrev pub row_ids : List FlagRow → List LspId
+row_ids rows = map (λ row. row.id) rows
+
+abbrev pub entry_frames : RouterConf → ℕ → Entry → List Sent
+entry_frames r link e = frames_of r link (lsp_of e ∷ [])
+
+abbrev pub entry_summary : Entry → List Summary
+entry_summary e = summary_of e ∷ []
+
+-- what a row of flags sends on a link, and what it asks for there
+abbrev pub row_frames : RouterConf → List Entry → ℕ → FlagRow → List Sent
+row_frames r es link row = found_at (entry_frames r link) es row.id (slice_index_or row.srm link false)
+
+abbrev pub row_asked : List Entry → ℕ → FlagRow → List Summary
+row_asked es link row = found_at entry_summary es row.id (slice_index_or row.ssn link false)
 
 -- the frame of an entry, where it is to be sent on a link
 abbrev pub lsp_frames : RouterConf → List FlagRow → ℕ → Entry → List Sent

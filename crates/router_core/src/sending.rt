@@ -1,11 +1,11 @@
 //! Sending on a link: the CSNPs that are due, link state PDUs, and PSNPs (ISO/IEC 10589, 7.3.15.4 and 7.3.17).
-ghost use Rattle.std.specs.Prelude.{◌≡◌, ◌<◌, ◌≤◌, ◌++◌, Bool, true, false, length, map, filter, slice_index_or, IfOk, OnOk, OnErr};
+ghost use Rattle.std.specs.Prelude.{◌≡◌, ◌<◌, ◌≤◌, ◌++◌, Bool, true, false, length, map, filter, slice_index_or, option_map, IfOk, IfSome, OnOk, OnErr};
 ghost use Rattle.std.specs.List.{AllByRecursion, flat_map};
-ghost use Rattle.wire_base.specs.model.Control.{srm_in, ssn_in, summary_of};
+ghost use Rattle.wire_base.specs.model.Control.{AreAscending, HasEntry, ssn_in, summary_of};
 ghost use Rattle.wire_base.specs.model.Flooding.{csnps, psnp_of, id_after, zero_id, last_id, is_known, due_csnps, send_of, send};
 ghost use Rattle.wire_base.specs.model.Lists.{blocks};
 ghost use Rattle.wire_base.specs.model.OnFrame.{frames_of, framed};
-ghost use Rattle.router_core.specs.Sending.{conf_alone, lsp_frames};
+ghost use Rattle.router_core.specs.Sending.{conf_alone, entry_frames, entry_summary, found, found_of, lsp_frames, row_ids};
 ghost use Rattle.router_core.specs.State.{IsShort, is_up, control_of};
 
 use crate::control::Control;
@@ -58,21 +58,45 @@ fn known_rows(alloc: Global, entries: &[Entry]) -> M<Vec<Summary>>
     )
 }
 
-/// The entries to be acknowledged or asked for on a link. Where nothing is flagged there, none is looked at.
-fn asked_rows(alloc: Global, entries: &[Entry], flood: &Flood, link: u16) -> M<Vec<Summary>>
-    requires { link < length flood.now.flood.up }
-    ensures { IfOk result (λ rows. rows.items ≡ map summary_of (filter (λ e. ssn_in flood.now.flood.rows e.id link) entries.now)) }
+/// Appends what a sequence numbers PDU says of an identifier's entry, where one is named.
+fn push_summary(rows: &mut Vec<Summary>, store: &Store, id: Option<LspId>) -> M<()>
+    ensures { OnOk result (rows.new.items ≡ rows.old.items ++ found_of entry_summary store.now.entries id) }
 {
-    if !flood.has_flags(link) {
-        return Ok(Vec::new(alloc));
+    match id {
+        None => Ok(()),
+        Some(id) => push_known(rows, store.get(&id)),
     }
-    Ok(
-        entries
-            .iter()
-            .filter(|e| flood.ssn(e.id, link))
-            .map(summary_of)
-            .collect(alloc)?,
-    )
+}
+
+fn push_known(rows: &mut Vec<Summary>, entry: Option<&Entry>) -> M<()>
+    ensures { OnOk result (rows.new.items ≡ rows.old.items ++ found entry_summary (option_map (λ e. e.now) entry.entry)) }
+{
+    match entry {
+        None => Ok(()),
+        Some(e) => {
+            rows.push(summary_of(e))?;
+            Ok(())
+        }
+    }
+}
+
+/// The entries to be acknowledged or asked for on a link. Where nothing is flagged there, no row of flags is looked at.
+fn asked_rows(store: &Store, flood: &Flood, link: u16) -> M<Vec<Summary>>
+    requires link { link < length flood.now.flood.up }
+    requires order { AreAscending (row_ids flood.now.flood.rows) }
+    requires flagged { AllByRecursion (HasEntry store.now.entries) flood.now.flood.rows }
+    ensures { IfOk result (λ rows. rows.items ≡ map summary_of (filter (λ e. ssn_in flood.now.flood.rows e.id link) store.now.entries)) }
+{
+    let _order = store.len();
+    let mut rows = Vec::new(store.allocator());
+    if !flood.has_flags(link) {
+        return Ok(rows);
+    }
+    'rows: for place in 0..flood.rows() {
+        let id = flood.asked_at(place, link);
+        push_summary(&mut rows, store, id)?;
+    }
+    Ok(rows)
 }
 
 /// The identifier one above; after the greatest one the least.
@@ -109,43 +133,59 @@ fn push_csnps(out: &mut Rows<Sent>, conf: &RouterConf, link: u16, rows: &[Summar
     Ok(())
 }
 
-/// Appends the frame of an entry, where it is to be sent on a link.
-fn push_marked(
+/// Appends the frame of an entry, where there is one.
+fn push_entry(out: &mut Rows<Sent>, conf: &RouterConf, link: u16, entry: Option<&Entry>) -> M<()>
+    requires end { link < length conf.now.ends }
+    requires short { IfSome entry (λ e. length e.now.content ≤ MOST_CONTENT) }
+    ensures { OnOk result (out.new ≡ out.old ++ found (entry_frames conf.now link) (option_map (λ e. e.now) entry.entry)) }
+{
+    match entry {
+        None => Ok(()),
+        Some(e) => push_lsp(out, conf, link, e),
+    }
+}
+
+/// Appends the frame of an identifier's entry, where one is named.
+fn push_found(
     out: &mut Rows<Sent>,
     conf: &RouterConf,
     link: u16,
-    flood: &Flood,
-    e: &Entry,
+    store: &Store,
+    id: Option<LspId>,
 ) -> M<()>
     requires end { link < length conf.now.ends }
-    requires link { link < length flood.now.flood.up }
-    requires short { length e.now.content ≤ MOST_CONTENT }
-    ensures { OnOk result (out.new ≡ out.old ++ lsp_frames conf.now flood.now.flood.rows link e.now) }
+    requires short { AllByRecursion IsShort store.now.entries }
+    ensures { OnOk result (out.new ≡ out.old ++ found_of (entry_frames conf.now link) store.now.entries id) }
 {
-    if flood.srm(e.id, link) {
-        return push_lsp(out, conf, link, e);
+    match id {
+        None => Ok(()),
+        Some(id) => push_entry(out, conf, link, store.get(&id)),
     }
-    Ok(())
 }
 
-/// Appends the frames of the entries that are to be sent on a link. Where nothing is flagged there, none is looked at.
+/// Appends the frames of the entries that are to be sent on a link. Where nothing is flagged there, no row of flags is
+/// looked at, and else no entry but those that are sent.
 fn push_lsps(
     out: &mut Rows<Sent>,
     conf: &RouterConf,
     link: u16,
     flood: &Flood,
-    entries: &[Entry],
+    store: &Store,
 ) -> M<()>
     requires end { link < length conf.now.ends }
     requires link { link < length flood.now.flood.up }
-    requires short { AllByRecursion IsShort entries.now }
-    ensures { OnOk result (out.new ≡ out.old ++ flat_map (lsp_frames conf.now flood.now.flood.rows link) entries.now) }
+    requires short { AllByRecursion IsShort store.now.entries }
+    requires order { AreAscending (row_ids flood.now.flood.rows) }
+    requires flagged { AllByRecursion (HasEntry store.now.entries) flood.now.flood.rows }
+    ensures { OnOk result (out.new ≡ out.old ++ flat_map (lsp_frames conf.now flood.now.flood.rows link) store.now.entries) }
 {
+    let _order = store.len();
     if !flood.has_flags(link) {
         return Ok(());
     }
-    for e in entries {
-        push_marked(out, conf, link, flood, e)?;
+    'rows: for place in 0..flood.rows() {
+        let id = flood.sent_at(place, link);
+        push_found(out, conf, link, store, id)?;
     }
     Ok(())
 }
@@ -188,13 +228,15 @@ fn due_frames(conf: &RouterConf, store: &Store, flood: &Flood, link: u16) -> M<R
     requires end { link < length conf.now.ends }
     requires link { link < length flood.now.flood.up }
     requires short { AllByRecursion IsShort store.now.entries }
+    requires order { AreAscending (row_ids flood.now.flood.rows) }
+    requires flagged { AllByRecursion (HasEntry store.now.entries) flood.now.flood.rows }
     ensures { (spent : Bool) → IfOk result (λ sent. sent ≡ frames_of conf.now link (send_of (control_of conf.now flood.now.flood store.now.entries spent) link)) }
 {
     let entries = store.as_slice();
     let mut out = Rows::new(store.allocator());
     push_due(&mut out, conf, link, flood, entries)?;
-    push_lsps(&mut out, conf, link, flood, entries)?;
-    let rows = asked_rows(store.allocator(), entries, flood, link)?;
+    push_lsps(&mut out, conf, link, flood, store)?;
+    let rows = asked_rows(store, flood, link)?;
     push_psnps(&mut out, conf, link, rows.as_slice())?;
     Ok(out)
 }

@@ -1,8 +1,19 @@
-use Rattle.std.proofs.Common.{List, map, sym, ap, ◌∙◌}
+use Rattle.std.proofs.Common.{◌+◌, ◌<◌, ◌≤◌, List, length, map, refl, sym, ap, ◌∙◌, arith}
 use Rattle.wire_base.specs.declared.entry.Entry.{Entry}
 use Rattle.wire_base.specs.model.Control.{summary_of}
 use Rattle.router_core.proofs.IdleLaws.{idle-asked}
+use Rattle.router_core.proofs.MergeLaws.{asked_step, asked_end}
 use Rattle.router_core.proofs.sending.asked_rows.Goals as goal
 
 pub returns-then-not-has_flags : goal.returns-then-not-has_flags
-returns-then-not-has_flags c = c.new.ensures.items ∙ sym (ap (λ (es : List Entry). map summary_of es) (idle-asked c.args.flood.now.flood.rows c.args.link c.args.entries.now (sym c.if-not-has_flags.ensures)))
+returns-then-not-has_flags c = c.new-rows.ensures.items ∙ sym (ap (λ (es : List Entry). map summary_of es) (idle-asked c.args.flood.now.flood.rows c.args.link c.args.store.now.entries (sym c.if-not-has_flags.ensures)))
+
+pub rows-preserved : goal.rows-preserved
+rows-preserved c =
+    asked_step c.args.store.now.entries c.args.flood.now.flood.rows c.args.link c.asked_at-id.result c.rows.place (c.rows.place + 1) c.rows.rows.items c.push_summary.new.rows.items _
+    (let lt : c.rows.place < length c.args.flood.now.flood.rows = omega (arith, c.rows-test.true, c.rows-place-end.ensures) in lt) refl c.asked_at-id.ensures c.in_ok-push_summary.ensures c.rows.invariant
+
+pub returns : goal.returns
+returns c =
+    asked_end c.args.store.now.entries c.args.flood.now.flood.rows c.args.link c.len-order.ensures.database.in_order c.requires.order c.requires.flagged c.rows.place c.new-rows.result.items c.rows.rows.items c.new-rows.ensures.items
+    (let le : length c.args.flood.now.flood.rows ≤ c.rows.place = omega (arith, c.rows-test.false, c.rows-place-end.ensures) in le) c.rows.invariant

@@ -1,7 +1,7 @@
-use Rattle.std.proofs.Common.{◌≡◌, ◌++◌, take}
+use Rattle.std.proofs.Common.{◌≡◌, ◌++◌, drop}
 use Rattle.std.specs.List.{flat_map}
-use Rattle.router_core.specs.Sending.{lsp_frames}
+use Rattle.router_core.specs.Sending.{row_frames}
 use Rattle.router_core.proofs.sending.push_lsps.Given as goal
 
-abbrev pub invariant-loop-e : goal.invariant-loop-e
-invariant-loop-e l = l.out ≡ l.fn.out ++ flat_map (lsp_frames l.conf l.flood.flood.rows l.link) (take l.e-index l.entries)
+abbrev pub invariant-rows : goal.invariant-rows
+invariant-rows l = l.out ++ flat_map (row_frames l.conf l.store.entries l.link) (drop l.place l.flood.flood.rows) ≡ l.fn.out ++ flat_map (row_frames l.conf l.store.entries l.link) l.flood.flood.rows
