@@ -4,7 +4,7 @@ import struct
 import subprocess
 import unittest
 
-from support import EXAMPLES, INDEPENDENT, REPLAYS, program, replayed, scratch, tool, write
+from support import EXAMPLES, INDEPENDENT, REPLAYS, replayed, scratch, tool, write
 from common import capture
 
 # Packets in tunnels in the domain FORK, computed by hand: A to C by way of P, which knows no BIER, on both links; A to D.
@@ -69,6 +69,12 @@ def heard(*seconds):
     return write("heard.pcap", header + b"".join(struct.pack("<IIII", at, 0, size, size) + FIRST_LSP for at in seconds))
 
 
+def write_program(name, line):
+    path = write(name, f"#!/bin/sh\n{line}\n")
+    os.chmod(path, 0o755)
+    return path
+
+
 class Node(unittest.TestCase):
     def answer(self, router, *seconds):
         frames = scratch("node.pcap")
@@ -88,9 +94,15 @@ class Node(unittest.TestCase):
 
 class Storm(unittest.TestCase):
     def test_few_frames(self):
-        words = ["storm", "--frames", "2000", "--jobs", "1", "--keep", scratch("storm")]
-        done = tool(*words, "--program", program())
+        """The independent program beside itself, until the program has `node`."""
+        words = ["storm", "--frames", "2000", "--jobs", "1", "--memory", "500", "--keep", scratch("storm")]
+        done = tool(*words, "--program", INDEPENDENT)
         self.assertIn("0 runs differ", done.stdout, done.stderr)
+
+    def test_no_command(self):
+        done = tool("storm", "--frames", "1000", "--jobs", "1", "--program", write_program("usage", "echo usage: none; exit 2"))
+        self.assertEqual(done.returncode, 1)
+        self.assertIn("it has no command node", done.stderr)
 
 
 class Captures(unittest.TestCase):
