@@ -1,11 +1,4 @@
-pub mod Captures
-pub mod Below
-pub mod Written
 pub mod FourWords
-pub mod Steps
-pub mod Partition
-pub mod Packets
-pub mod Inputs
 pub mod DomainFiles
 pub mod Owed
 pub mod Replays
@@ -14,7 +7,3 @@ pub mod NamedOnce
 pub mod ScheduleSteps
 pub mod Grown
 pub mod ScheduleLoop
-pub mod LineLaws
-pub mod HopLoop
-pub mod WayLaws
-pub mod HopWays

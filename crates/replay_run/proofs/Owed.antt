@@ -10,16 +10,17 @@ use Rattle.domain_conf.specs.declared.fault.ConfFault.{ConfFault}
 use Rattle.replay_run.specs.declared.words.Form.{Form}
 use Rattle.replay_run.specs.declared.words.Form.TheVariants.{Replay, Hop, Headers, Unknown}
 use Rattle.replay_run.specs.Words.{usage_text}
-use Rattle.replay_run.specs.HopText.{hop_answer, packets_of, IsAllowed}
-use Rattle.replay_run.specs.Partition.{Reports}
-use Rattle.replay_run.specs.Answer.{Verdict}
-use Rattle.replay_run.specs.Verdict.{verdict, reported, replay_on, IsDecided}
+use Rattle.tool_run.specs.HopText.{hop_answer, packets_of, IsAllowed}
+use Rattle.tool_run.specs.Partition.{Reports}
+use Rattle.tool_run.specs.Answer.{Verdict}
+use Rattle.replay_run.specs.Verdict.{verdict, reported, replay_on}
+use Rattle.tool_run.specs.Answer.{IsDecided}
 use Rattle.replay_run.specs.Judged.{OnHeld}
-use Rattle.replay_run.specs.Outside.{Held, Gave, Meets, AppendsFront}
-use Rattle.replay_run.proofs.Packets.{all_parted}
-use Rattle.replay_run.specs.HeadersText.{headers_answer, IsRead}
-use Rattle.replay_run.proofs.Inputs.{allowed_done}
-use Rattle.replay_run.proofs.Captures.{read_done}
+use Rattle.tool_run.specs.Outside.{Held, Gave, Meets, AppendsFront}
+use Rattle.tool_run.proofs.Packets.{all_parted}
+use Rattle.tool_run.specs.HeadersText.{headers_answer, IsRead}
+use Rattle.tool_run.proofs.Inputs.{allowed_done}
+use Rattle.tool_run.proofs.Captures.{read_done}
 
 pub nothing_more : (known : Option (List ℕ)) → Appends known known []
 nothing_more None = tt

@@ -18,14 +18,15 @@ use Rattle.domain_model.specs.Run.{Run, Progress, first_run, goes_on, tries, doe
 use Rattle.domain_conf.specs.declared.fault.ConfFault.{ConfFault}
 use Rattle.domain_replay.specs.Texts.{Refusal, names_of, lines_reach, schedule_reaches}
 use Rattle.replay_run.specs.declared.words.Form.TheVariants.{Replay}
-use Rattle.replay_run.specs.Answer.{Verdict}
+use Rattle.tool_run.specs.Answer.{Verdict}
 use Rattle.replay_run.specs.DomainFile.{Says, IsRefused}
 use Rattle.replay_run.specs.Judged.{OnHeld}
 use Rattle.replay_run.specs.Replayed.{AreAllowed, AreDone, IsDone, IsReplayed}
 use Rattle.replay_run.specs.ScheduleText.{schedule_answer, answer_to, ending}
-use Rattle.replay_run.specs.Texts.{Ended, close_of, is_short, within_limit, lines_within}
-use Rattle.replay_run.specs.Verdict.{verdict, replay_on, IsDecided}
-use Rattle.replay_run.specs.Outside.{Held, Meets, AppendsFront}
+use Rattle.tool_run.specs.Texts.{Ended, close_of, is_short, within_limit, lines_within}
+use Rattle.replay_run.specs.Verdict.{verdict, replay_on}
+use Rattle.tool_run.specs.Answer.{IsDecided}
+use Rattle.tool_run.specs.Outside.{Held, Meets, AppendsFront}
 use Rattle.replay_run.proofs.Owed.{nothing_more, no_front, held_some, ended_so, told}
 
 -- where the domain file says a domain, the verdict is the schedule's

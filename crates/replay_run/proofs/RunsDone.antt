@@ -13,11 +13,12 @@ use Rattle.domain_replay.specs.Texts.{Refusal, run_text, run_done_text, schedule
 use Rattle.replay_run.specs.declared.words.Form.TheVariants.{Replay}
 use Rattle.replay_run.specs.DomainFile.{Says}
 use Rattle.replay_run.specs.Judged.{OnHeld}
-use Rattle.replay_run.specs.Outside.{Held, Meets}
+use Rattle.tool_run.specs.Outside.{Held, Meets}
 use Rattle.replay_run.specs.RunDone.{HasRun, AreRead, RunDone}
 use Rattle.replay_run.specs.ScheduleText.{answer_to, ending, schedule_answer, schedule_cut}
-use Rattle.replay_run.specs.Texts.{Close, Ended, Longer, Cut, close_of, is_short, lines_within}
-use Rattle.replay_run.specs.Verdict.{verdict, replay_on, IsDecided}
+use Rattle.tool_run.specs.Texts.{Close, Ended, Longer, Cut, close_of, is_short, lines_within}
+use Rattle.replay_run.specs.Verdict.{verdict, replay_on}
+use Rattle.tool_run.specs.Answer.{IsDecided}
 
 -- a report that ends as done ends with the last line
 done_so : (close : Close) (n : ℕ) (r : Run) (o : Option (ℕ × Refusal)) → Done ≡ (ending close n r o).0 → (ending close n r o).1 ≡ run_done_text r n

@@ -6,12 +6,12 @@ use Rattle.wire_base.specs.model.Configuration.{DomainConf}
 use Rattle.domain_conf.specs.Domain.{domain_of}
 use Rattle.domain_conf.specs.declared.fault.ConfFault.{ConfFault}
 use Rattle.domain_replay.specs.Lines.{conf_refused_text}
-use Rattle.replay_run.specs.Answer.{Verdict}
+use Rattle.tool_run.specs.Answer.{Verdict}
 use Rattle.replay_run.specs.declared.words.Form.{Form}
 use Rattle.replay_run.specs.declared.words.Form.TheVariants.{Replay, Hop, Headers, Unknown}
 use Rattle.replay_run.specs.Words.{usage_text}
-use Rattle.replay_run.specs.HopText.{hop_answer}
-use Rattle.replay_run.specs.HeadersText.{headers_answer}
+use Rattle.tool_run.specs.HopText.{hop_answer}
+use Rattle.tool_run.specs.HeadersText.{headers_answer}
 use Rattle.replay_run.specs.ScheduleText.{schedule_answer}
 
 -- a status and a report, where no frame is written
@@ -37,14 +37,3 @@ verdict Replay conf input = replay_verdict conf input
 verdict Hop conf input = option_map (λ (octets : List ℕ). reported (hop_answer octets)) input
 verdict Headers conf input = option_map (λ (octets : List ℕ). reported (headers_answer octets)) input
 verdict Unknown conf input = Some (reported (status.Usage, usage_text))
-
--- the statuses that words and octets decide: all but the faults of sources and sinks, and want of memory
-abbrev pub IsDecided : Status → Type 0
-IsDecided status.Done = Unit {0}
-IsDecided status.Usage = Unit {0}
-IsDecided status.ConfRefused = Unit {0}
-IsDecided status.InputRefused = Unit {0}
-IsDecided status.CaptureRefused = Unit {0}
-IsDecided status.ReadFault = ⊥
-IsDecided status.WriteFault = ⊥
-IsDecided status.Memory = ⊥

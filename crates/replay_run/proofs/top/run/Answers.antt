@@ -1,6 +1,6 @@
 use Rattle.std.proofs.Common.{sym, ◌∙◌}
 use Rattle.replay_run.specs.declared.words.Form.TheVariants as form
-use Rattle.replay_run.specs.Outside.{Meets, AppendsFront}
+use Rattle.tool_run.specs.Outside.{Meets, AppendsFront}
 use Rattle.replay_run.proofs.Owed.{told, in_form, no_fault, hop_meets, hop_front, hop_done, hop_reports, headers_meets, headers_front, headers_done, usage_meets, usage_front, write_fault}
 use Rattle.replay_run.proofs.Replays.{no_fault_of_four, replay_done}
 use Rattle.replay_run.proofs.RunsDone.{run_done}

@@ -1,0 +1,11 @@
+pub mod Written
+pub mod LineLaws
+pub mod Below
+pub mod Steps
+pub mod Partition
+pub mod Packets
+pub mod Inputs
+pub mod HopLoop
+pub mod WayLaws
+pub mod HopWays
+pub mod Captures
