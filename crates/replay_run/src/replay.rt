@@ -10,10 +10,10 @@ ghost use Rattle.tool_run.specs.Outside.{Held, Meets, AppendsFront};
 
 mod lines;
 
-use tool_run::{LineReader, PIECE, write_if_long, write_whole};
 use domain_replay::Replay;
 use lines::{names_in, take_found};
 use std::alloc::Global;
+use tool_run::{LineReader, PIECE, write_if_long, write_whole};
 use wire_base::{Domain, Failed, Sink, Source, Status};
 
 /// Writes the capture out, once there is much of it. Less than one piece is left of it.

@@ -24,10 +24,10 @@ ghost use Rattle.replay_laws.specs.Once.{ArriveOnce};
 
 use crate::domain_file::{NoDomain, domain_in};
 use crate::replay::play;
-use tool_run::{deliver, headers, hop, packets_are_parted};
 use crate::words::{Form, USAGE, form_of};
 use replay_laws::{replays_are_accounted, replays_arrive_once};
 use std::alloc::Global;
+use tool_run::{deliver, headers, hop, packets_are_parted};
 use wire_base::{Sink, Source, Status};
 
 /// All that the program does on the words `replay CONF SCHEDULE FRAMES`: where the domain file breaks a rule, it reports that;

@@ -11,10 +11,10 @@ ghost use Rattle.tool_run.specs.declared.reader.Found.TheVariants as found;
 ghost use Rattle.tool_run.specs.Texts.{Ended, Longer};
 ghost use Rattle.replay_run.specs.Scheduling.{Course, IsAt, Reaches, said_reaches, next_reaches, EndsWith, Turns};
 
-use tool_run::Found;
 use domain_replay::Replay;
 use replay_text::{Line, TextFault, read_line};
 use std::alloc::Global;
+use tool_run::Found;
 use wire_base::limits::{LINE_LIMIT, MOST_ROUTERS, TEXT_LIMIT};
 use wire_base::{Domain, M, Name, Rows, Status};
 
