@@ -1,7 +1,8 @@
-pub mod FourWords
+pub mod WordForms
 pub mod DomainFiles
 pub mod Owed
 pub mod Replays
+pub mod Nodes
 pub mod RunsDone
 pub mod NamedOnce
 pub mod ScheduleSteps

@@ -6,6 +6,6 @@ use Rattle.replay_run.specs.Verdict.{verdict}
 use Rattle.tool_run.specs.Outside.{Held}
 
 -- That holds of the verdict on octets that the two sources may have held.
-abbrev pub OnHeld : Form → (conf input : Option (List ℕ)) → (Verdict → Type 0) → Type 0
-OnHeld form conf input Holds =
-    (file octets : List ℕ) × Held conf file × Held input octets × IfSome (verdict form (Some file) (Some octets)) Holds
+abbrev pub OnHeld : Form → (router : List ℕ) → (conf input : Option (List ℕ)) → (Verdict → Type 0) → Type 0
+OnHeld form router conf input Holds =
+    (file octets : List ℕ) × Held conf file × Held input octets × IfSome (verdict form router (Some file) (Some octets)) Holds

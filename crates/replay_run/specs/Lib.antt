@@ -2,6 +2,7 @@ pub mod Words
 pub mod Verdict
 pub mod ScheduleText
 pub mod DomainFile
+pub mod Routers
 pub mod Judged
 pub mod Replayed
 pub mod Scheduling
