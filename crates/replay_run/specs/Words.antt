@@ -1,16 +1,29 @@
 -- The forms of the program's words.
-use Rattle.std.specs.Prelude.{ℕ, List, [], ◌∷◌, map, codes, if◌then◌else◌}
+use Rattle.std.specs.Prelude.{ℕ, ◌==◌, ◌&&◌, nat_le, List, [], ◌∷◌, map, Option, Some, None, option_and_then, codes, if◌then◌else◌}
 use Rattle.std.specs.Borrow.{Bor}
 use Rattle.std.specs.Str.{bytes_eq}
+use Rattle.replay_text.specs.Tokens.{number_of}
 use Rattle.replay_run.specs.declared.words.Form.{Form}
-use Rattle.replay_run.specs.declared.words.Form.TheVariants.{Replay, Node, Hop, Headers, Unknown}
+use Rattle.replay_run.specs.declared.words.Form.TheVariants.{Replay, Node, Hop, Headers, Grow, Unknown}
+
+-- N of `grow N`: decimal digits without a leading zero, from 3 to 250
+abbrev pub within_grown : ℕ → Option ℕ
+within_grown n = if nat_le 3 n && nat_le n 250 then Some n else None
+
+abbrev pub routers_of : List ℕ → Option ℕ
+routers_of [] = None
+routers_of (digit ∷ digits) = if digit == 48 then None else option_and_then within_grown (number_of (digit ∷ digits))
+
+abbrev pub grow_of : Option ℕ → Form
+grow_of None = Unknown
+grow_of (Some n) = Grow n
 
 -- `replay CONF SCHEDULE FRAMES`, `node CONF ROUTER CAPTURE FRAMES`, `hop INPUT` and `headers CAPTURE` are forms, whatever the words
--- after the first
+-- after the first, and `grow N`
 unfoldable pub form_of : List (List ℕ) → Form
 form_of [] = Unknown
 form_of (word ∷ []) = Unknown
-form_of (word ∷ input ∷ []) = if bytes_eq word (codes "hop") then Hop else if bytes_eq word (codes "headers") then Headers else Unknown
+form_of (word ∷ input ∷ []) = if bytes_eq word (codes "hop") then Hop else if bytes_eq word (codes "headers") then Headers else if bytes_eq word (codes "grow") then grow_of (routers_of input) else Unknown
 form_of (word ∷ conf ∷ schedule ∷ []) = Unknown
 form_of (word ∷ conf ∷ schedule ∷ frames ∷ []) = if bytes_eq word (codes "replay") then Replay else Unknown
 form_of (word ∷ conf ∷ router ∷ capture ∷ frames ∷ []) = if bytes_eq word (codes "node") then Node else Unknown
