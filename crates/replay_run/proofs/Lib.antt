@@ -7,3 +7,4 @@ pub mod NamedOnce
 pub mod ScheduleSteps
 pub mod Grown
 pub mod ScheduleLoop
+pub mod Growing

@@ -6,3 +6,4 @@ pub mod Judged
 pub mod Replayed
 pub mod Scheduling
 pub mod RunDone
+pub mod Grow

@@ -1,0 +1,4 @@
+pub mod Links
+pub mod Routers
+pub mod Domain
+pub mod Schedule
