@@ -1,5 +1,5 @@
 -- A grown domain is the one that a domain file with its entries says, so it is valid.
-use Rattle.std.proofs.Common.{◌≡◌, ℕ, zero, suc, ◌+◌, ◌<◌, ◌≤◌, Bool, true, false, ◌||◌, ◌⊎◌, inl, inr, cond, eqb, ltb, List, [], ◌∷◌, length, map, filter_map, slice_get, Option, Some, None, is_some, refl, sym, ap, subst, ◌∙◌, arith}
+use Rattle.std.proofs.Common.{◌≡◌, ℕ, zero, suc, ◌+◌, ◌<◌, ◌≤◌, Bool, true, false, ◌&&◌, ◌||◌, ◌⊎◌, inl, inr, cond, eqb, ltb, List, [], ◌∷◌, length, map, filter_map, slice_get, Option, Some, None, is_some, refl, sym, ap, subst, ◌∙◌, arith}
 use mathlib.Core.Bool.{false≢true}
 use Rattle.std.proofs.lemmas.Bool.{or_from, eqb-true, le-ltb}
 use Rattle.std.specs.List.{AllByRecursion, range_with_len, cons_option}
@@ -19,7 +19,7 @@ use Rattle.domain_conf.proofs.ValidAmong.{all_in, all_map}
 use Rattle.domain_conf.proofs.ValidDomain.{confs_valid}
 use Rattle.grown_domain.specs.declared.links.Link.{Link}
 use Rattle.grown_domain.specs.Links.{joined, grown_links}
-use Rattle.grown_domain.specs.Routers.{system, area, own_sub, range, end_of, router}
+use Rattle.grown_domain.specs.Routers.{system, area, own_sub, range, end_toward, end_of, router}
 use Rattle.grown_domain.specs.Domain.{grown_routers, grown_domain}
 use Rattle.grown_domain.proofs.Ranged.{in_range, made_at, kept_one, all_range}
 use Rattle.grown_domain.proofs.GrownLinks.{IsGrownLink, AreGrown, grown_links_are, few_ends}
@@ -67,7 +67,7 @@ pairs_same (l ∷ links) = ap (λ (ps : List LinkConf). joined l ∷ ps) (pairs_
 end_joins : (i : ℕ) (l : Link) → is_some (end_of i l) ≡ true → (l.a ≡ i) ⊎ (l.b ≡ i)
 end_joins i l some = by (eqb l.a i) (eqb l.b i) refl refl some
   where
-    by : (p q : Bool) → eqb l.a i ≡ p → eqb l.b i ≡ q → is_some (cond p (end_of i l) (cond q (end_of i l) None)) ≡ true → (l.a ≡ i) ⊎ (l.b ≡ i)
+    by : (p q : Bool) → eqb l.a i ≡ p → eqb l.b i ≡ q → is_some (cond p (Some (end_toward l.a l.b l.metric)) (cond q (Some (end_toward l.b l.a l.metric)) None)) ≡ true → (l.a ≡ i) ⊎ (l.b ≡ i)
     by true q a b some = inl (eqb-true l.a i a)
     by false true a b some = inr (eqb-true l.b i b)
     by false false a b some = absurd (false≢true some)
@@ -87,3 +87,12 @@ grown_valid n some few =
     let valid = confs_valid Two area (record { some = omega arith; few = omega arith; each = (omega arith, (omega arith, (omega arith, tt))) }) (grown_entries n links) (grown_entries_are n some few) (subst (AllByRecursion (λ c. file.is_too_large c ≡ false)) (sym same) small) in
     subst (λ (ls : List LinkConf). IsValid (record { routers = map (router links) (range_with_len 0 n); links = ls })) (pairs_same links)
     (subst (λ (rs : List RouterConf). IsValid (record { routers = rs; links = map link_of (map link_entry links) })) same valid)
+
+-- routers and links that were made are the domain
+pub domain_made : (n : ℕ) (routers : List RouterConf) (pairs : List LinkConf) (first second : List Link) → first ≡ grown_links n → second ≡ grown_links n → routers ≡ grown_routers first n → pairs ≡ map joined second
+    → (let d : DomainConf = record { routers = routers; links = pairs } in d) ≡ grown_domain n
+unfolding grown_domain
+domain_made n routers pairs first second a b of_first of_second =
+    let r : routers ≡ grown_routers (grown_links n) n = of_first ∙ ap (λ (links : List Link). grown_routers links n) a in
+    let p : pairs ≡ map joined (grown_links n) = of_second ∙ ap (map joined) b in
+    λ i. record { routers = r i; links = p i }
