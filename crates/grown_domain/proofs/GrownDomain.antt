@@ -1,5 +1,5 @@
 -- A grown domain is the one that a domain file with its entries says, so it is valid.
-use Rattle.std.proofs.Common.{◌≡◌, ℕ, zero, suc, ◌+◌, ◌<◌, ◌≤◌, Bool, true, false, ◌&&◌, ◌||◌, ◌⊎◌, inl, inr, cond, eqb, ltb, List, [], ◌∷◌, length, map, filter_map, slice_get, Option, Some, None, is_some, refl, sym, ap, subst, ◌∙◌, arith}
+use Rattle.std.proofs.Common.{◌≡◌, ℕ, zero, suc, ◌+◌, ◌<◌, ◌≤◌, Bool, true, false, ◌&&◌, ◌||◌, ◌⊎◌, inl, inr, cond, eqb, ltb, List, [], ◌∷◌, length, map, filter_map, slice_get, Option, Some, None, is_some, Result, Ok, refl, sym, ap, subst, ◌∙◌, arith}
 use mathlib.Core.Bool.{false≢true}
 use Rattle.std.proofs.lemmas.Bool.{or_from, eqb-true, le-ltb}
 use Rattle.std.specs.List.{AllByRecursion, range_with_len, cons_option}
@@ -10,6 +10,7 @@ use Rattle.wire_base.specs.declared.conf.OwnSub.{OwnSub}
 use Rattle.wire_base.specs.declared.conf.RouterConf.{RouterConf}
 use Rattle.wire_base.specs.declared.conf.Level.TheVariants.{Two}
 use Rattle.wire_base.specs.model.Configuration.{DomainConf, IsValid, IsArea, sub_octets}
+use Rattle.domain_conf.specs.declared.fault.ConfFault.{ConfFault}
 use Rattle.domain_conf.specs.declared.bier.BierEntry.{BierEntry}
 use Rattle.domain_conf.specs.declared.labels.LabelsEntry.{LabelsEntry}
 use Rattle.domain_conf.specs.declared.routers.RouterEntry.{RouterEntry}
@@ -23,7 +24,8 @@ use Rattle.grown_domain.specs.Routers.{system, area, own_sub, range, end_toward,
 use Rattle.grown_domain.specs.Domain.{grown_routers, grown_domain}
 use Rattle.grown_domain.proofs.Ranged.{in_range, made_at, kept_one, all_range}
 use Rattle.grown_domain.proofs.GrownLinks.{IsGrownLink, AreGrown, grown_links_are, few_ends}
-use Rattle.grown_domain.proofs.GrownEntries.{router_entry, bier_entry, labels_entry, link_entry, grown_entries, grown_entries_are}
+use Rattle.grown_domain.specs.Entries.{router_entry, bier_entry, labels_entry, link_entry, grown_entries}
+use Rattle.grown_domain.proofs.GrownEntries.{grown_entries_are}
 
 -- ---- one router
 
@@ -78,15 +80,37 @@ router_small n i some few = or_from (ltb 64 (length (filter_map (end_of i) (grow
 
 -- ---- the domain
 
-pub grown_valid : (n : ℕ) → 3 ≤ n → n ≤ 250 → IsValid (grown_domain n)
-unfolding grown_domain grown_routers
-grown_valid n some few =
-    let links = grown_links n in
-    let same = confs_same n links (grown_links_are n some).each 0 n (omega arith) in
-    let small : AllByRecursion (λ c. file.is_too_large c ≡ false) (map (router links) (range_with_len 0 n)) = all_map (λ c. file.is_too_large c ≡ false) (router links) (range_with_len 0 n) (λ i there. router_small n i some few) in
-    let valid = confs_valid Two area (record { some = omega arith; few = omega arith; each = (omega arith, (omega arith, (omega arith, tt))) }) (grown_entries n links) (grown_entries_are n some few) (subst (AllByRecursion (λ c. file.is_too_large c ≡ false)) (sym same) small) in
-    subst (λ (ls : List LinkConf). IsValid (record { routers = map (router links) (range_with_len 0 n); links = ls })) (pairs_same links)
-    (subst (λ (rs : List RouterConf). IsValid (record { routers = rs; links = map link_of (map link_entry links) })) same valid)
+module _ (n : ℕ) (some : 3 ≤ n) (few : n ≤ 250) where
+  confs : List RouterConf
+  confs = file.confs_from Two area (grown_entries n (grown_links n)) 0 (map router_entry (range_with_len 0 n))
+
+  confs_are : confs ≡ grown_routers (grown_links n) n
+  unfolding confs grown_routers
+  confs_are = confs_same n (grown_links n) (grown_links_are n some).each 0 n (omega arith)
+
+  all_small : AllByRecursion (λ c. file.is_too_large c ≡ false) confs
+  unfolding grown_routers
+  all_small = subst (AllByRecursion (λ c. file.is_too_large c ≡ false)) (sym confs_are) (all_map (λ c. file.is_too_large c ≡ false) (router (grown_links n)) (range_with_len 0 n) (λ i there. router_small n i some few))
+
+  same_domain : (let d : DomainConf = record { routers = confs; links = map link_of (map link_entry (grown_links n)) } in d) ≡ grown_domain n
+  unfolding grown_domain
+  same_domain = λ i. record { routers = confs_are i; links = pairs_same (grown_links n) i }
+
+  pub grown_valid : IsValid (grown_domain n)
+  unfolding confs
+  grown_valid =
+      subst IsValid same_domain
+      (confs_valid Two area (record { some = omega arith; few = omega arith; each = (omega arith, (omega arith, (omega arith, tt))) }) (grown_entries n (grown_links n)) (grown_entries_are n some few) all_small)
+
+  within : (k : ℕ) (cs : List RouterConf) → AllByRecursion (λ c. file.is_too_large c ≡ false) cs → file.within_limits k cs ≡ Ok tt
+  unfolding file.within_limits
+  within k [] all = refl
+  within k (c ∷ cs) all = rw all.0 (within (k + 1) cs all.1)
+
+  -- a domain file with its entries says it
+  pub said_by_file : file.domain_from Two area (grown_entries n (grown_links n)) ≡ Ok (grown_domain n)
+  unfolding file.domain_from confs
+  said_by_file = rw (within 0 confs all_small) (ap {B = Result DomainConf ConfFault} Ok same_domain)
 
 -- routers and links that were made are the domain
 pub domain_made : (n : ℕ) (routers : List RouterConf) (pairs : List LinkConf) (first second : List Link) → first ≡ grown_links n → second ≡ grown_links n → routers ≡ grown_routers first n → pairs ≡ map joined second

@@ -1,4 +1,4 @@
--- A grown domain as a domain file says it: its entries, and what holds of them.
+-- What holds of the entries of a grown domain.
 use Rattle.std.proofs.Common.{◌≡◌, ◌≢◌, ℕ, zero, suc, ◌+◌, ◌/◌, ◌%◌, ◌^◌, ◌<◌, ◌≤◌, Bool, true, false, ◌&&◌, ◌||◌, ◌⊎◌, inl, inr, cond, eqb, List, [], ◌∷◌, length, map, refl, sym, ap, subst, ◌∙◌, arith}
 use mathlib.Core.Bool.{true≢false}
 use Rattle.std.proofs.lemmas.Bool.{and_from, or_from, or_left, or_right, or_cases, and_parts, eqb-true, eqb-false, ne_eqb, le-leb, false_from_ne_true}
@@ -13,11 +13,6 @@ use Rattle.std.specs.Str.Parse.{AllDigits}
 use Rattle.wire_base.specs.declared.conf.OwnSub.{OwnSub}
 use Rattle.wire_base.specs.model.Configuration.{IsOctets, IsStation, is_name_octet}
 use Rattle.wire_base.specs.model.Lists.{AreApart}
-use Rattle.domain_conf.specs.declared.assemble.Entries.{Entries}
-use Rattle.domain_conf.specs.declared.bier.BierEntry.{BierEntry}
-use Rattle.domain_conf.specs.declared.labels.LabelsEntry.{LabelsEntry}
-use Rattle.domain_conf.specs.declared.links.LinkEntry.{LinkEntry}
-use Rattle.domain_conf.specs.declared.routers.RouterEntry.{RouterEntry}
 use Rattle.domain_conf.specs.LabelRanges.{same_labels, takes_label}
 use Rattle.domain_conf.specs.Links.{made_mac, same_routers, has_peer_mac}
 use Rattle.domain_conf.proofs.ValidAmong.{IsIn, all_in, all_map, apart_map}
@@ -25,34 +20,10 @@ use Rattle.domain_conf.proofs.ValidArrays.{AreSubdomains, AreRows, IsRouterEntry
 use Rattle.domain_conf.proofs.ValidDomain.{AreEntries}
 use Rattle.grown_domain.specs.declared.links.Link.{Link}
 use Rattle.grown_domain.specs.Links.{joins_same, grown_links}
-use Rattle.grown_domain.specs.Routers.{name, system, prefix, range, kind}
+use Rattle.grown_domain.specs.Routers.{system, prefix, kind}
+use Rattle.grown_domain.specs.Entries.{router_entry, bier_entry, labels_entry, link_entry, grown_entries}
 use Rattle.grown_domain.proofs.Ranged.{in_range, range_apart, bytes_differ}
 use Rattle.grown_domain.proofs.GrownLinks.{IsGrownLink, AreGrown, joins_straight, joins_crossed, grown_links_are}
-
--- ---- the entries
-
-abbrev pub router_entry : ℕ → RouterEntry
-router_entry i = record { name = name i; system = system i; prefix = prefix i; overload = false }
-
-abbrev pub bier_entry : ℕ → BierEntry
-bier_entry i = record { router = i; sd = 0; id = i + 1 }
-
-abbrev pub labels_entry : ℕ → LabelsEntry
-labels_entry i = record { router = i; sd = 0; range = range }
-
-abbrev pub link_entry : Link → LinkEntry
-link_entry l = record { a = l.a; b = l.b; metric_ab = l.metric; metric_ba = l.metric; mac_a = made_mac l.a l.b; mac_b = made_mac l.b l.a }
-
-abbrev pub grown_entries : ℕ → List Link → Entries
-grown_entries n links =
-    record {
-      kinds = kind ∷ [];
-      table = [];
-      routers = map router_entry (range_with_len 0 n);
-      biers = map bier_entry (range_with_len 0 n);
-      labels = map labels_entry (range_with_len 0 n);
-      links = map link_entry links;
-    }
 
 -- ---- routers
 

@@ -1,6 +1,11 @@
 //! A grown domain.
-ghost use Rattle.std.specs.Prelude.{◌≡◌, ◌≤◌, IfOk};
+ghost use Rattle.std.specs.Prelude.{◌≡◌, ◌≤◌, ℕ, Ok, IfOk};
+ghost use Rattle.wire_base.specs.declared.conf.Level.TheVariants.{Two};
+ghost use Rattle.domain_conf.specs.Assembled.{domain_from};
 ghost use Rattle.grown_domain.specs.Domain.{grown_domain, grown_routers};
+ghost use Rattle.grown_domain.specs.Entries.{grown_entries};
+ghost use Rattle.grown_domain.specs.Links.{grown_links};
+ghost use Rattle.grown_domain.specs.Routers.{area};
 
 use crate::links::{Link, grown_links, pairs};
 use crate::routers::router;
@@ -31,3 +36,9 @@ pub fn grown(alloc: Global, n: u16) -> M<Domain>
         links: pairs(alloc, links.as_slice())?,
     })
 }
+
+/// The domain is the one that a domain file with its entries says. The body is empty: the contract is the law.
+#[tactic(auto, using(crate::proofs::GrownDomain::said_by_file))]
+pub fn grown_as_in_a_file()
+    ensures { (n : ℕ) → 3 ≤ n → n ≤ 250 → domain_from Two area (grown_entries n (grown_links n)) ≡ Ok (grown_domain n) }
+{}

@@ -8,5 +8,5 @@ mod links;
 mod routers;
 mod schedule;
 
-pub use domain::grown;
+pub use domain::{grown, grown_as_in_a_file};
 pub use schedule::grown_lines;

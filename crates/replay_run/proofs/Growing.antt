@@ -20,7 +20,7 @@ use Rattle.grown_domain.specs.Schedule.{settling, sending, grown_lines}
 use Rattle.grown_domain.proofs.Ranged.{in_range}
 use Rattle.domain_conf.proofs.ValidAmong.{all_map}
 use Rattle.domain_model.specs.declared.fault.EventFault.{EventFault}
-use Rattle.domain_model.specs.World.{ids_in_flight}
+use Rattle.domain_model.specs.World.{first_world, ids_in_flight}
 use Rattle.domain_model.specs.Run.{Run, Progress, first_run, goes_unless, does, line_done, lines_done, schedule_done}
 use Rattle.domain_replay.specs.declared.counts.Counts.{Counts}
 use Rattle.domain_replay.specs.Counting.{counts_of}
@@ -135,6 +135,11 @@ range_once a zero = refl
 range_once a (suc n) = ap (λ (l : List ℕ). a ∷ l) (ap (filter (λ y. not (y == a))) (range_once (a + 1) n) ∙ kept_whole a (a + 1) n (omega arith))
 
 -- what holds of each line
+pub all_at : {X : Type 0} (P : X → Type 0) (xs : List X) (i : ℕ) (x : X) → AllByRecursion P xs → i < length xs → x ≡ get_or xs i x → P x
+all_at P [] i x all there is = absurd (omega arith)
+all_at P (y ∷ ys) zero x all there is = subst P (sym is) all.0
+all_at P (y ∷ ys) (suc i) x all there is = all_at P ys i x all.1 (omega arith) is
+
 each_line : (n : ℕ) (P : Line → Type 0) → P (settling n) → ((e : ℕ) → e < 16 → P (sending n e)) → AllByRecursion P (grown_lines n)
 unfolding grown_lines
 each_line n P settles sends = (settles, both (map (sending n) (range_with_len 0 16)) (all_map P (sending n) (range_with_len 0 16) (λ e there. let h = in_range 0 16 e there in sends e (omega (arith, h)))))
@@ -148,6 +153,13 @@ lines_fit n some few = each_line n (LineFits n) (omega (arith, few)) (λ e h. re
 
 pub lines_once : (n : ℕ) → AllByRecursion LineNamesOnce (grown_lines n)
 lines_once n = each_line n LineNamesOnce tt (λ e h. range_once 1 n)
+
+-- a replay that has just started
+pub start_is : (d : DomainConf) (now : Telling) → now ≡ first_telling d → (now ≡ first_telling now.world.domain) × (now.world.domain ≡ d)
+unfolding first_world
+start_is d now fresh =
+    let same : now.world.domain ≡ d = ap (λ (t : Telling). t.world.domain) fresh in
+    (fresh ∙ ap first_telling (sym same), same)
 
 pub lines_count : (n : ℕ) → length (grown_lines n) ≡ 18
 unfolding grown_lines

@@ -89,7 +89,8 @@ fn answer(alloc: Global, n: u16) -> M<(Status, Octets)>
     ensures { IfOk result (λ a. (a.0, a.1) ≡ spec.grow_answer n) }
 {
     let lines = grown_lines(alloc, n)?;
-    let mut replay = Replay::new(alloc, grown(alloc, n)?)?;
+    let domain = grown(alloc, n)?;
+    let mut replay = Replay::new(alloc, domain)?;
     if do_lines(alloc, &mut replay, lines.as_slice())? {
         Ok((Status::Done, summary(alloc, n, &mut replay)?))
     } else {
