@@ -1,29 +1,25 @@
 -- A grown domain is the one that a domain file with its entries says, so it is valid.
-use Rattle.std.proofs.Common.{◌≡◌, ℕ, zero, suc, ◌+◌, ◌<◌, ◌≤◌, Bool, true, false, ◌&&◌, ◌||◌, ◌⊎◌, inl, inr, cond, eqb, ltb, List, [], ◌∷◌, length, map, filter_map, slice_get, Option, Some, None, is_some, Result, Ok, refl, sym, ap, subst, ◌∙◌, arith}
+use Rattle.std.proofs.Common.{◌≡◌, ℕ, zero, suc, ◌+◌, ◌<◌, ◌≤◌, Bool, true, false, ◌&&◌, ◌⊎◌, inl, inr, cond, eqb, ltb, List, [], ◌∷◌, length, map, filter_map, Some, None, is_some, Result, Ok, refl, sym, ap, subst, ◌∙◌, arith}
 use mathlib.Core.Bool.{false≢true}
 use Rattle.std.proofs.lemmas.Bool.{or_from, eqb-true, le-ltb}
 use Rattle.std.specs.List.{AllByRecursion, range_with_len, cons_option}
-use Rattle.wire_base.specs.declared.limits.TheConstants.{MOST_SUB_OCTETS}
 use Rattle.wire_base.specs.declared.conf.End.{End}
 use Rattle.wire_base.specs.declared.conf.LinkConf.{LinkConf}
-use Rattle.wire_base.specs.declared.conf.OwnSub.{OwnSub}
 use Rattle.wire_base.specs.declared.conf.RouterConf.{RouterConf}
 use Rattle.wire_base.specs.declared.conf.Level.TheVariants.{Two}
-use Rattle.wire_base.specs.model.Configuration.{DomainConf, IsValid, IsArea, sub_octets}
+use Rattle.wire_base.specs.model.Configuration.{DomainConf, IsValid, sub_octets}
 use Rattle.domain_conf.specs.declared.fault.ConfFault.{ConfFault}
 use Rattle.domain_conf.specs.declared.bier.BierEntry.{BierEntry}
-use Rattle.domain_conf.specs.declared.labels.LabelsEntry.{LabelsEntry}
-use Rattle.domain_conf.specs.declared.routers.RouterEntry.{RouterEntry}
 use Rattle.domain_conf.specs.Links.{link_of}
 use Rattle.domain_conf.specs.Assembled as file
-use Rattle.domain_conf.proofs.ValidAmong.{all_in, all_map}
+use Rattle.domain_conf.proofs.ValidAmong.{all_map}
 use Rattle.domain_conf.proofs.ValidDomain.{confs_valid}
 use Rattle.grown_domain.specs.declared.links.Link.{Link}
 use Rattle.grown_domain.specs.Links.{joined, grown_links}
-use Rattle.grown_domain.specs.Routers.{system, area, own_sub, range, end_toward, end_of, router}
+use Rattle.grown_domain.specs.Routers.{system, area, own_sub, end_toward, end_of, router}
 use Rattle.grown_domain.specs.Domain.{grown_routers, grown_domain}
-use Rattle.grown_domain.proofs.Ranged.{in_range, made_at, kept_one, all_range}
-use Rattle.grown_domain.proofs.GrownLinks.{IsGrownLink, AreGrown, grown_links_are, few_ends}
+use Rattle.grown_domain.proofs.Ranged.{made_at, kept_one}
+use Rattle.grown_domain.proofs.GrownLinks.{IsGrownLink, grown_links_are, few_ends}
 use Rattle.grown_domain.specs.Entries.{router_entry, bier_entry, labels_entry, link_entry, grown_entries}
 use Rattle.grown_domain.proofs.GrownEntries.{grown_entries_are}
 

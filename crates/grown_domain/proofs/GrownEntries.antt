@@ -1,7 +1,7 @@
 -- What holds of the entries of a grown domain.
-use Rattle.std.proofs.Common.{◌≡◌, ◌≢◌, ℕ, zero, suc, ◌+◌, ◌/◌, ◌%◌, ◌^◌, ◌<◌, ◌≤◌, Bool, true, false, ◌&&◌, ◌||◌, ◌⊎◌, inl, inr, cond, eqb, List, [], ◌∷◌, length, map, refl, sym, ap, subst, ◌∙◌, arith}
+use Rattle.std.proofs.Common.{◌≡◌, ℕ, ◌+◌, ◌/◌, ◌%◌, ◌<◌, ◌≤◌, Bool, true, false, ◌&&◌, eqb, List, [], ◌∷◌, length, map, refl, sym, subst, ◌∙◌, arith}
 use mathlib.Core.Bool.{true≢false}
-use Rattle.std.proofs.lemmas.Bool.{and_from, or_from, or_left, or_right, or_cases, and_parts, eqb-true, eqb-false, ne_eqb, le-leb, false_from_ne_true}
+use Rattle.std.proofs.lemmas.Bool.{and_from, or_from, or_left, or_right, eqb-false, ne_eqb, le-leb}
 use Rattle.std.proofs.lemmas.Fmt.{decimal_is_IsNumeral, length-decimal-le, decimal_injective}
 use Rattle.std.proofs.lemmas.Slice.Eq.{bytes_eq-Decides}
 use Rattle.std.proofs.lemmas.Str.Parse.{digit_from_value}
@@ -10,13 +10,12 @@ use Rattle.std.specs.Fmt.{decimal}
 use Rattle.std.specs.List.{AllByRecursion, list_all, range_with_len}
 use Rattle.std.specs.Str.{bytes_eq}
 use Rattle.std.specs.Str.Parse.{AllDigits}
-use Rattle.wire_base.specs.declared.conf.OwnSub.{OwnSub}
-use Rattle.wire_base.specs.model.Configuration.{IsOctets, IsStation, is_name_octet}
+use Rattle.wire_base.specs.model.Configuration.{IsStation, is_name_octet}
 use Rattle.wire_base.specs.model.Lists.{AreApart}
 use Rattle.domain_conf.specs.LabelRanges.{same_labels, takes_label}
 use Rattle.domain_conf.specs.Links.{made_mac, same_routers, has_peer_mac}
-use Rattle.domain_conf.proofs.ValidAmong.{IsIn, all_in, all_map, apart_map}
-use Rattle.domain_conf.proofs.ValidArrays.{AreSubdomains, AreRows, IsRouterEntry, AreRouters, IsBierEntry, AreBiers, IsLabelsEntry, AreLabels, IsLinkEntry, AreLinks, of_name, of_system, of_prefix, of_sub, share_peer_mac}
+use Rattle.domain_conf.proofs.ValidAmong.{all_in, all_map, apart_map}
+use Rattle.domain_conf.proofs.ValidArrays.{IsRouterEntry, AreRouters, IsBierEntry, AreBiers, IsLabelsEntry, AreLabels, IsLinkEntry, AreLinks, of_name, of_system, of_prefix, of_sub, share_peer_mac}
 use Rattle.domain_conf.proofs.ValidDomain.{AreEntries}
 use Rattle.grown_domain.specs.declared.links.Link.{Link}
 use Rattle.grown_domain.specs.Links.{joins_same, grown_links}

@@ -1,16 +1,15 @@
 -- The links of a grown domain: each joins two routers of it, no two join the same two, and few end at one router.
-use Rattle.std.proofs.Common.{◌≡◌, ℕ, zero, suc, ◌+◌, ◌-◌, ◌/◌, ◌%◌, ◌<◌, ◌≤◌, Bool, true, false, ◌&&◌, ◌||◌, ◌⊎◌, inl, inr, cond, eqb, List, [], ◌∷◌, ◌++◌, length, map, filter, filter_map, fold, Option, Some, None, is_some, refl, sym, ap, subst, ◌∙◌, arith, length-append, append-nil}
-use mathlib.Core.Bool.{true≢false, false≢true}
-use Rattle.std.proofs.lemmas.Bool.{and_parts, and_from, and_left, or_cases, or_from, or_left, or_right, eqb-true, eq-eqb, ne_eqb, eqb-false, false_from_ne_true, cases_lt}
+use Rattle.std.proofs.Common.{◌≡◌, ℕ, ◌+◌, ◌-◌, ◌/◌, ◌%◌, ◌<◌, ◌≤◌, Bool, true, false, ◌&&◌, ◌||◌, ◌⊎◌, inl, inr, cond, eqb, List, [], ◌∷◌, ◌++◌, length, map, filter, filter_map, fold, Option, Some, None, is_some, refl, ap, subst, ◌∙◌, arith, length-append, append-nil}
+use Rattle.std.proofs.lemmas.Bool.{and_parts, and_from, or_cases, or_left, or_right, eqb-true, eq-eqb, ne_eqb, eqb-false, false_from_ne_true, cases_lt}
 use Rattle.std.proofs.Math.Nat.{mod-eq_of_lt, add-mod_right}
 use Rattle.std.proofs.lemmas.List.{map-append}
 use Rattle.std.proofs.lemmas.List.Sums.{fold-append}
 use Rattle.std.proofs.lemmas.List.Elements.{filter_map-append, filter-append}
 use Rattle.std.proofs.lemmas.List.FromFn.{length-range_with_len}
-use Rattle.std.specs.List.{AllByRecursion, list_any, range_with_len, cons_option}
+use Rattle.std.specs.List.{AllByRecursion, list_any, range_with_len}
 use Rattle.wire_base.specs.declared.conf.End.{End}
 use Rattle.wire_base.specs.model.Lists.{AreApart}
-use Rattle.domain_conf.proofs.ValidAmong.{IsIn, all_in, all_from, in_filter, all_filter, apart_filter, all_map, apart_map, in_map, as_many}
+use Rattle.domain_conf.proofs.ValidAmong.{IsIn, in_filter, apart_filter, all_map, apart_map, in_map, as_many}
 use Rattle.domain_conf.proofs.ValidArrays.{eqb_turned}
 use Rattle.domain_conf.proofs.ValidLists.{all_snoc, apart_snoc}
 use Rattle.grown_domain.specs.declared.links.Link.{Link}

@@ -1,5 +1,5 @@
 -- The links of a domain that grows with a number: a ring, and chords from every fifth router.
-use Rattle.std.specs.Prelude.{ℕ, ◌+◌, ◌/◌, ◌%◌, Bool, ◌==◌, List, [], ◌∷◌, ◌++◌, map, filter, Option, Some, None, if◌then◌else◌}
+use Rattle.std.specs.Prelude.{ℕ, ◌+◌, ◌/◌, ◌%◌, Bool, ◌==◌, List, [], ◌∷◌, ◌++◌, map, filter, if◌then◌else◌}
 use Rattle.std.specs.List.{fold, list_any, range_with_len}
 use Rattle.wire_base.specs.declared.conf.LinkConf.{LinkConf}
 use Rattle.wire_base.specs.model.Configuration.{same_pair}
