@@ -3,10 +3,11 @@ use Rattle.std.proofs.Common.{◌≡◌, ◌≢◌, ℕ, zero, suc, ◌+◌, ◌
 use Rattle.std.specs.Fmt.{decimal}
 use Rattle.std.specs.List.{AllByRecursion, fold, range_with_len}
 use Rattle.std.proofs.lemmas.Bool.{ne_eqb}
+use Rattle.std.proofs.lemmas.Fmt.{decimal_digit, decimal_step}
 use Rattle.std.proofs.lemmas.List.{drop_all, drop_more}
 use Rattle.std.proofs.lemmas.List.FromFn.{length-map-range_with_len}
 use Rattle.wire_base.specs.declared.status.Status.{Status}
-use Rattle.wire_base.specs.declared.status.Status.TheVariants.{Done, InputRefused}
+use Rattle.wire_base.specs.declared.status.Status.TheVariants.{Done, InputRefused, ReadFault, WriteFault, Memory}
 use Rattle.wire_base.specs.model.Configuration.{DomainConf}
 use Rattle.wire_base.specs.model.Hop.{distinct}
 use Rattle.wire_base.specs.model.Item.{Item}
@@ -21,12 +22,13 @@ use Rattle.grown_domain.proofs.Ranged.{in_range}
 use Rattle.domain_conf.proofs.ValidAmong.{all_map}
 use Rattle.domain_model.specs.declared.fault.EventFault.{EventFault}
 use Rattle.domain_model.specs.World.{first_world, ids_in_flight}
-use Rattle.domain_model.specs.Run.{Run, Progress, first_run, goes_unless, does, line_done, lines_done, schedule_done}
+use Rattle.domain_model.specs.Run.{Run, Progress, first_run, goes_unless, does, line_events, line_done, lines_done, schedule_done}
 use Rattle.domain_replay.specs.declared.counts.Counts.{Counts}
 use Rattle.domain_replay.specs.Counting.{counts_of}
 use Rattle.domain_replay.specs.Lines.{line_of, done_text, event_refused_text}
 use Rattle.domain_replay.specs.Telling.{Telling, first_telling, told, tells_line, LineEnters, LineNamesOnce}
 use Rattle.domain_replay.proofs.TellingLaws.{start_told}
+use Rattle.tool_run.specs.Answer.{IsDecided}
 use Rattle.replay_run.specs.Scheduling.{Course, IsAt}
 use Rattle.replay_run.specs.Grow.{summary, ends_by, grown_run, grow_answer, GoesThrough, going, Goes, HasNumbers, EndsAs}
 use Rattle.replay_run.proofs.ScheduleSteps.{refused_as, at_run}
@@ -101,7 +103,7 @@ do_nothing line p refused is (e ∷ es) = ap (λ (q : Progress). fold (does line
 lines_stay : (k : ℕ) (p : Progress) (refused : ℕ × EventFault) → p.refused ≡ Some refused → (lines : List Line) → lines_done k p lines ≡ p
 unfolding lines_done line_done
 lines_stay k p refused is [] = refl
-lines_stay k p refused is (l ∷ lines) = ap (λ (q : Progress). lines_done (k + 1) q lines) (do_nothing k p refused is _) ∙ lines_stay (k + 1) p refused is lines
+lines_stay k p refused is (l ∷ lines) = ap (λ (q : Progress). lines_done (k + 1) q lines) (do_nothing k p refused is (line_events p.run.world l)) ∙ lines_stay (k + 1) p refused is lines
 
 pub underway_refused : (d : DomainConf) (lines : List Line) (k : ℕ) (said : Line) (old now : Telling) (u : Underway d lines k old) → k < length lines → said ≡ get_or lines k said
     → Goes (line_done (k + 1) (going u.course.run) said) u.course now false → EndsAs (schedule_done d lines) now false
@@ -161,17 +163,48 @@ start_is d now fresh =
     let same : now.world.domain ≡ d = ap (λ (t : Telling). t.world.domain) fresh in
     (fresh ∙ ap first_telling (sym same), same)
 
+-- what is asked of the schedule in the domain
+pub lines_asked : (n : ℕ) (now : Telling) (lines : List Line) → 3 ≤ n → n ≤ 250 → now ≡ first_telling (grown_domain n) → lines ≡ grown_lines n → AllByRecursion (LineFits (length now.world.domain.routers)) lines
+lines_asked n now lines some few fresh is =
+    let count : length now.world.domain.routers ≡ n = ap (λ (d : DomainConf). length d.routers) (start_is (grown_domain n) now fresh).1 ∙ routers_count n in
+    subst (λ (ls : List Line). AllByRecursion (LineFits (length now.world.domain.routers)) ls) (sym is)
+    (subst (λ (k : ℕ). AllByRecursion (LineFits k) (grown_lines n)) (sym count) (lines_fit n some few))
+
+-- how the run ended is how that of the domain over the schedule does
+pub ends_grown : (n : ℕ) (now later : Telling) (lines : List Line) (done known : Bool) → now ≡ first_telling (grown_domain n) → lines ≡ grown_lines n → done ≡ known
+    → EndsAs (schedule_done now.world.domain lines) later done → EndsAs (grown_run n) later known
+ends_grown n now later lines done known fresh is same ends =
+    subst (λ (d : DomainConf). EndsAs (schedule_done d (grown_lines n)) later known) (start_is (grown_domain n) now fresh).1
+    (subst (λ (ls : List Line). EndsAs (schedule_done now.world.domain ls) later known) is (subst (λ (b : Bool). EndsAs (schedule_done now.world.domain lines) later b) same ends))
+
 pub lines_count : (n : ℕ) → length (grown_lines n) ≡ 18
 unfolding grown_lines
 lines_count n = refl
 
 -- ---- the report
 
--- the numbers, and what stands before them in the last line of a report on eighteen lines
-pub numbers_behind : (counts : Counts) (flight : ℕ) → (rest : List ℕ) × (done_text 18 counts flight ≡ codes "done lines 18" ++ rest) × ((n : ℕ) → (codes "grow " ++ decimal n) ++ rest ≡ summary n counts flight)
-numbers_behind counts flight =
-    let rest : List ℕ = 32 ∷ line_of (codes "injected" ∷ decimal counts.injected ∷ codes "named" ∷ decimal counts.named ∷ codes "got" ∷ decimal counts.got ∷ codes "dropped" ∷ decimal counts.dropped ∷ codes "flight" ∷ decimal flight ∷ []) in
-    (rest, refl, λ n. append_assoc (codes "grow ") (decimal n) rest)
+-- the last line of a report on eighteen lines, where nothing stands before it
+pub report_is : (old cleared now : Telling) (report : List ℕ) → cleared ≡ record old { report = [] } → now ≡ record cleared { report = cleared.report ++ done_text 18 cleared.counts (ids_in_flight cleared.world.flights) }
+    → report ≡ now.report → report ≡ done_text 18 old.counts (ids_in_flight old.world.flights)
+report_is old cleared now report clear done same =
+    same ∙ ap (λ (t : Telling). t.report) done ∙ ap (λ (t : Telling). t.report ++ done_text 18 t.counts (ids_in_flight t.world.flights)) clear
+
+-- its numbers
+abbrev numbers : Counts → (flight : ℕ) → List ℕ
+numbers counts flight =
+    32 ∷ line_of (codes "injected" ∷ decimal counts.injected ∷ codes "named" ∷ decimal counts.named ∷ codes "got" ∷ decimal counts.got
+    ∷ codes "dropped" ∷ decimal counts.dropped ∷ codes "flight" ∷ decimal flight ∷ [])
+
+eighteen : decimal 18 ≡ codes "18"
+eighteen = decimal_step 18 (omega arith) (omega arith) ∙ ap (λ (l : List ℕ). l ++ 56 ∷ []) (decimal_digit 1 (omega arith))
+
+front_is : (counts : Counts) (flight : ℕ) → done_text 18 counts flight ≡ codes "done lines 18" ++ numbers counts flight
+front_is counts flight = ap (λ (l : List ℕ). codes "done lines " ++ (l ++ numbers counts flight)) eighteen
+
+-- the numbers behind other words
+pub summary_is : (n : ℕ) (counts : Counts) (flight : ℕ) (report text : List ℕ) → report ≡ done_text 18 counts flight → text ≡ (codes "grow " ++ decimal n) ++ drop 13 report → text ≡ summary n counts flight
+summary_is n counts flight report text is made =
+    made ∙ ap (λ (l : List ℕ). (codes "grow " ++ decimal n) ++ drop 13 l) (is ∙ front_is counts flight) ∙ append_assoc (codes "grow ") (decimal n) (numbers counts flight)
 
 pub done_answer : (n : ℕ) (now : Telling) → EndsAs (grown_run n) now true → (Done, summary n now.counts (ids_in_flight now.world.flights)) ≡ grow_answer n
 unfolding grow_answer
@@ -196,3 +229,62 @@ answer_status n = by (grown_run n).refused
 pub goes_done : (n : ℕ) → GoesThrough n → (grow_answer n).0 ≡ Done
 unfolding grow_answer GoesThrough
 goes_done n none = ap (λ (o : Option (ℕ × EventFault)). (ends_by n (grown_run n).run o).0) none
+
+-- ---- how the command ends
+
+pub ended_known : (n : ℕ) (status : Status) → status ≡ (grow_answer n).0 → IsDecided status
+ended_known n status is = elim (answer_status n) [
+  | inl done ↦ subst IsDecided (sym (is ∙ done)) tt
+  | inr refused ↦ subst IsDecided (sym (is ∙ refused)) tt
+]
+
+-- with its status, or at a fault of the sink
+pub ended_so : (n : ℕ) (status result : Status) → status ≡ (grow_answer n).0 → (result ≡ status) ⊎ (result ≡ WriteFault) → ((result ≡ Done) ⊎ (result ≡ InputRefused)) ⊎ (result ≡ WriteFault)
+ended_so n status result is (inr failed) = inr failed
+ended_so n status result is (inl same) = elim (answer_status n) [
+  | inl done ↦ inl (inl (same ∙ is ∙ done))
+  | inr refused ↦ inl (inr (same ∙ is ∙ refused))
+]
+
+module _ (result : Status) (ended : ((result ≡ Done) ⊎ (result ≡ InputRefused)) ⊎ (result ≡ WriteFault)) where
+  pub by_status : IsDecided result → (result ≡ Done) ⊎ (result ≡ InputRefused)
+  by_status decided = by ended
+    where
+      by : ((result ≡ Done) ⊎ (result ≡ InputRefused)) ⊎ (result ≡ WriteFault) → (result ≡ Done) ⊎ (result ≡ InputRefused)
+      by (inl status) = status
+      by (inr failed) = absurd (subst IsDecided failed decided)
+
+  pub unless_failed : result ≢ WriteFault → IsDecided result
+  unless_failed no_fault = by ended
+    where
+      by : ((result ≡ Done) ⊎ (result ≡ InputRefused)) ⊎ (result ≡ WriteFault) → IsDecided result
+      by (inl (inl done)) = subst IsDecided (sym done) tt
+      by (inl (inr refused)) = subst IsDecided (sym refused) tt
+      by (inr failed) = absurd (no_fault failed)
+
+  pub reads_nothing : result ≢ ReadFault
+  reads_nothing read = by ended
+    where
+      by : ((result ≡ Done) ⊎ (result ≡ InputRefused)) ⊎ (result ≡ WriteFault) → ⊥
+      by (inl (inl done)) = let e : Done ≡ ReadFault = sym done ∙ read in cc
+      by (inl (inr refused)) = let e : InputRefused ≡ ReadFault = sym refused ∙ read in cc
+      by (inr failed) = let e : WriteFault ≡ ReadFault = sym failed ∙ read in cc
+
+  -- there was memory, so it was the sink
+  pub failed_by_sink : (result ≡ WriteFault) ⊎ (result ≡ Memory) → result ≡ WriteFault
+  failed_by_sink (inl failed) = failed
+  failed_by_sink (inr memory) = by ended
+    where
+      by : ((result ≡ Done) ⊎ (result ≡ InputRefused)) ⊎ (result ≡ WriteFault) → result ≡ WriteFault
+      by (inl (inl done)) = let e : Done ≡ Memory = sym done ∙ memory in absurd cc
+      by (inl (inr refused)) = let e : InputRefused ≡ Memory = sym refused ∙ memory in absurd cc
+      by (inr failed) = failed
+
+-- where no line is refused and no count rose, all is done
+pub completes : (n : ℕ) (status result : Status) (faults faults_now zeros zeros_now : ℕ) → status ≡ (grow_answer n).0 → (result ≡ status) ⊎ (result ≡ WriteFault)
+    → (result ≡ WriteFault → (faults < faults_now) ⊎ (zeros < zeros_now)) → GoesThrough n → faults_now ≡ faults → zeros_now ≡ zeros → (result ≡ Done) ⊎ (result ≡ Memory)
+completes n status result faults faults_now zeros zeros_now is (inl same) cause goes quiet takes = inl (same ∙ is ∙ goes_done n goes)
+completes n status result faults faults_now zeros zeros_now is (inr failed) cause goes quiet takes = elim (cause failed) [
+  | inl rose ↦ absurd (omega (arith, rose, quiet))
+  | inr rose ↦ absurd (omega (arith, rose, takes))
+]
