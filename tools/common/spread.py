@@ -187,12 +187,13 @@ def parsed(stream):
 
 
 def name_broken(log, said, has_others):
-    """Names the machines on which jobs failed; those on which none succeeded are left out from now on."""
+    """Names the machines on which jobs failed or of which nothing came; those on which none succeeded are left out from now on."""
     failed, well = {}, set()
     for line in read_text(log).splitlines()[1:]:
+        # A job's number, machine, start, time, octets that went there and that came back, exit status and signal.
         cells = line.split("\t")
-        if len(cells) > 6:
-            if cells[6] == "0" and cells[7] == "0":
+        if len(cells) > 7:
+            if cells[5] != "0" and cells[6:8] == ["0", "0"]:
                 well.add(cells[1])
             else:
                 failed[cells[1]] = failed.get(cells[1], 0) + 1

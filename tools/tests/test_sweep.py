@@ -188,7 +188,7 @@ class Sweep(unittest.TestCase):
         hosts = write("hosts", "# machines\n:\nalive\ndead\nbare\nmute\n")
         done = swept("machines", "--hosts", hosts, env={"PARALLEL_SSH": script("ssh.sh", SSH)})
         self.assertEqual(done.returncode, 0, done.stderr)
-        for host in ("dead", "bare"):
+        for host in ("dead", "bare", "mute"):
             self.assertIn(f"machine {host}", done.stderr)
         self.assertEqual(sorted(result["run"] for result in lines_of("machines")), list(range(RUNS)))
         self.assertEqual(table_of("machines"), self.table)
