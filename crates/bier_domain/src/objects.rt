@@ -5,6 +5,7 @@ ghost use Rattle.wire_base.specs.declared.status.Status.TheVariants as status;
 ghost use Rattle.replay_run.specs.declared.words.Form.TheVariants as form;
 ghost use Rattle.replay_run.specs.Words.{form_in};
 ghost use Rattle.bier_domain.specs.Fresh.{AreFresh};
+ghost use Rattle.bier_domain.specs.Named.{IsNode, IsOneInput, IsGrow};
 
 use crate::files::{FileSink, FileSource, StdoutSink};
 use replay_run::run;
@@ -24,8 +25,10 @@ struct Paths<'a> {
 /// The paths that words of that count name.
 fn paths_in<'a>(words: &[&'a str]) -> Paths<'a>
     ensures replay { length words.now ≡ 4 → result.conf ∷ result.input ∷ result.frames ∷ [] ≡ drop 1 words.now }
-    ensures one_input { length words.now ≡ 2 → result.input ∷ [] ≡ drop 1 words.now }
-    ensures unnamed { length words.now ≢ 4 → (result.conf.now ≡ []) × (result.frames.now ≡ []) }
+    ensures node { IsNode words.now (λ conf capture frames. result.conf ∷ result.input ∷ result.frames ∷ [] ≡ conf ∷ capture ∷ frames ∷ []) }
+    ensures one_input { IsOneInput words.now (λ input. result.input ≡ input) }
+    ensures unnamed { length words.now ≢ 4 → length words.now ≢ 5 → (result.conf.now ≡ []) × (result.frames.now ≡ []) }
+    ensures grow { IsGrow words.now (result.input.now ≡ []) }
 {
     match words {
         [_, conf, schedule, frames] => Paths {
@@ -33,7 +36,12 @@ fn paths_in<'a>(words: &[&'a str]) -> Paths<'a>
             input: *schedule,
             frames: *frames,
         },
-        [_, input] => Paths {
+        [_, conf, _, capture, frames] => Paths {
+            conf: *conf,
+            input: *capture,
+            frames: *frames,
+        },
+        [command, input] if *command != "grow" => Paths {
             conf: "",
             input: *input,
             frames: "",
@@ -55,12 +63,14 @@ pub struct Objects<'a, R: Files> {
 }
 
 impl<'a, R: Files> Objects<'a, R> {
-    /// The files that words name, each at its own word: CONF, SCHEDULE and FRAMES, or INPUT. One that they don't name has an
-    /// empty path, and is never opened.
+    /// The files that words name, each at its own word: CONF, SCHEDULE and FRAMES, or CONF, CAPTURE and FRAMES behind the name of a
+    /// router, or INPUT. One that they don't name, as all for `grow`, has an empty path, and is never opened.
     pub fn named(rt: &'a R, words: &[&'a str]) -> Self
         ensures replay { length words.now ≡ 4 → result.conf.path ∷ result.input.path ∷ result.frames.path ∷ [] ≡ drop 1 words.now }
-        ensures one_input { length words.now ≡ 2 → result.input.path ∷ [] ≡ drop 1 words.now }
-        ensures unnamed { length words.now ≢ 4 → (result.conf.path.now ≡ []) × (result.frames.path.now ≡ []) }
+        ensures node { IsNode words.now (λ conf capture frames. result.conf.path ∷ result.input.path ∷ result.frames.path ∷ [] ≡ conf ∷ capture ∷ frames ∷ []) }
+        ensures one_input { IsOneInput words.now (λ input. result.input.path ≡ input) }
+        ensures unnamed { length words.now ≢ 4 → length words.now ≢ 5 → (result.conf.path.now ≡ []) × (result.frames.path.now ≡ []) }
+        ensures grow { IsGrow words.now (result.input.path.now ≡ []) }
         ensures fresh { AreFresh result }
     {
         let paths = paths_in(words);
@@ -83,8 +93,8 @@ impl<'a, R: Files> Objects<'a, R> {
         requires report_faults { report.old.tally.faults ≡ 0 }
         requires report_zeros { report.old.tally.zeros ≡ 0 }
         ensures usage { form_in words.now ≡ form.Unknown → (result ≡ status.Usage) ⊎ (result ≡ status.WriteFault) }
-        ensures conf { form_in words.now ≢ form.Replay → self.new.conf ≡ self.old.conf }
-        ensures frames { form_in words.now ≢ form.Replay → self.new.frames ≡ self.old.frames }
+        ensures conf { form_in words.now ≢ form.Replay → form_in words.now ≢ form.Node → self.new.conf ≡ self.old.conf }
+        ensures frames { form_in words.now ≢ form.Replay → form_in words.now ≢ form.Node → self.new.frames ≡ self.old.frames }
         ensures unread { form_in words.now ≡ form.Unknown → self.new.input ≡ self.old.input }
     {
         let Objects {
