@@ -9,3 +9,4 @@ pub mod HopLoop
 pub mod WayLaws
 pub mod HopWays
 pub mod Captures
+pub mod NodeDone
