@@ -4,7 +4,7 @@ import unittest
 
 from support import program, replayed, scratch, tool, write
 
-NAMES = ["picture", "player", "sweep", "storm", "fail-each", "check", "check-capture"]
+NAMES = ["picture", "player", "sweep", "heard", "storm", "fail-each", "check", "check-capture"]
 
 
 class Words(unittest.TestCase):
@@ -37,6 +37,8 @@ class Words(unittest.TestCase):
             self.refused("No such file", "player", *files, "-o", scratch("page.html"))
         self.refused("No such file", "sweep", gone, "--out", scratch("none"))
         self.refused("No such file", "check-capture", gone)
+        self.refused("No such file", "heard", gone, "A", it.frames, scratch("out.pcap"))
+        self.refused("No such file", "heard", it.domain, "A", gone, scratch("out.pcap"))
 
     def test_broken_files(self):
         it, broken = replayed("replay-ring"), write("broken", b"\xff\xfe[[\x00broken")
@@ -67,6 +69,8 @@ class Words(unittest.TestCase):
         it = replayed("replay-ring")
         self.refused("name an .svg", "picture", it.domain, "-o", scratch("picture.txt"))
         self.refused("no router of that name", "sweep", it.domain, "--from", "Z", "--out", scratch("none"))
+        self.refused("no router of that name", "heard", it.domain, "Z", it.frames, scratch("out.pcap"))
+        self.refused("there are", "heard", it.domain, "A", it.frames, scratch("out.pcap"), "--damage", "100000")
         self.refused("no such subdomain", "sweep", it.domain, "--sd", "9", "--out", scratch("none"))
         self.refused("Not a directory", "sweep", it.domain, "--out", os.path.join(it.domain, "out"), "--program", program())
         self.refused("No such file", "sweep", it.domain, "--program", scratch("gone"), "--out", scratch("none"))

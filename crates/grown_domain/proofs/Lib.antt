@@ -1,0 +1,4 @@
+pub mod Ranged
+pub mod GrownLinks
+pub mod GrownEntries
+pub mod GrownDomain

@@ -1,0 +1,71 @@
+-- The routers of a domain that grows with a number.
+use Rattle.std.specs.Prelude.{ℕ, ◌+◌, ◌==◌, false, List, [], ◌∷◌, filter_map, Option, Some, None, if◌then◌else◌}
+use Rattle.std.specs.Fmt.{decimal}
+use Rattle.byteorder.specs.Endian.{big_bytes}
+use Rattle.wire_base.specs.declared.addresses.SystemId.{SystemId}
+use Rattle.wire_base.specs.declared.addresses.Ipv4.{Ipv4}
+use Rattle.wire_base.specs.declared.bsl.Bsl.TheVariants.{B256}
+use Rattle.wire_base.specs.declared.conf.End.{End}
+use Rattle.wire_base.specs.declared.conf.Kind.TheVariants.{Mpls}
+use Rattle.wire_base.specs.declared.conf.LabelRange.{LabelRange}
+use Rattle.wire_base.specs.declared.conf.Level.TheVariants.{Two}
+use Rattle.wire_base.specs.declared.conf.OwnSub.{OwnSub}
+use Rattle.wire_base.specs.declared.conf.RouterConf.{RouterConf}
+use Rattle.wire_base.specs.declared.conf.SubKind.{SubKind}
+use Rattle.domain_conf.specs.Forms.{system_of, prefix_of}
+use Rattle.domain_conf.specs.Links.{made_mac}
+use Rattle.grown_domain.specs.declared.links.Link.{Link}
+
+-- r0, r1 and on
+abbrev pub name : ℕ → List ℕ
+name i = 114 ∷ decimal i
+
+-- i + 1 in six octets
+abbrev pub system : ℕ → SystemId
+system i = system_of (big_bytes 6 (i + 1))
+
+-- 10.0.0.1, 10.0.0.2 and on
+abbrev pub prefix : ℕ → Ipv4
+prefix i = prefix_of (10 ∷ 0 ∷ 0 ∷ (i + 1) ∷ [])
+
+-- the area of a domain file that names none, 49.0001
+abbrev pub area : List ℕ
+area = 73 ∷ 0 ∷ 1 ∷ []
+
+-- labels from 16,000 on for packets of 256 bits, of the first set alone
+abbrev pub range : LabelRange
+range = record { bsl = B256; max_si = 0; label = 16000 }
+
+-- subdomain 0, with the BFR-id i + 1
+abbrev pub own_sub : ℕ → OwnSub
+own_sub i = record { sd = 0; id = i + 1; ranges = range ∷ [] }
+
+abbrev pub kind : SubKind
+kind = record { sd = 0; kind = Mpls }
+
+-- The end of a link at one router toward another, with the Ethernet addresses of a domain file that names none.
+abbrev pub end_toward : (own peer metric : ℕ) → End
+end_toward own peer metric = record { peer = system peer; peer_mac = made_mac peer own; own_mac = made_mac own peer; metric = metric }
+
+-- a router's end of a link, where it has one
+abbrev pub end_of : ℕ → Link → Option End
+end_of i l =
+    if l.a == i then Some (end_toward l.a l.b l.metric) else
+    if l.b == i then Some (end_toward l.b l.a l.metric) else
+    None
+
+-- router i of a domain with those links
+abbrev pub router : List Link → ℕ → RouterConf
+router links i =
+    record {
+      level = Two;
+      area = area;
+      name = name i;
+      system = system i;
+      prefix = prefix i;
+      overload = false;
+      subs = own_sub i ∷ [];
+      kinds = kind ∷ [];
+      table = [];
+      ends = filter_map (end_of i) links;
+    }
