@@ -15,7 +15,8 @@ use Rattle.pcap_frames.proofs.Drained.{drained_next, drained_fed, fed_twice, nex
 use Rattle.tool_run.specs.declared.headers_command.Progress.{Progress}
 use Rattle.tool_run.specs.Sight.{Sight, Passed, Seen, Bad, sight_of, sight_text, sight_count}
 use Rattle.tool_run.specs.HopText.{behind}
-use Rattle.tool_run.specs.HeadersText.{record_lines, header_count, refused_by, at_end, too_long, headers_end, report_of, headers_answer, within_limit, is_within, IsRead}
+use Rattle.tool_run.specs.Captured.{refused_by, too_long}
+use Rattle.tool_run.specs.HeadersText.{record_lines, header_count, at_end, headers_end, report_of, headers_answer, within_limit, is_within, IsRead}
 use Rattle.tool_run.specs.Headers.{Took, Owes, IsOpen, lines_of}
 use Rattle.tool_run.specs.Outside.{Held, AppendsFront}
 use Rattle.tool_run.specs.HopReached.{Begins}
@@ -421,12 +422,7 @@ pub owes_begun : (left before now : Option (List ℕ)) (status : Status) (lines 
 owes_begun left before now status lines owes =
     (owes.0, owes.1, (owes.2.0, owes.2.1, ([], ap (λ (a : Status × List ℕ). a.1) (sym owes.2.2) ∙ sym (append-nil (owes.2.0 ++ lines)))))
 
--- ---- texts and pieces
-
-pub four_appended : {E : Type 0} (result : Result (Unit {0}) E) (start first second third last a b d e : List ℕ) → first ≡ start ++ a → second ≡ first ++ b → third ≡ second ++ d → OnOk result (last ≡ third ++ e) → OnOk result (last ≡ start ++ (((a ++ b) ++ d) ++ e))
-four_appended (Ok u) start first second third last a b d e first-is second-is third-is is =
-    is ∙ ap (λ (l : List ℕ). l ++ e) (third-is ∙ ap (λ (l : List ℕ). l ++ d) (second-is ∙ ap (λ (l : List ℕ). l ++ b) first-is)) ∙ simp append_assoc
-four_appended (Err f) start first second third last a b d e first-is second-is third-is is = tt
+-- ---- pieces
 
 pub piece_is : (k count m : ℕ) (into items given : List ℕ) → given ≡ take m (into ++ drop (length into) items) → m ≡ length into → k ≤ count → take k given ≡ take k (take count into)
 piece_is k count m into items given given-is whole less =

@@ -8,7 +8,7 @@ use Rattle.std.proofs.lemmas.List.{length-append, take_all, take-append-le, take
 use Rattle.wire_base.specs.declared.limits.TheConstants.{LINE_LIMIT, TEXT_LIMIT}
 use Rattle.wire_base.specs.declared.status.Status.{Status}
 use Rattle.wire_base.specs.declared.status.Status.TheVariants.{Done, InputRefused, ReadFault}
-use Rattle.replay_text.specs.declared.hop_command.HopState.{HopState}
+use Rattle.replay_text.specs.declared.hop.HopState.{HopState}
 use Rattle.replay_text.specs.Pieces.{lines_in}
 use Rattle.tool_run.specs.declared.reader.Found.{Found}
 use Rattle.tool_run.specs.declared.reader.Found.TheVariants as found

@@ -14,7 +14,7 @@ use Rattle.wire_base.specs.model.BitSet.{IsWithin}
 use Rattle.wire_base.specs.declared.view.First.{First}
 use Rattle.wire_base.specs.model.Hop as model
 use Rattle.wire_base.specs.model.Hop.{hop, has, distinct, is_this, local, unless_empty}
-use Rattle.replay_text.specs.declared.hop_command.HopRow.{HopRow}
+use Rattle.replay_text.specs.declared.hop.HopRow.{HopRow}
 use Rattle.replay_text.specs.Ids.{in_range}
 use Rattle.replay_text.proofs.EachOnce as once
 use Rattle.tool_run.specs.Forward.{Outcome, Local, Copy, Dropped, name_of, delivered, others, copies, copy_of, dropped, dropped_of, ways, outcomes, outcome_text, outcomes_text}

@@ -6,7 +6,7 @@ use Rattle.std.proofs.lemmas.List.{take_all}
 use Rattle.wire_base.specs.declared.limits.TheConstants.{TEXT_LIMIT}
 use Rattle.wire_base.specs.declared.status.Status.TheVariants.{Done, InputRefused}
 use Rattle.replay_text.specs.declared.fault.TextFault.{TextFault}
-use Rattle.replay_text.specs.declared.hop_command.HopState.{HopState}
+use Rattle.replay_text.specs.declared.hop.HopState.{HopState}
 use Rattle.replay_text.specs.Pieces.{lines_in}
 use Rattle.replay_text.proofs.Spelled.{line_back}
 use Rattle.tool_run.specs.Texts.{Ended, Longer, close_of, is_short, within_limit, lines_within}

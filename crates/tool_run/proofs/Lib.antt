@@ -9,3 +9,8 @@ pub mod HopLoop
 pub mod WayLaws
 pub mod HopWays
 pub mod Captures
+pub mod NodeDone
+pub mod RecordLaws
+pub mod NodeIds
+pub mod NodeLaws
+pub mod NodeLoop

@@ -5,9 +5,9 @@ use Rattle.std.proofs.lemmas.List.Elements.{All-append, All-cons}
 use Rattle.bier_bits.specs.Any.{bsl_of, positions_of}
 use Rattle.wire_base.specs.model.Place.{bits_of}
 use Rattle.replay_text.specs.declared.fault.TextFault.{TextFault}
-use Rattle.replay_text.specs.declared.hop_command.HopState.{HopState}
-use Rattle.replay_text.specs.declared.hop_command.HopLine.{HopLine}
-use Rattle.replay_text.specs.declared.hop_command.HopLine.TheVariants as says
+use Rattle.replay_text.specs.declared.hop.HopState.{HopState}
+use Rattle.replay_text.specs.declared.hop.HopLine.{HopLine}
+use Rattle.replay_text.specs.declared.hop.HopLine.TheVariants as says
 use Rattle.replay_text.specs.Hop.{hop_line, IsOrdered}
 use Rattle.replay_text.proofs.Ordered.{line_ordered}
 use Rattle.tool_run.specs.HopText.{packet_in, packets_from, packets_of, after, fresh}

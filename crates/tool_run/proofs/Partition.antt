@@ -7,7 +7,7 @@ use Rattle.std.specs.Str.{bytes_eq}
 use Rattle.std.proofs.lemmas.Bool.{cases_eq, cases_Bool, eq-eqb, ne_eqb, true≢false, false_from_ne_true}
 use Rattle.std.proofs.lemmas.Slice.Eq.{bytes_eq-Decides}
 use Rattle.wire_base.specs.model.BitSet.{has_member, IsWithin}
-use Rattle.replay_text.specs.declared.hop_command.HopRow.{HopRow}
+use Rattle.replay_text.specs.declared.hop.HopRow.{HopRow}
 use Rattle.std.proofs.lemmas.List.Folds.{flat_map-map}
 use Rattle.tool_run.specs.Forward as forward
 use Rattle.tool_run.specs.Forward.{Outcome, Local, outcomes, delivered, others, way_of, ways, copies, copy_of, dropped, dropped_of, unrouted, leads_to, group_of, name_of}

@@ -10,9 +10,9 @@ use Rattle.wire_base.specs.declared.status.Status.{Status}
 use Rattle.wire_base.specs.declared.status.Status.TheVariants.{InputRefused}
 use Rattle.replay_text.specs.declared.fault.TextFault.{TextFault}
 use Rattle.replay_text.specs.declared.fault.TextFault.TheVariants as fault
-use Rattle.replay_text.specs.declared.hop_command.HopState.{HopState}
-use Rattle.replay_text.specs.declared.hop_command.HopLine.{HopLine}
-use Rattle.replay_text.specs.declared.hop_command.HopLine.TheVariants as says
+use Rattle.replay_text.specs.declared.hop.HopState.{HopState}
+use Rattle.replay_text.specs.declared.hop.HopLine.{HopLine}
+use Rattle.replay_text.specs.declared.hop.HopLine.TheVariants as says
 use Rattle.replay_text.specs.Reading.{Fails}
 use Rattle.replay_text.specs.Hop.{hop_line}
 use Rattle.tool_run.specs.HopText.{behind, ending, after, Packet, packet_in, packets_from, refusal_from, packet_text, refused_text, answer_from}

@@ -8,7 +8,7 @@ use Rattle.std.proofs.lemmas.Slice.Eq.{bytes_eq-Decides}
 use Rattle.wire_base.specs.declared.view.First.{First}
 use Rattle.wire_base.specs.model.Place.{bits_of}
 use Rattle.bift_table.specs.Bift.{router_at, member_at}
-use Rattle.replay_text.specs.declared.hop_command.HopRow.{HopRow}
+use Rattle.replay_text.specs.declared.hop.HopRow.{HopRow}
 use Rattle.tool_run.specs.Forward.{name_of}
 use Rattle.tool_run.specs.Ways.{has_name, with_name, number_in, neighbour, number_of, leads, leading, IsKnown, IsListed, IsLinked, AreWays, length_of, routers_of, name_at}
 use Rattle.tool_run.specs.declared.hop_command.ways.AnyTable.{AnyTable}

@@ -4,7 +4,7 @@ use Rattle.std.specs.List.{find, list_any, flat_map}
 use Rattle.std.specs.Option.{option_map_or}
 use Rattle.std.specs.Str.{bytes_eq}
 use Rattle.std.specs.Fmt.{decimal}
-use Rattle.replay_text.specs.declared.hop_command.HopRow.{HopRow}
+use Rattle.replay_text.specs.declared.hop.HopRow.{HopRow}
 use Rattle.replay_text.specs.Ids.{ids_text}
 
 -- ---- which way each id goes

@@ -3,12 +3,12 @@ use Rattle.std.specs.Prelude.{ℕ, ◌+◌, ◌≤◌, Bool, true, false, nat_le
 use Rattle.std.specs.Fmt.{decimal}
 use Rattle.wire_base.specs.declared.limits.TheConstants.{CAPTURE_LIMIT}
 use Rattle.wire_base.specs.declared.status.Status.{Status}
-use Rattle.wire_base.specs.declared.status.Status.TheVariants.{Done, CaptureRefused}
+use Rattle.wire_base.specs.declared.status.Status.TheVariants.{Done}
 use Rattle.wire_base.specs.declared.faults.CaptureFault.{CaptureFault}
-use Rattle.wire_base.specs.declared.faults.CaptureFault.TheVariants as faults
 use Rattle.wire_base.specs.model.Capture.{CaptureRecord, Stage, HeaderToCome, HeaderRead, Refused, Reading, unread, fed, drained, end_in, IsCapture}
 use Rattle.tool_run.specs.Sight.{sight_of, sight_text, sight_count}
 use Rattle.tool_run.specs.HopText.{behind}
+use Rattle.tool_run.specs.Captured.{refused_by, too_long}
 
 -- ---- the records
 
@@ -31,34 +31,6 @@ within_limit input = take CAPTURE_LIMIT input
 abbrev pub is_within : List ℕ → Bool
 is_within input = nat_le (length input) CAPTURE_LIMIT
 
--- the number of a fault's record after n others: the capture's header has the number 0
-abbrev pub fault_record : ℕ → CaptureFault → ℕ
-fault_record n faults.Magic = 0
-fault_record n faults.Version = 0
-fault_record n faults.LinkType = 0
-fault_record n faults.CutHeader = 0
-fault_record n faults.CutRecord = n + 1
-fault_record n faults.LongRecord = n + 1
-fault_record n faults.Memory = n + 1
-
-abbrev pub capture_fault_text : CaptureFault → List ℕ
-capture_fault_text faults.Magic = codes " 1 Magic"
-capture_fault_text faults.Version = codes " 2 Version"
-capture_fault_text faults.LinkType = codes " 3 LinkType"
-capture_fault_text faults.CutHeader = codes " 4 CutHeader"
-capture_fault_text faults.CutRecord = codes " 5 CutRecord"
-capture_fault_text faults.LongRecord = codes " 6 LongRecord"
-capture_fault_text faults.Memory = []
-
-abbrev pub refused_line : ℕ → List ℕ → List ℕ
-refused_line n why = codes "refused record " ++ decimal n ++ why ++ 10 ∷ []
-
-abbrev pub refused_record : ℕ → List ℕ → Status × List ℕ
-refused_record n why = (CaptureRefused, refused_line n why)
-
-abbrev pub refused_by : ℕ → CaptureFault → Status × List ℕ
-refused_by n fault = refused_record (fault_record n fault) (capture_fault_text fault)
-
 abbrev pub headers_done : ℕ → ℕ → Status × List ℕ
 headers_done n headers = (Done, codes "done records " ++ decimal n ++ codes " headers " ++ decimal headers ++ 10 ∷ [])
 
@@ -66,10 +38,6 @@ headers_done n headers = (Done, codes "done records " ++ decimal n ++ codes " he
 abbrev pub at_end : ℕ → ℕ → Option CaptureFault → Status × List ℕ
 at_end n headers None = headers_done n headers
 at_end n headers (Some fault) = refused_by n fault
-
--- at the limit, which more octets follow
-abbrev pub too_long : ℕ → Status × List ℕ
-too_long n = refused_record (n + 1) (codes " 8 TooLong")
 
 -- How a report ends after n records: a fault of the reader comes before the limit.
 abbrev pub headers_end : Bool → (n headers : ℕ) → Stage → List ℕ → Status × List ℕ

@@ -8,10 +8,10 @@ use Rattle.wire_base.specs.declared.status.Status.TheVariants.{Done, InputRefuse
 use Rattle.bier_bits.specs.Any.{positions_of}
 use Rattle.replay_text.specs.declared.fault.TextFault.{TextFault}
 use Rattle.replay_text.specs.Fault.{rule_text, fault_text}
-use Rattle.replay_text.specs.declared.hop_command.HopRow.{HopRow}
-use Rattle.replay_text.specs.declared.hop_command.HopState.{HopState}
-use Rattle.replay_text.specs.declared.hop_command.HopLine.{HopLine}
-use Rattle.replay_text.specs.declared.hop_command.HopLine.TheVariants as line
+use Rattle.replay_text.specs.declared.hop.HopRow.{HopRow}
+use Rattle.replay_text.specs.declared.hop.HopState.{HopState}
+use Rattle.replay_text.specs.declared.hop.HopLine.{HopLine}
+use Rattle.replay_text.specs.declared.hop.HopLine.TheVariants as line
 use Rattle.replay_text.specs.Pieces.{lines_in}
 use Rattle.replay_text.specs.Hop.{hop_line}
 use Rattle.replay_text.specs.Grammar.{IsLine}

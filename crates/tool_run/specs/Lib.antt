@@ -8,7 +8,10 @@ pub mod HopReached
 pub mod Ways
 pub mod Partition
 pub mod Sight
+pub mod Causes
+pub mod Captured
 pub mod HeadersText
 pub mod Headers
-pub mod Causes
+pub mod Records
 pub mod NodeRun
+pub mod NodeReached

@@ -20,20 +20,12 @@ use Rattle.replay_text.specs.Ids.{ids_text}
 use Rattle.replay_text.specs.Payload.{payload_text}
 use Rattle.router_core.specs.State.{is_up}
 use Rattle.tool_run.specs.Answer.{Verdict}
-use Rattle.tool_run.specs.HeadersText.{within_limit, is_within, refused_record, refused_by, too_long}
+use Rattle.tool_run.specs.Captured.{refused_record, refused_by, too_long}
+use Rattle.tool_run.specs.HeadersText.{within_limit, is_within}
 use Rattle.tool_run.specs.Causes.{line_of, cause_text}
+use Rattle.tool_run.specs.declared.node_command.tally.Tally.{Tally}
 
 -- ---- where a node stands
-
--- What a node has done, in numbers: the records that were read, those that the router was given and those that were passed over,
--- its deliveries and drops, and the frames that it sent.
-pub record Tally : Type 0 where
-  pub records : ℕ
-  pub used : ℕ
-  pub passed : ℕ
-  pub got : ℕ
-  pub dropped : ℕ
-  pub sent : ℕ
 
 -- A node: the control state of its router; the second of its clock, once a record has set it; how many seconds have passed; its
 -- numbers; and its capture and its report so far.
@@ -123,10 +115,14 @@ abbrev pub got_text : ℕ → Got → List ℕ
 got_text number g =
     line_of (decimal number ∷ codes "got" ∷ decimal g.sd ∷ decimal g.id ∷ decimal g.bfir ∷ payload_text g.payload ∷ [])
 
--- the BFR-ids of positions that were dropped; a number above 65,535 is no BFR-id, and isn't listed
+-- a number above 65,535 is no BFR-id, and isn't listed
+abbrev pub listed : List ℕ → List ℕ
+listed ks = filter (λ k. nat_le k 65535) ks
+
+-- the BFR-ids of positions that were dropped
 abbrev pub dropped_ids : Option Positions → List ℕ
 dropped_ids None = []
-dropped_ids (Some set) = filter (λ k. nat_le k 65535) (map (id_at set.triple) set.positions)
+dropped_ids (Some set) = listed (map (id_at set.triple) set.positions)
 
 -- `RECORD drop CAUSE IDS`
 abbrev pub drop_text : ℕ → Drop → List ℕ
@@ -161,9 +157,12 @@ abbrev pub given_on : CaptureRecord → Node → Option ℕ → Node
 given_on read n None = passes n
 given_on read n (Some link) = taken_so read n (on_frame n.control link read.octets)
 
--- The clock moves to the record's second, and then the router is given its frame.
+abbrev pub given_to : CaptureRecord → Node → Node
+given_to read n = given_on read n (link_of n.control.conf read)
+
+-- A record is counted, the clock moves to its second, and then the router is given its frame.
 unfoldable pub record_done : Node → CaptureRecord → Node
-record_done n read = given_on read (counts_record (moved_to read.sec n)) (link_of n.control.conf read)
+record_done n read = given_to read (moved_to read.sec (counts_record n))
 
 -- ---- all records
 
@@ -192,9 +191,9 @@ node_done t =
     (Done, line_of (codes "done" ∷ codes "records" ∷ decimal t.records ∷ codes "used" ∷ decimal t.used ∷ codes "passed" ∷ decimal t.passed
     ∷ codes "got" ∷ decimal t.got ∷ codes "dropped" ∷ decimal t.dropped ∷ codes "sent" ∷ decimal t.sent ∷ []))
 
--- `refused record R 7 Gap CLOCK SECOND`
+-- `refused record R 7 Gap CLOCK SECOND`, after n records
 abbrev pub gap_refused : ℕ → ℕ × ℕ → Status × List ℕ
-gap_refused n gap = refused_record (n + 1) (codes " 7 Gap " ++ decimal gap.0 ++ 32 ∷ decimal gap.1)
+gap_refused n gap = refused_record (n + 1) (decimal 7 ∷ codes "Gap" ∷ decimal gap.0 ∷ decimal gap.1 ∷ [])
 
 abbrev pub node_at_end : Tally → Option CaptureFault → Status × List ℕ
 node_at_end t None = node_done t
@@ -216,9 +215,11 @@ ending short reading t None = node_end short t reading.stage reading.octets
 abbrev pub node_ends : Node → Status × List ℕ → Verdict
 node_ends n end = record { status = end.0; report = n.report ++ end.1; frames = n.frames }
 
+abbrev pub verdict_on : Bool → Reading → Reached → Verdict
+verdict_on short reading reached = node_ends reached.node (ending short reading reached.node.tally reached.gap)
+
 abbrev pub node_answer_of : Bool → RouterConf → List CaptureRecord × Reading → Verdict
-node_answer_of short r read =
-    node_ends (records_reach (first_node r) read.0).node (ending short read.1 (records_reach (first_node r) read.0).node.tally (records_reach (first_node r) read.0).gap)
+node_answer_of short r read = verdict_on short read.1 (records_reach (first_node r) read.0)
 
 -- The status and both texts of a capture, at the router with that configuration. A capture has at most 268,435,456 octets; of a
 -- longer one the records are read that are whole within them.

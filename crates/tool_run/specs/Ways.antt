@@ -8,7 +8,7 @@ use Rattle.wire_base.specs.declared.view.First.{First}
 use Rattle.wire_base.specs.model.Hop as model
 use Rattle.wire_base.specs.model.Place.{bits_of}
 use Rattle.bift_table.specs.Bift.{router_at}
-use Rattle.replay_text.specs.declared.hop_command.HopRow.{HopRow}
+use Rattle.replay_text.specs.declared.hop.HopRow.{HopRow}
 use Rattle.tool_run.specs.declared.hop_command.ways.AnyTable.{AnyTable}
 use Rattle.tool_run.specs.declared.hop_command.ways.AnyTable.TheVariants.{B64, B128, B256, B512, B1024, B2048, B4096}
 use Rattle.tool_run.specs.declared.hop_command.ways.Ways.{Ways}

@@ -5,6 +5,7 @@ ghost use Rattle.wire_base.specs.Causes.{last_count};
 ghost use Rattle.wire_base.specs.declared.status.Status.TheVariants as status;
 ghost use Rattle.wire_base.specs.declared.faults.CaptureFault.TheVariants as fault;
 ghost use Rattle.wire_base.specs.model.Capture.{unread, fed, drained, next_of, end_of, Refused};
+ghost use Rattle.tool_run.specs.Captured.{refused_by, too_long};
 ghost use Rattle.tool_run.specs.HeadersText as text;
 ghost use Rattle.tool_run.specs.HopText.{behind};
 ghost use Rattle.tool_run.specs.Headers.{Took, Owes, IsOpen, lines_of};
@@ -14,6 +15,7 @@ ghost use Rattle.tool_run.specs.Outside.{Held, Gave, AppendsFront};
 
 mod line;
 
+use crate::captured::{refuse_by, refuse_length};
 use crate::whole::{buffer, flush, write_whole};
 use line::push_record;
 use pcap_frames::Reader;
@@ -61,61 +63,6 @@ fn take_piece(alloc: Global, progress: &mut Progress, piece: &[u8]) -> Result<()
     take_records(alloc, progress)
 }
 
-/// The number and the name of a fault of a capture.
-fn fault_text(why: CaptureFault) -> &'static [u8]
-    ensures { result.now ≡ text.capture_fault_text why }
-{
-    match why {
-        CaptureFault::Magic => b" 1 Magic",
-        CaptureFault::Version => b" 2 Version",
-        CaptureFault::LinkType => b" 3 LinkType",
-        CaptureFault::CutHeader => b" 4 CutHeader",
-        CaptureFault::CutRecord => b" 5 CutRecord",
-        CaptureFault::LongRecord => b" 6 LongRecord",
-        CaptureFault::Memory => b"",
-    }
-}
-
-/// The number of the record that a fault stands at, after those that were done: the capture's header has the number 0.
-fn fault_record(records: u64, why: CaptureFault) -> u64
-    requires { records < 2 ^ 63 }
-    ensures { result ≡ text.fault_record records why }
-{
-    match why {
-        CaptureFault::Magic
-        | CaptureFault::Version
-        | CaptureFault::LinkType
-        | CaptureFault::CutHeader => 0,
-        CaptureFault::CutRecord | CaptureFault::LongRecord | CaptureFault::Memory => records + 1,
-    }
-}
-
-/// Appends the line of a refusal.
-fn push_refused(out: &mut Octets, number: u64, why: &[u8]) -> M<()>
-    ensures { OnOk result (out.new ≡ out.old ++ text.refused_line number why.now) }
-{
-    out.append(b"refused record ")?;
-    out.append_number(number)?;
-    out.append(why)?;
-    out.push(b'\n')
-}
-
-/// Ends a report at a record.
-fn refuse(out: &mut Octets, number: u64, why: &[u8]) -> M<Status>
-    ensures { IfOk result (λ ended. (ended, out.new) ≡ behind out.old (text.refused_record number why.now)) }
-{
-    push_refused(out, number, why)?;
-    Ok(Status::CaptureRefused)
-}
-
-/// Ends a report at a fault of the capture.
-fn refuse_by(out: &mut Octets, records: u64, why: CaptureFault) -> M<Status>
-    requires { records < 2 ^ 63 }
-    ensures { IfOk result (λ ended. (ended, out.new) ≡ behind out.old (text.refused_by records why)) }
-{
-    refuse(out, fault_record(records, why), fault_text(why))
-}
-
 /// Ends a report at the end of the capture, of which no further record is whole.
 fn conclude(progress: Progress) -> M<(Status, Octets)>
     requires few { progress.records < 2 ^ 63 }
@@ -151,7 +98,7 @@ fn push_done(out: &mut Octets, records: u64, headers: u64) -> M<Status>
 fn stop_at(progress: Progress, why: CaptureFault) -> M<(Status, Octets)>
     requires few { why ≢ fault.Memory → progress.records < 2 ^ 63 }
     ensures known { OnOk result (why ≢ fault.Memory) }
-    ensures answer { IfOk result (λ answer. (answer.0, answer.1) ≡ behind progress.lines (text.refused_by progress.records why)) }
+    ensures answer { IfOk result (λ answer. (answer.0, answer.1) ≡ behind progress.lines (refused_by progress.records why)) }
 {
     if why == CaptureFault::Memory {
         return Err(Memory);
@@ -164,10 +111,10 @@ fn stop_at(progress: Progress, why: CaptureFault) -> M<(Status, Octets)>
 /// Ends a report at the record that the limit cuts.
 fn stop_at_limit(progress: Progress) -> M<(Status, Octets)>
     requires few { progress.records < 2 ^ 63 }
-    ensures { IfOk result (λ answer. (answer.0, answer.1) ≡ behind progress.lines (text.too_long progress.records)) }
+    ensures { IfOk result (λ answer. (answer.0, answer.1) ≡ behind progress.lines (too_long progress.records)) }
 {
     let mut lines = progress.lines;
-    let status = refuse(&mut lines, progress.records + 1, b" 8 TooLong")?;
+    let status = refuse_length(&mut lines, progress.records)?;
     Ok((status, lines))
 }
 

@@ -6,13 +6,17 @@
 //! status has its cause, and what a stop leaves.
 #![tactic(auto)]
 
+mod captured;
+mod causes;
 mod headers_command;
 mod hop_command;
 mod law;
 mod node_command;
 mod reader;
+mod records;
 mod whole;
 
+pub use causes::push_cause;
 pub use headers_command::headers;
 pub use hop_command::hop;
 pub use law::packets_are_parted;

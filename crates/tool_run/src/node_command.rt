@@ -1,15 +1,180 @@
 //! The command `node`: one router on the records of a capture.
-ghost use Rattle.std.specs.Prelude.{◌≡◌, ◌≢◌, ◌⊎◌, ◌<◌, ℕ, List, None, false, length, slice_get, IfSome};
-ghost use Rattle.std.specs.Io.KnownBytes.{IsAtEnd, Consumes};
+ghost use Rattle.std.specs.Prelude.{◌≡◌, ◌≢◌, ◌⊎◌, ◌<◌, ◌^◌, ◌++◌, ℕ, List, None, false, length, slice_get, IfSome, IfOk, IfErr, OnOk, OnErr};
+ghost use Rattle.std.specs.Io.KnownBytes.{IsAtEnd, Consumes, Appends};
+ghost use Rattle.pcap_frames.specs.Seen.{record_seen};
 ghost use Rattle.wire_base.specs.Causes.{last_count};
 ghost use Rattle.wire_base.specs.declared.status.Status.TheVariants as status;
+ghost use Rattle.wire_base.specs.model.Configuration.{IsSound};
 ghost use Rattle.tool_run.specs.Answer.{IsDecided};
 ghost use Rattle.tool_run.specs.Headers.{IsOpen};
-ghost use Rattle.tool_run.specs.NodeRun.{node_answer, node_cut, node_reached};
+ghost use Rattle.tool_run.specs.NodeReached.{EndsSo, Passes, Turns, Owing, Begun, last_of};
+ghost use Rattle.tool_run.specs.NodeRun.{gap_at, gap_refused, node_done, node_answer, node_cut, node_reached};
 ghost use Rattle.tool_run.specs.Outside.{Held, Meets, AppendsFront};
 
+mod standing;
+mod tally;
+mod texts;
+
+use crate::captured::{refuse_by, refuse_length};
+use crate::records::{Ending, FoundRecord, RecordReader};
+use crate::whole::{flush, write_whole};
+use pcap_frames::CapRecord;
+use standing::Node;
 use std::alloc::Global;
-use wire_base::{Domain, Sink, Source, Status};
+use texts::{push_done, push_gap};
+use wire_base::{Domain, Failed, M, RouterConf, Sink, Source, Status};
+
+/// Writes both texts out, each once there is much of it. Less than one piece is left of each.
+fn flush_both<C: Sink, R: Sink>(
+    frames: &mut C,
+    report: &mut R,
+    node: &mut Node,
+) -> Result<(), Failed>
+    requires frames_faults { C.faults frames.old < last_count }
+    requires frames_zeros { C.zeros frames.old < last_count }
+    requires report_faults { R.faults report.old < last_count }
+    requires report_zeros { R.zeros report.old < last_count }
+    ensures frames { OnOk result ((flushed : List ℕ) × Appends (C.written frames.old) (C.written frames.new) flushed × (node.old.frames ≡ flushed ++ node.new.frames)) }
+    ensures report { OnOk result ((flushed : List ℕ) × Appends (R.written report.old) (R.written report.new) flushed × (node.old.report ≡ flushed ++ node.new.report)) }
+    ensures rest { OnOk result (node.new ≡ record node.old { frames = node.new.frames; report = node.new.report }) }
+    ensures frames_quiet { OnOk result (C.faults frames.new ≡ C.faults frames.old) }
+    ensures frames_take { OnOk result (C.zeros frames.new ≡ C.zeros frames.old) }
+    ensures report_quiet { OnOk result (R.faults report.new ≡ R.faults report.old) }
+    ensures report_takes { OnOk result (R.zeros report.new ≡ R.zeros report.old) }
+    ensures frames_front { OnErr result (AppendsFront (C.written frames.old) (C.written frames.new) node.old.frames) }
+    ensures report_front { OnErr result (AppendsFront (R.written report.old) (R.written report.new) node.old.report) }
+    ensures cause { OnErr result ((C.faults frames.old < C.faults frames.new) ⊎ ((C.zeros frames.old < C.zeros frames.new) ⊎ ((R.faults report.old < R.faults report.new) ⊎ (R.zeros report.old < R.zeros report.new)))) }
+{
+    flush(frames, &mut node.frames)?;
+    flush(report, &mut node.report)
+}
+
+/// Writes what is left of both texts, and finishes both sinks.
+fn write_both<C: Sink, R: Sink>(frames: &mut C, report: &mut R, node: &Node) -> Result<(), Failed>
+    requires frames_faults { C.faults frames.old < last_count }
+    requires frames_zeros { C.zeros frames.old < last_count }
+    requires report_faults { R.faults report.old < last_count }
+    requires report_zeros { R.zeros report.old < last_count }
+    ensures frames { OnOk result (Appends (C.written frames.old) (C.written frames.new) node.now.frames) }
+    ensures report { OnOk result (Appends (R.written report.old) (R.written report.new) node.now.report) }
+    ensures frames_finished { OnOk result (C.unfinished frames.new ≡ false) }
+    ensures report_finished { OnOk result (R.unfinished report.new ≡ false) }
+    ensures frames_quiet { OnOk result (C.faults frames.new ≡ C.faults frames.old) }
+    ensures frames_take { OnOk result (C.zeros frames.new ≡ C.zeros frames.old) }
+    ensures report_quiet { OnOk result (R.faults report.new ≡ R.faults report.old) }
+    ensures report_takes { OnOk result (R.zeros report.new ≡ R.zeros report.old) }
+    ensures frames_front { OnErr result (AppendsFront (C.written frames.old) (C.written frames.new) node.now.frames) }
+    ensures report_front { OnErr result (AppendsFront (R.written report.old) (R.written report.new) node.now.report) }
+    ensures cause { OnErr result ((C.faults frames.old < C.faults frames.new) ⊎ ((C.zeros frames.old < C.zeros frames.new) ⊎ ((R.faults report.old < R.faults report.new) ⊎ (R.zeros report.old < R.zeros report.new)))) }
+{
+    write_whole(frames, node.frames.as_slice())?;
+    write_whole(report, node.report.as_slice())
+}
+
+/// Ends the report at a record that makes a gap that is too long: the second of the clock, and that of the record.
+fn refuse_gap(node: &mut Node, gap: (u32, u32)) -> M<Status>
+    requires { node.old.tally.records < 2 ^ 63 }
+    ensures { IfOk result (λ status. EndsSo (gap_refused node.old.tally.records gap) node.old node.new status) }
+{
+    push_gap(&mut node.report, node.tally.records + 1, gap)?;
+    Ok(Status::CaptureRefused)
+}
+
+/// Does a record, or ends the report where it makes a gap that is too long.
+fn do_record(alloc: Global, node: &mut Node, captured: &CapRecord) -> M<Option<Status>>
+    requires { node.old.tally.records < 2 ^ 63 }
+    ensures { IfOk result (λ ended. Passes (gap_at node.old.clock captured.now.sec) (record_seen captured.now) node.old node.new ended) }
+{
+    match node.gap_at(captured.sec) {
+        Some(gap) => Ok(Some(refuse_gap(node, gap)?)),
+        None => {
+            node.take(alloc, captured)?;
+            Ok(None)
+        }
+    }
+}
+
+/// Ends the report after the last record.
+fn finish(node: &mut Node) -> M<Status>
+    ensures { IfOk result (λ status. EndsSo (node_done node.old.tally) node.old node.new status) }
+{
+    push_done(&mut node.report, node.tally)?;
+    Ok(Status::Done)
+}
+
+/// Ends the report where there is no further record. At a fault of the source it has no last line.
+fn conclude(node: &mut Node, ending: Ending) -> M<Status>
+    requires { node.old.tally.records < 2 ^ 63 }
+    ensures { IfOk result (λ status. EndsSo (last_of ending node.old.tally) node.old node.new status) }
+{
+    let records = node.tally.records;
+    match ending {
+        Ending::Refused(why) | Ending::Cut(why) => refuse_by(&mut node.report, records, why),
+        Ending::Whole => finish(node),
+        Ending::TooLong => refuse_length(&mut node.report, records),
+        Ending::Failed => Ok(Status::ReadFault),
+    }
+}
+
+/// Does what a reader found, and answers how the run ends, where it does.
+fn take_found(alloc: Global, node: &mut Node, what: &FoundRecord) -> M<Option<Status>>
+    requires { node.old.tally.records < 2 ^ 63 }
+    ensures { IfOk result (λ ended. Turns what.now node.old node.new ended) }
+{
+    match what {
+        FoundRecord::Record(record) => do_record(alloc, node, record),
+        FoundRecord::Ended(ending) => Ok(Some(conclude(node, *ending)?)),
+    }
+}
+
+/// Does the records of a capture, and answers how the run ends, with what of both texts is still to be written.
+fn do_capture<S: Source, C: Sink, R: Sink>(
+    alloc: Global,
+    conf: RouterConf,
+    input: &mut S,
+    frames: &mut C,
+    report: &mut R,
+) -> Result<(Status, Node), Status>
+    requires sound { IsSound conf }
+    requires input_faults { S.faults input.old < last_count }
+    requires frames_faults { C.faults frames.old < last_count }
+    requires frames_zeros { C.zeros frames.old < last_count }
+    requires report_faults { R.faults report.old < last_count }
+    requires report_zeros { R.zeros report.old < last_count }
+    ensures answer { IfOk result (λ a. a.0 ≢ status.ReadFault → (octets : List ℕ) × Held (S.left input.old) octets
+        × Owing (node_answer conf octets) a.0 a.1 (R.written report.old) (R.written report.new) (C.written frames.old) (C.written frames.new)) }
+    ensures stopped { IfOk result (λ a. a.0 ≡ status.ReadFault → (octets : List ℕ) × Consumes (S.left input.old) (S.left input.new) octets
+        × IsOpen octets × ((node_reached conf octets).gap ≡ None)
+        × Owing (node_cut conf octets) a.0 a.1 (R.written report.old) (R.written report.new) (C.written frames.old) (C.written frames.new)) }
+    ensures begun { IfOk result (λ a. (octets : List ℕ) × Held (S.left input.old) octets
+        × Begun (node_answer conf octets) a.1 (R.written report.old) (R.written report.new) (C.written frames.old) (C.written frames.new)) }
+    ensures ends { IfOk result (λ a. (a.0 ≡ status.Done) ⊎ ((a.0 ≡ status.CaptureRefused) ⊎ (a.0 ≡ status.ReadFault))) }
+    ensures all { IfOk result (λ a. a.0 ≡ status.Done → IsAtEnd (S.left input.new)) }
+    ensures input_quiet { IfOk result (λ a. a.0 ≢ status.ReadFault → S.faults input.new ≡ S.faults input.old) }
+    ensures input_failed { IfOk result (λ a. a.0 ≡ status.ReadFault → S.faults input.old < S.faults input.new) }
+    ensures frames_quiet { OnOk result (C.faults frames.new ≡ C.faults frames.old) }
+    ensures frames_take { OnOk result (C.zeros frames.new ≡ C.zeros frames.old) }
+    ensures report_quiet { OnOk result (R.faults report.new ≡ R.faults report.old) }
+    ensures report_takes { OnOk result (R.zeros report.new ≡ R.zeros report.old) }
+    ensures failed { IfErr result (λ why. ((why ≡ status.WriteFault) × ((C.faults frames.old < C.faults frames.new) ⊎ ((C.zeros frames.old < C.zeros frames.new) ⊎ ((R.faults report.old < R.faults report.new) ⊎ (R.zeros report.old < R.zeros report.new)))))
+        ⊎ ((why ≡ status.Memory) × ((C.faults frames.new ≡ C.faults frames.old) × ((C.zeros frames.new ≡ C.zeros frames.old) × ((R.faults report.new ≡ R.faults report.old) × (R.zeros report.new ≡ R.zeros report.old)))))) }
+    ensures failed_quiet { OnErr result (S.faults input.new ≡ S.faults input.old) }
+    ensures front { OnErr result ((octets : List ℕ) × Held (S.left input.old) octets
+        × (AppendsFront (R.written report.old) (R.written report.new) (node_answer conf octets).report × AppendsFront (C.written frames.old) (C.written frames.new) (node_answer conf octets).frames)) }
+{
+    let mut node = Node::new(alloc, conf)?;
+    let mut records = RecordReader::new(alloc)?;
+    'records: loop {
+        let what = records.next(alloc, input)?;
+        let ended = take_found(alloc, &mut node, &what)?;
+        if let Some(status) = ended {
+            return Ok((status, node));
+        }
+        let Ok(()) = flush_both(frames, report, &mut node) else {
+            return Err(Status::WriteFault);
+        };
+    }
+}
 
 /// All that the program does on the words `node CONF ROUTER CAPTURE FRAMES`, once the domain file is read and the router is found:
 /// the router at that place of the domain starts, is given the frames of the capture as they came on its links, one second after
@@ -59,5 +224,14 @@ pub fn node<S: Source, C: Sink, R: Sink>(
     ensures front { (result ≡ status.WriteFault) ⊎ (result ≡ status.Memory) → IfSome (slice_get domain.now.routers router) (λ conf. (octets : List ℕ) × Held (S.left input.old) octets
         × (AppendsFront (R.written report.old) (R.written report.new) (node_answer conf octets).report × AppendsFront (C.written frames.old) (C.written frames.new) (node_answer conf octets).frames)) }
 {
-    Status::Memory
+    let Ok(conf) = domain.routers.as_slice()[usize::from(router)].copy() else {
+        return Status::Memory;
+    };
+    match do_capture(alloc, conf, input, frames, report) {
+        Err(why) => why,
+        Ok((status, node)) => match write_both(frames, report, &node) {
+            Ok(()) => status,
+            Err(Failed) => Status::WriteFault,
+        },
+    }
 }

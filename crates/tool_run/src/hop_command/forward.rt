@@ -7,7 +7,7 @@ ghost use Rattle.bier_bits.specs.Any.{positions_of, bsl_of};
 ghost use Rattle.bier_bits.specs.Sets.{is_width};
 ghost use Rattle.bier_hop.specs.Outcomes.{IsNumbering, IsOwn, left, outcome};
 ghost use Rattle.replay_text.specs.Ids.{in_range};
-ghost use Rattle.replay_text.specs.declared.hop_command.HopRow.{HopRow};
+ghost use Rattle.replay_text.specs.declared.hop.HopRow.{HopRow};
 ghost use Rattle.tool_run.specs.Forward as forward;
 ghost use Rattle.tool_run.specs.Ways.{AreWays, name_at, number_of, seen, chosen, texts, routers_of, length_of};
 
