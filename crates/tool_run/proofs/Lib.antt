@@ -1,4 +1,5 @@
 pub mod Written
+pub mod Appends
 pub mod LineLaws
 pub mod Below
 pub mod Steps
@@ -13,4 +14,5 @@ pub mod NodeDone
 pub mod RecordLaws
 pub mod NodeIds
 pub mod NodeLaws
+pub mod NodeSteps
 pub mod NodeLoop

@@ -21,14 +21,11 @@ module _ (frames report : List ℕ) where
 
   sends_on_past : (sec : ℕ) (n : Node) (link : ℕ) → sends_on sec (past frames report n) link ≡ past frames report (sends_on sec n link)
   unfolding sends_on
-  sends_on_past sec n link = by (is_up n.control link)
+  sends_on_past sec n link = by (framed link (send n.control link)) (is_up n.control link)
     where
-      next : Next
-      next = framed link (send n.control link)
-
-      by : (b : Bool) → (if b then next_sent sec (past frames report n) next else past frames report n) ≡ past frames report (if b then next_sent sec n next else n)
-      by true = goes_out_past sec 0 next.effects.sent (record n { control = next.control })
-      by false = refl
+      by : (next : Next) (b : Bool) → (if b then next_sent sec (past frames report n) next else past frames report n) ≡ past frames report (if b then next_sent sec n next else n)
+      by next true = goes_out_past sec 0 next.effects.sent (record n { control = next.control })
+      by next false = refl
 
   links_past : (sec : ℕ) (links : List ℕ) (n : Node) → fold (sends_on sec) (past frames report n) links ≡ past frames report (fold (sends_on sec) n links)
   links_past sec [] n = refl
@@ -88,7 +85,7 @@ module _ (frames report : List ℕ) where
       let moved : Node = moved_to read.sec (counts_record n) in
       ap (given_to read) (moved_past n.clock read.sec (counts_record n)) ∙ given_past read moved (link_of moved.control.conf read)
 
-  abbrev reached_past : Reached → Reached
+  abbrev pub reached_past : Reached → Reached
   reached_past r = record { node = past frames report r.node; gap = r.gap }
 
   pub records_past : (n : Node) (records : List CaptureRecord) → records_reach (past frames report n) records ≡ reached_past (records_reach n records)
@@ -144,19 +141,13 @@ goes_out_stays sec usec sent n = record { records = refl; clock = refl }
 
 sends_on_stays : (sec : ℕ) (n : Node) (link : ℕ) → Stays n (sends_on sec n link)
 unfolding sends_on
-sends_on_stays sec n link = by (is_up n.control link)
+sends_on_stays sec n link = by (framed link (send n.control link)) (is_up n.control link)
   where
-    next : Next
-    next = framed link (send n.control link)
-
-    sent : Stays n (next_sent sec n next)
-    sent =
+    by : (next : Next) (b : Bool) → Stays n (if b then next_sent sec n next else n)
+    by next true =
         let out = goes_out_stays sec 0 next.effects.sent (record n { control = next.control }) in
         record { records = out.records; clock = out.clock }
-
-    by : (b : Bool) → Stays n (if b then next_sent sec n next else n)
-    by true = sent
-    by false = stays_still n
+    by next false = stays_still n
 
 links_stay : (sec : ℕ) (links : List ℕ) (n : Node) → Stays n (fold (sends_on sec) n links)
 links_stay sec [] n = stays_still n
@@ -165,15 +156,15 @@ links_stay sec (link ∷ links) n =
     let rest = links_stay sec links (sends_on sec n link) in
     record { records = rest.records ∙ first.records; clock = rest.clock ∙ first.clock }
 
+sends_all_stays : (sec : ℕ) (n : Node) → Stays n (sends_all sec n)
+unfolding sends_all
+sends_all_stays sec n = links_stay sec (range_with_len 0 (length n.control.conf.ends)) n
+
 every_fifth_stays : (sec : ℕ) (n : Node) → Stays n (every_fifth sec n)
 every_fifth_stays sec n = by (n.ticks % 5 == 0)
   where
-    sent : Stays n (sends_all sec n)
-    unfolding sends_all
-    sent = links_stay sec (range_with_len 0 (length n.control.conf.ends)) n
-
     by : (b : Bool) → Stays n (if b then sends_all sec n else n)
-    by true = sent
+    by true = sends_all_stays sec n
     by false = stays_still n
 
 second_stays : (sec : ℕ) (n : Node) → ((second_passes sec n).tally.records ≡ n.tally.records) × ((second_passes sec n).clock ≡ Some sec)
@@ -198,25 +189,23 @@ moved_stays (Some clock) sec n is =
     let m : clock + (sec - clock) ≡ max clock sec = omega arith in
     (passed.0, passed.1 ∙ ap (λ (k : ℕ). Some k) m)
 
+told_stays : (read : CaptureRecord) (e : Effects) (n : Node) → Stays n (tells read e n)
+told_stays read e n =
+    let out = goes_out_stays read.sec read.usec e.sent (record n {
+      tally = record n.tally { used = n.tally.used + 1; got = n.tally.got + length e.got; dropped = n.tally.dropped + length e.drops };
+      report = n.report ++ effects_text n.tally.records e;
+    }) in
+    record { records = out.records; clock = out.clock }
+
 given_stays : (read : CaptureRecord) (n : Node) (link : Option ℕ) → Stays n (given_on read n link)
 given_stays read n None = record { records = refl; clock = refl }
-given_stays read n (Some link) = by next.effects.passed
+given_stays read n (Some link) = by (on_frame n.control link read.octets) (on_frame n.control link read.octets).effects.passed
   where
-    next : Next
-    next = on_frame n.control link read.octets
-
-    told : Stays n (tells read next.effects (record n { control = next.control }))
-    told =
-        let now : Node = record n { control = next.control } in
-        let out = goes_out_stays read.sec read.usec next.effects.sent (record now {
-          tally = record n.tally { used = n.tally.used + 1; got = n.tally.got + length next.effects.got; dropped = n.tally.dropped + length next.effects.drops };
-          report = n.report ++ effects_text n.tally.records next.effects;
-        }) in
-        record { records = out.records; clock = out.clock }
-
-    by : (b : Bool) → Stays n (if b then passes (record n { control = next.control }) else tells read next.effects (record n { control = next.control }))
-    by true = record { records = refl; clock = refl }
-    by false = told
+    by : (next : Next) (b : Bool) → Stays n (if b then passes (record n { control = next.control }) else tells read next.effects (record n { control = next.control }))
+    by next true = record { records = refl; clock = refl }
+    by next false =
+        let told = told_stays read next.effects (record n { control = next.control }) in
+        record { records = told.records; clock = told.clock }
 
 -- a record is one more, and its second is that of the clock, unless the clock is later
 pub record_counts : (n : Node) (read : CaptureRecord) → ((record_done n read).tally.records ≡ n.tally.records + 1) × ((record_done n read).clock ≡ Some (later n.clock read.sec))

@@ -28,7 +28,7 @@ use Rattle.tool_run.specs.NodeReached.{EndsSo, last_of, Passes, Turns, past, Owi
 use Rattle.tool_run.specs.Outside.{Held, Meets, AppendsFront}
 use Rattle.tool_run.specs.Records.{Standing, Stands, Finds, IsEnding, IsUnended, IsLast}
 use Rattle.tool_run.proofs.HopLoop.{held_past, held_all, begun_front, nothing_front}
-use Rattle.tool_run.proofs.NodeLaws.{records_past, reach_on, reach_one, reach_gap, record_counts}
+use Rattle.tool_run.proofs.NodeLaws.{reached_past, records_past, reach_on, reach_one, reach_gap, record_counts}
 use Rattle.tool_run.proofs.RecordLaws.{all_of, within_all, beyond_more, refused_of, given_past, Finding}
 
 -- What a source and both sinks tell.
@@ -36,6 +36,13 @@ pub record Outer : Type 0 where
   pub left : Option (List ℕ)
   pub report : Option (List ℕ)
   pub frames : Option (List ℕ)
+
+-- a node that no gap stopped
+abbrev pub at_node : Node → Reached
+at_node n = record { node = n; gap = None }
+
+abbrev verdict : Status → (report frames : List ℕ) → Verdict
+verdict status report frames = record { status = status; report = report; frames = frames }
 
 -- ---- on the way
 
@@ -49,7 +56,7 @@ pub record OnCapture (r : RouterConf) (before now : Outer) (reader : RecordReade
   pub report : List ℕ
   pub frames_written : Appends before.frames now.frames frames
   pub report_written : Appends before.report now.report report
-  pub at : records_reach (first_node r) given ≡ record { node = past frames report node; gap = None }
+  pub at : records_reach (first_node r) given ≡ at_node (past frames report node)
   pub count : node.tally.records ≡ length given
 
 pub capture_first : (r : RouterConf) (before : Outer) (reader : RecordReader) (node : Node) → Stands [] [] reader → node ≡ first_node r → OnCapture r before before reader node
@@ -64,7 +71,7 @@ capture_first r before reader node stands fresh =
       report = [];
       frames_written = Appends-nil before.frames;
       report_written = Appends-nil before.report;
-      at = ap (λ (n : Node). record { node = past [] [] n; gap = None }) (sym fresh);
+      at = ap (λ (n : Node). at_node (past [] [] n)) (sym fresh);
       count = ap (λ (n : Node). n.tally.records) fresh;
     }
 
@@ -83,6 +90,10 @@ pub record Step (r : RouterConf) (before mid : Outer) (left : Option (List ℕ))
 pub step_made : {r : RouterConf} {before mid : Outer} {left : Option (List ℕ)} {reader reader_now : RecordReader} {node node_now : Node} (what : FoundRecord) (answered ended : Option Status) → OnCapture r before mid reader node → Finding mid.left left reader reader_now what → answered ≡ ended
     → Turns what node node_now answered → Step r before mid left reader reader_now node node_now what ended
 step_made {node = node} {node_now = node_now} what answered ended on finding is turn = record { on = on; finding = finding; turn = subst (λ (o : Option Status). Turns what node node_now o) is turn }
+
+reach_nothing : (n : Node) → records_reach n [] ≡ at_node n
+unfolding records_reach
+reach_nothing n = refl
 
 -- Only behind a record that makes no gap does the run go on.
 pub record Passed (node node_now : Node) (what : FoundRecord) : Type 0 where
@@ -128,7 +139,7 @@ module _ {r : RouterConf} {before mid : Outer} {left : Option (List ℕ)} {reade
       let moved : past on.frames on.report node_now ≡ past (on.frames ++ frames) (on.report ++ report) later =
       ap₂ (λ (f t : List ℕ). record node_now { frames = f; report = t }) whole_frames whole_report
       ∙ ap (λ (n : Node). record n { frames = (on.frames ++ frames) ++ later.frames; report = (on.report ++ report) ++ later.report }) (sym rest) in
-      let one : records_reach node (read ∷ []) ≡ record { node = node_now; gap = None } = reach_one node read [] passed.none ∙ reach_nothing (record_done node read) ∙ ap (λ (n : Node). record { node = n; gap = None }) (sym passed.done) in
+      let one : records_reach node (read ∷ []) ≡ at_node node_now = reach_one node read [] passed.none ∙ reach_nothing (record_done node read) ∙ ap at_node (sym passed.done) in
       let count = ap (λ (n : Node). n.tally.records) rest in
       record {
         all = on.all ++ found_record.0;
@@ -142,14 +153,10 @@ module _ {r : RouterConf} {before mid : Outer} {left : Option (List ℕ)} {reade
         at =
             reach_on (first_node r) (past on.frames on.report node) on.given (read ∷ []) on.at
             ∙ records_past on.frames on.report node (read ∷ [])
-            ∙ ap (λ (x : Reached). record { node = past on.frames on.report x.node; gap = x.gap }) one
-            ∙ ap (λ (n : Node). record { node = n; gap = None }) moved;
+            ∙ ap (reached_past on.frames on.report) one
+            ∙ ap at_node moved;
         count = omega (arith, count, step_counts, on.count, length-append on.given (read ∷ []));
       }
-    where
-      reach_nothing : (n : Node) → records_reach n [] ≡ record { node = n; gap = None }
-      unfolding records_reach
-      reach_nothing n = refl
 
 -- ---- fronts
 
@@ -157,15 +164,14 @@ module _ {r : RouterConf} {before mid : Outer} {left : Option (List ℕ)} {reade
 record Grows (owing : Verdict) (frames report : List ℕ) : Type 0 where
   pub frames_rest : List ℕ
   pub report_rest : List ℕ
-  pub frames : owing.frames ≡ frames ++ frames_rest
-  pub report : owing.report ≡ report ++ report_rest
+  pub frames_are : owing.frames ≡ frames ++ frames_rest
+  pub report_is : owing.report ≡ report ++ report_rest
 
 -- a node is one without texts, with its texts before it
-bare : Node → Node
+abbrev bare : Node → Node
 bare n = record n { frames = []; report = [] }
 
 grows_from : (frames report : List ℕ) (n : Node) (more : List CaptureRecord) (short : Bool) (reading : Reading) → Grows (verdict_on short reading (records_reach (past frames report n) more)) (frames ++ n.frames) (report ++ n.report)
-unfolding bare
 grows_from frames report n more short reading =
     let whole : past frames report n ≡ past (frames ++ n.frames) (report ++ n.report) (bare n) =
     ap₂ (λ (f t : List ℕ). record n { frames = f; report = t }) (sym (append-nil (frames ++ n.frames))) (sym (append-nil (report ++ n.report))) in
@@ -175,8 +181,8 @@ grows_from frames report n more short reading =
     record {
       frames_rest = reached.node.frames;
       report_rest = reached.node.report ++ end;
-      frames = ap (λ (x : Reached). (verdict_on short reading x).frames) all;
-      report = ap (λ (x : Reached). (verdict_on short reading x).report) all ∙ append_assoc (report ++ n.report) reached.node.report end;
+      frames_are = ap (λ (x : Reached). (verdict_on short reading x).frames) all;
+      report_is = ap (λ (x : Reached). (verdict_on short reading x).report) all ∙ append_assoc (report ++ n.report) reached.node.report end;
     }
 
 answer_is : (r : RouterConf) (octets : List ℕ) → node_answer r octets ≡ verdict_on (is_within octets) (all_of octets).1 (records_reach (first_node r) (all_of octets).0)
@@ -184,7 +190,7 @@ unfolding node_answer
 answer_is r octets = refl
 
 -- the answer to octets that begin with records that were done
-grows_at : (r : RouterConf) (octets frames report : List ℕ) (n : Node) (given tail : List CaptureRecord) → records_reach (first_node r) given ≡ record { node = past frames report n; gap = None } → (all_of octets).0 ≡ given ++ tail → Grows (node_answer r octets) (frames ++ n.frames) (report ++ n.report)
+grows_at : (r : RouterConf) (octets frames report : List ℕ) (n : Node) (given tail : List CaptureRecord) → records_reach (first_node r) given ≡ at_node (past frames report n) → (all_of octets).0 ≡ given ++ tail → Grows (node_answer r octets) (frames ++ n.frames) (report ++ n.report)
 grows_at r octets frames report n given tail at are =
     let short = is_within octets in
     let last = (all_of octets).1 in
@@ -195,7 +201,7 @@ grows_at r octets frames report n given tail at are =
 begun_by : {r : RouterConf} {before now : Outer} {octets : List ℕ} {node : Node} (frames report : List ℕ) → Appends before.frames now.frames frames → Appends before.report now.report report → Grows (node_answer r octets) (frames ++ node.frames) (report ++ node.report)
     → Begun (node_answer r octets) node before.report now.report before.frames now.frames
 begun_by frames report wrote_frames wrote_report grows =
-    record { report = (report, wrote_report, (grows.report_rest, grows.report)); frames = (frames, wrote_frames, (grows.frames_rest, grows.frames)) }
+    record { report = (report, wrote_report, (grows.report_rest, grows.report_is)); frames = (frames, wrote_frames, (grows.frames_rest, grows.frames_are)) }
 
 -- what was written and stands in the node is the front of what is owed, however the source goes on
 capture_begun : {r : RouterConf} {before now : Outer} {reader : RecordReader} {node : Node} → OnCapture r before now reader node → (octets : List ℕ) × Held before.left octets × Begun (node_answer r octets) node before.report now.report before.frames now.frames
@@ -245,15 +251,15 @@ pub record CaptureEnds (r : RouterConf) (before now : Outer) (status : Status) (
 
 -- with the end of the report a node's texts are what is owed
 ended_is : (frames report : List ℕ) (end : Status × List ℕ) (node node_now : Node) (status : Status) → EndsSo end node node_now status
-    → node_ends (past frames report node) end ≡ record { status = status; report = report ++ node_now.report; frames = frames ++ node_now.frames }
+    → node_ends (past frames report node) end ≡ verdict status (report ++ node_now.report) (frames ++ node_now.frames)
 ended_is frames report end node node_now status ends =
-    ap (λ (l : List ℕ). record { status = end.0; report = l; frames = frames ++ node.frames }) (append_assoc report node.report end.1)
-    ∙ ap (λ (n : Node). record { status = end.0; report = report ++ n.report; frames = frames ++ n.frames }) (sym ends.node)
-    ∙ ap (λ (s : Status). record { status = s; report = report ++ node_now.report; frames = frames ++ node_now.frames }) (sym ends.status)
+    ap (λ (l : List ℕ). verdict end.0 l (frames ++ node.frames)) (append_assoc report node.report end.1)
+    ∙ ap (λ (n : Node). verdict end.0 (report ++ n.report) (frames ++ n.frames)) (sym ends.node)
+    ∙ ap (λ (s : Status). verdict s (report ++ node_now.report) (frames ++ node_now.frames)) (sym ends.status)
 
 -- an answer that is no fault of the source
 ends_as : (r : RouterConf) (before now : Outer) (status : Status) (frames report : List ℕ) (node : Node) (octets : List ℕ) (what : FoundRecord) → Appends before.frames now.frames frames → Appends before.report now.report report → Held before.left octets
-    → node_answer r octets ≡ record { status = status; report = report ++ node.report; frames = frames ++ node.frames } → (status ≡ Done) ⊎ (status ≡ CaptureRefused) → (status ≡ Done → IsLast what) → what ≢ found.Ended ending.Failed → CaptureEnds r before now status node what
+    → node_answer r octets ≡ verdict status (report ++ node.report) (frames ++ node.frames) → (status ≡ Done) ⊎ (status ≡ CaptureRefused) → (status ≡ Done → IsLast what) → what ≢ found.Ended ending.Failed → CaptureEnds r before now status node what
 ends_as r before now status frames report node octets what wrote_frames wrote_report held total is last other =
     record {
       answer = λ known. (octets, held, record { report = report; frames = frames; report_written = wrote_report; frames_written = wrote_frames; is = total });
@@ -308,8 +314,12 @@ open_long t HeaderToCome octets none = refl
 open_long t (HeaderRead form) octets none = refl
 open_long t (Refused fault) octets none = absurd (false≢true (ap is_ok none))
 
+cut_is : (r : RouterConf) (taken : List ℕ) → node_cut r taken ≡ node_ends (node_reached r taken).node (ReadFault, [])
+unfolding node_cut
+cut_is r taken = refl
+
 -- the answer to octets whose records were all done
-answer_at : (r : RouterConf) (octets frames report : List ℕ) (node : Node) (given : List CaptureRecord) → records_reach (first_node r) given ≡ record { node = past frames report node; gap = None } → (all_of octets).0 ≡ given
+answer_at : (r : RouterConf) (octets frames report : List ℕ) (node : Node) (given : List CaptureRecord) → records_reach (first_node r) given ≡ at_node (past frames report node) → (all_of octets).0 ≡ given
     → node_answer r octets ≡ node_ends (past frames report node) (node_end (is_within octets) node.tally (all_of octets).1.stage (all_of octets).1.octets)
 answer_at r octets frames report node given at are =
     answer_is r octets ∙ ap (verdict_on (is_within octets) (all_of octets).1) (ap (λ (l : List CaptureRecord). records_reach (first_node r) l) are ∙ at)
@@ -364,7 +374,7 @@ module _ {r : RouterConf} {before mid : Outer} {reader : RecordReader} {node : N
       let wrote_report = subst (λ (o : Option (List ℕ)). Appends before.report o on.report) (sym same_report) on.report_written in
       let same : within_limit taken ≡ taken = within_all taken within in
       let whole : drained (fed unread taken) ≡ all_of taken = ap (λ (l : List ℕ). drained (fed unread l)) (sym same) in
-      let reached : node_reached r taken ≡ record { node = past on.frames on.report node; gap = None } =
+      let reached : node_reached r taken ≡ at_node (past on.frames on.report node) =
       ap (λ (d : List CaptureRecord × Reading). records_reach (first_node r) d.0) whole ∙ ap (λ (l : List CaptureRecord). records_reach (first_node r) l) (sym are) ∙ on.at in
       let still : node_now ≡ node = ends.node ∙ ap (λ (l : List ℕ). record node { report = l }) (append-nil node.report) in
       let held = held_past before.left now.left taken all_consumed in
@@ -382,7 +392,7 @@ module _ {r : RouterConf} {before mid : Outer} {reader : RecordReader} {node : N
             frames = on.frames;
             report_written = wrote_report;
             frames_written = wrote_frames;
-            is = cut_is taken ∙ ap (λ (x : Reached). node_ends x.node (ReadFault, [])) reached ∙ ended_is on.frames on.report (ReadFault, []) node node_now status ends;
+            is = cut_is r taken ∙ ap (λ (x : Reached). node_ends x.node (ReadFault, [])) reached ∙ ended_is on.frames on.report (ReadFault, []) node node_now status ends;
           },
         );
         begun = (held.0, held.1, subst (λ (n : Node). Begun (node_answer r held.0) n before.report now.report before.frames now.frames) (sym still) (begun_by {r} {before} {now} on.frames on.report wrote_frames wrote_report grows));
@@ -392,10 +402,6 @@ module _ {r : RouterConf} {before mid : Outer} {reader : RecordReader} {node : N
         whole = λ known. absurd (known ends.status);
       }
     where
-      cut_is : (taken : List ℕ) → node_cut r taken ≡ node_ends (node_reached r taken).node (ReadFault, [])
-      unfolding node_cut
-      cut_is taken = refl
-
       apart : ReadFault ≡ Done → ⊥
       apart e = cc
 

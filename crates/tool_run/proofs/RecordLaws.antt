@@ -272,8 +272,8 @@ module _ (left mid : Option (List ℕ)) (first : RecordReader) (reading : Readin
   )
     where
       by : (octets : List ℕ) (last : Reading) → is_within octets ≡ true → IsUnended last → (o : Option CaptureFault) → end_of last ≡ o → IsEnding octets last (ending_by o)
-      by octets last within open None e = (within, open, e)
-      by octets last within open (Some why) e = (within, open, e)
+      by octets last within none_more None e = (within, none_more, e)
+      by octets last within none_more (Some why) e = (within, none_more, e)
 
   pub seeks_more : (left_now : Option (List ℕ)) (piece : List ℕ) (reading_now : Reading) (taken_now : ℕ) (over_now : Bool) → Consumes mid left_now piece → over ≡ false → reading_now ≡ fed reading (take (min (length piece) (CAPTURE_LIMIT - taken)) piece)
       → taken_now ≡ taken + min (length piece) (CAPTURE_LIMIT - taken) → over_now ≡ nat_lt (CAPTURE_LIMIT - taken) (length piece) → Seeks left left_now first reading_now taken_now over_now

@@ -16,8 +16,8 @@ use Rattle.tool_run.specs.HopReached.{Begins}
 use Rattle.tool_run.specs.NodeRun.{Node, record_done, gap_at, gap_refused, node_done}
 
 -- a node's report ends
-pub record EndsSo (end : Status × List ℕ) (before now : Node) (status : Status) : Type 0 where
-  pub status : status ≡ end.0
+pub record EndsSo (end : Status × List ℕ) (before now : Node) (ended : Status) : Type 0 where
+  pub status : ended ≡ end.0
   pub node : now ≡ record before { report = before.report ++ end.1 }
 
 -- how it ends where there is no further record

@@ -46,9 +46,12 @@ first_node r = record { control = first_control r; clock = None; ticks = 0; tall
 
 -- ---- frames that are sent
 
+unfoldable pub frame_record : (sec usec : ℕ) → Sent → List ℕ
+frame_record sec usec s = written_record sec usec s.octets
+
 -- frames go out at a time
 abbrev pub frames_text : (sec usec : ℕ) → List Sent → List ℕ
-frames_text sec usec sent = flat_map (λ s. written_record sec usec s.octets) sent
+frames_text sec usec sent = flat_map (frame_record sec usec) sent
 
 unfoldable pub goes_out : (sec usec : ℕ) → List Sent → Node → Node
 goes_out sec usec sent n = record n { frames = n.frames ++ frames_text sec usec sent; tally = record n.tally { sent = n.tally.sent + length sent } }

@@ -1,5 +1,5 @@
 //! Captures that are taken from a source piece by piece and given record by record.
-ghost use Rattle.std.specs.Prelude.{◌≡◌, ◌≢◌, ◌<◌, ◌≤◌, ◌+◌, ◌-◌, ℕ, List, [], Ok, None, IfOk, OnOk, OnErr, length, take, min, nat_lt};
+ghost use Rattle.std.specs.Prelude.{◌≡◌, ◌≢◌, ◌<◌, ◌≤◌, ◌+◌, ◌-◌, ◌++◌, ℕ, List, [], Ok, None, IfOk, OnOk, OnErr, length, take, min, nat_lt};
 ghost use Rattle.std.specs.Io.KnownBytes.{Consumes, IsAtEnd};
 ghost use Rattle.wire_base.specs.Causes.{last_count};
 ghost use Rattle.wire_base.specs.declared.limits.TheConstants.{CAPTURE_LIMIT};

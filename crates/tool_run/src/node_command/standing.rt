@@ -83,6 +83,7 @@ impl Node {
     }
 
     /// Frames go out at a time.
+    #[tactic(auto, unfolding(crate::specs::NodeRun::goes_out))]
     fn go_out(&mut self, sec: u32, usec: u32, sent: &[Sent]) -> M<()>
         ensures { OnOk result (self.new ≡ run.goes_out sec usec sent.now self.old) }
     {
@@ -92,6 +93,7 @@ impl Node {
     }
 
     /// What is due on a link goes out, where the link is up.
+    #[tactic(auto, unfolding(crate::specs::NodeRun::sends_on))]
     fn send_on(&mut self, sec: u32, link: u16) -> M<()>
         ensures { OnOk result (self.new ≡ run.sends_on sec self.old link) }
     {
@@ -99,10 +101,12 @@ impl Node {
             return Ok(());
         }
         let effects = self.router.send(link)?;
-        self.go_out(sec, 0, effects.sent.as_slice())
+        self.go_out(sec, 0, effects.sent.as_slice())?;
+        Ok(())
     }
 
     /// What is due goes out on each link that is up, in order.
+    #[tactic(auto, unfolding(crate::specs::NodeRun::sends_all))]
     fn send_all(&mut self, sec: u32) -> M<()>
         ensures { OnOk result (self.new ≡ run.sends_all sec self.old) }
     {
@@ -114,6 +118,7 @@ impl Node {
     }
 
     /// One second passes: the router's database ages, and after every fifth second the router sends.
+    #[tactic(auto, unfolding(crate::specs::NodeRun::second_passes))]
     fn pass_second(&mut self, sec: u32) -> M<()>
         ensures { OnOk result (self.new ≡ run.second_passes sec self.old) }
     {
@@ -127,6 +132,7 @@ impl Node {
     }
 
     /// The seconds after one pass, up to another.
+    #[tactic(auto, unfolding(crate::specs::NodeRun::seconds_pass))]
     fn pass_seconds(&mut self, from: u32, to: u32) -> M<()>
         ensures { OnOk result (self.new ≡ run.seconds_pass (to - from) from self.old) }
     {
@@ -196,6 +202,7 @@ impl Node {
     }
 
     /// Does a record: it is counted, the clock moves to its second, and then the router is given its frame.
+    #[tactic(auto, unfolding(crate::specs::NodeRun::record_done))]
     pub fn take(&mut self, alloc: Global, captured: &CapRecord) -> M<()>
         requires { self.old.tally.records < 2 ^ 63 }
         ensures { OnOk result (self.new ≡ run.record_done self.old (record_seen captured.now)) }

@@ -5,7 +5,6 @@ ghost use Rattle.bier_bits.specs.Any.{bsl_of, positions_of};
 ghost use Rattle.bier_forward.specs.Sets.{set_in, HaveLength};
 ghost use Rattle.replay_text.specs.Ids.{ids_text};
 ghost use Rattle.wire_base.specs.model.BitSet.{has_member};
-ghost use Rattle.wire_base.specs.model.Capture.{written_record};
 ghost use Rattle.wire_base.specs.model.Place.{bits_of, id_at};
 ghost use Rattle.tool_run.specs.Captured.{refused_record};
 ghost use Rattle.tool_run.specs.Causes.{cause_text};
@@ -26,8 +25,9 @@ const MOST_RECORDED: usize = 65_535;
 
 /// Appends the record of a frame. There is no memory for one that fits no record, and a router sends none: a PDU has at most 1,500
 /// octets, and a packet that came in a frame of at most 65,000 is sent with at most 38 more.
+#[tactic(auto, unfolding(crate::specs::NodeRun::frame_record))]
 fn push_frame(out: &mut Octets, sec: u32, usec: u32, frame: &Sent) -> M<()>
-    ensures { OnOk result (out.new ≡ out.old ++ written_record sec usec frame.now.octets) }
+    ensures { OnOk result (out.new ≡ out.old ++ run.frame_record sec usec frame.now) }
 {
     if frame.octets.len() > MOST_RECORDED {
         return Err(Memory);

@@ -1,0 +1,10 @@
+use Rattle.tool_run.proofs.Appends.{last_part}
+use Rattle.tool_run.proofs.captured.push_rule.Goals as goal
+
+pub returns : goal.returns
+returns c =
+    last_part c.append-2.result _ _ _ _ _ c.in_ok-append.ensures.ok
+    (last_part c.append-2.result _ _ _ _ _ c.in_ok-append_number.ensures.ok
+    (last_part c.append-2.result _ _ _ _ _ c.in_ok-push.ensures.ok
+    (last_part c.append-2.result _ _ _ _ _ c.in_ok-append_number-2.ensures.ok
+    (last_part c.append-2.result _ _ _ _ _ c.in_ok-push-2.ensures.ok c.append-2.ensures.ok))))
