@@ -1,6 +1,6 @@
 -- A capture that is read and done record by record is done as a whole.
 use Rattle.std.proofs.Common.{◌≡◌, ◌≢◌, ℕ, ◌+◌, ◌<◌, ◌≤◌, Bool, true, false, List, [], ◌∷◌, ◌++◌, length, Option, Some, None, Result, Ok, is_ok, refl, sym, ap, ap₂, subst, ◌∙◌, arith, inl, inr, append-nil, append_assoc}
-use Rattle.std.specs.Prelude.{◌⊎◌}
+use Rattle.std.specs.Prelude.{◌⊎◌, IfSome}
 use Rattle.std.specs.Io.KnownBytes.{Appends, Consumes, IsAtEnd}
 use Rattle.std.proofs.KnownBytes.{Appends-nil, Appends-trans, Consumes-nil, Consumes-trans}
 use Rattle.std.proofs.lemmas.Bool.{false≢true}
@@ -198,18 +198,18 @@ grows_at r octets frames report n given tail at are =
     (sym (answer_is r octets ∙ ap (verdict_on short last) (ap (λ (l : List CaptureRecord). records_reach (first_node r) l) are ∙ reach_on (first_node r) (past frames report n) given tail at)))
     (grows_from frames report n tail short last)
 
-begun_by : {r : RouterConf} {before now : Outer} {octets : List ℕ} {node : Node} (frames report : List ℕ) → Appends before.frames now.frames frames → Appends before.report now.report report → Grows (node_answer r octets) (frames ++ node.frames) (report ++ node.report)
+begun_by : (r : RouterConf) (before now : Outer) (octets : List ℕ) (node : Node) (frames report : List ℕ) → Appends before.frames now.frames frames → Appends before.report now.report report → Grows (node_answer r octets) (frames ++ node.frames) (report ++ node.report)
     → Begun (node_answer r octets) node before.report now.report before.frames now.frames
-begun_by frames report wrote_frames wrote_report grows =
+begun_by r before now octets node frames report wrote_frames wrote_report grows =
     record { report = (report, wrote_report, (grows.report_rest, grows.report_is)); frames = (frames, wrote_frames, (grows.frames_rest, grows.frames_are)) }
 
 -- what was written and stands in the node is the front of what is owed, however the source goes on
 capture_begun : {r : RouterConf} {before now : Outer} {reader : RecordReader} {node : Node} → OnCapture r before now reader node → (octets : List ℕ) × Held before.left octets × Begun (node_answer r octets) node before.report now.report before.frames now.frames
-capture_begun {r} {before} {now} {reader} {node} on =
+capture_begun {r = r} {before = before} {now = now} {reader = reader} {node = node} on =
     let held = held_past before.left now.left on.all on.consumed in
     let first : (all_of on.all).0 ≡ on.given ++ (drained reader.reader).0 = ap (λ (d : List CaptureRecord × Reading). d.0) on.stands.records in
     let tail = given_past on.all held.2.0 on.given (drained reader.reader).0 first in
-    (held.0, held.1, begun_by {r} {before} {now} on.frames on.report on.frames_written on.report_written
+    (held.0, held.1, begun_by r before now held.0 node on.frames on.report on.frames_written on.report_written
     (grows_at r held.0 on.frames on.report node on.given tail.0 on.at (ap (λ (l : List ℕ). (all_of l).0) held.2.1 ∙ tail.1)))
 
 abbrev pub Fronts : RouterConf → (before now : Outer) → Type 0
@@ -222,7 +222,7 @@ both_front before mid now owing node begun report frames =
 
 -- the sinks took a front of what stands in a node
 pub capture_fronts : {r : RouterConf} {before mid : Outer} {reader : RecordReader} {node : Node} (now : Outer) → OnCapture r before mid reader node → AppendsFront mid.report now.report node.report → AppendsFront mid.frames now.frames node.frames → Fronts r before now
-capture_fronts {r} {before} {mid} {node = node} now on report frames =
+capture_fronts {r = r} {before = before} {mid = mid} {node = node} now on report frames =
     let begun = capture_begun on in
     (begun.0, begun.1, both_front before mid now (node_answer r begun.0) node begun.2 report frames)
 
@@ -395,7 +395,7 @@ module _ {r : RouterConf} {before mid : Outer} {reader : RecordReader} {node : N
             is = cut_is r taken ∙ ap (λ (x : Reached). node_ends x.node (ReadFault, [])) reached ∙ ended_is on.frames on.report (ReadFault, []) node node_now status ends;
           },
         );
-        begun = (held.0, held.1, subst (λ (n : Node). Begun (node_answer r held.0) n before.report now.report before.frames now.frames) (sym still) (begun_by {r} {before} {now} on.frames on.report wrote_frames wrote_report grows));
+        begun = (held.0, held.1, subst (λ (n : Node). Begun (node_answer r held.0) n before.report now.report before.frames now.frames) (sym still) (begun_by r before now held.0 node on.frames on.report wrote_frames wrote_report grows));
         ends = inr (inr ends.status);
         last = λ done. absurd (apart (sym ends.status ∙ done));
         cut = λ fault. refl;
@@ -486,3 +486,12 @@ met_whole owing before mid now status node owes report frames =
       report = subst (Appends before.report now.report) (sym (ap (λ (v : Verdict). v.report) owes.is)) (Appends-trans before.report mid.report now.report owes.report node.report owes.report_written report);
       frames = subst (Appends before.frames now.frames) (sym (ap (λ (v : Verdict). v.frames) owes.is)) (Appends-trans before.frames mid.frames now.frames owes.frames node.frames owes.frames_written frames);
     }
+
+-- ---- the router at a place of a domain
+
+pub on_conf : (routers : Option RouterConf) (conf : RouterConf) (P : RouterConf → Type 0) → routers ≡ Some conf → P conf → IfSome routers P
+on_conf routers conf P is holds = subst (λ (o : Option RouterConf). IfSome o P) (sym is) holds
+
+pub any_untouched : (routers : Option RouterConf) (before : Outer) → IfSome routers (λ conf. Fronts conf before before)
+any_untouched None before = tt
+any_untouched (Some conf) before = untouched conf before

@@ -1,5 +1,5 @@
 -- What a node's calls do is what it does.
-use Rattle.std.proofs.Common.{◌≡◌, ℕ, ◌+◌, ◌-◌, ◌<◌, ◌≤◌, suc, Bool, true, false, if◌then◌else◌, List, [], ◌∷◌, ◌++◌, length, refl, sym, ap, ◌∙◌, arith}
+use Rattle.std.proofs.Common.{◌≡◌, ℕ, ◌+◌, ◌-◌, ◌<◌, ◌≤◌, zero, suc, Bool, true, false, if◌then◌else◌, List, [], ◌∷◌, ◌++◌, length, refl, sym, ap, ◌∙◌, arith}
 use Rattle.std.specs.List.{fold, range_with_len}
 use Rattle.std.proofs.lemmas.List.Sums.{fold-append}
 use Rattle.wire_base.specs.declared.effects.Sent.{Sent}
@@ -24,7 +24,7 @@ links_more sec n m link so =
     ∙ ap (λ (l : List ℕ). fold (sends_on sec) n l) (sym (more 0 link link (omega arith)))
   where
     more : (from count last : ℕ) → from + count ≡ last → range_with_len from (count + 1) ≡ range_with_len from count ++ last ∷ []
-    more from 0 last is = let same : from ≡ last = omega arith in ap (λ (k : ℕ). k ∷ []) same
+    more from zero last is = let same : from ≡ last = omega arith in ap (λ (k : ℕ). k ∷ []) same
     more from (suc count) last is = ap (λ (l : List ℕ). from ∷ l) (more (from + 1) count last (omega (arith, is)))
 
 -- one second more

@@ -8,7 +8,7 @@ use Rattle.std.proofs.lemmas.List.{length-append, length-take, take_all, take-ap
 use Rattle.wire_base.specs.declared.limits.TheConstants.{CAPTURE_LIMIT}
 use Rattle.wire_base.specs.declared.faults.CaptureFault.{CaptureFault}
 use Rattle.wire_base.specs.model.Capture.{CaptureRecord, Reading, Stage, Refused, unread, fed, drained, drain_on, next_of, end_of}
-use Rattle.pcap_frames.proofs.Drained.{drained_next, drained_fed, drained_twice, fed_twice, next_shorter, next_lowers, next_refuses, refused_still, unread_none}
+use Rattle.pcap_frames.proofs.Drained.{drained_next, drained_fed, drained_twice, drained_end, fed_twice, next_shorter, next_lowers, next_refuses, refused_still, unread_none}
 use Rattle.tool_run.specs.declared.records.Ending.{Ending}
 use Rattle.tool_run.specs.declared.records.Ending.TheVariants as ending
 use Rattle.tool_run.specs.declared.records.FoundRecord.{FoundRecord}
@@ -197,16 +197,12 @@ seeks_first left first =
     }
 
 module _ (left left_now : Option (List ℕ)) (first : RecordReader) (reading after : Reading) (taken : ℕ) (over : Bool) (seeks : Seeks left left_now first reading taken over) (after-is : after ≡ (next_of reading).1) where
-  pub seeks_record : (now : RecordReader) (read : CaptureRecord) → (next_of reading).0 ≡ Ok (Some read) → now.reader ≡ after → now.taken ≡ taken → now.over ≡ over
-      → (octets : List ℕ) × Consumes left left_now octets × ((all : List ℕ) (given : List CaptureRecord) → Stands all given first → Stands (all ++ octets) (given ++ read ∷ []) now)
-  seeks_record now read is reader_is taken_is over_is = (
+  pub seeks_record : (read : CaptureRecord) → (next_of reading).0 ≡ Ok (Some read)
+      → (octets : List ℕ) × Consumes left left_now octets × ((all : List ℕ) (given : List CaptureRecord) → Stands all given first → Standing (all ++ octets) (given ++ read ∷ []) after taken over)
+  seeks_record read is = (
     seeks.octets,
     seeks.consumed,
-    λ all given stands.
-        let next = stands_record (all ++ seeks.octets) given reading after taken over (seeks.stands all given stands) after-is read is in
-        subst (λ (r : Reading). Standing (all ++ seeks.octets) (given ++ read ∷ []) r now.taken now.over) (sym reader_is)
-        (subst (λ (n : ℕ). Standing (all ++ seeks.octets) (given ++ read ∷ []) after n now.over) (sym taken_is)
-        (subst (λ (b : Bool). Standing (all ++ seeks.octets) (given ++ read ∷ []) after taken b) (sym over_is) next)),
+    λ all given stands. stands_record (all ++ seeks.octets) given reading after taken over (seeks.stands all given stands) after-is read is,
   )
 
   pub seeks_refused : (now : RecordReader) (why : CaptureFault) → (next_of reading).0 ≡ Err why → Finding left left_now first now (found.Ended (ending.Refused why))
@@ -229,6 +225,10 @@ pub none_again : (reading after : Reading) → after ≡ (next_of reading).1 →
 none_again reading after after-is is =
     let none : drained reading ≡ ([], after) = answer_is reading after (Ok None) is after-is in
     subst (λ (d : List CaptureRecord × Reading). drained d.1 ≡ ([], d.1)) none (drained_twice reading)
+
+-- and is still the same
+pub none_still : (reading after : Reading) → after ≡ (next_of reading).1 → (next_of reading).0 ≡ Ok None → (next_of after).1 ≡ after
+none_still reading after after-is is = subst (λ (d : List CaptureRecord × Reading). (next_of d.1).1 ≡ d.1) (none_again reading after after-is is) (drained_end after)
 
 module _ (left mid : Option (List ℕ)) (first : RecordReader) (reading : Reading) (taken : ℕ) (over : Bool) (seeks : Seeks left mid first reading taken over) (none : drained reading ≡ ([], reading)) (unended : IsUnended reading) where
   pub seeks_too_long : (now : RecordReader) → over ≡ true → Finding left mid first now (found.Ended ending.TooLong)

@@ -1,10 +1,12 @@
 //! The command `node`: one router on the records of a capture.
-ghost use Rattle.std.specs.Prelude.{◌≡◌, ◌≢◌, ◌⊎◌, ◌<◌, ◌^◌, ◌++◌, ℕ, List, None, false, length, slice_get, IfSome, IfOk, IfErr, OnOk, OnErr};
+ghost use Rattle.std.specs.Prelude.{◌≡◌, ◌≢◌, ◌⊎◌, ◌<◌, ◌^◌, ◌++◌, ℕ, List, Some, None, false, length, slice_get, IfSome, IfOk, IfErr, OnOk, OnErr};
 ghost use Rattle.std.specs.Io.KnownBytes.{IsAtEnd, Consumes, Appends};
 ghost use Rattle.pcap_frames.specs.Seen.{record_seen};
 ghost use Rattle.wire_base.specs.Causes.{last_count};
 ghost use Rattle.wire_base.specs.declared.status.Status.TheVariants as status;
 ghost use Rattle.wire_base.specs.model.Configuration.{IsSound};
+ghost use Rattle.tool_run.specs.declared.records.Ending.TheVariants as endings;
+ghost use Rattle.tool_run.specs.declared.records.FoundRecord.TheVariants as found;
 ghost use Rattle.tool_run.specs.Answer.{IsDecided};
 ghost use Rattle.tool_run.specs.Headers.{IsOpen};
 ghost use Rattle.tool_run.specs.NodeReached.{EndsSo, Passes, Turns, Owing, Begun, last_of};
@@ -105,7 +107,8 @@ fn finish(node: &mut Node) -> M<Status>
 /// Ends the report where there is no further record. At a fault of the source it has no last line.
 fn conclude(node: &mut Node, ending: Ending) -> M<Status>
     requires { node.old.tally.records < 2 ^ 63 }
-    ensures { IfOk result (λ status. EndsSo (last_of ending node.old.tally) node.old node.new status) }
+    ensures ended { IfOk result (λ status. EndsSo (last_of ending node.old.tally) node.old node.new status) }
+    ensures known { OnErr result (ending ≢ endings.Failed) }
 {
     let records = node.tally.records;
     match ending {
@@ -119,7 +122,8 @@ fn conclude(node: &mut Node, ending: Ending) -> M<Status>
 /// Does what a reader found, and answers how the run ends, where it does.
 fn take_found(alloc: Global, node: &mut Node, what: &FoundRecord) -> M<Option<Status>>
     requires { node.old.tally.records < 2 ^ 63 }
-    ensures { IfOk result (λ ended. Turns what.now node.old node.new ended) }
+    ensures turn { IfOk result (λ ended. Turns what.now node.old node.new ended) }
+    ensures known { OnErr result (what.now ≢ found.Ended endings.Failed) }
 {
     match what {
         FoundRecord::Record(record) => do_record(alloc, node, record),
@@ -176,6 +180,15 @@ fn do_capture<S: Source, C: Sink, R: Sink>(
     }
 }
 
+/// The configuration of the router at a place of a domain.
+fn conf_at(domain: &Domain, router: u16) -> M<RouterConf>
+    requires { router < length domain.now.routers }
+    ensures at { IfOk result (λ conf. slice_get domain.now.routers router ≡ Some conf) }
+    ensures sound { IfOk result (λ conf. IsSound conf) }
+{
+    domain.routers.as_slice()[usize::from(router)].copy()
+}
+
 /// All that the program does on the words `node CONF ROUTER CAPTURE FRAMES`, once the domain file is read and the router is found:
 /// the router at that place of the domain starts, is given the frames of the capture as they came on its links, one second after
 /// the other passes between them, and what it sends is written as a capture; what it delivered and dropped is reported. Both are
@@ -224,7 +237,7 @@ pub fn node<S: Source, C: Sink, R: Sink>(
     ensures front { (result ≡ status.WriteFault) ⊎ (result ≡ status.Memory) → IfSome (slice_get domain.now.routers router) (λ conf. (octets : List ℕ) × Held (S.left input.old) octets
         × (AppendsFront (R.written report.old) (R.written report.new) (node_answer conf octets).report × AppendsFront (C.written frames.old) (C.written frames.new) (node_answer conf octets).frames)) }
 {
-    let Ok(conf) = domain.routers.as_slice()[usize::from(router)].copy() else {
+    let Ok(conf) = conf_at(domain, router) else {
         return Status::Memory;
     };
     match do_capture(alloc, conf, input, frames, report) {

@@ -4,6 +4,7 @@ ghost use Rattle.std.specs.Io.KnownBytes.{Consumes, IsAtEnd};
 ghost use Rattle.wire_base.specs.Causes.{last_count};
 ghost use Rattle.wire_base.specs.declared.limits.TheConstants.{CAPTURE_LIMIT};
 ghost use Rattle.wire_base.specs.model.Capture.{CaptureRecord, fed, next_of, end_of};
+ghost use Rattle.wire_base.specs.declared.faults.CaptureFault.TheVariants as fault;
 ghost use Rattle.tool_run.specs.declared.records.Ending.TheVariants as ending;
 ghost use Rattle.tool_run.specs.declared.records.FoundRecord.TheVariants as found;
 
@@ -36,6 +37,16 @@ pub enum FoundRecord {
     Record(CapRecord),
     /// There is no further whole record in what was taken.
     Ended(Ending),
+}
+
+/// Whether a fault is one of the capture; else memory is wanting.
+fn known(why: CaptureFault) -> M<()>
+    ensures { OnOk result (why ≢ fault.Memory) }
+{
+    if why == CaptureFault::Memory {
+        return Err(Memory);
+    }
+    Ok(())
 }
 
 /// A capture that is read record by record: how many octets were taken of it, up to the limit. `over` says that there are
@@ -110,8 +121,10 @@ impl RecordReader {
             match self.reader.next() {
                 Ok(Some(record)) => return Ok(FoundRecord::Record(record)),
                 Ok(None) => {}
-                Err(CaptureFault::Memory) => return Err(Memory),
-                Err(why) => return Ok(FoundRecord::Ended(Ending::Refused(why))),
+                Err(why) => {
+                    known(why)?;
+                    return Ok(FoundRecord::Ended(Ending::Refused(why)));
+                }
             }
             if self.over {
                 return Ok(FoundRecord::Ended(Ending::TooLong));
