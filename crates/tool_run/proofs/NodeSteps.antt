@@ -25,7 +25,9 @@ links_more sec n m link so =
   where
     more : (from count last : ℕ) → from + count ≡ last → range_with_len from (count + 1) ≡ range_with_len from count ++ last ∷ []
     more from zero last is = let same : from ≡ last = omega arith in ap (λ (k : ℕ). k ∷ []) same
-    more from (suc count) last is = ap (λ (l : List ℕ). from ∷ l) (more (from + 1) count last (omega (arith, is)))
+    more from (suc count) last is =
+        let one : suc count + 1 ≡ suc (count + 1) = omega arith in
+        ap (λ (n : ℕ). range_with_len from n) one ∙ ap (λ (l : List ℕ). from ∷ l) (more (from + 1) count last (omega (arith, is)))
 
 -- one second more
 pub seconds_more : (to sec : ℕ) (n : Node) → sec < to → seconds_pass (to - sec) sec n ≡ seconds_pass (to - (sec + 1)) (sec + 1) (second_passes (sec + 1) n)

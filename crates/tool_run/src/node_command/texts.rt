@@ -182,7 +182,8 @@ pub fn push_gap(out: &mut Octets, number: u64, gap: (u32, u32)) -> M<()>
 {
     push_rule(out, number, 7, b"Gap")?;
     out.push(b' ')?;
-    push_number(out, gap.0)?;
+    out.append_number(u64::from(gap.0))?;
+    out.push(b' ')?;
     out.append_number(u64::from(gap.1))?;
     out.push(b'\n')
 }
