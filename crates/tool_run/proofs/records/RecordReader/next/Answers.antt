@@ -18,7 +18,7 @@ pieces-init g c = record { seeks = seeks_first (g.S.Source.left c.args.input.now
 pub returns-in-Ok-Some-clause-found : goal.returns-in-Ok-Some-clause-found
 returns-in-Ok-Some-clause-found g c =
     seeks_record (g.S.Source.left c.args.input.now) (g.S.Source.left c.pieces.input) c.args.self.now c.pieces.self.reader c.next.new.self c.pieces.self.taken c.pieces.self.over c.pieces.invariant.seeks c.in-Ok-Some.ensures.after
-    (record_seen c.in-Ok-Some.record) (c.in-Ok-Some.ensures.exact ∙ ap (λ (o : Option CapRecord). Ok (option_map record_seen o)) c.in-Ok-Some.is)
+    (record_seen c.in-Ok-Some.record) (c.in-Ok-Some.ensures.exact ∙ ap (λ (o : Option CapRecord). Ok (option_map record_seen o)) c.in-Ok-Some.field-0-is)
 
 pub returns-in-Err-clause-found : goal.returns-in-Err-clause-found
 returns-in-Err-clause-found g c =
@@ -28,34 +28,34 @@ returns-in-Err-clause-found g c =
 
 pub returns-then-self-clause-found : goal.returns-then-self-clause-found
 returns-then-self-clause-found g c =
-    let none = c.in-Ok-None.ensures.exact ∙ ap (λ (o : Option CapRecord). Ok (option_map record_seen o)) c.in-Ok-None.is in
+    let none = c.in-Ok-None.ensures.exact ∙ ap (λ (o : Option CapRecord). Ok (option_map record_seen o)) c.in-Ok-None.field-0-is in
     let after = c.in-Ok-None.ensures.after in
     seeks_too_long (g.S.Source.left c.args.input.now) (g.S.Source.left c.pieces.input) c.args.self.now c.next.new.self c.pieces.self.taken c.pieces.self.over
     (seeks_none (g.S.Source.left c.args.input.now) (g.S.Source.left c.pieces.input) c.args.self.now c.pieces.self.reader c.next.new.self c.pieces.self.taken c.pieces.self.over c.pieces.invariant.seeks after none)
-    (none_again c.pieces.self.reader c.next.new.self after none) (c.in-Ok-None.ensures.none (ap Ok c.in-Ok-None.is)) c.args.self.now c.if-self.true
+    (none_again c.pieces.self.reader c.next.new.self after none) (c.in-Ok-None.ensures.none (ap Ok c.in-Ok-None.field-0-is)) c.args.self.now c.if-self.true
 
 pub returns-in_default-clause-found : goal.returns-in_default-clause-found
 returns-in_default-clause-found g c =
-    let none = c.in-Ok-None.ensures.exact ∙ ap (λ (o : Option CapRecord). Ok (option_map record_seen o)) c.in-Ok-None.is in
+    let none = c.in-Ok-None.ensures.exact ∙ ap (λ (o : Option CapRecord). Ok (option_map record_seen o)) c.in-Ok-None.field-0-is in
     let after = c.in-Ok-None.ensures.after in
     seeks_failed (g.S.Source.left c.args.input.now) (g.S.Source.left c.pieces.input) c.args.self.now c.next.new.self c.pieces.self.taken c.pieces.self.over
     (seeks_none (g.S.Source.left c.args.input.now) (g.S.Source.left c.pieces.input) c.args.self.now c.pieces.self.reader c.next.new.self c.pieces.self.taken c.pieces.self.over c.pieces.invariant.seeks after none)
-    (none_again c.pieces.self.reader c.next.new.self after none) (c.in-Ok-None.ensures.none (ap Ok c.in-Ok-None.is)) (g.S.Source.left c.read.new.self) c.args.self.now c.in_default.ensures.bytes c.if-self.false
+    (none_again c.pieces.self.reader c.next.new.self after none) (c.in-Ok-None.ensures.none (ap Ok c.in-Ok-None.field-0-is)) (g.S.Source.left c.read.new.self) c.args.self.now c.in_default.ensures.bytes c.if-self.false
 
 pub returns-then-count-eq0-clause-found : goal.returns-then-count-eq0-clause-found
 returns-then-count-eq0-clause-found g c =
-    let none = c.in-Ok-None.ensures.exact ∙ ap (λ (o : Option CapRecord). Ok (option_map record_seen o)) c.in-Ok-None.is in
+    let none = c.in-Ok-None.ensures.exact ∙ ap (λ (o : Option CapRecord). Ok (option_map record_seen o)) c.in-Ok-None.field-0-is in
     let after = c.in-Ok-None.ensures.after in
     let nothing : take c.in-Ok.count c.read.new.into ≡ [] = ap (λ (k : ℕ). take k c.read.new.into) c.if-count-eq0.true in
     seeks_end (g.S.Source.left c.args.input.now) (g.S.Source.left c.pieces.input) c.args.self.now c.next.new.self c.pieces.self.taken c.pieces.self.over
     (seeks_none (g.S.Source.left c.args.input.now) (g.S.Source.left c.pieces.input) c.args.self.now c.pieces.self.reader c.next.new.self c.pieces.self.taken c.pieces.self.over c.pieces.invariant.seeks after none)
-    (none_again c.pieces.self.reader c.next.new.self after none) (c.in-Ok-None.ensures.none (ap Ok c.in-Ok-None.is)) (g.S.Source.left c.read.new.self) c.args.self.now c.end.result
+    (none_again c.pieces.self.reader c.next.new.self after none) (c.in-Ok-None.ensures.none (ap Ok c.in-Ok-None.field-0-is)) (g.S.Source.left c.read.new.self) c.args.self.now c.end.result
     (subst (Consumes (g.S.Source.left c.pieces.input) (g.S.Source.left c.read.new.self)) nothing c.in-Ok.ensures.bytes.0) c.if-self.false
     (c.end.ensures ∙ ap (λ (r : Reading). ending_by (end_of r)) (none_still c.pieces.self.reader c.next.new.self after none))
 
 pub pieces-preserved : goal.pieces-preserved
 pieces-preserved g c =
-    let none = c.in-Ok-None.ensures.exact ∙ ap (λ (o : Option CapRecord). Ok (option_map record_seen o)) c.in-Ok-None.is in
+    let none = c.in-Ok-None.ensures.exact ∙ ap (λ (o : Option CapRecord). Ok (option_map record_seen o)) c.in-Ok-None.field-0-is in
     let after = c.in-Ok-None.ensures.after in
     let into = c.read.new.into in
     let room = CAPTURE_LIMIT - c.pieces.self.taken in
@@ -65,7 +65,7 @@ pieces-preserved g c =
     record {
       seeks = seeks_more (g.S.Source.left c.args.input.now) (g.S.Source.left c.pieces.input) c.args.self.now c.next.new.self c.pieces.self.taken c.pieces.self.over
           (seeks_none (g.S.Source.left c.args.input.now) (g.S.Source.left c.pieces.input) c.args.self.now c.pieces.self.reader c.next.new.self c.pieces.self.taken c.pieces.self.over c.pieces.invariant.seeks after none)
-          (none_again c.pieces.self.reader c.next.new.self after none) (c.in-Ok-None.ensures.none (ap Ok c.in-Ok-None.is)) (g.S.Source.left c.read.new.self) piece c.take.new.self.reader c.take.new.self.taken c.take.new.self.over
+          (none_again c.pieces.self.reader c.next.new.self after none) (c.in-Ok-None.ensures.none (ap Ok c.in-Ok-None.field-0-is)) (g.S.Source.left c.read.new.self) piece c.take.new.self.reader c.take.new.self.taken c.take.new.self.over
           c.in-Ok.ensures.bytes.0 c.if-self.false
           (c.in_ok-take.ensures.reader ∙ ap (λ (l : List ℕ). fed c.next.new.self l) (same ∙ ap (λ (n : ℕ). take (min n room) piece) (sym size)))
           (c.in_ok-take.ensures.taken ∙ ap (λ (n : ℕ). c.pieces.self.taken + min n room) (sym size))
