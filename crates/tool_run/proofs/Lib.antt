@@ -1,0 +1,9 @@
+pub mod Written
+pub mod Fronts
+pub mod Appends
+pub mod NodeIds
+pub mod RecordLaws
+pub mod NodeLaws
+pub mod NodeSteps
+pub mod NodeLoop
+pub mod NodeDone

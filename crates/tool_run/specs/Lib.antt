@@ -1,0 +1,7 @@
+pub mod Answer
+pub mod Outside
+pub mod Causes
+pub mod Captured
+pub mod Records
+pub mod NodeRun
+pub mod NodeReached
