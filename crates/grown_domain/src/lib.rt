@@ -10,3 +10,6 @@ mod schedule;
 
 pub use domain::{grown, grown_as_in_a_file};
 pub use schedule::grown_lines;
+
+#[cfg(test)]
+mod tests;
