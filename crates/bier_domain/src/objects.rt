@@ -1,5 +1,5 @@
 //! The objects that the words of the program name.
-ghost use Rattle.std.specs.Prelude.{◌≡◌, ◌≢◌, ◌⊎◌, ◌<◌, ◌∷◌, [], length, drop, None};
+ghost use Rattle.std.specs.Prelude.{◌≡◌, ◌≢◌, ◌⊎◌, ◌<◌, ◌∷◌, [], length, take, drop, None};
 ghost use Rattle.wire_base.specs.Causes.{last_count};
 ghost use Rattle.wire_base.specs.declared.status.Status.TheVariants as status;
 ghost use Rattle.replay_run.specs.declared.words.Form.TheVariants as form;
@@ -25,12 +25,19 @@ struct Paths<'a> {
 fn paths_in<'a>(words: &[&'a str]) -> Paths<'a>
     ensures replay { length words.now ≡ 4 → result.conf ∷ result.input ∷ result.frames ∷ [] ≡ drop 1 words.now }
     ensures one_input { length words.now ≡ 2 → result.input ∷ [] ≡ drop 1 words.now }
-    ensures unnamed { length words.now ≢ 4 → (result.conf.now ≡ []) × (result.frames.now ≡ []) }
+    ensures node_conf { length words.now ≡ 5 → result.conf ∷ [] ≡ take 1 (drop 1 words.now) }
+    ensures node_files { length words.now ≡ 5 → result.input ∷ result.frames ∷ [] ≡ drop 3 words.now }
+    ensures unnamed { length words.now ≢ 4 → length words.now ≢ 5 → (result.conf.now ≡ []) × (result.frames.now ≡ []) }
 {
     match words {
         [_, conf, schedule, frames] => Paths {
             conf: *conf,
             input: *schedule,
+            frames: *frames,
+        },
+        [_, conf, _, capture, frames] => Paths {
+            conf: *conf,
+            input: *capture,
             frames: *frames,
         },
         [_, input] => Paths {
@@ -55,12 +62,14 @@ pub struct Objects<'a, R: Files> {
 }
 
 impl<'a, R: Files> Objects<'a, R> {
-    /// The files that words name, each at its own word: CONF, SCHEDULE and FRAMES, or INPUT. One that they don't name has an
+    /// The files that words name, each at its own word: CONF, SCHEDULE or CAPTURE, and FRAMES, or INPUT. One that they don't name has an
     /// empty path, and is never opened.
     pub fn named(rt: &'a R, words: &[&'a str]) -> Self
         ensures replay { length words.now ≡ 4 → result.conf.path ∷ result.input.path ∷ result.frames.path ∷ [] ≡ drop 1 words.now }
         ensures one_input { length words.now ≡ 2 → result.input.path ∷ [] ≡ drop 1 words.now }
-        ensures unnamed { length words.now ≢ 4 → (result.conf.path.now ≡ []) × (result.frames.path.now ≡ []) }
+        ensures node_conf { length words.now ≡ 5 → result.conf.path ∷ [] ≡ take 1 (drop 1 words.now) }
+        ensures node_files { length words.now ≡ 5 → result.input.path ∷ result.frames.path ∷ [] ≡ drop 3 words.now }
+        ensures unnamed { length words.now ≢ 4 → length words.now ≢ 5 → (result.conf.path.now ≡ []) × (result.frames.path.now ≡ []) }
         ensures fresh { AreFresh result }
     {
         let paths = paths_in(words);
@@ -83,8 +92,8 @@ impl<'a, R: Files> Objects<'a, R> {
         requires report_faults { report.old.tally.faults ≡ 0 }
         requires report_zeros { report.old.tally.zeros ≡ 0 }
         ensures usage { form_in words.now ≡ form.Unknown → (result ≡ status.Usage) ⊎ (result ≡ status.WriteFault) }
-        ensures conf { form_in words.now ≢ form.Replay → self.new.conf ≡ self.old.conf }
-        ensures frames { form_in words.now ≢ form.Replay → self.new.frames ≡ self.old.frames }
+        ensures conf { form_in words.now ≢ form.Replay → form_in words.now ≢ form.Node → self.new.conf ≡ self.old.conf }
+        ensures frames { form_in words.now ≢ form.Replay → form_in words.now ≢ form.Node → self.new.frames ≡ self.old.frames }
         ensures unread { form_in words.now ≡ form.Unknown → self.new.input ≡ self.old.input }
     {
         let Objects {

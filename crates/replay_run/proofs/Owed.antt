@@ -4,22 +4,25 @@ use Rattle.std.specs.Prelude.{IfSome, ◌⊎◌, Result, Ok, Err}
 use Rattle.std.specs.Io.KnownBytes.{Appends}
 use Rattle.wire_base.specs.declared.status.Status.{Status}
 use Rattle.wire_base.specs.declared.status.Status.TheVariants.{Done, Usage, ConfRefused, InputRefused, ReadFault, WriteFault, Memory, CaptureRefused}
+use Rattle.wire_base.specs.declared.conf.RouterConf.{RouterConf}
 use Rattle.wire_base.specs.model.Configuration.{DomainConf}
 use Rattle.domain_conf.specs.Domain.{domain_of}
 use Rattle.domain_conf.specs.declared.fault.ConfFault.{ConfFault}
 use Rattle.replay_run.specs.declared.words.Form.{Form}
-use Rattle.replay_run.specs.declared.words.Form.TheVariants.{Replay, Hop, Headers, Unknown}
+use Rattle.replay_run.specs.declared.words.Form.TheVariants.{Replay, Node, Hop, Headers, Unknown}
 use Rattle.replay_run.specs.Words.{usage_text}
-use Rattle.replay_run.specs.HopText.{hop_answer, packets_of, IsAllowed}
-use Rattle.replay_run.specs.Partition.{Reports}
-use Rattle.replay_run.specs.Answer.{Verdict}
-use Rattle.replay_run.specs.Verdict.{verdict, reported, replay_on, IsDecided}
+use Rattle.replay_run.specs.Routers.{router_named}
+use Rattle.tool_run.specs.HopText.{hop_answer, packets_of, IsAllowed}
+use Rattle.tool_run.specs.Partition.{Reports}
+use Rattle.tool_run.specs.Answer.{Verdict}
+use Rattle.replay_run.specs.Verdict.{verdict, reported, replay_on, node_by, node_on}
+use Rattle.tool_run.specs.Answer.{IsDecided}
 use Rattle.replay_run.specs.Judged.{OnHeld}
-use Rattle.replay_run.specs.Outside.{Held, Gave, Meets, AppendsFront}
-use Rattle.replay_run.proofs.Packets.{all_parted}
-use Rattle.replay_run.specs.HeadersText.{headers_answer, IsRead}
-use Rattle.replay_run.proofs.Inputs.{allowed_done}
-use Rattle.replay_run.proofs.Captures.{read_done}
+use Rattle.tool_run.specs.Outside.{Held, Gave, Meets, AppendsFront}
+use Rattle.tool_run.proofs.Packets.{all_parted}
+use Rattle.tool_run.specs.HeadersText.{headers_answer, IsRead}
+use Rattle.tool_run.proofs.Inputs.{allowed_done}
+use Rattle.tool_run.proofs.Captures.{read_done}
 
 pub nothing_more : (known : Option (List ℕ)) → Appends known known []
 nothing_more None = tt
@@ -41,24 +44,39 @@ no_schedule : (read : Result DomainConf ConfFault) (octets : List ℕ) (Holds : 
 no_schedule (Err why) octets Holds holds = holds
 no_schedule (Ok d) octets Holds holds = tt
 
+-- and so has one whose domain has no router of that name, without a capture
+no_octets : (own : Option RouterConf) (octets : List ℕ) (Holds : Verdict → Type 0) → IfSome (node_by own (Some octets)) Holds → IfSome (node_by own None) Holds
+no_octets None octets Holds holds = holds
+no_octets (Some own) octets Holds holds = tt
+
+no_capture : (read : Result DomainConf ConfFault) (router octets : List ℕ) (Holds : Verdict → Type 0) → IfSome (node_on read router (Some octets)) Holds → IfSome (node_on read router None) Holds
+no_capture (Err why) router octets Holds holds = holds
+no_capture (Ok d) router octets Holds holds = no_octets (router_named d router) octets Holds holds
+
 -- the verdict on octets that the sources may have held is that on what they told
-pub told : (form : Form) (conf left : Option (List ℕ)) (Holds : Verdict → Type 0) → OnHeld form conf left Holds → IfSome (verdict form conf left) Holds
+pub told : (form : Form) (router : List ℕ) (conf left : Option (List ℕ)) (Holds : Verdict → Type 0) → OnHeld form router conf left Holds → IfSome (verdict form router conf left) Holds
 unfolding verdict
-told Replay None left Holds (file, octets, of_conf, of_input, holds) = tt
-told Replay (Some told_file) None Holds (file, octets, of_conf, of_input, holds) =
+told Replay router None left Holds (file, octets, of_conf, of_input, holds) = tt
+told Replay router (Some told_file) None Holds (file, octets, of_conf, of_input, holds) =
     subst (λ (f : List ℕ). IfSome (replay_on (domain_of f) None) Holds) (sym of_conf) (no_schedule (domain_of file) octets Holds holds)
-told Replay (Some told_file) (Some told_octets) Holds (file, octets, of_conf, of_input, holds) =
+told Replay router (Some told_file) (Some told_octets) Holds (file, octets, of_conf, of_input, holds) =
     subst (λ (f : List ℕ). IfSome (replay_on (domain_of f) (Some told_octets)) Holds) (sym of_conf)
     (subst (λ (o : List ℕ). IfSome (replay_on (domain_of file) (Some o)) Holds) (sym of_input) holds)
-told Hop conf None Holds some = tt
-told Hop conf (Some held) Holds (file, octets, of_conf, of_input, holds) = subst (λ (o : List ℕ). Holds (reported (hop_answer o))) (sym of_input) holds
-told Headers conf None Holds some = tt
-told Headers conf (Some held) Holds (file, octets, of_conf, of_input, holds) = subst (λ (o : List ℕ). Holds (reported (headers_answer o))) (sym of_input) holds
-told Unknown conf left Holds (file, octets, of_conf, of_input, holds) = holds
+told Node router None left Holds (file, octets, of_conf, of_input, holds) = tt
+told Node router (Some told_file) None Holds (file, octets, of_conf, of_input, holds) =
+    subst (λ (f : List ℕ). IfSome (node_on (domain_of f) router None) Holds) (sym of_conf) (no_capture (domain_of file) router octets Holds holds)
+told Node router (Some told_file) (Some told_octets) Holds (file, octets, of_conf, of_input, holds) =
+    subst (λ (f : List ℕ). IfSome (node_on (domain_of f) router (Some told_octets)) Holds) (sym of_conf)
+    (subst (λ (o : List ℕ). IfSome (node_on (domain_of file) router (Some o)) Holds) (sym of_input) holds)
+told Hop router conf None Holds some = tt
+told Hop router conf (Some held) Holds (file, octets, of_conf, of_input, holds) = subst (λ (o : List ℕ). Holds (reported (hop_answer o))) (sym of_input) holds
+told Headers router conf None Holds some = tt
+told Headers router conf (Some held) Holds (file, octets, of_conf, of_input, holds) = subst (λ (o : List ℕ). Holds (reported (headers_answer o))) (sym of_input) holds
+told Unknown router conf left Holds (file, octets, of_conf, of_input, holds) = holds
 
 -- of a form that is known
-pub in_form : (form known : Form) (conf left : Option (List ℕ)) (Holds : Verdict → Type 0) → form ≡ known → OnHeld known conf left Holds → OnHeld form conf left Holds
-in_form form known conf left Holds is holds = subst (λ (f : Form). OnHeld f conf left Holds) (sym is) holds
+pub in_form : (form known : Form) (router : List ℕ) (conf left : Option (List ℕ)) (Holds : Verdict → Type 0) → form ≡ known → OnHeld known router conf left Holds → OnHeld form router conf left Holds
+in_form form known router conf left Holds is holds = subst (λ (f : Form). OnHeld f router conf left Holds) (sym is) holds
 
 -- without a count that rose there is no fault
 pub no_fault : (result : Status) (reads reads_now writes writes_now takes takes_now : ℕ)
@@ -78,22 +96,22 @@ no_fault WriteFault reads reads_now writes writes_now takes takes_now read write
 
 -- ---- `hop`
 
-pub hop_holds : (conf left : Option (List ℕ)) (Holds : Verdict → Type 0) → ((octets : List ℕ) × Held left octets × Holds (reported (hop_answer octets))) → OnHeld Hop conf left Holds
+pub hop_holds : (router : List ℕ) (conf left : Option (List ℕ)) (Holds : Verdict → Type 0) → ((octets : List ℕ) × Held left octets × Holds (reported (hop_answer octets))) → OnHeld Hop router conf left Holds
 unfolding verdict
-hop_holds conf left Holds some =
+hop_holds router conf left Holds some =
     let file = held_some conf in
     (file.0, some.0, file.1, some.1, some.2)
 
-pub hop_meets : (conf left before now frames : Option (List ℕ)) (result : Status) → ((octets : List ℕ) × Held left octets × Gave (hop_answer octets) result before now)
-    → OnHeld Hop conf left (λ owed. Meets owed result before now frames frames)
-hop_meets conf left before now frames result gave =
-    hop_holds conf left (λ owed. Meets owed result before now frames frames)
+pub hop_meets : (router : List ℕ) (conf left before now frames : Option (List ℕ)) (result : Status) → ((octets : List ℕ) × Held left octets × Gave (hop_answer octets) result before now)
+    → OnHeld Hop router conf left (λ owed. Meets owed result before now frames frames)
+hop_meets router conf left before now frames result gave =
+    hop_holds router conf left (λ owed. Meets owed result before now frames frames)
     (gave.0, gave.1, record { status = gave.2.status; report = gave.2.report; frames = nothing_more frames })
 
-pub hop_front : (conf left before now frames : Option (List ℕ)) → ((octets : List ℕ) × Held left octets × AppendsFront before now (hop_answer octets).1)
-    → OnHeld Hop conf left (λ owed. AppendsFront before now owed.report × AppendsFront frames frames owed.frames)
-hop_front conf left before now frames front =
-    hop_holds conf left (λ owed. AppendsFront before now owed.report × AppendsFront frames frames owed.frames) (front.0, front.1, (front.2, no_front frames []))
+pub hop_front : (router : List ℕ) (conf left before now frames : Option (List ℕ)) → ((octets : List ℕ) × Held left octets × AppendsFront before now (hop_answer octets).1)
+    → OnHeld Hop router conf left (λ owed. AppendsFront before now owed.report × AppendsFront frames frames owed.frames)
+hop_front router conf left before now frames front =
+    hop_holds router conf left (λ owed. AppendsFront before now owed.report × AppendsFront frames frames owed.frames) (front.0, front.1, (front.2, no_front frames []))
 
 pub hop_done : (result : Status) (left before now : Option (List ℕ)) (reads reads_now writes writes_now takes takes_now : ℕ)
     → (IsDecided result → (result ≡ Done) ⊎ (result ≡ InputRefused))
@@ -138,17 +156,17 @@ hop_reports (Some octets) before now result gave = subst (λ (o : List ℕ). Rep
 
 -- ---- `headers`
 
-pub headers_meets : (conf left before now frames : Option (List ℕ)) (result : Status) → ((octets : List ℕ) × Held left octets × Gave (headers_answer octets) result before now)
-    → OnHeld Headers conf left (λ owed. Meets owed result before now frames frames)
+pub headers_meets : (router : List ℕ) (conf left before now frames : Option (List ℕ)) (result : Status) → ((octets : List ℕ) × Held left octets × Gave (headers_answer octets) result before now)
+    → OnHeld Headers router conf left (λ owed. Meets owed result before now frames frames)
 unfolding verdict
-headers_meets conf left before now frames result gave =
+headers_meets router conf left before now frames result gave =
     let file = held_some conf in
     (file.0, gave.0, file.1, gave.1, record { status = gave.2.status; report = gave.2.report; frames = nothing_more frames })
 
-pub headers_front : (conf left before now frames : Option (List ℕ)) → ((octets : List ℕ) × Held left octets × AppendsFront before now (headers_answer octets).1)
-    → OnHeld Headers conf left (λ owed. AppendsFront before now owed.report × AppendsFront frames frames owed.frames)
+pub headers_front : (router : List ℕ) (conf left before now frames : Option (List ℕ)) → ((octets : List ℕ) × Held left octets × AppendsFront before now (headers_answer octets).1)
+    → OnHeld Headers router conf left (λ owed. AppendsFront before now owed.report × AppendsFront frames frames owed.frames)
 unfolding verdict
-headers_front conf left before now frames front =
+headers_front router conf left before now frames front =
     let file = held_some conf in
     (file.0, front.0, file.1, front.1, (front.2, no_front frames []))
 
@@ -168,9 +186,9 @@ headers_done result (Some octets) before now reads reads_now writes writes_now t
 
 -- ---- words of no form
 
-pub usage_holds : (conf left : Option (List ℕ)) (Holds : Verdict → Type 0) → Holds (reported (Usage, usage_text)) → OnHeld Unknown conf left Holds
+pub usage_holds : (router : List ℕ) (conf left : Option (List ℕ)) (Holds : Verdict → Type 0) → Holds (reported (Usage, usage_text)) → OnHeld Unknown router conf left Holds
 unfolding verdict
-usage_holds conf left Holds holds =
+usage_holds router conf left Holds holds =
     let file = held_some conf in
     let octets = held_some left in
     (file.0, octets.0, file.1, octets.1, holds)
@@ -186,13 +204,13 @@ write_fault wanted s decided (inr e) stopped = e
 write_fault wanted s decided (inl e) (inl failed) = failed
 write_fault wanted s decided (inl e) (inr memory) = absurd (subst IsDecided (sym e ∙ memory) decided)
 
-pub usage_meets : (conf left before now frames : Option (List ℕ)) (result : Status) → IsDecided result → (result ≡ Usage) ⊎ (result ≡ WriteFault) → Appends before now usage_text
-    → OnHeld Unknown conf left (λ owed. Meets owed result before now frames frames)
-usage_meets conf left before now frames result decided ended written =
-    usage_holds conf left (λ owed. Meets owed result before now frames frames)
+pub usage_meets : (router : List ℕ) (conf left before now frames : Option (List ℕ)) (result : Status) → IsDecided result → (result ≡ Usage) ⊎ (result ≡ WriteFault) → Appends before now usage_text
+    → OnHeld Unknown router conf left (λ owed. Meets owed result before now frames frames)
+usage_meets router conf left before now frames result decided ended written =
+    usage_holds router conf left (λ owed. Meets owed result before now frames frames)
     (record { status = ended_so Usage result decided ended; report = written; frames = nothing_more frames })
 
-pub usage_front : (conf left before now frames : Option (List ℕ)) → AppendsFront before now usage_text
-    → OnHeld Unknown conf left (λ owed. AppendsFront before now owed.report × AppendsFront frames frames owed.frames)
-usage_front conf left before now frames front =
-    usage_holds conf left (λ owed. AppendsFront before now owed.report × AppendsFront frames frames owed.frames) (front, no_front frames [])
+pub usage_front : (router : List ℕ) (conf left before now frames : Option (List ℕ)) → AppendsFront before now usage_text
+    → OnHeld Unknown router conf left (λ owed. AppendsFront before now owed.report × AppendsFront frames frames owed.frames)
+usage_front router conf left before now frames front =
+    usage_holds router conf left (λ owed. AppendsFront before now owed.report × AppendsFront frames frames owed.frames) (front, no_front frames [])

@@ -17,25 +17,32 @@ use Rattle.domain_model.specs.Faults.{event_fault}
 use Rattle.domain_model.specs.Run.{Run, Progress, first_run, goes_on, tries, does, line_done, line_events, world_after}
 use Rattle.domain_conf.specs.declared.fault.ConfFault.{ConfFault}
 use Rattle.domain_replay.specs.Texts.{Refusal, names_of, lines_reach, schedule_reaches}
+use Rattle.replay_run.specs.declared.words.Form.{Form}
 use Rattle.replay_run.specs.declared.words.Form.TheVariants.{Replay}
-use Rattle.replay_run.specs.Answer.{Verdict}
+use Rattle.tool_run.specs.Answer.{Verdict}
 use Rattle.replay_run.specs.DomainFile.{Says, IsRefused}
 use Rattle.replay_run.specs.Judged.{OnHeld}
 use Rattle.replay_run.specs.Replayed.{AreAllowed, AreDone, IsDone, IsReplayed}
 use Rattle.replay_run.specs.ScheduleText.{schedule_answer, answer_to, ending}
-use Rattle.replay_run.specs.Texts.{Ended, close_of, is_short, within_limit, lines_within}
-use Rattle.replay_run.specs.Verdict.{verdict, replay_on, IsDecided}
-use Rattle.replay_run.specs.Outside.{Held, Meets, AppendsFront}
-use Rattle.replay_run.proofs.Owed.{nothing_more, no_front, held_some, ended_so, told}
+use Rattle.tool_run.specs.Texts.{Ended, close_of, is_short, within_limit, lines_within}
+use Rattle.replay_run.specs.Verdict.{verdict, replay_on}
+use Rattle.tool_run.specs.Answer.{IsDecided}
+use Rattle.tool_run.specs.Outside.{Held, Meets, AppendsFront}
+use Rattle.replay_run.proofs.Owed.{nothing_more, no_front, held_some, ended_so, told, in_form}
+
+-- words of `replay` name no router, and no such word is asked for
+pub in_replay : (form : Form) (router : List ℕ) (conf left : Option (List ℕ)) (Holds : Verdict → Type 0) → form ≡ Replay → OnHeld Replay [] conf left Holds → OnHeld form router conf left Holds
+unfolding verdict
+in_replay form router conf left Holds is holds = in_form form Replay router conf left Holds is holds
 
 -- where the domain file says a domain, the verdict is the schedule's
-pub played : (conf left : Option (List ℕ)) (d : DomainConf) (Holds : Verdict → Type 0) → Says conf d → ((octets : List ℕ) × Held left octets × Holds (schedule_answer d octets)) → OnHeld Replay conf left Holds
+pub played : (conf left : Option (List ℕ)) (d : DomainConf) (Holds : Verdict → Type 0) → Says conf d → ((octets : List ℕ) × Held left octets × Holds (schedule_answer d octets)) → OnHeld Replay [] conf left Holds
 unfolding verdict
 played conf left d Holds says answer = (says.0, answer.0, says.1, answer.1, rw says.2 answer.2)
 
 -- where it breaks a rule, that says so
 pub refused_meets : (conf left before now frames : Option (List ℕ)) (result : Status) (line : List ℕ) → IsRefused conf line → IsDecided result → (result ≡ ConfRefused) ⊎ (result ≡ WriteFault) → Appends before now line
-    → OnHeld Replay conf left (λ owed. Meets owed result before now frames frames)
+    → OnHeld Replay [] conf left (λ owed. Meets owed result before now frames frames)
 unfolding verdict
 refused_meets conf left before now frames result line (file, of_conf, (why, breaks, is)) decided ended written =
     let octets = held_some left in (
@@ -47,7 +54,7 @@ refused_meets conf left before now frames result line (file, of_conf, (why, brea
     )
 
 pub refused_front : (conf left before now frames : Option (List ℕ)) (line : List ℕ) → IsRefused conf line → AppendsFront before now line
-    → OnHeld Replay conf left (λ owed. AppendsFront before now owed.report × AppendsFront frames frames owed.frames)
+    → OnHeld Replay [] conf left (λ owed. AppendsFront before now owed.report × AppendsFront frames frames owed.frames)
 unfolding verdict
 refused_front conf left before now frames line (file, of_conf, (why, breaks, is)) front =
     let octets = held_some left in
@@ -59,7 +66,7 @@ any_holds None Holds all = tt
 any_holds (Some v) Holds all = all v
 
 -- before anything is written, fronts are
-pub none_front : (conf left report frames : Option (List ℕ)) → OnHeld Replay conf left (λ owed. AppendsFront report report owed.report × AppendsFront frames frames owed.frames)
+pub none_front : (conf left report frames : Option (List ℕ)) → OnHeld Replay [] conf left (λ owed. AppendsFront report report owed.report × AppendsFront frames frames owed.frames)
 none_front conf left report frames =
     let file = held_some conf in
     let octets = held_some left in (
@@ -67,7 +74,7 @@ none_front conf left report frames =
       octets.0,
       file.1,
       octets.1,
-      any_holds (verdict Replay (Some file.0) (Some octets.0)) (λ owed. AppendsFront report report owed.report × AppendsFront frames frames owed.frames)
+      any_holds (verdict Replay [] (Some file.0) (Some octets.0)) (λ owed. AppendsFront report report owed.report × AppendsFront frames frames owed.frames)
           (λ v. (no_front report v.report, no_front frames v.frames)),
     )
 
@@ -138,7 +145,7 @@ no_fault_of_four WriteFault conf conf_now input input_now sent sent_now none_sen
 
 pub replay_done : (conf left before now frames frames_now : Option (List ℕ)) (result : Status) (A B C D E F : Type 0)
     → (A → B → C → D → E → F → IsDecided result ⊎ (result ≡ Memory))
-    → (IsDecided result → OnHeld Replay conf left (λ owed. Meets owed result before now frames frames_now))
+    → (IsDecided result → OnHeld Replay [] conf left (λ owed. Meets owed result before now frames frames_now))
     → IfSome conf (λ file. IfSome left (λ octets. IsReplayed file octets → A → B → C → D → E → F → (result ≡ Done) ⊎ (result ≡ Memory)))
 unfolding verdict
 replay_done None left before now frames frames_now result A B C D E F decided answer = tt
@@ -146,7 +153,7 @@ replay_done (Some file) None before now frames frames_now result A B C D E F dec
 replay_done (Some file) (Some octets) before now frames frames_now result A B C D E F decided answer = λ is a b c d e f. elim (decided a b c d e f) [
   | inr memory ↦ inr memory
   | inl known ↦
-      let met = told Replay (Some file) (Some octets) (λ owed. Meets owed result before now frames frames_now) (answer known) in
+      let met = told Replay [] (Some file) (Some octets) (λ owed. Meets owed result before now frames frames_now) (answer known) in
       let played : IfSome (replay_on (Ok is.domain) (Some octets)) (λ owed. Meets owed result before now frames frames_now) =
       subst (λ (read : Result DomainConf ConfFault). IfSome (replay_on read (Some octets)) (λ owed. Meets owed result before now frames frames_now)) is.says met in
       inl (played.status ∙ schedule_done is.domain octets is.schedule)

@@ -1,5 +1,5 @@
 -- What a replay did is a run, and what holds of each run holds of it.
-use Rattle.std.proofs.Common.{◌≡◌, ℕ, ◌<◌, List, ◌++◌, length, Option, Some, None, Result, Ok, Err, refl, sym, subst, ◌∙◌, arith, inl, inr}
+use Rattle.std.proofs.Common.{◌≡◌, ℕ, ◌<◌, List, [], ◌++◌, length, Option, Some, None, Result, Ok, Err, refl, sym, subst, ◌∙◌, arith, inl, inr}
 use Rattle.std.specs.Prelude.{◌⊎◌, IfSome}
 use Rattle.std.specs.Io.KnownBytes.{Consumes, Appends}
 use Rattle.wire_base.specs.declared.status.Status.{Status}
@@ -13,11 +13,12 @@ use Rattle.domain_replay.specs.Texts.{Refusal, run_text, run_done_text, schedule
 use Rattle.replay_run.specs.declared.words.Form.TheVariants.{Replay}
 use Rattle.replay_run.specs.DomainFile.{Says}
 use Rattle.replay_run.specs.Judged.{OnHeld}
-use Rattle.replay_run.specs.Outside.{Held, Meets}
+use Rattle.tool_run.specs.Outside.{Held, Meets}
 use Rattle.replay_run.specs.RunDone.{HasRun, AreRead, RunDone}
 use Rattle.replay_run.specs.ScheduleText.{answer_to, ending, schedule_answer, schedule_cut}
-use Rattle.replay_run.specs.Texts.{Close, Ended, Longer, Cut, close_of, is_short, lines_within}
-use Rattle.replay_run.specs.Verdict.{verdict, replay_on, IsDecided}
+use Rattle.tool_run.specs.Texts.{Close, Ended, Longer, Cut, close_of, is_short, lines_within}
+use Rattle.replay_run.specs.Verdict.{verdict, replay_on}
+use Rattle.tool_run.specs.Answer.{IsDecided}
 
 -- a report that ends as done ends with the last line
 done_so : (close : Close) (n : ℕ) (r : Run) (o : Option (ℕ × Refusal)) → Done ≡ (ending close n r o).0 → (ending close n r o).1 ≡ run_done_text r n
@@ -52,7 +53,7 @@ module _ (conf input input_now report report_now frames frames_now : Option (Lis
 
   -- where the status is decided
   of_schedule : (ended : Status) → ((lines : List (List ℕ)) (close : Close) → ((octets : List ℕ) × Held input octets × (lines ≡ lines_within octets) × (close ≡ close_of (is_short octets))) → AreRead ended input input_now lines close)
-      → (ended ≡ ConfRefused → ⊥) → OnHeld Replay conf input (λ owed. Meets owed ended report report_now frames frames_now) → RunDone ended conf input input_now report report_now frames frames_now Holds
+      → (ended ≡ ConfRefused → ⊥) → OnHeld Replay [] conf input (λ owed. Meets owed ended report report_now frames frames_now) → RunDone ended conf input input_now report report_now frames frames_now Holds
   unfolding verdict schedule_answer
   of_schedule ended read accepted (file, octets, of_conf, of_input, met) = by (domain_of file) refl met
     where
@@ -65,7 +66,7 @@ module _ (conf input input_now report report_now frames frames_now : Option (Lis
   unfolding schedule_cut
   of_cut d says octets taken met = of_lines ReadFault d says _ Cut (octets, taken, refl, refl) met
 
-  pub run_done : (ended : Status) (before now : ℕ) (Input Frames Report : Type 0) → (IsDecided ended → OnHeld Replay conf input (λ owed. Meets owed ended report report_now frames frames_now))
+  pub run_done : (ended : Status) (before now : ℕ) (Input Frames Report : Type 0) → (IsDecided ended → OnHeld Replay [] conf input (λ owed. Meets owed ended report report_now frames frames_now))
       → (ended ≡ ReadFault → ((before < now) × Input × Frames × Report) ⊎ ((now ≡ before) × ((d : DomainConf) × Says conf d × ((octets : List ℕ) × Consumes input input_now octets × Meets (schedule_cut d octets) ended report report_now frames frames_now))))
       → HasRun ended → now ≡ before → RunDone ended conf input input_now report report_now frames frames_now Holds
   run_done Done before now Input Frames Report answer stopped has quiet = of_schedule Done (λ lines close read. read) (λ is. absurd cc) (answer tt)

@@ -16,18 +16,18 @@ use Rattle.domain_model.specs.Run.{Run, first_run}
 use Rattle.domain_replay.specs.Telling.{Telling, first_telling}
 use Rattle.domain_replay.specs.Texts.{Refusal, line_reaches, lines_reach, schedule_reaches, names_of}
 use Rattle.domain_replay.proofs.TellingLaws.{start_told}
-use Rattle.replay_run.specs.declared.reader.Found.{Found}
-use Rattle.replay_run.specs.declared.reader.Found.TheVariants as found
-use Rattle.replay_run.specs.declared.reader.LineReader.{LineReader}
-use Rattle.replay_run.specs.Answer.{Verdict}
-use Rattle.replay_run.specs.Texts.{Close, Ended, Longer, Cut, close_of, is_short, within_limit, lines_within}
-use Rattle.replay_run.specs.Reader.{Stands, IsLast}
+use Rattle.tool_run.specs.declared.reader.Found.{Found}
+use Rattle.tool_run.specs.declared.reader.Found.TheVariants as found
+use Rattle.tool_run.specs.declared.reader.LineReader.{LineReader}
+use Rattle.tool_run.specs.Answer.{Verdict}
+use Rattle.tool_run.specs.Texts.{Close, Ended, Longer, Cut, close_of, is_short, within_limit, lines_within}
+use Rattle.tool_run.specs.Reader.{Stands, IsLast}
 use Rattle.replay_run.specs.ScheduleText.{ending, answer_by, answer_to, schedule_answer, schedule_cut}
 use Rattle.replay_run.specs.Scheduling.{Course, IsAt, past, owed, gained, Reaches, next_reaches, EndsWith, Turns, Owing, Begun}
-use Rattle.replay_run.specs.Outside.{Held, Meets, AppendsFront}
-use Rattle.replay_run.specs.Verdict.{IsDecided}
-use Rattle.replay_run.proofs.LineLaws.{Finding}
-use Rattle.replay_run.proofs.HopLoop.{held_past, held_all, stands_past, whole_lines, within_short, long_lines, begun_front, nothing_front}
+use Rattle.tool_run.specs.Outside.{Held, Meets, AppendsFront}
+use Rattle.tool_run.specs.Answer.{IsDecided}
+use Rattle.tool_run.proofs.LineLaws.{Finding}
+use Rattle.tool_run.proofs.HopLoop.{held_past, held_all, stands_past, whole_lines, within_short, long_lines, begun_front, nothing_front}
 use Rattle.replay_run.proofs.Grown.{lines_grown, report_grown, frames_grown}
 use Rattle.replay_run.proofs.ScheduleSteps.{reaches_goes, reaches_ends, long_line}
 

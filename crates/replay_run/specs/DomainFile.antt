@@ -8,7 +8,7 @@ use Rattle.domain_conf.specs.declared.fault.ConfFault.{ConfFault}
 use Rattle.domain_replay.specs.Lines.{conf_refused_text}
 use Rattle.replay_run.specs.declared.domain_file.NoDomain.{NoDomain}
 use Rattle.replay_run.specs.declared.domain_file.NoDomain.TheVariants.{Refused, Stopped}
-use Rattle.replay_run.specs.Outside.{Held}
+use Rattle.tool_run.specs.Outside.{Held}
 
 -- What a source may have held says that domain.
 abbrev pub Says : Option (List ℕ) → DomainConf → Type 0

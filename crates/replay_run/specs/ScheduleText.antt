@@ -6,8 +6,8 @@ use Rattle.wire_base.specs.model.Configuration.{DomainConf}
 use Rattle.replay_text.specs.Pieces.{lines_in}
 use Rattle.domain_model.specs.Run.{Run}
 use Rattle.domain_replay.specs.Texts.{Refusal, TooLong, Reached, capture_text, run_text, run_done_text, refusal_text, schedule_reaches}
-use Rattle.replay_run.specs.Answer.{Verdict}
-use Rattle.replay_run.specs.Texts.{Close, Ended, Longer, Cut, close_of, is_short, lines_within}
+use Rattle.tool_run.specs.Answer.{Verdict}
+use Rattle.tool_run.specs.Texts.{Close, Ended, Longer, Cut, close_of, is_short, lines_within}
 
 -- How the report on so many lines ends: where one was refused, at the end of the schedule, or at the line that passes the limit.
 -- Where the schedule's source failed, nothing is said.

@@ -10,11 +10,11 @@ use Rattle.replay_text.specs.Schedule.{schedule_line}
 use Rattle.domain_model.specs.Run.{Run, line_done}
 use Rattle.domain_replay.specs.Telling.{Telling, telling_of, IsRunOf}
 use Rattle.domain_replay.specs.Texts.{Refusal, Reached, refusal_text, reached_by, line_reaches, lines_reach, names_of}
-use Rattle.replay_run.specs.declared.reader.Found.{Found}
-use Rattle.replay_run.specs.declared.reader.Found.TheVariants as found
-use Rattle.replay_run.specs.Answer.{Verdict}
-use Rattle.replay_run.specs.Texts.{Close, Ended, Longer, Cut}
-use Rattle.replay_run.specs.HopReached.{Begins}
+use Rattle.tool_run.specs.declared.reader.Found.{Found}
+use Rattle.tool_run.specs.declared.reader.Found.TheVariants as found
+use Rattle.tool_run.specs.Answer.{Verdict}
+use Rattle.tool_run.specs.Texts.{Close, Ended, Longer, Cut}
+use Rattle.tool_run.specs.HopReached.{Begins}
 use Rattle.replay_run.specs.ScheduleText.{ends_so, answer_by}
 
 -- A run on its way: the run of a domain so far, and the fronts of its texts that are written out.

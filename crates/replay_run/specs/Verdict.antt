@@ -2,16 +2,19 @@
 use Rattle.std.specs.Prelude.{ℕ, List, [], Option, Some, None, option_map, Result, Ok, Err}
 use Rattle.wire_base.specs.declared.status.Status.{Status}
 use Rattle.wire_base.specs.declared.status.Status.TheVariants as status
+use Rattle.wire_base.specs.declared.conf.RouterConf.{RouterConf}
 use Rattle.wire_base.specs.model.Configuration.{DomainConf}
 use Rattle.domain_conf.specs.Domain.{domain_of}
 use Rattle.domain_conf.specs.declared.fault.ConfFault.{ConfFault}
 use Rattle.domain_replay.specs.Lines.{conf_refused_text}
-use Rattle.replay_run.specs.Answer.{Verdict}
+use Rattle.tool_run.specs.Answer.{Verdict}
 use Rattle.replay_run.specs.declared.words.Form.{Form}
-use Rattle.replay_run.specs.declared.words.Form.TheVariants.{Replay, Hop, Headers, Unknown}
+use Rattle.replay_run.specs.declared.words.Form.TheVariants.{Replay, Node, Hop, Headers, Unknown}
 use Rattle.replay_run.specs.Words.{usage_text}
-use Rattle.replay_run.specs.HopText.{hop_answer}
-use Rattle.replay_run.specs.HeadersText.{headers_answer}
+use Rattle.replay_run.specs.Routers.{router_named, no_router_text}
+use Rattle.tool_run.specs.HopText.{hop_answer}
+use Rattle.tool_run.specs.HeadersText.{headers_answer}
+use Rattle.tool_run.specs.NodeRun.{node_answer}
 use Rattle.replay_run.specs.ScheduleText.{schedule_answer}
 
 -- a status and a report, where no frame is written
@@ -31,20 +34,24 @@ abbrev pub replay_verdict : (conf schedule : Option (List ℕ)) → Option Verdi
 replay_verdict None schedule = None
 replay_verdict (Some file) schedule = replay_on (domain_of file) schedule
 
--- the verdict on what the two sources hold, where those that the form reads tell it
-unfoldable pub verdict : Form → (conf input : Option (List ℕ)) → Option Verdict
-verdict Replay conf input = replay_verdict conf input
-verdict Hop conf input = option_map (λ (octets : List ℕ). reported (hop_answer octets)) input
-verdict Headers conf input = option_map (λ (octets : List ℕ). reported (headers_answer octets)) input
-verdict Unknown conf input = Some (reported (status.Usage, usage_text))
+-- on the router that a word names: where it names none, the capture doesn't matter
+abbrev pub node_by : Option RouterConf → (capture : Option (List ℕ)) → Option Verdict
+node_by None capture = Some (reported (status.ConfRefused, no_router_text))
+node_by (Some own) capture = option_map (λ (octets : List ℕ). node_answer own octets) capture
 
--- the statuses that words and octets decide: all but the faults of sources and sinks, and want of memory
-abbrev pub IsDecided : Status → Type 0
-IsDecided status.Done = Unit {0}
-IsDecided status.Usage = Unit {0}
-IsDecided status.ConfRefused = Unit {0}
-IsDecided status.InputRefused = Unit {0}
-IsDecided status.CaptureRefused = Unit {0}
-IsDecided status.ReadFault = ⊥
-IsDecided status.WriteFault = ⊥
-IsDecided status.Memory = ⊥
+-- on what a domain file says: where it breaks a rule, neither the router nor the capture matters
+abbrev pub node_on : Result DomainConf ConfFault → (router : List ℕ) → (capture : Option (List ℕ)) → Option Verdict
+node_on (Err why) router capture = Some (conf_refused why)
+node_on (Ok d) router capture = node_by (router_named d router) capture
+
+abbrev pub node_verdict : (router : List ℕ) → (conf capture : Option (List ℕ)) → Option Verdict
+node_verdict router None capture = None
+node_verdict router (Some file) capture = node_on (domain_of file) router capture
+
+-- the verdict on the form, on the word that names a router, and on what the two sources hold, where those that the form reads tell it
+unfoldable pub verdict : Form → (router : List ℕ) → (conf input : Option (List ℕ)) → Option Verdict
+verdict Replay router conf input = replay_verdict conf input
+verdict Node router conf input = node_verdict router conf input
+verdict Hop router conf input = option_map (λ (octets : List ℕ). reported (hop_answer octets)) input
+verdict Headers router conf input = option_map (λ (octets : List ℕ). reported (headers_answer octets)) input
+verdict Unknown router conf input = Some (reported (status.Usage, usage_text))

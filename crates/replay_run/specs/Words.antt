@@ -3,20 +3,32 @@ use Rattle.std.specs.Prelude.{ℕ, List, [], ◌∷◌, map, codes, if◌then◌
 use Rattle.std.specs.Borrow.{Bor}
 use Rattle.std.specs.Str.{bytes_eq}
 use Rattle.replay_run.specs.declared.words.Form.{Form}
-use Rattle.replay_run.specs.declared.words.Form.TheVariants.{Replay, Hop, Headers, Unknown}
+use Rattle.replay_run.specs.declared.words.Form.TheVariants.{Replay, Node, Hop, Headers, Unknown}
 
--- `replay CONF SCHEDULE FRAMES`, `hop INPUT` and `headers CAPTURE` are forms, whatever the words after the first
+-- `replay CONF SCHEDULE FRAMES`, `node CONF ROUTER CAPTURE FRAMES`, `hop INPUT` and `headers CAPTURE` are forms, whatever the words
+-- after the first
 unfoldable pub form_of : List (List ℕ) → Form
 form_of [] = Unknown
 form_of (word ∷ []) = Unknown
 form_of (word ∷ input ∷ []) = if bytes_eq word (codes "hop") then Hop else if bytes_eq word (codes "headers") then Headers else Unknown
 form_of (word ∷ conf ∷ schedule ∷ []) = Unknown
 form_of (word ∷ conf ∷ schedule ∷ frames ∷ []) = if bytes_eq word (codes "replay") then Replay else Unknown
-form_of (word ∷ conf ∷ schedule ∷ frames ∷ more ∷ rest) = Unknown
+form_of (word ∷ conf ∷ router ∷ capture ∷ frames ∷ []) = if bytes_eq word (codes "node") then Node else Unknown
+form_of (word ∷ conf ∷ router ∷ capture ∷ frames ∷ more ∷ rest) = Unknown
 
 -- the form of words that a call is handed
 abbrev pub form_in : List (Bor (List ℕ)) → Form
 form_in words = form_of (map (λ word. word.now) words)
+
+-- the word of `node` that names a router
+abbrev pub router_of : List (List ℕ) → List ℕ
+router_of [] = []
+router_of (word ∷ []) = []
+router_of (word ∷ conf ∷ []) = []
+router_of (word ∷ conf ∷ router ∷ more) = router
+
+abbrev pub router_in : List (Bor (List ℕ)) → List ℕ
+router_in words = router_of (map (λ word. word.now) words)
 
 -- the line on words of no form
 abbrev pub usage_text : List ℕ

@@ -8,10 +8,10 @@ ghost use Rattle.replay_run.specs.declared.domain_file.NoDomain.TheVariants as n
 ghost use Rattle.domain_replay.specs.Lines.{conf_refused_text};
 ghost use Rattle.replay_run.specs.DomainFile.{Says, ReadsAs, StoppedBy, HasNone};
 
-use crate::whole::buffer;
 use domain_conf::{ConfFault, read_domain};
 use domain_replay::push_conf_refused;
 use std::alloc::Global;
+use tool_run::buffer;
 use wire_base::limits::DOMAIN_FILE_LIMIT;
 use wire_base::{Domain, M, Memory, Octets, Source, Status};
 

@@ -6,16 +6,12 @@
 #![tactic(auto)]
 
 mod domain_file;
-mod headers;
-mod hop;
-mod law;
-mod reader;
+mod node;
 mod replay;
 mod top;
-mod whole;
 mod words;
 
-pub use law::packets_are_parted;
+pub use tool_run::packets_are_parted;
 pub use top::run;
 
 #[cfg(test)]

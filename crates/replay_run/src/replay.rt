@@ -5,16 +5,15 @@ ghost use Rattle.wire_base.specs.Causes.{last_count};
 ghost use Rattle.wire_base.specs.declared.status.Status.TheVariants as status;
 ghost use Rattle.replay_run.specs.ScheduleText.{schedule_answer, schedule_cut};
 ghost use Rattle.replay_run.specs.Scheduling.{Owing, Begun};
-ghost use Rattle.replay_run.specs.Verdict.{IsDecided};
-ghost use Rattle.replay_run.specs.Outside.{Held, Meets, AppendsFront};
+ghost use Rattle.tool_run.specs.Answer.{IsDecided};
+ghost use Rattle.tool_run.specs.Outside.{Held, Meets, AppendsFront};
 
 mod lines;
 
-use crate::reader::LineReader;
-use crate::whole::{PIECE, write_if_long, write_whole};
 use domain_replay::Replay;
 use lines::{names_in, take_found};
 use std::alloc::Global;
+use tool_run::{LineReader, PIECE, write_if_long, write_whole};
 use wire_base::{Domain, Failed, Sink, Source, Status};
 
 /// Writes the capture out, once there is much of it. Less than one piece is left of it.

@@ -1,35 +1,37 @@
 //! The top call.
-ghost use Rattle.std.specs.Prelude.{◌≡◌, ◌⊎◌, ◌<◌, ◌≢◌, ◌↔◌, ℕ, List, false, IfSome};
+ghost use Rattle.std.specs.Prelude.{◌≡◌, ◌⊎◌, ◌<◌, ◌≢◌, ◌↔◌, ℕ, List, [], None, false, IfSome};
 ghost use Rattle.std.specs.Io.KnownBytes.{IsAtEnd, Consumes, Appends};
 ghost use Rattle.wire_base.specs.Causes.{last_count};
 ghost use Rattle.wire_base.specs.declared.status.Status.TheVariants as status;
+ghost use Rattle.wire_base.specs.declared.conf.RouterConf.{RouterConf};
 ghost use Rattle.wire_base.specs.model.Configuration.{DomainConf};
 ghost use Rattle.replay_run.specs.declared.words.Form.TheVariants as form;
 ghost use Rattle.replay_run.specs.DomainFile.{Says};
-ghost use Rattle.replay_run.specs.HopText.{hop_cut, IsAllowed};
-ghost use Rattle.replay_run.specs.HeadersText.{IsRead};
-ghost use Rattle.replay_run.specs.Headers.{IsOpen, lines_of};
+ghost use Rattle.replay_run.specs.Routers.{SaysRouter, HasRouter};
+ghost use Rattle.tool_run.specs.HopText.{hop_cut, IsAllowed};
+ghost use Rattle.tool_run.specs.HeadersText.{IsRead};
+ghost use Rattle.tool_run.specs.Headers.{IsOpen, lines_of};
+ghost use Rattle.tool_run.specs.NodeRun.{node_cut, node_reached, IsReplayable};
 ghost use Rattle.replay_run.specs.Judged.{OnHeld};
-ghost use Rattle.replay_run.specs.Partition.{Reports};
+ghost use Rattle.tool_run.specs.Partition.{Reports};
 ghost use Rattle.replay_run.specs.Replayed.{IsReplayed};
 ghost use Rattle.replay_run.specs.ScheduleText.{schedule_cut};
-ghost use Rattle.replay_run.specs.Verdict.{IsDecided, verdict};
-ghost use Rattle.replay_run.specs.Outside.{Gave, Meets, AppendsFront};
-ghost use Rattle.replay_run.specs.Words.{form_in};
+ghost use Rattle.replay_run.specs.Verdict.{verdict};
+ghost use Rattle.tool_run.specs.Answer.{IsDecided};
+ghost use Rattle.tool_run.specs.Outside.{Gave, Meets, AppendsFront};
+ghost use Rattle.replay_run.specs.Words.{form_in, router_in};
 ghost use Rattle.replay_run.specs.RunDone.{HasRun, RunDone};
 ghost use Rattle.replay_laws.specs.Moments.{HasLedgerThroughout, DeliversOnce};
 ghost use Rattle.replay_laws.specs.Reports.{IsReported};
 ghost use Rattle.replay_laws.specs.Once.{ArriveOnce};
 
 use crate::domain_file::{NoDomain, domain_in};
-use crate::headers::headers;
-use crate::hop::hop;
-use crate::law::packets_are_parted;
+use crate::node::node;
 use crate::replay::play;
-use crate::whole::deliver;
-use crate::words::{Form, USAGE, form_of};
+use crate::words::{Form, USAGE, form_of, router_word};
 use replay_laws::{replays_are_accounted, replays_arrive_once};
 use std::alloc::Global;
+use tool_run::{deliver, headers, hop, packets_are_parted};
 use wire_base::{Sink, Source, Status};
 
 /// All that the program does on the words `replay CONF SCHEDULE FRAMES`: where the domain file breaks a rule, it reports that;
@@ -49,7 +51,7 @@ fn replay<D: Source, S: Source, C: Sink, R: Sink>(
     requires report_zeros { R.zeros report.old < last_count }
 
     // The verdict on what the sources hold, whether or not they tell it.
-    ensures answer { IsDecided result → OnHeld form.Replay (D.left conf.old) (S.left input.old) (λ owed. Meets owed result (R.written report.old) (R.written report.new) (C.written frames.old) (C.written frames.new)) }
+    ensures answer { IsDecided result → OnHeld form.Replay [] (D.left conf.old) (S.left input.old) (λ owed. Meets owed result (R.written report.old) (R.written report.new) (C.written frames.old) (C.written frames.new)) }
     ensures statuses { IsDecided result → (result ≡ status.Done) ⊎ ((result ≡ status.ConfRefused) ⊎ (result ≡ status.InputRefused)) }
     ensures all { result ≡ status.Done → IsAtEnd (S.left input.new) }
     ensures all_of_conf { result ≡ status.Done → IsAtEnd (D.left conf.new) }
@@ -75,7 +77,7 @@ fn replay<D: Source, S: Source, C: Sink, R: Sink>(
     ensures stopped { result ≡ status.ReadFault → ((D.faults conf.old < D.faults conf.new) × (input.new ≡ input.old) × (frames.new ≡ frames.old) × (report.new ≡ report.old))
         ⊎ ((D.faults conf.new ≡ D.faults conf.old) × ((domain : DomainConf) × Says (D.left conf.old) domain × ((octets : List ℕ) × Consumes (S.left input.old) (S.left input.new) octets
         × Meets (schedule_cut domain octets) result (R.written report.old) (R.written report.new) (C.written frames.old) (C.written frames.new)))) }
-    ensures front { (result ≡ status.WriteFault) ⊎ (result ≡ status.Memory) → OnHeld form.Replay (D.left conf.old) (S.left input.old) (λ owed. AppendsFront (R.written report.old) (R.written report.new) owed.report × AppendsFront (C.written frames.old) (C.written frames.new) owed.frames) }
+    ensures front { (result ≡ status.WriteFault) ⊎ (result ≡ status.Memory) → OnHeld form.Replay [] (D.left conf.old) (S.left input.old) (λ owed. AppendsFront (R.written report.old) (R.written report.new) owed.report × AppendsFront (C.written frames.old) (C.written frames.new) owed.frames) }
 {
     match domain_in(alloc, conf) {
         Ok(domain) => play(alloc, domain, input, frames, report),
@@ -88,7 +90,9 @@ fn replay<D: Source, S: Source, C: Sink, R: Sink>(
 /// the domain file, the schedule, capture or other input, the frames that it sends, and its report. It answers its
 /// exit status.
 ///
-/// The words are `replay CONF SCHEDULE FRAMES`, `hop INPUT` or `headers CAPTURE`; on any other words the report is the usage line.
+/// The words are `replay CONF SCHEDULE FRAMES`, `node CONF ROUTER CAPTURE FRAMES`, `hop INPUT` or `headers CAPTURE`; on any other words
+/// the report is the usage line. ROUTER is the name of a router of the domain; where there is none of that name, the domain file is
+/// refused as one whose reference names nothing.
 pub fn run<D: Source, S: Source, C: Sink, R: Sink>(
     alloc: Global,
     words: &[&str],
@@ -107,9 +111,9 @@ pub fn run<D: Source, S: Source, C: Sink, R: Sink>(
 
     // The verdict on the sources that tell what they hold. Where one tells nothing, there are octets that it may have
     // held of which this is the verdict.
-    ensures verdict { IsDecided result → IfSome (verdict (form_in words.now) (D.left conf.old) (S.left input.old))
+    ensures verdict { IsDecided result → IfSome (verdict (form_in words.now) (router_in words.now) (D.left conf.old) (S.left input.old))
         (λ owed. Meets owed result (R.written report.old) (R.written report.new) (C.written frames.old) (C.written frames.new)) }
-    ensures some_held { IsDecided result → OnHeld (form_in words.now) (D.left conf.old) (S.left input.old)
+    ensures some_held { IsDecided result → OnHeld (form_in words.now) (router_in words.now) (D.left conf.old) (S.left input.old)
         (λ owed. Meets owed result (R.written report.old) (R.written report.new) (C.written frames.old) (C.written frames.new)) }
 
     // Where no count rose, the answer is the verdict's or want of memory.
@@ -119,12 +123,12 @@ pub fn run<D: Source, S: Source, C: Sink, R: Sink>(
     // When each status comes. Where a run is done, nothing is left of the sources that its words name.
     ensures done { result ≡ status.Done → form_in words.now ≢ form.Unknown }
     ensures done_whole { result ≡ status.Done → IsAtEnd (S.left input.new) }
-    ensures done_conf { form_in words.now ≡ form.Replay → result ≡ status.Done → IsAtEnd (D.left conf.new) }
+    ensures done_conf { (form_in words.now ≡ form.Replay) ⊎ (form_in words.now ≡ form.Node) → result ≡ status.Done → IsAtEnd (D.left conf.new) }
     ensures usage { IsDecided result → ((result ≡ status.Usage) ↔ (form_in words.now ≡ form.Unknown)) }
     ensures usage_or_fault { form_in words.now ≡ form.Unknown → (result ≡ status.Usage) ⊎ (result ≡ status.WriteFault) }
-    ensures conf_refused { result ≡ status.ConfRefused → form_in words.now ≡ form.Replay }
+    ensures conf_refused { result ≡ status.ConfRefused → (form_in words.now ≡ form.Replay) ⊎ (form_in words.now ≡ form.Node) }
     ensures input_refused { result ≡ status.InputRefused → (form_in words.now ≡ form.Replay) ⊎ (form_in words.now ≡ form.Hop) }
-    ensures capture_refused { result ≡ status.CaptureRefused → form_in words.now ≡ form.Headers }
+    ensures capture_refused { result ≡ status.CaptureRefused → (form_in words.now ≡ form.Headers) ⊎ (form_in words.now ≡ form.Node) }
     ensures read_fault { result ≡ status.ReadFault → (D.faults conf.old < D.faults conf.new) ⊎ (S.faults input.old < S.faults input.new) }
     ensures write_fault { result ≡ status.WriteFault → (C.faults frames.old < C.faults frames.new) ⊎ ((C.zeros frames.old < C.zeros frames.new) ⊎ ((R.faults report.old < R.faults report.new) ⊎ (R.zeros report.old < R.zeros report.new))) }
 
@@ -140,6 +144,12 @@ pub fn run<D: Source, S: Source, C: Sink, R: Sink>(
     // `replay` is done wherever the domain file is valid, each line of the schedule is in the grammar, each of its events is
     // allowed, and no count rose.
     ensures replay_complete { form_in words.now ≡ form.Replay → IfSome (D.left conf.old) (λ file. IfSome (S.left input.old) (λ octets. IsReplayed file octets
+        → D.faults conf.new ≡ D.faults conf.old → S.faults input.new ≡ S.faults input.old → C.faults frames.new ≡ C.faults frames.old → C.zeros frames.new ≡ C.zeros frames.old
+        → R.faults report.new ≡ R.faults report.old → R.zeros report.new ≡ R.zeros report.old → (result ≡ status.Done) ⊎ (result ≡ status.Memory))) }
+
+    // `node` is done wherever the domain file is valid and has a router of that name, its input is a capture that isn't too long
+    // and in which no record is more than 65,535 seconds ahead of the clock, and no count rose.
+    ensures node_complete { form_in words.now ≡ form.Node → IfSome (D.left conf.old) (λ file. IfSome (S.left input.old) (λ octets. HasRouter file (router_in words.now) → IsReplayable octets
         → D.faults conf.new ≡ D.faults conf.old → S.faults input.new ≡ S.faults input.old → C.faults frames.new ≡ C.faults frames.old → C.zeros frames.new ≡ C.zeros frames.old
         → R.faults report.new ≡ R.faults report.old → R.zeros report.new ≡ R.zeros report.old → (result ≡ status.Done) ⊎ (result ≡ status.Memory))) }
 
@@ -159,23 +169,30 @@ pub fn run<D: Source, S: Source, C: Sink, R: Sink>(
 
     // What a stop leaves. What was written is finished. Where the source fails, the lines or records that are whole in what
     // was taken are done and reported, none of them is refused, no fault of a capture's reader stands in it, and there is no
-    // last line; both sinks of `replay` are then finished, whether or not anything was written to them. Where the domain file's
-    // source fails, nothing else is touched. At a fault of a sink, and at want of memory, a front of each text is written.
+    // last line; both sinks of `replay` and of `node` are then finished, whether or not anything was written to them. Where the
+    // domain file's source fails, nothing else is touched. At a fault of a sink, and at want of memory, a front of each text is written.
     ensures finished { IsDecided result → R.unfinished report.new ≡ false }
     ensures replay_finished { form_in words.now ≡ form.Replay → result ≢ status.WriteFault → result ≢ status.Memory → (report.new ≡ report.old) ⊎ (R.unfinished report.new ≡ false) }
     ensures capture_finished { form_in words.now ≡ form.Replay → (result ≡ status.Done) ⊎ (result ≡ status.InputRefused) → C.unfinished frames.new ≡ false }
     ensures frames_finished { result ≢ status.WriteFault → result ≢ status.Memory → (frames.new ≡ frames.old) ⊎ (C.unfinished frames.new ≡ false) }
     ensures replay_both_finished { form_in words.now ≡ form.Replay → result ≡ status.ReadFault → (D.faults conf.old < D.faults conf.new) ⊎ ((C.unfinished frames.new ≡ false) × (R.unfinished report.new ≡ false)) }
+    ensures node_finished { form_in words.now ≡ form.Node → result ≢ status.WriteFault → result ≢ status.Memory → (report.new ≡ report.old) ⊎ (R.unfinished report.new ≡ false) }
+    ensures node_capture_finished { form_in words.now ≡ form.Node → (result ≡ status.Done) ⊎ (result ≡ status.CaptureRefused) → C.unfinished frames.new ≡ false }
+    ensures node_both_finished { form_in words.now ≡ form.Node → result ≡ status.ReadFault → (D.faults conf.old < D.faults conf.new) ⊎ ((C.unfinished frames.new ≡ false) × (R.unfinished report.new ≡ false)) }
     ensures hop_finished { form_in words.now ≡ form.Hop → result ≡ status.ReadFault → R.unfinished report.new ≡ false }
     ensures headers_finished { form_in words.now ≡ form.Headers → result ≡ status.ReadFault → R.unfinished report.new ≡ false }
     ensures replay_stopped { form_in words.now ≡ form.Replay → result ≡ status.ReadFault → ((D.faults conf.old < D.faults conf.new) × (input.new ≡ input.old) × (frames.new ≡ frames.old) × (report.new ≡ report.old))
         ⊎ ((D.faults conf.new ≡ D.faults conf.old) × ((domain : DomainConf) × Says (D.left conf.old) domain × ((octets : List ℕ) × Consumes (S.left input.old) (S.left input.new) octets
         × Meets (schedule_cut domain octets) result (R.written report.old) (R.written report.new) (C.written frames.old) (C.written frames.new)))) }
+    ensures node_stopped { form_in words.now ≡ form.Node → result ≡ status.ReadFault → ((D.faults conf.old < D.faults conf.new) × (input.new ≡ input.old) × (frames.new ≡ frames.old) × (report.new ≡ report.old))
+        ⊎ ((D.faults conf.new ≡ D.faults conf.old) × ((own : RouterConf) × SaysRouter (D.left conf.old) (router_in words.now) own × ((octets : List ℕ) × Consumes (S.left input.old) (S.left input.new) octets
+        × IsOpen octets × ((node_reached own octets).gap ≡ None)
+        × Meets (node_cut own octets) result (R.written report.old) (R.written report.new) (C.written frames.old) (C.written frames.new)))) }
     ensures hop_stopped { form_in words.now ≡ form.Hop → result ≡ status.ReadFault
         → (octets : List ℕ) × Consumes (S.left input.old) (S.left input.new) octets × Gave (hop_cut octets) result (R.written report.old) (R.written report.new) }
     ensures headers_stopped { form_in words.now ≡ form.Headers → result ≡ status.ReadFault
         → (octets : List ℕ) × Consumes (S.left input.old) (S.left input.new) octets × IsOpen octets × Appends (R.written report.old) (R.written report.new) (lines_of octets) }
-    ensures front { (result ≡ status.WriteFault) ⊎ (result ≡ status.Memory) → OnHeld (form_in words.now) (D.left conf.old) (S.left input.old)
+    ensures front { (result ≡ status.WriteFault) ⊎ (result ≡ status.Memory) → OnHeld (form_in words.now) (router_in words.now) (D.left conf.old) (S.left input.old)
         (λ owed. AppendsFront (R.written report.old) (R.written report.new) owed.report × AppendsFront (C.written frames.old) (C.written frames.new) owed.frames) }
 
     // The run of the model that `replay` did, of which status and texts are: over all lines of the schedule up to one that is refused,
@@ -188,11 +205,13 @@ pub fn run<D: Source, S: Source, C: Sink, R: Sink>(
     ensures delivered_once { form_in words.now ≡ form.Replay → HasRun result → D.faults conf.new ≡ D.faults conf.old → RunDone result (D.left conf.old) (S.left input.old) (S.left input.new) (R.written report.old) (R.written report.new) (C.written frames.old) (C.written frames.new) (λ d r. DeliversOnce r) }
     ensures exactly_once { form_in words.now ≡ form.Replay → HasRun result → D.faults conf.new ≡ D.faults conf.old → RunDone result (D.left conf.old) (S.left input.old) (S.left input.new) (R.written report.old) (R.written report.new) (C.written frames.old) (C.written frames.new) ArriveOnce }
 
-    // What the words don't name is as before, and so are the schedule and the frames where the domain file isn't accepted.
+    // What the words don't name is as before, and so are the schedule or capture and the frames where the domain file isn't accepted, or
+    // the word for a router names none of it.
     ensures accepted { form_in words.now ≡ form.Replay → ((input.new ≡ input.old) × (frames.new ≡ frames.old)) ⊎ ((D.faults conf.new ≡ D.faults conf.old) × ((domain : DomainConf) × Says (D.left conf.old) domain)) }
+    ensures node_accepted { form_in words.now ≡ form.Node → ((input.new ≡ input.old) × (frames.new ≡ frames.old)) ⊎ ((D.faults conf.new ≡ D.faults conf.old) × ((own : RouterConf) × SaysRouter (D.left conf.old) (router_in words.now) own)) }
     ensures refused { result ≡ status.ConfRefused → (input.new ≡ input.old) × (frames.new ≡ frames.old) }
-    ensures conf { form_in words.now ≢ form.Replay → conf.new ≡ conf.old }
-    ensures frames { form_in words.now ≢ form.Replay → frames.new ≡ frames.old }
+    ensures conf { form_in words.now ≢ form.Replay → form_in words.now ≢ form.Node → conf.new ≡ conf.old }
+    ensures frames { form_in words.now ≢ form.Replay → form_in words.now ≢ form.Node → frames.new ≡ frames.old }
     ensures unread { form_in words.now ≡ form.Unknown → input.new ≡ input.old }
 {
     packets_are_parted();
@@ -200,6 +219,7 @@ pub fn run<D: Source, S: Source, C: Sink, R: Sink>(
     replays_arrive_once();
     match form_of(words) {
         Form::Replay => replay(alloc, conf, input, frames, report),
+        Form::Node => node(alloc, router_word(words), conf, input, frames, report),
         Form::Hop => hop(alloc, input, report),
         Form::Headers => headers(alloc, input, report),
         Form::Unknown => deliver(report, Status::Usage, USAGE),

@@ -1,12 +1,14 @@
 //! The words of the program.
 ghost use Rattle.std.specs.Prelude.{◌≡◌};
-ghost use Rattle.replay_run.specs.Words.{form_in};
+ghost use Rattle.replay_run.specs.Words.{form_in, router_in};
 
 /// The forms of words.
 #[derive(Clone, Copy, Debug, PartialEq, Eq)]
 pub enum Form {
     /// `replay CONF SCHEDULE FRAMES`
     Replay,
+    /// `node CONF ROUTER CAPTURE FRAMES`
+    Node,
     /// `hop INPUT`
     Hop,
     /// `headers CAPTURE`
@@ -26,8 +28,19 @@ pub fn form_of(given: &[&str]) -> Form
 {
     match given {
         [word, _, _, _] if *word == "replay" => Form::Replay,
+        [word, _, _, _, _] if *word == "node" => Form::Node,
         [word, _] if *word == "hop" => Form::Hop,
         [word, _] if *word == "headers" => Form::Headers,
         _ => Form::Unknown,
+    }
+}
+
+/// The word that names a router, in the form that has one.
+pub fn router_word<'a>(given: &[&'a str]) -> &'a [u8]
+    ensures { result.now ≡ router_in given.now }
+{
+    match given {
+        [_, _, router, ..] => router.as_bytes(),
+        _ => b"",
     }
 }

@@ -7,14 +7,14 @@ ghost use Rattle.domain_replay.specs.Lines.{text_refused_text};
 ghost use Rattle.replay_text.specs.Fault.{fault_text};
 ghost use Rattle.domain_replay.specs.Telling.{LineNamesOnce};
 ghost use Rattle.domain_replay.specs.Texts.{names_of, line_reaches};
-ghost use Rattle.replay_run.specs.declared.reader.Found.TheVariants as found;
-ghost use Rattle.replay_run.specs.Texts.{Ended, Longer};
+ghost use Rattle.tool_run.specs.declared.reader.Found.TheVariants as found;
+ghost use Rattle.tool_run.specs.Texts.{Ended, Longer};
 ghost use Rattle.replay_run.specs.Scheduling.{Course, IsAt, Reaches, said_reaches, next_reaches, EndsWith, Turns};
 
-use crate::reader::Found;
 use domain_replay::Replay;
 use replay_text::{Line, TextFault, read_line};
 use std::alloc::Global;
+use tool_run::Found;
 use wire_base::limits::{LINE_LIMIT, MOST_ROUTERS, TEXT_LIMIT};
 use wire_base::{Domain, M, Name, Rows, Status};
 

@@ -1,6 +1,6 @@
 use Rattle.std.proofs.Common.{◌<◌, ◌-◌, length, Some, None, refl, ap, ◌∙◌, arith}
 use Rattle.domain_replay.specs.Telling.{Telling}
-use Rattle.replay_run.proofs.Written.{on_err}
+use Rattle.tool_run.proofs.Written.{on_err}
 use Rattle.replay_run.proofs.ScheduleLoop.{course_first, course_front, untouched, step_made, step_ends, step_known, step_counts, step_goes, step_fronts}
 use Rattle.replay_run.proofs.replay.do_schedule.Goals as goal
 

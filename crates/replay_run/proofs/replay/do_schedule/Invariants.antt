@@ -1,5 +1,5 @@
 use Rattle.std.proofs.Common.{◌≡◌, ◌≤◌, ◌<◌, ◌-◌, length}
-use Rattle.replay_run.specs.declared.whole.TheConstants.{PIECE}
+use Rattle.tool_run.specs.declared.whole.TheConstants.{PIECE}
 use Rattle.domain_replay.specs.Texts.{names_of}
 use Rattle.replay_run.proofs.ScheduleLoop.{OnCourse}
 use Rattle.replay_run.proofs.replay.do_schedule.Given as goal

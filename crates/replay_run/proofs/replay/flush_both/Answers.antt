@@ -1,5 +1,5 @@
-use Rattle.replay_run.proofs.HopLoop.{nothing_front}
-use Rattle.replay_run.proofs.Written.{on_err, front_appended}
+use Rattle.tool_run.proofs.HopLoop.{nothing_front}
+use Rattle.tool_run.proofs.Written.{on_err, front_appended}
 use Rattle.replay_run.proofs.replay.flush_both.Goals as goal
 
 pub returns-in_err-flush_frames-clause-report_front : goal.returns-in_err-flush_frames-clause-report_front

@@ -1,6 +1,6 @@
 use Rattle.std.proofs.Common.{subst, ◌∙◌}
 use Rattle.std.specs.Io.KnownBytes.{Appends}
-use Rattle.replay_run.specs.Outside.{Meets, AppendsFront}
+use Rattle.tool_run.specs.Outside.{Meets, AppendsFront}
 use Rattle.replay_run.specs.DomainFile.{HasNone}
 use Rattle.replay_run.proofs.Owed.{write_fault}
 use Rattle.replay_run.proofs.Replays.{played, refused_meets, refused_front, none_front}

@@ -1,9 +1,10 @@
 use Rattle.std.proofs.Common.{sym, ◌∙◌}
 use Rattle.replay_run.specs.declared.words.Form.TheVariants as form
-use Rattle.replay_run.specs.Outside.{Meets, AppendsFront}
+use Rattle.tool_run.specs.Outside.{Meets, AppendsFront}
 use Rattle.replay_run.proofs.Owed.{told, in_form, no_fault, hop_meets, hop_front, hop_done, hop_reports, headers_meets, headers_front, headers_done, usage_meets, usage_front, write_fault}
-use Rattle.replay_run.proofs.Replays.{no_fault_of_four, replay_done}
+use Rattle.replay_run.proofs.Replays.{no_fault_of_four, replay_done, in_replay}
 use Rattle.replay_run.proofs.RunsDone.{run_done}
+use Rattle.replay_run.proofs.Nodes.{in_node, node_run_done}
 use Rattle.replay_laws.specs.Moments.{HasLedgerThroughout, DeliversOnce}
 use Rattle.replay_laws.specs.Reports.{IsReported}
 use Rattle.replay_laws.specs.Once.{ArriveOnce}
@@ -13,16 +14,16 @@ use Rattle.replay_run.proofs.top.run.Goals as goal
 
 pub returns-in-Replay-clause-some_held : goal.returns-in-Replay-clause-some_held
 returns-in-Replay-clause-some_held g c decided =
-    in_form _ form.Replay (g.D.Source.left c.args.conf.now) (g.S.Source.left c.args.input.now) (λ owed. Meets owed c.replay.result (g.R.Sink.written c.args.report.now) (g.R.Sink.written c.replay.new.report) (g.C.Sink.written c.args.frames.now) (g.C.Sink.written c.replay.new.frames)) (sym c.form_of.ensures ∙ c.in-Replay.is)
+    in_replay _ _ (g.D.Source.left c.args.conf.now) (g.S.Source.left c.args.input.now) (λ owed. Meets owed c.replay.result (g.R.Sink.written c.args.report.now) (g.R.Sink.written c.replay.new.report) (g.C.Sink.written c.args.frames.now) (g.C.Sink.written c.replay.new.frames)) (sym c.form_of.ensures ∙ c.in-Replay.is)
     (c.replay.ensures.answer decided)
 
 pub returns-in-Replay-clause-verdict : goal.returns-in-Replay-clause-verdict
 returns-in-Replay-clause-verdict g c decided =
-    told _ (g.D.Source.left c.args.conf.now) (g.S.Source.left c.args.input.now) (λ owed. Meets owed c.replay.result (g.R.Sink.written c.args.report.now) (g.R.Sink.written c.replay.new.report) (g.C.Sink.written c.args.frames.now) (g.C.Sink.written c.replay.new.frames)) (returns-in-Replay-clause-some_held g c decided)
+    told _ _ (g.D.Source.left c.args.conf.now) (g.S.Source.left c.args.input.now) (λ owed. Meets owed c.replay.result (g.R.Sink.written c.args.report.now) (g.R.Sink.written c.replay.new.report) (g.C.Sink.written c.args.frames.now) (g.C.Sink.written c.replay.new.frames)) (returns-in-Replay-clause-some_held g c decided)
 
 pub returns-in-Replay-clause-front : goal.returns-in-Replay-clause-front
 returns-in-Replay-clause-front g c stopped =
-    in_form _ form.Replay (g.D.Source.left c.args.conf.now) (g.S.Source.left c.args.input.now) (λ owed. AppendsFront (g.R.Sink.written c.args.report.now) (g.R.Sink.written c.replay.new.report) owed.report × AppendsFront (g.C.Sink.written c.args.frames.now) (g.C.Sink.written c.replay.new.frames) owed.frames) (sym c.form_of.ensures ∙ c.in-Replay.is) (c.replay.ensures.front stopped)
+    in_replay _ _ (g.D.Source.left c.args.conf.now) (g.S.Source.left c.args.input.now) (λ owed. AppendsFront (g.R.Sink.written c.args.report.now) (g.R.Sink.written c.replay.new.report) owed.report × AppendsFront (g.C.Sink.written c.args.frames.now) (g.C.Sink.written c.replay.new.frames) owed.frames) (sym c.form_of.ensures ∙ c.in-Replay.is) (c.replay.ensures.front stopped)
 
 pub returns-in-Replay-clause-decided : goal.returns-in-Replay-clause-decided
 returns-in-Replay-clause-decided g c = no_fault_of_four c.replay.result _ _ _ _ _ _ _ _ _ _ _ _ c.replay.ensures.read c.replay.ensures.write
@@ -52,21 +53,51 @@ returns-in-Replay-clause-exactly_once g c is =
     run_done (g.D.Source.left c.args.conf.now) (g.S.Source.left c.args.input.now) (g.S.Source.left c.replay.new.input) (g.R.Sink.written c.args.report.now) (g.R.Sink.written c.replay.new.report) (g.C.Sink.written c.args.frames.now) (g.C.Sink.written c.replay.new.frames)
     ArriveOnce c.replays_arrive_once.ensures c.replay.result _ _ _ _ _ c.replay.ensures.answer c.replay.ensures.stopped
 
+-- ---- words of the form Node
+
+pub returns-in-Node-clause-some_held : goal.returns-in-Node-clause-some_held
+returns-in-Node-clause-some_held g c decided =
+    in_node _ _ _ (g.D.Source.left c.args.conf.now) (g.S.Source.left c.args.input.now) (λ owed. Meets owed c.node.result (g.R.Sink.written c.args.report.now) (g.R.Sink.written c.node.new.report) (g.C.Sink.written c.args.frames.now) (g.C.Sink.written c.node.new.frames)) (sym c.form_of.ensures ∙ c.in-Node.is)
+    c.router_word.ensures (c.node.ensures.answer decided)
+
+pub returns-in-Node-clause-verdict : goal.returns-in-Node-clause-verdict
+returns-in-Node-clause-verdict g c decided =
+    told _ _ (g.D.Source.left c.args.conf.now) (g.S.Source.left c.args.input.now) (λ owed. Meets owed c.node.result (g.R.Sink.written c.args.report.now) (g.R.Sink.written c.node.new.report) (g.C.Sink.written c.args.frames.now) (g.C.Sink.written c.node.new.frames)) (returns-in-Node-clause-some_held g c decided)
+
+pub returns-in-Node-clause-front : goal.returns-in-Node-clause-front
+returns-in-Node-clause-front g c stopped =
+    in_node _ _ _ (g.D.Source.left c.args.conf.now) (g.S.Source.left c.args.input.now) (λ owed. AppendsFront (g.R.Sink.written c.args.report.now) (g.R.Sink.written c.node.new.report) owed.report × AppendsFront (g.C.Sink.written c.args.frames.now) (g.C.Sink.written c.node.new.frames) owed.frames) (sym c.form_of.ensures ∙ c.in-Node.is)
+    c.router_word.ensures (c.node.ensures.front stopped)
+
+pub returns-in-Node-clause-decided : goal.returns-in-Node-clause-decided
+returns-in-Node-clause-decided g c = no_fault_of_four c.node.result _ _ _ _ _ _ _ _ _ _ _ _ c.node.ensures.read c.node.ensures.write
+
+pub returns-in-Node-clause-node_complete : goal.returns-in-Node-clause-node_complete
+returns-in-Node-clause-node_complete g c is =
+    node_run_done _ _ (g.D.Source.left c.args.conf.now) (g.S.Source.left c.args.input.now) (g.R.Sink.written c.args.report.now) (g.R.Sink.written c.node.new.report) (g.C.Sink.written c.args.frames.now) (g.C.Sink.written c.node.new.frames) c.node.result
+    _ _ _ _ _ _ c.router_word.ensures (returns-in-Node-clause-decided g c) c.node.ensures.answer
+
+pub returns-in-Node-clause-node_stopped : goal.returns-in-Node-clause-node_stopped
+returns-in-Node-clause-node_stopped g c is failed = rw (← c.router_word.ensures) (c.node.ensures.stopped failed)
+
+pub returns-in-Node-clause-node_accepted : goal.returns-in-Node-clause-node_accepted
+returns-in-Node-clause-node_accepted g c is = rw (← c.router_word.ensures) c.node.ensures.accepted
+
 -- ---- words of the form Hop
 
 pub returns-in-Hop-clause-some_held : goal.returns-in-Hop-clause-some_held
 returns-in-Hop-clause-some_held g c decided =
-    in_form _ form.Hop (g.D.Source.left c.args.conf.now) (g.S.Source.left c.args.input.now) (λ owed. Meets owed c.hop.result (g.R.Sink.written c.args.report.now) (g.R.Sink.written c.hop.new.report) (g.C.Sink.written c.args.frames.now) (g.C.Sink.written c.args.frames.now)) (sym c.form_of.ensures ∙ c.in-Hop.is)
-    (hop_meets (g.D.Source.left c.args.conf.now) (g.S.Source.left c.args.input.now) (g.R.Sink.written c.args.report.now) (g.R.Sink.written c.hop.new.report) (g.C.Sink.written c.args.frames.now) c.hop.result (c.hop.ensures.answer decided))
+    in_form _ form.Hop _ (g.D.Source.left c.args.conf.now) (g.S.Source.left c.args.input.now) (λ owed. Meets owed c.hop.result (g.R.Sink.written c.args.report.now) (g.R.Sink.written c.hop.new.report) (g.C.Sink.written c.args.frames.now) (g.C.Sink.written c.args.frames.now)) (sym c.form_of.ensures ∙ c.in-Hop.is)
+    (hop_meets _ (g.D.Source.left c.args.conf.now) (g.S.Source.left c.args.input.now) (g.R.Sink.written c.args.report.now) (g.R.Sink.written c.hop.new.report) (g.C.Sink.written c.args.frames.now) c.hop.result (c.hop.ensures.answer decided))
 
 pub returns-in-Hop-clause-verdict : goal.returns-in-Hop-clause-verdict
 returns-in-Hop-clause-verdict g c decided =
-    told _ (g.D.Source.left c.args.conf.now) (g.S.Source.left c.args.input.now) (λ owed. Meets owed c.hop.result (g.R.Sink.written c.args.report.now) (g.R.Sink.written c.hop.new.report) (g.C.Sink.written c.args.frames.now) (g.C.Sink.written c.args.frames.now)) (returns-in-Hop-clause-some_held g c decided)
+    told _ _ (g.D.Source.left c.args.conf.now) (g.S.Source.left c.args.input.now) (λ owed. Meets owed c.hop.result (g.R.Sink.written c.args.report.now) (g.R.Sink.written c.hop.new.report) (g.C.Sink.written c.args.frames.now) (g.C.Sink.written c.args.frames.now)) (returns-in-Hop-clause-some_held g c decided)
 
 pub returns-in-Hop-clause-front : goal.returns-in-Hop-clause-front
 returns-in-Hop-clause-front g c stopped =
-    in_form _ form.Hop (g.D.Source.left c.args.conf.now) (g.S.Source.left c.args.input.now) (λ owed. AppendsFront (g.R.Sink.written c.args.report.now) (g.R.Sink.written c.hop.new.report) owed.report × AppendsFront (g.C.Sink.written c.args.frames.now) (g.C.Sink.written c.args.frames.now) owed.frames) (sym c.form_of.ensures ∙ c.in-Hop.is)
-    (hop_front (g.D.Source.left c.args.conf.now) (g.S.Source.left c.args.input.now) (g.R.Sink.written c.args.report.now) (g.R.Sink.written c.hop.new.report) (g.C.Sink.written c.args.frames.now) (c.hop.ensures.front stopped))
+    in_form _ form.Hop _ (g.D.Source.left c.args.conf.now) (g.S.Source.left c.args.input.now) (λ owed. AppendsFront (g.R.Sink.written c.args.report.now) (g.R.Sink.written c.hop.new.report) owed.report × AppendsFront (g.C.Sink.written c.args.frames.now) (g.C.Sink.written c.args.frames.now) owed.frames) (sym c.form_of.ensures ∙ c.in-Hop.is)
+    (hop_front _ (g.D.Source.left c.args.conf.now) (g.S.Source.left c.args.input.now) (g.R.Sink.written c.args.report.now) (g.R.Sink.written c.hop.new.report) (g.C.Sink.written c.args.frames.now) (c.hop.ensures.front stopped))
 
 pub returns-in-Hop-clause-decided : goal.returns-in-Hop-clause-decided
 returns-in-Hop-clause-decided g c conf input frames_faults frames_zeros faults zeros = no_fault c.hop.result _ _ _ _ _ _ c.hop.ensures.read c.hop.ensures.write input faults zeros
@@ -81,17 +112,17 @@ returns-in-Hop-clause-hop_parts g c is decided = hop_reports (g.S.Source.left c.
 
 pub returns-in-Headers-clause-some_held : goal.returns-in-Headers-clause-some_held
 returns-in-Headers-clause-some_held g c decided =
-    in_form _ form.Headers (g.D.Source.left c.args.conf.now) (g.S.Source.left c.args.input.now) (λ owed. Meets owed c.headers.result (g.R.Sink.written c.args.report.now) (g.R.Sink.written c.headers.new.report) (g.C.Sink.written c.args.frames.now) (g.C.Sink.written c.args.frames.now)) (sym c.form_of.ensures ∙ c.in-Headers.is)
-    (headers_meets (g.D.Source.left c.args.conf.now) (g.S.Source.left c.args.input.now) (g.R.Sink.written c.args.report.now) (g.R.Sink.written c.headers.new.report) (g.C.Sink.written c.args.frames.now) c.headers.result (c.headers.ensures.answer decided))
+    in_form _ form.Headers _ (g.D.Source.left c.args.conf.now) (g.S.Source.left c.args.input.now) (λ owed. Meets owed c.headers.result (g.R.Sink.written c.args.report.now) (g.R.Sink.written c.headers.new.report) (g.C.Sink.written c.args.frames.now) (g.C.Sink.written c.args.frames.now)) (sym c.form_of.ensures ∙ c.in-Headers.is)
+    (headers_meets _ (g.D.Source.left c.args.conf.now) (g.S.Source.left c.args.input.now) (g.R.Sink.written c.args.report.now) (g.R.Sink.written c.headers.new.report) (g.C.Sink.written c.args.frames.now) c.headers.result (c.headers.ensures.answer decided))
 
 pub returns-in-Headers-clause-verdict : goal.returns-in-Headers-clause-verdict
 returns-in-Headers-clause-verdict g c decided =
-    told _ (g.D.Source.left c.args.conf.now) (g.S.Source.left c.args.input.now) (λ owed. Meets owed c.headers.result (g.R.Sink.written c.args.report.now) (g.R.Sink.written c.headers.new.report) (g.C.Sink.written c.args.frames.now) (g.C.Sink.written c.args.frames.now)) (returns-in-Headers-clause-some_held g c decided)
+    told _ _ (g.D.Source.left c.args.conf.now) (g.S.Source.left c.args.input.now) (λ owed. Meets owed c.headers.result (g.R.Sink.written c.args.report.now) (g.R.Sink.written c.headers.new.report) (g.C.Sink.written c.args.frames.now) (g.C.Sink.written c.args.frames.now)) (returns-in-Headers-clause-some_held g c decided)
 
 pub returns-in-Headers-clause-front : goal.returns-in-Headers-clause-front
 returns-in-Headers-clause-front g c stopped =
-    in_form _ form.Headers (g.D.Source.left c.args.conf.now) (g.S.Source.left c.args.input.now) (λ owed. AppendsFront (g.R.Sink.written c.args.report.now) (g.R.Sink.written c.headers.new.report) owed.report × AppendsFront (g.C.Sink.written c.args.frames.now) (g.C.Sink.written c.args.frames.now) owed.frames) (sym c.form_of.ensures ∙ c.in-Headers.is)
-    (headers_front (g.D.Source.left c.args.conf.now) (g.S.Source.left c.args.input.now) (g.R.Sink.written c.args.report.now) (g.R.Sink.written c.headers.new.report) (g.C.Sink.written c.args.frames.now) (c.headers.ensures.front stopped))
+    in_form _ form.Headers _ (g.D.Source.left c.args.conf.now) (g.S.Source.left c.args.input.now) (λ owed. AppendsFront (g.R.Sink.written c.args.report.now) (g.R.Sink.written c.headers.new.report) owed.report × AppendsFront (g.C.Sink.written c.args.frames.now) (g.C.Sink.written c.args.frames.now) owed.frames) (sym c.form_of.ensures ∙ c.in-Headers.is)
+    (headers_front _ (g.D.Source.left c.args.conf.now) (g.S.Source.left c.args.input.now) (g.R.Sink.written c.args.report.now) (g.R.Sink.written c.headers.new.report) (g.C.Sink.written c.args.frames.now) (c.headers.ensures.front stopped))
 
 pub returns-in-Headers-clause-decided : goal.returns-in-Headers-clause-decided
 returns-in-Headers-clause-decided g c conf input frames_faults frames_zeros faults zeros = no_fault c.headers.result _ _ _ _ _ _ c.headers.ensures.read c.headers.ensures.write input faults zeros
@@ -103,14 +134,14 @@ returns-in-Headers-clause-headers_complete g c is = headers_done c.headers.resul
 
 pub returns-in-Unknown-clause-some_held : goal.returns-in-Unknown-clause-some_held
 returns-in-Unknown-clause-some_held g c decided =
-    in_form _ form.Unknown (g.D.Source.left c.args.conf.now) (g.S.Source.left c.args.input.now) (λ owed. Meets owed c.deliver.result (g.R.Sink.written c.args.report.now) (g.R.Sink.written c.deliver.new.report) (g.C.Sink.written c.args.frames.now) (g.C.Sink.written c.args.frames.now)) (sym c.form_of.ensures ∙ c.in-Unknown.is)
-    (usage_meets (g.D.Source.left c.args.conf.now) (g.S.Source.left c.args.input.now) (g.R.Sink.written c.args.report.now) (g.R.Sink.written c.deliver.new.report) (g.C.Sink.written c.args.frames.now) c.deliver.result decided c.deliver.ensures.status (c.deliver.ensures.written decided))
+    in_form _ form.Unknown _ (g.D.Source.left c.args.conf.now) (g.S.Source.left c.args.input.now) (λ owed. Meets owed c.deliver.result (g.R.Sink.written c.args.report.now) (g.R.Sink.written c.deliver.new.report) (g.C.Sink.written c.args.frames.now) (g.C.Sink.written c.args.frames.now)) (sym c.form_of.ensures ∙ c.in-Unknown.is)
+    (usage_meets _ (g.D.Source.left c.args.conf.now) (g.S.Source.left c.args.input.now) (g.R.Sink.written c.args.report.now) (g.R.Sink.written c.deliver.new.report) (g.C.Sink.written c.args.frames.now) c.deliver.result decided c.deliver.ensures.status (c.deliver.ensures.written decided))
 
 pub returns-in-Unknown-clause-verdict : goal.returns-in-Unknown-clause-verdict
 returns-in-Unknown-clause-verdict g c decided =
-    told _ (g.D.Source.left c.args.conf.now) (g.S.Source.left c.args.input.now) (λ owed. Meets owed c.deliver.result (g.R.Sink.written c.args.report.now) (g.R.Sink.written c.deliver.new.report) (g.C.Sink.written c.args.frames.now) (g.C.Sink.written c.args.frames.now)) (returns-in-Unknown-clause-some_held g c decided)
+    told _ _ (g.D.Source.left c.args.conf.now) (g.S.Source.left c.args.input.now) (λ owed. Meets owed c.deliver.result (g.R.Sink.written c.args.report.now) (g.R.Sink.written c.deliver.new.report) (g.C.Sink.written c.args.frames.now) (g.C.Sink.written c.args.frames.now)) (returns-in-Unknown-clause-some_held g c decided)
 
 pub returns-in-Unknown-clause-front : goal.returns-in-Unknown-clause-front
 returns-in-Unknown-clause-front g c stopped =
-    in_form _ form.Unknown (g.D.Source.left c.args.conf.now) (g.S.Source.left c.args.input.now) (λ owed. AppendsFront (g.R.Sink.written c.args.report.now) (g.R.Sink.written c.deliver.new.report) owed.report × AppendsFront (g.C.Sink.written c.args.frames.now) (g.C.Sink.written c.args.frames.now) owed.frames) (sym c.form_of.ensures ∙ c.in-Unknown.is)
-    (usage_front (g.D.Source.left c.args.conf.now) (g.S.Source.left c.args.input.now) (g.R.Sink.written c.args.report.now) (g.R.Sink.written c.deliver.new.report) (g.C.Sink.written c.args.frames.now) (c.deliver.ensures.front (write_fault _ c.deliver.result tt c.deliver.ensures.status stopped)))
+    in_form _ form.Unknown _ (g.D.Source.left c.args.conf.now) (g.S.Source.left c.args.input.now) (λ owed. AppendsFront (g.R.Sink.written c.args.report.now) (g.R.Sink.written c.deliver.new.report) owed.report × AppendsFront (g.C.Sink.written c.args.frames.now) (g.C.Sink.written c.args.frames.now) owed.frames) (sym c.form_of.ensures ∙ c.in-Unknown.is)
+    (usage_front _ (g.D.Source.left c.args.conf.now) (g.S.Source.left c.args.input.now) (g.R.Sink.written c.args.report.now) (g.R.Sink.written c.deliver.new.report) (g.C.Sink.written c.args.frames.now) (c.deliver.ensures.front (write_fault _ c.deliver.result tt c.deliver.ensures.status stopped)))

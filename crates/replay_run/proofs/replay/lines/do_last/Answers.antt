@@ -1,5 +1,5 @@
 use Rattle.std.proofs.Common.{[]}
-use Rattle.replay_run.specs.Texts.{Ended}
+use Rattle.tool_run.specs.Texts.{Ended}
 use Rattle.replay_run.proofs.ScheduleSteps.{reaches_ends, then_ends}
 use Rattle.replay_run.proofs.replay.lines.do_last.Goals as goal
 

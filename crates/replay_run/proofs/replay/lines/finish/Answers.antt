@@ -4,7 +4,7 @@ use Rattle.domain_replay.specs.Lines.{done_text}
 use Rattle.domain_model.specs.World.{ids_in_flight}
 use Rattle.domain_replay.specs.Telling.{Telling}
 use Rattle.std.proofs.Common.{ℕ, List}
-use Rattle.replay_run.specs.Texts.{Ended}
+use Rattle.tool_run.specs.Texts.{Ended}
 use Rattle.replay_run.proofs.ScheduleSteps.{ends, done_at}
 use Rattle.replay_run.proofs.replay.lines.finish.Goals as goal
 

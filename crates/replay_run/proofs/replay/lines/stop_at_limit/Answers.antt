@@ -2,7 +2,7 @@ use Rattle.std.proofs.Common.{◌+◌, refl, ap}
 use Rattle.wire_base.specs.declared.status.Status.TheVariants as status
 use Rattle.domain_replay.specs.Lines.{text_refused_text, too_long}
 use Rattle.domain_replay.specs.Telling.{Telling}
-use Rattle.replay_run.specs.Texts.{Longer}
+use Rattle.tool_run.specs.Texts.{Longer}
 use Rattle.replay_run.proofs.ScheduleSteps.{ends}
 use Rattle.replay_run.proofs.replay.lines.stop_at_limit.Goals as goal
 

@@ -1,6 +1,6 @@
 use Rattle.std.proofs.Common.{[], refl, sym, append-nil}
 use Rattle.wire_base.specs.declared.status.Status.TheVariants as status
-use Rattle.replay_run.specs.Texts.{Cut}
+use Rattle.tool_run.specs.Texts.{Cut}
 use Rattle.replay_run.proofs.ScheduleSteps.{ends}
 use Rattle.replay_run.proofs.replay.lines.take_found.Goals as goal
 

@@ -1,0 +1,17 @@
+pub mod Answer
+pub mod Outside
+pub mod Texts
+pub mod Reader
+pub mod Forward
+pub mod HopText
+pub mod HopReached
+pub mod Ways
+pub mod Partition
+pub mod Sight
+pub mod Causes
+pub mod Captured
+pub mod HeadersText
+pub mod Headers
+pub mod Records
+pub mod NodeRun
+pub mod NodeReached

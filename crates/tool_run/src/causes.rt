@@ -1,0 +1,39 @@
+//! The causes of drops, as a report says them.
+ghost use Rattle.std.specs.Prelude.{◌≡◌, ◌++◌, OnOk, OnErr};
+ghost use Rattle.std.specs.Fmt.{decimal};
+ghost use Rattle.tool_run.specs.Causes.{cause_text};
+
+use itoa::Buffer;
+use wire_base::{Cause, M, Octets};
+
+/// Appends what names a reader, and the number of the rule by which it refused octets; or nothing, where memory is refused.
+fn push_rule_of(out: &mut Octets, reader: &[u8], rule: u8) -> M<()>
+    ensures ok { OnOk result (out.new ≡ out.old ++ (reader.now ++ decimal rule)) }
+    ensures err { OnErr result (out.new ≡ out.old) }
+{
+    let mut digits = Buffer::new();
+    out.append_two(reader, digits.format(rule).as_bytes())
+}
+
+/// Appends the word of a cause; where a reader refused octets, the word has the number of its rule, as `pdu-7`. Where memory
+/// is refused, nothing is appended.
+pub fn push_cause(out: &mut Octets, cause: &Cause) -> M<()>
+    ensures ok { OnOk result (out.new ≡ out.old ++ cause_text cause.now) }
+    ensures err { OnErr result (out.new ≡ out.old) }
+{
+    match *cause {
+        Cause::NoRow => out.append(b"none"),
+        Cause::Ttl => out.append(b"ttl"),
+        Cause::Label => out.append(b"label"),
+        Cause::Head(fault) => push_rule_of(out, b"head-", fault.number()),
+        Cause::Frame(fault) => push_rule_of(out, b"frame-", fault.number()),
+        Cause::Ip(fault) => push_rule_of(out, b"ip-", fault.number()),
+        Cause::Pdu(fault) => push_rule_of(out, b"pdu-", fault.number()),
+        Cause::Outer => out.append(b"outer"),
+        Cause::Route => out.append(b"route"),
+        Cause::Lost => out.append(b"lost"),
+        Cause::Link => out.append(b"link"),
+        Cause::Sequence => out.append(b"sequence"),
+        Cause::Full => out.append(b"full"),
+    }
+}
