@@ -1,10 +1,11 @@
 //! The objects that the words of the program name.
-ghost use Rattle.std.specs.Prelude.{◌≡◌, ◌≢◌, ◌⊎◌, ◌<◌, ◌∷◌, [], length, take, drop, None};
+ghost use Rattle.std.specs.Prelude.{◌≡◌, ◌≢◌, ◌⊎◌, ◌<◌, ◌∷◌, [], length, drop, None};
 ghost use Rattle.wire_base.specs.Causes.{last_count};
 ghost use Rattle.wire_base.specs.declared.status.Status.TheVariants as status;
 ghost use Rattle.replay_run.specs.declared.words.Form.TheVariants as form;
 ghost use Rattle.replay_run.specs.Words.{form_in};
 ghost use Rattle.bier_domain.specs.Fresh.{AreFresh};
+ghost use Rattle.bier_domain.specs.Named.{IsNode, IsOneInput, IsGrow};
 
 use crate::files::{FileSink, FileSource, StdoutSink};
 use replay_run::run;
@@ -24,10 +25,10 @@ struct Paths<'a> {
 /// The paths that words of that count name.
 fn paths_in<'a>(words: &[&'a str]) -> Paths<'a>
     ensures replay { length words.now ≡ 4 → result.conf ∷ result.input ∷ result.frames ∷ [] ≡ drop 1 words.now }
-    ensures one_input { length words.now ≡ 2 → result.input ∷ [] ≡ drop 1 words.now }
-    ensures node_conf { length words.now ≡ 5 → result.conf ∷ [] ≡ take 1 (drop 1 words.now) }
-    ensures node_files { length words.now ≡ 5 → result.input ∷ result.frames ∷ [] ≡ drop 3 words.now }
+    ensures node { IsNode words.now (λ conf capture frames. result.conf ∷ result.input ∷ result.frames ∷ [] ≡ conf ∷ capture ∷ frames ∷ []) }
+    ensures one_input { IsOneInput words.now (λ input. result.input ≡ input) }
     ensures unnamed { length words.now ≢ 4 → length words.now ≢ 5 → (result.conf.now ≡ []) × (result.frames.now ≡ []) }
+    ensures grow { IsGrow words.now (result.input.now ≡ []) }
 {
     match words {
         [_, conf, schedule, frames] => Paths {
@@ -40,7 +41,7 @@ fn paths_in<'a>(words: &[&'a str]) -> Paths<'a>
             input: *capture,
             frames: *frames,
         },
-        [_, input] => Paths {
+        [command, input] if *command != "grow" => Paths {
             conf: "",
             input: *input,
             frames: "",
@@ -62,14 +63,14 @@ pub struct Objects<'a, R: Files> {
 }
 
 impl<'a, R: Files> Objects<'a, R> {
-    /// The files that words name, each at its own word: CONF, SCHEDULE or CAPTURE, and FRAMES, or INPUT. One that they don't name has an
-    /// empty path, and is never opened.
+    /// The files that words name, each at its own word: CONF, SCHEDULE and FRAMES, or CONF, CAPTURE and FRAMES behind the name of a
+    /// router, or INPUT. One that they don't name, as all for `grow`, has an empty path, and is never opened.
     pub fn named(rt: &'a R, words: &[&'a str]) -> Self
         ensures replay { length words.now ≡ 4 → result.conf.path ∷ result.input.path ∷ result.frames.path ∷ [] ≡ drop 1 words.now }
-        ensures one_input { length words.now ≡ 2 → result.input.path ∷ [] ≡ drop 1 words.now }
-        ensures node_conf { length words.now ≡ 5 → result.conf.path ∷ [] ≡ take 1 (drop 1 words.now) }
-        ensures node_files { length words.now ≡ 5 → result.input.path ∷ result.frames.path ∷ [] ≡ drop 3 words.now }
+        ensures node { IsNode words.now (λ conf capture frames. result.conf.path ∷ result.input.path ∷ result.frames.path ∷ [] ≡ conf ∷ capture ∷ frames ∷ []) }
+        ensures one_input { IsOneInput words.now (λ input. result.input.path ≡ input) }
         ensures unnamed { length words.now ≢ 4 → length words.now ≢ 5 → (result.conf.path.now ≡ []) × (result.frames.path.now ≡ []) }
+        ensures grow { IsGrow words.now (result.input.path.now ≡ []) }
         ensures fresh { AreFresh result }
     {
         let paths = paths_in(words);

@@ -5,7 +5,7 @@ use std::test::Fail;
 use wire_base::{BytesSink, BytesSource, M, Octets, Rows, Status};
 
 // Two routers and a link.
-const PAIR: &str =
+pub(crate) const PAIR: &str =
     "subdomain=[{sd=0,kind='mpls'}]\nrouter=[{name='A',system='0000.0000.0001',prefix='10.0.0.1'},{name='B',system='0000.0000.0002',prefix='10.0.0.2'}]\nbier=[{router='A',sd=0,id=1},{router='B',sd=0,id=2}]\nlabels=[{router='A',sd=0,bsl=64,max_si=0,label=100},{router='B',sd=0,bsl=64,max_si=0,label=200}]\nlink=[{a='A',b='B',metric_ab=10,metric_ba=10}]";
 
 // Four in a ring.
@@ -101,7 +101,7 @@ fn lines_of(alloc: Global, text: &str) -> Result<String, AllocError> {
     Ok(lines)
 }
 
-/// What a replay answered and wrote.
+/// What a run answered and wrote.
 #[derive(Drop)]
 pub(crate) struct Replayed {
     pub(crate) status: Status,
@@ -109,24 +109,24 @@ pub(crate) struct Replayed {
     pub(crate) frames: BytesSink,
 }
 
-/// The replay of a schedule in a domain, with room for so many octets of frames and of a report.
-pub(crate) fn replay(
+/// The run of those words on a domain file and an input, with room for so many octets of frames and of a report.
+pub(crate) fn ran(
     alloc: Global,
+    words: &[&str],
     domain: &str,
-    schedule: &str,
+    input: &[u8],
     frames_room: usize,
     report_room: usize,
 ) -> M<Replayed> {
     let conf = Octets::from_slice(alloc, domain.as_bytes())?;
     let mut conf = BytesSource::new(conf, Rows::new(alloc));
-    let input = Octets::from_slice(alloc, schedule.as_bytes())?;
+    let input = Octets::from_slice(alloc, input)?;
     let mut input = BytesSource::new(input, Rows::new(alloc));
     let mut frames = BytesSink::new(alloc, frames_room, Rows::new(alloc))?;
     let mut report = BytesSink::new(alloc, report_room, Rows::new(alloc))?;
-    let words = ["replay", "domain", "schedule", "frames"];
     let status = run(
         alloc,
-        &words,
+        words,
         &mut conf,
         &mut input,
         &mut frames,
@@ -137,6 +137,19 @@ pub(crate) fn replay(
         report,
         frames,
     })
+}
+
+/// The replay of a schedule in a domain.
+pub(crate) fn replay(
+    alloc: Global,
+    domain: &str,
+    schedule: &str,
+    frames_room: usize,
+    report_room: usize,
+) -> M<Replayed> {
+    let words = ["replay", "domain", "schedule", "frames"];
+    let input = schedule.as_bytes();
+    ran(alloc, &words, domain, input, frames_room, report_room)
 }
 
 /// Whether octets stand somewhere in others.
