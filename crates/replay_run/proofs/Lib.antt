@@ -1,3 +1,4 @@
+pub mod Asked
 pub mod WordForms
 pub mod DomainFiles
 pub mod Owed
@@ -8,3 +9,4 @@ pub mod NamedOnce
 pub mod ScheduleSteps
 pub mod Grown
 pub mod ScheduleLoop
+pub mod Growing

@@ -9,9 +9,10 @@ use Rattle.wire_base.specs.model.Configuration.{DomainConf}
 use Rattle.domain_conf.specs.Domain.{domain_of}
 use Rattle.domain_conf.specs.declared.fault.ConfFault.{ConfFault}
 use Rattle.replay_run.specs.declared.words.Form.{Form}
-use Rattle.replay_run.specs.declared.words.Form.TheVariants.{Replay, Node, Hop, Headers, Unknown}
+use Rattle.replay_run.specs.declared.words.Form.TheVariants.{Replay, Node, Hop, Headers, Grow, Unknown}
 use Rattle.replay_run.specs.Words.{usage_text}
 use Rattle.replay_run.specs.Routers.{router_named}
+use Rattle.replay_run.specs.Grow.{grow_answer}
 use Rattle.tool_run.specs.HopText.{hop_answer, packets_of, IsAllowed}
 use Rattle.tool_run.specs.Partition.{Reports}
 use Rattle.tool_run.specs.Answer.{Verdict}
@@ -72,6 +73,7 @@ told Hop router conf None Holds some = tt
 told Hop router conf (Some held) Holds (file, octets, of_conf, of_input, holds) = subst (λ (o : List ℕ). Holds (reported (hop_answer o))) (sym of_input) holds
 told Headers router conf None Holds some = tt
 told Headers router conf (Some held) Holds (file, octets, of_conf, of_input, holds) = subst (λ (o : List ℕ). Holds (reported (headers_answer o))) (sym of_input) holds
+told (Grow n) router conf left Holds (file, octets, of_conf, of_input, holds) = holds
 told Unknown router conf left Holds (file, octets, of_conf, of_input, holds) = holds
 
 -- of a form that is known
@@ -183,6 +185,25 @@ headers_done result (Some octets) before now reads reads_now writes writes_now t
           inl (gave.2.status ∙ subst (λ (o : List ℕ). (headers_answer o).0 ≡ Done) gave.1 (read_done octets is))
       | inr memory ↦ inr memory
     ]
+
+-- ---- `grow`
+
+pub grow_holds : (n : ℕ) (router : List ℕ) (conf left : Option (List ℕ)) (Holds : Verdict → Type 0) → Holds (reported (grow_answer n)) → OnHeld (Grow n) router conf left Holds
+unfolding verdict
+grow_holds n router conf left Holds holds =
+    let file = held_some conf in
+    let octets = held_some left in
+    (file.0, octets.0, file.1, octets.1, holds)
+
+pub grow_meets : (n : ℕ) (router : List ℕ) (conf left before now frames : Option (List ℕ)) (result : Status) → Gave (grow_answer n) result before now
+    → OnHeld (Grow n) router conf left (λ owed. Meets owed result before now frames frames)
+grow_meets n router conf left before now frames result gave =
+    grow_holds n router conf left (λ owed. Meets owed result before now frames frames) (record { status = gave.status; report = gave.report; frames = nothing_more frames })
+
+pub grow_front : (n : ℕ) (router : List ℕ) (conf left before now frames : Option (List ℕ)) → AppendsFront before now (grow_answer n).1
+    → OnHeld (Grow n) router conf left (λ owed. AppendsFront before now owed.report × AppendsFront frames frames owed.frames)
+grow_front n router conf left before now frames front =
+    grow_holds n router conf left (λ owed. AppendsFront before now owed.report × AppendsFront frames frames owed.frames) (front, no_front frames [])
 
 -- ---- words of no form
 

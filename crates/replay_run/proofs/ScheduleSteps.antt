@@ -90,10 +90,10 @@ module _ (course : Course) (line : ℕ) (said : Line) (old now : Telling) (why :
   told_as : tells_line line (telling_of course.domain course.run) said ≡ record { telling = past course.frames course.report now; refused = why }
   told_as = ap (λ (t : Telling). tells_line line t said) at.telling ∙ line_past line course.frames course.report old said ∙ ap (past_told course.frames course.report) tells
 
-  refused_as : (after course line said).refused ≡ at_line line why
+  pub refused_as : (after course line said).refused ≡ at_line line why
   refused_as = so.refused ∙ ap (λ (t : Told). at_line line t.refused) told_as
 
-  at_run : IsAt (record course { run = (after course line said).run }) now
+  pub at_run : IsAt (record course { run = (after course line said).run }) now
   at_run = record { run = so.run; telling = sym so.telling ∙ ap (λ (t : Told). t.telling) told_as }
 
 pub said_done : (course : Course) (line : ℕ) (said : Line) (old now : Telling) → IsAt course old → LineEnters (length course.domain.routers) said

@@ -1,4 +1,5 @@
 pub mod Words
+pub mod Grow
 pub mod Verdict
 pub mod ScheduleText
 pub mod DomainFile

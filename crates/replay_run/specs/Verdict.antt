@@ -9,13 +9,14 @@ use Rattle.domain_conf.specs.declared.fault.ConfFault.{ConfFault}
 use Rattle.domain_replay.specs.Lines.{conf_refused_text}
 use Rattle.tool_run.specs.Answer.{Verdict}
 use Rattle.replay_run.specs.declared.words.Form.{Form}
-use Rattle.replay_run.specs.declared.words.Form.TheVariants.{Replay, Node, Hop, Headers, Unknown}
+use Rattle.replay_run.specs.declared.words.Form.TheVariants.{Replay, Node, Hop, Headers, Grow, Unknown}
 use Rattle.replay_run.specs.Words.{usage_text}
 use Rattle.replay_run.specs.Routers.{router_named, no_router_text}
 use Rattle.tool_run.specs.HopText.{hop_answer}
 use Rattle.tool_run.specs.HeadersText.{headers_answer}
 use Rattle.tool_run.specs.NodeRun.{node_answer}
 use Rattle.replay_run.specs.ScheduleText.{schedule_answer}
+use Rattle.replay_run.specs.Grow.{grow_answer}
 
 -- a status and a report, where no frame is written
 abbrev pub reported : Status × List ℕ → Verdict
@@ -54,4 +55,5 @@ verdict Replay router conf input = replay_verdict conf input
 verdict Node router conf input = node_verdict router conf input
 verdict Hop router conf input = option_map (λ (octets : List ℕ). reported (hop_answer octets)) input
 verdict Headers router conf input = option_map (λ (octets : List ℕ). reported (headers_answer octets)) input
+verdict (Grow n) router conf input = Some (reported (grow_answer n))
 verdict Unknown router conf input = Some (reported (status.Usage, usage_text))

@@ -6,6 +6,7 @@
 #![tactic(auto)]
 
 mod domain_file;
+mod grow;
 mod node;
 mod replay;
 mod top;

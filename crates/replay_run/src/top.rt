@@ -19,13 +19,15 @@ ghost use Rattle.replay_run.specs.ScheduleText.{schedule_cut};
 ghost use Rattle.replay_run.specs.Verdict.{verdict};
 ghost use Rattle.tool_run.specs.Answer.{IsDecided};
 ghost use Rattle.tool_run.specs.Outside.{Gave, Meets, AppendsFront};
-ghost use Rattle.replay_run.specs.Words.{form_in, router_in};
+ghost use Rattle.replay_run.specs.Grow.{GoesThrough};
+ghost use Rattle.replay_run.specs.Words.{form_in, router_in, IsGrow};
 ghost use Rattle.replay_run.specs.RunDone.{HasRun, RunDone};
 ghost use Rattle.replay_laws.specs.Moments.{HasLedgerThroughout, DeliversOnce};
 ghost use Rattle.replay_laws.specs.Reports.{IsReported};
 ghost use Rattle.replay_laws.specs.Once.{ArriveOnce};
 
 use crate::domain_file::{NoDomain, domain_in};
+use crate::grow::grow;
 use crate::node::node;
 use crate::replay::play;
 use crate::words::{Form, USAGE, form_of, router_word};
@@ -90,9 +92,10 @@ fn replay<D: Source, S: Source, C: Sink, R: Sink>(
 /// the domain file, the schedule, capture or other input, the frames that it sends, and its report. It answers its
 /// exit status.
 ///
-/// The words are `replay CONF SCHEDULE FRAMES`, `node CONF ROUTER CAPTURE FRAMES`, `hop INPUT` or `headers CAPTURE`; on any other words
-/// the report is the usage line. ROUTER is the name of a router of the domain; where there is none of that name, the domain file is
-/// refused as one whose reference names nothing.
+/// The words are `replay CONF SCHEDULE FRAMES`, `node CONF ROUTER CAPTURE FRAMES`, `hop INPUT`, `headers CAPTURE` or `grow N`; on any
+/// other words the report is the usage line. ROUTER is the name of a router of the domain; where there is none of that name, the
+/// domain file is refused as one whose reference names nothing. N is 3 to 250, the number of routers of a domain that is made with
+/// its schedule.
 pub fn run<D: Source, S: Source, C: Sink, R: Sink>(
     alloc: Global,
     words: &[&str],
@@ -122,12 +125,12 @@ pub fn run<D: Source, S: Source, C: Sink, R: Sink>(
 
     // When each status comes. Where a run is done, nothing is left of the sources that its words name.
     ensures done { result ≡ status.Done → form_in words.now ≢ form.Unknown }
-    ensures done_whole { result ≡ status.Done → IsAtEnd (S.left input.new) }
+    ensures done_whole { result ≡ status.Done → IsGrow (form_in words.now) ⊎ IsAtEnd (S.left input.new) }
     ensures done_conf { (form_in words.now ≡ form.Replay) ⊎ (form_in words.now ≡ form.Node) → result ≡ status.Done → IsAtEnd (D.left conf.new) }
     ensures usage { IsDecided result → ((result ≡ status.Usage) ↔ (form_in words.now ≡ form.Unknown)) }
     ensures usage_or_fault { form_in words.now ≡ form.Unknown → (result ≡ status.Usage) ⊎ (result ≡ status.WriteFault) }
     ensures conf_refused { result ≡ status.ConfRefused → (form_in words.now ≡ form.Replay) ⊎ (form_in words.now ≡ form.Node) }
-    ensures input_refused { result ≡ status.InputRefused → (form_in words.now ≡ form.Replay) ⊎ (form_in words.now ≡ form.Hop) }
+    ensures input_refused { result ≡ status.InputRefused → (form_in words.now ≡ form.Replay) ⊎ ((form_in words.now ≡ form.Hop) ⊎ IsGrow (form_in words.now)) }
     ensures capture_refused { result ≡ status.CaptureRefused → (form_in words.now ≡ form.Headers) ⊎ (form_in words.now ≡ form.Node) }
     ensures read_fault { result ≡ status.ReadFault → (D.faults conf.old < D.faults conf.new) ⊎ (S.faults input.old < S.faults input.new) }
     ensures write_fault { result ≡ status.WriteFault → (C.faults frames.old < C.faults frames.new) ⊎ ((C.zeros frames.old < C.zeros frames.new) ⊎ ((R.faults report.old < R.faults report.new) ⊎ (R.zeros report.old < R.zeros report.new))) }
@@ -166,6 +169,10 @@ pub fn run<D: Source, S: Source, C: Sink, R: Sink>(
     ensures headers_complete { form_in words.now ≡ form.Headers → IfSome (S.left input.old) (λ octets. IsRead octets
         → S.faults input.new ≡ S.faults input.old → R.faults report.new ≡ R.faults report.old → R.zeros report.new ≡ R.zeros report.old
         → (result ≡ status.Done) ⊎ (result ≡ status.Memory)) }
+
+    // `grow` is done wherever each event of its schedule is allowed, and no count rose.
+    ensures grow_complete { (n : ℕ) → form_in words.now ≡ form.Grow n → GoesThrough n
+        → R.faults report.new ≡ R.faults report.old → R.zeros report.new ≡ R.zeros report.old → (result ≡ status.Done) ⊎ (result ≡ status.Memory) }
 
     // What a stop leaves. What was written is finished. Where the source fails, the lines or records that are whole in what
     // was taken are done and reported, none of them is refused, no fault of a capture's reader stands in it, and there is no
@@ -212,7 +219,7 @@ pub fn run<D: Source, S: Source, C: Sink, R: Sink>(
     ensures refused { result ≡ status.ConfRefused → (input.new ≡ input.old) × (frames.new ≡ frames.old) }
     ensures conf { form_in words.now ≢ form.Replay → form_in words.now ≢ form.Node → conf.new ≡ conf.old }
     ensures frames { form_in words.now ≢ form.Replay → form_in words.now ≢ form.Node → frames.new ≡ frames.old }
-    ensures unread { form_in words.now ≡ form.Unknown → input.new ≡ input.old }
+    ensures unread { (form_in words.now ≡ form.Unknown) ⊎ IsGrow (form_in words.now) → input.new ≡ input.old }
 {
     packets_are_parted();
     replays_are_accounted();
@@ -222,6 +229,7 @@ pub fn run<D: Source, S: Source, C: Sink, R: Sink>(
         Form::Node => node(alloc, router_word(words), conf, input, frames, report),
         Form::Hop => hop(alloc, input, report),
         Form::Headers => headers(alloc, input, report),
+        Form::Grow(routers) => grow(alloc, routers, report),
         Form::Unknown => deliver(report, Status::Usage, USAGE),
     }
 }
