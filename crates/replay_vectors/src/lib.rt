@@ -1,8 +1,11 @@
-//! Schedules on small domains and captures at one router, with their whole reports and what their captures hold. There is nothing here but tests.
+//! Schedules on small domains, captures at one router and grown domains, with their whole reports and what their captures hold. There is
+//! nothing here but tests.
 #![tactic(auto)]
 
 #[cfg(test)]
 mod faults;
+#[cfg(test)]
+mod grown;
 #[cfg(test)]
 mod nodes;
 #[cfg(test)]

@@ -6,11 +6,12 @@ use Rattle.wire_base.specs.declared.conf.Kind.TheVariants.{Mpls, Configured}
 use Rattle.wire_base.specs.declared.faults.FrameFault.{FrameFault}
 use Rattle.wire_base.specs.declared.faults.StackFault.{StackFault}
 use Rattle.wire_base.specs.declared.faults.HeadFault.{HeadFault}
-use Rattle.wire_base.specs.declared.faults.HeadFault.TheVariants as faults
+use Rattle.wire_base.specs.model.Faults.{head_number, head_name}
 use Rattle.wire_base.specs.model.Place.{bits_of}
 use Rattle.wire_base.specs.model.Ethernet.{Carried, IsisPdu, MplsPacket, BierPacket, IpPacket, OtherFrame, frame_at}
 use Rattle.wire_base.specs.model.Labels.{LabelEntry, stack_at}
 use Rattle.wire_base.specs.model.BierHeader.{BierHeader, coded_header_at}
+use Rattle.replay_text.specs.Fault.{rule_text}
 use Rattle.replay_text.specs.Ids.{ids_text}
 
 -- What is seen in a frame: no BIER packet, a header, or why the octets of a BIER packet are no header.
@@ -51,11 +52,9 @@ abbrev pub kind_text : Kind → List ℕ
 kind_text Mpls = codes " mpls "
 kind_text Configured = codes " bier "
 
+-- the number and the name of the rule that a header breaks
 abbrev pub head_fault_text : HeadFault → List ℕ
-head_fault_text faults.Short = codes " bad 1 Short\n"
-head_fault_text faults.Nibble = codes " bad 2 Nibble\n"
-head_fault_text faults.Version = codes " bad 3 Version\n"
-head_fault_text faults.BslCode = codes " bad 4 BslCode\n"
+head_fault_text fault = codes " bad " ++ rule_text (head_number fault) (head_name fault) ++ 10 ∷ []
 
 -- three numbers, with a blank after each
 abbrev pub three_text : ℕ → ℕ → ℕ → List ℕ

@@ -1,9 +1,11 @@
 //! How a report on a capture ends where the capture is refused.
 ghost use Rattle.std.specs.Prelude.{◌≡◌, ◌<◌, ◌^◌, ◌++◌, ◌∷◌, [], codes, IfOk, OnOk};
 ghost use Rattle.std.specs.Fmt.{decimal};
+ghost use Rattle.replay_text.specs.Fault.{rule_text};
 ghost use Rattle.tool_run.specs.HopText.{behind};
 ghost use Rattle.tool_run.specs.Captured as captured;
 
+use replay_text::push_rule;
 use wire_base::{CaptureFault, M, Octets, Status};
 
 /// The number of the record that a fault stands at, after those that were done: the capture's header has the number 0.
@@ -21,22 +23,20 @@ fn fault_record(records: u64, why: CaptureFault) -> u64
 }
 
 /// Appends the front of a refusal's line: the number of the record, and the number and the name of the rule that it breaks.
-pub fn push_rule(out: &mut Octets, number: u64, rule: u8, name: &[u8]) -> M<()>
-    ensures { OnOk result (out.new ≡ out.old ++ (codes "refused record " ++ (decimal number ++ 32 ∷ (decimal rule ++ 32 ∷ name.now)))) }
+pub fn push_refused(out: &mut Octets, number: u64, rule: u8, name: &[u8]) -> M<()>
+    ensures { OnOk result (out.new ≡ out.old ++ (codes "refused record " ++ (decimal number ++ 32 ∷ rule_text rule name.now))) }
 {
     out.append(b"refused record ")?;
     out.append_number(number)?;
     out.push(b' ')?;
-    out.append_number(u64::from(rule))?;
-    out.push(b' ')?;
-    out.append(name)
+    push_rule(out, rule, name)
 }
 
 /// Ends a report at a record that breaks a rule.
 fn refuse(out: &mut Octets, number: u64, rule: u8, name: &[u8]) -> M<Status>
     ensures { IfOk result (λ ended. (ended, out.new) ≡ behind out.old (captured.refused_record number (decimal rule ∷ name.now ∷ []))) }
 {
-    push_rule(out, number, rule, name)?;
+    push_refused(out, number, rule, name)?;
     out.push(b'\n')?;
     Ok(Status::CaptureRefused)
 }

@@ -7,20 +7,17 @@ ghost use Rattle.tool_run.specs.Sight as sight;
 
 use bier_head::{Header, read_by_field};
 use link_frame::{Class, classify, read_stack};
-use replay_text::push_positions;
+use replay_text::{push_positions, push_rule};
 use std::alloc::Global;
 use wire_base::{HeadFault, Kind, M, Octets};
 
-/// The number and the name of a rule that the octets of a header break.
-fn fault_text(fault: HeadFault) -> &'static [u8]
-    ensures { result.now ≡ sight.head_fault_text fault }
+/// Appends why a record's octets are no header: the number and the name of the rule that they break.
+fn push_bad(out: &mut Octets, fault: HeadFault) -> M<()>
+    ensures { OnOk result (out.new ≡ out.old ++ sight.head_fault_text fault) }
 {
-    match fault {
-        HeadFault::Short => b" bad 1 Short\n",
-        HeadFault::Nibble => b" bad 2 Nibble\n",
-        HeadFault::Version => b" bad 3 Version\n",
-        HeadFault::BslCode => b" bad 4 BslCode\n",
-    }
+    out.append(b" bad ")?;
+    push_rule(out, fault.number(), fault.name())?;
+    out.push(b'\n')
 }
 
 fn kind_text(kind: Kind) -> &'static [u8]
@@ -75,7 +72,7 @@ fn push_header(out: &mut Octets, number: u64, kind: Kind, bytes: &[u8]) -> M<u64
         }
         Err(fault) => {
             out.append_number(number)?;
-            out.append(fault_text(fault))?;
+            push_bad(out, fault)?;
             Ok(0)
         }
     }

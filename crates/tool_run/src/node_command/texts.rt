@@ -11,7 +11,7 @@ ghost use Rattle.tool_run.specs.Causes.{cause_text};
 ghost use Rattle.tool_run.specs.NodeRun as run;
 
 use super::tally::Tally;
-use crate::captured::push_rule;
+use crate::captured::push_refused;
 use crate::causes::push_cause;
 use bier_bits::AnyBits;
 use pcap_frames::write_cap_record;
@@ -180,7 +180,7 @@ pub fn push_done(out: &mut Octets, tally: Tally) -> M<()>
 pub fn push_gap(out: &mut Octets, number: u64, gap: (u32, u32)) -> M<()>
     ensures { OnOk result (out.new ≡ out.old ++ (refused_record number (decimal 7 ∷ codes "Gap" ∷ decimal gap.0 ∷ decimal gap.1 ∷ [])).1) }
 {
-    push_rule(out, number, 7, b"Gap")?;
+    push_refused(out, number, 7, b"Gap")?;
     out.push(b' ')?;
     out.append_number(u64::from(gap.0))?;
     out.push(b' ')?;
