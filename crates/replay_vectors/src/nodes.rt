@@ -1,5 +1,6 @@
 //! What one router heard, a line each: a pair of routers, of which one is given frames.
 use crate::replays::{PAIR, Replayed, holds, ran};
+use isis_pdu::checksum_at;
 use std::alloc::Global;
 use std::test::Fail;
 use wire_base::{M, Octets};
@@ -149,5 +150,37 @@ fn what_is_dropped_leaves_no_trace(rt: HostRuntime) -> Result<(), Fail> {
     let undisturbed = heard_by_b(alloc, quiet.as_slice())?;
     assert_eq!(rt; heard.report.as_slice(), report.as_bytes());
     assert!(rt; heard.frames.as_slice() == undisturbed.frames.as_slice());
+    Ok(())
+}
+
+// A frame of A with a link state PDU of 27 octets, which has no TLVs and lives 1,200 seconds, up to its LSP ID.
+const FRONT_OF_LSP: [u8; 29] = [
+    9, 0, 43, 0, 0, 5, 2, 0, 0, 0, 0, 1, 0, 30, 254, 254, 3, 131, 27, 1, 0, 20, 1, 0, 0, 0, 27, 4, 176,
+];
+
+/// A capture in which each of so many systems says that it is there.
+fn systems(alloc: Global, count: u16) -> M<Octets> {
+    let mut out = Octets::from_slice(alloc, &HEADER)?;
+    for number in 0..count {
+        let [high, low] = number.to_be_bytes();
+        let id = [0, 1, 0, 0, high, low, 0, 0];
+        let covered = [0, 1, 0, 0, high, low, 0, 0, 0, 0, 0, 1, 0, 0, 3];
+        let [first, second] = checksum_at(&covered, 12).to_be_bytes();
+        let mut frame = Octets::from_slice(alloc, &FRONT_OF_LSP)?;
+        frame.append(&id)?;
+        frame.append(&[0, 0, 0, 1, first, second, 3])?;
+        push_record(&mut out, 0, frame.as_slice())?;
+    }
+    Ok(out)
+}
+
+/// Beside the router's own there is room for 4,095 entries.
+#[test]
+fn the_last_of_4096_systems_has_no_room(rt: HostRuntime) -> Result<(), Fail> {
+    let alloc = rt.alloc();
+    let capture = systems(alloc, 4_096)?;
+    let heard = heard_by_b(alloc, capture.as_slice())?;
+    let report = "4096 drop full -\ndone records 4096 used 4096 passed 0 got 0 dropped 1 sent 0\n";
+    assert_eq!(rt; heard.report.as_slice(), report.as_bytes());
     Ok(())
 }
