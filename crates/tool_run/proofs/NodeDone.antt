@@ -1,5 +1,5 @@
 -- A capture that isn't too long, without a gap that is too long, is done to its end.
-use Rattle.std.proofs.Common.{◌≡◌, ℕ, Bool, true, List, take, Option, Some, None, is_some, sym, ap, ap₂, subst, ◌∙◌}
+use Rattle.std.proofs.Common.{◌≡◌, ℕ, Bool, true, List, take, Option, None, is_some, sym, ap, ap₂, subst, ◌∙◌}
 use Rattle.std.proofs.lemmas.Bool.{le-leb, true≢false}
 use Rattle.std.proofs.lemmas.List.{take_all}
 use Rattle.wire_base.specs.declared.conf.RouterConf.{RouterConf}
@@ -9,7 +9,7 @@ use Rattle.wire_base.specs.declared.faults.CaptureFault.{CaptureFault}
 use Rattle.wire_base.specs.model.Capture.{CaptureRecord, Stage, HeaderToCome, HeaderRead, Refused, unread, fed, drained, end_of, end_in}
 use Rattle.pcap_frames.proofs.Spelled.{capture_again}
 use Rattle.tool_run.specs.declared.node_command.tally.Tally.{Tally}
-use Rattle.tool_run.specs.HeadersText.{within_limit, is_within}
+use Rattle.tool_run.specs.HeadersText.{within_limit}
 use Rattle.tool_run.specs.NodeRun.{first_node, records_reach, node_at_end, node_end, ending, node_answer_of, node_answer, HasNoGap, IsReplayable}
 use Rattle.tool_run.proofs.NodeLaws.{all_done}
 

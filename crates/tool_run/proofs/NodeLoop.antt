@@ -1,5 +1,5 @@
 -- A capture that is read and done record by record is done as a whole.
-use Rattle.std.proofs.Common.{◌≡◌, ◌≢◌, ℕ, ◌+◌, ◌<◌, ◌≤◌, Bool, true, false, List, [], ◌∷◌, ◌++◌, length, Option, Some, None, Result, Ok, is_ok, refl, sym, ap, ap₂, subst, ◌∙◌, arith, inl, inr, append-nil, append_assoc}
+use Rattle.std.proofs.Common.{◌≡◌, ◌≢◌, ℕ, ◌+◌, ◌≤◌, Bool, true, false, List, [], ◌∷◌, ◌++◌, length, Option, Some, None, is_ok, refl, sym, ap, ap₂, subst, ◌∙◌, arith, inl, inr, append-nil, append_assoc}
 use Rattle.std.specs.Prelude.{◌⊎◌, IfSome}
 use Rattle.std.specs.Io.KnownBytes.{Appends, Consumes, IsAtEnd}
 use Rattle.std.proofs.KnownBytes.{Appends-nil, Appends-trans, Consumes-nil, Consumes-trans}
@@ -9,7 +9,7 @@ use Rattle.wire_base.specs.declared.conf.RouterConf.{RouterConf}
 use Rattle.wire_base.specs.declared.faults.CaptureFault.{CaptureFault}
 use Rattle.wire_base.specs.declared.status.Status.{Status}
 use Rattle.wire_base.specs.declared.status.Status.TheVariants.{Done, CaptureRefused, ReadFault}
-use Rattle.wire_base.specs.model.Capture.{CaptureRecord, Reading, Stage, HeaderToCome, HeaderRead, Refused, unread, fed, drained, next_of, end_in, end_of}
+use Rattle.wire_base.specs.model.Capture.{CaptureRecord, Reading, Stage, HeaderToCome, HeaderRead, Refused, unread, fed, drained, next_of, end_in}
 use Rattle.pcap_frames.specs.Seen.{record_seen}
 use Rattle.pcap_frames.specs.declared.record.CapRecord.{CapRecord}
 use Rattle.tool_run.specs.declared.node_command.tally.Tally.{Tally}
@@ -22,11 +22,10 @@ use Rattle.tool_run.specs.Answer.{Verdict, IsDecided}
 use Rattle.tool_run.specs.Captured.{refused_by, too_long}
 use Rattle.tool_run.specs.Headers.{IsOpen}
 use Rattle.tool_run.specs.HeadersText.{within_limit, is_within}
-use Rattle.tool_run.specs.HopReached.{Begins}
-use Rattle.tool_run.specs.NodeRun.{Node, first_node, record_done, gap_at, Reached, records_reach, gap_refused, node_done, node_at_end, node_end, ending, node_ends, verdict_on, node_answer, node_reached, node_cut}
+use Rattle.tool_run.specs.NodeRun.{Node, first_node, record_done, gap_at, Reached, records_reach, gap_refused, node_at_end, node_end, ending, node_ends, verdict_on, node_answer, node_reached, node_cut}
 use Rattle.tool_run.specs.NodeReached.{EndsSo, last_of, Passes, Turns, past, Owing, Begun}
 use Rattle.tool_run.specs.Outside.{Held, Meets, AppendsFront}
-use Rattle.tool_run.specs.Records.{Standing, Stands, Finds, IsEnding, IsUnended, IsLast}
+use Rattle.tool_run.specs.Records.{Stands, IsEnding, IsUnended, IsLast}
 use Rattle.tool_run.proofs.HopLoop.{held_past, held_all, begun_front, nothing_front}
 use Rattle.tool_run.proofs.NodeLaws.{reached_past, records_past, reach_on, reach_one, reach_gap, record_counts}
 use Rattle.tool_run.proofs.RecordLaws.{all_of, within_all, beyond_more, refused_of, given_past, Finding}
@@ -208,9 +207,12 @@ capture_begun : {r : RouterConf} {before now : Outer} {reader : RecordReader} {n
 capture_begun {r = r} {before = before} {now = now} {reader = reader} {node = node} on =
     let held = held_past before.left now.left on.all on.consumed in
     let first : (all_of on.all).0 ≡ on.given ++ (drained reader.reader).0 = ap (λ (d : List CaptureRecord × Reading). d.0) on.stands.records in
-    let tail = given_past on.all held.2.0 on.given (drained reader.reader).0 first in
-    (held.0, held.1, begun_by r before now held.0 node on.frames on.report on.frames_written on.report_written
-    (grows_at r held.0 on.frames on.report node on.given tail.0 on.at (ap (λ (l : List ℕ). (all_of l).0) held.2.1 ∙ tail.1)))
+    let tail = given_past on.all held.2.0 on.given (drained reader.reader).0 first in (
+      held.0,
+      held.1,
+      begun_by r before now held.0 node on.frames on.report on.frames_written on.report_written
+          (grows_at r held.0 on.frames on.report node on.given tail.0 on.at (ap (λ (l : List ℕ). (all_of l).0) held.2.1 ∙ tail.1)),
+    )
 
 abbrev pub Fronts : RouterConf → (before now : Outer) → Type 0
 Fronts r before now = (octets : List ℕ) × Held before.left octets × (AppendsFront before.report now.report (node_answer r octets).report × AppendsFront before.frames now.frames (node_answer r octets).frames)

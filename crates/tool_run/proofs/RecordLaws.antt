@@ -1,14 +1,14 @@
 -- A capture that is given record by record.
-use Rattle.std.proofs.Common.{◌≡◌, ℕ, zero, suc, ◌-◌, ◌+◌, ◌<◌, ◌≤◌, min, Bool, true, false, not, List, [], ◌∷◌, ◌++◌, length, take, drop, Option, Some, None, Result, Ok, Err, refl, sym, ap, ap₂, subst, ◌∙◌, append_assoc, append-nil, arith, inl, inr}
+use Rattle.std.proofs.Common.{◌≡◌, ℕ, ◌-◌, ◌+◌, ◌<◌, ◌≤◌, min, Bool, true, false, not, List, [], ◌∷◌, ◌++◌, length, take, Option, Some, None, Result, Ok, Err, refl, sym, ap, ap₂, subst, ◌∙◌, append_assoc, append-nil, arith, inl, inr}
 use Rattle.std.specs.Prelude.{nat_lt, nat_le}
 use Rattle.std.specs.Io.KnownBytes.{Consumes, Keeps}
 use Rattle.std.proofs.KnownBytes.{Consumes-nil, Consumes-trans, Consumes-kept}
 use Rattle.std.proofs.lemmas.Bool.{cases_lt, le-leb, lt-leb, lt-ltb, le-ltb, leb-true, not-true, not-false}
-use Rattle.std.proofs.lemmas.List.{length-append, length-take, take_all, take-append-le, take_min}
+use Rattle.std.proofs.lemmas.List.{length-append, length-take, take_all, take-append-le}
 use Rattle.wire_base.specs.declared.limits.TheConstants.{CAPTURE_LIMIT}
 use Rattle.wire_base.specs.declared.faults.CaptureFault.{CaptureFault}
-use Rattle.wire_base.specs.model.Capture.{CaptureRecord, Reading, Stage, Refused, unread, fed, drained, drain_on, next_of, end_of}
-use Rattle.pcap_frames.proofs.Drained.{drained_next, drained_fed, drained_twice, drained_end, fed_twice, next_shorter, next_lowers, next_refuses, refused_still, unread_none}
+use Rattle.wire_base.specs.model.Capture.{CaptureRecord, Reading, Refused, unread, fed, drained, drain_on, next_of, end_of}
+use Rattle.pcap_frames.proofs.Drained.{drained_next, drained_fed, drained_twice, drained_end, fed_twice, next_shorter, next_lowers, next_refuses, refused_still}
 use Rattle.tool_run.specs.declared.records.Ending.{Ending}
 use Rattle.tool_run.specs.declared.records.Ending.TheVariants as ending
 use Rattle.tool_run.specs.declared.records.FoundRecord.{FoundRecord}

@@ -10,7 +10,7 @@ use Rattle.wire_base.specs.declared.faults.CaptureFault.{CaptureFault}
 use Rattle.wire_base.specs.declared.effects.Got.{Got}
 use Rattle.wire_base.specs.declared.limits.TheConstants.{CAPTURE_LIMIT, MOST_FRAME}
 use Rattle.wire_base.specs.declared.status.Status.{Status}
-use Rattle.wire_base.specs.declared.status.Status.TheVariants.{Done, CaptureRefused, ReadFault}
+use Rattle.wire_base.specs.declared.status.Status.TheVariants.{Done, ReadFault}
 use Rattle.wire_base.specs.model.Capture.{CaptureRecord, Stage, HeaderToCome, HeaderRead, Refused, Reading, unread, fed, drained, end_in, IsCapture, written_header, written_record}
 use Rattle.wire_base.specs.model.Control.{Control}
 use Rattle.wire_base.specs.model.Flooding.{first_control, tick, send}
@@ -190,9 +190,11 @@ records_reach n (read ∷ more) = and_further n (gap_at n.clock read.sec) (recor
 
 -- `done records R used U passed P got G dropped D sent S`
 abbrev pub node_done : Tally → Status × List ℕ
-node_done t =
-    (Done, line_of (codes "done" ∷ codes "records" ∷ decimal t.records ∷ codes "used" ∷ decimal t.used ∷ codes "passed" ∷ decimal t.passed
-    ∷ codes "got" ∷ decimal t.got ∷ codes "dropped" ∷ decimal t.dropped ∷ codes "sent" ∷ decimal t.sent ∷ []))
+node_done t = (
+  Done,
+  line_of (codes "done" ∷ codes "records" ∷ decimal t.records ∷ codes "used" ∷ decimal t.used ∷ codes "passed" ∷ decimal t.passed
+      ∷ codes "got" ∷ decimal t.got ∷ codes "dropped" ∷ decimal t.dropped ∷ codes "sent" ∷ decimal t.sent ∷ []),
+)
 
 -- `refused record R 7 Gap CLOCK SECOND`, after n records
 abbrev pub gap_refused : ℕ → ℕ × ℕ → Status × List ℕ
