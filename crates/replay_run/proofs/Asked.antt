@@ -1,5 +1,5 @@
 -- The search for a number in a range, number by number.
-use Rattle.std.proofs.Common.{◌≡◌, ℕ, suc, zero, ◌+◌, ◌-◌, ◌<◌, Bool, true, false, cond, List, Option, Some, None, refl, sym, ap, ◌∙◌, arith}
+use Rattle.std.proofs.Common.{◌≡◌, ℕ, suc, ◌+◌, ◌-◌, ◌<◌, Bool, true, false, cond, Some, ap, ◌∙◌, arith}
 use Rattle.std.specs.List.{find, range_with_len}
 
 one_more : (n last : ℕ) → n < last → last - n ≡ suc (last - (n + 1))

@@ -22,7 +22,7 @@ use Rattle.grown_domain.proofs.Ranged.{in_range}
 use Rattle.domain_conf.proofs.ValidAmong.{all_map}
 use Rattle.domain_model.specs.declared.fault.EventFault.{EventFault}
 use Rattle.domain_model.specs.World.{first_world, ids_in_flight}
-use Rattle.domain_model.specs.Run.{Run, Progress, first_run, goes_unless, does, line_events, line_done, lines_done, schedule_done}
+use Rattle.domain_model.specs.Run.{Progress, first_run, goes_unless, does, line_events, line_done, lines_done, schedule_done}
 use Rattle.domain_replay.specs.declared.counts.Counts.{Counts}
 use Rattle.domain_replay.specs.Counting.{counts_of}
 use Rattle.domain_replay.specs.Lines.{line_of, done_text, event_refused_text}
@@ -30,7 +30,7 @@ use Rattle.domain_replay.specs.Telling.{Telling, first_telling, told, tells_line
 use Rattle.domain_replay.proofs.TellingLaws.{start_told}
 use Rattle.tool_run.specs.Answer.{IsDecided}
 use Rattle.replay_run.specs.Scheduling.{Course, IsAt}
-use Rattle.replay_run.specs.Grow.{summary, ends_by, grown_run, grow_answer, GoesThrough, going, Goes, HasNumbers, EndsAs}
+use Rattle.replay_run.specs.Grow.{summary, ends_by, grown_run, grow_answer, GoesThrough, going, Goes, EndsAs}
 use Rattle.replay_run.proofs.ScheduleSteps.{refused_as, at_run}
 use Rattle.replay_run.proofs.ScheduleLoop.{written_at}
 
@@ -281,10 +281,10 @@ module _ (result : Status) (ended : ((result ≡ Done) ⊎ (result ≡ InputRefu
       by (inr failed) = failed
 
 -- where no line is refused and no count rose, all is done
-pub completes : (n : ℕ) (status result : Status) (faults faults_now zeros zeros_now : ℕ) → status ≡ (grow_answer n).0 → (result ≡ status) ⊎ (result ≡ WriteFault)
-    → (result ≡ WriteFault → (faults < faults_now) ⊎ (zeros < zeros_now)) → GoesThrough n → faults_now ≡ faults → zeros_now ≡ zeros → (result ≡ Done) ⊎ (result ≡ Memory)
-completes n status result faults faults_now zeros zeros_now is (inl same) cause goes quiet takes = inl (same ∙ is ∙ goes_done n goes)
-completes n status result faults faults_now zeros zeros_now is (inr failed) cause goes quiet takes = elim (cause failed) [
+pub completes : (n : ℕ) (status result : Status) (faults faults_now none_taken none_taken_now : ℕ) → status ≡ (grow_answer n).0 → (result ≡ status) ⊎ (result ≡ WriteFault)
+    → (result ≡ WriteFault → (faults < faults_now) ⊎ (none_taken < none_taken_now)) → GoesThrough n → faults_now ≡ faults → none_taken_now ≡ none_taken → (result ≡ Done) ⊎ (result ≡ Memory)
+completes n status result faults faults_now none_taken none_taken_now is (inl same) cause goes quiet takes = inl (same ∙ is ∙ goes_done n goes)
+completes n status result faults faults_now none_taken none_taken_now is (inr failed) cause goes quiet takes = elim (cause failed) [
   | inl rose ↦ absurd (omega (arith, rose, quiet))
   | inr rose ↦ absurd (omega (arith, rose, takes))
 ]

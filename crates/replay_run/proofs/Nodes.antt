@@ -1,5 +1,5 @@
 -- What `node` did is what a run owes.
-use Rattle.std.proofs.Common.{◌≡◌, ℕ, ◌<◌, ◌≤◌, Bool, true, false, cond, nat_lt, List, [], length, Option, Some, None, Result, Ok, Err, refl, sym, ap, subst, ◌∙◌, arith, inl, inr}
+use Rattle.std.proofs.Common.{◌≡◌, ℕ, ◌<◌, Bool, true, false, cond, nat_lt, List, [], length, Option, Some, None, Result, refl, sym, ap, subst, ◌∙◌, arith, inl, inr}
 use Rattle.std.specs.Prelude.{IfSome, slice_get, ◌⊎◌}
 use Rattle.std.specs.List.{find, position, position_or_len}
 use Rattle.std.specs.Io.KnownBytes.{Appends}
@@ -58,6 +58,16 @@ named_so d word place P is within holds = by (slice_get d.routers place) refl ho
       where
         apart : {own : RouterConf} → None ≡ Some own → ⊥
         apart e = cc
+
+-- there is one
+pub some_named : (d : DomainConf) (word : List ℕ) (place : ℕ) → position (has_name word) d.routers ≡ Some place → place < length d.routers → (own : RouterConf) × (router_named d word ≡ Some own)
+some_named d word place is within =
+    let named = named_so d word place (λ own. Unit {0}) is within (nothing_asked (slice_get d.routers place)) in
+    (named.0, named.1)
+  where
+    nothing_asked : (o : Option RouterConf) → IfSome o (λ own. Unit {0})
+    nothing_asked None = tt
+    nothing_asked (Some own) = tt
 
 pub none_named : (d : DomainConf) (word : List ℕ) → position (has_name word) d.routers ≡ None → router_named d word ≡ None
 unfolding router_named

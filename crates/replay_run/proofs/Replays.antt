@@ -61,7 +61,7 @@ refused_front conf left before now frames line (file, of_conf, (why, breaks, is)
     (file, octets.0, of_conf, octets.1, rw breaks (rw (← is) front, no_front frames []))
 
 -- what holds of each verdict holds of one
-any_holds : (owed : Option Verdict) (Holds : Verdict → Type 0) → ((v : Verdict) → Holds v) → IfSome owed Holds
+pub any_holds : (owed : Option Verdict) (Holds : Verdict → Type 0) → ((v : Verdict) → Holds v) → IfSome owed Holds
 any_holds None Holds all = tt
 any_holds (Some v) Holds all = all v
 

@@ -4,7 +4,6 @@ use Rattle.std.specs.Prelude.{ℕ, ◌≡◌, Bool, true, false, List, ◌∷◌
 use Rattle.std.specs.Fmt.{decimal}
 use Rattle.wire_base.specs.declared.status.Status.{Status}
 use Rattle.wire_base.specs.declared.status.Status.TheVariants.{Done, InputRefused}
-use Rattle.wire_base.specs.model.Configuration.{DomainConf}
 use Rattle.grown_domain.specs.Domain.{grown_domain}
 use Rattle.grown_domain.specs.Schedule.{grown_lines}
 use Rattle.domain_model.specs.declared.fault.EventFault.{EventFault}

@@ -1,7 +1,7 @@
-use Rattle.std.proofs.Common.{sym}
+use Rattle.std.proofs.Common.{sym, inr}
 use Rattle.tool_run.specs.Outside.{Meets, AppendsFront}
 use Rattle.replay_run.proofs.Owed.{write_fault}
-use Rattle.replay_run.proofs.Nodes.{named_so, runs_so, none_meets, none_front}
+use Rattle.replay_run.proofs.Nodes.{named_so, some_named, runs_so, none_meets, none_front}
 use Rattle.replay_run.proofs.node.node_in.Goals as goal
 
 pub returns-in-Some-clause-answer : goal.returns-in-Some-clause-answer
@@ -15,6 +15,9 @@ returns-in-Some-clause-front g c stopped =
     runs_so c.args.domain.now _ c.in-Some.place (g.S.Source.left c.args.input.now)
     (λ owed. AppendsFront (g.R.Sink.written c.args.report.now) (g.R.Sink.written c.node.new.report) owed.report × AppendsFront (g.C.Sink.written c.args.frames.now) (g.C.Sink.written c.node.new.frames) owed.frames)
     (sym c.in-Some.ensures.value) c.in-Some.ensures.within (c.node.ensures.front stopped)
+
+pub returns-in-Some-clause-accepted : goal.returns-in-Some-clause-accepted
+returns-in-Some-clause-accepted g c = inr (some_named c.args.domain.now _ c.in-Some.place (sym c.in-Some.ensures.value) c.in-Some.ensures.within)
 
 pub returns-in-Some-clause-stopped : goal.returns-in-Some-clause-stopped
 returns-in-Some-clause-stopped g c failed = named_so c.args.domain.now _ c.in-Some.place _ (sym c.in-Some.ensures.value) c.in-Some.ensures.within (c.node.ensures.stopped failed)
