@@ -24,3 +24,12 @@ class Memory(unittest.TestCase):
     @needs("cc", "gcc")
     def test_replay(self):
         self.each_refused("replay", os.path.join(EXAMPLES, "ring", "domain.toml"), write("memory.schedule", SCHEDULE), "FRAMES")
+
+    @needs("cc", "gcc")
+    def test_node(self):
+        example = os.path.join(EXAMPLES, "node-television")
+        self.each_refused("node", os.path.join(example, "domain.toml"), "west-4", os.path.join(example, "capture.pcap"), "FRAMES")
+
+    @needs("cc", "gcc")
+    def test_grow(self):
+        self.each_refused("grow", "3")

@@ -1,15 +1,17 @@
 -- What the calls of a replay do.
-use Rattle.std.specs.Prelude.{ℕ, ◌≡◌, ◌<◌, ◌^◌, List, [], ◌∷◌, Some, Result, Ok, Err, if◌then◌else◌}
+use Rattle.std.specs.Prelude.{ℕ, ◌≡◌, ◌⊎◌, ◌<◌, ◌^◌, List, [], ◌∷◌, ◌++◌, Some, None, Result, Ok, Err, if◌then◌else◌}
 use Rattle.std.specs.List.{AllByRecursion}
 use Rattle.replay_text.specs.declared.event.Event.{Event}
 use Rattle.domain_model.specs.declared.fault.EventFault.{EventFault}
 use Rattle.domain_model.specs.declared.fault.EventFault.TheVariants as faults
 use Rattle.replay_text.specs.declared.event.Event.TheVariants.{Inject, Take, Lose, Again, Down, Up, Send, Tick, Restart}
 use Rattle.domain_model.specs.World.{WorldState}
+use Rattle.domain_model.specs.Step.{happens}
+use Rattle.domain_model.specs.Faults.{event_fault}
 use Rattle.domain_model.specs.Run.{Direction, may_send}
 use Rattle.domain_model.specs.Truth.{EventFits}
 use Rattle.domain_replay.specs.Counting.{NamesOnce}
-use Rattle.domain_replay.specs.Telling.{Telling, Told, told}
+use Rattle.domain_replay.specs.Telling.{Telling, Told, told, tells_all}
 
 -- the events that were told ended with that reason
 abbrev pub ends_with : Telling → EventFault → Told
@@ -27,6 +29,29 @@ Tells all now (Err (faults.NoFrame i n)) = all ≡ ends_with now (faults.NoFrame
 Tells all now (Err faults.NotControl) = all ≡ ends_with now faults.NotControl
 Tells all now (Err (faults.Edge why)) = all ≡ ends_with now (faults.Edge why)
 Tells all now (Err faults.Memory) = Unit {0}
+
+-- ---- where a call stops
+
+-- The next of the events that are left was done, and nothing of it is told: the world has gone on, counts and texts haven't.
+abbrev pub NextUntold : Telling → List Event → Telling → Type 0
+NextUntold t [] now = ⊥
+NextUntold t (e ∷ es) now = (event_fault t.world e ≡ None) × (now ≡ record t { world = (happens t.world e).world })
+
+-- What stands where a call stopped within some events, for want of memory as well: the first ones were done and told, each of
+-- them whole, and those after them weren't begun; only the next one may be done too, with nothing told of it.
+--
+-- Two routers settle by `send A B`, `send B A`, `take A B 0`, `take B A 0`. Memory is refused as A's frame arrives: done are both
+-- sends, and the frame is still on its way. Memory is refused as that take is told: done are both sends, the capture holds the
+-- records of both, and the world alone is further, where B has taken the frame; what B would drop by it is in no line and no count.
+pub record StopsIn (line : ℕ) (before : Telling) (events : List Event) (now : Telling) : Type 0 where
+  pub done : List Event
+  pub left : List Event
+  pub all : events ≡ done ++ left
+  pub so_far : Telling
+  pub tells : tells_all line (told before) done ≡ told so_far
+  pub stands : (now ≡ so_far) ⊎ NextUntold so_far left now
+
+-- ---- what a call is asked
 
 -- an event that a replay may be asked for, in a domain of so many routers
 pub record IsAsked (count : ℕ) (e : Event) : Type 0 where

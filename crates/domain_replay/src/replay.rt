@@ -1,16 +1,16 @@
 //! A domain over a schedule.
-ghost use Rattle.std.specs.Prelude.{◌≡◌, ◌≢◌, ◌++◌, length, Some, IfOk, IfErr, OnOk, OnErr, [], replicate};
+ghost use Rattle.std.specs.Prelude.{◌≡◌, ◌≢◌, ◌++◌, ◌∷◌, length, Some, IfOk, IfErr, OnOk, OnErr, [], replicate};
 ghost use Rattle.std.specs.List.{AllByRecursion};
 ghost use Rattle.replay_text.specs.Events.{LineFits};
 ghost use Rattle.replay_text.specs.declared.fault.TextFault.TheVariants as texts;
 ghost use Rattle.domain_model.specs.declared.fault.EventFault.TheVariants as fault;
 ghost use Rattle.domain_model.specs.World.{ids_in_flight};
 ghost use Rattle.domain_model.specs.Run as run;
-ghost use Rattle.domain_model.specs.Run.{taken_now, round_sends, round_events};
+ghost use Rattle.domain_model.specs.Run.{taken_now, round_sends, round_events, line_events};
 ghost use Rattle.domain_replay.specs.Lines.{done_text, text_refused_text, event_refused_text, too_long};
 ghost use Rattle.replay_text.specs.Fault.{fault_text};
 ghost use Rattle.domain_replay.specs.Telling.{first_telling, told, tells_on, tells_all, tells_line, LineNamesOnce};
-ghost use Rattle.domain_replay.specs.Replaying.{Tells, IsAsked, IsJoining, sends_of};
+ghost use Rattle.domain_replay.specs.Replaying.{Tells, StopsIn, IsAsked, IsJoining, sends_of};
 
 use crate::asked::numbers_fit;
 use crate::counts::Counts;
@@ -56,6 +56,7 @@ impl Replay {
         requires { IsAsked (length self.old.world.domain.routers) event.now }
         ensures told { Tells (tells_on line (told self.old) event.now) self.new result }
         ensures domain { OnOk result (self.new.world.domain ≡ self.old.world.domain) }
+        ensures stops { OnErr result (StopsIn line self.old (event.now ∷ []) self.new) }
     {
         let made = self.world.step(event)?;
         let routers = self.world.domain().routers.as_slice();
@@ -68,6 +69,7 @@ impl Replay {
         requires { AllByRecursion (IsAsked (length self.old.world.domain.routers)) events.now }
         ensures told { Tells (tells_all line (told self.old) events.now) self.new result }
         ensures domain { OnOk result (self.new.world.domain ≡ self.old.world.domain) }
+        ensures stops { OnErr result (StopsIn line self.old events.now self.new) }
     {
         for event in events {
             self.do_event(alloc, line, event)?;
@@ -86,6 +88,7 @@ impl Replay {
         requires { IsAsked (length self.old.world.domain.routers) event.now }
         ensures told { Tells (tells_all line (told self.old) (replicate count event.now)) self.new result }
         ensures domain { OnOk result (self.new.world.domain ≡ self.old.world.domain) }
+        ensures stops { OnErr result (StopsIn line self.old (replicate count event.now) self.new) }
     {
         for _time in 0..count {
             self.do_event(alloc, line, event)?;
@@ -145,6 +148,7 @@ impl Replay {
         requires { IsJoining (length self.old.world.domain.routers) direction }
         ensures told { Tells (tells_all line (told self.old) (taken_now self.old.world direction)) self.new result }
         ensures domain { OnOk result (self.new.world.domain ≡ self.old.world.domain) }
+        ensures stops { OnErr result (StopsIn line self.old (taken_now self.old.world direction) self.new) }
     {
         let Direction { from, to, .. } = direction;
         let count = self.world.frames(from, to);
@@ -156,6 +160,7 @@ impl Replay {
         requires { AllByRecursion (IsJoining (length self.old.world.domain.routers)) all.now }
         ensures told { Tells (tells_all line (told self.old) (run.round_takes self.old.world all.now)) self.new result }
         ensures domain { OnOk result (self.new.world.domain ≡ self.old.world.domain) }
+        ensures stops { OnErr result (StopsIn line self.old (run.round_takes self.old.world all.now) self.new) }
     {
         for direction in all {
             self.take_now(alloc, line, *direction)?;
@@ -169,6 +174,7 @@ impl Replay {
         requires joins { AllByRecursion (IsJoining (length self.old.world.domain.routers)) all.now }
         ensures told { Tells (tells_all line (told self.old) (round_events self.old.world)) self.new result }
         ensures domain { OnOk result (self.new.world.domain ≡ self.old.world.domain) }
+        ensures stops { OnErr result (StopsIn line self.old (round_events self.old.world) self.new) }
     {
         let sends = self.sends(alloc, all)?;
         self.do_events(alloc, line, sends.as_slice())?;
@@ -177,7 +183,8 @@ impl Replay {
 
     /// So many rounds.
     fn do_rounds(&mut self, alloc: Global, line: u32, rounds: u32) -> Result<(), EventFault>
-        ensures { Tells (tells_all line (told self.old) (run.settle_events self.old.world rounds)) self.new result }
+        ensures told { Tells (tells_all line (told self.old) (run.settle_events self.old.world rounds)) self.new result }
+        ensures stops { OnErr result (StopsIn line self.old (run.settle_events self.old.world rounds) self.new) }
     {
         let all = self.directions(alloc)?;
         for _round in 0..rounds {
@@ -191,7 +198,8 @@ impl Replay {
     fn do_line(&mut self, alloc: Global, line: u32, said: &Line) -> Result<(), EventFault>
         requires fits { LineFits (length self.old.world.domain.routers) said.now }
         requires once { LineNamesOnce said.now }
-        ensures { Tells (tells_line line self.old said.now) self.new result }
+        ensures told { Tells (tells_line line self.old said.now) self.new result }
+        ensures stops { OnErr result (StopsIn line self.old (line_events self.old.world said.now) self.new) }
     {
         match said {
             Line::Empty => Ok(()),
@@ -206,13 +214,15 @@ impl Replay {
     /// Does what a line of the schedule says, up to an event that isn't allowed, and tells it with the number of the line.
     ///
     /// Refused by the first event of the line that isn't allowed; those before it were done. Memory may come in place of any
-    /// answer.
+    /// answer, and then some first events of the line were done and told too, and the rest not; only the event at which memory
+    /// was refused may be done, with nothing told of it.
     #[tactic(auto, using(crate::proofs::LineTells::tells_ok, crate::proofs::LineTells::tells_refused))]
     pub fn line(&mut self, alloc: Global, line: u32, said: &Line) -> Result<(), EventFault>
         requires fits { LineFits (length self.old.world.domain.routers) said.now }
         requires once { LineNamesOnce said.now }
         ensures ok { OnOk result (tells_line line self.old said.now ≡ told self.new) }
         ensures refused { IfErr result (λ e. e ≢ fault.Memory → tells_line line self.old said.now ≡ record { telling = self.new; refused = Some e }) }
+        ensures stops { OnErr result (StopsIn line self.old (line_events self.old.world said.now) self.new) }
     {
         self.do_line(alloc, line, said)
     }

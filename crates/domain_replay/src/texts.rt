@@ -1,5 +1,5 @@
 //! What is told of a run so far.
-ghost use Rattle.std.specs.Prelude.{◌≡◌, ◌++◌, OnOk, IfOk, [], flat_map};
+ghost use Rattle.std.specs.Prelude.{◌≡◌, ◌++◌, OnOk, OnErr, IfOk, [], flat_map};
 ghost use Rattle.wire_base.specs.model.Capture.{written_header};
 ghost use Rattle.domain_replay.specs.Captures.{wire_record, AreShort};
 ghost use Rattle.domain_replay.specs.Counting.{no_counts, counted, NamesOnce};
@@ -38,7 +38,8 @@ impl Texts {
         })
     }
 
-    /// Tells an event of a line, which names no BFR-id twice, and what it did.
+    /// Tells an event of a line, which names no BFR-id twice, and what it did; or nothing, where memory is refused.
+    #[tactic(auto, using(replay_text::proofs::Appended::front))]
     pub fn tell(
         &mut self,
         alloc: Global,
@@ -52,9 +53,18 @@ impl Texts {
         ensures counts { OnOk result (self.new.counts ≡ counted self.old.counts event.now made.now.got made.now.drops) }
         ensures frames { OnOk result (self.new.frames ≡ self.old.frames ++ flat_map (wire_record line) made.now.sent) }
         ensures report { OnOk result (self.new.report ≡ self.old.report ++ event_text routers.now line made.now.got made.now.drops) }
+        ensures err { OnErr result (self.new ≡ self.old) }
     {
-        self.counts = self.counts.with(event, made)?;
+        let counts = self.counts.with(event, made)?;
+        let len = self.frames.len();
         push_frames(&mut self.frames, line, made.sent.as_slice())?;
-        push_event(alloc, &mut self.report, routers, line, made)
+        let pushed = push_event(alloc, &mut self.report, routers, line, made);
+        if pushed.is_err() {
+            // The capture tells no more events than the report.
+            self.frames.truncate(len);
+            return pushed;
+        }
+        self.counts = counts;
+        pushed
     }
 }

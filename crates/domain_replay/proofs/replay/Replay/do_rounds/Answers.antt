@@ -2,19 +2,29 @@ use Rattle.std.proofs.Common.{◌∙◌, ◌+◌, ◌-◌}
 use Rattle.std.proofs.lemmas.Result.{err_from_is_err_and}
 use Rattle.domain_model.specs.Run.{round_events, settle_events, world_after}
 use Rattle.domain_replay.proofs.TellsLaws.{err_at, rounds_split, rounds_at, rounds_none}
+use Rattle.domain_replay.proofs.StopLaws.{not_begun, rounds_first, rounds_behind}
 use Rattle.domain_replay.proofs.replay.Replay.do_rounds.Goals as goal
 
-pub returns-in_err-do_round : goal.returns-in_err-do_round
-returns-in_err-do_round c =
+pub returns-in_err-do_round-clause-told : goal.returns-in_err-do_round-clause-told
+returns-in_err-do_round-clause-told c =
     let p = err_from_is_err_and c.from_residual-in_err-do_round.result c.from_residual-in_err-do_round.ensures.1 in
     rw (p.1, p.2) (err_at c.args.line _ _ (settle_events (world_after c.loop-round.self.world (round_events c.loop-round.self.world)) (c.args.rounds - (c.loop-round._round + 1))) _ _
     (c.loop-round.invariant.left ∙ rounds_split c.args.line c.loop-round.self c.args.rounds c.loop-round._round c.loop-round-test.true) c.in_err-do_round.ensures.told)
+
+pub returns-in_err-all-clause-stops : goal.returns-in_err-all-clause-stops
+returns-in_err-all-clause-stops c = not_begun c.args.line c.args.self.now (settle_events c.args.self.now.world c.args.rounds) c.from_residual.result
+
+pub returns-in_err-do_round-clause-stops : goal.returns-in_err-do_round-clause-stops
+returns-in_err-do_round-clause-stops c =
+    let p = err_from_is_err_and c.from_residual-in_err-do_round.result c.from_residual-in_err-do_round.ensures.1 in
+    rw p.1 (c.loop-round.invariant.stops _ (rounds_first c.args.line c.loop-round.self _ c.args.rounds c.loop-round._round c.loop-round-test.true c.in_err-do_round.ensures.stops))
 
 pub loop-round-preserved : goal.loop-round-preserved
 loop-round-preserved c = record {
   left = c.loop-round.invariant.left ∙ rounds_at c.args.line c.loop-round.self c.do_round.new.self c.args.rounds c.loop-round._round c.loop-round-test.true c.in_ok-do_round.ensures.told;
   domain = c.in_ok-do_round.ensures.domain ∙ c.loop-round.invariant.domain;
+  stops = λ now s. c.loop-round.invariant.stops now (rounds_behind c.args.line c.loop-round.self c.do_round.new.self now c.args.rounds c.loop-round._round c.loop-round-test.true c.in_ok-do_round.ensures.told s);
 }
 
-pub returns : goal.returns
-returns c = c.loop-round.invariant.left ∙ rounds_none c.args.line c.loop-round.self c.args.rounds c.loop-round._round c.loop-round-test.false
+pub returns-clause-told : goal.returns-clause-told
+returns-clause-told c = c.loop-round.invariant.left ∙ rounds_none c.args.line c.loop-round.self c.args.rounds c.loop-round._round c.loop-round-test.false

@@ -1,6 +1,7 @@
 use Rattle.std.proofs.Common.{◌≡◌, ◌-◌}
 use Rattle.domain_model.specs.Run.{settle_events}
-use Rattle.domain_replay.specs.Telling.{told, tells_all}
+use Rattle.domain_replay.specs.Telling.{Telling, told, tells_all}
+use Rattle.domain_replay.specs.Replaying.{StopsIn}
 use Rattle.domain_replay.proofs.replay.Replay.do_rounds.Given as goal
 
 abbrev pub invariant-loop-round : goal.invariant-loop-round
@@ -8,4 +9,5 @@ invariant-loop-round l =
     record {
       left : tells_all l.line (told l.fn.self) (settle_events l.fn.self.world l.rounds) ≡ tells_all l.line (told l.self) (settle_events l.self.world (l.rounds - l._round));
       domain : l.self.world.domain ≡ l.fn.self.world.domain;
+      stops : (now : Telling) → StopsIn l.line l.self (settle_events l.self.world (l.rounds - l._round)) now → StopsIn l.line l.fn.self (settle_events l.fn.self.world l.rounds) now;
     }

@@ -1,6 +1,7 @@
 use Rattle.std.proofs.Common.{◌≡◌, drop}
 use Rattle.domain_model.specs.Run.{round_takes}
-use Rattle.domain_replay.specs.Telling.{told, tells_all}
+use Rattle.domain_replay.specs.Telling.{Telling, told, tells_all}
+use Rattle.domain_replay.specs.Replaying.{StopsIn}
 use Rattle.domain_replay.proofs.replay.Replay.do_takes.Given as goal
 
 abbrev pub invariant-loop-direction : goal.invariant-loop-direction
@@ -8,4 +9,5 @@ invariant-loop-direction l =
     record {
       left : tells_all l.line (told l.fn.self) (round_takes l.fn.self.world l.all) ≡ tells_all l.line (told l.self) (round_takes l.self.world (drop l.direction-index l.all));
       domain : l.self.world.domain ≡ l.fn.self.world.domain;
+      stops : (now : Telling) → StopsIn l.line l.self (round_takes l.self.world (drop l.direction-index l.all)) now → StopsIn l.line l.fn.self (round_takes l.fn.self.world l.all) now;
     }

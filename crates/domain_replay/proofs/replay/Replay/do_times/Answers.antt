@@ -2,6 +2,7 @@ use Rattle.std.proofs.Common.{ap, ◌∙◌, ◌+◌, ◌-◌, replicate}
 use Rattle.std.proofs.lemmas.Result.{err_from_is_err_and}
 use Rattle.domain_replay.specs.Telling.{Told, told, tells_all}
 use Rattle.domain_replay.proofs.TellsLaws.{err_at, times_first, times_none}
+use Rattle.domain_replay.proofs.StopLaws.{alike_first, alike_behind}
 use Rattle.domain_replay.proofs.replay.Replay.do_times.Goals as goal
 
 pub returns-in_err-do_event-clause-told : goal.returns-in_err-do_event-clause-told
@@ -10,12 +11,18 @@ returns-in_err-do_event-clause-told c =
     rw (p.1, p.2) (err_at c.args.line _ _ (replicate (c.args.count - (c.loop-time._time + 1)) c.args.event.now) _ _
     (c.loop-time.invariant.left ∙ times_first c.args.line (told c.loop-time.self) c.args.event.now c.args.count c.loop-time._time c.loop-time-test.true) c.in_err-do_event.ensures.told)
 
+pub returns-in_err-do_event-clause-stops : goal.returns-in_err-do_event-clause-stops
+returns-in_err-do_event-clause-stops c =
+    let p = err_from_is_err_and c.from_residual.result c.from_residual.ensures.1 in
+    rw p.1 (c.loop-time.invariant.stops _ (alike_first c.args.line c.loop-time.self _ c.args.event.now c.args.count c.loop-time._time c.loop-time-test.true c.in_err-do_event.ensures.stops))
+
 pub loop-time-preserved : goal.loop-time-preserved
 loop-time-preserved c = record {
   left = c.loop-time.invariant.left
       ∙ times_first c.args.line (told c.loop-time.self) c.args.event.now c.args.count c.loop-time._time c.loop-time-test.true
       ∙ ap (λ (t : Told). tells_all c.args.line t (replicate (c.args.count - (c.loop-time._time + 1)) c.args.event.now)) c.in_ok-do_event.ensures.told;
   domain = c.in_ok-do_event.ensures.domain ∙ c.loop-time.invariant.domain;
+  stops = λ now s. c.loop-time.invariant.stops now (alike_behind c.args.line c.loop-time.self c.do_event.new.self now c.args.event.now c.args.count c.loop-time._time c.loop-time-test.true c.in_ok-do_event.ensures.told s);
 }
 
 pub returns-clause-told : goal.returns-clause-told

@@ -1,5 +1,6 @@
 use Rattle.std.proofs.Common.{◌≡◌, ◌-◌, replicate}
-use Rattle.domain_replay.specs.Telling.{told, tells_all}
+use Rattle.domain_replay.specs.Telling.{Telling, told, tells_all}
+use Rattle.domain_replay.specs.Replaying.{StopsIn}
 use Rattle.domain_replay.proofs.replay.Replay.do_times.Given as goal
 
 abbrev pub invariant-loop-time : goal.invariant-loop-time
@@ -7,4 +8,5 @@ invariant-loop-time l =
     record {
       left : tells_all l.line (told l.fn.self) (replicate l.count l.event) ≡ tells_all l.line (told l.self) (replicate (l.count - l._time) l.event);
       domain : l.self.world.domain ≡ l.fn.self.world.domain;
+      stops : (now : Telling) → StopsIn l.line l.self (replicate (l.count - l._time) l.event) now → StopsIn l.line l.fn.self (replicate l.count l.event) now;
     }
