@@ -1,5 +1,5 @@
 -- Files that no call was made of.
-use Rattle.std.specs.Prelude.{ℕ, ◌≡◌, None}
+use Rattle.std.specs.Prelude.{◌≡◌}
 use Rattle.bier_domain.specs.declared.objects.Objects.{Objects}
 
 -- none is open, and nothing was counted

@@ -4,6 +4,7 @@ ghost use Rattle.wire_base.specs.Causes.{last_count};
 ghost use Rattle.wire_base.specs.declared.status.Status.TheVariants as status;
 ghost use Rattle.replay_run.specs.declared.words.Form.TheVariants as form;
 ghost use Rattle.replay_run.specs.Words.{form_in};
+ghost use Rattle.replay_run.specs.Words as forms;
 ghost use Rattle.bier_domain.specs.Fresh.{AreFresh};
 ghost use Rattle.bier_domain.specs.Named.{IsNode, IsOneInput, IsGrow};
 
@@ -95,7 +96,7 @@ impl<'a, R: Files> Objects<'a, R> {
         ensures usage { form_in words.now ≡ form.Unknown → (result ≡ status.Usage) ⊎ (result ≡ status.WriteFault) }
         ensures conf { form_in words.now ≢ form.Replay → form_in words.now ≢ form.Node → self.new.conf ≡ self.old.conf }
         ensures frames { form_in words.now ≢ form.Replay → form_in words.now ≢ form.Node → self.new.frames ≡ self.old.frames }
-        ensures unread { form_in words.now ≡ form.Unknown → self.new.input ≡ self.old.input }
+        ensures unread { (form_in words.now ≡ form.Unknown) ⊎ forms.IsGrow (form_in words.now) → self.new.input ≡ self.old.input }
     {
         let Objects {
             conf,
