@@ -155,7 +155,8 @@ fn what_is_dropped_leaves_no_trace(rt: HostRuntime) -> Result<(), Fail> {
 
 // A frame of A with a link state PDU of 27 octets, which has no TLVs and lives 1,200 seconds, up to its LSP ID.
 const FRONT_OF_LSP: [u8; 29] = [
-    9, 0, 43, 0, 0, 5, 2, 0, 0, 0, 0, 1, 0, 30, 254, 254, 3, 131, 27, 1, 0, 20, 1, 0, 0, 0, 27, 4, 176,
+    9, 0, 43, 0, 0, 5, 2, 0, 0, 0, 0, 1, 0, 30, 254, 254, 3, 131, 27, 1, 0, 20, 1, 0, 0, 0, 27, 4,
+    176,
 ];
 
 /// A capture in which each of so many systems says that it is there.
