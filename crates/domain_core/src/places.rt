@@ -55,10 +55,11 @@ fn end_toward(ends: &[End], system: SystemId) -> Option<u16>
     None
 }
 
+/// Systems of a domain mostly differ in the last octet, so that one is looked at first.
 fn is_system(a: SystemId, b: SystemId) -> bool
     ensures { result ≡ is_system a b }
 {
-    a == b
+    a.0[5] == b.0[5] && a == b
 }
 
 /// The end of a router that leads to another, where a link joins the two.
