@@ -8,13 +8,13 @@ ghost use Rattle.isis_flood.specs.Kept.{NotLowered};
 
 use crate::flood::Flood;
 use crate::listed::listed;
-use lsp_store::Store;
+use lsp_store::{Store, is_same_id};
 use wire_base::{Entry, LspId, M, SnpOut, Summary};
 
 fn is_of(s: &Summary, id: &LspId) -> bool
     ensures { result ≡ same_id s.now.id id.now }
 {
-    s.id == *id
+    is_same_id(s.id, *id)
 }
 
 fn lists(rows: &[Summary], id: &LspId) -> bool
