@@ -55,10 +55,13 @@ fn end_toward(ends: &[End], system: SystemId) -> Option<u16>
     None
 }
 
+/// Systems of a domain mostly differ in their last octets, so these are looked at first.
 fn is_system(a: SystemId, b: SystemId) -> bool
     ensures { result ≡ is_system a b }
 {
-    a == b
+    let [a0, a1, a2, a3, a4, a5] = a.0;
+    let [b0, b1, b2, b3, b4, b5] = b.0;
+    a5 == b5 && a4 == b4 && a3 == b3 && a2 == b2 && a1 == b1 && a0 == b0
 }
 
 /// The end of a router that leads to another, where a link joins the two.

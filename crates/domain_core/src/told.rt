@@ -1,5 +1,5 @@
 //! What is told of what a router does.
-ghost use Rattle.std.specs.Prelude.{◌≡◌, ◌≤◌, ◌++◌, ◌∷◌, [], ℕ, length, map, filter, Option, option_map, IfOk, OnOk, OnErr};
+ghost use Rattle.std.specs.Prelude.{◌≡◌, ◌≤◌, ◌++◌, ◌∷◌, [], ℕ, length, map, filter, Option, option_map, IfOk, IfSome, OnOk, OnErr};
 ghost use Rattle.std.specs.List.{AllByRecursion};
 ghost use Rattle.wire_base.specs.model.BitSet.{has_member};
 ghost use Rattle.wire_base.specs.model.Configuration.{IsSound};
@@ -13,6 +13,7 @@ ghost use Rattle.domain_core.specs.Flights.{item_seen, number_of, ids_seen, ids_
 ghost use Rattle.domain_core.specs.Framed.{wire_from, got_line, drop_line, ids_dropped};
 ghost use Rattle.domain_core.specs.Read.{copy_read, packet_in};
 ghost use Rattle.domain_model.specs.Moves.{item_lost, listed};
+ghost use Rattle.domain_model.specs.World.{peer_place};
 
 use crate::flight::Flight;
 use crate::inside::packet_in;
@@ -57,16 +58,32 @@ pub(crate) fn number_of(flight: &Flight) -> Option<u32>
     }
 }
 
+/// The place of the router at the other end of a link. Frames that go out together mostly share their link, so the place that
+/// was found last is at hand.
+fn peer_again(confs: &[RouterConf], at: u16, link: u16, last: Option<(u16, u16)>) -> u16
+    requires few { length confs.now ≤ MOST_ROUTERS }
+    requires last { IfSome last (λ l. l.1 ≡ peer_place confs.now at l.0) }
+    ensures { result ≡ peer_place confs.now at link }
+{
+    match last {
+        Some((known, to)) if known == link => to,
+        _ => peer_place(confs, at, link),
+    }
+}
+
 fn wire_frames(alloc: Global, confs: &[RouterConf], at: u16, sent: &[Sent]) -> M<Rows<WireFrame>>
     requires { length confs.now ≤ MOST_ROUTERS }
     ensures frames { IfOk result (λ frames. frames ≡ map (wire_from confs.now at) sent.now) }
     ensures memory { OnErr result (sent.now ≡ [] → ⊥) }
 {
     let mut frames = Rows::new(alloc);
+    let mut last = None::<(u16, u16)>;
     for frame in sent {
+        let to = peer_again(confs, at, frame.link, last);
+        last = Some((frame.link, to));
         frames.push(WireFrame {
             from: at,
-            to: peer_place(confs, at, frame.link),
+            to,
             octets: frame.octets.copy()?,
         })?;
     }

@@ -8,14 +8,13 @@ ghost use Rattle.isis_flood.specs.Kept.{NotLowered};
 
 use crate::flood::Flood;
 use crate::listed::listed;
-use lsp_store::Store;
-use wire_base::limits::MOST_ENTRIES;
+use lsp_store::{Store, is_same_id};
 use wire_base::{Entry, LspId, M, SnpOut, Summary};
 
 fn is_of(s: &Summary, id: &LspId) -> bool
     ensures { result ≡ same_id s.now.id id.now }
 {
-    s.id == *id
+    is_same_id(s.id, *id)
 }
 
 fn lists(rows: &[Summary], id: &LspId) -> bool
@@ -42,7 +41,7 @@ fn lacks(start: &LspId, last: &LspId, rows: &[Summary], e: &Entry) -> bool
 }
 
 impl Flood {
-    /// What is lacking is to be sent; there is the memory for it already.
+    /// What is lacking is to be sent; there is the memory for it already. An entry that isn't lacking needs none.
     fn send_lacking(
         &mut self,
         store: &Store,
@@ -52,7 +51,7 @@ impl Flood {
         rows: &[Summary],
     ) -> M<()>
         requires link { link < length self.old.flood.up }
-        requires flags { length store.now.entries ≤ self.old.spare }
+        requires flags { length (filter (lacks start.now last.now rows.now) store.now.entries) ≤ self.old.spare }
         ensures next { self.new.flood ≡ fold (send_lacking link start.now last.now rows.now) self.old.flood store.now.entries }
         ensures ok { IsOk result }
         ensures spare { self.old.spare ≤ self.new.spare + length (filter (lacks start.now last.now rows.now) store.now.entries) }
@@ -93,7 +92,8 @@ impl Flood {
         self.apply_csnp(store, link, &start, &last, tlvs, spent)
     }
 
-    /// The entries of a complete one, and then what it lacks, once all memory is taken.
+    /// The entries of a complete one, and then what it lacks, once all memory is taken: a row for each entry that it lists,
+    /// and for each that was there.
     #[tactic(auto, unfolding(wire_base::specs::model::Flooding::on_csnp, wire_base::specs::model::Flooding::on_list))]
     fn apply_csnp(
         &mut self,
@@ -110,14 +110,13 @@ impl Flood {
         ensures spare { self.old.spare ≤ self.new.spare + (length (rows_of tlvs.now) + length store.old.entries) }
     {
         let rows = listed(store.allocator(), tlvs)?;
-        self.reserve(rows.len() + MOST_ENTRIES)?;
+        self.reserve(rows.len() + store.len())?;
         store.reserve(rows.len())?;
         let mut answer = SnpOut {
             reissue: None,
             full: 0,
         };
         self.on_list(store, link, rows.as_slice(), spent, &mut answer)?;
-        let _entries = store.len();
         self.send_lacking(store, link, start, last, rows.as_slice())?;
         Ok(answer)
     }

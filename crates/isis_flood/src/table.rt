@@ -7,6 +7,7 @@ ghost use Rattle.isis_flood.specs.Flags.{is_flagged, has_flags};
 ghost use Rattle.isis_flood.specs.Masks.{at_bit, row_of, rows_of, row_ids, bits_in, put_bits, without_bits, clears, IsPlace};
 
 use crate::masks::{has, has_bit, with_bit, without, without_bit};
+use lsp_store::{is_id_above, is_same_id};
 use std::alloc::Global;
 use std::marker::Model;
 use wire_base::{LspId, M};
@@ -42,7 +43,7 @@ impl Model for Table {
 fn is_above(id: &LspId, row: &Bits) -> bool
     ensures { result ≡ is_gt (id_order id.now row.now.id) }
 {
-    id.cmp(&row.id).is_gt()
+    is_id_above(*id, row.id)
 }
 
 /// How many rows have an identifier below this one, by halving.
@@ -66,7 +67,7 @@ fn place_of(rows: &[Bits], id: &LspId) -> usize
 fn has_id(row: &Bits, id: &LspId) -> bool
     ensures { result ≡ same_id row.now.id id.now }
 {
-    row.id == *id
+    is_same_id(row.id, *id)
 }
 
 fn stands_at(rows: &[Bits], place: usize, id: &LspId) -> bool

@@ -5,11 +5,13 @@
 #![tactic(auto)]
 
 mod ages;
+mod keys;
 mod places;
 mod purges;
 mod seconds;
 mod store;
 
+pub use keys::{is_id_above, is_same_id, is_system_above};
 pub use purges::purge;
 pub use store::Store;
 pub use wire_base::{Age, Aged, Entry, PutFault};

@@ -3,13 +3,14 @@ ghost use Rattle.std.specs.Ordering.{is_gt};
 ghost use Rattle.wire_base.specs.model.Control.{AreAscending, ids_of, id_order, same_id};
 ghost use Rattle.lsp_store.specs.Places.{place_in, stands_at};
 
+use crate::keys::{is_id_above, is_same_id};
 use wire_base::{Entry, LspId};
 
 /// Whether an identifier is above that of an entry.
 fn is_above(id: &LspId, entry: &Entry) -> bool
     ensures { result ≡ is_gt (id_order id.now entry.now.id) }
 {
-    id.cmp(&entry.id).is_gt()
+    is_id_above(*id, entry.id)
 }
 
 /// How many entries have an identifier below this one, by halving.
@@ -33,7 +34,7 @@ pub(crate) fn place_of(entries: &[Entry], id: &LspId) -> usize
 fn has_id(entry: &Entry, id: &LspId) -> bool
     ensures { result ≡ same_id entry.now.id id.now }
 {
-    entry.id == *id
+    is_same_id(entry.id, *id)
 }
 
 /// Whether the entry at a place has that identifier.

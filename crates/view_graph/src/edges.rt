@@ -7,13 +7,14 @@ ghost use Rattle.view_graph.specs.Edges.{AreInOrder, place_in, stands_at, metric
 
 use crate::claims::Claim;
 use crate::links::Link;
+use lsp_store::is_system_above;
 use std::alloc::Global;
 use wire_base::{M, Rows, SystemId, ViewEdge};
 
 fn is_above(a: &SystemId, b: &SystemId) -> bool
     ensures { result ≡ is_gt (system_order a.now b.now) }
 {
-    a.cmp(b).is_gt()
+    is_system_above(*a, *b)
 }
 
 /// How many claims are of systems below this one, by halving.

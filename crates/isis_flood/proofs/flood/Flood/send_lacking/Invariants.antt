@@ -7,7 +7,7 @@ use Rattle.isis_flood.proofs.flood.Flood.send_lacking.Given as goal
 abbrev pub invariant-entries : goal.invariant-entries
 invariant-entries l = record {
   so : fold (send_lacking l.link l.start l.last l.rows) l.self.flood l.rest ≡ fold (send_lacking l.link l.start l.last l.rows) l.fn.self.flood l.store.entries;
-  flags : length l.rest ≤ l.self.spare;
+  flags : length (filter (lacks l.start l.last l.rows) l.rest) ≤ l.self.spare;
   spare : l.fn.self.spare + length (filter (lacks l.start l.last l.rows) l.rest) ≤ l.self.spare + length (filter (lacks l.start l.last l.rows) l.store.entries);
   links : length l.self.flood.up ≡ length l.fn.self.flood.up;
 }
