@@ -63,7 +63,7 @@ fn find_number<const W: usize>(neighbours: &[Neighbour<W>], to: First) -> Option
 fn is_same_router(a: First, b: First) -> bool
     ensures { result ≡ same_router a b }
 {
-    a.system == b.system && is_same_end(a.direct, b.direct)
+    is_same_end(a.direct, b.direct) && a.system == b.system
 }
 
 fn is_same_end(a: Option<u16>, b: Option<u16>) -> bool
