@@ -1,8 +1,23 @@
 ghost use Rattle.std.specs.Prelude.{◌≡◌, ◌↔◌, ℕ, ◌+◌, ◌*◌, ◌/◌, ◌%◌, ◌<◌, ◌≤◌, length, sum, slice_index, IsTrue};
 ghost use Rattle.wire_base.specs.model.Checksum.{weighted, is_right, IsRight, IsCheck, check_sum};
 
-/// The plain and the weighted sum of the octets, modulo 255. In the weighted sum the last octet counts once.
-fn sums(bytes: &[u8]) -> (u32, u32)
+/// The plain and the weighted sum of octets that are few enough for 64 bits to hold both as they are, modulo 255.
+fn short_sums(bytes: &[u8]) -> (u32, u32)
+    requires { length bytes.now ≤ 65535 }
+    ensures plain { result.0 ≡ sum bytes.now % 255 }
+    ensures heavy { result.1 ≡ weighted bytes.now % 255 }
+{
+    let mut plain = 0u64;
+    let mut heavy = 0u64;
+    for byte in bytes {
+        plain += u64::from(*byte);
+        heavy += plain;
+    }
+    ((plain % 255) as u32, (heavy % 255) as u32)
+}
+
+/// The same of any number of octets.
+fn long_sums(bytes: &[u8]) -> (u32, u32)
     ensures plain { result.0 ≡ sum bytes.now % 255 }
     ensures heavy { result.1 ≡ weighted bytes.now % 255 }
 {
@@ -13,6 +28,17 @@ fn sums(bytes: &[u8]) -> (u32, u32)
         heavy = (heavy + plain) % 255;
     }
     (plain, heavy)
+}
+
+/// The plain and the weighted sum of the octets, modulo 255. In the weighted sum the last octet counts once.
+fn sums(bytes: &[u8]) -> (u32, u32)
+    ensures plain { result.0 ≡ sum bytes.now % 255 }
+    ensures heavy { result.1 ≡ weighted bytes.now % 255 }
+{
+    if bytes.len() <= 65535 {
+        return short_sums(bytes);
+    }
+    long_sums(bytes)
 }
 
 /// Whether both sums are 0 modulo 255 (ISO/IEC 10589, 7.3.11).

@@ -1,6 +1,6 @@
 use Rattle.std.proofs.Common.{arith}
 use Rattle.format_laws.proofs.ChecksumLaws.{sum_step, weighted_step}
-use Rattle.isis_pdu.proofs.checksum.sums.Goals as goal
+use Rattle.isis_pdu.proofs.checksum.long_sums.Goals as goal
 
 pub loop-byte-preserved : goal.loop-byte-preserved
 loop-byte-preserved c =
