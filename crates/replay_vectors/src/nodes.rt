@@ -133,13 +133,13 @@ fn what_is_dropped_leaves_no_trace(rt: HostRuntime) -> Result<(), Fail> {
     push_digits(alloc, &mut capture, 100, LSP_OF_A)?;
     let mut quiet = Octets::from_slice(alloc, capture.as_slice())?;
     let mut report = String::new(alloc);
-    let mut records = 1;
+    let mut records = 1u32;
     for line in DROPPED.lines() {
         let Some((frame, said)) = line.split_once(" => ") else {
             return Err(Fail::new("a line of the table"));
         };
         push_digits(alloc, &mut capture, 100, frame)?;
-        records += 1;
+        records = records.wrapping_add(1);
         report.push_str(&format!(in alloc; "{records} drop {said}\n")?)?;
     }
     push_record(&mut capture, 105, &[0; 12])?;
