@@ -1,5 +1,5 @@
 //! A failure at each call of a source or a sink in turn, and what stands after it.
-use crate::replays::{self, PAIR, RING};
+use crate::replays::{self, PAIR, RING, Replayed};
 use replay_run::run;
 use std::alloc::Global;
 use std::test::Fail;
@@ -157,28 +157,23 @@ fn each_call_fails_in_turn(rt: HostRuntime) -> Result<(), Fail> {
     Ok(())
 }
 
+/// A replay with room for so many octets of frames and of a report.
+fn with_room(alloc: Global, frames: usize, report: usize) -> M<Replayed> {
+    replays::ran(alloc, REPLAY.words, RING, REPLAY.input, frames, report)
+}
+
 /// A sink that takes none of a piece has failed: the report's, behind a capture that is whole, and the capture's, with its header.
 #[test]
 fn sinks_that_take_nothing(rt: HostRuntime) -> Result<(), Fail> {
     let alloc = rt.alloc();
-    let whole = ran(alloc, REPLAY, Object::Conf, 0)?;
-    for (frames_room, report_room) in [(10_000, 0), (0, 1_000)] {
-        let full = replays::ran(
-            alloc,
-            REPLAY.words,
-            RING,
-            REPLAY.input,
-            frames_room,
-            report_room,
-        )?;
-        assert_eq!(rt; full.status, Status::WriteFault);
-        assert!(rt; full.report.as_slice().is_empty());
-        let frames = if frames_room == 0 {
-            &[]
-        } else {
-            whole.frames.as_slice()
-        };
-        assert_eq!(rt; full.frames.as_slice(), frames);
-    }
+    let whole = with_room(alloc, 10_000, 1_000)?;
+    let no_report = with_room(alloc, 10_000, 0)?;
+    assert_eq!(rt; no_report.status, Status::WriteFault);
+    assert!(rt; no_report.report.as_slice().is_empty());
+    assert!(rt; no_report.frames.as_slice() == whole.frames.as_slice());
+    let no_frames = with_room(alloc, 0, 1_000)?;
+    assert_eq!(rt; no_frames.status, Status::WriteFault);
+    assert!(rt; no_frames.report.as_slice().is_empty());
+    assert!(rt; no_frames.frames.as_slice().is_empty());
     Ok(())
 }
