@@ -13,10 +13,9 @@ ghost use Rattle.router_core.specs.Received.{full_drop};
 
 use crate::control::Control;
 use crate::ends::seq_of;
-use crate::listed::listed;
 use crate::own::{fragment_0, issue_within, own_past, spent_past};
 use bier_forward::DropNote;
-use isis_flood::Flood;
+use isis_flood::{Flood, listed};
 use lsp_store::Store;
 use std::alloc::Global;
 use wire_base::limits::MOST_ENTRIES;

@@ -12,7 +12,6 @@ mod forecast;
 mod frames;
 mod framing;
 mod kept;
-mod listed;
 mod own;
 mod pdus;
 mod pending;
