@@ -13,6 +13,7 @@ mod frames;
 mod framing;
 mod kept;
 mod listed;
+mod noting;
 mod own;
 mod pdus;
 mod pending;
