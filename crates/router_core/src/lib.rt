@@ -12,6 +12,7 @@ mod forecast;
 mod frames;
 mod framing;
 mod kept;
+mod noting;
 mod own;
 mod pdus;
 mod pending;
