@@ -1,0 +1,21 @@
+"""Grown domains of the program that is built: each packet arrives at each router, whatever their number."""
+import subprocess
+import unittest
+
+from support import places
+
+# Every thirteenth number, and the last one: twenty.
+NUMBERS = [*range(3, 250, 13), 250]
+
+
+@unittest.skipUnless(places.built_program(), "the program isn't built (rt ci builds it)")
+class Grow(unittest.TestCase):
+    def test_all_arrive(self):
+        for n in NUMBERS:
+            done = subprocess.run([places.built_program(), "grow", str(n)], capture_output=True, text=True, timeout=120)
+            wanted = f"grow {n} injected 16 named {16 * n} got {16 * n} dropped 0 flight 0\n"
+            self.assertEqual((done.returncode, done.stdout), (0, wanted), n)
+
+
+if __name__ == "__main__":
+    unittest.main()
