@@ -1,115 +1,70 @@
--- The entries that TLVs list, and the rules for a list of entries.
-use Rattle.std.proofs.Common.{◌≡◌, ℕ, ◌+◌, ◌<◌, ◌≤◌, ◌==◌, eqb, ltb, lt-ltb, Bool, true, false, List, [], ◌∷◌, ◌++◌, length, take, drop, Some, None, Result, Ok, Err, refl, sym, ap, ◌∙◌, append_assoc, arith, inl, inr}
-use mathlib.Core.Bool.{true≢false}
-use Rattle.std.proofs.lemmas.Bool.{cases_lt}
-use Rattle.std.proofs.lemmas.Map.Views.{exact_unsigned_eq}
+-- The entries that TLVs list are no more than their octets, and the rules for a list of entries.
+use Rattle.std.proofs.Common.{◌≡◌, ℕ, zero, suc, ◌+◌, ◌≤◌, ◌==◌, Bool, true, false, List, [], ◌++◌, length, Option, Some, None, Result, Ok, Err, refl, sym, ap, ◌∙◌, arith}
+use Rattle.std.specs.List.{flat_map}
+use Rattle.std.proofs.lemmas.List.{append-nil, length-append}
+use Rattle.std.proofs.lemmas.List.Concat.{flat_map-cons}
 use Rattle.wire_base.specs.model.Control.{Flood}
 use Rattle.wire_base.specs.model.Flooding.{mark_all}
-use Rattle.byteorder.specs.Endian.{big_number}
-use Rattle.std.specs.List.{flat_map}
-use Rattle.std.proofs.lemmas.List.{take-append-drop, append-nil, length-drop, length-append}
 use Rattle.wire_base.specs.declared.faults.TlvFault.{TlvFault}
-use Rattle.wire_base.specs.declared.faults.TlvFault.TheVariants.{EntryShort}
 use Rattle.wire_base.specs.declared.addresses.LspId.{LspId}
 use Rattle.wire_base.specs.declared.triple.Summary.{Summary}
-use Rattle.wire_base.specs.model.Fields.{octets_at, octet_at, number_at}
-use Rattle.wire_base.specs.model.Tlv.{Tlv, tlv, tlv_at, row, row_at, lsp_id_at, SummaryFits, entries_of, rows_in, rows_of, tlvs_before}
-use Rattle.format_laws.proofs.FieldLaws.{bind_ok, ok_is, guard_ok, octet_shorter}
-use Rattle.format_laws.proofs.TlvLaws.{row_again, tlv_parts}
-use Rattle.format_laws.proofs.TlvListLaws.{entries_step, entries_end, row_shortens, before_step, before_end, before_fault}
+use Rattle.wire_base.specs.model.Tlv.{Tlv, tlv, tlv_at, row_at, then_entries, entries_within, entries_of, some_tlv, one_tlv_at, rows_in, rows_of}
+use Rattle.format_laws.proofs.TlvLaws.{tlv_parts}
 
--- one entry more
-pub entry_more : (rows new total : List Summary) (octets front rest : List ℕ) (s : Summary) → rows ++ entries_of row_at octets ≡ total → front ≡ take 16 octets → rest ≡ drop 16 octets → SummaryFits s × (front ≡ row s) → new ≡ rows ++ s ∷ [] → new ++ entries_of row_at rest ≡ total
-entry_more rows new total octets front rest s so is back found pushed =
-    let whole : octets ≡ row s ++ rest = sym (take-append-drop 16 octets) ∙ ap (λ (l : List ℕ). l ++ drop 16 octets) (sym is ∙ found.1) ∙ ap (λ (l : List ℕ). row s ++ l) (sym back) in
-    let read : row_at octets ≡ Ok (s, rest) = ap row_at whole ∙ row_again s rest found.0 in
-    let step = entries_step row_at row_shortens octets s rest read in
-    ap (λ (l : List Summary). l ++ entries_of row_at rest) pushed ∙ append_assoc rows (s ∷ []) (entries_of row_at rest) ∙ ap (λ (l : List Summary). rows ++ l) (sym step) ∙ so
+few_then : {X E : Type 0} (r : Result (X × List ℕ) E) (f : List ℕ → List X) (n : ℕ) → ((rest : List ℕ) → length (f rest) ≤ n) → length (then_entries r f) ≤ suc n
+few_then (Ok x) f n h = let l = h x.1 in omega arith
+few_then (Err e) f n h = omega arith
 
-fits : (a n : ℕ) → ltb a n ≡ false → n ≤ a
-fits a n h = elim (cases_lt a n) [
-  | inl lt ↦ absurd (true≢false (sym (lt-ltb a n lt) ∙ h))
-  | inr le ↦ le
-]
+few_within : {X E : Type 0} (read : List ℕ → Result (X × List ℕ) E) (n : ℕ) (octets : List ℕ) → length (entries_within read n octets) ≤ n
+unfolding entries_within
+few_within read zero octets = omega arith
+few_within read (suc n) octets = few_then (read octets) (entries_within read n) n (λ rest. few_within read n rest)
 
-number_long : (n : ℕ) (octets : List ℕ) (x : ℕ × List ℕ) → number_at EntryShort n octets ≡ Ok x → length x.1 + n ≤ length octets
-number_long n octets x e =
-    let g = guard_ok {E = TlvFault} (ltb (length octets) n) EntryShort (big_number n octets, drop n octets) x e in
-    let l = ap (λ (p : ℕ × List ℕ). length p.1) g.1 in
-    omega (arith, l, length-drop n octets, fits (length octets) n g.0)
+-- there are no more entries than octets
+entries_few : {X E : Type 0} (read : List ℕ → Result (X × List ℕ) E) (octets : List ℕ) → length (entries_of read octets) ≤ length octets
+unfolding entries_of
+entries_few read octets = few_within read (length octets) octets
 
-six_long : (octets : List ℕ) (x : List ℕ × List ℕ) → octets_at EntryShort 6 octets ≡ Ok x → length x.1 + 6 ≤ length octets
-six_long octets x e =
-    let g = guard_ok {E = TlvFault} (ltb (length octets) 6) EntryShort (take 6 octets, drop 6 octets) x e in
-    let l = ap (λ (p : List ℕ × List ℕ). length p.1) g.1 in
-    omega (arith, l, length-drop 6 octets, fits (length octets) 6 g.0)
-
-id_long : (octets : List ℕ) (x : LspId × List ℕ) → lsp_id_at EntryShort octets ≡ Ok x → length x.1 + 8 ≤ length octets
-id_long octets x e =
-    let a = bind_ok (octets_at EntryShort 6 octets) _ x e in
-    let b = bind_ok (octet_at EntryShort a.0.1) _ x a.2 in
-    let c = bind_ok (octet_at EntryShort b.0.1) _ x b.2 in
-    let s0 = six_long octets a.0 a.1 in
-    let s1 = octet_shorter EntryShort a.0.1 b.0 b.1 in
-    let s2 = octet_shorter EntryShort b.0.1 c.0 c.1 in
-    let last : c.0.1 ≡ x.1 = ap (λ (p : LspId × List ℕ). p.1) (ok_is {E = TlvFault} _ x c.2) in
-    let l = ap length last in
-    omega (arith, s0, s1, s2, l)
-
-row_long : (octets : List ℕ) (x : Summary × List ℕ) → row_at octets ≡ Ok x → 16 ≤ length octets
-unfolding row_at
-row_long octets x e =
-    let a = bind_ok (number_at EntryShort 2 octets) _ x e in
-    let b = bind_ok (lsp_id_at EntryShort a.0.1) _ x a.2 in
-    let c = bind_ok (number_at EntryShort 4 b.0.1) _ x b.2 in
-    let d = bind_ok (number_at EntryShort 2 c.0.1) _ x c.2 in
-    let s0 = number_long 2 octets a.0 a.1 in
-    let s1 = id_long a.0.1 b.0 b.1 in
-    let s2 = number_long 4 b.0.1 c.0 c.1 in
-    let s3 = number_long 2 c.0.1 d.0 d.1 in
-    omega (arith, s0, s1, s2, s3)
-
--- no entry where fewer octets are left
-pub entries_done : (rows total : List Summary) (octets : List ℕ) → length octets < 16 → rows ++ entries_of row_at octets ≡ total → rows ≡ total
-entries_done rows total octets short so = cases (row_at octets) refl
+few_in : (t : Tlv) → length (rows_in t) ≤ length t.value
+few_in t = by (t.code == 9) refl
   where
-    cases : (r : Result (Summary × List ℕ) TlvFault) → row_at octets ≡ r → rows ≡ total
-    cases (Ok x) e = absurd (omega (arith, short, row_long octets x e))
-    cases (Err f) e = sym (append-nil rows) ∙ ap (λ (l : List Summary). rows ++ l) (sym (entries_end row_at row_shortens octets f e)) ∙ so
+    by : (b : Bool) → (t.code == 9) ≡ b → length (rows_in t) ≤ length t.value
+    by true e = rw e (entries_few row_at t.value)
+    by false e = rw e (omega arith)
 
--- ---- TLVs
+rows_then : (r : Result (Option (Tlv × List ℕ)) TlvFault) (octets : List ℕ) (f : List ℕ → List Tlv) → tlv_at octets ≡ r → ((rest : List ℕ) → length (flat_map rows_in (f rest)) ≤ length rest) → length (flat_map rows_in (then_entries (some_tlv r) f)) ≤ length octets
+rows_then (Ok (Some x)) octets f e h =
+    let here = few_in x.0 in
+    let more = h x.1 in
+    let all = ap length (flat_map-cons rows_in x.0 (f x.1)) in
+    let parts = ap length (tlv_parts octets x.0 x.1 e) in
+    omega (arith, here, more, all, length-append (rows_in x.0) (flat_map rows_in (f x.1)), parts, length-append (tlv x.0) x.1)
+rows_then (Ok None) octets f e h = omega arith
+rows_then (Err fault) octets f e h = omega arith
 
-pub tlv_more : (rows new total : List Summary) (old rest : List ℕ) (t : Tlv) → rows ++ rows_of old ≡ total → tlv_at old ≡ Ok (Some (t, rest)) → new ≡ rows ++ rows_in t → new ++ rows_of rest ≡ total
-tlv_more rows new total old rest t so read is =
-    let step : rows_of old ≡ rows_in t ++ rows_of rest = ap (λ (ts : List Tlv). flat_map rows_in ts) (before_step old t rest read) in
-    ap (λ (l : List Summary). l ++ rows_of rest) is ∙ append_assoc rows (rows_in t) (rows_of rest) ∙ ap (λ (l : List Summary). rows ++ l) (sym step) ∙ so
+rows_within : (n : ℕ) (octets : List ℕ) → length (flat_map rows_in (entries_within one_tlv_at n octets)) ≤ length octets
+unfolding entries_within
+rows_within zero octets = omega arith
+rows_within (suc n) octets = rows_then (tlv_at octets) octets (entries_within one_tlv_at n) refl (λ rest. rows_within n rest)
 
-pub rows_listed : (rows new : List Summary) (t : Tlv) → (t.code == 9) ≡ true → new ≡ rows ++ entries_of row_at t.value → new ≡ rows ++ rows_in t
-rows_listed rows new t listed is = rw listed is
+rows_few : (octets : List ℕ) → length (rows_of octets) ≤ length octets
+unfolding entries_of
+rows_few octets = rows_within (length octets) octets
 
-pub rows_skipped : (rows : List Summary) (t : Tlv) → (t.code == 9) ≡ false → rows ≡ rows ++ rows_in t
-rows_skipped rows t other = rw other (sym (append-nil rows))
+-- ---- at the end of a walk
 
-pub tlvs_done : (rows total : List Summary) (old : List ℕ) → tlvs_before old ≡ [] → rows ++ rows_of old ≡ total → rows ≡ total
-tlvs_done rows total old none so = sym (append-nil rows) ∙ ap (λ (ts : List Tlv). rows ++ flat_map rows_in ts) (sym none) ∙ so
+-- those of a value were added
+pub added_few : (before now : List Summary) (octets : List ℕ) → now ≡ before ++ entries_of row_at octets → length now ≤ length before + length octets
+added_few before now octets is = let l = ap length is in omega (arith, l, length-append before (entries_of row_at octets), entries_few row_at octets)
 
-pub ends_there : (old : List ℕ) → tlv_at old ≡ Ok None → tlvs_before old ≡ []
-ends_there old e = before_end old e
+pub listed_few : (rows : List Summary) (octets : List ℕ) → rows ≡ rows_of octets → length rows ≤ length octets
+listed_few rows octets is = let l = ap length is in omega (arith, l, rows_few octets)
 
-pub fails_there : (old : List ℕ) (f : TlvFault) → tlv_at old ≡ Err f → tlvs_before old ≡ []
-fails_there old f e = before_fault old f e
-
-pub differs : (a b : ℕ) → (a ≡ b → ⊥) → eqb a b ≡ false
-differs a b h = cases (eqb a b) refl
-  where
-    cases : (t : Bool) → eqb a b ≡ t → eqb a b ≡ false
-    cases true e = absurd (h (exact_unsigned_eq a b e))
-    cases false e = e
+-- no more are left
+pub none_left : (rows more total : List Summary) → more ≡ [] → rows ++ more ≡ total → rows ≡ total
+none_left rows more total none so = sym (append-nil rows) ∙ ap (λ xs. rows ++ xs) (sym none) ∙ so
 
 -- marking changes no link
 pub marked_links : (f new : Flood) (id : LspId) → new ≡ mark_all f id → length new.up ≡ length f.up
 unfolding mark_all
 marked_links f new id is = ap (λ (g : Flood). length g.up) is
-
-pub walk_short : (old rest : List ℕ) (t : Tlv) → tlv_at old ≡ Ok (Some (t, rest)) → length t.value + length rest ≤ length old
-walk_short old rest t e = let l = ap length (tlv_parts old t rest e) in omega (arith, l, length-append (tlv t) rest)

@@ -6,8 +6,8 @@ ghost use Rattle.wire_base.specs.model.Tlv.{rows_of};
 ghost use Rattle.isis_flood.specs.Answers.{SnpDone};
 ghost use Rattle.isis_flood.specs.Kept.{NotLowered};
 
+use crate::entries::listed;
 use crate::flood::Flood;
-use crate::listed::listed;
 use lsp_store::{Store, is_same_id};
 use wire_base::{Entry, LspId, M, SnpOut, Summary};
 

@@ -4,14 +4,15 @@
 //! It stands on `lsp_store` and `isis_pdu`, and promises the rules of received PDUs on flags and database, row by row.
 #![tactic(auto)]
 
+mod entries;
 mod flood;
 mod lacking;
-mod listed;
 mod lsps;
 mod masks;
 mod snps;
 mod table;
 
+pub use entries::listed;
 pub use flood::Flood;
 pub use wire_base::{FloodOut, SnpOut};
 

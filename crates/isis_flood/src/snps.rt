@@ -8,8 +8,8 @@ ghost use Rattle.lsp_store.specs.Places.{is_new};
 ghost use Rattle.isis_flood.specs.Answers.{state_of, SnpDone, Becomes};
 ghost use Rattle.isis_flood.specs.Kept.{NotLowered};
 
+use crate::entries::listed;
 use crate::flood::Flood;
-use crate::listed::listed;
 use crate::lsps::{fragment_0, is_full};
 use lsp_store::{Store, purge};
 use std::alloc::Global;

@@ -10,7 +10,9 @@ pub mod IssuedLaws
 pub mod KeepLaws
 pub mod KeptLaws
 pub mod MergeLaws
+pub mod NotingLaws
 pub mod OwnLaws
 pub mod ReceivedLaws
+pub mod SaidLaws
 pub mod SendLaws
 pub mod StateLaws

@@ -24,6 +24,10 @@ is_confused Equal = false
 is_confused Older = false
 is_confused Confused = true
 
+-- a listed entry that is at odds with the database's of its identifier
+abbrev pub is_confusing : List Entry → Summary → Bool
+is_confusing entries s = is_confused (age_of (entry_in entries s.id) s)
+
 -- a listed entry of an identifier that is at odds with the database's
 abbrev pub is_at_odds : List Entry → LspId → Summary → Bool
 is_at_odds entries id s = same_id s.id id && is_confused (age_of (entry_in entries s.id) s)

@@ -36,7 +36,7 @@ impl Control {
         let effects = enter_packets(
             alloc,
             &self.conf,
-            &now.view,
+            now.view.view(),
             &mut now.routes,
             packets.as_slice(),
             ttl,

@@ -7,16 +7,15 @@ ghost use Rattle.wire_base.specs.model.Control.{IsDatabase, same_id};
 ghost use Rattle.wire_base.specs.model.Flooding.{is_live_summary};
 ghost use Rattle.wire_base.specs.model.Tlv.{rows_of};
 ghost use Rattle.lsp_store.specs.Places.{is_new};
-ghost use Rattle.router_core.specs.Forecast.{is_confused, is_at_odds, past_asked, spent_if, flags_issued, entries_issued, is_wanted, looked, count_full, IsReady};
+ghost use Rattle.router_core.specs.Forecast.{is_confused, is_confusing, is_at_odds, past_asked, spent_if, flags_issued, entries_issued, is_wanted, looked, count_full, IsReady};
 ghost use Rattle.router_core.specs.Own.{own_past};
 ghost use Rattle.router_core.specs.Received.{full_drop};
 
 use crate::control::Control;
 use crate::ends::seq_of;
-use crate::listed::listed;
 use crate::own::{fragment_0, issue_within, own_past, spent_past};
 use bier_forward::DropNote;
-use isis_flood::Flood;
+use isis_flood::{Flood, listed};
 use lsp_store::Store;
 use std::alloc::Global;
 use wire_base::limits::MOST_ENTRIES;
@@ -49,6 +48,20 @@ fn is_confused(age: Age) -> bool
         Age::Confused => true,
         Age::Unknown | Age::Newer | Age::Equal | Age::Older => false,
     }
+}
+
+/// Whether a listed entry is at odds with the database's of its identifier.
+fn is_confusing(store: &Store, s: &Summary) -> bool
+    ensures { result ≡ is_confusing store.now.entries s.now }
+{
+    is_confused(store.compare(s))
+}
+
+/// Whether one of a list is.
+pub(crate) fn any_confusing(store: &Store, rows: &[Summary]) -> bool
+    ensures { result ≡ list_any (is_confusing store.now.entries) rows.now }
+{
+    rows.iter().any(|s| is_confusing(store, s))
 }
 
 /// Whether a listed entry has an identifier, and is at odds with the database's.

@@ -33,7 +33,7 @@ impl Control {
                 let effects = hop_packet(
                     alloc,
                     &self.conf,
-                    &now.view,
+                    now.view.view(),
                     &mut now.routes,
                     &packet,
                     u16::from(packet.header.ttl),
@@ -59,7 +59,7 @@ impl Control {
         let effects = carry_on(
             self.allocator(),
             &self.conf,
-            &now.view,
+            now.view.view(),
             &mut now.routes,
             octets,
             tunnel,

@@ -12,7 +12,7 @@ mod forecast;
 mod frames;
 mod framing;
 mod kept;
-mod listed;
+mod noting;
 mod own;
 mod pdus;
 mod pending;

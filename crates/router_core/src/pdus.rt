@@ -136,15 +136,16 @@ impl Control {
         }
     }
 
-    /// A PDU, which may change the view: what is kept of it goes. Or all else is as it was.
+    /// A PDU, which may change what systems say: that is noted first. Or all else is as it was.
     fn take_pdu(&mut self, kept: &mut Option<Kept>, link: u16, pdu: Pdu<'_>) -> M<Effects>
         requires up { is_up self.old link ≡ true }
         requires short { HasRoom (pdu_of pdu) }
+        requires kept { MayKeep self.old kept.old }
         ensures next { IfOk result (λ e. record { control = self.new; effects = e } ≡ pdu_taken self.old link (pdu_of pdu.entry)) }
         ensures err { OnErr result (self.new ≡ self.old) }
         ensures kept { MayKeep self.new kept.new }
     {
-        *kept = None;
+        self.note_pdu(kept, pdu);
         self.flood_pdu(link, pdu)
     }
 

@@ -11,6 +11,7 @@ ghost use Rattle.router_core.specs.State.{IsRouter, IssuesAlone, is_up, counted}
 
 use crate::control::Control;
 use crate::kept::Kept;
+use crate::noting::note_own;
 use bier_forward::Effects;
 use lsp_store::Store;
 use std::alloc::Global;
@@ -21,8 +22,9 @@ use wire_base::{Bsl, EdgeFault, M, Memory, RouterConf, View};
 /// One router: its configuration, its database and what flooding keeps beside it, and how many frames it has taken.
 /// Contracts see its control state and that count.
 ///
-/// It also keeps the view by which it forwarded the last packet, with rows, tables and ways of that view. Its type keeps
-/// that these are of the view that its control state has now; whatever may change that view lets them go.
+/// It also keeps the view by which it forwarded the last packet, with rows, tables and ways of that view, and which systems
+/// may say something else since then. Its type keeps that all other systems say what they said, and that rows, tables and
+/// ways are of the kept view. The next packet renews the view, and where it is the same, they stay.
 #[derive(Drop)]
 pub struct Router {
     control: Control,
@@ -129,7 +131,7 @@ impl Router {
         ensures err { OnErr result (self.new ≡ self.old) }
         ensures heard { self.new.heard ≡ self.old.heard }
     {
-        self.kept = None;
+        self.control.note_second(&mut self.kept);
         self.control.tick()?;
         Ok(Effects::nothing(self.control.allocator()))
     }
@@ -180,7 +182,7 @@ impl Router {
         ensures err { OnErr result (self.new ≡ self.old) }
         ensures heard { self.new.heard ≡ self.old.heard }
     {
-        self.kept = None;
+        note_own(&mut self.kept);
         self.control.end_up(link)
     }
 
@@ -192,7 +194,7 @@ impl Router {
         ensures err { OnErr result (self.new ≡ self.old) }
         ensures heard { self.new.heard ≡ self.old.heard }
     {
-        self.kept = None;
+        note_own(&mut self.kept);
         self.control.end_down(link)
     }
 

@@ -28,7 +28,7 @@ use Rattle.wire_base.specs.model.View.{Link, greatest_metric, link_of, links_in,
 use Rattle.format_laws.proofs.FieldLaws.{bind_ok, ok_is, guarded}
 use Rattle.format_laws.proofs.TlvLaws.{some_is}
 use Rattle.view_graph.proofs.GraphLaws.{IsLink, HasApart, IsClaim, all_from, all_weaker, all_put, and_both, no_pairs}
-use Rattle.view_graph.proofs.WalkLaws.{filter_map-first}
+use Rattle.view_graph.proofs.ListLaws.{filter_map-first}
 
 -- ---- words on lists
 

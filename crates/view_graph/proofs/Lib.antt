@@ -10,4 +10,3 @@ pub mod OwnerLaws
 pub mod SameLaws
 pub mod SystemLaws
 pub mod ViewLaws
-pub mod WalkLaws

@@ -1,7 +1,8 @@
--- What a step of a loop adds.
-use Rattle.std.proofs.Common.{◌≡◌, ℕ, zero, suc, ◌+◌, ◌<◌, ◌==◌, ◌&&◌, ◌||◌, Bool, true, false, not, if◌then◌else◌, List, [], ◌∷◌, ◌++◌, length, get_or, take, map, filter, is_some, slice_get, Some, refl, sym, ap, ◌∙◌, arith, append-nil}
+-- Parts of lists, and what a step of a loop adds.
+use Rattle.std.proofs.Common.{◌≡◌, ℕ, zero, suc, ◌+◌, ◌<◌, ◌==◌, ◌&&◌, ◌||◌, Bool, true, false, not, if◌then◌else◌, List, [], ◌∷◌, ◌++◌, length, get_or, take, map, filter, is_some, slice_get, Option, Some, None, refl, sym, ap, ◌∙◌, arith, append-nil}
 use Rattle.std.proofs.Math.Seq.{take-suc}
-use Rattle.std.specs.List.{insert}
+use Rattle.std.specs.Prelude.{option_to_list}
+use Rattle.std.specs.List.{insert, filter_map}
 use Rattle.std.specs.Ordering.{is_lt}
 use Rattle.std.proofs.lemmas.List.{length-take-le, map-append}
 use Rattle.std.proofs.lemmas.Bool.{eqb-true, eq-eqb}
@@ -19,6 +20,14 @@ use Rattle.wire_base.specs.model.OwnLsp.{picked}
 use Rattle.wire_base.specs.model.Place.{kind_of}
 use Rattle.wire_base.specs.model.View.{Claim, Link, all_ranges, first_each, known_subs, end_link, with_known, put_claim, claim_of, is_other, own_claim, claims_of, edges_from, own_subs, node_of}
 use Rattle.view_graph.specs.Places.{has_sd, place_before}
+
+-- the first of those that are kept
+pub filter_map-first : {X Y : Type 0} (h : X → Option Y) (x : X) (xs : List X) → filter_map h (x ∷ xs) ≡ option_to_list (h x) ++ filter_map h xs
+filter_map-first {X} {Y} h x xs = by (h x) refl
+  where
+    by : (o : Option Y) → h x ≡ o → filter_map h (x ∷ xs) ≡ option_to_list o ++ filter_map h xs
+    by None e = rw e refl
+    by (Some y) e = rw e refl
 
 -- one more at the end of both
 pub picked_more : {X : Type 0} (bs : List Bool) (xs : List X) (b : Bool) (x : X) → length bs ≡ length xs → picked (bs ++ b ∷ []) (xs ++ x ∷ []) ≡ picked bs xs ++ (if b then x ∷ [] else [])

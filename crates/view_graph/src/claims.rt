@@ -13,7 +13,6 @@ ghost use Rattle.view_graph.specs.Places.{place_before};
 use crate::known::known_subs;
 use crate::links::{Link, append_links};
 use crate::places::append_places;
-use crate::walks::next_tlv;
 use isis_tlv::{Tlv, TlvWalk};
 use std::alloc::Global;
 use std::marker::Model;
@@ -70,9 +69,10 @@ fn add_content(claim: &mut Claim, content: &[u8]) -> M<()>
     ensures system { claim.new.system ≡ claim.old.system }
     ensures overload { claim.new.overload ≡ claim.old.overload }
 {
-    let mut walk = TlvWalk::new(content);
-    'tlvs: while let Some(tlv) = next_tlv(&mut walk) {
-        add_tlv(claim, tlv)?;
+    for part in TlvWalk::new(content) {
+        if let Ok(tlv) = part {
+            add_tlv(claim, tlv)?;
+        }
     }
     Ok(())
 }

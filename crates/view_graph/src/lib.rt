@@ -16,7 +16,6 @@ mod places;
 mod same;
 #[cfg(test)]
 mod tests;
-mod walks;
 
 pub use keep::ViewKeep;
 pub use nodes::{supports, view};

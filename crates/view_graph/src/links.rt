@@ -5,8 +5,7 @@ ghost use Rattle.wire_base.specs.model.Tlv.{entries_of, reach_at};
 ghost use Rattle.wire_base.specs.model.View.{link_of};
 ghost use Rattle.isis_tlv.specs.Views.{reach_of};
 
-use crate::walks::next_reach;
-use isis_tlv::Reach;
+use isis_tlv::{Reach, ReachWalk};
 use std::marker::Model;
 use wire_base::{M, Rows, SystemId};
 
@@ -52,10 +51,10 @@ fn append_link(links: &mut Rows<Link>, reach: &Reach<'_>) -> M<()>
 pub(crate) fn append_links(links: &mut Rows<Link>, value: &[u8]) -> M<()>
     ensures { OnOk result (links.new ≡ links.old ++ filter_map link_of (entries_of reach_at value.now)) }
 {
-    let mut rest = value;
-    'entries: while let Some((reach, after)) = next_reach(rest) {
-        append_link(links, &reach)?;
-        rest = after;
+    for entry in ReachWalk::new(value) {
+        if let Ok(reach) = entry {
+            append_link(links, &reach)?;
+        }
     }
     Ok(())
 }

@@ -6,9 +6,8 @@ ghost use Rattle.wire_base.specs.model.View.{sub_of, sub_at, subs_of};
 ghost use Rattle.isis_tlv.specs.Views.{item, prefix_of};
 ghost use Rattle.bier_subtlv.specs.Views.{info_of};
 
-use crate::walks::{next_prefix, next_tlv};
 use bier_subtlv::{Info, read_info};
-use isis_tlv::{PrefixEntry, Tlv, TlvWalk};
+use isis_tlv::{PrefixEntry, PrefixWalk, Tlv, TlvWalk};
 use std::alloc::Global;
 use wire_base::{Ipv4, M, Rows, ViewSub};
 
@@ -43,9 +42,10 @@ fn append_sub(subs: &mut Rows<ViewSub>, prefix: [u8; 4], tlv: Tlv<'_>) -> M<()>
 fn append_infos(subs: &mut Rows<ViewSub>, prefix: [u8; 4], octets: &[u8]) -> M<()>
     ensures { OnOk result (subs.new ≡ subs.old ++ filter_map (sub_at prefix) (tlvs_before octets.now)) }
 {
-    let mut walk = TlvWalk::new(octets);
-    'parts: while let Some(tlv) = next_tlv(&mut walk) {
-        append_sub(subs, prefix, tlv)?;
+    for part in TlvWalk::new(octets) {
+        if let Ok(tlv) = part {
+            append_sub(subs, prefix, tlv)?;
+        }
     }
     Ok(())
 }
@@ -66,10 +66,10 @@ fn append_prefix(subs: &mut Rows<ViewSub>, entry: &PrefixEntry<'_>) -> M<()>
 pub(crate) fn append_places(subs: &mut Rows<ViewSub>, value: &[u8]) -> M<()>
     ensures { OnOk result (subs.new ≡ subs.old ++ flat_map subs_of (entries_of prefix_at value.now)) }
 {
-    let mut rest = value;
-    'entries: while let Some((entry, after)) = next_prefix(rest) {
-        append_prefix(subs, &entry)?;
-        rest = after;
+    for entry in PrefixWalk::new(value) {
+        if let Ok(prefix) = entry {
+            append_prefix(subs, &prefix)?;
+        }
     }
     Ok(())
 }

@@ -1,6 +1,23 @@
+ghost use Rattle.std.proofs.Common.{rules};
+ghost use Rattle.std.specs.Cmp.Rules.{comparing};
+ghost use Rattle.std.specs.Str.{bytes_eq};
+
 /// The system identifier of an IS-IS router: six octets (ISO/IEC 10589, 7.1).
-#[derive(Clone, Copy, Debug, Default, PartialEq, Eq, PartialOrd, Ord)]
+#[derive(Clone, Copy, Debug, Default, Eq, PartialOrd, Ord)]
 pub struct SystemId(pub [u8; 6]);
+
+impl PartialEq for SystemId {
+    ghost eq = { λ a b. bytes_eq a.0 b.0 };
+
+    ghost laws = { Prim.search (comparing, rules) };
+
+    // The last octets are compared first, in which the systems of a network mostly differ.
+    fn eq(&self, other: &SystemId) -> bool {
+        let [a0, a1, a2, a3, a4, a5] = self.0;
+        let [b0, b1, b2, b3, b4, b5] = other.0;
+        a5 == b5 && a4 == b4 && a3 == b3 && a2 == b2 && a1 == b1 && a0 == b0
+    }
+}
 
 /// An Ethernet address: six octets (IEEE 802.3, 3.2.3).
 #[derive(Clone, Copy, Debug, Default, PartialEq, Eq, PartialOrd, Ord)]

@@ -7,4 +7,4 @@ use Rattle.router_core.proofs.control.Control.inject.Goals as goal
 
 pub enter_packets-requires-clause-ends : goal.enter_packets-requires-clause-ends
 enter_packets-requires-clause-ends c =
-    subst (λ (g : List ViewNode). LeadsToEnds c.self.inside.conf g) (ap control_view c.self.view_is ∙ sym c.in_ok-now.ensures.view) (own_edges c.self.inside.conf c.self.inside.flood.flood.up c.self.inside.store.entries)
+    subst (λ (g : List ViewNode). LeadsToEnds c.self.inside.conf g) (ap control_view c.self.view_is ∙ sym c.in_ok-now.ensures.view ∙ sym c.view.ensures) (own_edges c.self.inside.conf c.self.inside.flood.flood.up c.self.inside.store.entries)

@@ -7,4 +7,4 @@ use Rattle.router_core.proofs.control.Control.on_packet.Goals as goal
 
 pub hop_packet-requires-clause-ends : goal.hop_packet-requires-clause-ends
 hop_packet-requires-clause-ends c =
-    subst (λ (g : List ViewNode). LeadsToEnds c.self.inside.conf g) (ap control_view c.self.view_is ∙ sym c.in_ok-now-in-Ok.ensures.view) (own_edges c.self.inside.conf c.self.inside.flood.flood.up c.self.inside.store.entries)
+    subst (λ (g : List ViewNode). LeadsToEnds c.self.inside.conf g) (ap control_view c.self.view_is ∙ sym c.in_ok-now-in-Ok.ensures.view ∙ sym c.view.ensures) (own_edges c.self.inside.conf c.self.inside.flood.flood.up c.self.inside.store.entries)

@@ -1,0 +1,49 @@
+//! The entries that a sequence numbers PDU lists (ISO/IEC 10589, 9.10).
+ghost use Rattle.std.specs.Prelude.{◌≡◌, ◌≤◌, ◌+◌, ◌++◌, length, IfOk, OnOk};
+ghost use Rattle.wire_base.specs.model.Tlv.{row_at, entries_of, rows_in, rows_of};
+ghost use Rattle.isis_tlv.specs.Views.{item};
+
+use isis_tlv::{SummaryWalk, Tlv, TlvWalk};
+use std::alloc::Global;
+use wire_base::{M, Rows, Summary};
+
+/// The code of the TLVs that list entries.
+const ENTRIES: u8 = 9;
+
+/// Appends the entries of the value of such a TLV; octets that are none end them.
+fn append_entries(rows: &mut Rows<Summary>, value: &[u8]) -> M<()>
+    ensures ok { OnOk result (rows.new ≡ rows.old ++ entries_of row_at value.now) }
+    ensures few { OnOk result (length rows.new ≤ length rows.old + length value.now) }
+{
+    for entry in SummaryWalk::new(value) {
+        if let Ok(summary) = entry {
+            rows.push(summary)?;
+        }
+    }
+    Ok(())
+}
+
+/// Appends the entries that a TLV lists.
+fn append_listed(rows: &mut Rows<Summary>, tlv: Tlv<'_>) -> M<()>
+    ensures { OnOk result (rows.new ≡ rows.old ++ rows_in (item tlv.entry)) }
+{
+    if tlv.code == ENTRIES {
+        append_entries(rows, tlv.value)
+    } else {
+        Ok(())
+    }
+}
+
+/// The entries that those TLVs list, in order; an overrun ends them.
+pub fn listed(alloc: Global, tlvs: &[u8]) -> M<Rows<Summary>>
+    ensures rows { IfOk result (λ rows. rows ≡ rows_of tlvs.now) }
+    ensures few { IfOk result (λ rows. length rows ≤ length tlvs.now) }
+{
+    let mut rows = Rows::new(alloc);
+    for tlv in TlvWalk::new(tlvs) {
+        if let Ok(tlv) = tlv {
+            append_listed(&mut rows, tlv)?;
+        }
+    }
+    Ok(rows)
+}
