@@ -1,12 +1,10 @@
 //! The BIFT-id by which a router knows the packets of a triple (RFC 8279, 6.9; RFC 8401, 6.2).
 ghost use Rattle.std.specs.Prelude.{◌≡◌, ◌<◌, ◌+◌, ◌%◌, ◌^◌, nat_le, Some, None, if◌then◌else◌, IfSome, option_map};
-ghost use Rattle.wire_base.specs.model.Graph.{node_bift, place_in};
+ghost use Rattle.wire_base.specs.model.Graph.{node_bift};
 ghost use Rattle.wire_base.specs.model.Place.{label_in, row_in, same_triple};
 ghost use Rattle.bier_forward.specs.Hops.{bift_toward, node_in};
 
-use wire_base::{
-    Kind, LabelRange, RouterConf, SystemId, TableRow, Triple, ViewNode, ViewSub, kind_of,
-};
+use wire_base::{Kind, LabelRange, RouterConf, SystemId, TableRow, Triple, ViewNode, kind_of};
 
 /// The BIFT-id that a system's node gives the triple: the lowest 20 bits of it, which a header has room for.
 pub(crate) fn bift_at(
@@ -37,22 +35,11 @@ fn node_of(nodes: &[ViewNode], system: SystemId) -> Option<&ViewNode>
 fn node_bift(conf: &RouterConf, triple: Triple, node: &ViewNode) -> Option<u32>
     ensures { result ≡ option_map (λ bift. bift % 2 ^ 20) (node_bift conf.now.kinds conf.now.table triple node.now) }
 {
-    let sub = place_in(node.subs.as_slice(), triple.sd)?;
+    let sub = node.place_in(triple.sd)?;
     match kind_of(conf.kinds.as_slice(), triple.sd)? {
         Kind::Mpls => label_in(sub.ranges.as_slice(), triple),
         Kind::Configured => row_in(conf.table.as_slice(), triple),
     }
-}
-
-fn place_in(subs: &[ViewSub], sd: u8) -> Option<&ViewSub>
-    ensures { option_map (λ s. s.now) result ≡ place_in subs.now sd }
-{
-    for sub in subs {
-        if sub.sd == sd {
-            return Some(sub);
-        }
-    }
-    None
 }
 
 /// The label of the triple's set in the range of its length.

@@ -4,7 +4,7 @@ ghost use Rattle.wire_base.specs.model.Place.{bits_of};
 ghost use Rattle.wire_base.specs.model.BierHeader.{header_length};
 ghost use Rattle.wire_base.specs.model.Ethernet.{ethernet, ip_type};
 ghost use Rattle.wire_base.specs.model.Item.{bier_frame, ip_frame};
-ghost use Rattle.wire_base.specs.model.Tunnel.{protocol_of, tunnel};
+ghost use Rattle.wire_base.specs.model.Tunnel.{tunnel};
 ghost use Rattle.bier_bits.specs.Sets.{is_width};
 ghost use Rattle.bier_forward.specs.Hops.{copy_head, copy_octets, frame_in};
 ghost use Rattle.bier_forward.specs.Packets.{IsShort};
@@ -16,11 +16,9 @@ use bier_head::write_copy;
 use gre_ip::{Tunnel, write_tunnel};
 use link_frame::write_eth;
 use std::alloc::Global;
+use wire_base::ethernet::{FRAME_HEAD, IP_TYPE};
 use wire_base::limits::MOST_FRAME;
 use wire_base::{End, Ipv4, Kind, M, Octets, RouterConf};
-
-/// The type of a frame that carries IPv4 (RFC 894).
-const IP_TYPE: u16 = 0x0800;
 
 /// The TTL with which a tunnel begins.
 const OUTER_TTL: u8 = 255;
@@ -63,20 +61,20 @@ fn bare_frame(alloc: Global, end: End, kind: Kind, head: &[u8], payload: &[u8]) 
     requires { length head.now + length payload.now ≤ MOST_FRAME }
     ensures { IfOk result (λ frame. frame ≡ bier_frame end.peer_mac end.own_mac kind (head.now ++ payload.now)) }
 {
-    let mut ethernet = [0; 14];
-    write_eth(&mut ethernet, end.peer_mac, end.own_mac, protocol_of(kind));
-    let mut frame = Octets::with_room(alloc, 14 + head.len() + payload.len())?;
+    let mut ethernet = [0; FRAME_HEAD];
+    write_eth(&mut ethernet, end.peer_mac, end.own_mac, kind.protocol());
+    let mut frame = Octets::with_room(alloc, FRAME_HEAD + head.len() + payload.len())?;
     frame.append(&ethernet)?;
     frame.append_two(head, payload)?;
     Ok(frame)
 }
 
 /// The first 14 octets of a frame with IPv4 on an end.
-pub(crate) fn ip_head(end: End) -> [u8; 14]
+pub(crate) fn ip_head(end: End) -> [u8; FRAME_HEAD]
     ensures octets { result ≡ ethernet end.peer_mac.0 end.own_mac.0 ip_type }
     ensures len { length result ≡ 14 }
 {
-    let mut octets = [0; 14];
+    let mut octets = [0; FRAME_HEAD];
     write_eth(&mut octets, end.peer_mac, end.own_mac, IP_TYPE);
     octets
 }
@@ -126,14 +124,4 @@ fn write_head<const W: usize>(
     ensures { out.new ≡ copy_head packet.now bift set.now ttl }
 {
     write_copy(&packet.header, bift, ttl, set, out);
-}
-
-/// The type of a frame that carries a packet.
-fn protocol_of(kind: Kind) -> u16
-    ensures { result ≡ protocol_of kind }
-{
-    match kind {
-        Kind::Mpls => 0x8847,
-        Kind::Configured => 0xab37,
-    }
 }

@@ -16,6 +16,7 @@ use crate::ways::{build, end_at};
 use bier_tunnel::{Fib, Next};
 use gre_ip::{Tunnel, write_onward};
 use std::alloc::Global;
+use wire_base::ethernet::FRAME_HEAD;
 use wire_base::{Cause, End, M, Octets, RouterConf, Sent, View};
 
 /// What a router does with a tunnel packet for another router, by a view of its domain: it sends it on toward the router
@@ -124,5 +125,5 @@ fn write_behind(frame: &mut [u8], ttl: u8)
     requires whole { total_of (drop 14 frame.old) ≤ length (drop 14 frame.old) }
     ensures { frame.new ≡ take 14 frame.old ++ (tunnel_on (drop 14 frame.old) ttl ++ drop (total_of (drop 14 frame.old)) (drop 14 frame.old)) }
 {
-    write_onward(&mut frame[14..], ttl);
+    write_onward(&mut frame[FRAME_HEAD..], ttl);
 }

@@ -14,7 +14,7 @@ ghost use Rattle.bier_tunnel.specs.Ways.{AreWays, link_to, link_with, next_of, p
 
 use crate::first_steps::first_steps;
 use crate::next::{Next, next_of};
-use crate::ways::{Way, has_prefix, is_system, prefix_in, ways_from};
+use crate::ways::{Way, has_prefix, prefix_in, ways_from};
 use gre_ip::Tunnel;
 use path_tree::distances_from;
 use std::alloc::Global;
@@ -117,7 +117,7 @@ impl Fib {
         ensures { option_map (λ w. w.now) result ≡ way_of self.now target }
     {
         for way in self.ways.as_slice() {
-            if is_system(way.system, target) {
+            if way.system == target {
                 return Some(way);
             }
         }

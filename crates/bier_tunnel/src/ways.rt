@@ -1,11 +1,10 @@
 //! The way from a router to each node of its view.
 ghost use Rattle.std.specs.Prelude.{◌≡◌, ◌≤◌, ◌==◌, ℕ, Option, None, IfOk, length, map, option_and_then, slice_get, slice_index_or};
 ghost use Rattle.std.specs.Str.{bytes_eq};
-ghost use Rattle.wire_base.specs.model.Choice.{end_toward, is_system};
 ghost use Rattle.bier_tunnel.specs.Ways.{end_of, has_prefix, own_prefix, prefix_in, ways_from};
 
 use std::alloc::Global;
-use wire_base::{End, Ipv4, M, Rows, SystemId, ViewNode, ViewSub};
+use wire_base::{End, Ipv4, M, Rows, SystemId, ViewNode, ViewSub, end_toward};
 
 /// A BFR-prefix, and the subdomain in which a router advertises it.
 #[derive(Clone, Copy, Debug, PartialEq, Eq)]
@@ -51,25 +50,6 @@ fn end_of(ends: &[End], nodes: &[ViewNode], step: Option<u16>) -> Option<u16>
 {
     let node = nodes.get(usize::from(step?))?;
     end_toward(ends, node.system)
-}
-
-/// The place of the first end whose peer is that system.
-fn end_toward(ends: &[End], system: SystemId) -> Option<u16>
-    requires { length ends.now ≤ 65536 }
-    ensures { result ≡ end_toward ends.now system }
-{
-    for place in 0..ends.len() {
-        if is_system(ends[place].peer, system) {
-            return Some(place as u16);
-        }
-    }
-    None
-}
-
-pub(crate) fn is_system(a: SystemId, b: SystemId) -> bool
-    ensures { result ≡ is_system a b }
-{
-    a == b
 }
 
 fn prefixes_of(alloc: Global, subs: &[ViewSub]) -> M<Rows<SubPrefix>>

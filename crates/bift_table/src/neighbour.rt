@@ -1,13 +1,12 @@
 ghost use Rattle.std.specs.Prelude.{◌≡◌, ◌≤◌, ◌<◌, ◌*◌, IsTrue, IfOk, MatchOption, length, map, true, false};
 ghost use Rattle.std.specs.List.{list_any};
-ghost use Rattle.std.specs.Str.{bytes_eq};
 ghost use Rattle.bier_bits.specs.Sets.{is_width};
 ghost use Rattle.bift_table.specs.Neighbours.{given, number_in};
 ghost use Rattle.bift_table.specs.Bift.{same_router, same_end};
 
 use bier_bits::BitString;
 use std::alloc::Global;
-use wire_base::{First, M, SystemId};
+use wire_base::{First, M};
 
 // A router to which bits are sent, and the positions of these bits.
 #[derive(Drop)]
@@ -64,16 +63,7 @@ fn find_number<const W: usize>(neighbours: &[Neighbour<W>], to: First) -> Option
 fn is_same_router(a: First, b: First) -> bool
     ensures { result ≡ same_router a b }
 {
-    is_same_end(a.direct, b.direct) && is_same_system(a.system, b.system)
-}
-
-// The last octets are compared first, in which the systems of a domain mostly differ.
-fn is_same_system(a: SystemId, b: SystemId) -> bool
-    ensures { result ≡ bytes_eq a.0 b.0 }
-{
-    let [a0, a1, a2, a3, a4, a5] = a.0;
-    let [b0, b1, b2, b3, b4, b5] = b.0;
-    a5 == b5 && a4 == b4 && a3 == b3 && a2 == b2 && a1 == b1 && a0 == b0
+    is_same_end(a.direct, b.direct) && a.system == b.system
 }
 
 fn is_same_end(a: Option<u16>, b: Option<u16>) -> bool

@@ -2,10 +2,10 @@
 ghost use Rattle.std.specs.Prelude.{◌≡◌, ◌<◌, ◌≤◌, ◌==◌, ◌&&◌, None, Some, length, slice_index_or, if◌then◌else◌};
 ghost use Rattle.std.specs.List.{list_any};
 ghost use Rattle.wire_base.specs.model.Graph.{edges_of};
-ghost use Rattle.wire_base.specs.model.Choice.{end_toward, first_at, is_direct, is_length, is_system};
+ghost use Rattle.wire_base.specs.model.Choice.{end_toward, first_at, is_direct, is_length};
 ghost use Rattle.path_tree.specs.Ways.{AreDistsFrom};
 
-use wire_base::{End, First, SystemId, ViewEdge, ViewNode};
+use wire_base::{End, First, SystemId, ViewEdge, ViewNode, end_toward};
 
 /// The node's system, and the place of the end where it is reached directly from `u`.
 pub(crate) fn first_of(
@@ -78,23 +78,4 @@ fn is_length(edge: ViewEdge, node: u16, length: Option<u64>) -> bool
         Some(length) => edge.to == node && length == edge.metric as u64,
         None => false,
     }
-}
-
-/// The place of the first end whose peer is that system.
-fn end_toward(ends: &[End], system: SystemId) -> Option<u16>
-    requires { length ends.now ≤ 65536 }
-    ensures { result ≡ end_toward ends.now system }
-{
-    for place in 0..ends.len() {
-        if is_system(ends[place].peer, system) {
-            return Some(place as u16);
-        }
-    }
-    None
-}
-
-fn is_system(a: SystemId, b: SystemId) -> bool
-    ensures { result ≡ is_system a b }
-{
-    a == b
 }

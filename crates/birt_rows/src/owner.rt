@@ -1,13 +1,13 @@
 //! The owners of BFR-ids.
 ghost use Rattle.std.specs.Prelude.{◌≡◌, ◌<◌, ◌≤◌, ◌==◌, ◌-◌, ◌||◌, nat_lt, ℕ, IfOk, IfSome, length, filter, option_map, slice_index_or, if◌then◌else◌};
 ghost use Rattle.std.specs.List.{range_with_len};
-ghost use Rattle.wire_base.specs.model.Graph.{IsGraph, has_id_at, place_in};
+ghost use Rattle.wire_base.specs.model.Graph.{IsGraph, has_id_at};
 ghost use Rattle.wire_base.specs.model.Place.{bits_of, id_at};
 ghost use Rattle.birt_rows.specs.declared.owner.Found.TheVariants.{Nobody};
 ghost use Rattle.birt_rows.specs.Owner.{counted, found_in, node_position, one_more, only_one, owner_among};
 
 use std::alloc::Global;
-use wire_base::{M, Triple, ViewNode, ViewSub};
+use wire_base::{M, Triple, ViewNode};
 
 /// Those who have an id, as far as it matters whether one of them owns it.
 #[derive(Clone, Copy)]
@@ -45,21 +45,10 @@ fn nobody(alloc: Global, count: u16) -> M<Vec<Found>>
 fn node_position(node: &ViewNode, t: Triple) -> Option<u16>
     ensures { result ≡ node_position t node.now }
 {
-    match place_in(node.subs.as_slice(), t.sd) {
+    match node.place_in(t.sd) {
         Some(sub) => t.place(sub.id),
         None => None,
     }
-}
-
-fn place_in(subs: &[ViewSub], sd: u8) -> Option<&ViewSub>
-    ensures { option_map (λ s. s.now) result ≡ place_in subs.now sd }
-{
-    for sub in subs {
-        if sub.sd == sd {
-            return Some(sub);
-        }
-    }
-    None
 }
 
 /// Counts one more who has the id of a position.

@@ -2,13 +2,12 @@
 ghost use Rattle.std.specs.Prelude.{◌≡◌, ◌≤◌, length, slice_get, option_map, IfSome};
 ghost use Rattle.std.specs.List.{AllByRecursion};
 ghost use Rattle.std.specs.Str.{bytes_eq};
-ghost use Rattle.wire_base.specs.model.Choice.{end_toward, is_system};
 ghost use Rattle.wire_base.specs.model.Configuration.{IsSound, IsValid};
 ghost use Rattle.wire_base.specs.model.Item.{router_with};
 ghost use Rattle.domain_model.specs.World.{place_of, end_at, peer_place, link_between};
 
 use wire_base::limits::MOST_ROUTERS;
-use wire_base::{Domain, End, Ipv4, RouterConf, SystemId};
+use wire_base::{Domain, End, Ipv4, RouterConf, SystemId, end_toward};
 
 /// The configurations of a domain's routers, by place.
 pub fn confs_of(domain: &Domain) -> &[RouterConf]
@@ -42,28 +41,6 @@ fn end_at(ends: &[End], link: u16) -> Option<End>
     }
 }
 
-/// The place of the first end whose peer is that system.
-fn end_toward(ends: &[End], system: SystemId) -> Option<u16>
-    requires { length ends.now ≤ 65536 }
-    ensures { result ≡ end_toward ends.now system }
-{
-    for place in 0..ends.len() {
-        if is_system(ends[place].peer, system) {
-            return Some(place as u16);
-        }
-    }
-    None
-}
-
-/// Systems of a domain mostly differ in their last octets, so these are looked at first.
-fn is_system(a: SystemId, b: SystemId) -> bool
-    ensures { result ≡ is_system a b }
-{
-    let [a0, a1, a2, a3, a4, a5] = a.0;
-    let [b0, b1, b2, b3, b4, b5] = b.0;
-    a5 == b5 && a4 == b4 && a3 == b3 && a2 == b2 && a1 == b1 && a0 == b0
-}
-
 /// The end of a router that leads to another, where a link joins the two.
 pub(crate) fn link_between(confs: &[RouterConf], from: u16, to: u16) -> Option<u16>
     requires { AllByRecursion IsSound confs.now }
@@ -80,7 +57,7 @@ fn place_of(confs: &[RouterConf], system: SystemId) -> u16
     ensures { result ≡ place_of confs.now system }
 {
     for place in 0..confs.len() {
-        if is_system(confs[place].system, system) {
+        if confs[place].system == system {
             return place as u16;
         }
     }

@@ -8,6 +8,7 @@ use Rattle.wire_base.specs.model.Faults.{edge_number, edge_name}
 use Rattle.replay_text.specs.Fault.{rule_text}
 use Rattle.replay_text.specs.Ids.{ids_text}
 use Rattle.replay_text.specs.Payload.{payload_text}
+use Rattle.replay_text.specs.Report.{line_of, cause_text}
 use Rattle.domain_conf.specs.declared.fault.ConfFault.{ConfFault}
 use Rattle.domain_conf.specs.Fault as conf
 use Rattle.domain_model.specs.declared.fault.EventFault.{EventFault}
@@ -15,13 +16,6 @@ use Rattle.domain_model.specs.declared.fault.EventFault.TheVariants as event
 use Rattle.domain_model.specs.declared.lines.GotLine.{GotLine}
 use Rattle.domain_model.specs.declared.lines.DropLine.{DropLine}
 use Rattle.domain_replay.specs.declared.counts.Counts.{Counts}
-use Rattle.domain_replay.specs.Causes.{cause_text}
-
--- A line is words with a blank between them, and LF.
-abbrev pub line_of : List (List ℕ) → List ℕ
-line_of [] = 10 ∷ []
-line_of (word ∷ []) = word ++ 10 ∷ []
-line_of (word ∷ next ∷ more) = word ++ 32 ∷ line_of (next ∷ more)
 
 -- ---- what an event did
 

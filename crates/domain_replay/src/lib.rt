@@ -6,7 +6,6 @@
 
 mod asked;
 mod capture;
-mod cause;
 mod counts;
 mod direction;
 mod laws;
@@ -16,7 +15,6 @@ mod replay;
 mod texts;
 
 pub use capture::push_frames;
-pub use cause::push_cause;
 pub use counts::Counts;
 pub use laws::{a_start_is_told, each_line_is_told};
 pub use lines::{push_done, push_event};

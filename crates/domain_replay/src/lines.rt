@@ -1,16 +1,13 @@
 //! The lines of a report: what each event delivered and dropped, and the last line.
 ghost use Rattle.std.specs.Prelude.{◌≡◌, ◌++◌, ◌∷◌, [], IfOk, OnOk, OnErr, flat_map};
 ghost use Rattle.std.specs.Fmt.{decimal};
-ghost use Rattle.replay_text.specs.Ids.{ids_text};
-ghost use Rattle.domain_replay.specs.Causes.{cause_text};
 ghost use Rattle.domain_replay.specs.Lines as spec;
 
-use crate::cause::push_cause;
 use crate::counts::Counts;
 use domain_core::{DropLine, GotLine, StepOut};
-use replay_text::{push_ids, push_payload};
+use replay_text::{push_loss, push_number, push_payload};
 use std::alloc::Global;
-use wire_base::{Cause, M, Octets, RouterConf};
+use wire_base::{M, Octets, RouterConf};
 
 /// The name of the router at a place; none of another place.
 fn name_at(routers: &[RouterConf], place: u16) -> &[u8]
@@ -29,14 +26,6 @@ fn push_front(out: &mut Octets, line: u32, what: &[u8], router: &[u8]) -> M<()>
     out.append_number(u64::from(line))?;
     out.append(what)?;
     out.append(router)?;
-    out.push(b' ')
-}
-
-/// Appends a number, with a blank behind.
-fn push_number(out: &mut Octets, number: u32) -> M<()>
-    ensures { OnOk result (out.new ≡ out.old ++ (decimal number ++ 32 ∷ [])) }
-{
-    out.append_number(u64::from(number))?;
     out.push(b' ')
 }
 
@@ -59,16 +48,6 @@ fn push_injection(out: &mut Octets, injection: Option<u32>) -> M<()>
         None => out.push(b'-'),
         Some(number) => out.append_number(u64::from(number)),
     }
-}
-
-/// Appends a cause and BFR-ids, which end a line.
-fn push_loss(out: &mut Octets, cause: &Cause, ids: &[u16]) -> M<()>
-    ensures { OnOk result (out.new ≡ out.old ++ (cause_text cause.now ++ 32 ∷ (ids_text ids.now ++ 10 ∷ []))) }
-{
-    push_cause(out, cause)?;
-    out.push(b' ')?;
-    push_ids(out, ids)?;
-    out.push(b'\n')
 }
 
 /// Appends the line of a drop.

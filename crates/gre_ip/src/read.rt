@@ -6,6 +6,7 @@ ghost use Rattle.gre_ip.specs.Tunnels.{packet_of, HasPlaces};
 use crate::checksum::is_right_header;
 use crate::tunnel::Tunnel;
 use byteorder::{BigEndian, ByteOrder};
+use wire_base::ethernet::{BIER_TYPE, MPLS_TYPE};
 use wire_base::{IpFault, Ipv4, Kind};
 
 /// The protocol number of GRE in IPv4 (RFC 2784, 3).
@@ -89,8 +90,8 @@ fn gre_in(bytes: &[u8]) -> Result<Tunnel, IpFault>
         return Err(IpFault::GreFlags);
     }
     match BigEndian::read_u16(&bytes[22..]) {
-        0x8847 => Ok(tunnel_of(Kind::Mpls, bytes)),
-        0xab37 => Ok(tunnel_of(Kind::Configured, bytes)),
+        MPLS_TYPE => Ok(tunnel_of(Kind::Mpls, bytes)),
+        BIER_TYPE => Ok(tunnel_of(Kind::Configured, bytes)),
         _ => Err(IpFault::GreType),
     }
 }

@@ -1,6 +1,6 @@
 ghost use Rattle.std.specs.Prelude.{◌≡◌, ◌≤◌, ◌<◌, ◌+◌, ◌-◌, ◌++◌, ℕ, List, length, take, drop, Ok};
 ghost use Rattle.arrayvec.specs.ArrayVec.{array_vec_len};
-ghost use Rattle.wire_base.specs.model.Tunnel.{TunnelPacket, TunnelFits, tunnel, tunnel_head, tunnel_at, ip_header, plain_ip, protocol_of};
+ghost use Rattle.wire_base.specs.model.Tunnel.{TunnelPacket, TunnelFits, tunnel, tunnel_head, tunnel_at, ip_header, plain_ip};
 ghost use Rattle.gre_ip.specs.Tunnels.{packet_with, held_at};
 
 use crate::checksum::checksum_of;
@@ -49,7 +49,7 @@ fn heads(t: &Tunnel) -> ArrayVec<u8, 24>
         ip_header(total, t.ttl, t.src, t.dst, checksum).as_slice(),
     );
     put(&mut octets, &[0, 0]);
-    put(&mut octets, &protocol_of(t.inner).to_be_bytes());
+    put(&mut octets, &t.inner.protocol().to_be_bytes());
     octets
 }
 
@@ -68,16 +68,6 @@ fn ip_header(total: u16, ttl: u8, src: Ipv4, dst: Ipv4, checksum: u16) -> ArrayV
     put(&mut octets, &src.0);
     put(&mut octets, &dst.0);
     octets
-}
-
-/// The protocol type of what a GRE header carries (RFC 2784, 2.4).
-fn protocol_of(inner: Kind) -> u16
-    ensures { result ≡ protocol_of inner }
-{
-    match inner {
-        Kind::Mpls => 0x8847,
-        Kind::Configured => 0xab37,
-    }
 }
 
 /// Appends octets for which there is room.

@@ -1,6 +1,6 @@
 //! Link state PDUs that are received (ISO/IEC 10589, 7.3.15.1 and 7.3.16).
 ghost use Rattle.std.specs.Prelude.{◌≡◌, ◌<◌, ◌≤◌, ◌+◌, ◌&&◌, not, length, true, false, if◌then◌else◌, IfOk, OnOk, OnErr};
-ghost use Rattle.wire_base.specs.model.Control.{entry_in, put_entry, age_of, fragment_0, is_full, is_unknown, is_newer_or_confused, purge};
+ghost use Rattle.wire_base.specs.model.Control.{entry_in, put_entry, age_of, is_full, is_unknown, is_newer_or_confused, purge};
 ghost use Rattle.wire_base.specs.model.Flooding.{mark_all, pass_on, kept, on_lsp, lsp_aged, stores, only_says, puts_marked, is_own_ahead, is_stray};
 ghost use Rattle.wire_base.specs.declared.entry.Age.TheVariants.{Unknown};
 ghost use Rattle.wire_base.specs.declared.flood_out.FloodOut.TheVariants as out;
@@ -15,7 +15,7 @@ use isis_pdu::LspHead;
 use lsp_store::{Store, purge};
 use std::alloc::Global;
 use wire_base::limits::MOST_ENTRIES;
-use wire_base::{Age, Entry, FloodOut, LspId, M, Memory, Octets, Summary, SystemId};
+use wire_base::{Age, Entry, FloodOut, LspId, M, Memory, Octets, Summary};
 
 /// What a sequence numbers PDU says of a link state PDU.
 fn summary_of(head: &LspHead) -> Summary
@@ -86,17 +86,6 @@ fn is_newer_or_confused(age: Age) -> bool
     }
 }
 
-/// The identifier of a system's fragment 0.
-pub(crate) fn fragment_0(system: SystemId) -> LspId
-    ensures { result ≡ fragment_0 system }
-{
-    LspId {
-        system,
-        pseudonode: 0,
-        fragment: 0,
-    }
-}
-
 impl Flood {
     /// Puts an entry and marks it on all links that are up.
     pub(crate) fn put_marked(&mut self, store: &mut Store, e: Entry) -> M<()>
@@ -129,7 +118,7 @@ impl Flood {
     pub(crate) fn is_own_ahead(&self, id: &LspId, spent: bool, age: Age) -> bool
         ensures { result ≡ is_own_ahead self.now.flood id.now spent age }
     {
-        *id == fragment_0(self.own()) && !spent && is_newer_or_confused(age)
+        *id == LspId::fragment_0(self.own()) && !spent && is_newer_or_confused(age)
     }
 
     /// A live link state PDU of the own system that the router doesn't have.

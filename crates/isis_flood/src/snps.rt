@@ -1,7 +1,7 @@
 //! Sequence numbers PDUs that are received (ISO/IEC 10589, 7.3.15.2).
 ghost use Rattle.std.specs.Prelude.{◌≡◌, ◌<◌, ◌≤◌, ◌+◌, length, fold, false, IsOk, OnOk, OnErr};
-ghost use Rattle.wire_base.specs.model.Control.{entry_in, put_entry, age_of, seq_of, is_full};
-ghost use Rattle.wire_base.specs.model.Flooding.{wanted, is_live_summary, asks, listed_aged, on_listed, on_psnp};
+ghost use Rattle.wire_base.specs.model.Control.{entry_in, put_entry, age_of, is_full};
+ghost use Rattle.wire_base.specs.model.Flooding.{wanted, asks, listed_aged, on_listed, on_psnp};
 ghost use Rattle.wire_base.specs.model.Tlv.{rows_of};
 ghost use Rattle.wire_base.specs.declared.entry.Age.TheVariants.{Confused};
 ghost use Rattle.lsp_store.specs.Places.{is_new};
@@ -10,7 +10,7 @@ ghost use Rattle.isis_flood.specs.Kept.{NotLowered};
 
 use crate::entries::listed;
 use crate::flood::Flood;
-use crate::lsps::{fragment_0, is_full};
+use crate::lsps::is_full;
 use lsp_store::{Store, purge};
 use std::alloc::Global;
 use wire_base::limits::PURGE_HOLD;
@@ -28,22 +28,6 @@ fn wanted(alloc: Global, s: &Summary) -> Entry
         sum: 0,
         flags: 0,
         content: Octets::new(alloc),
-    }
-}
-
-fn is_live(s: &Summary) -> bool
-    ensures { result ≡ is_live_summary s.now }
-{
-    s.life > 0 && s.seq > 0 && s.sum > 0
-}
-
-/// The sequence number of the entry of an identifier; 0 where there is none.
-fn seq_of(store: &Store, id: &LspId) -> u32
-    ensures { result ≡ seq_of (entry_in store.now.entries id.now) }
-{
-    match store.get(id) {
-        None => 0,
-        Some(entry) => entry.seq,
     }
 }
 
@@ -89,7 +73,7 @@ impl Flood {
         ensures full { answer.new.full ≤ answer.old.full + 1 }
         ensures links { OnOk result (length self.new.flood.up ≡ length self.old.flood.up) }
     {
-        if s.id == fragment_0(self.own()) && !spent {
+        if s.id == LspId::fragment_0(self.own()) && !spent {
             answer.reissue = Some(s.seq);
             return Ok(());
         }
@@ -122,7 +106,7 @@ impl Flood {
     {
         match age {
             Age::Unknown => {
-                if is_live(s) {
+                if s.is_live() {
                     self.want_it(store, link, s, answer)
                 } else {
                     Ok(())
@@ -155,7 +139,7 @@ impl Flood {
         ensures links { OnOk result (length self.new.flood.up ≡ length self.old.flood.up) }
     {
         if s.seq == 0 {
-            if seq_of(store, &s.id) > 0 {
+            if store.seq_of(&s.id) > 0 {
                 return self.resend(s.id, link);
             }
             return Ok(());

@@ -7,10 +7,8 @@ ghost use Rattle.link_frame.specs.Frames.{carried, HasPlaces};
 
 use arrayvec::ArrayVec;
 use byteorder::{BigEndian, ByteOrder};
+use wire_base::ethernet::{BIER_TYPE, FRAME_HEAD, IP_TYPE, MPLS_TYPE};
 use wire_base::{FrameFault, Mac};
-
-/// The octets before what a frame carries: destination, source, and a length or a type.
-const HEAD: usize = 14;
 
 /// The header of the logical link control before a PDU of IS-IS (ISO/IEC 8802-2, 5).
 const ISIS_HEAD: usize = 3;
@@ -51,26 +49,26 @@ fn class_of(frame: &[u8]) -> Result<Class, FrameFault>
     ensures exact { Gives (carried frame.now) result (frame_at frame.now) }
     ensures places { IfOk result (HasPlaces (length frame.now)) }
 {
-    if frame.len() < HEAD {
+    if frame.len() < FRAME_HEAD {
         return Err(FrameFault::Short);
     }
     let number = BigEndian::read_u16(&frame[12..]);
     if number > MOST_LENGTH {
         return Ok(match number {
-            0x8847 => Class::Mpls { from: HEAD },
-            0xab37 => Class::Bier { from: HEAD },
-            0x0800 => Class::Ip { from: HEAD },
+            MPLS_TYPE => Class::Mpls { from: FRAME_HEAD },
+            BIER_TYPE => Class::Bier { from: FRAME_HEAD },
+            IP_TYPE => Class::Ip { from: FRAME_HEAD },
             _ => Class::Other,
         });
     }
     let counted = usize::from(number);
-    if frame.len() - HEAD < counted {
+    if frame.len() - FRAME_HEAD < counted {
         return Err(FrameFault::Length);
     }
-    if is_isis(&frame[HEAD..HEAD + counted]) {
+    if is_isis(&frame[FRAME_HEAD..FRAME_HEAD + counted]) {
         return Ok(Class::Isis {
-            from: HEAD + ISIS_HEAD,
-            to: HEAD + counted,
+            from: FRAME_HEAD + ISIS_HEAD,
+            to: FRAME_HEAD + counted,
         });
     }
     Ok(Class::Other)
@@ -101,11 +99,11 @@ pub fn write_eth(out: &mut [u8], to: Mac, from: Mac, number: u16)
     ensures source { source_at out.new ≡ from.0 }
     ensures again { (c : Carried) → IsCarried number (drop 14 out.old) c → frame_at out.new ≡ Ok c }
 {
-    out[..HEAD].copy_from_slice(head(to, from, number).as_slice());
+    out[..FRAME_HEAD].copy_from_slice(head(to, from, number).as_slice());
 }
 
 /// The first 14 octets of a frame.
-fn head(to: Mac, from: Mac, number: u16) -> ArrayVec<u8, 14>
+fn head(to: Mac, from: Mac, number: u16) -> ArrayVec<u8, FRAME_HEAD>
     ensures items { result.items ≡ ethernet to.0 from.0 number }
     ensures len { length result.items ≡ 14 }
     ensures six_to { length to.0 ≡ 6 }

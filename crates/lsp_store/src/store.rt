@@ -1,5 +1,5 @@
 ghost use Rattle.std.specs.Prelude.{◌≡◌, ◌≤◌, ◌<◌, ◌+◌, ◌-◌, [], length, map, vec_len, vec_capacity, slice_get, option_map, Some, true, false, OnOk, OnErr, IfOk, IfErr, IfSome};
-ghost use Rattle.wire_base.specs.model.Control.{IsDatabase, ids_of, entry_in, put_entry, age_of};
+ghost use Rattle.wire_base.specs.model.Control.{IsDatabase, ids_of, entry_in, put_entry, age_of, seq_of};
 ghost use Rattle.wire_base.specs.declared.faults.PutFault.TheVariants.{Memory};
 ghost use Rattle.lsp_store.specs.Places.{IsPlace, is_new, PutAnswers, IsSecondAt};
 
@@ -90,6 +90,16 @@ impl Store {
             Ok(place)
         } else {
             Err(place)
+        }
+    }
+
+    /// The sequence number of the entry of an identifier; 0 where there is none.
+    pub fn seq_of(&self, id: &LspId) -> u32
+        ensures { result ≡ seq_of (entry_in self.now.entries id.now) }
+    {
+        match self.get(id) {
+            None => 0,
+            Some(entry) => entry.seq,
         }
     }
 

@@ -7,7 +7,7 @@ ghost use Rattle.domain_conf.specs.declared.fault.ConfFault.TheVariants as conf;
 ghost use Rattle.replay_text.specs.declared.fault.TextFault.TheVariants as text;
 ghost use Rattle.domain_model.specs.declared.fault.EventFault.TheVariants as event;
 ghost use Rattle.model_examples.specs.Domains.{pair};
-ghost use Rattle.domain_replay.specs.Causes.{cause_text};
+ghost use Rattle.replay_text.specs.Report.{cause_text};
 ghost use Rattle.domain_replay.specs.Lines.{conf_refused_text};
 ghost use Rattle.domain_replay.specs.Texts.{BadText, BadEvent, TooLong, refusal_text, run_text, schedule_reaches};
 ghost use Rattle.replay_examples.specs.Schedules.{said, too_few, nobody};

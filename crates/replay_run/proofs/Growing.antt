@@ -25,7 +25,8 @@ use Rattle.domain_model.specs.World.{first_world, ids_in_flight}
 use Rattle.domain_model.specs.Run.{Progress, first_run, goes_unless, does, line_events, line_done, lines_done, schedule_done}
 use Rattle.domain_replay.specs.declared.counts.Counts.{Counts}
 use Rattle.domain_replay.specs.Counting.{counts_of}
-use Rattle.domain_replay.specs.Lines.{line_of, done_text, event_refused_text}
+use Rattle.replay_text.specs.Report.{line_of}
+use Rattle.domain_replay.specs.Lines.{done_text, event_refused_text}
 use Rattle.domain_replay.specs.Telling.{Telling, first_telling, told, tells_line, LineEnters, LineNamesOnce}
 use Rattle.domain_replay.proofs.TellingLaws.{start_told}
 use Rattle.tool_run.specs.Answer.{IsDecided}

@@ -11,7 +11,8 @@ use Rattle.domain_model.specs.World.{ids_in_flight}
 use Rattle.domain_model.specs.Run.{Run, Progress, schedule_done}
 use Rattle.domain_replay.specs.declared.counts.Counts.{Counts}
 use Rattle.domain_replay.specs.Counting.{counts_of}
-use Rattle.domain_replay.specs.Lines.{line_of, event_refused_text}
+use Rattle.replay_text.specs.Report.{line_of}
+use Rattle.domain_replay.specs.Lines.{event_refused_text}
 use Rattle.domain_replay.specs.Telling.{Telling}
 use Rattle.replay_run.specs.Scheduling.{Course, IsAt}
 

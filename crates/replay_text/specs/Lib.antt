@@ -10,3 +10,4 @@ pub mod Arguments
 pub mod Schedule
 pub mod ScheduleGrammar
 pub mod Payload
+pub mod Report

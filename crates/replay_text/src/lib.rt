@@ -14,6 +14,7 @@ mod listed;
 mod payload;
 mod pieces;
 mod positions;
+mod report;
 mod schedule_line;
 mod tokens;
 
@@ -25,6 +26,7 @@ pub use ids::push_ids;
 pub use payload::push_payload;
 pub use pieces::next_line;
 pub use positions::{push_positions, push_set};
+pub use report::{push_cause, push_loss, push_number};
 pub use schedule_line::read_line;
 
 #[cfg(test)]

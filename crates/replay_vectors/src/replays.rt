@@ -61,12 +61,14 @@ pair | send A B / again A B 0 / take A B 0 / take A B 0 / take A B 0 / take A B 
 pair | send A B / down B A / take A B 0 => 0 | 3 drop B - link - / done lines 3 injected 0 named 0 got 0 dropped 0 flight 0
 ring | settle 4 / inject A 0 64 3 8 0 00ff / down B A / take A B 0 => 0 | 4 drop B 1 link 3 / done lines 4 injected 1 named 1 got 0 dropped 1 flight 0
 ring | settle 4 / inject A 0 64 3 8 0 00ff / lose A B 0 => 0 | 3 drop B 1 lost 3 / done lines 3 injected 1 named 1 got 0 dropped 1 flight 0
+ring | settle 4 / inject A 0 64 3 8 0 00ff / settle 3 / down A B / down B A / settle 3 / inject A 0 64 3 8 0 00ff / settle 3 => 0 | 3 got C 1 3 00ff / 8 got C 2 3 00ff / done lines 8 injected 2 named 2 got 2 dropped 0 flight 0
 ring | settle 4 / inject A 0 64 1,2,3,4 8 0 00ff / lose A B 0 => 0 | 2 got A 1 1 00ff / 3 drop B 1 lost 2,3 / done lines 3 injected 1 named 4 got 1 dropped 2 flight 1";
 
 // A domain and a schedule, how many octets their capture has, and some that it holds.
 const CAPTURES: &str = "\
 ring | settle 4 / inject A 0 64 3 8 0 00ff / inject A 0 64 3 8 1 00ff / settle 4 => 6536 | 020000000000000024000000240000000200000100000200000000018847000c81085010000000040001000000000000000400ff
 ring | settle 4 / inject A 0 64 3 8 0 00ff / inject A 0 64 3 8 1 00ff / settle 4 => 6536 | 030000000000000024000000240000000200000300000200000000038847001901085010000100040001000000000000000400ff
+ring | settle 4 / inject A 0 64 3 8 0 00ff / settle 3 / down A B / down B A / settle 3 / inject A 0 64 3 8 0 00ff / settle 3 => 8672 | 070000000000000024000000240000000200000300000200000000038847001901085010000000040001000000000000000400ff
 pair | down A B / up A B / down A B / up A B / down A B / up A B / settle 2 / restart A / send A B / take A B 0 / take A B 0 / send B A / take B A 0 / send A B => 1292 | 0e000000000000005e0000005e00000009002b0000050200000000010050fefe03831b010014010000004d04b0000000000001000000000008
 pair | send A B => 218 | d4c3b2a1020004000000000000000000ffff0000010000000100000000000000440000004400000009002b0000050200000000010036fefe0383210100190100000033000000000001000000000000000000ffffffffffffffff091004b0000000000001000000000001554e01000000000000005e0000005e00000009002b0000050200000000010050fefe03831b010014010000004d04b0000000000001000000000001554e030104034900018101cc890141160b0000000000020000000a00871700000000600a0000010d200b0000000001010400100064
 fork | settle 3 / inject A 0 64 3 8 0 00ff / settle 2 => 4532 | 02000000000000003c0000003c00000002000001000002000000000108004500002e00004000ff2f679d0a0000010a000003000088470012c1085010000000040001000000000000000400ff

@@ -1,28 +1,18 @@
 //! Ends that come up and go down, and a start (ISO/IEC 10589, 7.3.6 and 7.3.17).
 ghost use Rattle.std.specs.Prelude.{◌≡◌, ◌<◌, true, false, length, replicate, IfOk, OnOk, OnErr};
 ghost use Rattle.wire_base.specs.model.Configuration.{IsSound};
-ghost use Rattle.wire_base.specs.model.Control.{IsDatabase, entry_in, put_entry, seq_of};
+ghost use Rattle.wire_base.specs.model.Control.{IsDatabase, put_entry};
 ghost use Rattle.wire_base.specs.model.Flooding.{mark_all, link_up, link_down, end_up, end_down, restart, started, first_control};
 ghost use Rattle.lsp_store.specs.Places.{is_refused};
 ghost use Rattle.router_core.specs.State.{is_up};
 
 use crate::control::Control;
-use crate::own::{fragment_0, issue, issue_within, own_past, spent_past};
+use crate::own::{issue, issue_within, own_past, spent_past};
 use isis_flood::Flood;
 use lsp_origin::originate;
 use lsp_store::Store;
 use std::alloc::Global;
 use wire_base::{Entry, LspId, M, RouterConf};
-
-/// The sequence number of an entry, 0 where there is none.
-pub(crate) fn seq_of(store: &Store, id: &LspId) -> u32
-    ensures { result ≡ seq_of (entry_in store.now.entries id.now) }
-{
-    match store.get(id) {
-        None => 0,
-        Some(entry) => entry.seq,
-    }
-}
 
 /// A link comes up, and the own link state PDU is issued; or all is as it was.
 fn link_up_issuing(store: &mut Store, flood: &mut Flood, link: u16, own: Entry) -> M<()>
@@ -122,7 +112,7 @@ impl Control {
         }
         let mut up = self.ends_up()?;
         up[usize::from(link)] = true;
-        let seq = seq_of(&self.store, &fragment_0(self.conf.system));
+        let seq = self.store.seq_of(&LspId::fragment_0(self.conf.system));
         let own = own_past(self.allocator(), &self.conf, up.as_slice(), seq)?;
         link_up_issuing(&mut self.store, &mut self.flood, link, own)?;
         self.spent = spent_past(self.spent, seq);
@@ -141,7 +131,7 @@ impl Control {
         }
         let mut up = self.ends_up()?;
         up[usize::from(link)] = false;
-        let seq = seq_of(&self.store, &fragment_0(self.conf.system));
+        let seq = self.store.seq_of(&LspId::fragment_0(self.conf.system));
         let own = own_past(self.allocator(), &self.conf, up.as_slice(), seq)?;
         link_down_issuing(&mut self.store, &mut self.flood, link, own)?;
         self.spent = spent_past(self.spent, seq);

@@ -4,7 +4,6 @@ ghost use Rattle.std.specs.Prelude.{◌≡◌, ◌≤◌, ◌<◌, ◌+◌, ◌^
 ghost use Rattle.std.specs.List.{list_any};
 ghost use Rattle.wire_base.specs.declared.cause.Cause.TheVariants as cause;
 ghost use Rattle.wire_base.specs.model.Control.{IsDatabase, same_id};
-ghost use Rattle.wire_base.specs.model.Flooding.{is_live_summary};
 ghost use Rattle.wire_base.specs.model.Tlv.{rows_of};
 ghost use Rattle.lsp_store.specs.Places.{is_new};
 ghost use Rattle.router_core.specs.Forecast.{is_confused, is_confusing, is_at_odds, past_asked, spent_if, flags_issued, entries_issued, is_wanted, looked, count_full, IsReady};
@@ -12,8 +11,7 @@ ghost use Rattle.router_core.specs.Own.{own_past};
 ghost use Rattle.router_core.specs.Received.{full_drop};
 
 use crate::control::Control;
-use crate::ends::seq_of;
-use crate::own::{fragment_0, issue_within, own_past, spent_past};
+use crate::own::{issue_within, own_past, spent_past};
 use bier_forward::DropNote;
 use isis_flood::{Flood, listed};
 use lsp_store::Store;
@@ -82,7 +80,7 @@ fn past_asked(store: &Store, own: &LspId, rows: &[Summary], spent: bool) -> Opti
     ensures { result ≡ past_asked spent store.now.entries own.now rows.now }
 {
     if !spent && any_at_odds(store, own, rows) {
-        return Some(seq_of(store, own));
+        return Some(store.seq_of(own));
     }
     None
 }
@@ -95,12 +93,6 @@ fn spent_if(spent: bool, past: Option<u32>) -> bool
         None => spent,
         Some(seq) => spent_past(spent, seq),
     }
-}
-
-fn is_live(s: &Summary) -> bool
-    ensures { result ≡ is_live_summary s.now }
-{
-    s.life > 0 && s.seq > 0 && s.sum > 0
 }
 
 fn is_new(store: &Store, id: &LspId) -> bool
@@ -119,7 +111,7 @@ fn has_id(ids: &[LspId], id: &LspId) -> bool
 fn is_wanted(store: &Store, added: &[LspId], s: &Summary) -> bool
     ensures { result ≡ is_wanted store.now.entries added.now s.now }
 {
-    is_live(s) && is_new(store, &s.id) && !has_id(added, &s.id)
+    s.is_live() && is_new(store, &s.id) && !has_id(added, &s.id)
 }
 
 /// One entry of a list.
@@ -219,7 +211,7 @@ impl Control {
         let rows = listed(alloc, tlvs)?;
         let past = past_asked(
             &self.store,
-            &fragment_0(self.conf.system),
+            &LspId::fragment_0(self.conf.system),
             rows.as_slice(),
             self.spent,
         );

@@ -1,7 +1,7 @@
 //! The router's own link state PDU (ISO/IEC 10589, 7.3.6 and 7.3.16.1).
 ghost use Rattle.std.specs.Prelude.{◌≡◌, ◌≤◌, true, false, length, IfOk, OnOk, OnErr};
 ghost use Rattle.wire_base.specs.model.Configuration.{IsSound};
-ghost use Rattle.wire_base.specs.model.Control.{IsDatabase, fragment_0, put_entry};
+ghost use Rattle.wire_base.specs.model.Control.{IsDatabase, put_entry};
 ghost use Rattle.wire_base.specs.model.Flooding.{mark_all, reissue};
 ghost use Rattle.lsp_store.specs.Places.{is_new, is_refused};
 ghost use Rattle.router_core.specs.Own.{own_past, spent_past};
@@ -11,21 +11,10 @@ use isis_flood::Flood;
 use lsp_origin::originate;
 use lsp_store::{Store, purge};
 use std::alloc::Global;
-use wire_base::{Entry, LspId, M, RouterConf, SystemId};
+use wire_base::{Entry, LspId, M, RouterConf};
 
 /// The last sequence number.
 const LAST_SEQUENCE: u32 = u32::MAX;
-
-/// The identifier of a system's fragment 0.
-pub(crate) fn fragment_0(system: SystemId) -> LspId
-    ensures { result ≡ fragment_0 system }
-{
-    LspId {
-        system,
-        pseudonode: 0,
-        fragment: 0,
-    }
-}
 
 /// The own link state PDU past a sequence number; past the last one, its purge.
 #[tactic(auto, unfolding(crate::specs::Own::own_past))]
@@ -35,7 +24,7 @@ pub(crate) fn own_past(alloc: Global, conf: &RouterConf, up: &[bool], seq: u32) 
     ensures { IfOk result (λ e. e ≡ own_past conf.now up.now seq) }
 {
     if seq == LAST_SEQUENCE {
-        return Ok(purge(alloc, fragment_0(conf.system), seq));
+        return Ok(purge(alloc, LspId::fragment_0(conf.system), seq));
     }
     originate(alloc, conf, up, seq + 1)
 }

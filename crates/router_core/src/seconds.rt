@@ -7,8 +7,7 @@ ghost use Rattle.lsp_store.specs.Places.{is_refused};
 ghost use Rattle.router_core.specs.Aging.{IsOneAged, count_left, is_near};
 
 use crate::control::Control;
-use crate::ends::seq_of;
-use crate::own::{fragment_0, issue_within, own_past, spent_past};
+use crate::own::{issue_within, own_past, spent_past};
 use isis_flood::Flood;
 use lsp_store::Store;
 use wire_base::limits::{MOST_ENTRIES, REFRESH_LIFE};
@@ -111,12 +110,12 @@ impl Control {
         ensures ok { OnOk result (self.new ≡ (tick self.old).control) }
         ensures err { OnErr result (self.new ≡ self.old) }
     {
-        let id = fragment_0(self.conf.system);
+        let id = LspId::fragment_0(self.conf.system);
         if !is_near(&self.store, &id) {
             age(&mut self.store, &mut self.flood)?;
             return Ok(());
         }
-        let seq = seq_of(&self.store, &id);
+        let seq = self.store.seq_of(&id);
         let up = self.ends_up()?;
         let own = own_past(self.allocator(), &self.conf, up.as_slice(), seq)?;
         age_issuing(&mut self.store, &mut self.flood, own)?;

@@ -6,7 +6,7 @@ use Rattle.wire_base.specs.declared.status.Status.TheVariants.{CaptureRefused}
 use Rattle.wire_base.specs.declared.faults.CaptureFault.{CaptureFault}
 use Rattle.wire_base.specs.declared.faults.CaptureFault.TheVariants as faults
 use Rattle.wire_base.specs.model.Faults.{capture_number, capture_name}
-use Rattle.tool_run.specs.Causes.{line_of}
+use Rattle.replay_text.specs.Report.{line_of}
 
 -- `refused record N ..`, with the words of a rule
 abbrev pub refused_record : ℕ → List (List ℕ) → Status × List ℕ

@@ -8,7 +8,6 @@ pub mod HopReached
 pub mod Ways
 pub mod Partition
 pub mod Sight
-pub mod Causes
 pub mod Captured
 pub mod HeadersText
 pub mod Headers

@@ -22,7 +22,7 @@ use Rattle.router_core.specs.State.{is_up}
 use Rattle.tool_run.specs.Answer.{Verdict}
 use Rattle.tool_run.specs.Captured.{refused_record, refused_by, too_long}
 use Rattle.tool_run.specs.HeadersText.{within_limit, is_within}
-use Rattle.tool_run.specs.Causes.{line_of, cause_text}
+use Rattle.replay_text.specs.Report.{line_of, cause_text}
 use Rattle.tool_run.specs.declared.node_command.tally.Tally.{Tally}
 
 -- ---- where a node stands

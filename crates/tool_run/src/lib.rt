@@ -7,7 +7,6 @@
 #![tactic(auto)]
 
 mod captured;
-mod causes;
 mod headers_command;
 mod hop_command;
 mod law;
@@ -16,7 +15,6 @@ mod reader;
 mod records;
 mod whole;
 
-pub use causes::push_cause;
 pub use headers_command::headers;
 pub use hop_command::hop;
 pub use law::packets_are_parted;

@@ -1,6 +1,8 @@
 ghost use Rattle.std.proofs.Common.{rules};
 ghost use Rattle.std.specs.Cmp.Rules.{comparing};
+ghost use Rattle.std.specs.Prelude.{◌≡◌};
 ghost use Rattle.std.specs.Str.{bytes_eq};
+ghost use Rattle.wire_base.specs.model.Control.{fragment_0};
 
 /// The system identifier of an IS-IS router: six octets (ISO/IEC 10589, 7.1).
 #[derive(Clone, Copy, Debug, Default, Eq, PartialOrd, Ord)]
@@ -34,6 +36,19 @@ pub struct LspId {
     pub system: SystemId,
     pub pseudonode: u8,
     pub fragment: u8,
+}
+
+impl LspId {
+    /// The identifier of fragment 0 of a system, in which its own entries are.
+    pub fn fragment_0(system: SystemId) -> LspId
+        ensures { result ≡ fragment_0 system }
+    {
+        LspId {
+            system,
+            pseudonode: 0,
+            fragment: 0,
+        }
+    }
 }
 
 impl std::fmt::Display for SystemId {

@@ -1,4 +1,7 @@
 //! The configuration of a router: what a domain file says of it.
+ghost use Rattle.std.specs.Prelude.{◌≡◌, ◌≤◌, length};
+ghost use Rattle.wire_base.specs.model.Choice.{end_toward};
+
 use crate::addresses::{Ipv4, Mac, SystemId};
 use crate::bsl::Bsl;
 use crate::lists::{Name, Octets, Rows};
@@ -59,6 +62,19 @@ pub struct End {
     pub peer_mac: Mac,
     pub own_mac: Mac,
     pub metric: u32,
+}
+
+/// The place of the first end whose peer is that system.
+pub fn end_toward(ends: &[End], system: SystemId) -> Option<u16>
+    requires { length ends.now ≤ 65536 }
+    ensures { result ≡ end_toward ends.now system }
+{
+    for place in 0..ends.len() {
+        if ends[place].peer == system {
+            return Some(place as u16);
+        }
+    }
+    None
 }
 
 /// A link, by the places in the domain of the two routers that it joins.

@@ -12,6 +12,7 @@ mod conf;
 mod domain;
 mod effects;
 mod entry;
+pub mod ethernet;
 mod faults;
 pub mod fields;
 mod flood_out;
@@ -30,7 +31,9 @@ pub use addresses::{Ipv4, LspId, Mac, SystemId};
 pub use bsl::Bsl;
 pub use bytes::{BytesSink, BytesSource, QuietSink, QuietSource};
 pub use cause::Cause;
-pub use conf::{End, Kind, LabelRange, Level, LinkConf, OwnSub, RouterConf, SubKind, TableRow};
+pub use conf::{
+    End, Kind, LabelRange, Level, LinkConf, OwnSub, RouterConf, SubKind, TableRow, end_toward,
+};
 pub use domain::Domain;
 pub use effects::{Got, Sent};
 pub use entry::{Age, Aged, Entry};

@@ -1,4 +1,5 @@
 ghost use Rattle.std.specs.Prelude.{◌≡◌};
+ghost use Rattle.wire_base.specs.model.Flooding.{is_live_summary};
 ghost use Rattle.wire_base.specs.model.Place.{position_in};
 
 use crate::addresses::LspId;
@@ -33,4 +34,13 @@ pub struct Summary {
     pub id: LspId,
     pub seq: u32,
     pub sum: u16,
+}
+
+impl Summary {
+    /// Whether it is of a live link state PDU: one that has time, a sequence number and a checksum (ISO/IEC 10589, 7.3.15.2).
+    pub fn is_live(&self) -> bool
+        ensures { result ≡ is_live_summary self.now }
+    {
+        self.life > 0 && self.seq > 0 && self.sum > 0
+    }
 }

@@ -89,10 +89,17 @@ impl ViewNode {
         ensures { result ≡ covers kinds.now table.now t self.now }
     {
         let kind = kind_of(kinds.as_slice(), t.sd);
-        match place_in(self.subs.as_slice(), t.sd) {
+        match self.place_in(t.sd) {
             Some(sub) => has_bift(kind, table.as_slice(), sub, t),
             None => false,
         }
+    }
+
+    /// The node's place in a subdomain: its BFR-id there, its prefix and its label ranges.
+    pub fn place_in(&self, sd: u8) -> Option<&ViewSub>
+        ensures { option_map (λ s. s.now) result ≡ place_in self.now.subs sd }
+    {
+        place_in(self.subs.as_slice(), sd)
     }
 }
 

@@ -3,22 +3,19 @@ ghost use Rattle.std.specs.Prelude.{◌≡◌, ◌≤◌, ◌++◌, ◌∷◌, [
 ghost use Rattle.std.specs.Fmt.{decimal};
 ghost use Rattle.bier_bits.specs.Any.{bsl_of, positions_of};
 ghost use Rattle.bier_forward.specs.Sets.{set_in, HaveLength};
-ghost use Rattle.replay_text.specs.Ids.{ids_text};
 ghost use Rattle.wire_base.specs.model.BitSet.{has_member};
 ghost use Rattle.wire_base.specs.model.Place.{bits_of, id_at};
 ghost use Rattle.tool_run.specs.Captured.{refused_record};
-ghost use Rattle.tool_run.specs.Causes.{cause_text};
 ghost use Rattle.tool_run.specs.NodeRun as run;
 
 use super::tally::Tally;
 use crate::captured::push_refused;
-use crate::causes::push_cause;
 use bier_bits::AnyBits;
 use pcap_frames::write_cap_record;
-use replay_text::{push_ids, push_payload};
+use replay_text::{push_loss, push_number, push_payload};
 use router_core::{DropNote, Effects, Got, Packet, Sent};
 use std::alloc::Global;
-use wire_base::{Cause, M, Memory, Octets, Rows, Triple};
+use wire_base::{M, Memory, Octets, Rows, Triple};
 
 /// The most octets of a frame in a record of a capture.
 const MOST_RECORDED: usize = 65_535;
@@ -51,14 +48,6 @@ fn push_front(out: &mut Octets, number: u64, what: &[u8]) -> M<()>
 {
     out.append_number(number)?;
     out.append(what)
-}
-
-/// Appends a number, with a blank behind.
-fn push_number(out: &mut Octets, number: u32) -> M<()>
-    ensures { OnOk result (out.new ≡ out.old ++ (decimal number ++ 32 ∷ [])) }
-{
-    out.append_number(u64::from(number))?;
-    out.push(b' ')
 }
 
 /// Appends the line of a delivery.
@@ -107,16 +96,6 @@ fn ids_dropped(alloc: Global, sets: &Option<Packet>) -> M<Rows<u16>>
         None => Ok(Rows::new(alloc)),
         Some(packet) => ids_listed(alloc, packet.triple, &packet.bits),
     }
-}
-
-/// Appends a cause and BFR-ids, which end a line.
-fn push_loss(out: &mut Octets, cause: &Cause, ids: &[u16]) -> M<()>
-    ensures { OnOk result (out.new ≡ out.old ++ (cause_text cause.now ++ 32 ∷ (ids_text ids.now ++ 10 ∷ []))) }
-{
-    push_cause(out, cause)?;
-    out.push(b' ')?;
-    push_ids(out, ids)?;
-    out.push(b'\n')
 }
 
 /// Appends the line of a drop.

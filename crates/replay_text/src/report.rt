@@ -1,8 +1,10 @@
-//! The causes of drops, as a report says them.
-ghost use Rattle.std.specs.Prelude.{◌≡◌, ◌++◌, OnOk, OnErr};
+//! What the reports of all commands share: numbers, the causes of drops, and the end of a drop's line.
+ghost use Rattle.std.specs.Prelude.{◌≡◌, ◌++◌, ◌∷◌, [], OnOk, OnErr};
 ghost use Rattle.std.specs.Fmt.{decimal};
-ghost use Rattle.domain_replay.specs.Causes.{cause_text};
+ghost use Rattle.replay_text.specs.Ids.{ids_text};
+ghost use Rattle.replay_text.specs.Report.{cause_text};
 
+use crate::ids::push_ids;
 use itoa::Buffer;
 use wire_base::{Cause, M, Octets};
 
@@ -36,4 +38,22 @@ pub fn push_cause(out: &mut Octets, cause: &Cause) -> M<()>
         Cause::Sequence => out.append(b"sequence"),
         Cause::Full => out.append(b"full"),
     }
+}
+
+/// Appends a number, with a blank behind.
+pub fn push_number(out: &mut Octets, number: u32) -> M<()>
+    ensures { OnOk result (out.new ≡ out.old ++ (decimal number ++ 32 ∷ [])) }
+{
+    out.append_number(u64::from(number))?;
+    out.push(b' ')
+}
+
+/// Appends a cause and BFR-ids, which end a line.
+pub fn push_loss(out: &mut Octets, cause: &Cause, ids: &[u16]) -> M<()>
+    ensures { OnOk result (out.new ≡ out.old ++ (cause_text cause.now ++ 32 ∷ (ids_text ids.now ++ 10 ∷ []))) }
+{
+    push_cause(out, cause)?;
+    out.push(b' ')?;
+    push_ids(out, ids)?;
+    out.push(b'\n')
 }

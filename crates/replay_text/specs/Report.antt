@@ -1,9 +1,16 @@
--- The causes of drops, as a report says them: a word, and where a reader refused octets the number of its rule.
-use Rattle.std.specs.Prelude.{ℕ, List, ◌++◌, codes}
+-- What the reports of all commands share: lines of words; and the causes of drops: a word, and where a reader refused octets the
+-- number of its rule.
+use Rattle.std.specs.Prelude.{ℕ, List, [], ◌∷◌, ◌++◌, codes}
 use Rattle.std.specs.Fmt.{decimal}
 use Rattle.wire_base.specs.declared.cause.Cause.{Cause}
 use Rattle.wire_base.specs.declared.cause.Cause.TheVariants as cause
 use Rattle.wire_base.specs.model.Faults.{head_number, frame_number, ip_number, pdu_number}
+
+-- A line is words with a blank between them, and LF.
+abbrev pub line_of : List (List ℕ) → List ℕ
+line_of [] = 10 ∷ []
+line_of (word ∷ []) = word ++ 10 ∷ []
+line_of (word ∷ next ∷ more) = word ++ 32 ∷ line_of (next ∷ more)
 
 abbrev pub cause_text : Cause → List ℕ
 cause_text cause.NoRow = codes "none"

@@ -1,0 +1,27 @@
+//! The first octets of Ethernet frames and the types in them (IEEE 802.3, 3.1.1 and 3.2.6), each named once.
+ghost use Rattle.std.specs.Prelude.{◌≡◌};
+ghost use Rattle.wire_base.specs.model.Tunnel.{protocol_of};
+
+use crate::conf::Kind;
+
+/// The octets before what a frame carries: destination, source, and a length or a type.
+pub const FRAME_HEAD: usize = 14;
+/// The type of MPLS packets (RFC 3032, 3.3).
+pub const MPLS_TYPE: u16 = 0x8847;
+/// The type of BIER packets without MPLS (RFC 8296, 3).
+pub const BIER_TYPE: u16 = 0xab37;
+/// The type of IPv4 packets (RFC 894).
+pub const IP_TYPE: u16 = 0x0800;
+
+impl Kind {
+    /// The type before a packet of the kind, in an Ethernet frame (RFC 8296, 2.1.1 and 2.2.1) and in a GRE header
+    /// (RFC 2784, 2.4).
+    pub fn protocol(self) -> u16
+        ensures { result ≡ protocol_of self }
+    {
+        match self {
+            Kind::Mpls => MPLS_TYPE,
+            Kind::Configured => BIER_TYPE,
+        }
+    }
+}
