@@ -1,13 +1,11 @@
 ghost use Rattle.std.specs.Prelude.{◌≡◌, ◌≢◌, ◌<◌, ◌≤◌, ◌+◌, ◌||◌, [], map, ℕ, true, false, length, vec_len, vec_capacity, IsOk, IfOk, IfErr, OnOk, OnErr};
 ghost use Rattle.std.specs.List.{list_any};
-ghost use Rattle.std.specs.Ordering.{is_gt};
-ghost use Rattle.wire_base.specs.model.Control.{AreAscending, id_order, same_id};
-ghost use Rattle.lsp_store.specs.Places.{place_in, stands_at};
+ghost use Rattle.wire_base.specs.model.Control.{AreAscending};
 ghost use Rattle.isis_flood.specs.Flags.{is_flagged, has_flags};
 ghost use Rattle.isis_flood.specs.Masks.{at_bit, row_of, rows_of, row_ids, bits_in, put_bits, without_bits, clears, IsPlace};
 
 use crate::masks::{has, has_bit, with_bit, without, without_bit};
-use lsp_store::{is_id_above, is_same_id};
+use lsp_store::{Keyed, place_of, stands_at};
 use std::alloc::Global;
 use std::marker::Model;
 use wire_base::{LspId, M};
@@ -40,43 +38,12 @@ impl Model for Table {
     ghost invariant = { λ t. IsTable t.busy t.items.items };
 }
 
-fn is_above(id: &LspId, row: &Bits) -> bool
-    ensures { result ≡ is_gt (id_order id.now row.now.id) }
-{
-    is_id_above(*id, row.id)
-}
+impl Keyed for Bits {
+    ghost key = { λ b. b.id };
 
-/// How many rows have an identifier below this one, by halving.
-fn place_of(rows: &[Bits], id: &LspId) -> usize
-    requires { AreAscending (row_ids rows.now) }
-    ensures { result ≡ place_in (row_ids rows.now) id.now }
-{
-    let mut low = 0;
-    let mut high = rows.len();
-    'halves: while low < high {
-        let middle = low + (high - low) / 2;
-        if is_above(id, &rows[middle]) {
-            low = middle + 1;
-        } else {
-            high = middle;
-        }
+    fn key(&self) -> LspId {
+        self.id
     }
-    low
-}
-
-fn has_id(row: &Bits, id: &LspId) -> bool
-    ensures { result ≡ same_id row.now.id id.now }
-{
-    is_same_id(row.id, *id)
-}
-
-fn stands_at(rows: &[Bits], place: usize, id: &LspId) -> bool
-    ensures { result ≡ stands_at (row_ids rows.now) place id.now }
-{
-    if place < rows.len() {
-        return has_id(&rows[place], id);
-    }
-    false
 }
 
 /// No row is to be acknowledged or asked for on a link; where `both`, none is to be sent there either.

@@ -34,7 +34,7 @@ pub fn is_system_above(a: SystemId, b: SystemId) -> bool
 }
 
 /// Whether an identifier is above another.
-pub fn is_id_above(a: LspId, b: LspId) -> bool
+pub(crate) fn is_id_above(a: LspId, b: LspId) -> bool
     ensures { result ≡ is_gt (id_order a b) }
 {
     id_key(a) > id_key(b)

@@ -1,28 +1,46 @@
-ghost use Rattle.std.specs.Prelude.{◌≡◌};
+//! Where an identifier stands among those that are in order, or would stand: the same search for entries and for rows of flags.
+ghost use Rattle.std.specs.Prelude.{◌≡◌, map};
 ghost use Rattle.std.specs.Ordering.{is_gt};
-ghost use Rattle.wire_base.specs.model.Control.{AreAscending, ids_of, id_order, same_id};
+ghost use Rattle.wire_base.specs.declared.addresses.LspId.{LspId as Id};
+ghost use Rattle.wire_base.specs.model.Control.{AreAscending, id_order, same_id};
 ghost use Rattle.lsp_store.specs.Places.{place_in, stands_at};
 
 use crate::keys::{is_id_above, is_same_id};
 use wire_base::{Entry, LspId};
 
-/// Whether an identifier is above that of an entry.
-fn is_above(id: &LspId, entry: &Entry) -> bool
-    ensures { result ≡ is_gt (id_order id.now entry.now.id) }
-{
-    is_id_above(*id, entry.id)
+/// What stands in a list at the place of its identifier.
+pub trait Keyed {
+    ghost key: { Self → Id };
+
+    /// The identifier.
+    fn key(&self) -> LspId
+        ensures { result ≡ key self.now };
 }
 
-/// How many entries have an identifier below this one, by halving.
-pub(crate) fn place_of(entries: &[Entry], id: &LspId) -> usize
-    requires { AreAscending (ids_of entries.now) }
-    ensures { result ≡ place_in (ids_of entries.now) id.now }
+impl Keyed for Entry {
+    ghost key = { λ e. e.id };
+
+    fn key(&self) -> LspId {
+        self.id
+    }
+}
+
+fn is_above<T: Keyed>(id: &LspId, item: &T) -> bool
+    ensures { result ≡ is_gt (id_order id.now (T.key item.now)) }
+{
+    is_id_above(*id, item.key())
+}
+
+/// How many have an identifier below this one, by halving.
+pub fn place_of<T: Keyed>(items: &[T], id: &LspId) -> usize
+    requires { AreAscending (map T.key items.now) }
+    ensures { result ≡ place_in (map T.key items.now) id.now }
 {
     let mut low = 0;
-    let mut high = entries.len();
+    let mut high = items.len();
     'halves: while low < high {
         let middle = low + (high - low) / 2;
-        if is_above(id, &entries[middle]) {
+        if is_above(id, &items[middle]) {
             low = middle + 1;
         } else {
             high = middle;
@@ -31,18 +49,18 @@ pub(crate) fn place_of(entries: &[Entry], id: &LspId) -> usize
     low
 }
 
-fn has_id(entry: &Entry, id: &LspId) -> bool
-    ensures { result ≡ same_id entry.now.id id.now }
+fn has_id<T: Keyed>(item: &T, id: &LspId) -> bool
+    ensures { result ≡ same_id (T.key item.now) id.now }
 {
-    is_same_id(entry.id, *id)
+    is_same_id(item.key(), *id)
 }
 
-/// Whether the entry at a place has that identifier.
-pub(crate) fn stands_at(entries: &[Entry], place: usize, id: &LspId) -> bool
-    ensures { result ≡ stands_at (ids_of entries.now) place id.now }
+/// Whether the one at a place has that identifier.
+pub fn stands_at<T: Keyed>(items: &[T], place: usize, id: &LspId) -> bool
+    ensures { result ≡ stands_at (map T.key items.now) place id.now }
 {
-    if place < entries.len() {
-        return has_id(&entries[place], id);
+    if place < items.len() {
+        return has_id(&items[place], id);
     }
     false
 }

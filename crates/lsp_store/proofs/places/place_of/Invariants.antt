@@ -1,15 +1,14 @@
-use Rattle.std.proofs.Common.{◌-◌, ◌≤◌, length}
-use Rattle.wire_base.specs.model.Control.{ids_of}
+use Rattle.std.proofs.Common.{◌-◌, ◌≤◌, length, map}
 use Rattle.lsp_store.specs.Places.{place_in}
 use Rattle.lsp_store.proofs.places.place_of.Given as goal
 
 -- the place lies between both ends
 abbrev pub invariant-halves : goal.invariant-halves
-invariant-halves l = record {
-  low : l.low ≤ place_in (ids_of l.entries) l.id;
-  high : place_in (ids_of l.entries) l.id ≤ l.high;
-  within : l.high ≤ length l.entries;
+invariant-halves g l = record {
+  low : l.low ≤ place_in (map g.T.Keyed.key l.items) l.id;
+  high : place_in (map g.T.Keyed.key l.items) l.id ≤ l.high;
+  within : l.high ≤ length l.items;
 }
 
 abbrev pub decreases-halves : goal.decreases-halves
-decreases-halves l = l.high - l.low
+decreases-halves g l = l.high - l.low
