@@ -15,25 +15,9 @@ use Rattle.course_laws.specs.Course.{own_node, IsCovered, HasAgreed, IsSteady, I
 use Rattle.course_laws.proofs.OnceLaws.{small_fit}
 use Rattle.course_examples.specs.Branch.{branch_a, branch_b, branch_p, branch_c, branch, rest, at_rest, branch_view, begun, the_injection, enters, taken}
 use Rattle.course_examples.proofs.BranchLaws.{rest_true}
-use Rattle.domain_model.specs.Step.{happens}
 use Rattle.domain_model.specs.Run.{goes_on}
-use Rattle.domain_model.specs.Faults.{event_fault}
-use Rattle.domain_model.specs.World.{in_flight, ids_in_flight}
-use Rattle.domain_model.specs.Moves.{outcomes_at, hop_made_at, inject_made}
-use Rattle.ledger_laws.specs.Ledger.{over_all}
-use Rattle.wire_base.specs.model.View.{view_of, claims_of}
-use Rattle.wire_base.specs.model.OwnLsp.{own_lsp, own_content}
-use Rattle.wire_base.specs.model.Tlv.{entries_of, entries_within, reach_at, prefix_at}
-use Rattle.wire_base.specs.model.BierInfo.{info_at, parts_within, take_part, any_overlap}
-use Rattle.wire_base.specs.model.Hop.{hop}
-use Rattle.wire_base.specs.model.Walk.{dist}
-use Rattle.wire_base.specs.model.Graph.{owner, covers, node_bift}
-use Rattle.wire_base.specs.model.Tight.{tight_from, next_step}
-use Rattle.wire_base.specs.model.Supporting.{firsts}
-use Rattle.wire_base.specs.model.Choice.{candidates, choice, is_direct}
-use Rattle.wire_base.specs.model.HopCount.{hops, tunnel_links}
-use Rattle.wire_base.specs.model.Item.{ingress_header}
-use Rattle.wire_base.specs.model.Ingress.{packets_for, edge_fault}
+use Rattle.wire_base.specs.model.Graph.{covers}
+use Rattle.course_examples.proofs.OnLiterals.{views_on_literals, hops_on_literals, runs_on_literals}
 
 -- ---- the view
 
@@ -41,19 +25,19 @@ abbrev ingress : Control
 ingress = rest branch_a
 
 view_a : control_view (rest branch_a) ≡ branch_view
-unfolding happens goes_on event_fault in_flight ids_in_flight outcomes_at hop_made_at inject_made over_all view_of claims_of own_lsp own_content entries_of entries_within reach_at prefix_at info_at parts_within take_part any_overlap hop dist owner covers node_bift tight_from next_step firsts candidates choice is_direct hops tunnel_links ingress_header packets_for edge_fault
+unfolding views_on_literals hops_on_literals runs_on_literals
 view_a = refl
 
 view_b : control_view (rest branch_b) ≡ branch_view
-unfolding happens goes_on event_fault in_flight ids_in_flight outcomes_at hop_made_at inject_made over_all view_of claims_of own_lsp own_content entries_of entries_within reach_at prefix_at info_at parts_within take_part any_overlap hop dist owner covers node_bift tight_from next_step firsts candidates choice is_direct hops tunnel_links ingress_header packets_for edge_fault
+unfolding views_on_literals hops_on_literals runs_on_literals
 view_b = refl
 
 view_p : control_view (rest branch_p) ≡ branch_view
-unfolding happens goes_on event_fault in_flight ids_in_flight outcomes_at hop_made_at inject_made over_all view_of claims_of own_lsp own_content entries_of entries_within reach_at prefix_at info_at parts_within take_part any_overlap hop dist owner covers node_bift tight_from next_step firsts candidates choice is_direct hops tunnel_links ingress_header packets_for edge_fault
+unfolding views_on_literals hops_on_literals runs_on_literals
 view_p = refl
 
 view_c : control_view (rest branch_c) ≡ branch_view
-unfolding happens goes_on event_fault in_flight ids_in_flight outcomes_at hop_made_at inject_made over_all view_of claims_of own_lsp own_content entries_of entries_within reach_at prefix_at info_at parts_within take_part any_overlap hop dist owner covers node_bift tight_from next_step firsts candidates choice is_direct hops tunnel_links ingress_header packets_for edge_fault
+unfolding views_on_literals hops_on_literals runs_on_literals
 view_c = refl
 
 views_same : AllByRecursion (λ (c : Control). control_view c ≡ control_view ingress) (map rest branch.routers)
@@ -72,19 +56,19 @@ agrees w same = record {
 
 -- no event changes a database
 stay_1 : (goes_on begun enters).world.routers ≡ map rest branch.routers
-unfolding happens goes_on event_fault in_flight ids_in_flight outcomes_at hop_made_at inject_made over_all view_of claims_of own_lsp own_content entries_of entries_within reach_at prefix_at info_at parts_within take_part any_overlap hop dist owner covers node_bift tight_from next_step firsts candidates choice is_direct hops tunnel_links ingress_header packets_for edge_fault
+unfolding views_on_literals hops_on_literals runs_on_literals
 stay_1 = refl
 
 stay_2 : (fold goes_on (goes_on begun enters) ((2, Take 0 1 0) ∷ [])).world.routers ≡ map rest branch.routers
-unfolding happens goes_on event_fault in_flight ids_in_flight outcomes_at hop_made_at inject_made over_all view_of claims_of own_lsp own_content entries_of entries_within reach_at prefix_at info_at parts_within take_part any_overlap hop dist owner covers node_bift tight_from next_step firsts candidates choice is_direct hops tunnel_links ingress_header packets_for edge_fault
+unfolding views_on_literals hops_on_literals runs_on_literals
 stay_2 = refl
 
 stay_3 : (fold goes_on (goes_on begun enters) ((2, Take 0 1 0) ∷ (3, Take 0 2 0) ∷ [])).world.routers ≡ map rest branch.routers
-unfolding happens goes_on event_fault in_flight ids_in_flight outcomes_at hop_made_at inject_made over_all view_of claims_of own_lsp own_content entries_of entries_within reach_at prefix_at info_at parts_within take_part any_overlap hop dist owner covers node_bift tight_from next_step firsts candidates choice is_direct hops tunnel_links ingress_header packets_for edge_fault
+unfolding views_on_literals hops_on_literals runs_on_literals
 stay_3 = refl
 
 stay_4 : (fold goes_on (goes_on begun enters) taken).world.routers ≡ map rest branch.routers
-unfolding happens goes_on event_fault in_flight ids_in_flight outcomes_at hop_made_at inject_made over_all view_of claims_of own_lsp own_content entries_of entries_within reach_at prefix_at info_at parts_within take_part any_overlap hop dist owner covers node_bift tight_from next_step firsts candidates choice is_direct hops tunnel_links ingress_header packets_for edge_fault
+unfolding views_on_literals hops_on_literals runs_on_literals
 stay_4 = refl
 
 steady : IsSteady (goes_on begun enters) 0 (control_view ingress) 1 taken
@@ -99,7 +83,7 @@ steady = (
 )
 
 allowed : AreAllowed at_rest (unlined (enters ∷ taken))
-unfolding happens goes_on event_fault in_flight ids_in_flight outcomes_at hop_made_at inject_made over_all view_of claims_of own_lsp own_content entries_of entries_within reach_at prefix_at info_at parts_within take_part any_overlap hop dist owner covers node_bift tight_from next_step firsts candidates choice is_direct hops tunnel_links ingress_header packets_for edge_fault
+unfolding views_on_literals hops_on_literals runs_on_literals
 allowed = (
   record { place = omega arith; sd_fits = omega arith; bfr_ids = (omega arith, (omega arith, (omega arith, tt))); lives = omega arith; ttl_fits = omega arith; entropy_fits = omega arith; short = leb-true _ _ refl },
   refl,
@@ -110,15 +94,15 @@ few : length (control_view ingress) ≤ 255
 few = let four = ap (λ (g : List ViewNode). length g) view_a in omega (arith, four)
 
 covered_own : IsCovered branch_a (control_view ingress) (own_node ingress) the_injection 1
-unfolding happens goes_on event_fault in_flight ids_in_flight outcomes_at hop_made_at inject_made over_all view_of claims_of own_lsp own_content entries_of entries_within reach_at prefix_at info_at parts_within take_part any_overlap hop dist owner covers node_bift tight_from next_step firsts candidates choice is_direct hops tunnel_links ingress_header packets_for edge_fault
+unfolding views_on_literals hops_on_literals runs_on_literals
 covered_own = record { reachable = inl refl; covers = record { count = 0; is = refl; enough = omega arith }; tunnels = small_fit (control_view ingress) _ (own_node ingress) few }
 
 covered_b : IsCovered branch_a (control_view ingress) (own_node ingress) the_injection 2
-unfolding happens goes_on event_fault in_flight ids_in_flight outcomes_at hop_made_at inject_made over_all view_of claims_of own_lsp own_content entries_of entries_within reach_at prefix_at info_at parts_within take_part any_overlap hop dist owner covers node_bift tight_from next_step firsts candidates choice is_direct hops tunnel_links ingress_header packets_for edge_fault
+unfolding views_on_literals hops_on_literals runs_on_literals
 covered_b = record { reachable = inr (1, refl); covers = record { count = 1; is = refl; enough = omega arith }; tunnels = small_fit (control_view ingress) _ (own_node ingress) few }
 
 covered_c : IsCovered branch_a (control_view ingress) (own_node ingress) the_injection 4
-unfolding happens goes_on event_fault in_flight ids_in_flight outcomes_at hop_made_at inject_made over_all view_of claims_of own_lsp own_content entries_of entries_within reach_at prefix_at info_at parts_within take_part any_overlap hop dist owner covers node_bift tight_from next_step firsts candidates choice is_direct hops tunnel_links ingress_header packets_for edge_fault
+unfolding views_on_literals hops_on_literals runs_on_literals
 covered_c = record { reachable = inr (3, refl); covers = record { count = 1; is = refl; enough = omega arith }; tunnels = small_fit (control_view ingress) _ (own_node ingress) few }
 
 pub carried : (k : ℕ) → has the_injection.ids k ≡ true → IsCovered branch_a (control_view ingress) (own_node ingress) the_injection k → IsCarried begun enters taken ingress 1 k the_injection

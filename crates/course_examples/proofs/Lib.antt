@@ -1,3 +1,4 @@
+pub mod OnLiterals
 pub mod BranchLaws
 pub mod CarriedLaws
 pub mod CourseCases
