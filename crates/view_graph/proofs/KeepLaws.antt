@@ -10,7 +10,7 @@ use Rattle.wire_base.specs.declared.conf.RouterConf.{RouterConf}
 use Rattle.wire_base.specs.declared.conf.SubKind.{SubKind}
 use Rattle.wire_base.specs.declared.entry.Entry.{Entry}
 use Rattle.wire_base.specs.declared.addresses.SystemId.{SystemId}
-use Rattle.wire_base.specs.model.Control.{same_system, system_order, AreAscending, ids_of}
+use Rattle.wire_base.specs.model.Control.{same_system, system_order}
 use Rattle.wire_base.specs.model.View.{Claim, with_known, put_claim, claim_of, is_other, own_claim, claims_of}
 use Rattle.view_graph.specs.Renewal.{said_now}
 use Rattle.view_graph.specs.Keep.{Keep, IsUnchanged, heard, said_by, said_in, is_named, without_system}

@@ -1,6 +1,5 @@
 -- The nodes where one claim is another one, of the same system and with the same places in subdomains.
-use mathlib.Core.Bool.{false≢true, true≢false}
-use Rattle.std.proofs.Common.{◌≡◌, ℕ, zero, suc, ◌+◌, ◌<◌, ◌&&◌, ◌||◌, not, Bool, true, false, if◌then◌else◌, List, [], ◌∷◌, ◌++◌, length, get_or, set, take, map, filter, Option, Some, None, is_some, option_map, slice_get, Result, Ok, Err, IfOk, refl, sym, ap, ◌∙◌, arith}
+use Rattle.std.proofs.Common.{◌≡◌, ℕ, zero, suc, ◌+◌, ◌<◌, ◌&&◌, ◌||◌, not, Bool, true, false, if◌then◌else◌, List, [], ◌∷◌, ◌++◌, length, get_or, set, filter, Option, Some, None, is_some, option_map, slice_get, Result, Ok, Err, IfOk, refl, sym, ap, ◌∙◌, arith}
 use Rattle.std.proofs.lemmas.Option.{get_or_from_slice_get, slice_get-get_or}
 use Rattle.format_laws.proofs.TlvLaws.{some_is}
 use Rattle.std.specs.Prelude.{option_to_list}

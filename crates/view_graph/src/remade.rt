@@ -128,7 +128,10 @@ fn node_with(
         return node_anew(alloc, claims, node, place, claim, claim);
     }
     let other = &claims[at];
-    if agree(lists(&claims[place], &other.system), lists(claim, &other.system)) {
+    if agree(
+        lists(&claims[place], &other.system),
+        lists(claim, &other.system),
+    ) {
         return copy_of(alloc, node);
     }
     node_anew(alloc, claims, node, place, claim, other)

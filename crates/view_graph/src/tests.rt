@@ -29,7 +29,10 @@ const B_SAYS_FAR: &[u8] =
 const B_SAYS_ELSEWHERE: &[u8] =
     b"\x01\x04\x03\x49\0\x01\x81\x01\xcc\x89\x01B\x16\x16\0\0\0\0\0\x01\0\0\0\x0a\0\0\0\0\0\0\x03\0\0\0\x0a\0\x87\x17\0\0\0\0\x60\x0a\0\0\x09\x0d\x20\x0b\0\0\0\0\x02\x01\x04\0\x10\0\xc8";
 
-const BOTH: &[ViewEdge] = &[ViewEdge { to: 1, metric: 10 }, ViewEdge { to: 3, metric: 10 }];
+const BOTH: &[ViewEdge] = &[
+    ViewEdge { to: 1, metric: 10 },
+    ViewEdge { to: 3, metric: 10 },
+];
 
 /// In the settled ring each router has an edge to both neighbours and one label; an end that is down takes its edge away
 /// at both ends.

@@ -1,6 +1,5 @@
-use Rattle.std.proofs.Common.{◌≡◌, Some, set, slice_get, sym, ap, ◌∙◌}
-use Rattle.wire_base.specs.declared.view.ViewNode.{ViewNode}
-use Rattle.wire_base.specs.model.View.{Claim, edges_from, lists, node_of}
+use Rattle.std.proofs.Common.{sym, ap, ◌∙◌}
+use Rattle.wire_base.specs.model.View.{Claim, lists}
 use Rattle.view_graph.proofs.RemadeLaws.{if_ok, anew_here, anew_there, before_there}
 use Rattle.view_graph.proofs.remade.node_with.Goals as goal
 

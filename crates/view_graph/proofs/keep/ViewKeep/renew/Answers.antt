@@ -1,5 +1,4 @@
-use Rattle.std.proofs.Common.{◌∷◌, List, set, Option, Some, refl, sym, ap, subst, ◌∙◌, arith}
-use Rattle.wire_base.specs.declared.entry.Entry.{Entry}
+use Rattle.std.proofs.Common.{◌∷◌, set, Option, Some, sym, ap, subst, ◌∙◌, arith}
 use Rattle.wire_base.specs.model.Control.{IsDatabase}
 use Rattle.wire_base.specs.model.View.{Claim}
 use Rattle.view_graph.specs.Edges.{place_in}
