@@ -8,7 +8,7 @@ mod measure;
 mod ring;
 mod stop;
 
-ghost use Rattle.std.specs.Prelude.{◌≤◌};
+ghost use Rattle.std.specs.Prelude.{◌≤◌, ◌<◌};
 
 use measure::measure;
 use std::env;
@@ -24,7 +24,8 @@ fn asks_for_times(rt: &HostRuntime) -> Result<bool, Stop> {
 }
 
 fn show(rt: &HostRuntime, nodes: u16, with_times: bool) -> Result<(), Stop>
-    requires { nodes ≤ 1000 }
+    requires few { nodes ≤ 1000 }
+    requires some { 0 < nodes }
 {
     let (ring, times) = measure(rt, nodes)?;
     println!(rt;
@@ -33,8 +34,8 @@ fn show(rt: &HostRuntime, nodes: u16, with_times: bool) -> Result<(), Stop>
     )?;
     if with_times {
         println!(rt;
-            "  view {} us, distances to each {} us, rows {} us",
-            times.view, times.distances, times.rows
+            "  view {} us, renewal {} us, distances to each {} us, rows {} us",
+            times.view, times.renewal, times.distances, times.rows
         )?;
     }
     Ok(())

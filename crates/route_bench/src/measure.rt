@@ -1,15 +1,17 @@
 //! What a ring is like, and how long its parts take.
-ghost use Rattle.std.specs.Prelude.{◌≤◌, length};
+ghost use Rattle.std.specs.Prelude.{◌≡◌, ◌≤◌, ◌<◌, length};
+ghost use Rattle.wire_base.specs.model.Configuration.{IsSound};
 
 use crate::conf::own_conf;
-use crate::ring::database;
+use crate::ring::{changed_entry, database};
 use crate::stop::Stop;
 use birt_rows::rows;
+use lsp_store::Store;
 use path_tree::distances_to;
 use std::alloc::Global;
-use std::time::Instant;
-use view_graph::view;
-use wire_base::{Bsl, M, RouterConf, Triple, View};
+use std::time::{Duration, Instant};
+use view_graph::{ViewKeep, view};
+use wire_base::{Bsl, Entry, M, RouterConf, Triple, View};
 
 /// How many edges a ring has, how far router 1 is from the farthest, the sum of its distances, and how many bits of the
 /// first set of 256 have a row at router 1.
@@ -21,20 +23,23 @@ pub struct Ring {
     pub rows: usize,
 }
 
-/// The microseconds that the view took, the distances to each router, and the rows of one set.
+/// The microseconds that the view took, its renewal once a metric has changed, the distances to each router, and the rows
+/// of one set.
 #[derive(Clone, Copy)]
 pub struct Times {
     pub view: u128,
+    pub renewal: u128,
     pub distances: u128,
     pub rows: u128,
 }
 
 pub fn measure(rt: &HostRuntime, nodes: u16) -> Result<(Ring, Times), Stop>
-    requires { nodes ≤ 1000 }
+    requires few { nodes ≤ 1000 }
+    requires some { 0 < nodes }
 {
     let alloc = rt.alloc();
     let conf = own_conf(alloc)?;
-    let store = database(alloc, nodes)?;
+    let mut store = database(alloc, nodes)?;
     let start = Instant::now(rt)?;
     let seen = view(alloc, &conf, &[true, true], &store)?;
     let viewed = start.elapsed(rt)?;
@@ -44,6 +49,7 @@ pub fn measure(rt: &HostRuntime, nodes: u16) -> Result<(Ring, Times), Stop>
     let start = Instant::now(rt)?;
     let rows = routed(alloc, &seen, &conf)?;
     let routed = start.elapsed(rt)?;
+    let renewal = renewed(rt, &conf, &mut store, changed_entry(alloc, nodes)?)?;
     let ring = Ring {
         edges: seen
             .as_slice()
@@ -56,10 +62,32 @@ pub fn measure(rt: &HostRuntime, nodes: u16) -> Result<(Ring, Times), Stop>
     };
     let times = Times {
         view: viewed.as_micros(),
+        renewal: renewal.as_micros(),
         distances: searched.as_micros(),
         rows: routed.as_micros(),
     };
     Ok((ring, times))
+}
+
+/// How long it takes to renew the view, once an entry is another one.
+fn renewed(
+    rt: &HostRuntime,
+    conf: &RouterConf,
+    store: &mut Store,
+    entry: Entry,
+) -> Result<Duration, Stop>
+    requires sound { IsSound conf.now }
+    requires ends { length conf.now.ends ≡ 2 }
+{
+    let system = entry.id.system;
+    let mut keep = ViewKeep::new(rt.alloc(), conf, &[true, true], store)?;
+    match store.put(entry) {
+        Ok(()) => (),
+        Err(_) => return Err(Stop::Memory),
+    }
+    let start = Instant::now(rt)?;
+    let _is_new = keep.renew(conf, &[true, true], store, &[system])?;
+    Ok(start.elapsed(rt)?)
 }
 
 /// How far router 1 is from the farthest router, and the sum of its distances: of those to each router in turn.

@@ -27,15 +27,16 @@ fn append_link(content: &mut Octets, router: u16, metric: u8) -> M<()> {
     content.append(&[0, 0, 0, metric, 0])
 }
 
-/// Appends the links of the router at a place: those of the ring, and at each fifth place a chord to the other side.
-fn append_links(content: &mut Octets, nodes: u16, place: u16) -> M<()>
+/// Appends the links of the router at a place: those of the ring, and at each fifth place a chord to the other side. The
+/// link to the next router has that metric.
+fn append_links(content: &mut Octets, nodes: u16, place: u16, metric: u8) -> M<()>
     requires few { nodes ≤ 1000 }
     requires some { 0 < nodes }
     requires within { place < nodes }
 {
     let chord = place % 5 == 2;
     content.append(&[22, if chord { 33 } else { 22 }])?;
-    append_link(content, router_at(nodes, (place + 1) % nodes), 10)?;
+    append_link(content, router_at(nodes, (place + 1) % nodes), metric)?;
     append_link(content, router_at(nodes, (place + nodes - 1) % nodes), 10)?;
     if chord {
         append_link(content, router_at(nodes, (place + nodes / 2) % nodes), 25)?;
@@ -53,29 +54,37 @@ fn append_place(content: &mut Octets, router: u16) -> M<()> {
     content.append(&range.to_be_bytes())
 }
 
-fn put_router(store: &mut Store, alloc: Global, nodes: u16, place: u16) -> M<()>
+/// What the router at a place says of itself.
+fn router_entry(alloc: Global, nodes: u16, place: u16, seq: u32, metric: u8) -> M<Entry>
     requires few { nodes ≤ 1000 }
     requires some { 0 < nodes }
     requires within { place < nodes }
 {
     let router = router_at(nodes, place);
     let mut content = Octets::new(alloc);
-    append_links(&mut content, nodes, place)?;
+    append_links(&mut content, nodes, place, metric)?;
     append_place(&mut content, router)?;
-    let entry = Entry {
+    Ok(Entry {
         id: LspId {
             system: system(router),
             pseudonode: 0,
             fragment: 0,
         },
-        seq: 1,
+        seq,
         life: 1200,
         hold: 0,
         sum: 1,
         flags: 3,
         content,
-    };
-    match store.put(entry) {
+    })
+}
+
+fn put_router(store: &mut Store, alloc: Global, nodes: u16, place: u16) -> M<()>
+    requires few { nodes ≤ 1000 }
+    requires some { 0 < nodes }
+    requires within { place < nodes }
+{
+    match store.put(router_entry(alloc, nodes, place, 1, 10)?) {
         Ok(()) => Ok(()),
         Err(_) => Err(Memory),
     }
@@ -90,4 +99,12 @@ pub fn database(alloc: Global, nodes: u16) -> M<Store>
         put_router(&mut store, alloc, nodes, place)?;
     }
     Ok(store)
+}
+
+/// What the router half-way round says once the metric of a link has changed.
+pub fn changed_entry(alloc: Global, nodes: u16) -> M<Entry>
+    requires few { nodes ≤ 1000 }
+    requires some { 0 < nodes }
+{
+    router_entry(alloc, nodes, nodes / 2, 2, 20)
 }

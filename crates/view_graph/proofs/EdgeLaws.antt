@@ -224,22 +224,23 @@ half_leads p (suc i) (Some n ∷ ms) =
 from_start : (i : ℕ) (ms : List (Option ℕ)) → leads_to i (half_edges 0 ms) ≡ is_some (get_or ms i None)
 from_start i ms = let e : i ≡ 0 + i = omega arith in ap (λ q. leads_to q (half_edges 0 ms)) e ∙ half_leads 0 i ms
 
-edges_whole : (h : ℕ → List ViewEdge) (i : ℕ) (c : Claim) (ds : List Claim) (p : ℕ) → ((k : ℕ) (d : Claim) → slice_get ds k ≡ Some d → leads_to i (h (p + k)) ≡ lists d c.system) → edges_from c p ds ≡ filter (λ e. leads_to i (h e.to)) (half_edges p (metrics_to c.links ds))
-edges_whole h i c [] p all = refl
-edges_whole h i c (d ∷ ds) p all =
+-- the edges are those of one end that pass where the system at the other end lists this one
+pub edges_whole : (g : ℕ → Bool) (c : Claim) (ds : List Claim) (p : ℕ) → ((k : ℕ) (d : Claim) → slice_get ds k ≡ Some d → g (p + k) ≡ lists d c.system) → edges_from c p ds ≡ filter (λ e. g e.to) (half_edges p (metrics_to c.links ds))
+edges_whole g c [] p all = refl
+edges_whole g c (d ∷ ds) p all =
     let p0 : p ≡ p + 0 = omega arith in
-    by (metric_to c.links d.system) refl (lists d c.system) refl (ap (λ q. leads_to i (h q)) p0 ∙ all 0 d refl)
-    (edges_whole h i c ds (p + 1) (λ k x at. let e : (p + 1) + k ≡ p + suc k = omega arith in ap (λ q. leads_to i (h q)) e ∙ all (suc k) x at))
+    by (metric_to c.links d.system) refl (lists d c.system) refl (ap g p0 ∙ all 0 d refl)
+    (edges_whole g c ds (p + 1) (λ k x at. let e : (p + 1) + k ≡ p + suc k = omega arith in ap g e ∙ all (suc k) x at))
   where
-    by : (o : Option ℕ) → metric_to c.links d.system ≡ o → (b : Bool) → lists d c.system ≡ b → leads_to i (h p) ≡ lists d c.system
-        → edges_from c (p + 1) ds ≡ filter (λ e. leads_to i (h e.to)) (half_edges (p + 1) (metrics_to c.links ds))
-        → edges_from c p (d ∷ ds) ≡ filter (λ e. leads_to i (h e.to)) (half_edges p (metrics_to c.links (d ∷ ds)))
+    by : (o : Option ℕ) → metric_to c.links d.system ≡ o → (b : Bool) → lists d c.system ≡ b → g p ≡ lists d c.system
+        → edges_from c (p + 1) ds ≡ filter (λ e. g e.to) (half_edges (p + 1) (metrics_to c.links ds))
+        → edges_from c p (d ∷ ds) ≡ filter (λ e. g e.to) (half_edges p (metrics_to c.links (d ∷ ds)))
     by None e true f here more = rw (e, f) more
     by None e false f here more = rw (e, f) more
     by (Some m) e true f here more = rw (e, here, f) (ap (λ (es : List ViewEdge). record { to = p; metric = m } ∷ es) more)
     by (Some m) e false f here more = rw (e, here, f) more
 
-get_map : {X Y : Type 0} (f : X → Y) (xs : List X) (i : ℕ) (x : X) (d : Y) → slice_get xs i ≡ Some x → get_or (map f xs) i d ≡ f x
+pub get_map : {X Y : Type 0} (f : X → Y) (xs : List X) (i : ℕ) (x : X) (d : Y) → slice_get xs i ≡ Some x → get_or (map f xs) i d ≡ f x
 get_map f [] i x d at = absurd cc
 get_map {X} {Y} f (y ∷ ys) zero x d at = ap (λ (o : Option X). on o) at
   where
@@ -253,7 +254,7 @@ edges_are claims i c at =
     let halves : List (List ViewEdge) = map (half_edges_of claims) claims in
     let own : get_or halves i [] ≡ half_edges_of claims c = get_map (half_edges_of claims) claims i c [] at in
     ap (λ es. filter (λ e. leads_to i (get_or halves e.to [])) es) own
-    ∙ sym (edges_whole (λ k. get_or halves k []) i c claims 0 (λ k d there. let e : 0 + k ≡ k = omega arith in ap (λ q. leads_to i (get_or halves q [])) e ∙ ap (λ es. leads_to i es) (get_map (half_edges_of claims) claims k d [] there) ∙ from_start i (metrics_to d.links claims) ∙ ap is_some (get_map (λ (x : Claim). metric_to d.links x.system) claims i c None at)))
+    ∙ sym (edges_whole (λ k. leads_to i (get_or halves k [])) c claims 0 (λ k d there. let e : 0 + k ≡ k = omega arith in ap (λ q. leads_to i (get_or halves q [])) e ∙ ap (λ es. leads_to i es) (get_map (half_edges_of claims) claims k d [] there) ∙ from_start i (metrics_to d.links claims) ∙ ap is_some (get_map (λ (x : Claim). metric_to d.links x.system) claims i c None at)))
 
 pub put_at : (es : List ViewEdge) (place to m : ℕ) (e : ViewEdge) → place ≡ edge_place to es → leads_at to (drop place es) ≡ true → e ≡ get_or es place e → set es place (record { to = to; metric = min m e.metric }) ≡ put_edge to m es
 put_at es place to m e p leads at =

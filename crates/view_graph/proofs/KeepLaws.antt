@@ -1,6 +1,6 @@
 -- What the other systems say is what is left of all claims without the own one.
 use mathlib.Core.Bool.{true≢false}
-use Rattle.std.proofs.Common.{◌≡◌, Bool, true, false, List, [], ◌∷◌, map, filter, Some, None, refl, sym, ap, subst, ◌∙◌}
+use Rattle.std.proofs.Common.{◌≡◌, ◌||◌, Bool, true, false, if◌then◌else◌, List, [], ◌∷◌, map, filter, Some, None, refl, sym, ap, subst, ◌∙◌}
 use Rattle.std.specs.declared.cmp.Ordering.{Ordering}
 use Rattle.std.specs.declared.cmp.Ordering.TheVariants.{Less, Equal, Greater}
 use Rattle.std.specs.Ordering.{is_eq, is_lt, is_gt}
@@ -10,16 +10,17 @@ use Rattle.wire_base.specs.declared.conf.RouterConf.{RouterConf}
 use Rattle.wire_base.specs.declared.conf.SubKind.{SubKind}
 use Rattle.wire_base.specs.declared.entry.Entry.{Entry}
 use Rattle.wire_base.specs.declared.addresses.SystemId.{SystemId}
-use Rattle.wire_base.specs.model.Control.{same_system, system_order, AreAscending, ids_of}
-use Rattle.wire_base.specs.model.View.{Claim, with_known, put_claim, claim_of, is_other, own_claim, claims_of, nodes_of, view_of}
-use Rattle.view_graph.specs.Keep.{Keep, IsKept, IsUnchanged, heard, said_by, said_in, is_named, without_system}
+use Rattle.wire_base.specs.model.Control.{same_system, system_order}
+use Rattle.wire_base.specs.model.View.{Claim, with_known, put_claim, claim_of, is_other, own_claim, claims_of}
+use Rattle.view_graph.specs.Renewal.{said_now}
+use Rattle.view_graph.specs.Keep.{Keep, IsUnchanged, heard, said_by, said_in, is_named, without_system}
 use Rattle.wire_base.specs.declared.view.ViewNode.{ViewNode}
 use Rattle.view_graph.specs.Edges.{is_before, AreInOrder}
 use Rattle.format_laws.proofs.TlvLaws.{some_is}
 use Rattle.view_graph.proofs.FragmentLaws.{same_is}
 use Rattle.view_graph.proofs.HeardLaws.{said_heard}
 use Rattle.view_graph.proofs.SystemLaws.{tie_is_same, before_trans, before_differs, before_from_above, same_turned}
-use Rattle.view_graph.proofs.GraphLaws.{others, others_apart, all_weaker, claims_in_order}
+use Rattle.view_graph.proofs.GraphLaws.{others, others_apart, all_weaker}
 
 kept : (s : SystemId) (kinds : List SubKind) (cs : List Claim) → AllByRecursion (λ d. same_system d.system s ≡ false) cs → without_system s (map (with_known kinds) cs) ≡ map (with_known kinds) cs
 kept s kinds [] apart = refl
@@ -104,49 +105,36 @@ pub said_own : (r : RouterConf) (up : List Bool) (entries : List Entry) → said
 unfolding claims_of others
 said_own r up entries = said_put r.kinds (own_claim r up) (map (claim_of entries) (filter (is_other r.system) entries)) (others_apart entries r.system entries)
 
--- where what is kept of the router, of each named system and of each other one is what is said now, all is as before
-pub all_kept : (r : RouterConf) (up : List Bool) (entries : List Entry) (claims : List Claim) (changed : List SystemId) (own : Claim) → AreAscending (ids_of entries) → AreInOrder claims
-    → ((s : SystemId) → same_system s r.system ≡ false → is_named changed s ≡ false → said_by (without_system r.system claims) s ≡ said_by (heard r.system r.kinds entries) s)
-    → ((s : SystemId) → is_named changed s ≡ true → said_by claims s ≡ said_in r.kinds entries s) → own ≡ with_known r.kinds (own_claim r up) → said_by claims r.system ≡ Some own
-    → claims ≡ map (with_known r.kinds) (claims_of r up entries)
-all_kept r up entries claims changed own asc order unchanged named is kept = same_claims claims (map (with_known r.kinds) (claims_of r up entries)) order (claims_in_order r up entries asc) (λ s. cases s (same_system s r.system) refl)
+-- what each system says now
+pub now_is : (r : RouterConf) (up : List Bool) (entries : List Entry) (s : SystemId) → said_by (map (with_known r.kinds) (claims_of r up entries)) s ≡ said_now r up entries s
+unfolding said_now
+now_is r up entries s = cases (same_system s r.system) refl
   where
-    fresh : (s : SystemId) → same_system s r.system ≡ false → said_by (map (with_known r.kinds) (claims_of r up entries)) s ≡ said_by (heard r.system r.kinds entries) s
-    fresh s apart = sym (said_without r.system s (map (with_known r.kinds) (claims_of r up entries)) apart) ∙ ap (λ (cs : List Claim). said_by cs s) (heard_is r up entries)
+    cases : (b : Bool) → same_system s r.system ≡ b → said_by (map (with_known r.kinds) (claims_of r up entries)) s ≡ (if same_system s r.system then Some (with_known r.kinds (own_claim r up)) else said_in r.kinds entries s)
+    cases true h = rw h (ap (said_by (map (with_known r.kinds) (claims_of r up entries))) (same_is s r.system h) ∙ said_own r up entries)
+    cases false h = rw h (sym (said_without r.system s (map (with_known r.kinds) (claims_of r up entries)) h) ∙ ap (λ (cs : List Claim). said_by cs s) (heard_is r up entries) ∙ said_heard r.kinds entries r.system s h)
 
-    cases : (s : SystemId) (b : Bool) → same_system s r.system ≡ b → said_by claims s ≡ said_by (map (with_known r.kinds) (claims_of r up entries)) s
-    cases s true h =
-        let own_is : s ≡ r.system = same_is s r.system h in
-        ap (said_by claims) own_is ∙ kept ∙ ap (λ (c : Claim). Some c) is ∙ sym (said_own r up entries) ∙ ap (said_by (map (with_known r.kinds) (claims_of r up entries))) (sym own_is)
-    cases s false h = either (is_named changed s) refl
-      where
-        either : (t : Bool) → is_named changed s ≡ t → said_by claims s ≡ said_by (map (with_known r.kinds) (claims_of r up entries)) s
-        either true k = named s k ∙ sym (said_heard r.kinds entries r.system s h) ∙ sym (fresh s h)
-        either false k = sym (said_without r.system s claims h) ∙ unchanged s h k ∙ sym (fresh s h)
+-- what is kept of a system that is neither the router nor named is what it says now
+pub unnamed_now : (k : Keep) (r : RouterConf) (up : List Bool) (entries : List Entry) (system : SystemId) (kinds : List SubKind) (claims : List Claim) (nodes : List ViewNode) (changed : List SystemId)
+    → record { nodes = nodes; system = system; kinds = kinds; others = without_system system claims } ≡ k → r.system ≡ k.system → r.kinds ≡ k.kinds → IsUnchanged k changed entries
+    → (s : SystemId) → is_named (r.system ∷ changed) s ≡ false → said_by claims s ≡ said_now r up entries s
+unfolding said_now
+unnamed_now k r up entries system kinds claims nodes changed view own own_kinds unchanged s h = cases (same_system r.system s) refl (is_named changed s) refl h
+  where
+    before : Keep
+    before = record { nodes = nodes; system = system; kinds = kinds; others = without_system system claims }
 
-as_kept : (k : Keep) (r : RouterConf) (up : List Bool) (entries : List Entry) (system : SystemId) (kinds ks : List SubKind) (claims seen : List Claim) (nodes : List ViewNode) (changed : List SystemId) → AreAscending (ids_of entries) → IsKept claims nodes
-    → record { nodes = nodes; system = system; kinds = kinds; others = without_system system claims } ≡ k → r.system ≡ k.system → r.kinds ≡ k.kinds → IsUnchanged k changed entries → seen ≡ claims → ks ≡ r.kinds
-    → ((s : SystemId) → is_named changed s ≡ true → said_by seen s ≡ said_in ks entries s) → said_by seen r.system ≡ Some (with_known r.kinds (own_claim r up)) → claims ≡ map (with_known r.kinds) (claims_of r up entries)
-as_kept k r up entries system kinds ks claims seen nodes changed asc keep view own own_kinds unchanged slice known named kept =
-    let before : Keep = record { nodes = nodes; system = system; kinds = kinds; others = without_system system claims } in
-    let a : IsUnchanged before changed entries = subst (λ (x : Keep). IsUnchanged x changed entries) (sym view) unchanged in
-    let system_is : system ≡ r.system = ap (λ (x : Keep). x.system) view ∙ sym own in
-    let kinds_are : kinds ≡ r.kinds = ap (λ (x : Keep). x.kinds) view ∙ sym own_kinds in
-    let b = subst (λ (t : SystemId). (s : SystemId) → same_system s t ≡ false → is_named changed s ≡ false → said_by (without_system t claims) s ≡ said_by (heard t kinds entries) s) system_is a in
-    let c = subst (λ (ts : List SubKind). (s : SystemId) → same_system s r.system ≡ false → is_named changed s ≡ false → said_by (without_system r.system claims) s ≡ said_by (heard r.system ts entries) s) kinds_are b in
-    all_kept r up entries claims changed (with_known r.kinds (own_claim r up)) asc keep.in_order c
-    (λ s h. ap (λ (cs : List Claim). said_by cs s) (sym slice) ∙ named s h ∙ ap (λ (ts : List SubKind). said_in ts entries s) known) refl (ap (λ (cs : List Claim). said_by cs r.system) (sym slice) ∙ kept)
+    said : same_system s r.system ≡ false → is_named changed s ≡ false → said_by (without_system r.system claims) s ≡ said_by (heard r.system r.kinds entries) s
+    said =
+        let a : IsUnchanged before changed entries = subst (λ (x : Keep). IsUnchanged x changed entries) (sym view) unchanged in
+        let system_is : system ≡ r.system = ap (λ (x : Keep). x.system) view ∙ sym own in
+        let kinds_are : kinds ≡ r.kinds = ap (λ (x : Keep). x.kinds) view ∙ sym own_kinds in
+        let b = subst (λ (t : SystemId). same_system s t ≡ false → is_named changed s ≡ false → said_by (without_system t claims) s ≡ said_by (heard t kinds entries) s) system_is (a s) in
+        subst (λ (ts : List SubKind). same_system s r.system ≡ false → is_named changed s ≡ false → said_by (without_system r.system claims) s ≡ said_by (heard r.system ts entries) s) kinds_are b
 
-pub kept_nodes : (k : Keep) (r : RouterConf) (up : List Bool) (entries : List Entry) (system : SystemId) (kinds ks : List SubKind) (claims seen : List Claim) (nodes : List ViewNode) (changed : List SystemId) → AreAscending (ids_of entries) → IsKept claims nodes
-    → record { nodes = nodes; system = system; kinds = kinds; others = without_system system claims } ≡ k → r.system ≡ k.system → r.kinds ≡ k.kinds → IsUnchanged k changed entries → seen ≡ claims → ks ≡ r.kinds
-    → ((s : SystemId) → is_named changed s ≡ true → said_by seen s ≡ said_in ks entries s) → said_by seen r.system ≡ Some (with_known r.kinds (own_claim r up)) → k.nodes ≡ view_of r up entries
-unfolding view_of
-kept_nodes k r up entries system kinds ks claims seen nodes changed asc keep view own own_kinds unchanged slice known named kept =
-    sym (ap (λ (x : Keep). x.nodes) view) ∙ keep.made ∙ ap nodes_of (as_kept k r up entries system kinds ks claims seen nodes changed asc keep view own own_kinds unchanged slice known named kept)
-
-pub kept_others : (k : Keep) (r : RouterConf) (up : List Bool) (entries : List Entry) (system : SystemId) (kinds ks : List SubKind) (claims seen : List Claim) (nodes : List ViewNode) (changed : List SystemId) → AreAscending (ids_of entries) → IsKept claims nodes
-    → record { nodes = nodes; system = system; kinds = kinds; others = without_system system claims } ≡ k → r.system ≡ k.system → r.kinds ≡ k.kinds → IsUnchanged k changed entries → seen ≡ claims → ks ≡ r.kinds
-    → ((s : SystemId) → is_named changed s ≡ true → said_by seen s ≡ said_in ks entries s) → said_by seen r.system ≡ Some (with_known r.kinds (own_claim r up)) → k.others ≡ heard r.system r.kinds entries
-kept_others k r up entries system kinds ks claims seen nodes changed asc keep view own own_kinds unchanged slice known named kept =
-    let system_is : system ≡ r.system = ap (λ (x : Keep). x.system) view ∙ sym own in
-    sym (ap (λ (x : Keep). x.others) view) ∙ ap (λ (t : SystemId). without_system t claims) system_is ∙ ap (without_system r.system) (as_kept k r up entries system kinds ks claims seen nodes changed asc keep view own own_kinds unchanged slice known named kept) ∙ heard_is r up entries
+    cases : (b : Bool) → same_system r.system s ≡ b → (t : Bool) → is_named changed s ≡ t → (same_system r.system s || is_named changed s) ≡ false → said_by claims s ≡ (if same_system s r.system then Some (with_known r.kinds (own_claim r up)) else said_in r.kinds entries s)
+    cases true e t f k = absurd (true≢false (sym (ap (λ b. b || is_named changed s) e) ∙ k))
+    cases false e true f k = absurd (true≢false (sym (ap (λ b. b || is_named changed s) e ∙ f) ∙ k))
+    cases false e false f k =
+        let apart : same_system s r.system ≡ false = same_turned s r.system ∙ e in
+        rw apart (sym (said_without r.system s claims apart) ∙ said apart f ∙ said_heard r.kinds entries r.system s apart)

@@ -7,6 +7,8 @@ pub mod ListLaws
 pub mod HeardLaws
 pub mod KeepLaws
 pub mod OwnerLaws
+pub mod RemadeLaws
+pub mod RenewalLaws
 pub mod SameLaws
 pub mod SystemLaws
 pub mod ViewLaws

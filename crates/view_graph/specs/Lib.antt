@@ -2,3 +2,4 @@ pub mod Edges
 pub mod Places
 pub mod Keep
 pub mod Owners
+pub mod Renewal

@@ -99,7 +99,7 @@ fn count(claims: &[Claim], edges: &mut Vec<ViewEdge>, link: &Link) -> M<()>
 }
 
 /// The edges that a system lists itself, in the order of the systems that they lead to.
-fn half_edges(alloc: Global, claims: &[Claim], links: &[Link]) -> M<Rows<ViewEdge>>
+pub(crate) fn half_edges(alloc: Global, claims: &[Claim], links: &[Link]) -> M<Rows<ViewEdge>>
     requires order { AreInOrder claims.now }
     requires few { length claims.now ≤ 65536 }
     ensures { IfOk result (λ edges. edges ≡ half_edges 0 (metrics_to links.now claims.now)) }

@@ -1,17 +1,15 @@
 //! What a system says in a database, and whether it is what is kept of it.
-ghost use Rattle.std.specs.Prelude.{◌≡◌, ◌≤◌, Decides, length, true, Some, IfOk};
+ghost use Rattle.std.specs.Prelude.{◌≡◌, ◌≤◌, Decides, length, true, IfOk};
 ghost use Rattle.wire_base.specs.model.Control.{AreAscending, ids_of};
-ghost use Rattle.wire_base.specs.declared.addresses.SystemId.{SystemId};
-ghost use Rattle.wire_base.specs.model.View.{own_claim, with_known};
 ghost use Rattle.view_graph.specs.Edges.{AreInOrder};
-ghost use Rattle.view_graph.specs.Keep.{is_first_of, is_named, said_by, said_in};
+ghost use Rattle.view_graph.specs.Keep.{is_first_of, said_by, said_in};
 
-use crate::claims::{Claim, claim_of, own_claim, with_known};
+use crate::claims::{Claim, claim_of, with_known};
 use crate::edges::{place_in, stands_at};
 use crate::links::Link;
 use crate::same::are_same_subs;
 use std::alloc::Global;
-use wire_base::{Entry, M, RouterConf, SubKind, SystemId};
+use wire_base::{Entry, M, SubKind, SystemId};
 
 /// A live fragment 0 of a system.
 fn is_first_of(system: &SystemId, entry: &Entry) -> bool
@@ -24,7 +22,7 @@ fn is_first_of(system: &SystemId, entry: &Entry) -> bool
 }
 
 /// What a system says in a database. None where it has no live fragment 0.
-fn said_in(
+pub(crate) fn said_in(
     alloc: Global,
     kinds: &[SubKind],
     entries: &[Entry],
@@ -82,7 +80,7 @@ fn is_same_claim(a: &Claim, b: &Claim) -> bool
 }
 
 /// Whether what is kept of a system is that.
-fn is_kept(claims: &[Claim], system: &SystemId, said: &Option<Claim>) -> bool
+pub(crate) fn is_kept(claims: &[Claim], system: &SystemId, said: &Option<Claim>) -> bool
     requires order { AreInOrder claims.now }
     requires few { length claims.now ≤ 65536 }
     ensures { result ≡ true → said_by claims.now system.now ≡ said.now }
@@ -93,60 +91,4 @@ fn is_kept(claims: &[Claim], system: &SystemId, said: &Option<Claim>) -> bool
         Some(claim) => is_there && is_same_claim(&claims[place], claim),
         None => !is_there,
     }
-}
-
-/// Whether what is kept of the router itself is what it claims.
-pub(crate) fn is_own_kept(
-    alloc: Global,
-    claims: &[Claim],
-    conf: &RouterConf,
-    up: &[bool],
-) -> M<bool>
-    requires order { AreInOrder claims.now }
-    requires few { length claims.now ≤ 65536 }
-    requires one_each { length up.now ≡ length conf.now.ends }
-    ensures { IfOk result (λ same. same ≡ true → said_by claims.now conf.now.system ≡ Some (with_known conf.now.kinds (own_claim conf.now up.now))) }
-{
-    let own = own_claim(alloc, conf, up)?;
-    let known = with_known(alloc, conf.kinds.as_slice(), own)?;
-    Ok(is_kept(claims, &conf.system, &Some(known)))
-}
-
-/// Whether what is kept of a system is what a database says.
-fn is_said(
-    alloc: Global,
-    claims: &[Claim],
-    kinds: &[SubKind],
-    entries: &[Entry],
-    system: &SystemId,
-) -> M<bool>
-    requires order { AreInOrder claims.now }
-    requires few { length claims.now ≤ 65536 }
-    requires ascending { AreAscending (ids_of entries.now) }
-    ensures { IfOk result (λ same. same ≡ true → said_by claims.now system.now ≡ said_in kinds.now entries.now system.now) }
-{
-    let said = said_in(alloc, kinds, entries, system)?;
-    Ok(is_kept(claims, system, &said))
-}
-
-/// Whether what is kept of all those systems is what a database says.
-pub(crate) fn are_kept(
-    alloc: Global,
-    claims: &[Claim],
-    kinds: &[SubKind],
-    entries: &[Entry],
-    changed: &[SystemId],
-) -> M<bool>
-    requires order { AreInOrder claims.now }
-    requires few { length claims.now ≤ 65536 }
-    requires ascending { AreAscending (ids_of entries.now) }
-    ensures { IfOk result (λ same. same ≡ true → (s : SystemId) → is_named changed.now s ≡ true → said_by claims.now s ≡ said_in kinds.now entries.now s) }
-{
-    'systems: for place in 0..changed.len() {
-        let system = &changed[place];
-        if !is_said(alloc, claims, kinds, entries, system)? {
-            return Ok(false);
-        }
-    }
-    Ok(true)
 }

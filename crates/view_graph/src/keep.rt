@@ -7,8 +7,10 @@ ghost use Rattle.view_graph.specs.Edges.{AreInOrder};
 ghost use Rattle.view_graph.specs.Keep.{IsUnchanged, heard, without_system};
 
 use crate::claims::{Claim, claims_of};
-use crate::heard::{are_kept, is_own_kept};
+use crate::edges::place_in;
 use crate::nodes::nodes_of;
+use crate::remade::nodes_with;
+use crate::renewal::found;
 use crate::same::are_same_nodes;
 use lsp_store::Store;
 use std::alloc::Global;
@@ -94,38 +96,37 @@ impl ViewKeep {
         ensures heard { OnOk result (self.new.others ≡ heard conf.now.system conf.now.kinds store.now.entries) }
         ensures err { OnErr result (self.new ≡ self.old) }
     {
-        if self.is_as_kept(conf, up, store.as_slice(), changed)? {
+        let alloc = self.kinds.allocator();
+        let claims = self.claims.as_slice();
+        let Some(change) = found(alloc, claims, conf, up, store.as_slice(), changed)? else {
+            return self.make_anew(conf, up, store);
+        };
+        let Some(claim) = change else {
             return Ok(false);
-        }
+        };
+        let place = place_in(claims, &claim.system);
+        let nodes = nodes_with(alloc, claims, self.view.as_slice(), place, &claim)?;
+        let are_same = are_same_nodes(self.view.as_slice(), nodes.as_slice());
+        self.claims[place] = claim;
+        self.view = View { nodes };
+        Ok(!are_same)
+    }
+
+    /// The same from nothing.
+    fn make_anew(&mut self, conf: &RouterConf, up: &[bool], store: &Store) -> M<bool>
+        requires one_each { length up.now ≡ length conf.now.ends }
+        requires sound { IsSound conf.now }
+        ensures exact { OnOk result (self.new.nodes ≡ view_of conf.now up.now store.now.entries) }
+        ensures answer { IfOk result (λ is_new. (is_new ≡ false) ↔ (self.new.nodes ≡ self.old.nodes)) }
+        ensures system { OnOk result (self.new.system ≡ conf.now.system) }
+        ensures kinds { OnOk result (self.new.kinds ≡ conf.now.kinds) }
+        ensures heard { OnOk result (self.new.others ≡ heard conf.now.system conf.now.kinds store.now.entries) }
+        ensures err { OnErr result (self.new ≡ self.old) }
+    {
         let next = ViewKeep::new(self.kinds.allocator(), conf, up, store)?;
         let is_same = are_same_nodes(self.view.as_slice(), next.view.as_slice());
         *self = next;
         Ok(!is_same)
-    }
-
-    /// Whether what is kept of each system is what is said now, so that nothing has changed.
-    fn is_as_kept(
-        &self,
-        conf: &RouterConf,
-        up: &[bool],
-        entries: &[Entry],
-        changed: &[SystemId],
-    ) -> M<bool>
-        requires one_each { length up.now ≡ length conf.now.ends }
-        requires ascending { AreAscending (ids_of entries.now) }
-        requires system { conf.now.system ≡ self.now.system }
-        requires kinds { conf.now.kinds ≡ self.now.kinds }
-        requires unchanged { IsUnchanged self.now changed.now entries.now }
-        ensures nodes { IfOk result (λ same. same ≡ true → self.now.nodes ≡ view_of conf.now up.now entries.now) }
-        ensures others { IfOk result (λ same. same ≡ true → self.now.others ≡ heard conf.now.system conf.now.kinds entries.now) }
-    {
-        let alloc = self.kinds.allocator();
-        let claims = self.claims.as_slice();
-        if !is_own_kept(alloc, claims, conf, up)? {
-            return Ok(false);
-        }
-        let same = are_kept(alloc, claims, conf.kinds.as_slice(), entries, changed)?;
-        Ok(same)
     }
 
     /// The view. Takes no memory.

@@ -44,6 +44,17 @@ fn copy_of(sub: &ViewSub) -> M<ViewSub>
     })
 }
 
+/// Equal ones.
+pub(crate) fn copy_subs(alloc: Global, subs: &[ViewSub]) -> M<Rows<ViewSub>>
+    ensures { IfOk result (λ copied. copied ≡ subs.now) }
+{
+    let mut copied = Rows::new(alloc);
+    'subs: for sub in subs {
+        copied.push(copy_of(sub)?)?;
+    }
+    Ok(copied)
+}
+
 /// Whether the place is in a subdomain that the router knows, and the first there.
 fn is_first_known(kinds: &[SubKind], kept: &[ViewSub], sub: &ViewSub) -> bool
     ensures { result ≡ (is_some (kind_of kinds.now sub.now.sd) && not (has_sd sub.now.sd kept.now)) }

@@ -13,6 +13,8 @@ mod links;
 mod nodes;
 mod owners;
 mod places;
+mod remade;
+mod renewal;
 mod same;
 #[cfg(test)]
 mod tests;

@@ -4,6 +4,7 @@ ghost use Rattle.wire_base.specs.declared.addresses.SystemId.{SystemId};
 ghost use Rattle.model_examples.specs.Domains.{ring_a};
 ghost use Rattle.view_graph.specs.Keep.{is_first_of, is_named};
 
+use crate::same::are_same_nodes;
 use crate::{ViewKeep, supports, view};
 use lsp_store::Store;
 use std::alloc::Global;
@@ -20,6 +21,18 @@ const B_SAYS: &[u8] =
 
 const B_SAYS_LESS: &[u8] =
     b"\x01\x04\x03\x49\0\x01\x81\x01\xcc\x89\x01B\x16\x0b\0\0\0\0\0\x03\0\0\0\x0a\0\x87\x17\0\0\0\0\x60\x0a\0\0\x02\x0d\x20\x0b\0\0\0\0\x02\x01\x04\0\x10\0\xc8";
+
+/// With another metric to A, and with another prefix.
+const B_SAYS_FAR: &[u8] =
+    b"\x01\x04\x03\x49\0\x01\x81\x01\xcc\x89\x01B\x16\x16\0\0\0\0\0\x01\0\0\0\x14\0\0\0\0\0\0\x03\0\0\0\x0a\0\x87\x17\0\0\0\0\x60\x0a\0\0\x02\x0d\x20\x0b\0\0\0\0\x02\x01\x04\0\x10\0\xc8";
+
+const B_SAYS_ELSEWHERE: &[u8] =
+    b"\x01\x04\x03\x49\0\x01\x81\x01\xcc\x89\x01B\x16\x16\0\0\0\0\0\x01\0\0\0\x0a\0\0\0\0\0\0\x03\0\0\0\x0a\0\x87\x17\0\0\0\0\x60\x0a\0\0\x09\x0d\x20\x0b\0\0\0\0\x02\x01\x04\0\x10\0\xc8";
+
+const BOTH: &[ViewEdge] = &[
+    ViewEdge { to: 1, metric: 10 },
+    ViewEdge { to: 3, metric: 10 },
+];
 
 /// In the settled ring each router has an edge to both neighbours and one label; an end that is down takes its edge away
 /// at both ends.
@@ -101,28 +114,34 @@ fn links_and_places(rt: HostRuntime) {
     }
 }
 
-/// A renewal of the settled ring's view: whether B's new LSP lists its link to A, whether A's end of it is up, whether the
-/// view changed, and the edges of A then.
+/// Renewals of the ring's view: what B said before and says now, whether A's end to B is up, whether the view changed, and
+/// the edges of A then. The view is that from nothing.
 #[test]
 fn a_kept_view_is_renewed(rt: HostRuntime) {
     let alloc = rt.alloc();
     let conf = ring_a(alloc).expect(&rt, "memory");
-    let before = ring_database(alloc).expect(&rt, "memory");
-    let cases: [(bool, bool, bool, &[ViewEdge]); 4] = [
+    let cases: [(Option<&[u8]>, Option<&[u8]>, bool, bool, &[ViewEdge]); 9] = [
         // a refresh; a lost link, as B says it and as A knows it; both
-        (true, true, false, &[edge(1, 10), edge(3, 10)]),
-        (false, true, true, &[edge(3, 10)]),
-        (true, false, true, &[edge(3, 10)]),
-        (false, false, true, &[edge(3, 10)]),
+        (Some(B_SAYS), Some(B_SAYS), true, false, BOTH),
+        (Some(B_SAYS), Some(B_SAYS_LESS), true, true, &[edge(3, 10)]),
+        (Some(B_SAYS), Some(B_SAYS), false, true, &[edge(3, 10)]),
+        (Some(B_SAYS), Some(B_SAYS_LESS), false, true, &[edge(3, 10)]),
+        // a link that comes back; a metric; a prefix
+        (Some(B_SAYS_LESS), Some(B_SAYS), true, true, BOTH),
+        (Some(B_SAYS), Some(B_SAYS_FAR), true, true, BOTH),
+        (Some(B_SAYS), Some(B_SAYS_ELSEWHERE), true, true, BOTH),
+        // a system that goes; one that comes
+        (Some(B_SAYS), None, true, true, &[edge(2, 10)]),
+        (None, Some(B_SAYS), true, true, BOTH),
     ];
-    for (lists, is_up, is_new, expected) in cases {
-        let mut after = ring_database(alloc).expect(&rt, "memory");
-        let content = if lists { B_SAYS } else { B_SAYS_LESS };
-        put_seq(&mut after, alloc, 2, 2, content).expect(&rt, "memory");
+    for (said, says, is_up, is_new, expected) in cases {
+        let before = database_with(alloc, 1, said).expect(&rt, "memory");
+        let after = database_with(alloc, 2, says).expect(&rt, "memory");
+        let up = [is_up, true];
         let (answer, keep) = renewed(
             alloc,
             &conf,
-            [is_up, true].as_slice(),
+            up.as_slice(),
             &before,
             &after,
             [system(2), system(3), system(4)].as_slice(),
@@ -130,6 +149,8 @@ fn a_kept_view_is_renewed(rt: HostRuntime) {
         .expect(&rt, "memory");
         assert_eq!(rt; answer, is_new);
         assert!(rt; edges(keep.view(), 0) == expected);
+        let fresh = view(alloc, &conf, up.as_slice(), &after).expect(&rt, "memory");
+        assert!(rt; are_same_nodes(keep.view().as_slice(), fresh.as_slice()));
     }
 }
 
@@ -237,8 +258,15 @@ fn put_seq(store: &mut Store, alloc: Global, n: u8, seq: u32, content: &[u8]) ->
 
 /// The own LSPs of the ring's routers but A: two links of metric 10, the prefix and one label.
 fn ring_database(alloc: Global) -> M<Store> {
+    database_with(alloc, 1, Some(B_SAYS))
+}
+
+/// The same with another LSP of B, or without it.
+fn database_with(alloc: Global, seq: u32, b_says: Option<&[u8]>) -> M<Store> {
     let mut store = Store::new(alloc);
-    put(&mut store, alloc, 2, B_SAYS)?;
+    if let Some(content) = b_says {
+        put_seq(&mut store, alloc, 2, seq, content)?;
+    }
     put(
         &mut store,
         alloc,
