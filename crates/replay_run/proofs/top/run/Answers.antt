@@ -71,21 +71,9 @@ returns-in-Node-clause-front g c stopped =
     in_node _ _ _ (g.D.Source.left c.args.conf.now) (g.S.Source.left c.args.input.now) (λ owed. AppendsFront (g.R.Sink.written c.args.report.now) (g.R.Sink.written c.node.new.report) owed.report × AppendsFront (g.C.Sink.written c.args.frames.now) (g.C.Sink.written c.node.new.frames) owed.frames) (sym c.form_of.ensures.value ∙ c.in-Node.is)
     c.router_word.ensures (c.node.ensures.front stopped)
 
-pub returns-in-Node-clause-faults : goal.returns-in-Node-clause-faults
-returns-in-Node-clause-faults g c = record {
-  read = c.node.ensures.read;
-  write = c.node.ensures.write;
-  conf_quiet = c.node.ensures.conf_quiet;
-  input_quiet = c.node.ensures.input_quiet;
-  frames_quiet = c.node.ensures.frames_quiet;
-  frames_take = c.node.ensures.frames_take;
-  report_quiet = c.node.ensures.report_quiet;
-  report_takes = c.node.ensures.report_takes;
-}
-
 pub returns-in-Node-clause-decided : goal.returns-in-Node-clause-decided
 returns-in-Node-clause-decided g c =
-    no_fault_of_four g.D.Source g.S.Source g.C.Sink g.R.Sink c.args.conf.now c.node.new.conf c.args.input.now c.node.new.input c.args.frames.now c.node.new.frames c.args.report.now c.node.new.report c.node.result (returns-in-Node-clause-faults g c)
+    no_fault_of_four g.D.Source g.S.Source g.C.Sink g.R.Sink c.args.conf.now c.node.new.conf c.args.input.now c.node.new.input c.args.frames.now c.node.new.frames c.args.report.now c.node.new.report c.node.result c.node.ensures.faults
 
 pub returns-in-Node-clause-node_complete : goal.returns-in-Node-clause-node_complete
 returns-in-Node-clause-node_complete g c is =
@@ -93,13 +81,7 @@ returns-in-Node-clause-node_complete g c is =
     _ c.router_word.ensures (returns-in-Node-clause-decided g c) c.node.ensures.answer
 
 pub returns-in-Node-clause-node_leaves : goal.returns-in-Node-clause-node_leaves
-returns-in-Node-clause-node_leaves g c is = record {
-  accepted = rw (← c.router_word.ensures) c.node.ensures.accepted;
-  report_finished = c.node.ensures.report_finished;
-  capture_finished = c.node.ensures.capture_finished;
-  both_finished = c.node.ensures.both_finished;
-  stopped = λ failed. rw (← c.router_word.ensures) (c.node.ensures.stopped failed);
-}
+returns-in-Node-clause-node_leaves g c is = rw (← c.router_word.ensures) c.node.ensures.leaves
 
 -- ---- words of the form Hop
 
