@@ -4,6 +4,7 @@ pub mod DomainFiles
 pub mod Owed
 pub mod Replays
 pub mod Nodes
+pub mod Quiet
 pub mod RunsDone
 pub mod NamedOnce
 pub mod ScheduleSteps

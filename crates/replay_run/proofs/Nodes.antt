@@ -8,11 +8,12 @@ use Rattle.std.proofs.lemmas.List.Folds.{find_at}
 use Rattle.std.proofs.lemmas.Option.{slice_get_past, slice_get_cases}
 use Rattle.wire_base.specs.declared.conf.RouterConf.{RouterConf}
 use Rattle.wire_base.specs.declared.status.Status.{Status}
-use Rattle.wire_base.specs.declared.status.Status.TheVariants.{Done, ConfRefused, WriteFault, Memory}
+use Rattle.wire_base.specs.declared.status.Status.TheVariants.{ConfRefused, WriteFault, Memory}
 use Rattle.wire_base.specs.model.Configuration.{DomainConf}
 use Rattle.domain_conf.specs.declared.fault.ConfFault.{ConfFault}
 use Rattle.replay_run.specs.declared.words.Form.{Form}
 use Rattle.replay_run.specs.declared.words.Form.TheVariants.{Node}
+use Rattle.replay_run.specs.Endings.{DoneOrMemory}
 use Rattle.replay_run.specs.DomainFile.{Says, IsRefused}
 use Rattle.replay_run.specs.Judged.{OnHeld}
 use Rattle.replay_run.specs.Routers.{has_name, router_named, no_router_text, HasRouter}
@@ -151,14 +152,14 @@ in_node form word router conf left Holds is same holds =
 
 -- ---- completeness
 
-pub node_run_done : (word router : List ℕ) (conf left before now frames frames_now : Option (List ℕ)) (result : Status) (A B C D E F : Type 0) → word ≡ router
-    → (A → B → C → D → E → F → IsDecided result ⊎ (result ≡ Memory))
+pub node_run_done : (word router : List ℕ) (conf left before now frames frames_now : Option (List ℕ)) (result : Status) (Quiet : Type 0) → word ≡ router
+    → (Quiet → IsDecided result ⊎ (result ≡ Memory))
     → (IsDecided result → OnHeld Node word conf left (λ owed. Meets owed result before now frames frames_now))
-    → IfSome conf (λ file. IfSome left (λ octets. HasRouter file router → IsReplayable octets → A → B → C → D → E → F → (result ≡ Done) ⊎ (result ≡ Memory)))
+    → IfSome conf (λ file. IfSome left (λ octets. HasRouter file router → IsReplayable octets → Quiet → DoneOrMemory result))
 unfolding verdict
-node_run_done word router None left before now frames frames_now result A B C D E F same decided answer = tt
-node_run_done word router (Some file) None before now frames frames_now result A B C D E F same decided answer = tt
-node_run_done word router (Some file) (Some octets) before now frames frames_now result A B C D E F same decided answer = λ has is a b c d e f. elim (decided a b c d e f) [
+node_run_done word router None left before now frames frames_now result Quiet same decided answer = tt
+node_run_done word router (Some file) None before now frames frames_now result Quiet same decided answer = tt
+node_run_done word router (Some file) (Some octets) before now frames frames_now result Quiet same decided answer = λ has is quiet. elim (decided quiet) [
   | inr memory ↦ inr memory
   | inl known ↦
       let met = told Node router (Some file) (Some octets) (λ owed. Meets owed result before now frames frames_now)

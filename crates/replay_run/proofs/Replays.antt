@@ -1,5 +1,5 @@
 -- What `replay` did is what a run owes.
-use Rattle.std.proofs.Common.{◌≡◌, ℕ, ◌+◌, ◌<◌, ◌≤◌, Bool, true, List, [], ◌∷◌, length, Option, Some, None, Ok, refl, sym, ap, subst, ◌∙◌, arith, inl, inr}
+use Rattle.std.proofs.Common.{◌≡◌, ℕ, ◌+◌, ◌≤◌, Bool, true, List, [], ◌∷◌, length, Option, Some, None, Ok, refl, sym, ap, subst, ◌∙◌, inl, inr}
 use Rattle.std.specs.Prelude.{IfSome, ◌⊎◌, Result}
 use Rattle.std.specs.List.{fold}
 use Rattle.std.proofs.lemmas.Bool.{le-leb}
@@ -7,7 +7,7 @@ use Rattle.std.proofs.lemmas.List.{take_all}
 use Rattle.std.specs.Io.KnownBytes.{Appends}
 use Rattle.wire_base.specs.declared.limits.TheConstants.{TEXT_LIMIT}
 use Rattle.wire_base.specs.declared.status.Status.{Status}
-use Rattle.wire_base.specs.declared.status.Status.TheVariants.{Done, Usage, ConfRefused, InputRefused, ReadFault, WriteFault, Memory, CaptureRefused}
+use Rattle.wire_base.specs.declared.status.Status.TheVariants.{Done, ConfRefused, WriteFault, Memory}
 use Rattle.wire_base.specs.model.Configuration.{DomainConf}
 use Rattle.replay_text.specs.declared.event.Event.{Event}
 use Rattle.replay_text.specs.Pieces.{lines_in}
@@ -21,6 +21,7 @@ use Rattle.replay_run.specs.declared.words.Form.{Form}
 use Rattle.replay_run.specs.declared.words.Form.TheVariants.{Replay}
 use Rattle.tool_run.specs.Answer.{Verdict}
 use Rattle.replay_run.specs.DomainFile.{Says, IsRefused}
+use Rattle.replay_run.specs.Endings.{DoneOrMemory}
 use Rattle.replay_run.specs.Judged.{OnHeld}
 use Rattle.replay_run.specs.Replayed.{AreAllowed, AreDone, IsDone, IsReplayed}
 use Rattle.replay_run.specs.ScheduleText.{schedule_answer, answer_to, ending}
@@ -118,39 +119,14 @@ schedule_done d octets is =
 
 -- ---- completeness
 
-pub no_fault_of_four : (result : Status) (conf conf_now input input_now sent sent_now none_sent none_sent_now told told_now none_told none_told_now : ℕ)
-    → (result ≡ ReadFault → (conf < conf_now) ⊎ (input < input_now))
-    → (result ≡ WriteFault → (sent < sent_now) ⊎ ((none_sent < none_sent_now) ⊎ ((told < told_now) ⊎ (none_told < none_told_now))))
-    → conf_now ≡ conf → input_now ≡ input → sent_now ≡ sent → none_sent_now ≡ none_sent → told_now ≡ told → none_told_now ≡ none_told → IsDecided result ⊎ (result ≡ Memory)
-no_fault_of_four Done conf conf_now input input_now sent sent_now none_sent none_sent_now told told_now none_told none_told_now read write a b c d e f = inl tt
-no_fault_of_four Usage conf conf_now input input_now sent sent_now none_sent none_sent_now told told_now none_told none_told_now read write a b c d e f = inl tt
-no_fault_of_four ConfRefused conf conf_now input input_now sent sent_now none_sent none_sent_now told told_now none_told none_told_now read write a b c d e f = inl tt
-no_fault_of_four InputRefused conf conf_now input input_now sent sent_now none_sent none_sent_now told told_now none_told none_told_now read write a b c d e f = inl tt
-no_fault_of_four CaptureRefused conf conf_now input input_now sent sent_now none_sent none_sent_now told told_now none_told none_told_now read write a b c d e f = inl tt
-no_fault_of_four Memory conf conf_now input input_now sent sent_now none_sent none_sent_now told told_now none_told none_told_now read write a b c d e f = inr refl
-no_fault_of_four ReadFault conf conf_now input input_now sent sent_now none_sent none_sent_now told told_now none_told none_told_now read write a b c d e f = elim (read refl) [
-  | inl rose ↦ absurd (omega (arith, rose, a))
-  | inr rose ↦ absurd (omega (arith, rose, b))
-]
-no_fault_of_four WriteFault conf conf_now input input_now sent sent_now none_sent none_sent_now told told_now none_told none_told_now read write a b c d e f = elim (write refl) [
-  | inl rose ↦ absurd (omega (arith, rose, c))
-  | inr more ↦ elim more [
-    | inl rose ↦ absurd (omega (arith, rose, d))
-    | inr last ↦ elim last [
-      | inl rose ↦ absurd (omega (arith, rose, e))
-      | inr rose ↦ absurd (omega (arith, rose, f))
-    ]
-  ]
-]
-
-pub replay_done : (conf left before now frames frames_now : Option (List ℕ)) (result : Status) (A B C D E F : Type 0)
-    → (A → B → C → D → E → F → IsDecided result ⊎ (result ≡ Memory))
+pub replay_done : (conf left before now frames frames_now : Option (List ℕ)) (result : Status) (Quiet : Type 0)
+    → (Quiet → IsDecided result ⊎ (result ≡ Memory))
     → (IsDecided result → OnHeld Replay [] conf left (λ owed. Meets owed result before now frames frames_now))
-    → IfSome conf (λ file. IfSome left (λ octets. IsReplayed file octets → A → B → C → D → E → F → (result ≡ Done) ⊎ (result ≡ Memory)))
+    → IfSome conf (λ file. IfSome left (λ octets. IsReplayed file octets → Quiet → DoneOrMemory result))
 unfolding verdict
-replay_done None left before now frames frames_now result A B C D E F decided answer = tt
-replay_done (Some file) None before now frames frames_now result A B C D E F decided answer = tt
-replay_done (Some file) (Some octets) before now frames frames_now result A B C D E F decided answer = λ is a b c d e f. elim (decided a b c d e f) [
+replay_done None left before now frames frames_now result Quiet decided answer = tt
+replay_done (Some file) None before now frames frames_now result Quiet decided answer = tt
+replay_done (Some file) (Some octets) before now frames frames_now result Quiet decided answer = λ is quiet. elim (decided quiet) [
   | inr memory ↦ inr memory
   | inl known ↦
       let met = told Replay [] (Some file) (Some octets) (λ owed. Meets owed result before now frames frames_now) (answer known) in

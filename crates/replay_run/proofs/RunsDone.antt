@@ -1,7 +1,9 @@
 -- What a replay did is a run, and what holds of each run holds of it.
-use Rattle.std.proofs.Common.{◌≡◌, ℕ, ◌<◌, List, [], ◌++◌, length, Option, Some, None, Result, Ok, Err, refl, sym, subst, ◌∙◌, arith, inl, inr}
-use Rattle.std.specs.Prelude.{◌⊎◌, IfSome}
+use Rattle.std.proofs.Common.{◌≡◌, ℕ, List, [], ◌++◌, length, Option, Some, None, Result, Ok, Err, refl, sym, subst, ◌∙◌, arith, inl, inr}
+use Rattle.std.specs.Prelude.{IfSome}
 use Rattle.std.specs.Io.KnownBytes.{Consumes, Appends}
+use Rattle.wire_base.specs.declared.outside.Source as source
+use Rattle.wire_base.specs.declared.outside.Sink as sink
 use Rattle.wire_base.specs.declared.status.Status.{Status}
 use Rattle.wire_base.specs.declared.status.Status.TheVariants.{Done, Usage, ConfRefused, InputRefused, CaptureRefused, ReadFault, WriteFault, Memory}
 use Rattle.wire_base.specs.model.Configuration.{DomainConf, IsValid}
@@ -12,6 +14,8 @@ use Rattle.domain_conf.proofs.ValidFile.{domain_is_valid}
 use Rattle.domain_replay.specs.Texts.{Refusal, run_text, run_done_text, schedule_reaches}
 use Rattle.replay_run.specs.declared.words.Form.TheVariants.{Replay}
 use Rattle.replay_run.specs.DomainFile.{Says}
+use Rattle.replay_run.specs.Endings.{ReplayLeaves}
+use Rattle.replay_run.specs.Faults.{SourceIsQuiet}
 use Rattle.replay_run.specs.Judged.{OnHeld}
 use Rattle.tool_run.specs.Outside.{Held, Meets}
 use Rattle.replay_run.specs.RunDone.{HasRun, AreRead, RunDone}
@@ -35,11 +39,13 @@ last_so close d lines ended report report_now frames frames_now met is =
     let reached = schedule_reaches d lines in
     subst (λ (l : List ℕ). Appends report report_now (run_text d reached.run ++ l)) (done_so close (length lines) reached.run reached.refused (sym is ∙ met.status)) met.report
 
-module _ (conf input input_now report report_now frames frames_now : Option (List ℕ)) (Holds : DomainConf → Run → Type 0)
+module _ {D S C R : Type 0} (gd : source.Ghosts D) (gs : source.Ghosts S) (gc : sink.Ghosts C) (gr : sink.Ghosts R)
+    (conf conf_now : D) (input input_now : S) (frames frames_now : C) (report report_now : R) (Holds : DomainConf → Run → Type 0)
     (law : (d : DomainConf) (lines : List (List ℕ)) → IsValid d → Holds d (schedule_reaches d lines).run) where
   -- the run of lines that were read
-  of_lines : (ended : Status) (d : DomainConf) (says : Says conf d) (lines : List (List ℕ)) (close : Close) → AreRead ended input input_now lines close
-      → Meets (answer_to close d lines) ended report report_now frames frames_now → RunDone ended conf input input_now report report_now frames frames_now Holds
+  of_lines : (ended : Status) (d : DomainConf) (says : Says (gd.left conf) d) (lines : List (List ℕ)) (close : Close) → AreRead ended (gs.left input) (gs.left input_now) lines close
+      → Meets (answer_to close d lines) ended (gr.written report) (gr.written report_now) (gc.written frames) (gc.written frames_now)
+      → RunDone gd gs gc gr ended conf input input_now frames frames_now report report_now Holds
   of_lines ended d says lines close read met = record {
     domain = d;
     says = says;
@@ -47,36 +53,44 @@ module _ (conf input input_now report report_now frames frames_now : Option (Lis
     close = close;
     read = read;
     texts = met;
-    last = last_so close d lines ended report report_now frames frames_now met;
+    last = last_so close d lines ended (gr.written report) (gr.written report_now) (gc.written frames) (gc.written frames_now) met;
     holds = law d lines (domain_is_valid says.0 d says.2);
   }
 
   -- where the status is decided
-  of_schedule : (ended : Status) → ((lines : List (List ℕ)) (close : Close) → ((octets : List ℕ) × Held input octets × (lines ≡ lines_within octets) × (close ≡ close_of (is_short octets))) → AreRead ended input input_now lines close)
-      → (ended ≡ ConfRefused → ⊥) → OnHeld Replay [] conf input (λ owed. Meets owed ended report report_now frames frames_now) → RunDone ended conf input input_now report report_now frames frames_now Holds
+  of_schedule : (ended : Status) → ((lines : List (List ℕ)) (close : Close) → ((octets : List ℕ) × Held (gs.left input) octets × (lines ≡ lines_within octets) × (close ≡ close_of (is_short octets)))
+      → AreRead ended (gs.left input) (gs.left input_now) lines close)
+      → (ended ≡ ConfRefused → ⊥)
+      → OnHeld Replay [] (gd.left conf) (gs.left input) (λ owed. Meets owed ended (gr.written report) (gr.written report_now) (gc.written frames) (gc.written frames_now))
+      → RunDone gd gs gc gr ended conf input input_now frames frames_now report report_now Holds
   unfolding verdict schedule_answer
   of_schedule ended read accepted (file, octets, of_conf, of_input, met) = by (domain_of file) refl met
     where
-      by : (said : Result DomainConf ConfFault) → domain_of file ≡ said → IfSome (replay_on said (Some octets)) (λ owed. Meets owed ended report report_now frames frames_now) → RunDone ended conf input input_now report report_now frames frames_now Holds
+      by : (said : Result DomainConf ConfFault) → domain_of file ≡ said
+          → IfSome (replay_on said (Some octets)) (λ owed. Meets owed ended (gr.written report) (gr.written report_now) (gc.written frames) (gc.written frames_now))
+          → RunDone gd gs gc gr ended conf input input_now frames frames_now report report_now Holds
       by (Err why) e m = absurd (accepted m.status)
       by (Ok d) e m = of_lines ended d (file, of_conf, e) (lines_within octets) (close_of (is_short octets)) (read (lines_within octets) (close_of (is_short octets)) (octets, of_input, refl, refl)) m
 
   -- where the schedule's source failed
-  of_cut : (d : DomainConf) → Says conf d → (octets : List ℕ) → Consumes input input_now octets → Meets (schedule_cut d octets) ReadFault report report_now frames frames_now → RunDone ReadFault conf input input_now report report_now frames frames_now Holds
+  of_cut : (d : DomainConf) → Says (gd.left conf) d → (octets : List ℕ) → Consumes (gs.left input) (gs.left input_now) octets
+      → Meets (schedule_cut d octets) ReadFault (gr.written report) (gr.written report_now) (gc.written frames) (gc.written frames_now)
+      → RunDone gd gs gc gr ReadFault conf input input_now frames frames_now report report_now Holds
   unfolding schedule_cut
   of_cut d says octets taken met = of_lines ReadFault d says _ Cut (octets, taken, refl, refl) met
 
-  pub run_done : (ended : Status) (before now : ℕ) (Input Frames Report : Type 0) → (IsDecided ended → OnHeld Replay [] conf input (λ owed. Meets owed ended report report_now frames frames_now))
-      → (ended ≡ ReadFault → ((before < now) × Input × Frames × Report) ⊎ ((now ≡ before) × ((d : DomainConf) × Says conf d × ((octets : List ℕ) × Consumes input input_now octets × Meets (schedule_cut d octets) ended report report_now frames frames_now))))
-      → HasRun ended → now ≡ before → RunDone ended conf input input_now report report_now frames frames_now Holds
-  run_done Done before now Input Frames Report answer stopped has quiet = of_schedule Done (λ lines close read. read) (λ is. absurd cc) (answer tt)
-  run_done InputRefused before now Input Frames Report answer stopped has quiet = of_schedule InputRefused (λ lines close read. read) (λ is. absurd cc) (answer tt)
-  run_done ReadFault before now Input Frames Report answer stopped has quiet = elim (stopped refl) [
+  pub run_done : (ended : Status)
+      → (IsDecided ended → OnHeld Replay [] (gd.left conf) (gs.left input) (λ owed. Meets owed ended (gr.written report) (gr.written report_now) (gc.written frames) (gc.written frames_now)))
+      → ReplayLeaves gd gs gc gr ended conf conf_now input input_now frames frames_now report report_now
+      → HasRun ended → SourceIsQuiet gd conf conf_now → RunDone gd gs gc gr ended conf input input_now frames frames_now report report_now Holds
+  run_done Done answer leaves has quiet = of_schedule Done (λ lines close read. read) (λ is. absurd cc) (answer tt)
+  run_done InputRefused answer leaves has quiet = of_schedule InputRefused (λ lines close read. read) (λ is. absurd cc) (answer tt)
+  run_done ReadFault answer leaves has quiet = elim (leaves.stopped refl) [
     | inl failed ↦ let rose = failed.0 in absurd (omega (arith, rose, quiet))
     | inr cut ↦ of_cut cut.1.0 cut.1.1 cut.1.2.0 cut.1.2.1 cut.1.2.2
   ]
-  run_done Usage before now Input Frames Report answer stopped has quiet = absurd has
-  run_done ConfRefused before now Input Frames Report answer stopped has quiet = absurd has
-  run_done CaptureRefused before now Input Frames Report answer stopped has quiet = absurd has
-  run_done WriteFault before now Input Frames Report answer stopped has quiet = absurd has
-  run_done Memory before now Input Frames Report answer stopped has quiet = absurd has
+  run_done Usage answer leaves has quiet = absurd has
+  run_done ConfRefused answer leaves has quiet = absurd has
+  run_done CaptureRefused answer leaves has quiet = absurd has
+  run_done WriteFault answer leaves has quiet = absurd has
+  run_done Memory answer leaves has quiet = absurd has

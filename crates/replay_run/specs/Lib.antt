@@ -8,3 +8,5 @@ pub mod Judged
 pub mod Replayed
 pub mod Scheduling
 pub mod RunDone
+pub mod Faults
+pub mod Endings

@@ -1,6 +1,8 @@
 -- The run that a replay did: the model's run over the lines that it read of its schedule, whose texts both sinks gained.
 use Rattle.std.specs.Prelude.{ℕ, ◌≡◌, ◌++◌, false, List, length, Option}
 use Rattle.std.specs.Io.KnownBytes.{Consumes, Appends}
+use Rattle.wire_base.specs.declared.outside.Source as source
+use Rattle.wire_base.specs.declared.outside.Sink as sink
 use Rattle.wire_base.specs.declared.status.Status.{Status}
 use Rattle.wire_base.specs.declared.status.Status.TheVariants.{Done, Usage, ConfRefused, InputRefused, CaptureRefused, ReadFault, WriteFault, Memory}
 use Rattle.wire_base.specs.model.Configuration.{DomainConf}
@@ -29,19 +31,20 @@ abbrev pub AreRead : Status → (input input_now : Option (List ℕ)) → List (
 AreRead ReadFault input input_now lines close = (octets : List ℕ) × Consumes input input_now octets × (lines ≡ lines_in false octets) × (close ≡ Cut)
 AreRead ended input input_now lines close = (octets : List ℕ) × Held input octets × (lines ≡ lines_within octets) × (close ≡ close_of (is_short octets))
 
--- A replay ended so, and that holds of the run that it did. The domain file, the schedule and both sinks are seen as the octets
--- that they tell, before it and after it.
-pub record RunDone (ended : Status) (conf input input_now report report_now frames frames_now : Option (List ℕ)) (Holds : DomainConf → Run → Type 0) : Type 0 where
+-- A replay ended so, and that holds of the run that it did.
+pub record RunDone {D S C R : Type 0} (d : source.Ghosts D) (s : source.Ghosts S) (c : sink.Ghosts C) (r : sink.Ghosts R) (ended : Status)
+    (conf : D) (input_old input_new : S) (frames_old frames_new : C) (report_old report_new : R) (Holds : DomainConf → Run → Type 0) : Type 0 where
   -- the domain that the file says
   pub domain : DomainConf
-  pub says : Says conf domain
+  pub says : Says (d.left conf) domain
   -- the lines of the schedule, and what is behind them
   pub lines : List (List ℕ)
   pub close : Close
-  pub read : AreRead ended input input_now lines close
+  pub read : AreRead ended (s.left input_old) (s.left input_new) lines close
   -- the status, the report and the capture are those of the run that the lines reach
-  pub texts : Meets (answer_to close domain lines) ended report report_now frames frames_now
+  pub texts : Meets (answer_to close domain lines) ended (r.written report_old) (r.written report_new) (c.written frames_old) (c.written frames_new)
   -- where all lines are done, the report is the lines of that run and the last one, with its numbers
-  pub last : ended ≡ Done → Appends report report_now (run_text domain (schedule_reaches domain lines).run ++ run_done_text (schedule_reaches domain lines).run (length lines))
+  pub last : ended ≡ Done → Appends (r.written report_old) (r.written report_new)
+      (run_text domain (schedule_reaches domain lines).run ++ run_done_text (schedule_reaches domain lines).run (length lines))
   -- that run is as promised
   pub holds : Holds domain (schedule_reaches domain lines).run

@@ -10,8 +10,10 @@ ghost use Rattle.tool_run.specs.Headers.{IsOpen};
 ghost use Rattle.tool_run.specs.NodeRun.{node_cut, node_reached};
 ghost use Rattle.tool_run.specs.Outside.{Held, Meets, AppendsFront};
 ghost use Rattle.replay_run.specs.declared.words.Form.TheVariants as form;
+ghost use Rattle.replay_run.specs.Endings.{AppendsFronts, NodeLeaves};
+ghost use Rattle.replay_run.specs.Faults.{CountsFaults};
 ghost use Rattle.replay_run.specs.Judged.{OnHeld};
-ghost use Rattle.replay_run.specs.Routers.{has_name, router_named, SaysRouter};
+ghost use Rattle.replay_run.specs.Routers.{has_name, router_named};
 ghost use Rattle.replay_run.specs.Verdict.{node_by};
 
 use crate::domain_file::{NoDomain, domain_in};
@@ -106,34 +108,23 @@ pub(crate) fn node<D: Source, S: Source, C: Sink, R: Sink>(
     requires report_zeros { R.zeros report.old < last_count }
 
     // The verdict on what the sources hold, whether or not they tell it.
-    ensures answer { IsDecided result → OnHeld form.Node router.now (D.left conf.old) (S.left input.old) (λ owed. Meets owed result (R.written report.old) (R.written report.new) (C.written frames.old) (C.written frames.new)) }
+    ensures answer { IsDecided result → OnHeld form.Node router.now (D.left conf.old) (S.left input.old)
+        (λ owed. Meets owed result (R.written report.old) (R.written report.new) (C.written frames.old) (C.written frames.new)) }
     ensures statuses { IsDecided result → (result ≡ status.Done) ⊎ ((result ≡ status.ConfRefused) ⊎ (result ≡ status.CaptureRefused)) }
     ensures all { result ≡ status.Done → IsAtEnd (S.left input.new) }
     ensures all_of_conf { result ≡ status.Done → IsAtEnd (D.left conf.new) }
 
-    // A fault is answered only where its count rose.
-    ensures read { result ≡ status.ReadFault → (D.faults conf.old < D.faults conf.new) ⊎ (S.faults input.old < S.faults input.new) }
-    ensures write { result ≡ status.WriteFault → (C.faults frames.old < C.faults frames.new) ⊎ ((C.zeros frames.old < C.zeros frames.new) ⊎ ((R.faults report.old < R.faults report.new) ⊎ (R.zeros report.old < R.zeros report.new))) }
-    ensures conf_quiet { result ≢ status.ReadFault → result ≢ status.WriteFault → D.faults conf.new ≡ D.faults conf.old }
-    ensures input_quiet { result ≢ status.ReadFault → result ≢ status.WriteFault → S.faults input.new ≡ S.faults input.old }
-    ensures frames_quiet { result ≢ status.WriteFault → C.faults frames.new ≡ C.faults frames.old }
-    ensures frames_take { result ≢ status.WriteFault → C.zeros frames.new ≡ C.zeros frames.old }
-    ensures report_quiet { result ≢ status.WriteFault → R.faults report.new ≡ R.faults report.old }
-    ensures report_takes { result ≢ status.WriteFault → R.zeros report.new ≡ R.zeros report.old }
+    // A fault is answered only where its count rose, and no count rises in any other answer.
+    ensures faults { CountsFaults D.Source S.Source C.Sink R.Sink result conf.old conf.new input.old input.new frames.old frames.new report.old report.new }
 
     // What a stop leaves.
-    ensures accepted { ((input.new ≡ input.old) × (frames.new ≡ frames.old)) ⊎ ((D.faults conf.new ≡ D.faults conf.old) × ((own : RouterConf) × SaysRouter (D.left conf.old) router.now own)) }
-    ensures refused { result ≡ status.ConfRefused → (input.new ≡ input.old) × (frames.new ≡ frames.old) }
-    ensures capture_finished { (result ≡ status.Done) ⊎ (result ≡ status.CaptureRefused) → C.unfinished frames.new ≡ false }
-    ensures frames_finished { result ≢ status.WriteFault → result ≢ status.Memory → (frames.new ≡ frames.old) ⊎ (C.unfinished frames.new ≡ false) }
-    ensures report_finished { result ≢ status.WriteFault → result ≢ status.Memory → (report.new ≡ report.old) ⊎ (R.unfinished report.new ≡ false) }
     ensures finished { IsDecided result → R.unfinished report.new ≡ false }
-    ensures both_finished { result ≡ status.ReadFault → (D.faults conf.old < D.faults conf.new) ⊎ ((C.unfinished frames.new ≡ false) × (R.unfinished report.new ≡ false)) }
-    ensures stopped { result ≡ status.ReadFault → ((D.faults conf.old < D.faults conf.new) × (input.new ≡ input.old) × (frames.new ≡ frames.old) × (report.new ≡ report.old))
-        ⊎ ((D.faults conf.new ≡ D.faults conf.old) × ((own : RouterConf) × SaysRouter (D.left conf.old) router.now own × ((octets : List ℕ) × Consumes (S.left input.old) (S.left input.new) octets
-        × IsOpen octets × ((node_reached own octets).gap ≡ None)
-        × Meets (node_cut own octets) result (R.written report.old) (R.written report.new) (C.written frames.old) (C.written frames.new)))) }
-    ensures front { (result ≡ status.WriteFault) ⊎ (result ≡ status.Memory) → OnHeld form.Node router.now (D.left conf.old) (S.left input.old) (λ owed. AppendsFront (R.written report.old) (R.written report.new) owed.report × AppendsFront (C.written frames.old) (C.written frames.new) owed.frames) }
+    ensures frames_finished { result ≢ status.WriteFault → result ≢ status.Memory → (frames.new ≡ frames.old) ⊎ (C.unfinished frames.new ≡ false) }
+    ensures refused { result ≡ status.ConfRefused → (input.new ≡ input.old) × (frames.new ≡ frames.old) }
+    ensures leaves { NodeLeaves D.Source S.Source C.Sink R.Sink router.now result
+        conf.old conf.new input.old input.new frames.old frames.new report.old report.new }
+    ensures front { (result ≡ status.WriteFault) ⊎ (result ≡ status.Memory) → OnHeld form.Node router.now (D.left conf.old) (S.left input.old)
+        (λ owed. AppendsFronts owed (R.written report.old) (R.written report.new) (C.written frames.old) (C.written frames.new)) }
 {
     match domain_in(alloc, conf) {
         Ok(domain) => node_in(alloc, &domain, router, input, frames, report),

@@ -2,7 +2,8 @@ use Rattle.std.proofs.Common.{sym, ◌∙◌}
 use Rattle.replay_run.specs.declared.words.Form.TheVariants as form
 use Rattle.tool_run.specs.Outside.{Meets, AppendsFront}
 use Rattle.replay_run.proofs.Owed.{told, in_form, no_fault, hop_meets, hop_front, hop_done, hop_reports, headers_meets, headers_front, headers_done, grow_meets, grow_front, usage_meets, usage_front, write_fault}
-use Rattle.replay_run.proofs.Replays.{no_fault_of_four, replay_done, in_replay}
+use Rattle.replay_run.proofs.Quiet.{no_fault_of_four, quiet_sink}
+use Rattle.replay_run.proofs.Replays.{replay_done, in_replay}
 use Rattle.replay_run.proofs.RunsDone.{run_done}
 use Rattle.replay_run.proofs.Nodes.{in_node, node_run_done}
 use Rattle.replay_laws.specs.Moments.{HasLedgerThroughout, DeliversOnce}
@@ -26,32 +27,33 @@ returns-in-Replay-clause-front g c stopped =
     in_replay _ _ (g.D.Source.left c.args.conf.now) (g.S.Source.left c.args.input.now) (λ owed. AppendsFront (g.R.Sink.written c.args.report.now) (g.R.Sink.written c.replay.new.report) owed.report × AppendsFront (g.C.Sink.written c.args.frames.now) (g.C.Sink.written c.replay.new.frames) owed.frames) (sym c.form_of.ensures.value ∙ c.in-Replay.is) (c.replay.ensures.front stopped)
 
 pub returns-in-Replay-clause-decided : goal.returns-in-Replay-clause-decided
-returns-in-Replay-clause-decided g c = no_fault_of_four c.replay.result _ _ _ _ _ _ _ _ _ _ _ _ c.replay.ensures.read c.replay.ensures.write
+returns-in-Replay-clause-decided g c =
+    no_fault_of_four g.D.Source g.S.Source g.C.Sink g.R.Sink c.args.conf.now c.replay.new.conf c.args.input.now c.replay.new.input c.args.frames.now c.replay.new.frames c.args.report.now c.replay.new.report c.replay.result c.replay.ensures.faults
 
 pub returns-in-Replay-clause-replay_complete : goal.returns-in-Replay-clause-replay_complete
 returns-in-Replay-clause-replay_complete g c is =
     replay_done (g.D.Source.left c.args.conf.now) (g.S.Source.left c.args.input.now) (g.R.Sink.written c.args.report.now) (g.R.Sink.written c.replay.new.report) (g.C.Sink.written c.args.frames.now) (g.C.Sink.written c.replay.new.frames) c.replay.result
-    _ _ _ _ _ _ (returns-in-Replay-clause-decided g c) c.replay.ensures.answer
+    _ (returns-in-Replay-clause-decided g c) c.replay.ensures.answer
 
 pub returns-in-Replay-clause-ledger : goal.returns-in-Replay-clause-ledger
 returns-in-Replay-clause-ledger g c is =
-    run_done (g.D.Source.left c.args.conf.now) (g.S.Source.left c.args.input.now) (g.S.Source.left c.replay.new.input) (g.R.Sink.written c.args.report.now) (g.R.Sink.written c.replay.new.report) (g.C.Sink.written c.args.frames.now) (g.C.Sink.written c.replay.new.frames)
-    HasLedgerThroughout c.replays_are_accounted.ensures.moments c.replay.result _ _ _ _ _ c.replay.ensures.answer c.replay.ensures.stopped
+    run_done g.D.Source g.S.Source g.C.Sink g.R.Sink c.args.conf.now c.replay.new.conf c.args.input.now c.replay.new.input c.args.frames.now c.replay.new.frames c.args.report.now c.replay.new.report
+    HasLedgerThroughout c.replays_are_accounted.ensures.moments c.replay.result c.replay.ensures.answer c.replay.ensures.leaves
 
 pub returns-in-Replay-clause-reported : goal.returns-in-Replay-clause-reported
 returns-in-Replay-clause-reported g c is =
-    run_done (g.D.Source.left c.args.conf.now) (g.S.Source.left c.args.input.now) (g.S.Source.left c.replay.new.input) (g.R.Sink.written c.args.report.now) (g.R.Sink.written c.replay.new.report) (g.C.Sink.written c.args.frames.now) (g.C.Sink.written c.replay.new.frames)
-    IsReported c.replays_are_accounted.ensures.reported c.replay.result _ _ _ _ _ c.replay.ensures.answer c.replay.ensures.stopped
+    run_done g.D.Source g.S.Source g.C.Sink g.R.Sink c.args.conf.now c.replay.new.conf c.args.input.now c.replay.new.input c.args.frames.now c.replay.new.frames c.args.report.now c.replay.new.report
+    IsReported c.replays_are_accounted.ensures.reported c.replay.result c.replay.ensures.answer c.replay.ensures.leaves
 
 pub returns-in-Replay-clause-delivered_once : goal.returns-in-Replay-clause-delivered_once
 returns-in-Replay-clause-delivered_once g c is =
-    run_done (g.D.Source.left c.args.conf.now) (g.S.Source.left c.args.input.now) (g.S.Source.left c.replay.new.input) (g.R.Sink.written c.args.report.now) (g.R.Sink.written c.replay.new.report) (g.C.Sink.written c.args.frames.now) (g.C.Sink.written c.replay.new.frames)
-    (λ d r. DeliversOnce r) c.replays_are_accounted.ensures.delivered c.replay.result _ _ _ _ _ c.replay.ensures.answer c.replay.ensures.stopped
+    run_done g.D.Source g.S.Source g.C.Sink g.R.Sink c.args.conf.now c.replay.new.conf c.args.input.now c.replay.new.input c.args.frames.now c.replay.new.frames c.args.report.now c.replay.new.report
+    (λ d r. DeliversOnce r) c.replays_are_accounted.ensures.delivered c.replay.result c.replay.ensures.answer c.replay.ensures.leaves
 
 pub returns-in-Replay-clause-exactly_once : goal.returns-in-Replay-clause-exactly_once
 returns-in-Replay-clause-exactly_once g c is =
-    run_done (g.D.Source.left c.args.conf.now) (g.S.Source.left c.args.input.now) (g.S.Source.left c.replay.new.input) (g.R.Sink.written c.args.report.now) (g.R.Sink.written c.replay.new.report) (g.C.Sink.written c.args.frames.now) (g.C.Sink.written c.replay.new.frames)
-    ArriveOnce c.replays_arrive_once.ensures c.replay.result _ _ _ _ _ c.replay.ensures.answer c.replay.ensures.stopped
+    run_done g.D.Source g.S.Source g.C.Sink g.R.Sink c.args.conf.now c.replay.new.conf c.args.input.now c.replay.new.input c.args.frames.now c.replay.new.frames c.args.report.now c.replay.new.report
+    ArriveOnce c.replays_arrive_once.ensures c.replay.result c.replay.ensures.answer c.replay.ensures.leaves
 
 -- ---- words of the form Node
 
@@ -70,18 +72,16 @@ returns-in-Node-clause-front g c stopped =
     c.router_word.ensures (c.node.ensures.front stopped)
 
 pub returns-in-Node-clause-decided : goal.returns-in-Node-clause-decided
-returns-in-Node-clause-decided g c = no_fault_of_four c.node.result _ _ _ _ _ _ _ _ _ _ _ _ c.node.ensures.read c.node.ensures.write
+returns-in-Node-clause-decided g c =
+    no_fault_of_four g.D.Source g.S.Source g.C.Sink g.R.Sink c.args.conf.now c.node.new.conf c.args.input.now c.node.new.input c.args.frames.now c.node.new.frames c.args.report.now c.node.new.report c.node.result c.node.ensures.faults
 
 pub returns-in-Node-clause-node_complete : goal.returns-in-Node-clause-node_complete
 returns-in-Node-clause-node_complete g c is =
     node_run_done _ _ (g.D.Source.left c.args.conf.now) (g.S.Source.left c.args.input.now) (g.R.Sink.written c.args.report.now) (g.R.Sink.written c.node.new.report) (g.C.Sink.written c.args.frames.now) (g.C.Sink.written c.node.new.frames) c.node.result
-    _ _ _ _ _ _ c.router_word.ensures (returns-in-Node-clause-decided g c) c.node.ensures.answer
+    _ c.router_word.ensures (returns-in-Node-clause-decided g c) c.node.ensures.answer
 
-pub returns-in-Node-clause-node_stopped : goal.returns-in-Node-clause-node_stopped
-returns-in-Node-clause-node_stopped g c is failed = rw (← c.router_word.ensures) (c.node.ensures.stopped failed)
-
-pub returns-in-Node-clause-node_accepted : goal.returns-in-Node-clause-node_accepted
-returns-in-Node-clause-node_accepted g c is = rw (← c.router_word.ensures) c.node.ensures.accepted
+pub returns-in-Node-clause-node_leaves : goal.returns-in-Node-clause-node_leaves
+returns-in-Node-clause-node_leaves g c is = rw (← c.router_word.ensures) c.node.ensures.leaves
 
 -- ---- words of the form Hop
 
@@ -100,10 +100,12 @@ returns-in-Hop-clause-front g c stopped =
     (hop_front _ (g.D.Source.left c.args.conf.now) (g.S.Source.left c.args.input.now) (g.R.Sink.written c.args.report.now) (g.R.Sink.written c.hop.new.report) (g.C.Sink.written c.args.frames.now) (c.hop.ensures.front stopped))
 
 pub returns-in-Hop-clause-decided : goal.returns-in-Hop-clause-decided
-returns-in-Hop-clause-decided g c conf input frames_faults frames_zeros faults zeros = no_fault c.hop.result _ _ _ _ _ _ c.hop.ensures.read c.hop.ensures.write input faults zeros
+returns-in-Hop-clause-decided g c quiet = no_fault c.hop.result _ _ _ _ _ _ c.hop.ensures.read c.hop.ensures.write quiet.input quiet.report.faults quiet.report.zeros
 
 pub returns-in-Hop-clause-hop_complete : goal.returns-in-Hop-clause-hop_complete
-returns-in-Hop-clause-hop_complete g c is = hop_done c.hop.result (g.S.Source.left c.args.input.now) (g.R.Sink.written c.args.report.now) (g.R.Sink.written c.hop.new.report) _ _ _ _ _ _ c.hop.ensures.statuses c.hop.ensures.answer c.hop.ensures.read c.hop.ensures.write
+returns-in-Hop-clause-hop_complete g c is =
+    quiet_sink g.R.Sink c.args.report.now c.hop.new.report (g.S.Source.left c.args.input.now) _ _ _
+    (hop_done c.hop.result (g.S.Source.left c.args.input.now) (g.R.Sink.written c.args.report.now) (g.R.Sink.written c.hop.new.report) _ _ _ _ _ _ c.hop.ensures.statuses c.hop.ensures.answer c.hop.ensures.read c.hop.ensures.write)
 
 pub returns-in-Hop-clause-hop_parts : goal.returns-in-Hop-clause-hop_parts
 returns-in-Hop-clause-hop_parts g c is decided = hop_reports (g.S.Source.left c.args.input.now) (g.R.Sink.written c.args.report.now) (g.R.Sink.written c.hop.new.report) c.hop.result (c.hop.ensures.answer decided)
@@ -125,10 +127,12 @@ returns-in-Headers-clause-front g c stopped =
     (headers_front _ (g.D.Source.left c.args.conf.now) (g.S.Source.left c.args.input.now) (g.R.Sink.written c.args.report.now) (g.R.Sink.written c.headers.new.report) (g.C.Sink.written c.args.frames.now) (c.headers.ensures.front stopped))
 
 pub returns-in-Headers-clause-decided : goal.returns-in-Headers-clause-decided
-returns-in-Headers-clause-decided g c conf input frames_faults frames_zeros faults zeros = no_fault c.headers.result _ _ _ _ _ _ c.headers.ensures.read c.headers.ensures.write input faults zeros
+returns-in-Headers-clause-decided g c quiet = no_fault c.headers.result _ _ _ _ _ _ c.headers.ensures.read c.headers.ensures.write quiet.input quiet.report.faults quiet.report.zeros
 
 pub returns-in-Headers-clause-headers_complete : goal.returns-in-Headers-clause-headers_complete
-returns-in-Headers-clause-headers_complete g c is = headers_done c.headers.result (g.S.Source.left c.args.input.now) (g.R.Sink.written c.args.report.now) (g.R.Sink.written c.headers.new.report) _ _ _ _ _ _ c.headers.ensures.statuses c.headers.ensures.answer c.headers.ensures.read c.headers.ensures.write
+returns-in-Headers-clause-headers_complete g c is =
+    quiet_sink g.R.Sink c.args.report.now c.headers.new.report (g.S.Source.left c.args.input.now) _ _ _
+    (headers_done c.headers.result (g.S.Source.left c.args.input.now) (g.R.Sink.written c.args.report.now) (g.R.Sink.written c.headers.new.report) _ _ _ _ _ _ c.headers.ensures.statuses c.headers.ensures.answer c.headers.ensures.read c.headers.ensures.write)
 
 -- ---- words of the form Grow
 

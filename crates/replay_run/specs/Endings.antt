@@ -1,0 +1,92 @@
+-- How a run ends: the status by the form of its words, and what it leaves.
+use Rattle.std.specs.Prelude.{ℕ, ◌≡◌, ◌≢◌, ◌⊎◌, ◌<◌, ◌↔◌, false, List, Option, None}
+use Rattle.std.specs.Io.KnownBytes.{Consumes, Appends}
+use Rattle.wire_base.specs.declared.outside.Source as source
+use Rattle.wire_base.specs.declared.outside.Sink as sink
+use Rattle.wire_base.specs.declared.status.Status.{Status}
+use Rattle.wire_base.specs.declared.status.Status.TheVariants.{Done, Usage, ConfRefused, InputRefused, CaptureRefused, ReadFault, WriteFault, Memory}
+use Rattle.wire_base.specs.declared.conf.RouterConf.{RouterConf}
+use Rattle.wire_base.specs.model.Configuration.{DomainConf}
+use Rattle.tool_run.specs.Answer.{Verdict, IsDecided}
+use Rattle.tool_run.specs.HopText.{hop_cut}
+use Rattle.tool_run.specs.Headers.{IsOpen, lines_of}
+use Rattle.tool_run.specs.NodeRun.{node_cut, node_reached}
+use Rattle.tool_run.specs.Outside.{Gave, Meets, AppendsFront}
+use Rattle.replay_run.specs.declared.words.Form.{Form}
+use Rattle.replay_run.specs.declared.words.Form.TheVariants.{Replay, Node, Hop, Headers, Unknown}
+use Rattle.replay_run.specs.DomainFile.{Says}
+use Rattle.replay_run.specs.Routers.{SaysRouter}
+use Rattle.replay_run.specs.ScheduleText.{schedule_cut}
+use Rattle.replay_run.specs.Words.{IsGrow}
+
+-- the status of a run that could be done, where no count rose
+abbrev pub DoneOrMemory : Status → Type 0
+DoneOrMemory ended = (ended ≡ Done) ⊎ (ended ≡ Memory)
+
+-- a front of each text of a verdict was written
+abbrev pub AppendsFronts : Verdict → (report report_now frames frames_now : Option (List ℕ)) → Type 0
+AppendsFronts owed report report_now frames frames_now = AppendsFront report report_now owed.report × AppendsFront frames frames_now owed.frames
+
+-- a status that comes on words of that form
+pub record ComesOn (form : Form) (ended : Status) : Type 0 where
+  pub done : ended ≡ Done → form ≢ Unknown
+  -- a status that words and octets decide is `Usage` exactly on words of no form
+  pub usage : IsDecided ended → ((ended ≡ Usage) ↔ (form ≡ Unknown))
+  pub usage_or_fault : form ≡ Unknown → (ended ≡ Usage) ⊎ (ended ≡ WriteFault)
+  pub conf_refused : ended ≡ ConfRefused → (form ≡ Replay) ⊎ (form ≡ Node)
+  pub input_refused : ended ≡ InputRefused → (form ≡ Replay) ⊎ ((form ≡ Hop) ⊎ IsGrow form)
+  pub capture_refused : ended ≡ CaptureRefused → (form ≡ Headers) ⊎ (form ≡ Node)
+
+-- what `replay` leaves
+pub record ReplayLeaves {D S C R : Type 0} (d : source.Ghosts D) (s : source.Ghosts S) (c : sink.Ghosts C) (r : sink.Ghosts R) (ended : Status)
+    (conf_old conf_new : D) (input_old input_new : S) (frames_old frames_new : C) (report_old report_new : R) : Type 0 where
+  -- where the domain file isn't accepted, schedule and frames are as before
+  pub accepted : ((input_new ≡ input_old) × (frames_new ≡ frames_old)) ⊎ ((d.faults conf_new ≡ d.faults conf_old) × ((domain : DomainConf) × Says (d.left conf_old) domain))
+  -- what was written is finished
+  pub report_finished : ended ≢ WriteFault → ended ≢ Memory → (report_new ≡ report_old) ⊎ (r.unfinished report_new ≡ false)
+  pub capture_finished : (ended ≡ Done) ⊎ (ended ≡ InputRefused) → c.unfinished frames_new ≡ false
+  -- where the schedule's source failed, whether or not anything was written
+  pub both_finished : ended ≡ ReadFault → (d.faults conf_old < d.faults conf_new) ⊎ ((c.unfinished frames_new ≡ false) × (r.unfinished report_new ≡ false))
+  -- Where the domain file's source failed, nothing else is touched. Where the schedule's did, the lines that are whole in what was taken
+  -- are done and reported, none of them is refused, and there is no last line.
+  pub stopped : ended ≡ ReadFault → ((d.faults conf_old < d.faults conf_new) × (input_new ≡ input_old) × (frames_new ≡ frames_old) × (report_new ≡ report_old))
+      ⊎ ((d.faults conf_new ≡ d.faults conf_old) × ((domain : DomainConf) × Says (d.left conf_old) domain × ((octets : List ℕ) × Consumes (s.left input_old) (s.left input_new) octets
+      × Meets (schedule_cut domain octets) ended (r.written report_old) (r.written report_new) (c.written frames_old) (c.written frames_new))))
+
+-- what `node` leaves, on the word that names a router
+pub record NodeLeaves {D S C R : Type 0} (d : source.Ghosts D) (s : source.Ghosts S) (c : sink.Ghosts C) (r : sink.Ghosts R) (router : List ℕ) (ended : Status)
+    (conf_old conf_new : D) (input_old input_new : S) (frames_old frames_new : C) (report_old report_new : R) : Type 0 where
+  -- where the domain file isn't accepted, or the word names no router of it, capture and frames are as before
+  pub accepted : ((input_new ≡ input_old) × (frames_new ≡ frames_old)) ⊎ ((d.faults conf_new ≡ d.faults conf_old) × ((own : RouterConf) × SaysRouter (d.left conf_old) router own))
+  -- what was written is finished
+  pub report_finished : ended ≢ WriteFault → ended ≢ Memory → (report_new ≡ report_old) ⊎ (r.unfinished report_new ≡ false)
+  pub capture_finished : (ended ≡ Done) ⊎ (ended ≡ CaptureRefused) → c.unfinished frames_new ≡ false
+  -- where the capture's source failed, whether or not anything was written
+  pub both_finished : ended ≡ ReadFault → (d.faults conf_old < d.faults conf_new) ⊎ ((c.unfinished frames_new ≡ false) × (r.unfinished report_new ≡ false))
+  -- Where the domain file's source failed, nothing else is touched. Where the capture's did, the records that are whole in what was taken
+  -- are done and reported, no fault of the capture's reader stands in it, and there is no last line.
+  pub stopped : ended ≡ ReadFault → ((d.faults conf_old < d.faults conf_new) × (input_new ≡ input_old) × (frames_new ≡ frames_old) × (report_new ≡ report_old))
+      ⊎ ((d.faults conf_new ≡ d.faults conf_old) × ((own : RouterConf) × SaysRouter (d.left conf_old) router own × ((octets : List ℕ) × Consumes (s.left input_old) (s.left input_new) octets
+      × IsOpen octets × ((node_reached own octets).gap ≡ None)
+      × Meets (node_cut own octets) ended (r.written report_old) (r.written report_new) (c.written frames_old) (c.written frames_new))))
+
+-- What `hop` leaves where its source failed: the lines that are whole in what was taken are reported, and none of them is refused.
+pub record HopLeaves {S R : Type 0} (s : source.Ghosts S) (r : sink.Ghosts R) (ended : Status) (input_old input_new : S) (report_old report_new : R) : Type 0 where
+  pub finished : ended ≡ ReadFault → r.unfinished report_new ≡ false
+  pub stopped : ended ≡ ReadFault → (octets : List ℕ) × Consumes (s.left input_old) (s.left input_new) octets × Gave (hop_cut octets) ended (r.written report_old) (r.written report_new)
+
+-- What `headers` leaves where its source failed: the records that are whole in what was taken are reported, no fault of the capture's
+-- reader stands in it, and there is no last line.
+pub record HeadersLeaves {S R : Type 0} (s : source.Ghosts S) (r : sink.Ghosts R) (ended : Status) (input_old input_new : S) (report_old report_new : R) : Type 0 where
+  pub finished : ended ≡ ReadFault → r.unfinished report_new ≡ false
+  pub stopped : ended ≡ ReadFault → (octets : List ℕ) × Consumes (s.left input_old) (s.left input_new) octets × IsOpen octets
+      × Appends (r.written report_old) (r.written report_new) (lines_of octets)
+
+-- what a run leaves as it was
+pub record LeavesAlone {D S C : Type 0} (form : Form) (ended : Status) (conf_old conf_new : D) (input_old input_new : S) (frames_old frames_new : C) : Type 0 where
+  -- what the words don't name
+  pub conf : form ≢ Replay → form ≢ Node → conf_new ≡ conf_old
+  pub frames : form ≢ Replay → form ≢ Node → frames_new ≡ frames_old
+  pub unread : (form ≡ Unknown) ⊎ IsGrow form → input_new ≡ input_old
+  -- schedule or capture and the frames, where the domain file is refused
+  pub refused : ended ≡ ConfRefused → (input_new ≡ input_old) × (frames_new ≡ frames_old)
