@@ -7,6 +7,9 @@ pub mod Nodes
 pub mod RunsDone
 pub mod NamedOnce
 pub mod ScheduleSteps
+pub mod Wrote
+pub mod Rounds
+pub mod SaidSteps
 pub mod Grown
 pub mod ScheduleLoop
 pub mod Growing
