@@ -92,7 +92,7 @@ owing_on {ended = ended} {now = now} {rb = rb} {rm = rm} {rn = rn} {fb = fb} {fm
     let report = sym (append_assoc owes.report wrote.report now.report) in
     let frames = sym (append_assoc owes.frames wrote.frames now.frames) in
     let moved : ◌≡◌ {A = Verdict} (record { status = ended; report = owes.report ++ (wrote.report ++ now.report); frames = owes.frames ++ (wrote.frames ++ now.frames) })
-        (record { status = ended; report = (owes.report ++ wrote.report) ++ now.report; frames = (owes.frames ++ wrote.frames) ++ now.frames }) = (λ i. record { status = ended; report = report i; frames = frames i }) in
+    (record { status = ended; report = (owes.report ++ wrote.report) ++ now.report; frames = (owes.frames ++ wrote.frames) ++ now.frames }) = (λ i. record { status = ended; report = report i; frames = frames i }) in
     record {
       report = owes.report ++ wrote.report;
       frames = owes.frames ++ wrote.frames;

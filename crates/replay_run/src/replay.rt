@@ -59,7 +59,16 @@ fn do_schedule<S: Source, C: Sink, R: Sink>(
         let before = reader.number();
         let what = reader.next(input)?;
         let line = reader.line();
-        let ended = take_found(alloc, frames, report, &mut replay, &names, what, before, line)?;
+        let ended = take_found(
+            alloc,
+            frames,
+            report,
+            &mut replay,
+            &names,
+            what,
+            before,
+            line,
+        )?;
         if let Some(status) = ended {
             return Ok((status, replay));
         }

@@ -14,5 +14,5 @@ returns-in_err-refuse-in-Err-clause-stopped g c =
 pub returns-in_ok-refuse-in-Err-clause-went : goal.returns-in_ok-refuse-in-Err-clause-went
 returns-in_ok-refuse-in-Err-clause-went g c =
     went_still c.args.replay.now c.refuse.new.replay (g.R.Sink.written c.args.report.now) (g.C.Sink.written c.args.frames.now) (λ course at.
-        text_refused course c.args.lines c.args.line.now c.args.names.now c.args.replay.now c.refuse.new.replay c.in-Err.why c.in_ok-refuse-in-Err.field-0 at c.requires.names
-        c.in-Err.ensures.value c.in_ok-refuse-in-Err.ensures.known c.in_ok-refuse-in-Err.ensures.status c.in_ok-refuse-in-Err.ensures.report)
+    text_refused course c.args.lines c.args.line.now c.args.names.now c.args.replay.now c.refuse.new.replay c.in-Err.why c.in_ok-refuse-in-Err.field-0 at c.requires.names
+    c.in-Err.ensures.value c.in_ok-refuse-in-Err.ensures.known c.in_ok-refuse-in-Err.ensures.status c.in_ok-refuse-in-Err.ensures.report)

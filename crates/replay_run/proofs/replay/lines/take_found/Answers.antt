@@ -21,7 +21,7 @@ returns-in_err-stop_at_limit-in-TooLong-clause-stopped g c =
 pub returns-in_ok-stop_at_long-in-Long-clause-went : goal.returns-in_ok-stop_at_long-in-Long-clause-went
 returns-in_ok-stop_at_long-in-Long-clause-went g c =
     went_still c.args.replay.now c.stop_at_long.new.replay (g.R.Sink.written c.args.report.now) (g.C.Sink.written c.args.frames.now) (λ course at.
-        long_turns c.args.what c.args.lines c.args.line.now course c.stop_at_long.new.replay _ c.in-Long.is (c.in_ok-stop_at_long-in-Long.ensures course at))
+    long_turns c.args.what c.args.lines c.args.line.now course c.stop_at_long.new.replay _ c.in-Long.is (c.in_ok-stop_at_long-in-Long.ensures course at))
 
 pub returns-in_ok-finish-in-End-clause-went : goal.returns-in_ok-finish-in-End-clause-went
 returns-in_ok-finish-in-End-clause-went g c =
@@ -34,4 +34,4 @@ returns-in_ok-stop_at_limit-in-TooLong-clause-went g c =
 pub returns-in-Failed-clause-went : goal.returns-in-Failed-clause-went
 returns-in-Failed-clause-went g c =
     went_still c.args.replay.now c.args.replay.now (g.R.Sink.written c.args.report.now) (g.C.Sink.written c.args.frames.now) (λ course at.
-        rw c.in-Failed.is (ends Cut c.args.lines course c.args.replay.now c.args.replay.now (status.ReadFault, []) at refl refl (sym (append-nil c.args.replay.now.report))))
+    rw c.in-Failed.is (ends Cut c.args.lines course c.args.replay.now c.args.replay.now (status.ReadFault, []) at refl refl (sym (append-nil c.args.replay.now.report))))
