@@ -10,7 +10,7 @@ use Rattle.tool_run.specs.Outside.{AppendsFront}
 use Rattle.tool_run.proofs.HopLoop.{begun_front, nothing_front}
 use Rattle.tool_run.proofs.Written.{front_appended}
 use Rattle.wire_base.specs.declared.status.Status.{Status}
-use Rattle.replay_run.specs.Scheduling.{Course, IsAt, past, gained, Wrote, Fronted, Went, Stopped, Owing, Begun}
+use Rattle.replay_run.specs.Scheduling.{Course, IsAt, past, gained, Wrote, Fronted, Went, Stopped, StopsFor, Owing, Begun}
 
 -- ---- fronts and what stands behind them
 
@@ -117,3 +117,10 @@ begun_on {owing = owing} {all = all} {now = now} {rb = rb} {rm = rm} {rn = rn} {
       report = begins_on rb rm rn wrote.report now.report all.report owing.report wrote.report_written (ap (λ (t : Telling). t.report) wrote.is) begun.report;
       frames = begins_on fb fm fn wrote.frames now.frames all.frames owing.frames wrote.frames_written (ap (λ (t : Telling). t.frames) wrote.is) begun.frames;
     }
+
+-- ---- counts of faults
+
+-- what stops a run in which no count of a sink rose before
+pub stops_since : (why : Status) (f0 f1 f2 z0 z1 z2 r0 r1 r2 s0 s1 s2 : ℕ) → f1 ≡ f0 → z1 ≡ z0 → r1 ≡ r0 → s1 ≡ s0 → StopsFor why f1 f2 z1 z2 r1 r2 s1 s2 → StopsFor why f0 f2 z0 z2 r0 r2 s0 s2
+stops_since why f0 f1 f2 z0 z1 z2 r0 r1 r2 s0 s1 s2 f z r s h =
+    subst (λ n. StopsFor why f0 f2 z0 z2 r0 r2 n s2) s (subst (λ n. StopsFor why f0 f2 z0 z2 n r2 s1 s2) r (subst (λ n. StopsFor why f0 f2 n z2 r1 r2 s1 s2) z (subst (λ n. StopsFor why n f2 z1 z2 r1 r2 s1 s2) f h)))
