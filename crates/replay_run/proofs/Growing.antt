@@ -1,5 +1,5 @@
 -- A grown domain over its schedule: what `grow` did is what it owes.
-use Rattle.std.proofs.Common.{◌≡◌, ◌≢◌, ℕ, zero, suc, ◌+◌, ◌<◌, ◌≤◌, ◌==◌, not, Bool, true, false, List, [], ◌∷◌, ◌++◌, length, drop, get_or, map, filter, codes, ◌⊎◌, inl, inr, Option, Some, None, refl, sym, ap, subst, ◌∙◌, append-nil, append_assoc, arith}
+use Rattle.std.proofs.Common.{◌≡◌, ◌≢◌, ℕ, zero, suc, ◌+◌, ◌-◌, ◌<◌, ◌≤◌, ◌==◌, not, Bool, true, false, List, [], ◌∷◌, ◌++◌, length, drop, get_or, map, filter, codes, ◌⊎◌, inl, inr, Option, Some, None, refl, sym, ap, subst, ◌∙◌, append-nil, append_assoc, arith}
 use Rattle.std.specs.Fmt.{decimal}
 use Rattle.std.specs.List.{AllByRecursion, fold, range_with_len}
 use Rattle.std.proofs.lemmas.Bool.{ne_eqb}
@@ -13,6 +13,7 @@ use Rattle.wire_base.specs.model.Hop.{distinct}
 use Rattle.wire_base.specs.model.Item.{Item}
 use Rattle.replay_text.specs.declared.event.Event.{Event}
 use Rattle.replay_text.specs.declared.event.Line.{Line}
+use Rattle.replay_text.specs.declared.event.Line.TheVariants.{Settle}
 use Rattle.replay_text.specs.Events.{LineFits}
 use Rattle.grown_domain.specs.Links.{grown_links}
 use Rattle.grown_domain.specs.Routers.{router}
@@ -27,32 +28,68 @@ use Rattle.domain_replay.specs.declared.counts.Counts.{Counts}
 use Rattle.domain_replay.specs.Counting.{counts_of}
 use Rattle.replay_text.specs.Report.{line_of}
 use Rattle.domain_replay.specs.Lines.{done_text, event_refused_text}
-use Rattle.domain_replay.specs.Telling.{Telling, first_telling, told, tells_line, LineEnters, LineNamesOnce}
+use Rattle.domain_replay.specs.Telling.{Telling, Told, first_telling, told, tells_line, LineEnters, LineNamesOnce}
 use Rattle.domain_replay.proofs.TellingLaws.{start_told}
 use Rattle.tool_run.specs.Answer.{IsDecided}
-use Rattle.replay_run.specs.Scheduling.{Course, IsAt}
+use Rattle.replay_run.specs.Scheduling.{Course, IsAt, past}
 use Rattle.replay_run.specs.Grow.{summary, ends_by, grown_run, grow_answer, GoesThrough, going, Goes, EndsAs}
 use Rattle.replay_run.proofs.ScheduleSteps.{refused_as, at_run}
-use Rattle.replay_run.proofs.ScheduleLoop.{written_at}
+use Rattle.replay_run.proofs.Wrote.{past_past, written_at}
+use Rattle.replay_run.proofs.Rounds.{AreLeft, all_left, one_less, ends_refused, none_left}
 
 -- ---- a line
 
-pub line_goes : (course : Course) (line : ℕ) (said : Line) (old mid now : Telling) → IsAt course old → LineEnters (length course.domain.routers) said → tells_line line old said ≡ told mid
-    → now ≡ record mid { frames = []; report = [] } → Goes (line_done line (going course.run) said) course now true
-line_goes course line said old mid now at enters is forgot =
-    let p = line_done line (going course.run) said in (
-      refused_as course line said old mid None at enters is,
-      course.frames ++ mid.frames,
-      course.report ++ mid.report,
-      written_at (record course { run = p.run }) mid now mid.frames mid.report (at_run course line said old mid None at enters is)
-          (sym (append-nil mid.frames) ∙ ap (λ (t : Telling). mid.frames ++ t.frames) (sym forgot))
-          (sym (append-nil mid.report) ∙ ap (λ (t : Telling). mid.report ++ t.report) (sym forgot))
-          (forgot ∙ ap (λ (t : Telling). record mid { frames = t.frames; report = t.report }) (sym forgot)),
+-- rounds of a line, what was told before them thrown away
+pub record Thrown (line rounds i : ℕ) (start now : Telling) : Type 0 where
+  pub frames : List ℕ
+  pub report : List ℕ
+  pub left : AreLeft line rounds (rounds - i) start (past frames report now)
+
+-- what is thrown away stood in front
+forgotten : (old now : Telling) → now ≡ record old { frames = []; report = [] } → old ≡ past old.frames old.report now
+forgotten old now forgot =
+    let frames = sym (append-nil old.frames) in
+    let report = sym (append-nil old.report) in
+    let whole : old ≡ past old.frames old.report (record old { frames = []; report = [] }) = (λ i. record { world = old.world; counts = old.counts; frames = frames i; report = report i }) in
+    whole ∙ ap (past old.frames old.report) (sym forgot)
+
+pub thrown_first : (line rounds : ℕ) (start : Telling) → Thrown line rounds 0 start start
+thrown_first line rounds start = record { frames = []; report = []; left = all_left line rounds start }
+
+pub thrown_more : (line rounds i : ℕ) (start old mid now : Telling) → i < rounds → Thrown line rounds i start old → tells_line line old (Settle 1) ≡ told mid → now ≡ record mid { frames = []; report = [] } → Thrown line rounds (i + 1) start now
+thrown_more line rounds i start old mid now within thrown tells forgot =
+    let left = one_less line rounds i start (past thrown.frames thrown.report old) old mid thrown.frames thrown.report within refl thrown.left tells in
+    let is = ap (past thrown.frames thrown.report) (forgotten mid now forgot) ∙ past_past thrown.frames thrown.report mid.frames mid.report now in
+    record { frames = thrown.frames ++ mid.frames; report = thrown.report ++ mid.report; left = left ∙ ap (λ (t : Telling). tells_line line t (Settle (rounds - (i + 1)))) is }
+
+pub thrown_refused : (line rounds i : ℕ) (start old now : Telling) (why : EventFault) → i < rounds → Thrown line rounds i start old → tells_line line old (Settle 1) ≡ record { telling = now; refused = Some why } → (tells_line line start (Settle rounds)).refused ≡ Some why
+thrown_refused line rounds i start old now why within thrown tells =
+    ap (λ (t : Told). t.refused) (ends_refused line rounds i start (past thrown.frames thrown.report old) old now thrown.frames thrown.report within refl thrown.left why tells)
+
+pub thrown_all : (line rounds i : ℕ) (start now : Telling) → rounds ≤ i → Thrown line rounds i start now → (frames report : List ℕ) × (tells_line line start (Settle rounds) ≡ told (past frames report now))
+thrown_all line rounds i start now past_all thrown = (thrown.frames, thrown.report, none_left line rounds i start (past thrown.frames thrown.report now) past_all thrown.left)
+
+-- what a line tells, thrown away as a whole
+pub line_thrown : (line : ℕ) (said : Line) (old mid now : Telling) → tells_line line old said ≡ told mid → now ≡ record mid { frames = []; report = [] } → (frames report : List ℕ) × (tells_line line old said ≡ told (past frames report now))
+line_thrown line said old mid now tells forgot = (mid.frames, mid.report, tells ∙ ap told (forgotten mid now forgot))
+
+pub line_goes : (course : Course) (line : ℕ) (said : Line) (old now : Telling) → IsAt course old → LineEnters (length course.domain.routers) said → ((frames report : List ℕ) × (tells_line line old said ≡ told (past frames report now)))
+    → Goes (line_done line (going course.run) said) course now true
+line_goes course line said old now at enters (frames, report, tells) =
+    let p = line_done line (going course.run) said in
+    let all = past frames report now in (
+      refused_as course line said old all None at enters tells,
+      course.frames ++ frames,
+      course.report ++ report,
+      written_at (record course { run = p.run }) all now frames report (at_run course line said old all None at enters tells) refl,
     )
 
-pub line_refused : (course : Course) (line : ℕ) (said : Line) (old mid now : Telling) (why : EventFault) → IsAt course old → LineEnters (length course.domain.routers) said
-    → tells_line line old said ≡ record { telling = mid; refused = Some why } → now.report ≡ event_refused_text line why → Goes (line_done line (going course.run) said) course now false
-line_refused course line said old mid now why at enters is report = ((line, why), refused_as course line said old mid (Some why) at enters is, report)
+pub line_refused : (course : Course) (line : ℕ) (said : Line) (old now : Telling) (why : EventFault) → IsAt course old → LineEnters (length course.domain.routers) said
+    → (tells_line line old said).refused ≡ Some why → now.report ≡ event_refused_text line why → Goes (line_done line (going course.run) said) course now false
+line_refused course line said old now why at enters is report =
+    let all = tells_line line old said in
+    let whole : all ≡ record { telling = all.telling; refused = Some why } = (λ i. record { telling = all.telling; refused = is i }) in
+    ((line, why), refused_as course line said old all.telling (Some why) at enters whole, report)
 
 -- ---- all lines
 

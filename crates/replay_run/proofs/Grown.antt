@@ -83,6 +83,18 @@ lines_grown names n r (text ∷ texts) =
     let reached = line_reaches n r (schedule_line text names) in
     further (λ (next : Run). lines_reach names (n + 1) next texts) r reached (line_grown n r (schedule_line text names)) (lines_grown names (n + 1) reached.run texts) reached.refused
 
+-- lines behind a line go on from where it was done
+pub behind_grown : (names : List (List ℕ)) (n : ℕ) (r : Run) (text : List ℕ) (texts : List (List ℕ)) → Grown (line_reaches n r (schedule_line text names)).run (lines_reach names n r (text ∷ texts)).run
+unfolding lines_reach
+behind_grown names n r text texts = by reached.refused
+  where
+    reached : Reached
+    reached = line_reaches n r (schedule_line text names)
+
+    by : (o : Option (ℕ × Refusal)) → Grown reached.run (goes_further (λ (next : Run). lines_reach names (n + 1) next texts) reached.run o).run
+    by None = lines_grown names (n + 1) reached.run texts
+    by (Some why) = same reached.run
+
 -- ---- texts
 
 more_text : (w : WorldState) (es more : List (ℕ × Event)) → (rest : List ℕ) × (events_text w (es ++ more) ≡ events_text w es ++ rest)

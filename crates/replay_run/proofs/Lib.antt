@@ -8,6 +8,9 @@ pub mod Quiet
 pub mod RunsDone
 pub mod NamedOnce
 pub mod ScheduleSteps
+pub mod Wrote
+pub mod Rounds
+pub mod SaidSteps
 pub mod Grown
 pub mod ScheduleLoop
 pub mod Growing

@@ -23,12 +23,13 @@ use Rattle.tool_run.specs.Answer.{Verdict}
 use Rattle.tool_run.specs.Texts.{Close, Ended, Longer, Cut, close_of, is_short, within_limit, lines_within}
 use Rattle.tool_run.specs.Reader.{Stands, IsLast}
 use Rattle.replay_run.specs.ScheduleText.{ending, answer_by, answer_to, schedule_answer, schedule_cut}
-use Rattle.replay_run.specs.Scheduling.{Course, IsAt, past, owed, gained, Reaches, next_reaches, EndsWith, Turns, Owing, Begun}
+use Rattle.replay_run.specs.Scheduling.{Course, IsAt, owed, gained, Reaches, next_reaches, EndsWith, Turns, run_behind, Wrote, Fronted, Stopped, Owing, Begun}
 use Rattle.tool_run.specs.Outside.{Held, Meets, AppendsFront}
 use Rattle.tool_run.specs.Answer.{IsDecided}
 use Rattle.tool_run.proofs.LineLaws.{Finding}
 use Rattle.tool_run.proofs.HopLoop.{held_past, held_all, stands_past, whole_lines, within_short, long_lines, begun_front, nothing_front}
-use Rattle.replay_run.proofs.Grown.{lines_grown, report_grown, frames_grown}
+use Rattle.replay_run.proofs.Grown.{Grown, lines_grown, behind_grown, report_grown, frames_grown}
+use Rattle.replay_run.proofs.Wrote.{written_at, nothing_fronted, owing_on, begun_on}
 use Rattle.replay_run.proofs.ScheduleSteps.{reaches_goes, reaches_ends, long_line}
 
 -- What a source and both sinks tell.
@@ -72,19 +73,6 @@ course_first d before reader replay stands fresh =
       did = λ close more.
           let count : length more ≡ 0 + length more = omega arith in
           ap (λ (n : ℕ). answer_by close d n (schedule_reaches d more)) count;
-    }
-
--- fronts of what stands in a replay are written out
-pub written_at : (course : Course) (now later : Telling) (frames report : List ℕ) → IsAt course now → now.frames ≡ frames ++ later.frames → now.report ≡ report ++ later.report
-    → later ≡ record now { frames = later.frames; report = later.report } → IsAt (record course { frames = course.frames ++ frames; report = course.report ++ report }) later
-written_at course now later frames report at frames_are report_are rest =
-    let whole_frames : course.frames ++ now.frames ≡ (course.frames ++ frames) ++ later.frames = ap (λ (l : List ℕ). course.frames ++ l) frames_are ∙ sym (append_assoc course.frames frames later.frames) in
-    let whole_report : course.report ++ now.report ≡ (course.report ++ report) ++ later.report = ap (λ (l : List ℕ). course.report ++ l) report_are ∙ sym (append_assoc course.report report later.report) in
-    let moved : past course.frames course.report now ≡ past (course.frames ++ frames) (course.report ++ report) ((record now { frames = later.frames; report = later.report })) =
-    (λ i. record { world = now.world; counts = now.counts; frames = whole_frames i; report = whole_report i }) in
-    record {
-      run = at.run;
-      telling = at.telling ∙ moved ∙ ap (λ (r : Telling). past (course.frames ++ frames) (course.report ++ report) r) (sym rest);
     }
 
 -- ---- a turn of the loop
@@ -154,15 +142,14 @@ step_counts {mid = mid} {left = left} {reader = reader} {reader_now = reader_now
     let after = finding.2 step.on.all step.on.given step.on.stands in
     omega (arith, after.number, step.on.stands.number, length-append step.on.given (reader_now.line ∷ []))
 
--- a line was done, and parts of both texts may have been written out
-pub step_goes : {d : DomainConf} {before mid : Outer} {left : Option (List ℕ)} {reader reader_now : LineReader} {replay replay_now : Telling} {what : Found} (now : Outer) (later : Telling) (frames report : List ℕ) → Step d before mid left reader reader_now replay replay_now what None
-    → now.left ≡ left → Appends mid.frames now.frames frames → Appends mid.report now.report report → replay_now.frames ≡ frames ++ later.frames → replay_now.report ≡ report ++ later.report
-    → later ≡ record replay_now { frames = later.frames; report = later.report } → OnCourse d before now reader_now later
-step_goes {d = d} {before = before} {mid = mid} {left = left} {reader = reader} {reader_now = reader_now} {replay_now = replay_now} now later frames report step taken wrote_frames wrote_report frames_are report_are rest =
+-- a line was done, and fronts of both texts may have been written out
+pub step_goes : {d : DomainConf} {before mid : Outer} {left : Option (List ℕ)} {reader reader_now : LineReader} {replay all : Telling} {what : Found} (now : Outer) (later : Telling) → Step d before mid left reader reader_now replay all what None
+    → now.left ≡ left → Wrote all later mid.report now.report mid.frames now.frames → OnCourse d before now reader_now later
+step_goes {d = d} {before = before} {mid = mid} {left = left} {reader = reader} {reader_now = reader_now} {all = all} now later step taken wrote =
     let on = step.on in
     let line = step_line step in
     let finding = subst (λ (w : Found). Finding mid.left left reader reader_now w) line step.finding in
-    let turn : Reaches (next_reaches (length on.given) (course_on on) reader_now.line) (course_on on) replay_now None = subst (λ (w : Found). Turns w (length on.given) reader_now.line (course_on on) replay_now None) line step.turn in
+    let turn : Reaches (next_reaches (length on.given) (course_on on) reader_now.line) (course_on on) all None = subst (λ (w : Found). Turns w (length on.given) reader_now.line (course_on on) all None) line step.turn in
     let next : Run = (next_reaches (length on.given) (course_on on) reader_now.line).run in
     let consumed = subst (λ (l : Option (List ℕ)). Consumes mid.left l finding.0) (sym taken) finding.1 in
     let count : length on.given + 1 ≡ length (on.given ++ reader_now.line ∷ []) = omega (arith, length-append on.given (reader_now.line ∷ [])) in
@@ -172,14 +159,14 @@ step_goes {d = d} {before = before} {mid = mid} {left = left} {reader = reader} 
       consumed = Consumes-trans before.left mid.left now.left on.all finding.0 on.consumed consumed;
       stands = finding.2 on.all on.given on.stands;
       run = next;
-      frames = on.frames ++ frames;
-      report = on.report ++ report;
-      frames_written = Appends-trans before.frames mid.frames now.frames on.frames frames on.frames_written wrote_frames;
-      report_written = Appends-trans before.report mid.report now.report on.report report on.report_written wrote_report;
-      at = written_at (record (course_on on) { run = next }) replay_now later frames report turn.1 frames_are report_are rest;
+      frames = on.frames ++ wrote.frames;
+      report = on.report ++ wrote.report;
+      frames_written = Appends-trans before.frames mid.frames now.frames on.frames wrote.frames on.frames_written wrote.frames_written;
+      report_written = Appends-trans before.report mid.report now.report on.report wrote.report on.report_written wrote.report_written;
+      at = written_at (record (course_on on) { run = next }) all later wrote.frames wrote.report turn.1 wrote.is;
       did = λ close more.
           ap (answer_to close d) (append_assoc on.given (reader_now.line ∷ []) more) ∙ on.did close (reader_now.line ∷ more)
-          ∙ reaches_goes close (length on.given) reader_now.line more (course_on on) replay_now turn
+          ∙ reaches_goes close (length on.given) reader_now.line more (course_on on) all turn
           ∙ ap (λ (n : ℕ). owed close n more (record (course_on on) { run = next })) count;
     }
 
@@ -302,27 +289,25 @@ too_long_at {d = d} {before = before} {mid = mid} now on later status octets con
     other : found.TooLong ≡ found.Failed → ⊥
     other e = cc
 
--- what was written and stands in the replay is the front of what is owed, however the source goes on
-begins : {d : DomainConf} {before now : Outer} {reader : LineReader} {replay : Telling} (on : OnCourse d before now reader replay) (octets more : List ℕ) → octets ≡ on.all ++ more → Begun (schedule_answer d octets) replay before.report now.report before.frames now.frames
-begins {d = d} {reader = reader} {replay = replay} on octets more is =
-    let tail = stands_past on.all on.given reader more on.stands in
+-- what was written and is told is the front of what is owed, where the lines go on from its run
+begins_at : {d : DomainConf} {before now : Outer} {reader : LineReader} {replay : Telling} (on : OnCourse d before now reader replay) (run : Run) (all : Telling) → IsAt (record (course_on on) { run = run }) all
+    → (octets : List ℕ) (tail : List (List ℕ)) → lines_within octets ≡ on.given ++ tail → Grown run (lines_reach (names_of d) (length on.given + 1) on.run tail).run → Begun (schedule_answer d octets) all before.report now.report before.frames now.frames
+begins_at {d = d} on run all at octets tail lines grown =
     let close = close_of (is_short octets) in
     let n = length on.given in
-    let lines : lines_within octets ≡ on.given ++ tail.0 = ap lines_within is ∙ tail.1 in
-    let all : schedule_answer d octets ≡ owed close n tail.0 (course_on on) = answer_of_lines d octets close (on.given ++ tail.0) refl lines ∙ on.did close tail.0 in
-    let reached = lines_reach (names_of d) (n + 1) on.run tail.0 in
-    let grown = lines_grown (names_of d) (n + 1) on.run tail.0 in
-    let end = (ending close (n + length tail.0) reached.run reached.refused).1 in
-    let report = report_grown d on.run reached.run grown in
-    let frames = frames_grown d on.run reached.run grown in
+    let whole : schedule_answer d octets ≡ owed close n tail (course_on on) = answer_of_lines d octets close (on.given ++ tail) refl lines ∙ on.did close tail in
+    let reached = lines_reach (names_of d) (n + 1) on.run tail in
+    let end = (ending close (n + length tail) reached.run reached.refused).1 in
+    let report = report_grown d run reached.run grown in
+    let frames = frames_grown d run reached.run grown in
     record {
       report = (
         on.report,
         on.report_written,
         (
           report.0 ++ end,
-          ap (λ (v : Verdict). v.report) all ∙ ap (λ (l : List ℕ). l ++ end) (report.1 ∙ ap (λ (t : Telling). t.report ++ report.0) on.at.telling)
-              ∙ append_assoc (on.report ++ replay.report) report.0 end,
+          ap (λ (v : Verdict). v.report) whole ∙ ap (λ (l : List ℕ). l ++ end) (report.1 ∙ ap (λ (t : Telling). t.report ++ report.0) at.telling)
+              ∙ append_assoc (on.report ++ all.report) report.0 end,
         ),
       );
       frames = (
@@ -330,23 +315,30 @@ begins {d = d} {reader = reader} {replay = replay} on octets more is =
         on.frames_written,
         (
           frames.0,
-          ap (λ (v : Verdict). v.frames) all ∙ frames.1 ∙ ap (λ (t : Telling). t.frames ++ frames.0) on.at.telling,
+          ap (λ (v : Verdict). v.frames) whole ∙ frames.1 ∙ ap (λ (t : Telling). t.frames ++ frames.0) at.telling,
         ),
       );
     }
+
+-- however the source goes on
+begins : {d : DomainConf} {before now : Outer} {reader : LineReader} {replay : Telling} (on : OnCourse d before now reader replay) (all : Telling) → IsAt (course_on on) all → (octets more : List ℕ) → octets ≡ on.all ++ more
+    → Begun (schedule_answer d octets) all before.report now.report before.frames now.frames
+begins {d = d} {reader = reader} on all at octets more is =
+    let tail = stands_past on.all on.given reader more on.stands in
+    begins_at on on.run all at octets tail.0 (ap lines_within is ∙ tail.1) (lines_grown (names_of d) (length on.given + 1) on.run tail.0)
 
 -- the source failed
 failed_at : {d : DomainConf} {before mid : Outer} {reader : LineReader} {replay : Telling} (now : Outer) (on : OnCourse d before mid reader replay) (later : Telling) (status : Status) (octets : List ℕ)
     → Consumes mid.left now.left octets → now.report ≡ mid.report → now.frames ≡ mid.frames → lines_in false (on.all ++ octets) ≡ on.given → EndsWith Cut (length on.given) [] (course_on on) later (Some status)
     → CourseEnds d before now status later found.Failed
-unfolding lines_reach schedule_cut begins
+unfolding lines_reach schedule_cut begins begins_at
 failed_at {d = d} {before = before} {mid = mid} {replay = replay} now on later status octets consumed same_report same_frames lines turn =
     let taken = on.all ++ octets in
     let consumes = Consumes-trans before.left mid.left now.left on.all octets on.consumed consumed in
     let held = held_past before.left now.left taken consumes in
     let fault : status ≡ ReadFault = ap (λ (v : Verdict). v.status) (sym turn) in
     let whole : lines_in false taken ≡ on.given ++ [] = lines ∙ sym (append-nil on.given) in
-    let begun = begins on held.0 (octets ++ held.2.0) (held.2.1 ∙ append_assoc on.all octets held.2.0) in
+    let begun = begins on replay on.at held.0 (octets ++ held.2.0) (held.2.1 ∙ append_assoc on.all octets held.2.0) in
     let wrote_frames = subst (λ (o : Option (List ℕ)). Appends before.frames o on.frames) (sym same_frames) on.frames_written in
     let wrote_report = subst (λ (o : Option (List ℕ)). Appends before.report o on.report) (sym same_report) on.report_written in
     let report_is : on.report ++ replay.report ≡ on.report ++ later.report =
@@ -421,9 +413,24 @@ course_ends now reader_now on later status found.Failed finding same_report same
     let at = finding.2 on.all on.given on.stands in
     failed_at now on later status finding.0 finding.1 same_report same_frames at.2 turn
 
-pub step_ends : {d : DomainConf} {before mid : Outer} {left : Option (List ℕ)} {reader reader_now : LineReader} {replay replay_now : Telling} {what : Found} {status : Status} → Step d before mid left reader reader_now replay replay_now what (Some status)
-    → (IsLast what → IsAtEnd left) → CourseEnds d before (record mid { left = left }) status replay_now what
-step_ends {mid = mid} {left = left} {reader_now = reader_now} {replay_now = replay_now} {what = what} {status = status} step end = course_ends (record mid { left = left }) reader_now step.on replay_now status what step.finding refl refl end step.turn
+-- fronts of both texts were written out on the way
+ends_written : {d : DomainConf} {before mid : Outer} {status : Status} {all now : Telling} {what : Found} (report frames : Option (List ℕ)) → CourseEnds d before mid status all what → Wrote all now mid.report report mid.frames frames
+    → CourseEnds d before (record { left = mid.left; report = report; frames = frames }) status now what
+ends_written report frames ends wrote =
+    record {
+      answer = λ known. let owes = ends.answer known in (owes.0, owes.1, owing_on wrote owes.2);
+      stopped = λ fault. let owes = ends.stopped fault in (owes.0, owes.1, owing_on wrote owes.2);
+      begun = (ends.begun.0, ends.begun.1, begun_on wrote ends.begun.2);
+      ends = ends.ends;
+      last = ends.last;
+      cut = ends.cut;
+      whole = ends.whole;
+    }
+
+pub step_ends : {d : DomainConf} {before mid : Outer} {left : Option (List ℕ)} {reader reader_now : LineReader} {replay all later : Telling} {what : Found} {status : Status} {report frames : Option (List ℕ)} → Step d before mid left reader reader_now replay all what (Some status)
+    → (IsLast what → IsAtEnd left) → Wrote all later mid.report report mid.frames frames → CourseEnds d before (record { left = left; report = report; frames = frames }) status later what
+step_ends {mid = mid} {left = left} {reader_now = reader_now} {all = all} {what = what} {status = status} {report = report} {frames = frames} step end wrote =
+    ends_written report frames (course_ends (record mid { left = left }) reader_now step.on all status what step.finding refl refl end step.turn) wrote
 
 -- ---- what a fault of a sink, or want of memory, leaves
 
@@ -451,23 +458,63 @@ untouched d before = by before.left
     by None = ([], tt, both [])
     by (Some octets) = (octets, refl, both octets)
 
--- the sinks gained fronts of what stood in the replay
-pub course_fronts : {d : DomainConf} {before mid : Outer} {reader : LineReader} {replay : Telling} (report frames : Option (List ℕ)) → OnCourse d before mid reader replay → AppendsFront mid.report report replay.report → AppendsFront mid.frames frames replay.frames
-    → Fronts d before (record { left = mid.left; report = report; frames = frames })
-course_fronts {d = d} {before = before} {mid = mid} {replay = replay} report frames on report_front frames_front =
+-- the sinks gained fronts of what is told at the course
+pub course_fronts : {d : DomainConf} {before mid : Outer} {reader : LineReader} {replay : Telling} (left report frames : Option (List ℕ)) (on : OnCourse d before mid reader replay) (all : Telling) → IsAt (course_on on) all → Fronted all mid.report report mid.frames frames
+    → Fronts d before (record { left = left; report = report; frames = frames })
+course_fronts {d = d} {before = before} {mid = mid} left report frames on all at front =
     let held = held_past before.left mid.left on.all on.consumed in
-    let now : Outer = record { left = mid.left; report = report; frames = frames } in
-    (held.0, held.1, both_front before mid now (schedule_answer d held.0) replay (begins on held.0 held.2.0 held.2.1) report_front frames_front)
+    let now : Outer = record { left = left; report = report; frames = frames } in
+    (held.0, held.1, both_front before mid now (schedule_answer d held.0) all (begins on all at held.0 held.2.0 held.2.1) front.report front.frames)
 
 -- nothing more was written
 pub course_front : {d : DomainConf} {before mid : Outer} {reader : LineReader} {replay : Telling} → OnCourse d before mid reader replay → Fronts d before mid
-course_front {mid = mid} {replay = replay} on = course_fronts mid.report mid.frames on (nothing_front mid.report replay.report) (nothing_front mid.frames replay.frames)
+course_front {mid = mid} {replay = replay} on = course_fronts mid.left mid.report mid.frames on replay on.at (nothing_fronted replay mid.report mid.frames)
 
 -- the sinks failed behind a line
-pub step_fronts : {d : DomainConf} {before mid : Outer} {left : Option (List ℕ)} {reader reader_now : LineReader} {replay replay_now : Telling} {what : Found} (report frames : Option (List ℕ)) → Step d before mid left reader reader_now replay replay_now what None
-    → AppendsFront mid.report report replay_now.report → AppendsFront mid.frames frames replay_now.frames → Fronts d before (record { left = left; report = report; frames = frames })
-step_fronts {mid = mid} {left = left} {replay_now = replay_now} report frames step report_front frames_front =
-    course_fronts report frames (step_goes (record mid { left = left }) replay_now [] [] step refl (Appends-nil mid.frames) (Appends-nil mid.report) refl refl refl) report_front frames_front
+pub step_fronts : {d : DomainConf} {before mid : Outer} {left : Option (List ℕ)} {reader reader_now : LineReader} {replay all later : Telling} {what : Found} {report_mid frames_mid : Option (List ℕ)} (report frames : Option (List ℕ))
+    → Step d before mid left reader reader_now replay all what None → Wrote all later mid.report report_mid mid.frames frames_mid → Fronted later report_mid report frames_mid frames → Fronts d before (record { left = left; report = report; frames = frames })
+step_fronts {left = left} {later = later} {report_mid = report_mid} {frames_mid = frames_mid} report frames step wrote front =
+    let on = step_goes (record { left = left; report = report_mid; frames = frames_mid }) later step refl wrote in
+    course_fronts left report frames on later on.at front
+
+-- A step stopped, at a fault of a sink or for want of memory, behind a line that was found.
+behind_fronts : {d : DomainConf} {before mid : Outer} {reader : LineReader} {replay : Telling} (now : Outer) (on : OnCourse d before mid reader replay) (line : List ℕ) (all : Telling) (octets : List ℕ) (tail : List (List ℕ)) → Held before.left octets
+    → lines_within octets ≡ on.given ++ line ∷ tail → IsAt (record (course_on on) { run = (next_reaches (length on.given) (course_on on) line).run }) all → Fronted all mid.report now.report mid.frames now.frames → Fronts d before now
+behind_fronts {d = d} {before = before} {mid = mid} now on line all octets tail held lines at front =
+    let run = (next_reaches (length on.given) (course_on on) line).run in
+    let begun = begins_at on run all at octets (line ∷ tail) lines (behind_grown (names_of d) (length on.given + 1) on.run line tail) in
+    (octets, held, both_front before mid now (schedule_answer d octets) all begun front.report front.frames)
+
+found_fronts : {d : DomainConf} {before mid : Outer} {reader : LineReader} {replay : Telling} (now : Outer) (reader_now : LineReader) (on : OnCourse d before mid reader replay) (all : Telling) (what : Found) → Finding mid.left now.left reader reader_now what
+    → (IsLast what → IsAtEnd now.left) → IsAt (record (course_on on) { run = run_behind what (length on.given) reader_now.line (course_on on) }) all → Fronted all mid.report now.report mid.frames now.frames → Fronts d before now
+found_fronts {before = before} {mid = mid} now reader_now on all found.Line finding end at front =
+    let line = reader_now.line in
+    let taken = on.all ++ finding.0 in
+    let held = held_past before.left now.left taken (Consumes-trans before.left mid.left now.left on.all finding.0 on.consumed finding.1) in
+    let tail = stands_past taken (on.given ++ line ∷ []) reader_now held.2.0 (finding.2 on.all on.given on.stands) in
+    behind_fronts now on line all held.0 tail.0 held.1 (ap lines_within held.2.1 ∙ tail.1 ∙ append_assoc on.given (line ∷ []) tail.0) at front
+found_fronts {before = before} {mid = mid} now reader_now on all found.Last finding end at front =
+    let taken = on.all ++ finding.0 in
+    let held = held_all before.left now.left taken (Consumes-trans before.left mid.left now.left on.all finding.0 on.consumed finding.1) (end tt) in
+    let last = finding.2 on.all on.given on.stands in
+    let fits : length taken ≤ TEXT_LIMIT = leb-true (length taken) TEXT_LIMIT last.0 in
+    behind_fronts now on reader_now.line all taken [] held (whole_lines taken last.0 (within_short taken fits) ∙ last.2) at front
+found_fronts now reader_now on all found.Long finding end at front = course_fronts now.left now.report now.frames on all at front
+found_fronts now reader_now on all found.LongLast finding end at front = course_fronts now.left now.report now.frames on all at front
+found_fronts now reader_now on all found.End finding end at front = course_fronts now.left now.report now.frames on all at front
+found_fronts now reader_now on all found.TooLong finding end at front = course_fronts now.left now.report now.frames on all at front
+found_fronts now reader_now on all found.Failed finding end at front = course_fronts now.left now.report now.frames on all at front
+
+-- as the code has the number of lines and the line that was found
+pub stopped_fronts : {d : DomainConf} {before mid : Outer} {reader : LineReader} {replay : Telling} (now : Outer) (reader_now : LineReader) (what : Found) (n : ℕ) (line : List ℕ) (on : OnCourse d before mid reader replay) → Finding mid.left now.left reader reader_now what
+    → (IsLast what → IsAtEnd now.left) → n ≡ reader.number → line ≡ reader_now.line → Stopped (λ course. run_behind what n line course) replay mid.report now.report mid.frames now.frames → Fronts d before now
+stopped_fronts now reader_now what n line on finding end number same (all, front, at_all) = elim (at_all (course_on on) on.at) [
+  | inl before ↦ course_fronts now.left now.report now.frames on all before front
+  | inr behind ↦
+      found_fronts now reader_now on all what finding end
+      (subst (λ (l : List ℕ). IsAt (record (course_on on) { run = run_behind what (length on.given) l (course_on on) }) all) same
+      (subst (λ (k : ℕ). IsAt (record (course_on on) { run = run_behind what k line (course_on on) }) all) (number ∙ on.stands.number) behind)) front
+]
 
 -- ---- both texts as a whole
 

@@ -31,7 +31,7 @@ use Rattle.replay_run.specs.Scheduling.{Course, past, IsAt, owed, gained, Reache
 
 -- ---- what is told doesn't hang on what stands before both texts
 
-abbrev past_told : (frames report : List ℕ) → Told → Told
+abbrev pub past_told : (frames report : List ℕ) → Told → Told
 past_told frames report t = record { telling = past frames report t.telling; refused = t.refused }
 
 tells_past : (line : ℕ) (f g : List ℕ) (t : Telling) (e : Event) → tells line (past f g t) e ≡ past f g (tells line t e)
@@ -59,7 +59,7 @@ unfolding tells_all
 all_past line f g t [] = refl
 all_past line f g t (e ∷ es) = ap (λ (x : Told). fold (tells_on line) x es) (on_past line f g t e) ∙ all_past line f g (tells_on line t e) es
 
-line_past : (line : ℕ) (f g : List ℕ) (t : Telling) (said : Line) → tells_line line (past f g t) said ≡ past_told f g (tells_line line t said)
+pub line_past : (line : ℕ) (f g : List ℕ) (t : Telling) (said : Line) → tells_line line (past f g t) said ≡ past_told f g (tells_line line t said)
 unfolding tells_line
 line_past line f g t said = all_past line f g (told t) (line_events t.world said)
 
@@ -117,6 +117,14 @@ said_refused course line said old now later why at enters is frames report =
       ap (λ (r : Run). ends_so course.domain r end) (run_reached q.run q.refused)
           ∙ ends_there course q.run now later end (at_run course line said old now (Some why) at enters is) frames report,
     )
+
+-- as far as a line was done, refused or not
+pub told_behind : (course : Course) (line : ℕ) (said : Line) (old : Telling) → IsAt course old → LineEnters (length course.domain.routers) said
+    → IsAt (record course { run = (said_reaches line course said).run }) (tells_line line old said).telling
+told_behind course line said old at enters =
+    let q = after course line said in
+    let all = tells_line line old said in
+    subst (λ (r : Run). IsAt (record course { run = r }) all.telling) (sym (run_reached q.run q.refused)) (at_run course line said old all.telling all.refused at enters refl)
 
 -- an event that fits a domain is at a router that is there
 pub fits_enters : (n m : ℕ) (said : Line) → n ≡ m → LineFits n said → LineEnters m said
@@ -181,14 +189,6 @@ long_refused n old later (Ok ended) is grown = λ course at long lt.
     text_refused course n long (names_of old.world.domain) old later fault.LineLong ended at refl (long_line long (names_of old.world.domain) lt) line_long is grown
 long_refused n old later (Err e) is grown = tt
 
--- what a line reaches that says that
-pub said_next : (course : Course) (n : ℕ) (line : List ℕ) (names : List (List ℕ)) (old later : Telling) (said : Line) (ended : Option Status) → IsAt course old → names ≡ names_of old.world.domain
-    → schedule_line line names ≡ Ok said → Reaches (said_reaches (n + 1) course said) course later ended → Reaches (next_reaches n course line) course later ended
-said_next course n line names old later said ended at named reads reaches =
-    let same : names ≡ names_of course.domain = named ∙ ap names_of (domain_at course old at) in
-    let next : next_reaches n course line ≡ said_reaches (n + 1) course said = ap (line_reaches (n + 1) course.run) (subst (λ (l : List (List ℕ)). schedule_line line l ≡ Ok said) same reads) in
-    subst (λ (x : Reached). Reaches x course later ended) (sym next) reaches
-
 -- ---- the lines after it
 
 pub reaches_goes : (close : Close) (n : ℕ) (line : List ℕ) (more : List (List ℕ)) (course : Course) (now : Telling) → Reaches (next_reaches n course line) course now None
@@ -225,12 +225,3 @@ ends close n course old later end at is frames report =
 -- what the last line of a report says of the run
 pub done_at : (course : Course) (n : ℕ) (old : Telling) → IsAt course old → run_done_text course.run n ≡ done_text n old.counts (ids_in_flight old.world.flights)
 done_at course n old at = ap (λ (t : Telling). done_text n t.counts (ids_in_flight t.world.flights)) at.telling
-
--- the last line was done, and then the schedule ends
-pub then_ends : {E : Type 0} (n : ℕ) (line : List ℕ) (old mid later : Telling) (result : Result Status E)
-    → ((course : Course) → IsAt course old → Reaches (next_reaches n course line) course mid None) → IfOk result (λ ended. (course : Course) → IsAt course mid → EndsWith Ended (n + 1) [] course later (Some ended))
-    → IfOk result (λ ended. (course : Course) → IsAt course old → EndsWith Ended n (line ∷ []) course later (Some ended))
-then_ends n line old mid later (Ok ended) goes is = λ course at.
-    let reaches = goes course at in
-    reaches_goes Ended n line [] course mid reaches ∙ is (record course { run = (next_reaches n course line).run }) reaches.1
-then_ends n line old mid later (Err e) goes is = tt

@@ -1,17 +1,20 @@
 //! The command `grow`: a domain that grows with a number, over its schedule.
-ghost use Rattle.std.specs.Prelude.{◌≡◌, ◌⊎◌, ◌<◌, ◌≤◌, ◌≢◌, ◌^◌, ◌++◌, [], false, length, IfOk, OnOk};
+ghost use Rattle.std.specs.Prelude.{◌≡◌, ◌⊎◌, ◌<◌, ◌≤◌, ◌≢◌, ◌^◌, ◌++◌, ℕ, List, [], Some, false, length, IfOk, IfErr, OnOk};
 ghost use Rattle.std.specs.List.{AllByRecursion};
 ghost use Rattle.wire_base.specs.Causes.{last_count};
 ghost use Rattle.wire_base.specs.declared.status.Status.TheVariants as status;
+ghost use Rattle.replay_text.specs.declared.event.Line.TheVariants.{Settle};
 ghost use Rattle.replay_text.specs.Events.{LineFits};
+ghost use Rattle.domain_model.specs.declared.fault.EventFault.TheVariants as faults;
 ghost use Rattle.domain_model.specs.World.{ids_in_flight};
 ghost use Rattle.domain_model.specs.Run.{line_done, schedule_done};
-ghost use Rattle.domain_replay.specs.Telling.{first_telling, LineNamesOnce};
-ghost use Rattle.replay_run.specs.Scheduling.{Course, IsAt};
+ghost use Rattle.domain_replay.specs.Telling.{first_telling, told, tells_line, LineNamesOnce};
+ghost use Rattle.replay_run.specs.Scheduling.{Course, IsAt, past};
 ghost use Rattle.replay_run.specs.Grow as spec;
 ghost use Rattle.tool_run.specs.Answer.{IsDecided};
 ghost use Rattle.tool_run.specs.Outside.{Gave, AppendsFront};
 
+use domain_core::EventFault;
 use domain_replay::Replay;
 use grown_domain::{grown, grown_lines};
 use replay_text::Line;
@@ -33,6 +36,36 @@ fn forget(replay: &mut Replay)
     replay.clear_report();
 }
 
+/// Does so many rounds, up to an event that isn't allowed. A round of a large domain tells much, so what each tells is thrown away
+/// behind it.
+fn do_rounds(alloc: Global, replay: &mut Replay, number: u32, rounds: u32) -> Result<(), EventFault>
+    ensures done { OnOk result ((frames report : List ℕ) × (tells_line number replay.old (Settle rounds) ≡ told (past frames report replay.new))) }
+    ensures refused { IfErr result (λ why. why ≢ faults.Memory → (tells_line number replay.old (Settle rounds)).refused ≡ Some why) }
+{
+    for _round in 0..rounds {
+        replay.line(alloc, number, &Line::Settle(1))?;
+        forget(replay);
+    }
+    Ok(())
+}
+
+/// Does what a line says, up to an event that isn't allowed. What is told of it is thrown away.
+fn do_events(alloc: Global, replay: &mut Replay, number: u32, said: &Line) -> Result<(), EventFault>
+    requires fits { LineFits (length replay.old.world.domain.routers) said.now }
+    requires once { LineNamesOnce said.now }
+    ensures done { OnOk result ((frames report : List ℕ) × (tells_line number replay.old said.now ≡ told (past frames report replay.new))) }
+    ensures refused { IfErr result (λ why. why ≢ faults.Memory → (tells_line number replay.old said.now).refused ≡ Some why) }
+{
+    match said {
+        Line::Settle(rounds) => do_rounds(alloc, replay, number, *rounds),
+        _ => {
+            replay.line(alloc, number, said)?;
+            forget(replay);
+            Ok(())
+        }
+    }
+}
+
 /// Does what a line says, and answers whether all of it was allowed. What the line tells is thrown away; of a line that is refused
 /// the report's line on it is left.
 fn do_line(alloc: Global, replay: &mut Replay, number: u32, said: &Line) -> M<bool>
@@ -40,11 +73,8 @@ fn do_line(alloc: Global, replay: &mut Replay, number: u32, said: &Line) -> M<bo
     requires once { LineNamesOnce said.now }
     ensures { IfOk result (λ done. (course : Course) → IsAt course replay.old → spec.Goes (line_done number (spec.going course.run) said.now) course replay.new done) }
 {
-    match replay.line(alloc, number, said) {
-        Ok(()) => {
-            forget(replay);
-            Ok(true)
-        }
+    match do_events(alloc, replay, number, said) {
+        Ok(()) => Ok(true),
         Err(why) => {
             replay.clear_report();
             replay.refuse_event(alloc, u64::from(number), why)?;

@@ -1,8 +1,8 @@
 //! The program, over whatever sources and sinks it is handed: its words name a command, and each command is a module
 //! with a definition of what it owes.
 //!
-//! It stands on `domain_replay` and the codecs, and promises that status and texts are the verdict on words and input, that each
-//! status has its cause, and what a stop leaves.
+//! It stands on `domain_replay`, `tool_run` and `grown_domain`, and promises that status and texts are the verdict on words and input,
+//! that each status has its cause, and what a stop leaves.
 #![tactic(auto)]
 
 mod domain_file;

@@ -8,12 +8,12 @@ use Rattle.replay_run.proofs.grow.do_line.Goals as goal
 
 pub returns-in-Ok : goal.returns-in-Ok
 returns-in-Ok c course at =
-    line_goes course c.args.number c.args.said.now c.args.replay.now c.line.new.self c.forget.new.replay at
-    (fits_enters _ _ c.args.said.now (ap (λ (d : DomainConf). length d.routers) (domain_at course c.args.replay.now at)) c.requires.fits) c.in-Ok.ensures.ok c.forget.ensures
+    line_goes course c.args.number c.args.said.now c.args.replay.now c.do_events.new.replay at
+    (fits_enters _ _ c.args.said.now (ap (λ (d : DomainConf). length d.routers) (domain_at course c.args.replay.now at)) c.requires.fits) c.in-Ok.ensures.done
 
 pub returns-in_ok-refuse_event-in-Err : goal.returns-in_ok-refuse_event-in-Err
 returns-in_ok-refuse_event-in-Err c course at =
-    line_refused course c.args.number c.args.said.now c.args.replay.now c.line.new.self c.refuse_event.new.self c.in-Err.why at
+    line_refused course c.args.number c.args.said.now c.args.replay.now c.refuse_event.new.self c.in-Err.why at
     (fits_enters _ _ c.args.said.now (ap (λ (d : DomainConf). length d.routers) (domain_at course c.args.replay.now at)) c.requires.fits)
     (c.in-Err.ensures.refused c.in_ok-refuse_event-in-Err.ensures.known)
     (ap (λ (t : Telling). t.report) c.in_ok-refuse_event-in-Err.ensures.ok

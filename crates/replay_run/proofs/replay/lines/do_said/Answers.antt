@@ -1,16 +1,17 @@
-use Rattle.std.proofs.Common.{length, ap}
-use Rattle.wire_base.specs.model.Configuration.{DomainConf}
-use Rattle.domain_replay.specs.Telling.{Telling}
-use Rattle.replay_run.proofs.ScheduleSteps.{said_done, said_refused, fits_enters, domain_at}
+use Rattle.tool_run.proofs.Written.{on_err}
+use Rattle.replay_run.proofs.SaidSteps.{went_on, went_refused, stopped_there}
 use Rattle.replay_run.proofs.replay.lines.do_said.Goals as goal
 
-pub returns-in-Ok : goal.returns-in-Ok
-returns-in-Ok c course at =
-    said_done course c.args.line c.args.said.now c.args.replay.now c.line.new.self at
-    (fits_enters _ _ c.args.said.now (ap (λ (d : DomainConf). length d.routers) (domain_at course c.args.replay.now at)) c.requires.fits) c.in-Ok.ensures.ok
+pub returns-in_default-clause-stopped : goal.returns-in_default-clause-stopped
+returns-in_default-clause-stopped g c = stopped_there c.args.line c.args.said.now c.args.replay.now c.do_events.new.replay (g.R.Sink.written c.args.report.now) (g.R.Sink.written c.do_events.new.report) (g.C.Sink.written c.args.frames.now) (g.C.Sink.written c.do_events.new.frames) c.requires.fits c.do_events.ensures.front
 
-pub returns-in_ok-refuse_event-in-Err : goal.returns-in_ok-refuse_event-in-Err
-returns-in_ok-refuse_event-in-Err c course at =
-    said_refused course c.args.line c.args.said.now c.args.replay.now c.line.new.self c.refuse_event.new.self c.in-Err.why at
-    (fits_enters _ _ c.args.said.now (ap (λ (d : DomainConf). length d.routers) (domain_at course c.args.replay.now at)) c.requires.fits)
-    (c.in-Err.ensures.refused c.in_ok-refuse_event-in-Err.ensures.known) (ap (λ (t : Telling). t.frames) c.in_ok-refuse_event-in-Err.ensures.ok) (ap (λ (t : Telling). t.report) c.in_ok-refuse_event-in-Err.ensures.ok)
+pub returns-in_err-refuse_event-in-Err-clause-stopped : goal.returns-in_err-refuse_event-in-Err-clause-stopped
+returns-in_err-refuse_event-in-Err-clause-stopped g c = on_err c.from_residual.result _ (stopped_there c.args.line c.args.said.now c.args.replay.now c.do_events.new.replay (g.R.Sink.written c.args.report.now) (g.R.Sink.written c.do_events.new.report) (g.C.Sink.written c.args.frames.now) (g.C.Sink.written c.do_events.new.frames) c.requires.fits c.do_events.ensures.front)
+
+pub returns-in-Ok-done-clause-went : goal.returns-in-Ok-done-clause-went
+returns-in-Ok-done-clause-went g c = went_on c.args.line c.args.said.now c.args.replay.now c.do_events.new.replay (g.R.Sink.written c.args.report.now) (g.R.Sink.written c.do_events.new.report) (g.C.Sink.written c.args.frames.now) (g.C.Sink.written c.do_events.new.frames) c.requires.fits (rw c.in-Ok-done.is at c.in-Ok.ensures.did)
+
+pub returns-in_ok-refuse_event-in-Err-clause-went : goal.returns-in_ok-refuse_event-in-Err-clause-went
+returns-in_ok-refuse_event-in-Err-clause-went g c =
+    went_refused c.args.line c.args.said.now c.args.replay.now c.do_events.new.replay c.refuse_event.new.self (g.R.Sink.written c.args.report.now) (g.R.Sink.written c.do_events.new.report) (g.C.Sink.written c.args.frames.now) (g.C.Sink.written c.do_events.new.frames) c.in-Err.why c.requires.fits
+    (rw c.in-Err.is at c.in-Ok.ensures.did) c.in_ok-refuse_event-in-Err.ensures.known c.in_ok-refuse_event-in-Err.ensures.ok

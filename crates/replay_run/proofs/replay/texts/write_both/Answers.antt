@@ -1,7 +1,7 @@
 use Rattle.std.proofs.Common.{subst}
 use Rattle.std.specs.Io.KnownBytes.{Appends}
 use Rattle.tool_run.proofs.Written.{on_err, whole_appended}
-use Rattle.replay_run.proofs.replay.write_both.Goals as goal
+use Rattle.replay_run.proofs.replay.texts.write_both.Goals as goal
 
 pub returns-clause-frames_front : goal.returns-clause-frames_front
 returns-clause-frames_front g c =
