@@ -25,7 +25,7 @@ use Rattle.replay_text.specs.Fault.{fault_text}
 use Rattle.domain_replay.specs.Telling.{Telling, Told, told, sent_records, tells, tells_or, tells_unless, tells_on, tells_all, tells_line, telling_of, at_line, IsEntered, LineEnters, IsToldSo}
 use Rattle.domain_replay.specs.Texts.{Refusal, BadText, BadEvent, Reached, made_text, run_text, capture_text, run_done_text, reached_so, line_reaches, lines_reach, goes_further, names_of}
 use Rattle.domain_replay.proofs.TellingLaws.{line_told}
-use Rattle.tool_run.specs.Texts.{Close, Ended}
+use Rattle.tool_run.specs.Texts.{Close}
 use Rattle.replay_run.specs.ScheduleText.{ending, ends_so, answer_by}
 use Rattle.replay_run.specs.Scheduling.{Course, past, IsAt, owed, gained, Reaches, said_reaches, next_reaches, EndsWith}
 

@@ -10,7 +10,7 @@ use Rattle.tool_run.specs.Outside.{AppendsFront}
 use Rattle.tool_run.proofs.HopLoop.{begun_front, nothing_front}
 use Rattle.tool_run.proofs.Written.{front_appended}
 use Rattle.wire_base.specs.declared.status.Status.{Status}
-use Rattle.replay_run.specs.Scheduling.{Course, IsAt, past, gained, Wrote, Fronted, Went, Stopped, StopsFor, Owing, Begun}
+use Rattle.replay_run.specs.Scheduling.{Course, IsAt, past, gained, Wrote, Fronted, StopsFor, Owing, Begun}
 
 -- ---- fronts and what stands behind them
 

@@ -1,6 +1,6 @@
 use Rattle.replay_run.proofs.Wrote.{nothing_fronted}
 use Rattle.replay_run.proofs.Rounds.{under_first, under_more, under_wrote, under_refused, under_ends, under_fronted}
-use Rattle.std.proofs.Common.{refl, ◌∙◌, arith}
+use Rattle.std.proofs.Common.{refl, ◌∙◌}
 use Rattle.replay_run.proofs.replay.rounds.do_rounds.Goals as goal
 
 pub loop-round-init : goal.loop-round-init
