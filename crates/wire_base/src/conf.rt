@@ -64,7 +64,7 @@ pub struct End {
     pub metric: u32,
 }
 
-/// The place of the first end whose peer is that system.
+/// The place of the first end whose peer is that system. Condition: at most 65,536 ends, so that the place fits.
 pub fn end_toward(ends: &[End], system: SystemId) -> Option<u16>
     requires { length ends.now ≤ 65536 }
     ensures { result ≡ end_toward ends.now system }

@@ -1,4 +1,4 @@
-ghost use Rattle.std.specs.Prelude.{◌≡◌, ◌++◌, ◌∷◌, [], length, take, OnOk, OnErr, IfOk};
+ghost use Rattle.std.specs.Prelude.{◌≡◌, ◌<◌, ◌++◌, ◌∷◌, [], length, set, take, OnOk, OnErr, IfOk};
 ghost use Rattle.std.specs.Fmt.{decimal};
 
 use crate::memory::{M, Memory};
@@ -234,5 +234,13 @@ impl<T: Drop> Rows<T> {
     {
         self.items.push(item)?;
         Ok(())
+    }
+
+    /// Puts a value in the place of the one at a place. Takes no memory.
+    pub fn put(&mut self, place: usize, item: T)
+        requires { place < length self.old }
+        ensures { self.new ≡ set self.old place item }
+    {
+        self.items[place] = item;
     }
 }
