@@ -1,5 +1,5 @@
 use Rattle.std.proofs.Common.{ℕ, List, Bor, ap, ◌∙◌}
-use Rattle.bier_domain.proofs.objects.Objects.named.Goals as goal
+use Rattle.tool_host.proofs.objects.Objects.named.Goals as goal
 
 pub returns-clause-one_input : goal.returns-clause-one_input
 returns-clause-one_input g c command input is no_grow = c.new-2.ensures.path ∙ c.paths_in-paths.ensures.one_input command input is no_grow

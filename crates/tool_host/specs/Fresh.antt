@@ -1,6 +1,7 @@
 -- Files that no call was made of.
 use Rattle.std.specs.Prelude.{◌≡◌}
-use Rattle.bier_domain.specs.declared.objects.Objects.{Objects}
+use Rattle.tool_host.specs.declared.files.StdoutSink.{StdoutSink}
+use Rattle.tool_host.specs.declared.objects.Objects.{Objects}
 
 -- none is open, and nothing was counted
 pub record AreFresh {R F D : Type 0} (objects : Objects R F D) : Type 0 where
@@ -8,3 +9,8 @@ pub record AreFresh {R F D : Type 0} (objects : Objects R F D) : Type 0 where
   pub input : objects.input.faults ≡ 0
   pub frames : objects.frames.tally.faults ≡ 0
   pub taken : objects.frames.tally.zeros ≡ 0
+
+-- nothing was counted
+pub record IsFresh {P : Type 0} (report : StdoutSink P) : Type 0 where
+  pub faults : report.tally.faults ≡ 0
+  pub taken : report.tally.zeros ≡ 0

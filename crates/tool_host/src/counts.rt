@@ -2,7 +2,7 @@
 ghost use Rattle.std.specs.Prelude.{◌≡◌, false};
 ghost use Rattle.std.specs.Io.{ReadsAtMost, WritesAtMost};
 ghost use Rattle.wire_base.specs.Causes.{HasCause, CountsZeros, after_write, after_finish};
-ghost use Rattle.bier_domain.specs.Opened.{IsPassedOn};
+ghost use Rattle.tool_host.specs.Opened.{IsPassedOn};
 
 use std::io;
 use wire_base::Failed;

@@ -4,7 +4,8 @@ ghost use Rattle.std.specs.Prelude.{◌≡◌, None, false};
 ghost use Rattle.std.specs.Io.{ReadsAtMost, WritesAtMost};
 ghost use Rattle.std.specs.Io.KnownBytes.{ReadConsumes, WriteAppends, Keeps};
 ghost use Rattle.wire_base.specs.Causes.{HasCause, CountsZeros, after_write, after_finish};
-ghost use Rattle.bier_domain.specs.Opened.{told};
+ghost use Rattle.tool_host.specs.Fresh.{IsFresh};
+ghost use Rattle.tool_host.specs.Opened.{told};
 
 use crate::counts::{Tally, count_read};
 use std::io::{Read, Write};
@@ -169,7 +170,7 @@ pub struct StdoutSink<'a, P: Print> {
 impl<'a, P: Print> StdoutSink<'a, P> {
     /// Standard output, to which nothing is written yet.
     pub fn new(rt: &'a P) -> Self
-        ensures { result.tally ≡ record { faults = 0; zeros = 0; unfinished = false } }
+        ensures { IsFresh result }
     {
         StdoutSink {
             rt,
