@@ -6,10 +6,9 @@ use Rattle.std.specs.declared.cmp.Ordering.TheVariants.{Less, Equal, Greater}
 use Rattle.std.specs.Ordering.{is_eq, is_lt, is_gt, match_ordering}
 use Rattle.std.specs.List.{AllByRecursion}
 use Rattle.std.proofs.Math.Seq.{take-suc}
-use Rattle.std.proofs.lemmas.List.{take_all, get_or_default}
+use Rattle.std.proofs.lemmas.List.{take_all}
 use Rattle.std.proofs.lemmas.List.Elements.{filter-append}
 use Rattle.std.proofs.lemmas.List.Folds.{list_any-append}
-use Rattle.std.proofs.lemmas.Slice.Eq.{bytes_eq-Decides}
 use Rattle.format_laws.proofs.TlvLaws.{some_is}
 use Rattle.wire_base.specs.declared.addresses.SystemId.{SystemId}
 use Rattle.wire_base.specs.declared.conf.SubKind.{SubKind}
@@ -21,9 +20,6 @@ use Rattle.view_graph.specs.Keep.{Keep, IsUnchanged, heard, said_by, said_in, is
 use Rattle.view_graph.proofs.EdgeLaws.{below_all}
 use Rattle.view_graph.proofs.FragmentLaws.{same_is, claim_at}
 use Rattle.view_graph.proofs.SystemLaws.{tie_is_same, above_differs, same_turned}
-
-same_self : (s : SystemId) → same_system s s ≡ true
-same_self s = (bytes_eq-Decides s.0 s.0).1 refl
 
 -- ---- the first entry that passes
 
@@ -130,9 +126,6 @@ said_among kinds all (e ∷ es) own s apart = by (same_system e.id.system s) ref
 pub said_heard : (kinds : List SubKind) (es : List Entry) (own s : SystemId) → same_system s own ≡ false → said_by (heard own kinds es) s ≡ said_in kinds es s
 unfolding heard said_in
 said_heard kinds es own s apart = said_among kinds es es own s apart
-
-pub named_next : (P : SystemId → Type 0) (systems : List SystemId) (i : ℕ) (d : SystemId) → i < length systems → ((s : SystemId) → is_named (take i systems) s ≡ true → P s) → P (get_or systems i d) → (s : SystemId) → is_named (take (i + 1) systems) s ≡ true → P s
-named_next P systems i d lt before new = named_step P systems i (get_or systems i d) lt (get_or_default systems i d (get_or systems i d) lt) before new
 
 -- ---- entries of named systems alone
 

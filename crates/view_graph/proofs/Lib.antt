@@ -1,3 +1,4 @@
+pub mod AnewLaws
 pub mod ClaimLaws
 pub mod EdgeLaws
 pub mod ExampleLaws

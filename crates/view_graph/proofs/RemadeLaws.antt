@@ -99,10 +99,11 @@ unfolding built
 node_anew cs i j c x y nodes node n alike made is at system subs new =
     new ∙ ap (built x (edges_from x 0 (set cs i c))) (ap (λ (m : ViewNode). m.subs) (node_read cs nodes j y node made is at) ∙ own_as cs x y system subs ∙ sym (own_set cs i c alike x))
 
-pub node_as_before : (cs : List Claim) (i j : ℕ) (c x : Claim) (nodes : List ViewNode) (node n : ViewNode) → IsAlikeAt cs i c → nodes ≡ nodes_of cs → node ≡ get_or nodes j node → slice_get cs j ≡ Some x → ((d : Claim) → slice_get cs i ≡ Some d → lists d x.system ≡ lists c x.system) → n ≡ node → n ≡ node_of (set cs i c) x
+-- where the other claim lists a system or not as before, the node of that system is as before
+pub same_node : (cs : List Claim) (i : ℕ) (c x : Claim) → IsAlikeAt cs i c → ((d : Claim) → slice_get cs i ≡ Some d → lists d x.system ≡ lists c x.system) → node_of cs x ≡ node_of (set cs i c) x
 unfolding built
-node_as_before cs i j c x nodes node n alike made is at same copied =
-    copied ∙ node_read cs nodes j x node made is at ∙ ap (λ (es : List ViewEdge). built x es (own_subs cs x)) (sym (edges_set x 0 cs i c alike same)) ∙ ap (built x (edges_from x 0 (set cs i c))) (sym (own_set cs i c alike x))
+same_node cs i c x alike same =
+    ap (λ (es : List ViewEdge). built x es (own_subs cs x)) (sym (edges_set x 0 cs i c alike same)) ∙ ap (built x (edges_from x 0 (set cs i c))) (sym (own_set cs i c alike x))
 
 pub if_ok : {T E : Type 0} (P Q : T → Type 0) → ((t : T) → P t → Q t) → (r : Result T E) → IfOk r P → IfOk r Q
 if_ok P Q h (Ok t) p = h t p
@@ -122,11 +123,3 @@ anew_there cs i j c y nodes node n alike apart read made is new x at =
     let there : slice_get cs j ≡ Some x = sym (get_other cs i j c apart) ∙ at in
     let same : y ≡ x = read ∙ get_or_from_slice_get cs j x y there in
     node_anew cs i j c y x nodes node n alike made is there (ap (λ (z : Claim). z.system) (sym same)) (ap (λ (z : Claim). z.subs) (sym same)) new ∙ ap (node_of (set cs i c)) same
-
-pub before_there : (cs : List Claim) (i j : ℕ) (c d y : Claim) (nodes : List ViewNode) (node n : ViewNode) → IsAlikeAt cs i c → (j ≡ i → ⊥) → y ≡ get_or cs j y → d ≡ get_or cs i d → nodes ≡ nodes_of cs → node ≡ get_or nodes j node
-    → lists d y.system ≡ lists c y.system → n ≡ node → (x : Claim) → slice_get (set cs i c) j ≡ Some x → n ≡ node_of (set cs i c) x
-before_there cs i j c d y nodes node n alike apart read here made is listed new x at =
-    let there : slice_get cs j ≡ Some x = sym (get_other cs i j c apart) ∙ at in
-    let same : y ≡ x = read ∙ get_or_from_slice_get cs j x y there in
-    let same_listed : lists d x.system ≡ lists c x.system = ap (λ (z : Claim). lists d z.system) (sym same) ∙ listed ∙ ap (λ (z : Claim). lists c z.system) same in
-    node_as_before cs i j c x nodes node n alike made is there (λ e e_at. ap (λ (z : Claim). lists z x.system) (sym (here ∙ get_or_from_slice_get cs i e d e_at)) ∙ same_listed) new

@@ -3,7 +3,7 @@ use mathlib.Core.Bool.{true≢false}
 use Rattle.std.proofs.Common.{◌≡◌, ℕ, zero, suc, ◌+◌, ◌<◌, ◌≤◌, ◌||◌, Bool, true, false, if◌then◌else◌, List, [], ◌∷◌, ◌++◌, length, get_or, set, take, map, filter, Option, Some, None, slice_get, refl, sym, ap, subst, ◌∙◌, arith}
 use Rattle.std.specs.List.{AllByRecursion}
 use Rattle.std.proofs.Math.Seq.{take-suc}
-use Rattle.std.proofs.lemmas.List.{take_all, get_or_default}
+use Rattle.std.proofs.lemmas.List.{get_or_default}
 use Rattle.std.proofs.lemmas.List.Folds.{list_any-append}
 use Rattle.std.proofs.lemmas.Option.{get_or_from_slice_get, slice_get-get_or}
 use Rattle.std.proofs.lemmas.Slice.Eq.{bytes_eq-Decides}
@@ -79,12 +79,6 @@ found_more claims said own changed i d a b new lt p q is =
     let one : i + 1 ≡ suc i = omega arith in
     let longer : take (i + 1) changed ≡ take i changed ++ get_or changed i d ∷ [] = ap (λ k. take k changed) one ∙ take-suc changed i d lt in
     subst (IsFound claims said (own ∷ take (i + 1) changed)) (sym is) (subst (λ (l : List SystemId). IsFound claims said (own ∷ l) (joined a b)) (sym longer) (joined_found claims said (own ∷ take i changed) (get_or changed i d ∷ []) a b p q))
-
-pub found_all : (claims : List Claim) (said : SystemId → Option Claim) (own : SystemId) (changed : List SystemId) (i : ℕ) (a : Option (Option Claim)) → length changed ≤ i → IsFound claims said (own ∷ take i changed) a → IsFound claims said (own ∷ changed) a
-found_all claims said own changed i a past p = subst (λ (l : List SystemId). IsFound claims said (own ∷ l) a) (take_all i changed past) p
-
-pub kept_found : (claims : List Claim) (said : SystemId → Option Claim) (x : SystemId) (o : Option Claim) → o ≡ said x → said_by claims x ≡ o → IsFound claims said (x ∷ []) (Some None)
-kept_found claims said x o is kept = λ s h. subst (λ (t : SystemId). said_by claims t ≡ said t) (same_is x s (one_named x s h)) (kept ∙ is)
 
 pub alike_found : (claims : List Claim) (c d : Claim) (place : ℕ) → place ≡ place_in c.system claims → stands_at claims place c.system ≡ true → d ≡ get_or claims place d → d.subs ≡ c.subs → (said : SystemId → Option Claim) → said c.system ≡ Some c → IsFound claims said (c.system ∷ []) (Some (Some c))
 alike_found claims c d place p stands at subs said says =
@@ -196,6 +190,3 @@ kept_now r up es seen_es claims nodes base database all made =
       few = subst (λ (cs : List Claim). length cs ≤ 65536) (sym all) (few_claims r up es (subst (λ (l : List Entry). length l ≤ 4096) database base.few));
       made = made;
     }
-
-pub made_with : (claims seen : List Claim) (place : ℕ) (c : Claim) (nodes : List ViewNode) → seen ≡ claims → nodes ≡ nodes_of (set seen place c) → nodes ≡ nodes_of (set claims place c)
-made_with claims seen place c nodes slice made = made ∙ ap (λ (cs : List Claim). nodes_of (set cs place c)) slice

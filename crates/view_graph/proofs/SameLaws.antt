@@ -1,8 +1,6 @@
 -- Lists and records that are equal in all parts.
-use Rattle.std.proofs.Common.{◌≡◌, ℕ, suc, ◌+◌, ◌<◌, ◌≤◌, ◌==◌, ◌&&◌, Bool, true, false, List, [], ◌∷◌, ◌++◌, length, get_or, take, Some, refl, sym, ap, ◌∙◌, arith}
+use Rattle.std.proofs.Common.{◌≡◌, ◌==◌, ◌&&◌, Bool, true, false, Some, refl, sym, ap, ◌∙◌}
 use Rattle.std.specs.Prelude.{Decides}
-use Rattle.std.proofs.Math.Seq.{take-suc}
-use Rattle.std.proofs.lemmas.List.{take_all, get_or_default}
 use Rattle.std.proofs.lemmas.Bool.Decides.{Decides-eqb}
 use Rattle.wire_base.specs.declared.bsl.Bsl.{Bsl}
 use Rattle.wire_base.specs.declared.bsl.Bsl.TheVariants.{B64, B128, B256, B512, B1024, B2048, B4096}
@@ -59,18 +57,6 @@ pub node_decided : (a b : ViewNode) (router edges subs : Bool) → Decides route
 node_decided a b router edges subs r e s =
     let d = both router (edges && subs) r (both edges subs e s) in
     (λ h. let k = d.0 h in node_parts a b k.0.0 k.0.1 k.1.0 k.1.1, λ h. d.1 ((ap (λ (x : ViewNode). x.system) h, ap (λ (x : ViewNode). x.overload) h), (ap (λ (x : ViewNode). x.edges) h, ap (λ (x : ViewNode). x.subs) h)))
-
--- one more of two lists that are equal so far
-pub take_more : {X : Type 0} (xs ys : List X) (i : ℕ) (d e : X) → i < length xs → length xs ≡ length ys → take i xs ≡ take i ys → get_or xs i d ≡ get_or ys i e → take (i + 1) xs ≡ take (i + 1) ys
-take_more {X} xs ys i d e lt long same here =
-    let one : i + 1 ≡ suc i = omega arith in
-    ap (λ k. take k xs) one ∙ take-suc xs i d lt ∙ ap (λ (zs : List X). zs ++ get_or xs i d ∷ []) same ∙ ap (λ z. take i ys ++ z ∷ []) here ∙ sym (ap (λ k. take k ys) one ∙ take-suc ys i e (omega (arith, lt, long)))
-
-pub all_same : {X : Type 0} (xs ys : List X) (n : ℕ) → length xs ≡ length ys → length xs ≤ n → take n xs ≡ take n ys → xs ≡ ys
-all_same xs ys n long past same = sym (take_all n xs past) ∙ same ∙ take_all n ys (omega (arith, long, past))
-
-pub differs_at : {X : Type 0} (xs ys : List X) (i : ℕ) (a b : X) → a ≡ get_or xs i a → b ≡ get_or ys i b → i < length ys → (a ≡ b → ⊥) → xs ≡ ys → ⊥
-differs_at xs ys i a b x y lt apart same = apart (x ∙ ap (λ zs. get_or zs i a) same ∙ get_or_default ys i a b lt ∙ sym y)
 
 claim_parts : (a b : Claim) → a.system ≡ b.system → a.overload ≡ b.overload → a.links ≡ b.links → a.subs ≡ b.subs → a ≡ b
 claim_parts a b s o l p = rw (s, o, l, p) refl

@@ -1,15 +1,19 @@
 //! A view that is kept, and renewed where systems changed.
-ghost use Rattle.std.specs.Prelude.{◌≡◌, ◌↔◌, ◌≤◌, length, map, true, false, IfOk, OnOk, OnErr};
+ghost use Rattle.std.specs.Prelude.{◌≡◌, ◌↔◌, ◌≤◌, ◌<◌, length, map, true, false, IfOk, OnOk, OnErr};
+ghost use Rattle.std.specs.List.{AllByRecursion};
 ghost use Rattle.wire_base.specs.model.Configuration.{IsSound};
 ghost use Rattle.wire_base.specs.model.Control.{AreAscending, IsDatabase, ids_of};
+ghost use Rattle.wire_base.specs.model.Graph.{IsGraph};
 ghost use Rattle.wire_base.specs.model.View.{claims_of, view_of, with_known};
 ghost use Rattle.view_graph.specs.Edges.{AreInOrder};
 ghost use Rattle.view_graph.specs.Keep.{IsUnchanged, heard, without_system};
+ghost use Rattle.view_graph.specs.Renewal.{put_all};
 
 use crate::claims::{Claim, claims_of};
 use crate::edges::place_in;
 use crate::nodes::nodes_of;
-use crate::remade::nodes_with;
+use crate::patch::{NewNode, are_present, put_all};
+use crate::remade::nodes_anew;
 use crate::renewal::found;
 use crate::same::are_same_nodes;
 use lsp_store::Store;
@@ -51,6 +55,15 @@ fn all_claims(alloc: Global, conf: &RouterConf, up: &[bool], entries: &[Entry]) 
     ensures few { IfOk result (λ claims. length claims.items ≤ 65536) }
 {
     claims_of(alloc, conf, up, entries)
+}
+
+/// Puts nodes made anew in their places. Takes no memory.
+fn turn(view: &mut View, anew: Vec<NewNode>)
+    requires within { AllByRecursion (λ n. n.place < length view.old.nodes) anew.items }
+    requires graph { IsGraph (put_all anew.items view.old.nodes) }
+    ensures { view.new.nodes ≡ put_all anew.items view.old.nodes }
+{
+    put_all(&mut view.nodes, anew);
 }
 
 impl ViewKeep {
@@ -105,10 +118,10 @@ impl ViewKeep {
             return Ok(false);
         };
         let place = place_in(claims, &claim.system);
-        let nodes = nodes_with(alloc, claims, self.view.as_slice(), place, &claim)?;
-        let are_same = are_same_nodes(self.view.as_slice(), nodes.as_slice());
+        let anew = nodes_anew(alloc, claims, self.view.as_slice(), place, &claim)?;
+        let are_same = are_present(self.view.as_slice(), anew.as_slice());
+        turn(&mut self.view, anew);
         self.claims[place] = claim;
-        self.view = View { nodes };
         Ok(!are_same)
     }
 

@@ -12,6 +12,7 @@ mod known;
 mod links;
 mod nodes;
 mod owners;
+mod patch;
 mod places;
 mod remade;
 mod renewal;
