@@ -11,14 +11,18 @@ use Rattle.std.proofs.lemmas.List.Elements.{filter-append}
 use Rattle.std.proofs.lemmas.List.Folds.{list_any-append}
 use Rattle.format_laws.proofs.TlvLaws.{some_is}
 use Rattle.wire_base.specs.declared.addresses.SystemId.{SystemId}
+use Rattle.wire_base.specs.declared.addresses.LspId.{LspId}
 use Rattle.wire_base.specs.declared.conf.SubKind.{SubKind}
 use Rattle.wire_base.specs.declared.entry.Entry.{Entry}
-use Rattle.wire_base.specs.model.Control.{same_system, system_order, AreAscending, ids_of}
+use Rattle.wire_base.specs.model.Control.{same_id, same_system, system_order, id_order, is_below, fragment_0, AreAscending, ids_of}
 use Rattle.wire_base.specs.model.View.{Claim, claim_of, is_other, with_known}
+use Rattle.lsp_store.specs.Places.{place_in as id_place}
+use Rattle.lsp_store.proofs.OrderLaws.{id_total, below_trans, below_differs, above_differs as above_differs_id, same_turned as same_turned_id}
 use Rattle.view_graph.specs.Edges.{AreInOrder, place_in, stands_at}
 use Rattle.view_graph.specs.Keep.{Keep, IsUnchanged, heard, said_by, said_in, is_first_of, is_named}
 use Rattle.view_graph.proofs.EdgeLaws.{below_all}
 use Rattle.view_graph.proofs.FragmentLaws.{same_is, claim_at}
+use Rattle.view_graph.proofs.GraphLaws.{all_weaker}
 use Rattle.view_graph.proofs.SystemLaws.{tie_is_same, above_differs, same_turned}
 
 -- ---- the first entry that passes
@@ -53,6 +57,53 @@ unfolding said_in
 said_none kinds es s i past none =
     let all : filter (is_first_of s) es ≡ [] = sym (ap (filter (is_first_of s)) (take_all i es past)) ∙ none in
     sym (ap (λ (l : List Entry). slice_get (map (with_known kinds) (map (claim_of es) l)) 0) all)
+
+-- ---- an entry of a system's fragment 0 is at its place, or nowhere
+
+first_differs : (s : SystemId) (e : Entry) → same_id (fragment_0 s) e.id ≡ false → is_first_of s e ≡ false
+first_differs s e h = by (same_system e.id.system s) (e.id.pseudonode == 0) (e.id.fragment == 0) (nat_lt 0 e.life) (same_turned_id e.id (fragment_0 s) ∙ h)
+  where
+    by : (a b c d : Bool) → (a && (b && c)) ≡ false → (a && (b && (c && d))) ≡ false
+    by true true true d k = absurd (true≢false k)
+    by true true false d k = refl
+    by true false c d k = refl
+    by false b c d k = refl
+
+none_higher : (s : SystemId) (es : List Entry) → AllByRecursion (λ y. is_below (fragment_0 s) y ≡ true) (ids_of es) → filter (is_first_of s) es ≡ []
+none_higher s [] all = refl
+none_higher s (e ∷ es) all = rw (first_differs s e (below_differs (fragment_0 s) e.id all.0)) (none_higher s es all.1)
+
+pub none_lower : (s : SystemId) (es : List Entry) → filter (is_first_of s) (take (id_place (ids_of es) (fragment_0 s)) es) ≡ []
+none_lower s [] = refl
+none_lower s (e ∷ es) = by (id_order (fragment_0 s) e.id) refl (none_lower s es)
+  where
+    by : (o : Ordering) → id_order (fragment_0 s) e.id ≡ o → filter (is_first_of s) (take (id_place (ids_of es) (fragment_0 s)) es) ≡ [] → filter (is_first_of s) (take (match_ordering o 0 0 (suc (id_place (ids_of es) (fragment_0 s)))) (e ∷ es)) ≡ []
+    by Less o more = refl
+    by Equal o more = refl
+    by Greater o more = rw (first_differs s e (above_differs_id (fragment_0 s) e.id (ap is_gt o))) more
+
+pub none_there : (s : SystemId) (es : List Entry) (x : Entry) → AreAscending (ids_of es) → id_place (ids_of es) (fragment_0 s) < length es → x ≡ get_or es (id_place (ids_of es) (fragment_0 s)) x → is_first_of s x ≡ false → filter (is_first_of s) es ≡ []
+none_there s [] x asc lt at away = refl
+none_there s (e ∷ es) x asc lt at away = by (id_order (fragment_0 s) e.id) refl lt at (λ l a. none_there s es x asc.1 l a away)
+  where
+    by : (o : Ordering) → id_order (fragment_0 s) e.id ≡ o → match_ordering o 0 0 (suc (id_place (ids_of es) (fragment_0 s))) < suc (length es) → x ≡ get_or (e ∷ es) (match_ordering o 0 0 (suc (id_place (ids_of es) (fragment_0 s)))) x
+        → (id_place (ids_of es) (fragment_0 s) < length es → x ≡ get_or es (id_place (ids_of es) (fragment_0 s)) x → filter (is_first_of s) es ≡ []) → filter (is_first_of s) (e ∷ es) ≡ []
+    by Less o l a more =
+        let low : is_below (fragment_0 s) e.id ≡ true = ap is_lt o in
+        none_higher s (e ∷ es) (low, all_weaker (λ (y : LspId). is_below e.id y ≡ true) (λ (y : LspId). is_below (fragment_0 s) y ≡ true) (λ y k. below_trans (fragment_0 s) e.id y low k) (ids_of es) asc.0)
+    by Equal o l a more =
+        let here : is_first_of s e ≡ false = ap (is_first_of s) (sym a) ∙ away in
+        rw here (none_higher s es (all_weaker (λ (y : LspId). is_below e.id y ≡ true) (λ (y : LspId). is_below (fragment_0 s) y ≡ true) (λ y k. ap is_lt (id_total.congr (fragment_0 s) e.id y o) ∙ k) (ids_of es) asc.0))
+    by Greater o l a more = rw (first_differs s e (above_differs_id (fragment_0 s) e.id (ap is_gt o))) (more (omega (arith, l)) a)
+
+-- where it is away, the system says nothing
+pub said_past : (kinds : List SubKind) (es : List Entry) (s : SystemId) (place : ℕ) → place ≡ id_place (ids_of es) (fragment_0 s) → length es ≤ place → None ≡ said_in kinds es s
+said_past kinds es s place is past = said_none kinds es s place past (ap (λ n. filter (is_first_of s) (take n es)) is ∙ none_lower s es)
+
+pub said_away : (kinds : List SubKind) (es : List Entry) (s : SystemId) (place : ℕ) (x : Entry) → AreAscending (ids_of es) → place ≡ id_place (ids_of es) (fragment_0 s) → place < length es → x ≡ get_or es place x → is_first_of s x ≡ false → None ≡ said_in kinds es s
+said_away kinds es s place x asc is lt at away =
+    let none : filter (is_first_of s) es ≡ [] = none_there s es x asc (subst (λ n. n < length es) is lt) (at ∙ ap (λ n. get_or es n x) is) away in
+    said_none kinds es s (length es) (omega arith) (ap (filter (is_first_of s)) (take_all (length es) es (omega arith)) ∙ none)
 
 -- ---- the claim of a system by its place
 

@@ -8,8 +8,9 @@ use crate::claims::{Claim, claim_of, with_known};
 use crate::edges::{place_in, stands_at};
 use crate::links::Link;
 use crate::same::are_same_subs;
+use lsp_store::place_of;
 use std::alloc::Global;
-use wire_base::{Entry, M, SubKind, SystemId};
+use wire_base::{Entry, LspId, M, SubKind, SystemId};
 
 /// A live fragment 0 of a system.
 fn is_first_of(system: &SystemId, entry: &Entry) -> bool
@@ -31,15 +32,17 @@ pub(crate) fn said_in(
     requires { AreAscending (ids_of entries.now) }
     ensures { IfOk result (λ said. said ≡ said_in kinds.now entries.now system.now) }
 {
-    'entries: for place in 0..entries.len() {
-        let entry = &entries[place];
-        if is_first_of(system, entry) {
-            let claim = claim_of(alloc, &entries[place..], entry)?;
-            let known = with_known(alloc, kinds, claim)?;
-            return Ok(Some(known));
-        }
+    let place = place_of(entries, &LspId::fragment_0(*system));
+    if place >= entries.len() {
+        return Ok(None);
     }
-    Ok(None)
+    let entry = &entries[place];
+    if !is_first_of(system, entry) {
+        return Ok(None);
+    }
+    let claim = claim_of(alloc, &entries[place..], entry)?;
+    let known = with_known(alloc, kinds, claim)?;
+    Ok(Some(known))
 }
 
 fn is_same_link(a: &Link, b: &Link) -> bool
