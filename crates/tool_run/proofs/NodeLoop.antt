@@ -1,6 +1,6 @@
 -- A capture that is read and done record by record is done as a whole.
 use Rattle.std.proofs.Common.{◌≡◌, ◌≢◌, ℕ, ◌+◌, ◌≤◌, Bool, true, false, List, [], ◌∷◌, ◌++◌, length, Option, Some, None, is_ok, refl, sym, ap, ap₂, subst, ◌∙◌, arith, inl, inr, append-nil, append_assoc}
-use Rattle.std.specs.Prelude.{◌⊎◌, IfSome}
+use Rattle.std.specs.Prelude.{◌⊎◌, Result, Ok, Err, IfSome, IfOk}
 use Rattle.std.specs.Io.KnownBytes.{Appends, Consumes, IsAtEnd}
 use Rattle.std.proofs.KnownBytes.{Appends-nil, Appends-trans, Consumes-nil, Consumes-trans}
 use Rattle.std.proofs.lemmas.Bool.{false≢true}
@@ -23,7 +23,8 @@ use Rattle.tool_run.specs.Captured.{refused_by, too_long}
 use Rattle.tool_run.specs.Headers.{IsOpen}
 use Rattle.tool_run.specs.HeadersText.{within_limit, is_within}
 use Rattle.tool_run.specs.NodeRun.{Node, first_node, record_done, gap_at, Reached, records_reach, gap_refused, node_at_end, node_end, ending, node_ends, verdict_on, node_answer, node_reached, node_cut}
-use Rattle.tool_run.specs.NodeReached.{EndsSo, last_of, Passes, Turns, past, Owing, Begun}
+use Rattle.wire_base.specs.model.Flooding.{first_control, started}
+use Rattle.tool_run.specs.NodeReached.{EndsSo, StartsAs, last_of, Passes, Turns, past, Owing, Begun}
 use Rattle.tool_run.specs.Outside.{Held, Meets, AppendsFront}
 use Rattle.tool_run.specs.Records.{Stands, IsEnding, IsUnended, IsLast}
 use Rattle.tool_run.proofs.HopLoop.{held_past, held_all, begun_front, nothing_front}
@@ -490,6 +491,17 @@ met_whole owing before mid now status node owes report frames =
     }
 
 -- ---- the router at a place of a domain
+
+first_conf : (r : RouterConf) → (first_node r).control.conf ≡ r
+unfolding first_control started
+first_conf r = refl
+
+-- a first node has the configuration that it started with
+pub starts_so : {E : Type 0} (conf : Option RouterConf) (r : RouterConf) (result : Result Node E) → conf ≡ Some r → IfOk result (λ node. node ≡ first_node r) → IfOk result (λ node. StartsAs conf node)
+starts_so conf r (Err e) at fresh = tt
+starts_so conf r (Ok node) at fresh =
+    let same : node.control.conf ≡ r = ap (λ (n : Node). n.control.conf) fresh ∙ first_conf r in
+    record { at = at ∙ ap Some (sym same); fresh = fresh ∙ ap first_node (sym same) }
 
 pub on_conf : (routers : Option RouterConf) (conf : RouterConf) (P : RouterConf → Type 0) → routers ≡ Some conf → P conf → IfSome routers P
 on_conf routers conf P is holds = subst (λ (o : Option RouterConf). IfSome o P) (sym is) holds

@@ -1,6 +1,7 @@
 -- How far a node has come: what its sinks gained, and what they are owed.
 use Rattle.std.specs.Prelude.{ℕ, ◌≡◌, List, [], ◌++◌, Option, Some, None}
 use Rattle.std.specs.Io.KnownBytes.{Appends}
+use Rattle.wire_base.specs.declared.conf.RouterConf.{RouterConf}
 use Rattle.wire_base.specs.declared.status.Status.{Status}
 use Rattle.wire_base.specs.declared.status.Status.TheVariants.{ReadFault}
 use Rattle.wire_base.specs.model.Capture.{CaptureRecord}
@@ -13,7 +14,12 @@ use Rattle.tool_run.specs.declared.records.FoundRecord.TheVariants as found
 use Rattle.tool_run.specs.Answer.{Verdict}
 use Rattle.tool_run.specs.Captured.{refused_by, too_long}
 use Rattle.tool_run.specs.HopReached.{Begins}
-use Rattle.tool_run.specs.NodeRun.{Node, record_done, gap_at, gap_refused, node_done}
+use Rattle.tool_run.specs.NodeRun.{Node, first_node, record_done, gap_at, gap_refused, node_done}
+
+-- a node has just started as the router with that configuration, where there is one
+pub record StartsAs (conf : Option RouterConf) (now : Node) : Type 0 where
+  pub at : conf ≡ Some now.control.conf
+  pub fresh : now ≡ first_node now.control.conf
 
 -- a node's report ends
 pub record EndsSo (end : Status × List ℕ) (before now : Node) (ended : Status) : Type 0 where

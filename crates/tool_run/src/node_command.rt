@@ -1,5 +1,5 @@
 //! The command `node`: one router on the records of a capture.
-ghost use Rattle.std.specs.Prelude.{◌≡◌, ◌≢◌, ◌⊎◌, ◌<◌, ◌^◌, ◌++◌, ℕ, List, Some, None, false, length, slice_get, IfSome, IfOk, IfErr, OnOk, OnErr};
+ghost use Rattle.std.specs.Prelude.{◌≡◌, ◌≢◌, ◌⊎◌, ◌<◌, ◌^◌, ◌++◌, ℕ, List, [], Some, None, false, length, slice_get, IfSome, IfOk, IfErr, OnOk, OnErr};
 ghost use Rattle.std.specs.Io.KnownBytes.{IsAtEnd, Consumes, Appends};
 ghost use Rattle.pcap_frames.specs.Seen.{record_seen};
 ghost use Rattle.wire_base.specs.Causes.{last_count};
@@ -9,9 +9,10 @@ ghost use Rattle.tool_run.specs.declared.records.Ending.TheVariants as endings;
 ghost use Rattle.tool_run.specs.declared.records.FoundRecord.TheVariants as found;
 ghost use Rattle.tool_run.specs.Answer.{IsDecided};
 ghost use Rattle.tool_run.specs.Headers.{IsOpen};
-ghost use Rattle.tool_run.specs.NodeReached.{EndsSo, Passes, Turns, Owing, Begun, last_of};
-ghost use Rattle.tool_run.specs.NodeRun.{gap_at, gap_refused, node_done, node_answer, node_cut, node_reached};
+ghost use Rattle.tool_run.specs.NodeReached.{EndsSo, Passes, Turns, Owing, Begun, StartsAs, last_of};
+ghost use Rattle.tool_run.specs.NodeRun.{first_node, gap_at, gap_refused, node_done, node_answer, node_cut, node_reached};
 ghost use Rattle.tool_run.specs.Outside.{Held, Meets, AppendsFront};
+ghost use Rattle.tool_run.specs.Records.{Stands};
 
 mod standing;
 mod tally;
@@ -131,31 +132,34 @@ fn take_found(alloc: Global, node: &mut Node, what: &FoundRecord) -> M<Option<St
     }
 }
 
-/// Does the records of a capture, and answers how the run ends, with what of both texts is still to be written.
-fn do_capture<S: Source, C: Sink, R: Sink>(
+/// Does the records of a capture at a router that has just started, and answers how the run ends. What of both texts is still to be
+/// written stands in the node.
+fn do_records<S: Source, C: Sink, R: Sink>(
     alloc: Global,
-    conf: RouterConf,
+    reader: &mut RecordReader,
+    node: &mut Node,
     input: &mut S,
     frames: &mut C,
     report: &mut R,
-) -> Result<(Status, Node), Status>
-    requires sound { IsSound conf }
+) -> Result<Status, Status>
+    requires unread { Stands [] [] reader.old }
+    requires fresh { node.old ≡ first_node node.old.control.conf }
     requires input_faults { S.faults input.old < last_count }
     requires frames_faults { C.faults frames.old < last_count }
     requires frames_zeros { C.zeros frames.old < last_count }
     requires report_faults { R.faults report.old < last_count }
     requires report_zeros { R.zeros report.old < last_count }
-    ensures answer { IfOk result (λ a. a.0 ≢ status.ReadFault → (octets : List ℕ) × Held (S.left input.old) octets
-        × Owing (node_answer conf octets) a.0 a.1 (R.written report.old) (R.written report.new) (C.written frames.old) (C.written frames.new)) }
-    ensures stopped { IfOk result (λ a. a.0 ≡ status.ReadFault → (octets : List ℕ) × Consumes (S.left input.old) (S.left input.new) octets
-        × IsOpen octets × ((node_reached conf octets).gap ≡ None)
-        × Owing (node_cut conf octets) a.0 a.1 (R.written report.old) (R.written report.new) (C.written frames.old) (C.written frames.new)) }
-    ensures begun { IfOk result (λ a. (octets : List ℕ) × Held (S.left input.old) octets
-        × Begun (node_answer conf octets) a.1 (R.written report.old) (R.written report.new) (C.written frames.old) (C.written frames.new)) }
-    ensures ends { IfOk result (λ a. (a.0 ≡ status.Done) ⊎ ((a.0 ≡ status.CaptureRefused) ⊎ (a.0 ≡ status.ReadFault))) }
-    ensures all { IfOk result (λ a. a.0 ≡ status.Done → IsAtEnd (S.left input.new)) }
-    ensures input_quiet { IfOk result (λ a. a.0 ≢ status.ReadFault → S.faults input.new ≡ S.faults input.old) }
-    ensures input_failed { IfOk result (λ a. a.0 ≡ status.ReadFault → S.faults input.old < S.faults input.new) }
+    ensures answer { IfOk result (λ ended. ended ≢ status.ReadFault → (octets : List ℕ) × Held (S.left input.old) octets
+        × Owing (node_answer node.old.control.conf octets) ended node.new (R.written report.old) (R.written report.new) (C.written frames.old) (C.written frames.new)) }
+    ensures stopped { IfOk result (λ ended. ended ≡ status.ReadFault → (octets : List ℕ) × Consumes (S.left input.old) (S.left input.new) octets
+        × IsOpen octets × ((node_reached node.old.control.conf octets).gap ≡ None)
+        × Owing (node_cut node.old.control.conf octets) ended node.new (R.written report.old) (R.written report.new) (C.written frames.old) (C.written frames.new)) }
+    ensures begun { OnOk result ((octets : List ℕ) × Held (S.left input.old) octets
+        × Begun (node_answer node.old.control.conf octets) node.new (R.written report.old) (R.written report.new) (C.written frames.old) (C.written frames.new)) }
+    ensures ends { IfOk result (λ ended. (ended ≡ status.Done) ⊎ ((ended ≡ status.CaptureRefused) ⊎ (ended ≡ status.ReadFault))) }
+    ensures all { IfOk result (λ ended. ended ≡ status.Done → IsAtEnd (S.left input.new)) }
+    ensures input_quiet { IfOk result (λ ended. ended ≢ status.ReadFault → S.faults input.new ≡ S.faults input.old) }
+    ensures input_failed { IfOk result (λ ended. ended ≡ status.ReadFault → S.faults input.old < S.faults input.new) }
     ensures frames_quiet { OnOk result (C.faults frames.new ≡ C.faults frames.old) }
     ensures frames_take { OnOk result (C.zeros frames.new ≡ C.zeros frames.old) }
     ensures report_quiet { OnOk result (R.faults report.new ≡ R.faults report.old) }
@@ -164,19 +168,63 @@ fn do_capture<S: Source, C: Sink, R: Sink>(
         ⊎ ((why ≡ status.Memory) × ((C.faults frames.new ≡ C.faults frames.old) × ((C.zeros frames.new ≡ C.zeros frames.old) × ((R.faults report.new ≡ R.faults report.old) × (R.zeros report.new ≡ R.zeros report.old)))))) }
     ensures failed_quiet { OnErr result (S.faults input.new ≡ S.faults input.old) }
     ensures front { OnErr result ((octets : List ℕ) × Held (S.left input.old) octets
-        × (AppendsFront (R.written report.old) (R.written report.new) (node_answer conf octets).report × AppendsFront (C.written frames.old) (C.written frames.new) (node_answer conf octets).frames)) }
+        × (AppendsFront (R.written report.old) (R.written report.new) (node_answer node.old.control.conf octets).report × AppendsFront (C.written frames.old) (C.written frames.new) (node_answer node.old.control.conf octets).frames)) }
 {
-    let mut node = Node::new(alloc, conf)?;
-    let mut records = RecordReader::new(alloc)?;
     'records: loop {
-        let what = records.next(alloc, input)?;
-        let ended = take_found(alloc, &mut node, &what)?;
+        let what = reader.next(alloc, input)?;
+        let ended = take_found(alloc, node, &what)?;
         if let Some(status) = ended {
-            return Ok((status, node));
+            return Ok(status);
         }
-        let Ok(()) = flush_both(frames, report, &mut node) else {
+        let Ok(()) = flush_both(frames, report, node) else {
             return Err(Status::WriteFault);
         };
+    }
+}
+
+/// Does a capture at a router that has just started, and writes both texts to their ends.
+///
+/// The node and the reader are the caller's, so that each is dropped at one place: dropping a router is much to prove.
+fn do_capture<S: Source, C: Sink, R: Sink>(
+    alloc: Global,
+    reader: &mut RecordReader,
+    node: &mut Node,
+    input: &mut S,
+    frames: &mut C,
+    report: &mut R,
+) -> Status
+    requires unread { Stands [] [] reader.old }
+    requires fresh { node.old ≡ first_node node.old.control.conf }
+    requires input_faults { S.faults input.old < last_count }
+    requires frames_faults { C.faults frames.old < last_count }
+    requires frames_zeros { C.zeros frames.old < last_count }
+    requires report_faults { R.faults report.old < last_count }
+    requires report_zeros { R.zeros report.old < last_count }
+    ensures statuses { IsDecided result → (result ≡ status.Done) ⊎ (result ≡ status.CaptureRefused) }
+    ensures answer { IsDecided result → (octets : List ℕ) × Held (S.left input.old) octets
+        × Meets (node_answer node.old.control.conf octets) result (R.written report.old) (R.written report.new) (C.written frames.old) (C.written frames.new) }
+    ensures all { result ≡ status.Done → IsAtEnd (S.left input.new) }
+    ensures read { result ≡ status.ReadFault → S.faults input.old < S.faults input.new }
+    ensures write { result ≡ status.WriteFault → (C.faults frames.old < C.faults frames.new) ⊎ ((C.zeros frames.old < C.zeros frames.new) ⊎ ((R.faults report.old < R.faults report.new) ⊎ (R.zeros report.old < R.zeros report.new))) }
+    ensures input_quiet { result ≢ status.ReadFault → result ≢ status.WriteFault → S.faults input.new ≡ S.faults input.old }
+    ensures frames_quiet { result ≢ status.WriteFault → C.faults frames.new ≡ C.faults frames.old }
+    ensures frames_take { result ≢ status.WriteFault → C.zeros frames.new ≡ C.zeros frames.old }
+    ensures report_quiet { result ≢ status.WriteFault → R.faults report.new ≡ R.faults report.old }
+    ensures report_takes { result ≢ status.WriteFault → R.zeros report.new ≡ R.zeros report.old }
+    ensures frames_finished { result ≢ status.WriteFault → result ≢ status.Memory → C.unfinished frames.new ≡ false }
+    ensures report_finished { result ≢ status.WriteFault → result ≢ status.Memory → R.unfinished report.new ≡ false }
+    ensures stopped { result ≡ status.ReadFault → (octets : List ℕ) × Consumes (S.left input.old) (S.left input.new) octets
+        × IsOpen octets × ((node_reached node.old.control.conf octets).gap ≡ None)
+        × Meets (node_cut node.old.control.conf octets) result (R.written report.old) (R.written report.new) (C.written frames.old) (C.written frames.new) }
+    ensures front { (result ≡ status.WriteFault) ⊎ (result ≡ status.Memory) → (octets : List ℕ) × Held (S.left input.old) octets
+        × (AppendsFront (R.written report.old) (R.written report.new) (node_answer node.old.control.conf octets).report × AppendsFront (C.written frames.old) (C.written frames.new) (node_answer node.old.control.conf octets).frames) }
+{
+    match do_records(alloc, reader, node, input, frames, report) {
+        Err(why) => why,
+        Ok(status) => match write_both(frames, report, node) {
+            Ok(()) => status,
+            Err(Failed) => Status::WriteFault,
+        },
     }
 }
 
@@ -187,6 +235,14 @@ fn conf_at(domain: &Domain, router: u16) -> M<RouterConf>
     ensures sound { IfOk result (λ conf. IsSound conf) }
 {
     domain.routers.as_slice()[usize::from(router)].copy()
+}
+
+/// The router at a place of a domain, as it starts.
+fn start(alloc: Global, domain: &Domain, router: u16) -> M<Node>
+    requires { router < length domain.now.routers }
+    ensures { IfOk result (λ node. StartsAs (slice_get domain.now.routers router) node) }
+{
+    Node::new(alloc, conf_at(domain, router)?)
 }
 
 /// All that the program does on the words `node CONF ROUTER CAPTURE FRAMES`, once the domain file is read and the router is found:
@@ -237,14 +293,11 @@ pub fn node<S: Source, C: Sink, R: Sink>(
     ensures front { (result ≡ status.WriteFault) ⊎ (result ≡ status.Memory) → IfSome (slice_get domain.now.routers router) (λ conf. (octets : List ℕ) × Held (S.left input.old) octets
         × (AppendsFront (R.written report.old) (R.written report.new) (node_answer conf octets).report × AppendsFront (C.written frames.old) (C.written frames.new) (node_answer conf octets).frames)) }
 {
-    let Ok(conf) = conf_at(domain, router) else {
+    let Ok(mut reader) = RecordReader::new(alloc) else {
         return Status::Memory;
     };
-    match do_capture(alloc, conf, input, frames, report) {
-        Err(why) => why,
-        Ok((status, node)) => match write_both(frames, report, &node) {
-            Ok(()) => status,
-            Err(Failed) => Status::WriteFault,
-        },
-    }
+    let Ok(mut node) = start(alloc, domain, router) else {
+        return Status::Memory;
+    };
+    do_capture(alloc, &mut reader, &mut node, input, frames, report)
 }
