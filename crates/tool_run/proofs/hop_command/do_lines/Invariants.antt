@@ -3,7 +3,7 @@ use Rattle.std.specs.Prelude.{IfSome}
 use Rattle.tool_run.specs.Ways.{AreWays}
 use Rattle.tool_run.specs.declared.whole.TheConstants.{PIECE}
 use Rattle.tool_run.proofs.HopLoop.{HopsOn}
-use Rattle.tool_run.proofs.hop_command.do_text.Given as goal
+use Rattle.tool_run.proofs.hop_command.do_lines.Given as goal
 
 abbrev pub invariant-lines : goal.invariant-lines
 invariant-lines g l = record {
