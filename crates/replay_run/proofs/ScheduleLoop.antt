@@ -13,6 +13,7 @@ use Rattle.replay_text.specs.declared.event.Line.{Line}
 use Rattle.replay_text.specs.declared.fault.TextFault.{TextFault}
 use Rattle.replay_text.specs.Pieces.{lines_in}
 use Rattle.domain_model.specs.Run.{Run, first_run}
+use Rattle.domain_model.specs.World.{first_world}
 use Rattle.domain_replay.specs.Telling.{Telling, first_telling}
 use Rattle.domain_replay.specs.Texts.{Refusal, line_reaches, lines_reach, schedule_reaches, names_of}
 use Rattle.domain_replay.proofs.TellingLaws.{start_told}
@@ -530,3 +531,20 @@ met_whole owing before mid now status replay owes report frames =
       report = subst (Appends before.report now.report) (ap (λ (v : Verdict). v.report) (sym owes.is)) (Appends-trans before.report mid.report now.report owes.report replay.report owes.report_written report);
       frames = subst (Appends before.frames now.frames) (ap (λ (v : Verdict). v.frames) (sym owes.is)) (Appends-trans before.frames mid.frames now.frames owes.frames replay.frames owes.frames_written frames);
     }
+
+-- ---- the domain of a replay that has just started
+
+-- The status and both texts are those of a schedule.
+abbrev pub MeetsIn : (status : Status) → (before now : Outer) → DomainConf → Type 0
+MeetsIn status before now d = (octets : List ℕ) × Held before.left octets × Meets (schedule_answer d octets) status before.report now.report before.frames now.frames
+
+-- or of what was read of one
+abbrev pub CutIn : (status : Status) → (before now : Outer) → DomainConf → Type 0
+CutIn status before now d = (octets : List ℕ) × Consumes before.left now.left octets × Meets (schedule_cut d octets) status before.report now.report before.frames now.frames
+
+pub domain_of : (d : DomainConf) (replay : Telling) → replay ≡ first_telling d → replay.world.domain ≡ d
+unfolding first_world
+domain_of d replay fresh = ap (λ (t : Telling). t.world.domain) fresh
+
+pub starts_so : (d : DomainConf) (replay : Telling) → replay ≡ first_telling d → replay ≡ first_telling replay.world.domain
+starts_so d replay fresh = fresh ∙ ap first_telling (sym (domain_of d replay fresh))

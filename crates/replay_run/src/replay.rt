@@ -1,11 +1,14 @@
 //! The command `replay`: a domain over a schedule.
-ghost use Rattle.std.specs.Prelude.{◌≡◌, ◌⊎◌, ◌<◌, ◌≢◌, ℕ, List, false, IfOk, IfErr, OnOk, OnErr};
+ghost use Rattle.std.specs.Prelude.{◌≡◌, ◌⊎◌, ◌<◌, ◌≤◌, ◌≢◌, ℕ, List, [], false, length, IfOk, IfErr, OnOk, OnErr};
 ghost use Rattle.std.specs.Io.KnownBytes.{IsAtEnd, Consumes};
 ghost use Rattle.wire_base.specs.Causes.{last_count};
 ghost use Rattle.wire_base.specs.declared.status.Status.TheVariants as status;
+ghost use Rattle.domain_replay.specs.Telling.{first_telling};
+ghost use Rattle.domain_replay.specs.Texts.{names_of};
 ghost use Rattle.replay_run.specs.ScheduleText.{schedule_answer, schedule_cut};
 ghost use Rattle.replay_run.specs.Scheduling.{Owing, Begun};
 ghost use Rattle.tool_run.specs.Answer.{IsDecided};
+ghost use Rattle.tool_run.specs.Reader.{Stands};
 ghost use Rattle.tool_run.specs.Outside.{Held, Meets, AppendsFront};
 
 mod lines;
@@ -17,31 +20,39 @@ use lines::{names_in, take_found};
 use std::alloc::Global;
 use texts::{flush_both, write_both};
 use tool_run::LineReader;
-use wire_base::{Domain, Failed, Sink, Source, Status};
+use wire_base::limits::MOST_ROUTERS;
+use wire_base::{Domain, Failed, Name, Rows, Sink, Source, Status};
 
-/// Does a schedule in a domain, and answers how the run ends, with what of both texts is still to be written.
-fn do_schedule<S: Source, C: Sink, R: Sink>(
+/// Does the lines of a schedule in a domain at its start, and answers how the run ends. What of both texts is still to be written
+/// stands in the replay.
+fn do_lines<S: Source, C: Sink, R: Sink>(
     alloc: Global,
-    domain: Domain,
+    reader: &mut LineReader,
+    replay: &mut Replay,
+    names: &Rows<Name>,
     input: &mut S,
     frames: &mut C,
     report: &mut R,
-) -> Result<(Status, Replay), Status>
+) -> Result<Status, Status>
+    requires unread { Stands [] [] reader.old }
+    requires start { replay.old ≡ first_telling replay.old.world.domain }
+    requires names { names.now ≡ names_of replay.old.world.domain }
+    requires few { length names.now ≤ MOST_ROUTERS }
     requires input_faults { S.faults input.old < last_count }
     requires frames_faults { C.faults frames.old < last_count }
     requires frames_zeros { C.zeros frames.old < last_count }
     requires report_faults { R.faults report.old < last_count }
     requires report_zeros { R.zeros report.old < last_count }
-    ensures answer { IfOk result (λ a. a.0 ≢ status.ReadFault → (octets : List ℕ) × Held (S.left input.old) octets
-        × Owing (schedule_answer domain octets) a.0 a.1 (R.written report.old) (R.written report.new) (C.written frames.old) (C.written frames.new)) }
-    ensures stopped { IfOk result (λ a. a.0 ≡ status.ReadFault → (octets : List ℕ) × Consumes (S.left input.old) (S.left input.new) octets
-        × Owing (schedule_cut domain octets) a.0 a.1 (R.written report.old) (R.written report.new) (C.written frames.old) (C.written frames.new)) }
-    ensures begun { IfOk result (λ a. (octets : List ℕ) × Held (S.left input.old) octets
-        × Begun (schedule_answer domain octets) a.1 (R.written report.old) (R.written report.new) (C.written frames.old) (C.written frames.new)) }
-    ensures ends { IfOk result (λ a. (a.0 ≡ status.Done) ⊎ ((a.0 ≡ status.InputRefused) ⊎ (a.0 ≡ status.ReadFault))) }
-    ensures all { IfOk result (λ a. a.0 ≡ status.Done → IsAtEnd (S.left input.new)) }
-    ensures input_quiet { IfOk result (λ a. a.0 ≢ status.ReadFault → S.faults input.new ≡ S.faults input.old) }
-    ensures input_failed { IfOk result (λ a. a.0 ≡ status.ReadFault → S.faults input.old < S.faults input.new) }
+    ensures answer { IfOk result (λ ended. ended ≢ status.ReadFault → (octets : List ℕ) × Held (S.left input.old) octets
+        × Owing (schedule_answer replay.old.world.domain octets) ended replay.new (R.written report.old) (R.written report.new) (C.written frames.old) (C.written frames.new)) }
+    ensures stopped { IfOk result (λ ended. ended ≡ status.ReadFault → (octets : List ℕ) × Consumes (S.left input.old) (S.left input.new) octets
+        × Owing (schedule_cut replay.old.world.domain octets) ended replay.new (R.written report.old) (R.written report.new) (C.written frames.old) (C.written frames.new)) }
+    ensures begun { OnOk result ((octets : List ℕ) × Held (S.left input.old) octets
+        × Begun (schedule_answer replay.old.world.domain octets) replay.new (R.written report.old) (R.written report.new) (C.written frames.old) (C.written frames.new)) }
+    ensures ends { IfOk result (λ ended. (ended ≡ status.Done) ⊎ ((ended ≡ status.InputRefused) ⊎ (ended ≡ status.ReadFault))) }
+    ensures all { IfOk result (λ ended. ended ≡ status.Done → IsAtEnd (S.left input.new)) }
+    ensures input_quiet { IfOk result (λ ended. ended ≢ status.ReadFault → S.faults input.new ≡ S.faults input.old) }
+    ensures input_failed { IfOk result (λ ended. ended ≡ status.ReadFault → S.faults input.old < S.faults input.new) }
     ensures frames_quiet { OnOk result (C.faults frames.new ≡ C.faults frames.old) }
     ensures frames_take { OnOk result (C.zeros frames.new ≡ C.zeros frames.old) }
     ensures report_quiet { OnOk result (R.faults report.new ≡ R.faults report.old) }
@@ -50,31 +61,66 @@ fn do_schedule<S: Source, C: Sink, R: Sink>(
         ⊎ ((why ≡ status.Memory) × ((C.faults frames.new ≡ C.faults frames.old) × ((C.zeros frames.new ≡ C.zeros frames.old) × ((R.faults report.new ≡ R.faults report.old) × (R.zeros report.new ≡ R.zeros report.old)))))) }
     ensures failed_quiet { OnErr result (S.faults input.new ≡ S.faults input.old) }
     ensures front { OnErr result ((octets : List ℕ) × Held (S.left input.old) octets
-        × (AppendsFront (R.written report.old) (R.written report.new) (schedule_answer domain octets).report × AppendsFront (C.written frames.old) (C.written frames.new) (schedule_answer domain octets).frames)) }
+        × (AppendsFront (R.written report.old) (R.written report.new) (schedule_answer replay.old.world.domain octets).report × AppendsFront (C.written frames.old) (C.written frames.new) (schedule_answer replay.old.world.domain octets).frames)) }
 {
-    let names = names_in(alloc, &domain)?;
-    let mut replay = Replay::new(alloc, domain)?;
-    let mut reader = LineReader::new(alloc)?;
     'lines: loop {
         let before = reader.number();
         let what = reader.next(input)?;
         let line = reader.line();
-        let ended = take_found(
-            alloc,
-            frames,
-            report,
-            &mut replay,
-            &names,
-            what,
-            before,
-            line,
-        )?;
+        let ended = take_found(alloc, frames, report, replay, names, what, before, line)?;
         if let Some(status) = ended {
-            return Ok((status, replay));
+            return Ok(status);
         }
-        let Ok(()) = flush_both(frames, report, &mut replay) else {
+        let Ok(()) = flush_both(frames, report, replay) else {
             return Err(Status::WriteFault);
         };
+    }
+}
+
+/// Does a schedule in a domain at its start, and writes both texts to their ends.
+///
+/// The replay, the reader and the names are the caller's, so that each is dropped at one place: dropping a domain at work is much
+/// to prove.
+fn do_schedule<S: Source, C: Sink, R: Sink>(
+    alloc: Global,
+    reader: &mut LineReader,
+    replay: &mut Replay,
+    names: &Rows<Name>,
+    input: &mut S,
+    frames: &mut C,
+    report: &mut R,
+) -> Status
+    requires unread { Stands [] [] reader.old }
+    requires start { replay.old ≡ first_telling replay.old.world.domain }
+    requires names { names.now ≡ names_of replay.old.world.domain }
+    requires few { length names.now ≤ MOST_ROUTERS }
+    requires input_faults { S.faults input.old < last_count }
+    requires frames_faults { C.faults frames.old < last_count }
+    requires frames_zeros { C.zeros frames.old < last_count }
+    requires report_faults { R.faults report.old < last_count }
+    requires report_zeros { R.zeros report.old < last_count }
+    ensures statuses { IsDecided result → (result ≡ status.Done) ⊎ (result ≡ status.InputRefused) }
+    ensures answer { IsDecided result → (octets : List ℕ) × Held (S.left input.old) octets × Meets (schedule_answer replay.old.world.domain octets) result (R.written report.old) (R.written report.new) (C.written frames.old) (C.written frames.new) }
+    ensures all { result ≡ status.Done → IsAtEnd (S.left input.new) }
+    ensures read { result ≡ status.ReadFault → S.faults input.old < S.faults input.new }
+    ensures write { result ≡ status.WriteFault → (C.faults frames.old < C.faults frames.new) ⊎ ((C.zeros frames.old < C.zeros frames.new) ⊎ ((R.faults report.old < R.faults report.new) ⊎ (R.zeros report.old < R.zeros report.new))) }
+    ensures input_quiet { result ≢ status.ReadFault → result ≢ status.WriteFault → S.faults input.new ≡ S.faults input.old }
+    ensures frames_quiet { result ≢ status.WriteFault → C.faults frames.new ≡ C.faults frames.old }
+    ensures frames_take { result ≢ status.WriteFault → C.zeros frames.new ≡ C.zeros frames.old }
+    ensures report_quiet { result ≢ status.WriteFault → R.faults report.new ≡ R.faults report.old }
+    ensures report_takes { result ≢ status.WriteFault → R.zeros report.new ≡ R.zeros report.old }
+    ensures frames_finished { result ≢ status.WriteFault → result ≢ status.Memory → C.unfinished frames.new ≡ false }
+    ensures report_finished { result ≢ status.WriteFault → result ≢ status.Memory → R.unfinished report.new ≡ false }
+    ensures stopped { result ≡ status.ReadFault → (octets : List ℕ) × Consumes (S.left input.old) (S.left input.new) octets × Meets (schedule_cut replay.old.world.domain octets) result (R.written report.old) (R.written report.new) (C.written frames.old) (C.written frames.new) }
+    ensures front { (result ≡ status.WriteFault) ⊎ (result ≡ status.Memory) → (octets : List ℕ) × Held (S.left input.old) octets
+        × (AppendsFront (R.written report.old) (R.written report.new) (schedule_answer replay.old.world.domain octets).report × AppendsFront (C.written frames.old) (C.written frames.new) (schedule_answer replay.old.world.domain octets).frames) }
+{
+    match do_lines(alloc, reader, replay, names, input, frames, report) {
+        Err(why) => why,
+        Ok(status) => match write_both(frames, report, replay) {
+            Ok(()) => status,
+            Err(Failed) => Status::WriteFault,
+        },
     }
 }
 
@@ -115,11 +161,22 @@ pub(crate) fn play<S: Source, C: Sink, R: Sink>(
     ensures front { (result ≡ status.WriteFault) ⊎ (result ≡ status.Memory) → (octets : List ℕ) × Held (S.left input.old) octets
         × (AppendsFront (R.written report.old) (R.written report.new) (schedule_answer domain octets).report × AppendsFront (C.written frames.old) (C.written frames.new) (schedule_answer domain octets).frames) }
 {
-    match do_schedule(alloc, domain, input, frames, report) {
-        Err(why) => why,
-        Ok((status, replay)) => match write_both(frames, report, &replay) {
-            Ok(()) => status,
-            Err(Failed) => Status::WriteFault,
-        },
-    }
+    let Ok(mut reader) = LineReader::new(alloc) else {
+        return Status::Memory;
+    };
+    let Ok(names) = names_in(alloc, &domain) else {
+        return Status::Memory;
+    };
+    let Ok(mut replay) = Replay::new(alloc, domain) else {
+        return Status::Memory;
+    };
+    do_schedule(
+        alloc,
+        &mut reader,
+        &mut replay,
+        &names,
+        input,
+        frames,
+        report,
+    )
 }

@@ -1,27 +1,34 @@
-use Rattle.replay_run.specs.ScheduleText.{schedule_answer}
-use Rattle.replay_run.proofs.ScheduleLoop.{decided_known, met_whole, both_front}
+use Rattle.std.proofs.Common.{sym, ap, subst, ◌∙◌}
+use Rattle.domain_replay.specs.Texts.{names_of}
+use Rattle.replay_run.proofs.ScheduleLoop.{Fronts, MeetsIn, CutIn, domain_of, starts_so, untouched}
 use Rattle.replay_run.proofs.replay.play.Goals as goal
 
-pub returns-in-Ok-write_both-clause-answer : goal.returns-in-Ok-write_both-clause-answer
-returns-in-Ok-write_both-clause-answer g c decided =
-    let owed = c.in-Ok.ensures.answer (decided_known c.in-Ok.status decided) in (
-      owed.0,
-      owed.1,
-      met_whole (schedule_answer c.args.domain owed.0)
-          (record { left = g.S.Source.left c.args.input.now; report = g.R.Sink.written c.args.report.now; frames = g.C.Sink.written c.args.frames.now })
-          (record { left = g.S.Source.left c.do_schedule.new.input; report = g.R.Sink.written c.do_schedule.new.report; frames = g.C.Sink.written c.do_schedule.new.frames })
-          (record { left = g.S.Source.left c.do_schedule.new.input; report = g.R.Sink.written c.write_both.new.report; frames = g.C.Sink.written c.write_both.new.frames })
-          c.in-Ok.status c.in-Ok.replay owed.2 c.in-Ok-write_both.ensures.report c.in-Ok-write_both.ensures.frames,
-    )
+pub returns-in_default-clause-front : goal.returns-in_default-clause-front
+returns-in_default-clause-front g c failed = untouched c.args.domain (record { left = g.S.Source.left c.args.input.now; report = g.R.Sink.written c.args.report.now; frames = g.C.Sink.written c.args.frames.now })
+
+pub returns-in_default-names_in-clause-front : goal.returns-in_default-names_in-clause-front
+returns-in_default-names_in-clause-front g c failed = untouched c.args.domain (record { left = g.S.Source.left c.args.input.now; report = g.R.Sink.written c.args.report.now; frames = g.C.Sink.written c.args.frames.now })
+
+pub returns-in_default-new-clause-front : goal.returns-in_default-new-clause-front
+returns-in_default-new-clause-front g c failed = untouched c.args.domain (record { left = g.S.Source.left c.args.input.now; report = g.R.Sink.written c.args.report.now; frames = g.C.Sink.written c.args.frames.now })
+
+pub do_schedule-requires-clause-start : goal.do_schedule-requires-clause-start
+do_schedule-requires-clause-start g c = starts_so c.args.domain c.in-Ok-new.replay c.in-Ok-new.ensures
+
+pub do_schedule-requires-clause-names : goal.do_schedule-requires-clause-names
+do_schedule-requires-clause-names g c = c.in-Ok-names_in.ensures.names ∙ ap names_of (sym (domain_of c.args.domain c.in-Ok-new.replay c.in-Ok-new.ensures))
+
+pub returns-clause-answer : goal.returns-clause-answer
+returns-clause-answer g c decided =
+    subst (MeetsIn c.do_schedule.result (record { left = g.S.Source.left c.args.input.now; report = g.R.Sink.written c.args.report.now; frames = g.C.Sink.written c.args.frames.now }) (record { left = g.S.Source.left c.do_schedule.new.input; report = g.R.Sink.written c.do_schedule.new.report; frames = g.C.Sink.written c.do_schedule.new.frames }))
+    (domain_of c.args.domain c.in-Ok-new.replay c.in-Ok-new.ensures) (c.do_schedule.ensures.answer decided)
+
+pub returns-clause-stopped : goal.returns-clause-stopped
+returns-clause-stopped g c fault =
+    subst (CutIn c.do_schedule.result (record { left = g.S.Source.left c.args.input.now; report = g.R.Sink.written c.args.report.now; frames = g.C.Sink.written c.args.frames.now }) (record { left = g.S.Source.left c.do_schedule.new.input; report = g.R.Sink.written c.do_schedule.new.report; frames = g.C.Sink.written c.do_schedule.new.frames }))
+    (domain_of c.args.domain c.in-Ok-new.replay c.in-Ok-new.ensures) (c.do_schedule.ensures.stopped fault)
 
 pub returns-clause-front : goal.returns-clause-front
 returns-clause-front g c failed =
-    let begun = c.in-Ok.ensures.begun in (
-      begun.0,
-      begun.1,
-      both_front
-          (record { left = g.S.Source.left c.args.input.now; report = g.R.Sink.written c.args.report.now; frames = g.C.Sink.written c.args.frames.now })
-          (record { left = g.S.Source.left c.do_schedule.new.input; report = g.R.Sink.written c.do_schedule.new.report; frames = g.C.Sink.written c.do_schedule.new.frames })
-          (record { left = g.S.Source.left c.do_schedule.new.input; report = g.R.Sink.written c.write_both.new.report; frames = g.C.Sink.written c.write_both.new.frames })
-          (schedule_answer c.args.domain begun.0) c.in-Ok.replay begun.2 c.in-Err-write_both.ensures.report_front c.in-Err-write_both.ensures.frames_front,
-    )
+    subst (λ d. Fronts d (record { left = g.S.Source.left c.args.input.now; report = g.R.Sink.written c.args.report.now; frames = g.C.Sink.written c.args.frames.now }) (record { left = g.S.Source.left c.do_schedule.new.input; report = g.R.Sink.written c.do_schedule.new.report; frames = g.C.Sink.written c.do_schedule.new.frames }))
+    (domain_of c.args.domain c.in-Ok-new.replay c.in-Ok-new.ensures) (c.do_schedule.ensures.front failed)
