@@ -6,6 +6,8 @@ ghost use Rattle.wire_base.specs.declared.status.Status.TheVariants as status;
 ghost use Rattle.replay_text.specs.declared.event.Line.TheVariants.{Settle};
 ghost use Rattle.replay_text.specs.Events.{LineFits};
 ghost use Rattle.domain_model.specs.declared.fault.EventFault.TheVariants as faults;
+ghost use Rattle.grown_domain.specs.Domain.{grown_domain};
+ghost use Rattle.grown_domain.specs.Schedule.{grown_lines};
 ghost use Rattle.domain_model.specs.World.{ids_in_flight};
 ghost use Rattle.domain_model.specs.Run.{line_done, schedule_done};
 ghost use Rattle.domain_replay.specs.Telling.{first_telling, told, tells_line, LineNamesOnce};
@@ -112,6 +114,23 @@ fn summary(alloc: Global, n: u16, replay: &mut Replay) -> M<Octets>
     Ok(text)
 }
 
+/// How the run over those lines ends, from the first state of the domain on, and the report. The replay and the lines are the
+/// caller's, so that each is dropped at one place: dropping a domain at work is much to prove.
+fn run(alloc: Global, n: u16, replay: &mut Replay, lines: &[Line]) -> M<(Status, Octets)>
+    requires some { 3 ≤ n }
+    requires few { n ≤ 250 }
+    requires start { replay.old ≡ first_telling (grown_domain n) }
+    requires lines { lines.now ≡ grown_lines n }
+    ensures { IfOk result (λ a. (a.0, a.1) ≡ spec.grow_answer n) }
+{
+    if do_lines(alloc, replay, lines)? {
+        Ok((Status::Done, summary(alloc, n, replay)?))
+    } else {
+        let refused = Octets::from_slice(alloc, replay.report())?;
+        Ok((Status::InputRefused, refused))
+    }
+}
+
 /// How the run ends, and the report.
 fn answer(alloc: Global, n: u16) -> M<(Status, Octets)>
     requires some { 3 ≤ n }
@@ -121,12 +140,7 @@ fn answer(alloc: Global, n: u16) -> M<(Status, Octets)>
     let lines = grown_lines(alloc, n)?;
     let domain = grown(alloc, n)?;
     let mut replay = Replay::new(alloc, domain)?;
-    if do_lines(alloc, &mut replay, lines.as_slice())? {
-        Ok((Status::Done, summary(alloc, n, &mut replay)?))
-    } else {
-        let refused = Octets::from_slice(alloc, replay.report())?;
-        Ok((Status::InputRefused, refused))
-    }
+    run(alloc, n, &mut replay, lines.as_slice())
 }
 
 /// All that the program does on the words `grow N`: it makes the domain of N routers and its schedule, does the schedule in the

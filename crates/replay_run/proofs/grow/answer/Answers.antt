@@ -1,33 +1,9 @@
-use Rattle.std.proofs.Common.{ℕ, List, true, false, length, sym, ap, subst, ◌∙◌, arith}
-use Rattle.std.specs.List.{AllByRecursion}
-use Rattle.wire_base.specs.declared.status.Status.{Status}
-use Rattle.wire_base.specs.declared.status.Status.TheVariants.{Done, InputRefused}
-use Rattle.grown_domain.specs.Domain.{grown_domain}
-use Rattle.domain_replay.specs.Telling.{first_telling, LineNamesOnce}
-use Rattle.replay_run.proofs.Growing.{start_is, lines_asked, lines_once, lines_count, ends_grown, done_answer, refused_answer}
+use Rattle.std.proofs.Common.{ap, ◌∙◌}
+use Rattle.domain_replay.specs.Telling.{first_telling}
 use Rattle.replay_run.proofs.grow.answer.Goals as goal
 
-pub do_lines-requires-clause-start : goal.do_lines-requires-clause-start
-do_lines-requires-clause-start c = (start_is (grown_domain c.args.n) c.in_ok-replay.replay (c.in_ok-replay.ensures ∙ ap first_telling c.in_ok-domain.ensures)).0
+pub run-requires-clause-start : goal.run-requires-clause-start
+run-requires-clause-start c = c.in_ok-replay.ensures ∙ ap first_telling c.in_ok-domain.ensures
 
-pub do_lines-requires-clause-few : goal.do_lines-requires-clause-few
-do_lines-requires-clause-few c = let same = ap length (c.as_slice.ensures ∙ c.in_ok-lines.ensures) in omega (arith, same, lines_count c.args.n)
-
-pub do_lines-requires-clause-fits : goal.do_lines-requires-clause-fits
-do_lines-requires-clause-fits c =
-    lines_asked c.args.n c.in_ok-replay.replay c.as_slice.result.now c.requires.some c.requires.few (c.in_ok-replay.ensures ∙ ap first_telling c.in_ok-domain.ensures) (c.as_slice.ensures ∙ c.in_ok-lines.ensures)
-
-pub do_lines-requires-clause-once : goal.do_lines-requires-clause-once
-do_lines-requires-clause-once c = subst (AllByRecursion LineNamesOnce) (sym (c.as_slice.ensures ∙ c.in_ok-lines.ensures)) (lines_once c.args.n)
-
-pub returns-then-branch : goal.returns-then-branch
-returns-then-branch c =
-    ap {B = Status × List ℕ} (λ text. (Done, text)) c.in_ok-summary.ensures
-    ∙ done_answer c.args.n c.do_lines.new.replay
-    (ends_grown c.args.n c.in_ok-replay.replay c.do_lines.new.replay c.as_slice.result.now c.in_ok-do_lines.field-0 true (c.in_ok-replay.ensures ∙ ap first_telling c.in_ok-domain.ensures) (c.as_slice.ensures ∙ c.in_ok-lines.ensures) c.if-branch.true c.in_ok-do_lines.ensures)
-
-pub returns : goal.returns
-returns c =
-    ap {B = Status × List ℕ} (λ text. (InputRefused, text)) (c.in_ok-refused.ensures ∙ c.report.ensures)
-    ∙ refused_answer c.args.n c.do_lines.new.replay
-    (ends_grown c.args.n c.in_ok-replay.replay c.do_lines.new.replay c.as_slice.result.now c.in_ok-do_lines.field-0 false (c.in_ok-replay.ensures ∙ ap first_telling c.in_ok-domain.ensures) (c.as_slice.ensures ∙ c.in_ok-lines.ensures) c.if-branch.false c.in_ok-do_lines.ensures)
+pub run-requires-clause-lines : goal.run-requires-clause-lines
+run-requires-clause-lines c = c.as_slice.ensures ∙ c.in_ok-lines.ensures
