@@ -146,12 +146,5 @@ pub fn hop<S: Source, R: Sink>(alloc: Global, input: &mut S, report: &mut R) -> 
     };
     let mut reached = begin(alloc);
     let mut ways = None;
-    do_text(
-        alloc,
-        &mut reader,
-        &mut reached,
-        &mut ways,
-        input,
-        report,
-    )
+    do_text(alloc, &mut reader, &mut reached, &mut ways, input, report)
 }
