@@ -13,6 +13,3 @@ pub use enter::ingress;
 pub use head::head_of;
 pub use packet::Packet;
 pub use wire_base::EdgeFault;
-
-#[cfg(test)]
-mod tests;

@@ -15,8 +15,6 @@ mod incoming;
 mod outcome;
 mod routes;
 mod table_rows;
-#[cfg(test)]
-mod tests;
 mod transit;
 mod ways;
 

@@ -5,8 +5,6 @@
 
 mod header;
 mod read;
-#[cfg(test)]
-mod tests;
 mod write;
 
 pub use header::Header;

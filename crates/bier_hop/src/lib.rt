@@ -8,6 +8,3 @@ mod out;
 
 pub use hop::Hop;
 pub use out::{Out, Why};
-
-#[cfg(test)]
-mod tests;

@@ -6,8 +6,6 @@ mod fib;
 mod first_steps;
 mod laws;
 mod next;
-#[cfg(test)]
-mod tests;
 mod ways;
 
 pub use fib::Fib;

@@ -9,8 +9,6 @@ mod any;
 mod build;
 mod neighbour;
 mod table;
-#[cfg(test)]
-mod tests;
 
 pub use any::AnyTable;
 pub use table::{Row, Table};

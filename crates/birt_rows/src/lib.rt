@@ -7,7 +7,5 @@ mod direct;
 mod entries;
 mod owner;
 mod row_set;
-#[cfg(test)]
-mod tests;
 
 pub use row_set::rows;

@@ -6,8 +6,6 @@ mod checksum;
 mod laws;
 mod onward;
 mod read;
-#[cfg(test)]
-mod tests;
 mod tunnel;
 mod write;
 

@@ -15,6 +15,3 @@ mod table;
 pub use entries::listed;
 pub use flood::Flood;
 pub use wire_base::{FloodOut, SnpOut};
-
-#[cfg(test)]
-mod tests;

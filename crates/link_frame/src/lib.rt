@@ -5,8 +5,6 @@
 
 mod frame;
 mod labels;
-#[cfg(test)]
-mod tests;
 
 pub use frame::{Class, classify, source_of, write_eth};
 pub use labels::{Label, read_stack};

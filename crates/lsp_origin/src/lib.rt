@@ -12,6 +12,3 @@ mod subdomains;
 pub use lsp_store::purge;
 pub use origin::originate;
 pub use wire_base::Entry;
-
-#[cfg(test)]
-mod tests;

@@ -16,6 +16,3 @@ pub use places::{Keyed, place_of, stands_at};
 pub use purges::purge;
 pub use store::Store;
 pub use wire_base::{Age, Aged, Entry, PutFault};
-
-#[cfg(test)]
-mod tests;

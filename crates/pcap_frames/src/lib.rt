@@ -6,8 +6,6 @@
 mod header;
 mod reader;
 mod record;
-#[cfg(test)]
-mod tests;
 mod write;
 
 pub use reader::Reader;

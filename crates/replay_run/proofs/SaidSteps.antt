@@ -14,7 +14,7 @@ use Rattle.tool_run.specs.Texts.{Ended}
 use Rattle.tool_run.specs.declared.reader.Found.{Found}
 use Rattle.tool_run.specs.declared.reader.Found.TheVariants as found
 use Rattle.wire_base.specs.declared.limits.TheConstants.{LINE_LIMIT}
-use Rattle.replay_run.specs.Scheduling.{Course, IsAt, past, gained, Reaches, said_reaches, next_reaches, EndsWith, Turns, Wrote, Fronted, Did, Went, Stopped}
+use Rattle.replay_run.specs.Scheduling.{Course, IsAt, past, Reaches, said_reaches, next_reaches, EndsWith, Turns, Wrote, Fronted, Did, Went, Stopped}
 use Rattle.replay_run.proofs.ScheduleSteps.{said_done, said_refused, told_behind, fits_enters, domain_at, reaches_goes}
 use Rattle.replay_run.proofs.Wrote.{still, wrote_past, written_at, gained_past, fronted, nothing_fronted}
 

@@ -14,6 +14,3 @@ mod words;
 
 pub use tool_run::packets_are_parted;
 pub use top::run;
-
-#[cfg(test)]
-mod tests;

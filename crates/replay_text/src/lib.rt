@@ -28,6 +28,3 @@ pub use pieces::next_line;
 pub use positions::{push_positions, push_set};
 pub use report::{push_cause, push_loss, push_number};
 pub use schedule_line::read_line;
-
-#[cfg(test)]
-mod tests;

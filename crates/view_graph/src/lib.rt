@@ -17,8 +17,6 @@ mod places;
 mod remade;
 mod renewal;
 mod same;
-#[cfg(test)]
-mod tests;
 
 pub use keep::ViewKeep;
 pub use nodes::{supports, view};

@@ -1,4 +1,4 @@
-use crate::run;
+use replay_run::run;
 use std::alloc::Global;
 use std::test::Fail;
 use wire_base::{BytesSink, BytesSource, M, Octets, QuietSink, QuietSource, Rows, Status};

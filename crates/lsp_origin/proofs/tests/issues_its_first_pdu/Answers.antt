@@ -1,8 +1,0 @@
-use Rattle.std.proofs.Common.{refl, sym, subst, false, arith}
-use Rattle.wire_base.specs.model.Configuration.{IsSound}
-use Rattle.model_examples.proofs.Validity.{one_link}
-use Rattle.lsp_origin.proofs.tests.issues_its_first_pdu.Goals as goal
-
-pub originate-requires-clause-sound : goal.originate-requires-clause-sound
-originate-requires-clause-sound g c =
-    subst IsSound (sym c.in_ok-conf.ensures) (one_link 65 1 100 2 false refl (omega arith) (omega arith) (omega arith) (omega arith))
