@@ -44,7 +44,7 @@ def build():
     # With no words the program answers its usage line, so its own status says nothing of the build.
     log = os.path.join(CRATE, "out", "build.log")
     with open(log, "w", encoding="utf-8") as file:
-        subprocess.run(["rt", "run"], cwd=CRATE, stdout=file, stderr=subprocess.STDOUT, stdin=subprocess.DEVNULL)
+        subprocess.run([sys.executable, os.path.join(ROOT, "tools", "rt_once"), "run"], cwd=CRATE, stdout=file, stderr=subprocess.STDOUT, stdin=subprocess.DEVNULL)
     with open(log, encoding="utf-8", errors="replace") as file:
         if not any(line.startswith("rt: running") for line in file):
             say(f"the program wasn't built; {os.path.relpath(log)} says why")
