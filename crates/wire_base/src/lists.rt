@@ -188,6 +188,20 @@ impl<T> Rows<T> {
         }
     }
 
+    /// The values of a vector, with the room that it has.
+    pub fn from_vec(values: Vec<T>) -> Self
+        ensures { result ≡ values.items }
+    {
+        Rows { items: values }
+    }
+
+    /// The same values as a vector.
+    pub fn into_vec(self) -> Vec<T>
+        ensures { result.items ≡ self }
+    {
+        self.items
+    }
+
     /// The values as a slice.
     pub fn as_slice(&self) -> &[T]
         ensures { result.now ≡ self.now }
