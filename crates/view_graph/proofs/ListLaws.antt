@@ -103,6 +103,12 @@ pub first_step : (p : ViewSub → Bool) (xs : List ViewSub) (i : ℕ) (s : ViewS
 first_step p xs i s kept next lt at before step =
     step ∙ ap (λ k. if p s && not (has_sd s.sd k) then k ++ s ∷ [] else k) before ∙ sym (first_more p xs i s lt at)
 
+-- a place that is known, and the first in its subdomain, after others that are
+pub first_kept : (p : ViewSub → Bool) (xs : List ViewSub) (i : ℕ) (s : ViewSub) → i < length xs → s ≡ get_or xs i s → (p s && not (has_sd s.sd (take i xs))) ≡ true → take i xs ≡ first_each (filter p (take i xs)) → take (i + 1) xs ≡ first_each (filter p (take (i + 1) xs))
+first_kept p xs i s lt at here before =
+    let one : i + 1 ≡ suc i = omega arith in
+    first_step p xs i s (take i xs) (take (i + 1) xs) lt at before (ap (λ k. take k xs) one ∙ take-suc xs i s lt ∙ ap (λ (y : ViewSub). take i xs ++ y ∷ []) (sym at) ∙ sym (ap (λ b. if b then take i xs ++ s ∷ [] else take i xs) here))
+
 pub picked_step : {X : Type 0} (bs : List Bool) (xs : List X) (i : ℕ) (d : Bool) (z : X) → length bs ≡ length xs → i < length xs → picked (take (i + 1) bs) (take (i + 1) xs) ≡ picked (take i bs) (take i xs) ++ (if get_or bs i d then get_or xs i z ∷ [] else [])
 picked_step bs xs i d z same lt =
     let one : i + 1 ≡ suc i = omega arith in

@@ -126,15 +126,20 @@ pub(crate) fn claim_of(alloc: Global, entries: &[Entry], entry: &Entry) -> M<Cla
 }
 
 /// A claim with the places alone that count by what the router knows of subdomains.
-pub(crate) fn with_known(alloc: Global, kinds: &[SubKind], claim: Claim) -> M<Claim>
+pub(crate) fn with_known(kinds: &[SubKind], claim: Claim) -> M<Claim>
     ensures { IfOk result (λ c. c ≡ with_known kinds.now claim) }
 {
-    let subs = known_subs(alloc, kinds, claim.subs.as_slice())?;
-    Ok(Claim {
-        system: claim.system,
-        overload: claim.overload,
-        links: claim.links,
+    let Claim {
+        system,
+        overload,
+        links,
         subs,
+    } = claim;
+    Ok(Claim {
+        system,
+        overload,
+        links,
+        subs: known_subs(kinds, subs)?,
     })
 }
 
@@ -222,7 +227,7 @@ fn other_claims(alloc: Global, conf: &RouterConf, entries: &[Entry]) -> M<Vec<Cl
         let entry = &entries[place];
         if is_other(&conf.system, entry) {
             let claim = claim_of(alloc, &entries[place..], entry)?;
-            claims.push(with_known(alloc, conf.kinds.as_slice(), claim)?)?;
+            claims.push(with_known(conf.kinds.as_slice(), claim)?)?;
         }
     }
     Ok(claims)
@@ -262,7 +267,7 @@ pub(crate) fn claims_of(
 {
     let mut claims = other_claims(alloc, conf, entries)?;
     let own = own_claim(alloc, conf, up)?;
-    let own = with_known(alloc, conf.kinds.as_slice(), own)?;
+    let own = with_known(conf.kinds.as_slice(), own)?;
     let place = place_of(claims.as_slice(), &own.system);
     claims.insert(place, own)?;
     Ok(claims)

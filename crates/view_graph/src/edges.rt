@@ -104,11 +104,11 @@ pub(crate) fn half_edges(alloc: Global, claims: &[Claim], links: &[Link]) -> M<R
     requires few { length claims.now ≤ 65536 }
     ensures { IfOk result (λ edges. edges ≡ half_edges 0 (metrics_to links.now claims.now)) }
 {
-    let mut edges: Vec<ViewEdge> = Vec::new(alloc);
+    let mut edges: Vec<ViewEdge> = Vec::with_capacity(alloc, links.len())?;
     'links: for link in links {
         count(claims, &mut edges, link)?;
     }
-    Rows::from_slice(alloc, edges.as_slice())
+    Ok(Rows::from_vec(edges))
 }
 
 /// For each system the edges that it lists itself, in the order of the systems that they lead to.
@@ -134,13 +134,22 @@ fn leads_to(place: u16, edges: &[ViewEdge]) -> bool
 pub(crate) fn whole_edges(alloc: Global, halves: &[Rows<ViewEdge>], place: u16) -> M<Rows<ViewEdge>>
     ensures { IfOk result (λ edges. edges ≡ whole_edges halves.now place) }
 {
-    let mut edges = Rows::new(alloc);
-    'edges: for edge in halves_at(halves, place) {
+    let own = halves_at(halves, place);
+    let mut edges = Vec::with_capacity(alloc, own.len())?;
+    'edges: for edge in own {
         if leads_to(place, halves_at(halves, edge.to)) {
             edges.push(*edge)?;
         }
     }
-    Ok(edges)
+    Ok(fitted(edges))
+}
+
+/// The edges with no more room than they take.
+fn fitted(mut edges: Vec<ViewEdge>) -> Rows<ViewEdge>
+    ensures { result ≡ edges.items }
+{
+    edges.shrink_to_fit();
+    Rows::from_vec(edges)
 }
 
 fn halves_at(halves: &[Rows<ViewEdge>], place: u16) -> &[ViewEdge]

@@ -41,7 +41,7 @@ pub(crate) fn said_in(
         return Ok(None);
     }
     let claim = claim_of(alloc, &entries[place..], entry)?;
-    let known = with_known(alloc, kinds, claim)?;
+    let known = with_known(kinds, claim)?;
     Ok(Some(known))
 }
 

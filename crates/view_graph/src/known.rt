@@ -1,9 +1,10 @@
 //! Which places in subdomains count.
-ghost use Rattle.std.specs.Prelude.{◌≡◌, ◌&&◌, ◌++◌, ◌∷◌, [], not, is_some, filter, IfOk, OnOk, if◌then◌else◌};
+ghost use Rattle.std.specs.Prelude.{◌≡◌, ◌&&◌, ◌++◌, ◌∷◌, [], true, not, is_some, filter, IfOk, OnOk, if◌then◌else◌};
 ghost use Rattle.std.specs.List.{list_any};
 ghost use Rattle.std.specs.Str.{bytes_eq};
 ghost use Rattle.wire_base.specs.model.Control.{same_system};
 ghost use Rattle.wire_base.specs.model.Place.{kind_of};
+ghost use Rattle.wire_base.specs.model.BierInfo.{any_overlap};
 ghost use Rattle.wire_base.specs.model.View.{all_ranges, first_each, known_subs};
 ghost use Rattle.view_graph.specs.Owners.{owner_at, is_several};
 ghost use Rattle.view_graph.specs.Places.{has_sd};
@@ -14,6 +15,17 @@ use bier_subtlv::overlaps;
 use std::alloc::Global;
 use std::collections::BTreeMap;
 use wire_base::{Ipv4, LabelRange, M, Rows, SubKind, SystemId, ViewSub, kind_of};
+
+/// Whether two label ranges of a system share a label.
+fn any_overlap(alloc: Global, subs: &[ViewSub]) -> M<bool>
+    ensures { IfOk result (λ b. b ≡ any_overlap (all_ranges subs.now)) }
+{
+    if subs.len() == 1 {
+        return Ok(overlaps(subs[0].ranges.as_slice()));
+    }
+    let ranges = all_ranges(alloc, subs)?;
+    Ok(overlaps(ranges.as_slice()))
+}
 
 /// The label ranges of all places of a system.
 fn all_ranges(alloc: Global, subs: &[ViewSub]) -> M<Vec<LabelRange>>
@@ -48,11 +60,11 @@ fn copy_of(sub: &ViewSub) -> M<ViewSub>
 pub(crate) fn copy_subs(alloc: Global, subs: &[ViewSub]) -> M<Rows<ViewSub>>
     ensures { IfOk result (λ copied. copied ≡ subs.now) }
 {
-    let mut copied = Rows::new(alloc);
+    let mut copied = Vec::with_capacity(alloc, subs.len())?;
     'subs: for sub in subs {
         copied.push(copy_of(sub)?)?;
     }
-    Ok(copied)
+    Ok(Rows::from_vec(copied))
 }
 
 /// Whether the place is in a subdomain that the router knows, and the first there.
@@ -72,6 +84,18 @@ fn keep_first(kept: &mut Rows<ViewSub>, kinds: &[SubKind], sub: &ViewSub) -> M<(
     }
 }
 
+/// Whether each place is the first in its subdomain, and the router knows that one.
+fn are_first_known(kinds: &[SubKind], subs: &[ViewSub]) -> bool
+    ensures { result ≡ true → first_each (filter (λ s. is_some (kind_of kinds.now s.sd)) subs.now) ≡ subs.now }
+{
+    'subs: for place in 0..subs.len() {
+        if !is_first_known(kinds, &subs[..place], &subs[place]) {
+            return false;
+        }
+    }
+    true
+}
+
 /// The first place in each subdomain that the router knows.
 fn first_known(alloc: Global, kinds: &[SubKind], subs: &[ViewSub]) -> M<Rows<ViewSub>>
     ensures { IfOk result (λ kept. kept ≡ first_each (filter (λ s. is_some (kind_of kinds.now s.sd)) subs.now)) }
@@ -86,15 +110,17 @@ fn first_known(alloc: Global, kinds: &[SubKind], subs: &[ViewSub]) -> M<Rows<Vie
 /// The places that count by what the router knows of subdomains: none where two label ranges of the system share a
 /// label, else the first in each subdomain that is known.
 #[tactic(auto, using(crate::proofs::ListLaws::known_overlap, crate::proofs::ListLaws::known_apart))]
-pub(crate) fn known_subs(alloc: Global, kinds: &[SubKind], subs: &[ViewSub]) -> M<Rows<ViewSub>>
-    ensures { IfOk result (λ kept. kept ≡ known_subs kinds.now subs.now) }
+pub(crate) fn known_subs(kinds: &[SubKind], subs: Rows<ViewSub>) -> M<Rows<ViewSub>>
+    ensures { IfOk result (λ kept. kept ≡ known_subs kinds.now subs) }
 {
-    let ranges = all_ranges(alloc, subs)?;
-    if overlaps(ranges.as_slice()) {
-        Ok(Rows::new(alloc))
-    } else {
-        first_known(alloc, kinds, subs)
+    let alloc = subs.allocator();
+    if any_overlap(alloc, subs.as_slice())? {
+        return Ok(Rows::new(alloc));
     }
+    if are_first_known(kinds, subs.as_slice()) {
+        return Ok(subs);
+    }
+    first_known(alloc, kinds, subs.as_slice())
 }
 
 /// The places of a system whose prefix is no other system's, by the systems that have the prefixes.
@@ -105,11 +131,13 @@ pub(crate) fn alone_subs(
 ) -> M<Rows<ViewSub>>
     ensures { IfOk result (λ kept. kept ≡ filter (λ s. not (is_several (owner_at owners.now s.prefix))) claim.now.subs) }
 {
-    let mut kept = Rows::new(alloc);
-    'subs: for sub in claim.subs.as_slice() {
+    let subs = claim.subs.as_slice();
+    let mut kept = Vec::with_capacity(alloc, subs.len())?;
+    'subs: for sub in subs {
         if !is_several(owners, &sub.prefix) {
             kept.push(copy_of(sub)?)?;
         }
     }
-    Ok(kept)
+    kept.shrink_to_fit();
+    Ok(Rows::from_vec(kept))
 }

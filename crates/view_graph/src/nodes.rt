@@ -46,11 +46,11 @@ pub(crate) fn nodes_of(alloc: Global, claims: &[Claim]) -> M<Rows<ViewNode>>
 {
     let halves = all_half_edges(alloc, claims)?;
     let owners = owners_of(alloc, claims)?;
-    let mut nodes = Rows::new(alloc);
+    let mut nodes = Vec::with_capacity(alloc, claims.len())?;
     'systems: for place in 0..claims.len() {
         nodes.push(node_of(alloc, claims, halves.as_slice(), &owners, place)?)?;
     }
-    Ok(nodes)
+    Ok(Rows::from_vec(nodes))
 }
 
 #[tactic(auto, unfolding(wire_base::specs::model::View::view_of), using(crate::proofs::GraphLaws::claims_in_order, crate::proofs::GraphLaws::few_claims))]

@@ -1,5 +1,5 @@
 //! The places in subdomains that a system tells in its TLVs 135.
-ghost use Rattle.std.specs.Prelude.{◌≡◌, ◌++◌, OnOk, IfOk, option_to_list};
+ghost use Rattle.std.specs.Prelude.{◌≡◌, ◌++◌, ◌∷◌, [], OnOk, IfOk, option_to_list};
 ghost use Rattle.std.specs.List.{filter_map, flat_map};
 ghost use Rattle.wire_base.specs.model.Tlv.{entries_of, prefix_at, prefix_bits, tlvs_before};
 ghost use Rattle.wire_base.specs.model.View.{sub_of, sub_at, subs_of};
@@ -22,6 +22,19 @@ fn sub_of(alloc: Global, prefix: [u8; 4], info: &Info) -> M<ViewSub>
     })
 }
 
+/// Appends a place. The first takes room for itself alone, since most systems tell one.
+fn push_sub(subs: &mut Rows<ViewSub>, sub: ViewSub) -> M<()>
+    ensures { OnOk result (subs.new ≡ subs.old ++ sub ∷ []) }
+{
+    if subs.len() > 0 {
+        return subs.push(sub);
+    }
+    let mut first = Vec::with_capacity(subs.allocator(), 1)?;
+    first.push(sub)?;
+    *subs = Rows::from_vec(first);
+    Ok(())
+}
+
 /// Appends the place that a sub-TLV 32 tells, where its reader takes it.
 fn append_sub(subs: &mut Rows<ViewSub>, prefix: [u8; 4], tlv: Tlv<'_>) -> M<()>
     ensures { OnOk result (subs.new ≡ subs.old ++ option_to_list (sub_at prefix (item tlv.entry))) }
@@ -32,7 +45,7 @@ fn append_sub(subs: &mut Rows<ViewSub>, prefix: [u8; 4], tlv: Tlv<'_>) -> M<()>
     match read_info(tlv.value) {
         Ok(info) => {
             let sub = sub_of(subs.allocator(), prefix, &info)?;
-            subs.push(sub)
+            push_sub(subs, sub)
         }
         Err(_) => Ok(()),
     }

@@ -29,7 +29,7 @@ fn said_now(
 {
     if *system == conf.system {
         let own = own_claim(alloc, conf, up)?;
-        let known = with_known(alloc, conf.kinds.as_slice(), own)?;
+        let known = with_known(conf.kinds.as_slice(), own)?;
         Ok(Some(known))
     } else {
         said_in(alloc, conf.kinds.as_slice(), entries, system)
