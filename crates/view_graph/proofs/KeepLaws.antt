@@ -41,7 +41,7 @@ heard_is r up entries = without_own r.kinds (own_claim r up) (map (claim_of entr
 
 -- ---- lists of claims in order that say the same of each system are the same
 
-said_head : (c : Claim) (cs : List Claim) → said_by (c ∷ cs) c.system ≡ Some c
+pub said_head : (c : Claim) (cs : List Claim) → said_by (c ∷ cs) c.system ≡ Some c
 said_head c cs = rw ((bytes_eq-Decides c.system.0 c.system.0).1 refl) refl
 
 said_above : (s : SystemId) (cs : List Claim) → AllByRecursion (λ d. is_before s d.system ≡ true) cs → said_by cs s ≡ None

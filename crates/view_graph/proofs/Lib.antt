@@ -1,4 +1,6 @@
+mod Walks
 pub mod AnewLaws
+pub mod ChangeLaws
 pub mod ClaimLaws
 pub mod EdgeLaws
 pub mod ExampleLaws
@@ -8,8 +10,9 @@ pub mod ListLaws
 pub mod HeardLaws
 pub mod KeepLaws
 pub mod OwnerLaws
-pub mod RemadeLaws
+pub mod PatchLaws
 pub mod RenewalLaws
 pub mod SameLaws
+pub mod SeatLaws
 pub mod SystemLaws
 pub mod ViewLaws

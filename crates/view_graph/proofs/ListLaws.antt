@@ -1,10 +1,10 @@
 -- Parts of lists, and what a step of a loop adds.
-use Rattle.std.proofs.Common.{◌≡◌, ℕ, zero, suc, ◌+◌, ◌<◌, ◌==◌, ◌&&◌, ◌||◌, Bool, true, false, not, if◌then◌else◌, List, [], ◌∷◌, ◌++◌, length, get_or, take, map, filter, is_some, slice_get, Option, Some, None, refl, sym, ap, ◌∙◌, arith, append-nil}
+use Rattle.std.proofs.Common.{◌≡◌, ℕ, zero, suc, ◌+◌, ◌<◌, ◌==◌, ◌&&◌, ◌||◌, Bool, true, false, not, if◌then◌else◌, List, [], ◌∷◌, ◌++◌, length, get_or, take, drop, map, filter, is_some, slice_get, Option, Some, None, refl, sym, ap, ◌∙◌, arith, append-nil, length-append}
 use Rattle.std.proofs.Math.Seq.{take-suc}
 use Rattle.std.specs.Prelude.{option_to_list}
 use Rattle.std.specs.List.{insert, filter_map}
 use Rattle.std.specs.Ordering.{is_lt}
-use Rattle.std.proofs.lemmas.List.{length-take-le, map-append}
+use Rattle.std.proofs.lemmas.List.{append_assoc, length-take-le, map-append}
 use Rattle.std.proofs.lemmas.Bool.{eqb-true, eq-eqb}
 use Rattle.std.proofs.lemmas.List.Elements.{filter-append}
 use Rattle.wire_base.specs.declared.conf.SubKind.{SubKind}
@@ -18,7 +18,7 @@ use Rattle.wire_base.specs.model.Control.{system_order}
 use Rattle.wire_base.specs.model.BierInfo.{any_overlap}
 use Rattle.wire_base.specs.model.OwnLsp.{picked}
 use Rattle.wire_base.specs.model.Place.{kind_of}
-use Rattle.wire_base.specs.model.View.{Claim, Link, all_ranges, first_each, known_subs, end_link, with_known, put_claim, claim_of, is_other, own_claim, claims_of, edges_from, own_subs, node_of}
+use Rattle.wire_base.specs.model.View.{Claim, Link, all_ranges, first_each, known_subs, end_link, with_known, put_claim, claim_of, is_other, own_claim, claims_of, edges_from, own_subs, node_of, nodes_of}
 use Rattle.view_graph.specs.Places.{has_sd, place_before}
 
 -- the first of those that are kept
@@ -148,14 +148,48 @@ inserted r up entries others own known place o w k p =
 pub node_built : (claims : List Claim) (c x : Claim) (edges : List ViewEdge) (subs : List ViewSub) → c ≡ x → edges ≡ edges_from x 0 claims → subs ≡ own_subs claims c → record { system = c.system; overload = c.overload; edges = edges; subs = subs } ≡ node_of claims x
 node_built claims c x edges subs same e s = rw (e, s, same) refl
 
-there : (cs : List Claim) (i : ℕ) → i < length cs → (c : Claim) × (slice_get cs i ≡ Some c) × ((d : Claim) → get_or cs i d ≡ c)
-there [] i lt = absurd (omega (arith, lt))
-there (c ∷ cs) zero lt = (c, refl, λ d. refl)
-there (c ∷ cs) (suc i) lt = there cs i (omega (arith, lt))
+-- ---- the first of those that are left
 
-pub nodes_step : (claims : List Claim) (i : ℕ) (n : ViewNode) (old new : List ViewNode) → i < length claims → ((c : Claim) → slice_get claims i ≡ Some c → n ≡ node_of claims c) → old ≡ map (node_of claims) (take i claims) → new ≡ old ++ n ∷ [] → new ≡ map (node_of claims) (take (i + 1) claims)
-nodes_step claims i n old new lt is before step =
-    let one : i + 1 ≡ suc i = omega arith in
-    let t = there claims i lt in
-    step ∙ ap (λ (l : List ViewNode). l ++ n ∷ []) before ∙ ap (λ (m : ViewNode). map (node_of claims) (take i claims) ++ m ∷ []) (is t.0 t.1)
-    ∙ sym (ap (λ k. map (node_of claims) (take k claims)) one ∙ ap (map (node_of claims)) (take-suc claims i t.0 lt ∙ ap (λ (c : Claim). take i claims ++ c ∷ []) (t.2 t.0)) ∙ map-append (node_of claims) (take i claims) (t.0 ∷ []))
+first_of : List Claim → Option Claim
+first_of [] = None
+first_of (c ∷ cs) = Some c
+
+later_of : List Claim → List Claim
+later_of [] = []
+later_of (c ∷ cs) = cs
+
+pub first_left : (k : ℕ) (cs rest : List Claim) (c : Claim) → c ∷ rest ≡ drop k cs → slice_get cs k ≡ Some c
+unfolding first_of
+first_left zero [] rest c e = absurd cc
+first_left (suc k) [] rest c e = absurd cc
+first_left zero (x ∷ xs) rest c e = sym (ap first_of e)
+first_left (suc k) (x ∷ xs) rest c e = first_left k xs rest c e
+
+pub later_left : (k : ℕ) (cs rest : List Claim) (c : Claim) → c ∷ rest ≡ drop k cs → rest ≡ drop (k + 1) cs
+unfolding later_of
+later_left k cs rest c e = let one : k + 1 ≡ suc k = omega arith in by k cs e ∙ ap (λ n. drop n cs) (sym one)
+  where
+    by : (k : ℕ) (cs : List Claim) → c ∷ rest ≡ drop k cs → rest ≡ drop (suc k) cs
+    by zero [] e = absurd cc
+    by (suc k) [] e = absurd cc
+    by zero (x ∷ xs) e = ap later_of e
+    by (suc k) (x ∷ xs) e = by k xs e
+
+pub left_within : (k : ℕ) (cs rest : List Claim) (c : Claim) → c ∷ rest ≡ drop k cs → k < length cs
+left_within zero [] rest c e = absurd cc
+left_within (suc k) [] rest c e = absurd cc
+left_within zero (x ∷ xs) rest c e = omega arith
+left_within (suc k) (x ∷ xs) rest c e = omega (arith, left_within k xs rest c e)
+
+-- the nodes so far and those of the claims that are left, one claim later
+pub record IsLeft (cs rest : List Claim) (nodes : List ViewNode) : Type 0 where
+  pub made : nodes ++ map (node_of cs) rest ≡ nodes_of cs
+  pub left : rest ≡ drop (length nodes) cs
+
+pub left_step : (cs rest now : List Claim) (nodes new : List ViewNode) (c : Claim) (n : ViewNode) → rest ≡ c ∷ now → new ≡ nodes ++ n ∷ [] → n ≡ node_of cs c → nodes ++ map (node_of cs) rest ≡ nodes_of cs → rest ≡ drop (length nodes) cs → IsLeft cs now new
+left_step cs rest now nodes new c n head pushed is made left =
+    let long : length new ≡ length nodes + 1 = ap (λ (ns : List ViewNode). length ns) pushed ∙ length-append nodes (n ∷ []) in
+    record {
+      made = ap (λ (ns : List ViewNode). ns ++ map (node_of cs) now) pushed ∙ append_assoc nodes (n ∷ []) (map (node_of cs) now) ∙ ap (λ (m : ViewNode). nodes ++ m ∷ map (node_of cs) now) is ∙ ap (λ (l : List Claim). nodes ++ map (node_of cs) l) (sym head) ∙ made;
+      left = later_left (length nodes) cs now c (sym head ∙ left) ∙ ap (λ k. drop k cs) (sym long);
+    }

@@ -1,6 +1,6 @@
 -- A map of the prefixes tells those that several systems have.
 use mathlib.Core.Bool.{false≢true, true≢false}
-use Rattle.std.proofs.Common.{◌≡◌, ℕ, zero, suc, ◌+◌, ◌<◌, ◌≤◌, ◌&&◌, ◌||◌, not, Bool, true, false, if◌then◌else◌, List, [], ◌∷◌, ◌++◌, length, get_or, take, map, filter, Option, Some, None, slice_get, refl, sym, ap, subst, ◌∙◌, arith, append_assoc, append-nil}
+use Rattle.std.proofs.Common.{◌≡◌, ℕ, zero, suc, ◌+◌, ◌<◌, ◌≤◌, ◌&&◌, ◌||◌, not, Bool, true, false, if◌then◌else◌, List, [], ◌∷◌, ◌++◌, length, get_or, take, map, filter, Option, Some, None, option_map, slice_get, refl, sym, ap, subst, ◌∙◌, arith, append_assoc, append-nil}
 use Rattle.std.specs.BTreeMap as tree
 use Rattle.std.specs.BTreeMap.{BTreeMap}
 use Rattle.std.specs.Cmp.Lexicographic.{slice_cmp}
@@ -13,14 +13,17 @@ use Rattle.std.proofs.lemmas.List.{map-append, take_all}
 use Rattle.std.proofs.lemmas.List.Concat.{flat_map-cons, flat_map-append}
 use Rattle.std.proofs.lemmas.List.Folds.{list_any-append}
 use Rattle.std.proofs.lemmas.Map.Text.{is_eq-slice_cmp}
+use Rattle.std.proofs.lemmas.Option.{slice_get-map}
 use Rattle.std.proofs.lemmas.Slice.Eq.{bytes_eq-Decides}
 use Rattle.format_laws.proofs.TlvLaws.{some_is}
 use Rattle.wire_base.specs.declared.addresses.Ipv4.{Ipv4}
 use Rattle.wire_base.specs.declared.addresses.SystemId.{SystemId}
+use Rattle.wire_base.specs.declared.view.ViewNode.{ViewNode}
 use Rattle.wire_base.specs.declared.view.ViewSub.{ViewSub}
 use Rattle.wire_base.specs.model.Control.{same_system}
-use Rattle.wire_base.specs.model.View.{Claim, has_prefix, is_shared, own_subs}
+use Rattle.wire_base.specs.model.View.{Claim, has_prefix, is_shared, own_subs, node_of, nodes_of}
 use Rattle.view_graph.specs.Owners.{Prefix, prefixes_at, prefixes_in, prefixes_of, owner_at, owner_with, is_several, is_there, is_held, is_shared_in, IsOwner, AreOwners}
+use Rattle.view_graph.proofs.AnewLaws.{same_by_get}
 use Rattle.view_graph.proofs.FragmentLaws.{same_is}
 use Rattle.view_graph.proofs.GraphLaws.{and_both}
 use Rattle.view_graph.proofs.SystemLaws.{same_turned}
@@ -211,3 +214,36 @@ alone_is claims i c owners at are = go c.subs (λ p h. h)
             → filter (λ s. not (is_several (owner_at owners s.prefix))) (s ∷ ss) ≡ filter (λ s. not (is_shared claims c.system s.prefix)) (s ∷ ss)
         by true e f more = rw (f, e) more
         by false e f more = rw (f, e) (ap (λ (ys : List ViewSub). s ∷ ys) more)
+
+-- ---- where no prefix is one of several systems
+
+pub none_several : (p : ViewSub → Bool) (subs : List ViewSub) → list_any p subs ≡ false → subs ≡ filter (λ s. not (p s)) subs
+none_several p [] none = refl
+none_several p (s ∷ ss) none = by (p s) refl none (none_several p ss)
+  where
+    by : (b : Bool) → p s ≡ b → (b || list_any p ss) ≡ false → (list_any p ss ≡ false → ss ≡ filter (λ t. not (p t)) ss) → s ∷ ss ≡ filter (λ t. not (p t)) (s ∷ ss)
+    by true e h more = absurd (true≢false h)
+    by false e h more = rw e (ap (λ (xs : List ViewSub). s ∷ xs) (more h))
+
+none_at : {X : Type 0} (q : X → Bool) (xs : List X) (i : ℕ) (x : X) → list_any q xs ≡ false → slice_get xs i ≡ Some x → q x ≡ false
+none_at q [] i x none at = absurd cc
+none_at q (y ∷ ys) zero x none at = ap q (sym (some_is y x at)) ∙ by (q y) none
+  where
+    by : (b : Bool) → (b || list_any q ys) ≡ false → b ≡ false
+    by true h = h
+    by false h = refl
+none_at q (y ∷ ys) (suc i) x none at = none_at q ys i x (by (q y) none) at
+  where
+    by : (b : Bool) → (b || list_any q ys) ≡ false → list_any q ys ≡ false
+    by true h = absurd (true≢false h)
+    by false h = h
+
+pub whole_is : (claims : List Claim) (owners : BTreeMap Ipv4 (Option SystemId)) → AreOwners (prefixes_of claims) owners → list_any (λ (c : Claim). list_any (λ (s : ViewSub). is_several (owner_at owners s.prefix)) c.subs) claims ≡ false → map (λ (n : ViewNode). n.subs) (nodes_of claims) ≡ map (λ (c : Claim). c.subs) claims
+whole_is claims owners are none =
+    same_by_get (map (λ (n : ViewNode). n.subs) (nodes_of claims)) (map (λ (c : Claim). c.subs) claims) (λ i. slice_get-map (λ (n : ViewNode). n.subs) (nodes_of claims) i ∙ ap (option_map (λ (n : ViewNode). n.subs)) (slice_get-map (node_of claims) claims i) ∙ by i (slice_get claims i) refl ∙ sym (slice_get-map (λ (c : Claim). c.subs) claims i))
+  where
+    by : (i : ℕ) (o : Option Claim) → slice_get claims i ≡ o → option_map (λ (n : ViewNode). n.subs) (option_map (node_of claims) (slice_get claims i)) ≡ option_map (λ (c : Claim). c.subs) (slice_get claims i)
+    by i None e = ap (λ (o : Option Claim). option_map (λ (n : ViewNode). n.subs) (option_map (node_of claims) o)) e ∙ sym (ap (option_map (λ (c : Claim). c.subs)) e)
+    by i (Some c) e =
+        let p = λ (s : ViewSub). is_several (owner_at owners s.prefix) in
+        ap (λ (o : Option Claim). option_map (λ (n : ViewNode). n.subs) (option_map (node_of claims) o)) e ∙ ap (λ (ss : List ViewSub). Some ss) (sym (none_several p c.subs (none_at (λ (d : Claim). list_any p d.subs) claims i c none e) ∙ alone_is claims i c owners e are)) ∙ sym (ap (option_map (λ (c : Claim). c.subs)) e)

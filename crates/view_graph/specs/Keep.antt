@@ -1,5 +1,5 @@
 -- What is kept beside a view, so that it can be renewed from the systems that changed.
-use Rattle.std.specs.Prelude.{◌≡◌, ◌≤◌, ◌==◌, ◌&&◌, nat_lt, not, Bool, false, List, [], ◌∷◌, length, map, filter, slice_get, Option, Some, None, if◌then◌else◌}
+use Rattle.std.specs.Prelude.{◌≡◌, ◌≤◌, ◌==◌, ◌&&◌, nat_lt, not, Bool, true, false, List, [], ◌∷◌, length, map, filter, slice_get, Option, Some, None, if◌then◌else◌}
 use Rattle.std.specs.List.{list_any}
 use Rattle.wire_base.specs.declared.addresses.SystemId.{SystemId}
 use Rattle.wire_base.specs.declared.conf.SubKind.{SubKind}
@@ -45,8 +45,12 @@ IsUnchanged k changed entries = (s : SystemId) → same_system s k.system ≡ fa
 abbrev pub without_system : SystemId → List Claim → List Claim
 without_system s claims = filter (λ c. not (same_system c.system s)) claims
 
--- what a kept view holds: the claims of all systems in order, of which the view is made
-pub record IsKept (claims : List Claim) (nodes : List ViewNode) : Type 0 where
+-- There are claims of all systems in order of which the view is made, and those of the others are what is kept; where the
+-- view is whole, no node lacks a place in a subdomain because another system has its prefix.
+pub record IsKept (system : SystemId) (others : List Claim) (is_whole : Bool) (nodes : List ViewNode) : Type 0 where
+  pub claims : List Claim
   pub in_order : AreInOrder claims
   pub few : length claims ≤ 65536
   pub made : nodes ≡ nodes_of claims
+  pub heard : without_system system claims ≡ others
+  pub whole : is_whole ≡ true → map (λ n. n.subs) nodes ≡ map (λ c. c.subs) claims

@@ -1,52 +1,97 @@
--- Which claim is another one, where a view is renewed.
-use Rattle.std.specs.Prelude.{◌≡◌, ◌<◌, ◌==◌, ℕ, Bool, true, false, List, [], ◌∷◌, length, set, slice_get, Option, Some, None, if◌then◌else◌}
+-- Which nodes are other ones, where a view is renewed.
+use Rattle.std.specs.Prelude.{◌≡◌, ◌<◌, ◌==◌, ℕ, Bool, true, false, List, [], ◌∷◌, map, filter, length, set, slice_get, Option, Some, None, if◌then◌else◌}
 use Rattle.std.specs.List.{list_any, AllByRecursion}
 use Rattle.wire_base.specs.declared.addresses.SystemId.{SystemId}
 use Rattle.wire_base.specs.declared.conf.RouterConf.{RouterConf}
 use Rattle.wire_base.specs.declared.entry.Entry.{Entry}
+use Rattle.wire_base.specs.declared.view.ViewEdge.{ViewEdge}
 use Rattle.wire_base.specs.declared.view.ViewNode.{ViewNode}
 use Rattle.wire_base.specs.model.Control.{same_system}
-use Rattle.wire_base.specs.model.View.{Claim, Link, lists, nodes_of, own_claim, with_known}
+use Rattle.wire_base.specs.model.View.{Claim, Link, lists, own_claim, with_known}
 use Rattle.view_graph.specs.declared.patch.NewNode.{NewNode}
-use Rattle.view_graph.specs.Edges.{place_in, stands_at}
-use Rattle.view_graph.specs.Keep.{is_named, said_by, said_in}
+use Rattle.view_graph.specs.Edges.{half_edges, leads_to, metrics_to, place_in, stands_at}
+use Rattle.view_graph.specs.Keep.{is_named, said_in}
 
 -- what a system says now: the router by its configuration and its ends that are up, another one in a database
 unfoldable pub said_now : RouterConf → List Bool → List Entry → SystemId → Option Claim
 said_now r up entries s = if same_system s r.system then Some (with_known r.kinds (own_claim r up)) else said_in r.kinds entries s
 
--- the claim at a place is of the same system and has the same places in subdomains
-abbrev pub IsAlikeAt : List Claim → ℕ → Claim → Type 0
-IsAlikeAt claims place c = (d : Claim) → slice_get claims place ≡ Some d → (d.system ≡ c.system) × (d.subs ≡ c.subs)
+-- a node as a claim without links
+abbrev pub seat : ViewNode → Claim
+seat n = record { system = n.system; overload = n.overload; links = []; subs = n.subs }
 
--- a claim that a system says now in place of one that is alike
-pub record IsChange (claims : List Claim) (said : SystemId → Option Claim) (c : Claim) : Type 0 where
-  pub says : said c.system ≡ Some c
-  pub stands : stands_at claims (place_in c.system claims) c.system ≡ true
-  pub alike : IsAlikeAt claims (place_in c.system claims) c
+abbrev pub seats : List ViewNode → List Claim
+seats nodes = map seat nodes
 
--- Of those systems none says something else than what is kept, or one alone does, by a claim that is alike. None where
--- nothing is said of it.
-abbrev pub IsFound : List Claim → (SystemId → Option Claim) → List SystemId → Option (Option Claim) → Type 0
-IsFound claims said systems None = Unit {0}
-IsFound claims said systems (Some None) = (s : SystemId) → is_named systems s ≡ true → said_by claims s ≡ said s
-IsFound claims said systems (Some (Some c)) = IsChange claims said c × ((s : SystemId) → is_named systems s ≡ true → same_system c.system s ≡ false → said_by claims s ≡ said s)
+-- ---- the places of the nodes that may be other ones
 
--- what is found in two parts
-abbrev pub joined : Option (Option Claim) → Option (Option Claim) → Option (Option Claim)
-joined None b = None
-joined (Some a) None = None
-joined (Some None) (Some b) = Some b
-joined (Some (Some c)) (Some None) = Some (Some c)
-joined (Some (Some c)) (Some (Some d)) = if same_system c.system d.system then Some (Some c) else None
+abbrev pub has : List ℕ → ℕ → Bool
+has places i = list_any (λ p. p == i) places
+
+-- all that were there before are there now
+abbrev pub Stays : List ℕ → List ℕ → Type 0
+Stays before now = (i : ℕ) → has now i ≡ false → has before i ≡ false
+
+-- one place more
+pub record IsAdded (place : ℕ) (before now : List ℕ) : Type 0 where
+  pub stays : Stays before now
+  pub there : has now place ≡ true
+
+-- a system lists those still to which an edge leads, but where their place is there
+abbrev pub ListsStill : List ViewNode → Claim → List ViewEdge → List ℕ → Type 0
+ListsStill nodes c edges places = (i : ℕ) (m : ViewNode) → leads_to i edges ≡ true → slice_get nodes i ≡ Some m → has places i ≡ false → lists c m.system ≡ true
+
+-- an edge leads to those that a system lists, but where their place is there
+abbrev pub HadEdges : List ViewNode → List Link → List ViewEdge → List ℕ → Type 0
+HadEdges nodes links edges places = (s : SystemId) → list_any (λ l. same_system l.neighbour s) links ≡ true → stands_at (seats nodes) (place_in s (seats nodes)) s ≡ true → has places (place_in s (seats nodes)) ≡ false → leads_to (place_in s (seats nodes)) edges ≡ true
+
+-- A system has a node, with the places in subdomains that it tells now. There are the node's place, and those of the systems
+-- that it came to list or lists no more.
+pub record IsNoted (said : SystemId → Option Claim) (nodes : List ViewNode) (places : List ℕ) (s : SystemId) : Type 0 where
+  pub claim : Claim
+  pub node : ViewNode
+  pub says : said s ≡ Some claim
+  pub at_place : slice_get nodes (place_in s (seats nodes)) ≡ Some node
+  pub system : node.system ≡ s
+  pub subs : node.subs ≡ claim.subs
+  pub own : has places (place_in s (seats nodes)) ≡ true
+  pub listed : ListsStill nodes claim node.edges places
+  pub had : HadEdges nodes claim.links node.edges places
+
+abbrev pub AreNoted : (SystemId → Option Claim) → List ViewNode → List SystemId → List ℕ → Type 0
+AreNoted said nodes systems places = (s : SystemId) → is_named systems s ≡ true → IsNoted said nodes places s
+
+-- ---- nodes made anew
 
 abbrev pub is_listed_by : Option Claim → SystemId → Bool
 is_listed_by None s = false
-is_listed_by (Some d) s = lists d s
+is_listed_by (Some c) s = lists c s
+
+-- what the system of a node says
+abbrev pub said_of : (SystemId → Option Claim) → Option ViewNode → Option Claim
+said_of said None = None
+said_of said (Some n) = said n.system
 
 -- whether the system at a place lists a link to that one
-abbrev pub lists_at : List Claim → ℕ → SystemId → Bool
-lists_at claims place s = is_listed_by (slice_get claims place) s
+abbrev pub lists_at : (SystemId → Option Claim) → List ViewNode → ℕ → SystemId → Bool
+lists_at said nodes place s = is_listed_by (said_of said (slice_get nodes place)) s
+
+-- the edges of a system with those links
+abbrev pub edges_now : (SystemId → Option Claim) → List ViewNode → SystemId → List Link → List ViewEdge
+edges_now said nodes s links = filter (λ e. lists_at said nodes e.to s) (half_edges 0 (metrics_to links (seats nodes)))
+
+-- a node made of the one at its place by what its system says, with the places in subdomains as before
+pub record IsMade (said : SystemId → Option Claim) (nodes : List ViewNode) (n : NewNode) : Type 0 where
+  pub before : ViewNode
+  pub claim : Claim
+  pub at_place : slice_get nodes n.place ≡ Some before
+  pub says : said before.system ≡ Some claim
+  pub made : n.node ≡ record { system = before.system; overload = claim.overload; edges = edges_now said nodes before.system claim.links; subs = before.subs }
+
+-- nodes made anew for all that those systems may have changed
+pub record IsPatch (said : SystemId → Option Claim) (nodes : List ViewNode) (systems : List SystemId) (anew : List NewNode) : Type 0 where
+  pub made : AllByRecursion (IsMade said nodes) anew
+  pub noted : AreNoted said nodes systems (map (λ n. n.place) anew)
 
 -- whether one of those made anew is of that place
 abbrev pub is_made : List NewNode → ℕ → Bool
@@ -60,13 +105,6 @@ IsAt nodes n = slice_get nodes n.place ≡ Some n.node
 abbrev pub put_all : List NewNode → List ViewNode → List ViewNode
 put_all [] nodes = nodes
 put_all (n ∷ ns) nodes = put_all ns (set nodes n.place n.node)
-
--- Nodes made anew where the claim at a place is that one: its own is among them, and the one at the other end of each of
--- those links that the claim before or the one now alone lists.
-pub record AreAnew (claims : List Claim) (place : ℕ) (claim : Claim) (links : List Link) (anew : List NewNode) : Type 0 where
-  pub right : AllByRecursion (IsAt (nodes_of (set claims place claim))) anew
-  pub own : is_made anew place ≡ true
-  pub ends : (s : SystemId) → list_any (λ l. same_system l.neighbour s) links ≡ true → is_made anew (place_in s claims) ≡ false → stands_at claims (place_in s claims) s ≡ true → lists_at claims place s ≡ lists claim s
 
 -- nodes made anew that turn the nodes into other ones
 pub record AreTurning (nodes target : List ViewNode) (anew : List NewNode) : Type 0 where

@@ -11,14 +11,14 @@ use lsp_store::is_system_above;
 use std::alloc::Global;
 use wire_base::{M, Rows, SystemId, ViewEdge};
 
-fn is_above(a: &SystemId, b: &SystemId) -> bool
+pub(crate) fn is_above(a: &SystemId, b: &SystemId) -> bool
     ensures { result ≡ is_gt (system_order a.now b.now) }
 {
     is_system_above(*a, *b)
 }
 
 /// How many claims are of systems below this one, by halving.
-pub(crate) fn place_in(claims: &[Claim], system: &SystemId) -> usize
+fn place_in(claims: &[Claim], system: &SystemId) -> usize
     requires { AreInOrder claims.now }
     ensures { result ≡ place_in system.now claims.now }
 {
@@ -37,7 +37,7 @@ pub(crate) fn place_in(claims: &[Claim], system: &SystemId) -> usize
 }
 
 /// Whether the claim at a place is of that system.
-pub(crate) fn stands_at(claims: &[Claim], place: usize, system: &SystemId) -> bool
+fn stands_at(claims: &[Claim], place: usize, system: &SystemId) -> bool
     ensures { result ≡ stands_at claims.now place system.now }
 {
     if place < claims.len() {
@@ -68,7 +68,7 @@ fn leads_at(edges: &[ViewEdge], place: usize, to: u16) -> bool
 }
 
 /// Adds an edge at its place; of two to one system the lesser metric stays.
-fn put_edge(edges: &mut Vec<ViewEdge>, to: u16, metric: u32) -> M<()>
+pub(crate) fn put_edge(edges: &mut Vec<ViewEdge>, to: u16, metric: u32) -> M<()>
     ensures { OnOk result (edges.new.items ≡ put_edge to metric edges.old.items) }
 {
     let place = edge_place(edges, to);
@@ -124,7 +124,7 @@ pub(crate) fn all_half_edges(alloc: Global, claims: &[Claim]) -> M<Vec<Rows<View
     Ok(halves)
 }
 
-fn leads_to(place: u16, edges: &[ViewEdge]) -> bool
+pub(crate) fn leads_to(place: u16, edges: &[ViewEdge]) -> bool
     ensures { result ≡ leads_to place edges.now }
 {
     edges.iter().any(|edge| edge.to == place)
@@ -145,7 +145,7 @@ pub(crate) fn whole_edges(alloc: Global, halves: &[Rows<ViewEdge>], place: u16) 
 }
 
 /// The edges with no more room than they take.
-fn fitted(mut edges: Vec<ViewEdge>) -> Rows<ViewEdge>
+pub(crate) fn fitted(mut edges: Vec<ViewEdge>) -> Rows<ViewEdge>
     ensures { result ≡ edges.items }
 {
     edges.shrink_to_fit();

@@ -10,18 +10,18 @@ ghost use Rattle.view_graph.specs.Keep.{IsUnchanged, heard, without_system};
 ghost use Rattle.view_graph.specs.Renewal.{put_all};
 
 use crate::claims::{Claim, claims_of};
-use crate::edges::place_in;
 use crate::nodes::nodes_of;
+use crate::others::Others;
 use crate::patch::{NewNode, are_present, put_all};
-use crate::remade::nodes_anew;
-use crate::renewal::found;
+use crate::renewal::patch_of;
 use crate::same::are_same_nodes;
 use lsp_store::Store;
 use std::alloc::Global;
 use std::marker::Model;
 use wire_base::{Entry, M, RouterConf, Rows, SubKind, SystemId, View};
 
-/// The view of a router, and beside it what it was made of, so that it is renewed without reading the whole database.
+/// The view of a router, which is renewed without reading the whole database: a renewal reads what the systems that changed
+/// say, and those that they list.
 ///
 /// Contracts see the view, the router's system and kinds of subdomains, and for each other system with a live fragment 0
 /// what its LSPs say: whether it is overloaded, its links before both ends are compared, and its places in subdomains before
@@ -30,18 +30,20 @@ use wire_base::{Entry, M, RouterConf, Rows, SubKind, SystemId, View};
 pub struct ViewKeep {
     system: SystemId,
     kinds: Rows<SubKind>,
-    claims: Vec<Claim>,
+    others: Others,
+    /// Whether no node lacks a place in a subdomain because another system has its prefix.
+    is_whole: bool,
     view: View,
 }
 
 impl Model for ViewKeep {
-    ghost use Rattle.view_graph.specs.Keep.{Keep, IsKept, without_system};
+    ghost use Rattle.view_graph.specs.Keep.{Keep, IsKept};
 
     ghost Value = { Keep };
 
-    ghost view = { λ k. record { nodes = k.view.nodes; system = k.system; kinds = k.kinds; others = without_system k.system k.claims.items } };
+    ghost view = { λ k. record { nodes = k.view.nodes; system = k.system; kinds = k.kinds; others = k.others.claims } };
 
-    ghost invariant = { λ k. IsKept k.claims.items k.view.nodes };
+    ghost invariant = { λ k. IsKept k.system k.others.claims k.is_whole k.view.nodes };
 }
 
 /// What all systems claim.
@@ -78,11 +80,12 @@ impl ViewKeep {
         ensures heard { IfOk result (λ k. k.others ≡ heard conf.now.system conf.now.kinds store.now.entries) }
     {
         let claims = all_claims(alloc, conf, up, store.as_slice())?;
-        let nodes = nodes_of(alloc, claims.as_slice())?;
+        let (nodes, is_whole) = nodes_of(alloc, claims)?;
         Ok(ViewKeep {
             system: conf.system,
             kinds: conf.kinds.copy()?,
-            claims,
+            others: Others::heard(conf, store),
+            is_whole,
             view: View { nodes },
         })
     }
@@ -109,19 +112,16 @@ impl ViewKeep {
         ensures heard { OnOk result (self.new.others ≡ heard conf.now.system conf.now.kinds store.now.entries) }
         ensures err { OnErr result (self.new ≡ self.old) }
     {
-        let alloc = self.kinds.allocator();
-        let claims = self.claims.as_slice();
-        let Some(change) = found(alloc, claims, conf, up, store.as_slice(), changed)? else {
+        if !self.is_whole {
+            return self.make_anew(conf, up, store);
+        }
+        let patch = patch_of(self.view.as_slice(), conf, up, store.as_slice(), changed)?;
+        let Some(anew) = patch else {
             return self.make_anew(conf, up, store);
         };
-        let Some(claim) = change else {
-            return Ok(false);
-        };
-        let place = place_in(claims, &claim.system);
-        let anew = nodes_anew(alloc, claims, self.view.as_slice(), place, &claim)?;
         let are_same = are_present(self.view.as_slice(), anew.as_slice());
         turn(&mut self.view, anew);
-        self.claims[place] = claim;
+        self.others = Others::heard(conf, store);
         Ok(!are_same)
     }
 

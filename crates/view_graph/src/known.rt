@@ -9,7 +9,6 @@ ghost use Rattle.wire_base.specs.model.View.{all_ranges, first_each, known_subs}
 ghost use Rattle.view_graph.specs.Owners.{owner_at, is_several};
 ghost use Rattle.view_graph.specs.Places.{has_sd};
 
-use crate::claims::Claim;
 use crate::owners::is_several;
 use bier_subtlv::overlaps;
 use std::alloc::Global;
@@ -125,13 +124,32 @@ pub(crate) fn known_subs(kinds: &[SubKind], subs: Rows<ViewSub>) -> M<Rows<ViewS
 
 /// The places of a system whose prefix is no other system's, by the systems that have the prefixes.
 pub(crate) fn alone_subs(
+    owners: &BTreeMap<Ipv4, Option<SystemId>>,
+    subs: Rows<ViewSub>,
+) -> M<Rows<ViewSub>>
+    ensures { IfOk result (λ kept. kept ≡ filter (λ s. not (is_several (owner_at owners.now s.prefix))) subs) }
+{
+    if any_several(owners, subs.as_slice()) {
+        alone_copies(subs.allocator(), owners, subs.as_slice())
+    } else {
+        Ok(subs)
+    }
+}
+
+/// Whether one of those prefixes is one of several systems.
+pub(crate) fn any_several(owners: &BTreeMap<Ipv4, Option<SystemId>>, subs: &[ViewSub]) -> bool
+    ensures { result ≡ list_any (λ s. is_several (owner_at owners.now s.prefix)) subs.now }
+{
+    subs.iter().any(|sub| is_several(owners, &sub.prefix))
+}
+
+fn alone_copies(
     alloc: Global,
     owners: &BTreeMap<Ipv4, Option<SystemId>>,
-    claim: &Claim,
+    subs: &[ViewSub],
 ) -> M<Rows<ViewSub>>
-    ensures { IfOk result (λ kept. kept ≡ filter (λ s. not (is_several (owner_at owners.now s.prefix))) claim.now.subs) }
+    ensures { IfOk result (λ kept. kept ≡ filter (λ s. not (is_several (owner_at owners.now s.prefix))) subs.now) }
 {
-    let subs = claim.subs.as_slice();
     let mut kept = Vec::with_capacity(alloc, subs.len())?;
     'subs: for sub in subs {
         if !is_several(owners, &sub.prefix) {

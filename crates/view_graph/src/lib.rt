@@ -4,6 +4,7 @@
 //! It stands on `lsp_store` and the codecs, and promises the view of every database, which is a graph.
 #![tactic(auto)]
 
+mod changes;
 mod claims;
 mod edges;
 mod heard;
@@ -11,12 +12,14 @@ mod keep;
 mod known;
 mod links;
 mod nodes;
+mod others;
 mod owners;
 mod patch;
 mod places;
 mod remade;
 mod renewal;
 mod same;
+mod seats;
 
 pub use keep::ViewKeep;
 pub use nodes::{supports, view};

@@ -1,56 +1,73 @@
 //! The view: a node for each system.
-ghost use Rattle.std.specs.Prelude.{◌≡◌, ◌≤◌, ◌<◌, map, length, slice_get, Some, IfOk};
+ghost use Rattle.std.specs.Prelude.{◌≡◌, ◌≤◌, ◌<◌, List, map, length, slice_get, Some, true, IfOk};
+ghost use Rattle.std.specs.List.{list_any};
 ghost use Rattle.wire_base.specs.model.View.{Claim as ClaimItem, node_of, nodes_of, view_of};
 ghost use Rattle.wire_base.specs.model.Configuration.{IsSound};
 ghost use Rattle.wire_base.specs.model.Control.{IsDatabase};
 ghost use Rattle.wire_base.specs.model.Graph.{IsGraph, covers};
 ghost use Rattle.view_graph.specs.Edges.{AreInOrder, half_edges_of};
-ghost use Rattle.view_graph.specs.Owners.{AreOwners, prefixes_of};
+ghost use Rattle.view_graph.specs.Owners.{AreOwners, is_several, owner_at, prefixes_of};
 
 use crate::claims::{Claim, claims_of};
 use crate::edges::{all_half_edges, whole_edges};
-use crate::known::alone_subs;
+use crate::known::{alone_subs, any_several};
 use crate::owners::owners_of;
 use lsp_store::Store;
 use std::alloc::Global;
 use std::collections::BTreeMap;
 use wire_base::{Entry, Ipv4, M, RouterConf, Rows, SystemId, Triple, View, ViewEdge, ViewNode};
 
-/// The node of the system at a place.
+/// The node of a system, by its claim and its place.
 fn node_of(
     alloc: Global,
-    claims: &[Claim],
     halves: &[Rows<ViewEdge>],
     owners: &BTreeMap<Ipv4, Option<SystemId>>,
     place: usize,
+    claim: Claim,
 ) -> M<ViewNode>
-    requires within { place < length claims.now }
-    requires few { length claims.now ≤ 65536 }
-    requires halves { halves.now ≡ map (half_edges_of claims.now) claims.now }
-    requires owners { AreOwners (prefixes_of claims.now) owners.now }
-    ensures { IfOk result (λ n. (c : ClaimItem) → slice_get claims.now place ≡ Some c → n ≡ node_of claims.now c) }
+    requires few { place < 65536 }
+    ensures { IfOk result (λ n. (claims : List ClaimItem) → halves.now ≡ map (half_edges_of claims) claims → AreOwners (prefixes_of claims) owners.now → slice_get claims place ≡ Some claim → n ≡ node_of claims claim) }
 {
-    let claim = &claims[place];
+    let edges = whole_edges(alloc, halves, place as u16)?;
+    let Claim {
+        system,
+        overload,
+        links: _links,
+        subs,
+    } = claim;
     Ok(ViewNode {
-        system: claim.system,
-        overload: claim.overload,
-        edges: whole_edges(alloc, halves, place as u16)?,
-        subs: alone_subs(alloc, owners, claim)?,
+        system,
+        overload,
+        edges,
+        subs: alone_subs(owners, subs)?,
     })
 }
 
-pub(crate) fn nodes_of(alloc: Global, claims: &[Claim]) -> M<Rows<ViewNode>>
-    requires order { AreInOrder claims.now }
-    requires few { length claims.now ≤ 65536 }
-    ensures { IfOk result (λ nodes. nodes ≡ nodes_of claims.now) }
+/// Whether one of their prefixes is one of several systems.
+fn any_shared(owners: &BTreeMap<Ipv4, Option<SystemId>>, claims: &[Claim]) -> bool
+    ensures { result ≡ list_any (λ c. list_any (λ s. is_several (owner_at owners.now s.prefix)) c.subs) claims.now }
 {
-    let halves = all_half_edges(alloc, claims)?;
-    let owners = owners_of(alloc, claims)?;
+    claims
+        .iter()
+        .any(|claim| any_several(owners, claim.subs.as_slice()))
+}
+
+/// The nodes, and whether each has all places in subdomains that its system tells.
+pub(crate) fn nodes_of(alloc: Global, claims: Vec<Claim>) -> M<(Rows<ViewNode>, bool)>
+    requires order { AreInOrder claims.items }
+    requires few { length claims.items ≤ 65536 }
+    ensures nodes { IfOk result (λ made. made.0 ≡ nodes_of claims.items) }
+    ensures whole { IfOk result (λ made. made.1 ≡ true → map (λ n. n.subs) (nodes_of claims.items) ≡ map (λ c. c.subs) claims.items) }
+{
+    let halves = all_half_edges(alloc, claims.as_slice())?;
+    let owners = owners_of(alloc, claims.as_slice())?;
+    let is_whole = !any_shared(&owners, claims.as_slice());
     let mut nodes = Vec::with_capacity(alloc, claims.len())?;
-    'systems: for place in 0..claims.len() {
-        nodes.push(node_of(alloc, claims, halves.as_slice(), &owners, place)?)?;
+    'systems: for claim in claims {
+        let place = nodes.len();
+        nodes.push(node_of(alloc, halves.as_slice(), &owners, place, claim)?)?;
     }
-    Ok(Rows::from_vec(nodes))
+    Ok((Rows::from_vec(nodes), is_whole))
 }
 
 #[tactic(auto, unfolding(wire_base::specs::model::View::view_of), using(crate::proofs::GraphLaws::claims_in_order, crate::proofs::GraphLaws::few_claims))]
@@ -60,7 +77,8 @@ fn viewed(alloc: Global, conf: &RouterConf, up: &[bool], entries: &[Entry]) -> M
     ensures { IfOk result (λ nodes. nodes ≡ view_of conf.now up.now entries.now) }
 {
     let claims = claims_of(alloc, conf, up, entries)?;
-    nodes_of(alloc, claims.as_slice())
+    let (nodes, _is_whole) = nodes_of(alloc, claims)?;
+    Ok(nodes)
 }
 
 /// The view of a router: by its configuration, which of its ends are up, one truth value for each end, and its database

@@ -1,6 +1,6 @@
 use Rattle.std.proofs.Common.{is_some, ap, ◌∙◌}
 use Rattle.wire_base.specs.model.View.{Claim, metric_to}
-use Rattle.view_graph.proofs.RemadeLaws.{lists_any}
+use Rattle.view_graph.proofs.AnewLaws.{lists_any}
 use Rattle.view_graph.proofs.remade.lists.Goals as goal
 
 pub returns : goal.returns

@@ -1,61 +1,56 @@
-use Rattle.std.proofs.Common.{◌≡◌, ◌↔◌, ◌∷◌, not, false, List, Decides, set, Option, Some, sym, ap, subst, ◌∙◌, arith}
+use Rattle.std.proofs.Common.{◌≡◌, ◌↔◌, ◌∷◌, not, false, List, Vec, Global, Decides, Option, IfSome, refl, sym, ap, subst, ◌∙◌}
 use Rattle.std.specs.List.{AllByRecursion}
+use Rattle.wire_base.specs.declared.entry.Entry.{Entry}
 use Rattle.wire_base.specs.declared.view.ViewNode.{ViewNode}
-use Rattle.wire_base.specs.model.Control.{IsDatabase}
-use Rattle.wire_base.specs.model.View.{Claim, nodes_of}
+use Rattle.wire_base.specs.model.Control.{AreAscending, IsDatabase, ids_of}
+use Rattle.wire_base.specs.model.View.{nodes_of}
 use Rattle.view_graph.specs.declared.patch.NewNode.{NewNode}
-use Rattle.view_graph.specs.Edges.{place_in}
+use Rattle.view_graph.specs.Edges.{AreInOrder}
 use Rattle.view_graph.specs.Keep.{Keep}
-use Rattle.view_graph.specs.Renewal.{IsAt, put_all, said_now}
-use Rattle.view_graph.proofs.AnewLaws.{turned_answer, turning_seen}
-use Rattle.view_graph.proofs.RenewalLaws.{kept_claims, renewed_claims, found_within, nodes_now, others_now, kept_now}
+use Rattle.view_graph.specs.Renewal.{IsAt, IsPatch, put_all, said_now, seats}
+use Rattle.view_graph.proofs.AnewLaws.{turned_answer}
+use Rattle.view_graph.proofs.PatchLaws.{seats_order}
+use Rattle.view_graph.proofs.RenewalLaws.{base_now, claims_now, kept_now, nodes_now, turned_now}
 use Rattle.view_graph.proofs.ViewLaws.{made_graph}
 use Rattle.view_graph.proofs.keep.ViewKeep.renew.Goals as goal
 
-pub returns-in_default-change-clause-exact : goal.returns-in_default-change-clause-exact
-returns-in_default-change-clause-exact c =
-    let all = kept_claims c.args.self.now c.args.conf.now c.args.up.now c.args.store.now.entries c.as_slice.result.now c.self.inside.system c.self.inside.kinds c.self.inside.claims.items c.as_slice-claims.result.now c.self.inside.view.nodes c.args.changed.now c.in_ok-change.field-0 c.self.view_is c.requires.system c.requires.kinds c.requires.unchanged c.as_slice.ensures.database c.self.invariant.in_order c.as_slice-claims.ensures.value c.as_slice.ensures.entries c.in_ok-change.ensures (c.in-Some.is ∙ ap (λ (o : Option Claim). Some o) c.in_default-change.is) in
-    sym (ap (λ (x : Keep). x.nodes) c.self.view_is) ∙ nodes_now c.args.conf.now c.args.up.now c.args.store.now.entries c.self.inside.claims.items c.self.inside.view.nodes all c.self.invariant.made
-
-pub returns-in_default-change-clause-heard : goal.returns-in_default-change-clause-heard
-returns-in_default-change-clause-heard c =
-    let all = kept_claims c.args.self.now c.args.conf.now c.args.up.now c.args.store.now.entries c.as_slice.result.now c.self.inside.system c.self.inside.kinds c.self.inside.claims.items c.as_slice-claims.result.now c.self.inside.view.nodes c.args.changed.now c.in_ok-change.field-0 c.self.view_is c.requires.system c.requires.kinds c.requires.unchanged c.as_slice.ensures.database c.self.invariant.in_order c.as_slice-claims.ensures.value c.as_slice.ensures.entries c.in_ok-change.ensures (c.in-Some.is ∙ ap (λ (o : Option Claim). Some o) c.in_default-change.is) in
-    sym (ap (λ (x : Keep). x.others) c.self.view_is) ∙ others_now c.args.conf.now c.args.up.now c.args.store.now.entries c.self.inside.claims.items c.self.inside.system all (ap (λ (x : Keep). x.system) c.self.view_is ∙ sym c.requires.system)
-
-pub nodes_anew-requires-clause-within : goal.nodes_anew-requires-clause-within
-nodes_anew-requires-clause-within c = found_within c.as_slice-claims.result.now (said_now c.args.conf.now c.args.up.now c.as_slice.result.now) (c.args.conf.now.system ∷ c.args.changed.now) c.in_ok-change.field-0 c.in-Some-change.claim c.place_in-place.result c.in_ok-change.ensures (c.in-Some.is ∙ ap (λ (o : Option Claim). Some o) c.in-Some-change.is) (c.place_in-place.ensures ∙ ap (λ (x : Claim). place_in x.system c.as_slice-claims.result.now) c.claim.view_is)
+pub patch_of-requires-clause-order : goal.patch_of-requires-clause-order
+patch_of-requires-clause-order c = subst (λ (ns : List ViewNode). AreInOrder (seats ns)) (sym c.as_slice.ensures.nodes) (seats_order c.self.invariant.claims c.self.inside.view.nodes c.self.invariant.made c.self.invariant.in_order)
 
 pub turn-requires-clause-within : goal.turn-requires-clause-within
-turn-requires-clause-within c = (turning_seen c.self.inside.claims.items c.as_slice-claims.result.now c.self.inside.view.nodes c.as_slice-2.result.now c.place_in-place.result c.in-Some-change.claim c.in_ok-anew.anew.items c.as_slice-claims.ensures.value c.as_slice-2.ensures.nodes c.in_ok-anew.ensures).within
+turn-requires-clause-within c =
+    let base = base_now c.args.self.now c.args.conf.now c.args.up.now c.args.store.now.entries c.self.inside.system c.self.inside.kinds c.self.inside.others.claims c.self.inside.is_whole c.self.inside.view.nodes c.args.changed.now c.self.view_is c.requires.system c.requires.kinds c.requires.unchanged (subst (λ (l : List Entry). AreAscending (ids_of l)) c.as_slice-2.ensures.entries c.as_slice-2.ensures.database.in_order) c.if-not-self.false c.self.invariant in
+    let patch = subst (λ (o : Option (Vec NewNode Global)). IfSome o (λ v. IsPatch (said_now c.args.conf.now c.args.up.now c.as_slice-2.result.now) c.as_slice.result.now (c.args.conf.now.system ∷ c.args.changed.now) v.items)) c.in-Some.is c.in_ok-patch.ensures in
+    let turned = turned_now c.args.conf.now c.args.up.now c.args.store.now.entries c.as_slice-2.result.now c.self.invariant.claims c.self.inside.view.nodes c.as_slice.result.now (c.args.conf.now.system ∷ c.args.changed.now) c.in-Some.anew.items base c.as_slice-2.ensures.entries c.as_slice.ensures.nodes patch in
+    turned.within
 
 pub turn-requires-clause-graph : goal.turn-requires-clause-graph
 turn-requires-clause-graph c =
-    let all = renewed_claims c.args.self.now c.args.conf.now c.args.up.now c.args.store.now.entries c.as_slice.result.now c.self.inside.system c.self.inside.kinds c.self.inside.claims.items c.as_slice-claims.result.now c.self.inside.view.nodes c.args.changed.now c.in_ok-change.field-0 c.in-Some-change.claim c.place_in-place.result c.self.view_is c.requires.system c.requires.kinds c.requires.unchanged c.as_slice.ensures.database c.self.invariant.in_order c.as_slice-claims.ensures.value c.as_slice.ensures.entries c.in_ok-change.ensures (c.in-Some.is ∙ ap (λ (o : Option Claim). Some o) c.in-Some-change.is) (c.place_in-place.ensures ∙ ap (λ (x : Claim). place_in x.system c.as_slice-claims.result.now) c.claim.view_is) in
-    made_graph c.args.conf.now c.args.up.now c.args.store.now.entries (set c.self.inside.claims.items c.place_in-place.result c.in-Some-change.claim) (put_all c.in_ok-anew.anew.items c.self.inside.view.nodes) c.requires.sound (subst IsDatabase c.as_slice.ensures.entries c.as_slice.ensures.database) all (turning_seen c.self.inside.claims.items c.as_slice-claims.result.now c.self.inside.view.nodes c.as_slice-2.result.now c.place_in-place.result c.in-Some-change.claim c.in_ok-anew.anew.items c.as_slice-claims.ensures.value c.as_slice-2.ensures.nodes c.in_ok-anew.ensures).turned
-
-pub index_mut-requires : goal.index_mut-requires
-index_mut-requires c =
-    let within = found_within c.as_slice-claims.result.now (said_now c.args.conf.now c.args.up.now c.as_slice.result.now) (c.args.conf.now.system ∷ c.args.changed.now) c.in_ok-change.field-0 c.in-Some-change.claim c.place_in-place.result c.in_ok-change.ensures (c.in-Some.is ∙ ap (λ (o : Option Claim). Some o) c.in-Some-change.is) (c.place_in-place.ensures ∙ ap (λ (x : Claim). place_in x.system c.as_slice-claims.result.now) c.claim.view_is) in
-    omega (arith, within, c.as_slice-claims.ensures.len)
+    let base = base_now c.args.self.now c.args.conf.now c.args.up.now c.args.store.now.entries c.self.inside.system c.self.inside.kinds c.self.inside.others.claims c.self.inside.is_whole c.self.inside.view.nodes c.args.changed.now c.self.view_is c.requires.system c.requires.kinds c.requires.unchanged (subst (λ (l : List Entry). AreAscending (ids_of l)) c.as_slice-2.ensures.entries c.as_slice-2.ensures.database.in_order) c.if-not-self.false c.self.invariant in
+    let patch = subst (λ (o : Option (Vec NewNode Global)). IfSome o (λ v. IsPatch (said_now c.args.conf.now c.args.up.now c.as_slice-2.result.now) c.as_slice.result.now (c.args.conf.now.system ∷ c.args.changed.now) v.items)) c.in-Some.is c.in_ok-patch.ensures in
+    let turned = turned_now c.args.conf.now c.args.up.now c.args.store.now.entries c.as_slice-2.result.now c.self.invariant.claims c.self.inside.view.nodes c.as_slice.result.now (c.args.conf.now.system ∷ c.args.changed.now) c.in-Some.anew.items base c.as_slice-2.ensures.entries c.as_slice.ensures.nodes patch in
+    made_graph c.args.conf.now c.args.up.now c.args.store.now.entries (claims_now c.args.conf.now c.args.up.now c.args.store.now.entries) (put_all c.in-Some.anew.items c.self.inside.view.nodes) c.requires.sound (subst IsDatabase c.as_slice-2.ensures.entries c.as_slice-2.ensures.database) refl turned.turned
 
 pub invariant_of-self : goal.invariant_of-self
 invariant_of-self c =
-    let all = renewed_claims c.args.self.now c.args.conf.now c.args.up.now c.args.store.now.entries c.as_slice.result.now c.self.inside.system c.self.inside.kinds c.self.inside.claims.items c.as_slice-claims.result.now c.self.inside.view.nodes c.args.changed.now c.in_ok-change.field-0 c.in-Some-change.claim c.place_in-place.result c.self.view_is c.requires.system c.requires.kinds c.requires.unchanged c.as_slice.ensures.database c.self.invariant.in_order c.as_slice-claims.ensures.value c.as_slice.ensures.entries c.in_ok-change.ensures (c.in-Some.is ∙ ap (λ (o : Option Claim). Some o) c.in-Some-change.is) (c.place_in-place.ensures ∙ ap (λ (x : Claim). place_in x.system c.as_slice-claims.result.now) c.claim.view_is) in
-    kept_now c.args.conf.now c.args.up.now c.args.store.now.entries c.as_slice.result.now (set c.self.inside.claims.items c.place_in-place.result c.in-Some-change.claim) c.turn.new.view.nodes c.as_slice.ensures.database c.as_slice.ensures.entries all (c.turn.ensures ∙ (turning_seen c.self.inside.claims.items c.as_slice-claims.result.now c.self.inside.view.nodes c.as_slice-2.result.now c.place_in-place.result c.in-Some-change.claim c.in_ok-anew.anew.items c.as_slice-claims.ensures.value c.as_slice-2.ensures.nodes c.in_ok-anew.ensures).turned)
+    let base = base_now c.args.self.now c.args.conf.now c.args.up.now c.args.store.now.entries c.self.inside.system c.self.inside.kinds c.self.inside.others.claims c.self.inside.is_whole c.self.inside.view.nodes c.args.changed.now c.self.view_is c.requires.system c.requires.kinds c.requires.unchanged (subst (λ (l : List Entry). AreAscending (ids_of l)) c.as_slice-2.ensures.entries c.as_slice-2.ensures.database.in_order) c.if-not-self.false c.self.invariant in
+    let patch = subst (λ (o : Option (Vec NewNode Global)). IfSome o (λ v. IsPatch (said_now c.args.conf.now c.args.up.now c.as_slice-2.result.now) c.as_slice.result.now (c.args.conf.now.system ∷ c.args.changed.now) v.items)) c.in-Some.is c.in_ok-patch.ensures in
+    kept_now c.args.conf.now c.args.up.now c.args.store.now.entries c.as_slice-2.result.now c.self.inside.system c.heard-self-inside.result.claims c.self.inside.is_whole c.self.invariant.claims c.self.inside.view.nodes c.as_slice.result.now c.turn.new.view.nodes (c.args.conf.now.system ∷ c.args.changed.now) c.in-Some.anew.items base c.as_slice-2.ensures.entries c.as_slice.ensures.nodes patch c.as_slice-2.ensures.database
+    (ap (λ (k : Keep). k.system) c.self.view_is ∙ sym c.requires.system) c.heard-self-inside.ensures c.turn.ensures
 
 pub returns-clause-exact : goal.returns-clause-exact
 returns-clause-exact c =
-    let all = renewed_claims c.args.self.now c.args.conf.now c.args.up.now c.args.store.now.entries c.as_slice.result.now c.self.inside.system c.self.inside.kinds c.self.inside.claims.items c.as_slice-claims.result.now c.self.inside.view.nodes c.args.changed.now c.in_ok-change.field-0 c.in-Some-change.claim c.place_in-place.result c.self.view_is c.requires.system c.requires.kinds c.requires.unchanged c.as_slice.ensures.database c.self.invariant.in_order c.as_slice-claims.ensures.value c.as_slice.ensures.entries c.in_ok-change.ensures (c.in-Some.is ∙ ap (λ (o : Option Claim). Some o) c.in-Some-change.is) (c.place_in-place.ensures ∙ ap (λ (x : Claim). place_in x.system c.as_slice-claims.result.now) c.claim.view_is) in
-    nodes_now c.args.conf.now c.args.up.now c.args.store.now.entries (set c.self.inside.claims.items c.place_in-place.result c.in-Some-change.claim) c.turn.new.view.nodes all (c.turn.ensures ∙ (turning_seen c.self.inside.claims.items c.as_slice-claims.result.now c.self.inside.view.nodes c.as_slice-2.result.now c.place_in-place.result c.in-Some-change.claim c.in_ok-anew.anew.items c.as_slice-claims.ensures.value c.as_slice-2.ensures.nodes c.in_ok-anew.ensures).turned)
-
-pub returns-clause-heard : goal.returns-clause-heard
-returns-clause-heard c =
-    let all = renewed_claims c.args.self.now c.args.conf.now c.args.up.now c.args.store.now.entries c.as_slice.result.now c.self.inside.system c.self.inside.kinds c.self.inside.claims.items c.as_slice-claims.result.now c.self.inside.view.nodes c.args.changed.now c.in_ok-change.field-0 c.in-Some-change.claim c.place_in-place.result c.self.view_is c.requires.system c.requires.kinds c.requires.unchanged c.as_slice.ensures.database c.self.invariant.in_order c.as_slice-claims.ensures.value c.as_slice.ensures.entries c.in_ok-change.ensures (c.in-Some.is ∙ ap (λ (o : Option Claim). Some o) c.in-Some-change.is) (c.place_in-place.ensures ∙ ap (λ (x : Claim). place_in x.system c.as_slice-claims.result.now) c.claim.view_is) in
-    others_now c.args.conf.now c.args.up.now c.args.store.now.entries (set c.self.inside.claims.items c.place_in-place.result c.in-Some-change.claim) c.self.inside.system all (ap (λ (x : Keep). x.system) c.self.view_is ∙ sym c.requires.system)
+    let base = base_now c.args.self.now c.args.conf.now c.args.up.now c.args.store.now.entries c.self.inside.system c.self.inside.kinds c.self.inside.others.claims c.self.inside.is_whole c.self.inside.view.nodes c.args.changed.now c.self.view_is c.requires.system c.requires.kinds c.requires.unchanged (subst (λ (l : List Entry). AreAscending (ids_of l)) c.as_slice-2.ensures.entries c.as_slice-2.ensures.database.in_order) c.if-not-self.false c.self.invariant in
+    let patch = subst (λ (o : Option (Vec NewNode Global)). IfSome o (λ v. IsPatch (said_now c.args.conf.now c.args.up.now c.as_slice-2.result.now) c.as_slice.result.now (c.args.conf.now.system ∷ c.args.changed.now) v.items)) c.in-Some.is c.in_ok-patch.ensures in
+    let turned = turned_now c.args.conf.now c.args.up.now c.args.store.now.entries c.as_slice-2.result.now c.self.invariant.claims c.self.inside.view.nodes c.as_slice.result.now (c.args.conf.now.system ∷ c.args.changed.now) c.in-Some.anew.items base c.as_slice-2.ensures.entries c.as_slice.ensures.nodes patch in
+    nodes_now c.args.conf.now c.args.up.now c.args.store.now.entries c.turn.new.view.nodes (c.turn.ensures ∙ turned.turned)
 
 pub returns-clause-answer : goal.returns-clause-answer
 returns-clause-answer c =
+    let base = base_now c.args.self.now c.args.conf.now c.args.up.now c.args.store.now.entries c.self.inside.system c.self.inside.kinds c.self.inside.others.claims c.self.inside.is_whole c.self.inside.view.nodes c.args.changed.now c.self.view_is c.requires.system c.requires.kinds c.requires.unchanged (subst (λ (l : List Entry). AreAscending (ids_of l)) c.as_slice-2.ensures.entries c.as_slice-2.ensures.database.in_order) c.if-not-self.false c.self.invariant in
+    let patch = subst (λ (o : Option (Vec NewNode Global)). IfSome o (λ v. IsPatch (said_now c.args.conf.now c.args.up.now c.as_slice-2.result.now) c.as_slice.result.now (c.args.conf.now.system ∷ c.args.changed.now) v.items)) c.in-Some.is c.in_ok-patch.ensures in
+    let turned = turned_now c.args.conf.now c.args.up.now c.args.store.now.entries c.as_slice-2.result.now c.self.invariant.claims c.self.inside.view.nodes c.as_slice.result.now (c.args.conf.now.system ∷ c.args.changed.now) c.in-Some.anew.items base c.as_slice-2.ensures.entries c.as_slice.ensures.nodes patch in
     let seen = subst (λ (ns : List ViewNode). Decides c.are_present-are_same.result (AllByRecursion (IsAt ns) c.as_slice-4.result.now)) c.as_slice-3.ensures.nodes c.are_present-are_same.ensures in
     let decided = subst (λ (ns : List NewNode). Decides c.are_present-are_same.result (AllByRecursion (IsAt c.self.inside.view.nodes) ns)) c.as_slice-4.ensures.value seen in
-    subst (λ (ns : List ViewNode). (not c.are_present-are_same.result ≡ false) ↔ (c.turn.new.view.nodes ≡ ns)) (ap (λ (x : Keep). x.nodes) c.self.view_is)
-    (turned_answer c.self.inside.view.nodes (nodes_of (set c.self.inside.claims.items c.place_in-place.result c.in-Some-change.claim)) c.turn.new.view.nodes c.in_ok-anew.anew.items c.are_present-are_same.result (turning_seen c.self.inside.claims.items c.as_slice-claims.result.now c.self.inside.view.nodes c.as_slice-2.result.now c.place_in-place.result c.in-Some-change.claim c.in_ok-anew.anew.items c.as_slice-claims.ensures.value c.as_slice-2.ensures.nodes c.in_ok-anew.ensures) decided c.turn.ensures)
+    subst (λ (ns : List ViewNode). (not c.are_present-are_same.result ≡ false) ↔ (c.turn.new.view.nodes ≡ ns)) (ap (λ (k : Keep). k.nodes) c.self.view_is)
+    (turned_answer c.self.inside.view.nodes (nodes_of (claims_now c.args.conf.now c.args.up.now c.args.store.now.entries)) c.turn.new.view.nodes c.in-Some.anew.items c.are_present-are_same.result turned decided c.turn.ensures)
