@@ -1,15 +1,12 @@
 -- Nodes made anew, in the place of the present ones; and where a claim stands.
 use mathlib.Core.Bool.{true≢false}
-use Rattle.std.proofs.Common.{◌≡◌, ℕ, zero, suc, ◌+◌, ◌<◌, ◌==◌, ◌||◌, ◌↔◌, not, Bool, true, false, List, [], ◌∷◌, ◌++◌, length, length-set, get_or, set, take, Option, Some, None, is_some, option_map, slice_get, Decides, refl, sym, ap, subst, ◌∙◌, arith}
+use Rattle.std.proofs.Common.{◌≡◌, ℕ, zero, suc, ◌<◌, ◌==◌, ◌||◌, ◌↔◌, not, Bool, true, false, List, [], ◌∷◌, length, length-set, set, Some, None, is_some, slice_get, Decides, refl, sym, ap, subst, ◌∙◌, arith}
 use Rattle.std.specs.declared.cmp.Ordering.{Ordering}
 use Rattle.std.specs.declared.cmp.Ordering.TheVariants.{Less, Equal, Greater}
 use Rattle.std.specs.Ordering.{is_eq, is_gt, match_ordering}
 use Rattle.std.specs.List.{list_any, AllByRecursion}
-use Rattle.std.proofs.Math.Seq.{take-suc}
 use Rattle.std.proofs.lemmas.Bool.{eqb-true, eq-eqb}
-use Rattle.std.proofs.lemmas.List.{append_assoc, length-map}
-use Rattle.std.proofs.lemmas.List.Folds.{list_any-append}
-use Rattle.std.proofs.lemmas.Option.{get_or_from_slice_get, slice_get-map, slice_get_within}
+use Rattle.std.proofs.lemmas.Option.{get_or_from_slice_get, slice_get_within}
 use Rattle.std.proofs.lemmas.Slice.Eq.{bytes_eq-Decides}
 use Rattle.format_laws.proofs.TlvLaws.{some_is}
 use Rattle.wire_base.specs.declared.addresses.SystemId.{SystemId}
@@ -17,22 +14,15 @@ use Rattle.wire_base.specs.declared.view.ViewNode.{ViewNode}
 use Rattle.wire_base.specs.model.Control.{same_system, system_order}
 use Rattle.wire_base.specs.model.View.{Claim, Link, metric_to}
 use Rattle.view_graph.specs.declared.patch.NewNode.{NewNode}
-use Rattle.view_graph.specs.Edges.{is_before, AreInOrder, place_in, stands_at}
+use Rattle.view_graph.specs.Edges.{is_before, AreInOrder, place_in}
 use Rattle.view_graph.specs.Renewal.{AreTurning, IsAt, is_made, put_all}
-use Rattle.view_graph.proofs.EdgeLaws.{all_read, stands_read}
-use Rattle.view_graph.proofs.FragmentLaws.{same_is}
-use Rattle.view_graph.proofs.GraphLaws.{all_weaker}
+use Rattle.view_graph.proofs.EdgeLaws.{all_read}
 use Rattle.view_graph.proofs.SystemLaws.{above_from_before, gt_is, tie_is_same}
 
 -- ---- lists by their elements
 
 none_some : {X : Type 0} (x : X) → None ≡ Some x → ⊥
 none_some x e = absurd cc
-
-none_past : {X : Type 0} (xs : List X) (i : ℕ) → i < length xs → slice_get xs i ≡ None → ⊥
-none_past [] i lt h = absurd (omega (arith, lt))
-none_past (x ∷ xs) zero lt h = none_some x (sym h)
-none_past (x ∷ xs) (suc i) lt h = none_past xs i (omega (arith, lt)) h
 
 pub same_by_get : {X : Type 0} (xs ys : List X) → ((i : ℕ) → slice_get xs i ≡ slice_get ys i) → xs ≡ ys
 same_by_get [] [] h = refl

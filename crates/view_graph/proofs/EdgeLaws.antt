@@ -221,7 +221,7 @@ half_leads p (suc i) (Some n ∷ ms) =
     let e : p + suc i ≡ (p + 1) + i = omega arith in
     rw (apart p (p + suc i) (λ e. omega (arith, e))) (ap (λ q. leads_to q (half_edges (p + 1) ms)) e ∙ half_leads (p + 1) i ms)
 
-from_start : (i : ℕ) (ms : List (Option ℕ)) → leads_to i (half_edges 0 ms) ≡ is_some (get_or ms i None)
+pub from_start : (i : ℕ) (ms : List (Option ℕ)) → leads_to i (half_edges 0 ms) ≡ is_some (get_or ms i None)
 from_start i ms = let e : i ≡ 0 + i = omega arith in ap (λ q. leads_to q (half_edges 0 ms)) e ∙ half_leads 0 i ms
 
 -- the edges are those of one end that pass where the system at the other end lists this one

@@ -1,9 +1,9 @@
 -- What a system says in a database, and what is kept of it.
-use mathlib.Core.Bool.{false≢true, true≢false}
+use mathlib.Core.Bool.{true≢false}
 use Rattle.std.proofs.Common.{◌≡◌, ℕ, zero, suc, ◌+◌, ◌<◌, ◌≤◌, ◌==◌, ◌&&◌, ◌||◌, nat_lt, Bool, true, false, List, [], ◌∷◌, ◌++◌, length, get_or, take, drop, map, filter, Some, None, slice_get, refl, sym, ap, subst, ◌∙◌, arith}
 use Rattle.std.specs.declared.cmp.Ordering.{Ordering}
 use Rattle.std.specs.declared.cmp.Ordering.TheVariants.{Less, Equal, Greater}
-use Rattle.std.specs.Ordering.{is_eq, is_lt, is_gt, match_ordering}
+use Rattle.std.specs.Ordering.{is_lt, is_gt, match_ordering}
 use Rattle.std.specs.List.{AllByRecursion}
 use Rattle.std.proofs.Math.Seq.{take-suc}
 use Rattle.std.proofs.lemmas.List.{take_all}
@@ -14,16 +14,13 @@ use Rattle.wire_base.specs.declared.addresses.SystemId.{SystemId}
 use Rattle.wire_base.specs.declared.addresses.LspId.{LspId}
 use Rattle.wire_base.specs.declared.conf.SubKind.{SubKind}
 use Rattle.wire_base.specs.declared.entry.Entry.{Entry}
-use Rattle.wire_base.specs.model.Control.{same_id, same_system, system_order, id_order, is_below, fragment_0, AreAscending, ids_of}
+use Rattle.wire_base.specs.model.Control.{same_id, same_system, id_order, is_below, fragment_0, AreAscending, ids_of}
 use Rattle.wire_base.specs.model.View.{Claim, claim_of, is_other, with_known}
 use Rattle.lsp_store.specs.Places.{place_in as id_place}
 use Rattle.lsp_store.proofs.OrderLaws.{id_total, below_trans, below_differs, above_differs as above_differs_id, same_turned as same_turned_id}
-use Rattle.view_graph.specs.Edges.{AreInOrder, place_in, stands_at}
 use Rattle.view_graph.specs.Keep.{Keep, IsUnchanged, heard, said_by, said_in, is_first_of, is_named}
-use Rattle.view_graph.proofs.EdgeLaws.{below_all}
 use Rattle.view_graph.proofs.FragmentLaws.{same_is, claim_at}
 use Rattle.view_graph.proofs.GraphLaws.{all_weaker}
-use Rattle.view_graph.proofs.SystemLaws.{tie_is_same, above_differs, same_turned}
 
 -- ---- the first entry that passes
 
@@ -104,31 +101,6 @@ pub said_away : (kinds : List SubKind) (es : List Entry) (s : SystemId) (place :
 said_away kinds es s place x asc is lt at away =
     let none : filter (is_first_of s) es ≡ [] = none_there s es x asc (subst (λ n. n < length es) is lt) (at ∙ ap (λ n. get_or es n x) is) away in
     said_none kinds es s (length es) (omega arith) (ap (filter (is_first_of s)) (take_all (length es) es (omega arith)) ∙ none)
-
--- ---- the claim of a system by its place
-
-none_said : (s : SystemId) (cs : List Claim) → AllByRecursion (λ d. same_system s d.system ≡ false) cs → said_by cs s ≡ None
-none_said s [] all = refl
-none_said s (c ∷ cs) all = rw (same_turned c.system s ∙ all.0) (none_said s cs all.1)
-
-pub said_there : (cs : List Claim) (s : SystemId) (c : Claim) → AreInOrder cs → stands_at cs (place_in s cs) s ≡ true → c ≡ get_or cs (place_in s cs) c → said_by cs s ≡ Some c
-said_there [] s c asc stands at = absurd (false≢true stands)
-said_there (d ∷ ds) s c asc stands at = by (system_order s d.system) refl stands at (λ k a. said_there ds s c asc.1 k a)
-  where
-    by : (o : Ordering) → system_order s d.system ≡ o → stands_at (d ∷ ds) (match_ordering o 0 0 (suc (place_in s ds))) s ≡ true → c ≡ get_or (d ∷ ds) (match_ordering o 0 0 (suc (place_in s ds))) c
-        → (stands_at ds (place_in s ds) s ≡ true → c ≡ get_or ds (place_in s ds) c → said_by ds s ≡ Some c) → said_by (d ∷ ds) s ≡ Some c
-    by Less o k a more = rw (same_turned d.system s ∙ k) (ap (λ (x : Claim). Some x) (sym a))
-    by Equal o k a more = rw (same_turned d.system s ∙ k) (ap (λ (x : Claim). Some x) (sym a))
-    by Greater o k a more = rw (same_turned d.system s ∙ above_differs s d.system (ap is_gt o)) (more k a)
-
-pub said_not : (cs : List Claim) (s : SystemId) → AreInOrder cs → stands_at cs (place_in s cs) s ≡ false → said_by cs s ≡ None
-said_not [] s asc stands = refl
-said_not (d ∷ ds) s asc stands = by (system_order s d.system) refl stands (λ k. said_not ds s asc.1 k)
-  where
-    by : (o : Ordering) → system_order s d.system ≡ o → stands_at (d ∷ ds) (match_ordering o 0 0 (suc (place_in s ds))) s ≡ false → (stands_at ds (place_in s ds) s ≡ false → said_by ds s ≡ None) → said_by (d ∷ ds) s ≡ None
-    by Less o k more = rw (same_turned d.system s ∙ k) (none_said s ds (below_all s d.system ds (ap is_lt o) asc.0))
-    by Equal o k more = absurd (true≢false (sym (ap is_eq o) ∙ tie_is_same s d.system ∙ k))
-    by Greater o k more = rw (same_turned d.system s ∙ above_differs s d.system (ap is_gt o)) (more k)
 
 -- ---- named systems
 

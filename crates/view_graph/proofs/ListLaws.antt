@@ -175,12 +175,6 @@ later_left k cs rest c e = let one : k + 1 ≡ suc k = omega arith in by k cs e 
     by zero (x ∷ xs) e = ap later_of e
     by (suc k) (x ∷ xs) e = by k xs e
 
-pub left_within : (k : ℕ) (cs rest : List Claim) (c : Claim) → c ∷ rest ≡ drop k cs → k < length cs
-left_within zero [] rest c e = absurd cc
-left_within (suc k) [] rest c e = absurd cc
-left_within zero (x ∷ xs) rest c e = omega arith
-left_within (suc k) (x ∷ xs) rest c e = omega (arith, left_within k xs rest c e)
-
 -- the nodes so far and those of the claims that are left, one claim later
 pub record IsLeft (cs rest : List Claim) (nodes : List ViewNode) : Type 0 where
   pub made : nodes ++ map (node_of cs) rest ≡ nodes_of cs

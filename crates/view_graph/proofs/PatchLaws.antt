@@ -1,13 +1,11 @@
 -- Nodes made anew turn the nodes by what was said before into those by what is said now.
-use mathlib.Core.Bool.{true≢false}
 use Rattle.std.proofs.Common.{◌≡◌, ℕ, zero, suc, ◌+◌, ◌<◌, ◌==◌, ◌&&◌, ◌||◌, not, Bool, true, false, if◌then◌else◌, List, [], ◌∷◌, ◌++◌, length, map, filter, Option, Some, None, is_some, option_map, slice_get, refl, sym, ap, subst, ◌∙◌, arith}
 use Rattle.std.specs.Prelude.{option_to_list}
 use Rattle.std.specs.Ordering.{match_ordering}
-use Rattle.std.specs.List.{list_any, AllByRecursion}
+use Rattle.std.specs.List.{AllByRecursion}
 use Rattle.std.proofs.lemmas.Bool.{eqb-true, eq-eqb}
 use Rattle.std.proofs.lemmas.List.{length-map}
 use Rattle.std.proofs.lemmas.Option.{get_or_from_slice_get, slice_get-map, slice_get_within}
-use Rattle.std.proofs.lemmas.Slice.Eq.{bytes_eq-Decides}
 use Rattle.format_laws.proofs.TlvLaws.{some_is}
 use Rattle.wire_base.specs.declared.addresses.Ipv4.{Ipv4}
 use Rattle.wire_base.specs.declared.addresses.SystemId.{SystemId}
@@ -17,14 +15,14 @@ use Rattle.wire_base.specs.declared.view.ViewSub.{ViewSub}
 use Rattle.wire_base.specs.model.Control.{same_system, system_order}
 use Rattle.wire_base.specs.model.View.{Claim, Link, metric_to, lists, edge_to, edges_from, has_prefix, is_shared, own_subs, node_of, nodes_of}
 use Rattle.view_graph.specs.declared.patch.NewNode.{NewNode}
-use Rattle.view_graph.specs.Edges.{is_before, AreInOrder, place_in, stands_at, metrics_to, half_edges, leads_to}
+use Rattle.view_graph.specs.Edges.{is_before, AreInOrder, place_in, metrics_to, half_edges, leads_to}
 use Rattle.view_graph.specs.Keep.{is_named, said_by}
-use Rattle.view_graph.specs.Renewal.{seat, seats, has, AreNoted, IsNoted, is_listed_by, said_of, lists_at, edges_now, IsMade, IsPatch, is_made, IsAt, AreTurning}
-use Rattle.view_graph.proofs.EdgeLaws.{all_read, edges_whole, stands_read}
+use Rattle.view_graph.specs.Renewal.{seats, has, AreNoted, is_listed_by, said_of, lists_at, edges_now, halves_now, IsMade, IsPatch, is_made, IsAt, AreTurning}
+use Rattle.view_graph.proofs.EdgeLaws.{all_read, edges_whole, from_start, get_map}
 use Rattle.view_graph.proofs.FragmentLaws.{same_is}
 use Rattle.view_graph.proofs.GraphLaws.{all_weaker}
 use Rattle.view_graph.proofs.KeepLaws.{same_claims, said_head}
-use Rattle.view_graph.proofs.AnewLaws.{lists_any, place_self, put_turns}
+use Rattle.view_graph.proofs.AnewLaws.{place_self, put_turns}
 use Rattle.view_graph.proofs.SystemLaws.{before_differs}
 
 -- ---- what depends on the systems and their places in subdomains alone
@@ -116,11 +114,6 @@ seats_order claims nodes made order = subst (λ (ns : List ViewNode). AreInOrder
 place_seats : (s : SystemId) (k cs : List Claim) → place_in s (seats (map (node_of k) cs)) ≡ place_in s cs
 place_seats s k [] = refl
 place_seats s k (c ∷ cs) = ap (λ n. match_ordering (system_order s c.system) 0 0 (suc n)) (place_seats s k cs)
-
-stands_seats : (s : SystemId) (k cs : List Claim) (i : ℕ) → stands_at (seats (map (node_of k) cs)) i s ≡ stands_at cs i s
-stands_seats s k [] i = refl
-stands_seats s k (c ∷ cs) zero = refl
-stands_seats s k (c ∷ cs) (suc i) = stands_seats s k cs i
 
 metrics_seats : (links : List Link) (k cs : List Claim) → metrics_to links (seats (map (node_of k) cs)) ≡ metrics_to links cs
 metrics_seats links k [] = refl
@@ -267,14 +260,37 @@ built x edges subs = record { system = x.system; overload = x.overload; edges = 
 place_is : (claims now : List Claim) (nodes : List ViewNode) (said : SystemId → Option Claim) (systems : List SystemId) (i : ℕ) (x : Claim) → IsBase claims now nodes said systems → slice_get claims i ≡ Some x → place_in x.system (seats nodes) ≡ i
 place_is claims now nodes said systems i x base at = ap (λ (ns : List ViewNode). place_in x.system (seats ns)) base.made ∙ place_seats x.system claims claims ∙ place_self claims i x base.order at
 
+abbrev whole : SystemId → Bool → List ViewEdge → List ViewSub → ViewNode
+whole s o edges subs = record { system = s; overload = o; edges = edges; subs = subs }
+
+-- metrics to the nodes are those to the systems now
+metrics_now : (claims now : List Claim) (nodes : List ViewNode) (said : SystemId → Option Claim) (systems : List SystemId) (links : List Link) → IsBase claims now nodes said systems → map strip claims ≡ map strip now → metrics_to links (seats nodes) ≡ metrics_to links now
+metrics_now claims now nodes said systems links base strips =
+    ap (λ (ns : List ViewNode). metrics_to links (seats ns)) base.made ∙ metrics_seats links claims claims ∙ sym (metrics_strip links claims) ∙ ap (metrics_to links) strips ∙ metrics_strip links now
+
+-- a system lists itself an edge to those that it lists
+half_at : (claims : List Claim) (nodes : List ViewNode) (links : List Link) (i : ℕ) (x : Claim) → nodes ≡ nodes_of claims → slice_get claims i ≡ Some x → leads_to i (halves_now nodes links) ≡ is_some (metric_to links x.system)
+half_at claims nodes links i x made at =
+    ap (λ (ns : List ViewNode). leads_to i (half_edges 0 (metrics_to links (seats ns)))) made ∙ ap (λ ms. leads_to i (half_edges 0 ms)) (metrics_seats links claims claims) ∙ from_start i (metrics_to links claims) ∙ ap is_some (get_map (λ (c : Claim). metric_to links c.system) claims i x None at)
+
+-- edges of which all pass
+all_pass : (g : ℕ → Bool) (x : Claim) (p : ℕ) (cs : List Claim) → ((k : ℕ) (c : Claim) → slice_get cs k ≡ Some c → lists c x.system ≡ true → lists x c.system ≡ true → g (p + k) ≡ true) → filter (λ (e : ViewEdge). g e.to) (edges_from x p cs) ≡ edges_from x p cs
+all_pass g x p [] all = refl
+all_pass g x p (c ∷ cs) all =
+    by (lists c x.system) refl (metric_to x.links c.system) refl (let p0 : p ≡ p + 0 = omega arith in λ back listed. ap g p0 ∙ all 0 c refl back listed)
+    (all_pass g x (p + 1) cs (λ k d at back listed. let e : (p + 1) + k ≡ p + suc k = omega arith in ap g e ∙ all (suc k) d at back listed))
+  where
+    by : (b : Bool) → lists c x.system ≡ b → (o : Option ℕ) → metric_to x.links c.system ≡ o → (lists c x.system ≡ true → lists x c.system ≡ true → g p ≡ true)
+        → filter (λ (e : ViewEdge). g e.to) (edges_from x (p + 1) cs) ≡ edges_from x (p + 1) cs → filter (λ (e : ViewEdge). g e.to) (option_to_list (edge p (lists c x.system) (metric_to x.links c.system)) ++ edges_from x (p + 1) cs) ≡ option_to_list (edge p (lists c x.system) (metric_to x.links c.system)) ++ edges_from x (p + 1) cs
+    by false e o f here more = rw e more
+    by true e None f here more = rw (e, f) more
+    by true e (Some m) f here more = rw (e, f, here e (ap is_some f)) (ap (λ (es : List ViewEdge). record { to = p; metric = m } ∷ es) more)
+
 -- two systems, of which the first is not made anew: the second lists it as before
 still_listed : (claims now : List Claim) (nodes : List ViewNode) (said : SystemId → Option Claim) (systems : List SystemId) (places : List ℕ) (i j : ℕ) (x c d : Claim)
     → IsBase claims now nodes said systems → AreNoted said nodes systems places → has places i ≡ false → slice_get claims i ≡ Some x → slice_get claims j ≡ Some c → slice_get now j ≡ Some d → c.system ≡ d.system → lists x c.system ≡ true → lists c x.system ≡ lists d x.system
 still_listed claims now nodes said systems places i j x c d base noted away at c_at d_at system listed = by (is_named systems c.system) refl
   where
-    place : place_in x.system (seats nodes) ≡ i
-    place = place_is claims now nodes said systems i x base at
-
     d_said : said c.system ≡ Some d
     d_said = sym (base.said_now c.system) ∙ ap (said_by now) system ∙ said_place now j d base.order_now d_at
 
@@ -282,56 +298,56 @@ still_listed claims now nodes said systems places i j x c d base noted away at c
     by false e =
         let same : c ≡ d = some_is c d (sym (said_place claims j c base.order c_at) ∙ base.unnamed c.system e ∙ d_said) in
         ap (λ (z : Claim). lists z x.system) same
-    by true e = cases (lists c x.system) refl (lists d x.system) refl
-      where
-        n : IsNoted said nodes places c.system
-        n = noted c.system e
-
-        claim : n.claim ≡ d
-        claim = some_is n.claim d (sym n.says ∙ d_said)
-
-        node : n.node ≡ node_of claims c
-        node = some_is n.node (node_of claims c) (sym n.at_place ∙ ap (slice_get nodes) (place_is claims now nodes said systems j c base c_at) ∙ claim_at claims nodes j c base.made c_at)
-
-        leads : leads_to i n.node.edges ≡ lists c x.system
-        leads =
-            let zero_in : i ≡ 0 + i = omega arith in
-            ap (λ (m : ViewNode). leads_to i m.edges) node ∙ ap (λ q. leads_to q (edges_from c 0 claims)) zero_in ∙ lead_at c 0 i claims x at ∙ ap (λ b. b && lists c x.system) listed
-
-        cases : (a : Bool) → lists c x.system ≡ a → (b : Bool) → lists d x.system ≡ b → lists c x.system ≡ lists d x.system
-        cases true f b g = f ∙ sym (ap (λ (z : Claim). lists z x.system) (sym claim) ∙ n.listed i (node_of claims x) (leads ∙ f) (claim_at claims nodes i x base.made at) away)
-        cases false f false g = f ∙ sym g
-        cases false f true g =
-            let named : list_any (λ l. same_system l.neighbour x.system) n.claim.links ≡ true = lists_any n.claim.links x.system ∙ ap (λ (z : Claim). lists z x.system) claim ∙ g in
-            let stands : stands_at (seats nodes) (place_in x.system (seats nodes)) x.system ≡ true =
-            ap (λ k. stands_at (seats nodes) k x.system) place ∙ ap (λ (ns : List ViewNode). stands_at (seats ns) i x.system) base.made ∙ stands_seats x.system claims claims i
-            ∙ stands_read claims i x x.system (slice_get_within claims i x at) (sym (get_or_from_slice_get claims i x x at)) ∙ (bytes_eq-Decides x.system.0 x.system.0).1 refl in
-            let had : leads_to (place_in x.system (seats nodes)) n.node.edges ≡ true = n.had x.system named stands (ap (has places) place ∙ away) in
-            absurd (true≢false (sym had ∙ ap (λ k. leads_to k n.node.edges) place ∙ leads ∙ f))
+    by true e =
+        let n = noted c.system e in
+        let claim : n.claim ≡ d = some_is n.claim d (sym n.says ∙ d_said) in
+        let node : n.node ≡ node_of claims c = some_is n.node (node_of claims c) (sym n.at_place ∙ ap (slice_get nodes) (place_is claims now nodes said systems j c base c_at) ∙ claim_at claims nodes j c base.made c_at) in
+        let zero_in : i ≡ 0 + i = omega arith in
+        let leads : leads_to i n.node.edges ≡ lists c x.system =
+        ap (λ (m : ViewNode). leads_to i m.edges) node ∙ ap (λ q. leads_to q (edges_from c 0 claims)) zero_in ∙ lead_at c 0 i claims x at ∙ ap (λ b. b && lists c x.system) listed in
+        sym leads ∙ n.ends i away ∙ half_at claims nodes n.claim.links i x base.made at ∙ ap (λ (z : Claim). lists z x.system) claim
 
 unmade : (claims now : List Claim) (nodes : List ViewNode) (said : SystemId → Option Claim) (systems : List SystemId) (places : List ℕ) (i : ℕ) (x y : Claim)
     → IsBase claims now nodes said systems → AreNoted said nodes systems places → map strip claims ≡ map strip now → has places i ≡ false → slice_get claims i ≡ Some x → slice_get now i ≡ Some y → strip x ≡ strip y → node_of claims x ≡ node_of now y
-unmade claims now nodes said systems places i x y base noted strips away at y_at alike =
-    ap (λ (es : List ViewEdge). built x es (own_subs claims x)) edges ∙ ap (built x (edges_from x 0 now)) (own_like claims now x x strips refl) ∙ ap (node_of now) same
+unmade claims now nodes said systems places i x y base noted strips away at y_at alike = by (is_named systems x.system) refl
   where
-    unnamed : (b : Bool) → is_named systems x.system ≡ b → is_named systems x.system ≡ false
-    unnamed false e = e
-    unnamed true e = absurd (true≢false (sym (noted x.system e).own ∙ ap (has places) (place_is claims now nodes said systems i x base at) ∙ away))
+    system : x.system ≡ y.system
+    system = ap (λ (c : Claim). c.system) alike
 
-    same : x ≡ y
-    same =
-        some_is x y
-        (sym (said_place claims i x base.order at) ∙ base.unnamed x.system (unnamed (is_named systems x.system) refl) ∙ sym (base.said_now x.system) ∙ ap (said_by now) (ap (λ (c : Claim). c.system) alike) ∙ said_place now i y base.order_now y_at)
+    y_said : said x.system ≡ Some y
+    y_said = sym (base.said_now x.system) ∙ ap (said_by now) system ∙ said_place now i y base.order_now y_at
 
     long : length claims ≡ length now
     long = sym (length-map claims strip) ∙ ap (λ (l : List Claim). length l) strips ∙ length-map now strip
 
-    edges : edges_from x 0 claims ≡ edges_from x 0 now
-    edges =
-        edges_like x 0 claims now long (λ j c d c_at d_at q.
+    still : (j : ℕ) (c d : Claim) → slice_get claims j ≡ Some c → slice_get now j ≡ Some d → (c.system ≡ d.system) × (lists x c.system ≡ true → lists c x.system ≡ lists d x.system)
+    still j c d c_at d_at =
         let l = like_at claims now j c strips c_at in
-        let system : c.system ≡ d.system = ap (λ (z : Claim). z.system) l.like ∙ ap (λ (z : Claim). z.system) (some_is l.claim d (sym l.at_place ∙ d_at)) in
-        edge_like x c d q system (λ listed. still_listed claims now nodes said systems places i j x c d base noted away at c_at d_at system listed))
+        let same : c.system ≡ d.system = ap (λ (z : Claim). z.system) l.like ∙ ap (λ (z : Claim). z.system) (some_is l.claim d (sym l.at_place ∙ d_at)) in
+        (same, λ listed. still_listed claims now nodes said systems places i j x c d base noted away at c_at d_at same listed)
+
+    by : (b : Bool) → is_named systems x.system ≡ b → node_of claims x ≡ node_of now y
+    by false e =
+        let same : x ≡ y = some_is x y (sym (said_place claims i x base.order at) ∙ base.unnamed x.system e ∙ y_said) in
+        let edges : edges_from x 0 claims ≡ edges_from x 0 now = edges_like x 0 claims now long (λ j c d c_at d_at q. let s = still j c d c_at d_at in edge_like x c d q s.0 s.1) in
+        ap (λ (es : List ViewEdge). built x es (own_subs claims x)) edges ∙ ap (built x (edges_from x 0 now)) (own_like claims now x x strips refl) ∙ ap (node_of now) same
+    by true e =
+        let n = noted x.system e in
+        let place = place_is claims now nodes said systems i x base at in
+        let claim : n.claim ≡ y = some_is n.claim y (sym n.says ∙ y_said) in
+        let node : n.node ≡ node_of claims x = some_is n.node (node_of claims x) (sym n.at_place ∙ ap (slice_get nodes) place ∙ claim_at claims nodes i x base.made at) in
+        let same = n.own (ap (has places) place ∙ away) in
+        let overload : x.overload ≡ y.overload = sym (ap (λ (m : ViewNode). m.overload) node) ∙ same.overload ∙ ap (λ (z : Claim). z.overload) claim in
+        let halves : half_edges 0 (metrics_to y.links now) ≡ edges_from x 0 claims =
+        sym (ap (half_edges 0) (metrics_now claims now nodes said systems y.links base strips)) ∙ ap (λ (z : Claim). halves_now nodes z.links) (sym claim) ∙ sym same.edges ∙ ap (λ (m : ViewNode). m.edges) node in
+        let edges : edges_from y 0 now ≡ edges_from x 0 claims =
+        edges_whole (λ k. is_listed_by (slice_get now k) y.system) y now 0 (λ k d d_at. let z : 0 + k ≡ k = omega arith in ap (λ q. is_listed_by (slice_get now q) y.system) z ∙ ap (λ o. is_listed_by o y.system) d_at)
+        ∙ ap (filter (λ (e : ViewEdge). is_listed_by (slice_get now e.to) y.system)) halves
+        ∙ all_pass (λ k. is_listed_by (slice_get now k) y.system) x 0 claims (λ k c c_at back listed.
+        let l = like_at claims now k c strips c_at in
+        let z : 0 + k ≡ k = omega arith in
+        ap (λ q. is_listed_by (slice_get now q) y.system) z ∙ ap (λ o. is_listed_by o y.system) l.at_place ∙ ap (lists l.claim) (sym system) ∙ sym ((still k c l.claim c_at l.at_place).1 listed) ∙ back) in
+        ap (λ s. whole s x.overload (edges_from x 0 claims) (own_subs claims x)) system ∙ ap (λ o. whole y.system o (edges_from x 0 claims) (own_subs claims x)) overload ∙ ap (λ es. whole y.system y.overload es (own_subs claims x)) (sym edges) ∙ ap (whole y.system y.overload (edges_from y 0 now)) (own_like claims now x y strips alike)
 
 -- ---- nodes that are made anew
 
@@ -352,8 +368,7 @@ made_right claims now nodes said systems n base strips m =
     claim = some_is m.claim y.claim (sym m.says ∙ ap said system ∙ sym (base.said_now y.claim.system) ∙ said_place now n.place y.claim base.order_now y.at_place)
 
     metrics : metrics_to y.claim.links (seats nodes) ≡ metrics_to y.claim.links now
-    metrics =
-        ap (λ (ns : List ViewNode). metrics_to y.claim.links (seats ns)) base.made ∙ metrics_seats y.claim.links claims claims ∙ sym (metrics_strip y.claim.links claims) ∙ ap (metrics_to y.claim.links) strips ∙ metrics_strip y.claim.links now
+    metrics = metrics_now claims now nodes said systems y.claim.links base strips
 
     listed : (k : ℕ) (d : Claim) → slice_get now k ≡ Some d → lists_at said nodes k y.claim.system ≡ lists d y.claim.system
     listed k d at =

@@ -1,5 +1,5 @@
 -- The view once it is renewed.
-use Rattle.std.proofs.Common.{◌≡◌, ◌≤◌, Bool, true, List, ◌∷◌, length, map, Option, sym, ap, subst, ◌∙◌}
+use Rattle.std.proofs.Common.{◌≡◌, Bool, true, List, ◌∷◌, map, sym, ap, subst, ◌∙◌}
 use Rattle.wire_base.specs.declared.conf.RouterConf.{RouterConf}
 use Rattle.wire_base.specs.declared.conf.SubKind.{SubKind}
 use Rattle.wire_base.specs.declared.entry.Entry.{Entry}
@@ -8,7 +8,6 @@ use Rattle.wire_base.specs.declared.view.ViewNode.{ViewNode}
 use Rattle.wire_base.specs.model.Control.{AreAscending, IsDatabase, ids_of}
 use Rattle.wire_base.specs.model.View.{Claim, claims_of, with_known, nodes_of, view_of}
 use Rattle.view_graph.specs.declared.patch.NewNode.{NewNode}
-use Rattle.view_graph.specs.Edges.{AreInOrder}
 use Rattle.view_graph.specs.Keep.{Keep, IsKept, IsUnchanged, heard, without_system}
 use Rattle.view_graph.specs.Renewal.{AreTurning, IsPatch, put_all, said_now}
 use Rattle.view_graph.proofs.GraphLaws.{claims_in_order, few_claims}

@@ -9,7 +9,6 @@ use Rattle.wire_base.specs.declared.view.ViewEdge.{ViewEdge}
 use Rattle.wire_base.specs.declared.view.ViewNode.{ViewNode}
 use Rattle.wire_base.specs.declared.view.ViewSub.{ViewSub}
 use Rattle.wire_base.specs.model.Place.{code_of, bsl_coded}
-use Rattle.wire_base.specs.model.View.{Claim}
 use Rattle.format_laws.proofs.TlvLaws.{some_is}
 
 both : {P Q : Type 0} (a b : Bool) → Decides a P → Decides b Q → Decides (a && b) (P × Q)
@@ -57,11 +56,3 @@ pub node_decided : (a b : ViewNode) (router edges subs : Bool) → Decides route
 node_decided a b router edges subs r e s =
     let d = both router (edges && subs) r (both edges subs e s) in
     (λ h. let k = d.0 h in node_parts a b k.0.0 k.0.1 k.1.0 k.1.1, λ h. d.1 ((ap (λ (x : ViewNode). x.system) h, ap (λ (x : ViewNode). x.overload) h), (ap (λ (x : ViewNode). x.edges) h, ap (λ (x : ViewNode). x.subs) h)))
-
-claim_parts : (a b : Claim) → a.system ≡ b.system → a.overload ≡ b.overload → a.links ≡ b.links → a.subs ≡ b.subs → a ≡ b
-claim_parts a b s o l p = rw (s, o, l, p) refl
-
-pub claim_decided : (a b : Claim) (system links subs : Bool) → Decides system ((a.system ≡ b.system) × (a.overload ≡ b.overload)) → Decides links (a.links ≡ b.links) → Decides subs (a.subs ≡ b.subs) → Decides (system && (links && subs)) (a ≡ b)
-claim_decided a b system links subs r e s =
-    let d = both system (links && subs) r (both links subs e s) in
-    (λ h. let k = d.0 h in claim_parts a b k.0.0 k.0.1 k.1.0 k.1.1, λ h. d.1 ((ap (λ (x : Claim). x.system) h, ap (λ (x : Claim). x.overload) h), (ap (λ (x : Claim). x.links) h, ap (λ (x : Claim). x.subs) h)))

@@ -9,7 +9,7 @@ use Rattle.wire_base.specs.declared.view.ViewNode.{ViewNode}
 use Rattle.wire_base.specs.model.Control.{same_system}
 use Rattle.wire_base.specs.model.View.{Claim, Link, lists, own_claim, with_known}
 use Rattle.view_graph.specs.declared.patch.NewNode.{NewNode}
-use Rattle.view_graph.specs.Edges.{half_edges, leads_to, metrics_to, place_in, stands_at}
+use Rattle.view_graph.specs.Edges.{half_edges, leads_to, metrics_to, place_in}
 use Rattle.view_graph.specs.Keep.{is_named, said_in}
 
 -- what a system says now: the router by its configuration and its ends that are up, another one in a database
@@ -37,16 +37,17 @@ pub record IsAdded (place : ℕ) (before now : List ℕ) : Type 0 where
   pub stays : Stays before now
   pub there : has now place ≡ true
 
--- a system lists those still to which an edge leads, but where their place is there
-abbrev pub ListsStill : List ViewNode → Claim → List ViewEdge → List ℕ → Type 0
-ListsStill nodes c edges places = (i : ℕ) (m : ViewNode) → leads_to i edges ≡ true → slice_get nodes i ≡ Some m → has places i ≡ false → lists c m.system ≡ true
+-- the edges that a system lists itself
+abbrev pub halves_now : List ViewNode → List Link → List ViewEdge
+halves_now nodes links = half_edges 0 (metrics_to links (seats nodes))
 
--- an edge leads to those that a system lists, but where their place is there
-abbrev pub HadEdges : List ViewNode → List Link → List ViewEdge → List ℕ → Type 0
-HadEdges nodes links edges places = (s : SystemId) → list_any (λ l. same_system l.neighbour s) links ≡ true → stands_at (seats nodes) (place_in s (seats nodes)) s ≡ true → has places (place_in s (seats nodes)) ≡ false → leads_to (place_in s (seats nodes)) edges ≡ true
+-- a node has all edges that its system lists, and no others, and is overloaded where it says so
+pub record IsAsListed (nodes : List ViewNode) (n : ViewNode) (c : Claim) : Type 0 where
+  pub overload : n.overload ≡ c.overload
+  pub edges : n.edges ≡ halves_now nodes c.links
 
--- A system has a node, with the places in subdomains that it tells now. There are the node's place, and those of the systems
--- that it came to list or lists no more.
+-- A system has a node, with the places in subdomains that it tells now. There are the node's place, unless it is as the system
+-- lists itself, and the places of all systems to which one of its edges leads or its links now lead, but not both.
 pub record IsNoted (said : SystemId → Option Claim) (nodes : List ViewNode) (places : List ℕ) (s : SystemId) : Type 0 where
   pub claim : Claim
   pub node : ViewNode
@@ -54,9 +55,8 @@ pub record IsNoted (said : SystemId → Option Claim) (nodes : List ViewNode) (p
   pub at_place : slice_get nodes (place_in s (seats nodes)) ≡ Some node
   pub system : node.system ≡ s
   pub subs : node.subs ≡ claim.subs
-  pub own : has places (place_in s (seats nodes)) ≡ true
-  pub listed : ListsStill nodes claim node.edges places
-  pub had : HadEdges nodes claim.links node.edges places
+  pub ends : (i : ℕ) → has places i ≡ false → leads_to i node.edges ≡ leads_to i (halves_now nodes claim.links)
+  pub own : has places (place_in s (seats nodes)) ≡ false → IsAsListed nodes node claim
 
 abbrev pub AreNoted : (SystemId → Option Claim) → List ViewNode → List SystemId → List ℕ → Type 0
 AreNoted said nodes systems places = (s : SystemId) → is_named systems s ≡ true → IsNoted said nodes places s
@@ -78,7 +78,7 @@ lists_at said nodes place s = is_listed_by (said_of said (slice_get nodes place)
 
 -- the edges of a system with those links
 abbrev pub edges_now : (SystemId → Option Claim) → List ViewNode → SystemId → List Link → List ViewEdge
-edges_now said nodes s links = filter (λ e. lists_at said nodes e.to s) (half_edges 0 (metrics_to links (seats nodes)))
+edges_now said nodes s links = filter (λ e. lists_at said nodes e.to s) (halves_now nodes links)
 
 -- a node made of the one at its place by what its system says, with the places in subdomains as before
 pub record IsMade (said : SystemId → Option Claim) (nodes : List ViewNode) (n : NewNode) : Type 0 where

@@ -1,18 +1,14 @@
 //! The places of the nodes that may be other ones, where systems say something else.
-ghost use Rattle.std.specs.Prelude.{◌≡◌, ◌≤◌, ◌∷◌, Some, true, false, length, slice_get, IfOk, IfSome, OnOk};
-ghost use Rattle.wire_base.specs.declared.view.ViewNode.{ViewNode as Node};
+ghost use Rattle.std.specs.Prelude.{◌≡◌, ◌≤◌, ◌∷◌, ℕ, true, false, length, IfOk, IfSome, OnOk};
 ghost use Rattle.wire_base.specs.model.Control.{AreAscending, ids_of};
-ghost use Rattle.wire_base.specs.model.View.{lists};
-ghost use Rattle.view_graph.specs.Edges.{AreInOrder, leads_to, place_in, stands_at};
-ghost use Rattle.view_graph.specs.Renewal.{AreNoted, HadEdges, IsAdded, IsNoted, ListsStill, Stays, has, said_now, seats};
+ghost use Rattle.view_graph.specs.Edges.{AreInOrder, leads_to};
+ghost use Rattle.view_graph.specs.Renewal.{AreNoted, IsAdded, IsAsListed, IsNoted, Stays, halves_now, has, said_now, seats};
 
 use crate::claims::Claim;
 use crate::edges::leads_to;
-use crate::links::Link;
-use crate::remade::lists;
 use crate::renewal::said_now;
-use crate::same::are_same_subs;
-use crate::seats::{seat_of, sits_at};
+use crate::same::{are_same_edges, are_same_subs};
+use crate::seats::{half_edges, seat_of, sits_at};
 use wire_base::{Entry, M, RouterConf, SystemId, ViewEdge, ViewNode};
 
 fn has(places: &[usize], place: usize) -> bool
@@ -32,93 +28,48 @@ fn add_place(places: &mut Vec<usize>, place: usize) -> M<()>
     Ok(())
 }
 
-/// Adds the place that an edge leads to, where the system there is listed no more.
-fn add_lost_end(places: &mut Vec<usize>, nodes: &[ViewNode], claim: &Claim, to: usize) -> M<()>
+/// Adds the places that these edges lead to and those don't.
+fn add_ends(places: &mut Vec<usize>, edges: &[ViewEdge], others: &[ViewEdge]) -> M<()>
     ensures stays { OnOk result (Stays places.old.items places.new.items) }
-    ensures end { OnOk result ((m : Node) → slice_get nodes.now to ≡ Some m → has places.new.items to ≡ false → lists claim.now m.system ≡ true) }
-{
-    let Some(node) = nodes.get(to) else {
-        return Ok(());
-    };
-    if lists(claim, &node.system) {
-        return Ok(());
-    }
-    add_place(places, to)
-}
-
-/// The same of all those edges.
-fn add_lost_ends(
-    places: &mut Vec<usize>,
-    nodes: &[ViewNode],
-    claim: &Claim,
-    edges: &[ViewEdge],
-) -> M<()>
-    ensures stays { OnOk result (Stays places.old.items places.new.items) }
-    ensures ends { OnOk result (ListsStill nodes.now claim.now edges.now places.new.items) }
+    ensures ends { OnOk result ((i : ℕ) → leads_to i edges.now ≡ true → has places.new.items i ≡ false → leads_to i others.now ≡ true) }
 {
     'edges: for edge in edges {
-        add_lost_end(places, nodes, claim, edge.to as usize)?;
+        if !leads_to(edge.to, others) {
+            add_place(places, edge.to as usize)?;
+        }
     }
     Ok(())
 }
 
-/// Adds the place of a system that is listed, where no edge led there.
-fn add_new_end(
-    places: &mut Vec<usize>,
-    nodes: &[ViewNode],
-    edges: &[ViewEdge],
-    system: &SystemId,
-) -> M<()>
-    requires order { AreInOrder (seats nodes.now) }
-    requires few { length nodes.now ≤ 65536 }
-    ensures stays { OnOk result (Stays places.old.items places.new.items) }
-    ensures end { OnOk result (stands_at (seats nodes.now) (place_in system.now (seats nodes.now)) system.now ≡ true → has places.new.items (place_in system.now (seats nodes.now)) ≡ false → leads_to (place_in system.now (seats nodes.now)) edges.now ≡ true) }
+/// Whether a node has all edges that its system lists, and no others, and is overloaded where it says so.
+fn is_as_listed(node: &ViewNode, claim: &Claim, halves: &[ViewEdge]) -> bool
+    ensures { result ≡ true → (node.now.overload ≡ claim.now.overload) × (node.now.edges ≡ halves.now) }
 {
-    let place = seat_of(nodes, system);
-    if !sits_at(nodes, place, system) {
-        return Ok(());
-    }
-    if leads_to(place as u16, edges) {
-        return Ok(());
-    }
-    add_place(places, place)
+    let are_same = are_same_edges(node.edges.as_slice(), halves);
+    node.overload == claim.overload && are_same
 }
 
-/// The same of all those links.
-fn add_new_ends(
-    places: &mut Vec<usize>,
-    nodes: &[ViewNode],
-    edges: &[ViewEdge],
-    links: &[Link],
-) -> M<()>
-    requires order { AreInOrder (seats nodes.now) }
-    requires few { length nodes.now ≤ 65536 }
-    ensures stays { OnOk result (Stays places.old.items places.new.items) }
-    ensures ends { OnOk result (HadEdges nodes.now links.now edges.now places.new.items) }
-{
-    'links: for link in links {
-        add_new_end(places, nodes, edges, &link.neighbour)?;
-    }
-    Ok(())
-}
-
-/// Adds the place of a system's node, and those of the systems that it came to list or lists no more.
+/// Adds the place of a node, unless it is as its system lists itself, and the places of the systems to which one of its
+/// edges leads or its links now lead, but not both.
 fn add_all(
     places: &mut Vec<usize>,
     nodes: &[ViewNode],
     place: usize,
-    edges: &[ViewEdge],
+    node: &ViewNode,
     claim: &Claim,
 ) -> M<()>
     requires order { AreInOrder (seats nodes.now) }
     requires few { length nodes.now ≤ 65536 }
     ensures stays { OnOk result (Stays places.old.items places.new.items) }
-    ensures own { OnOk result (has places.new.items place ≡ true) }
-    ensures listed { OnOk result (ListsStill nodes.now claim.now edges.now places.new.items) }
-    ensures had { OnOk result (HadEdges nodes.now claim.now.links edges.now places.new.items) }
+    ensures ends { OnOk result ((i : ℕ) → has places.new.items i ≡ false → leads_to i node.now.edges ≡ leads_to i (halves_now nodes.now claim.now.links)) }
+    ensures own { OnOk result (has places.new.items place ≡ false → IsAsListed nodes.now node.now claim.now) }
 {
-    add_lost_ends(places, nodes, claim, edges)?;
-    add_new_ends(places, nodes, edges, claim.links.as_slice())?;
+    let halves = half_edges(*places.allocator(), nodes, claim.links.as_slice())?;
+    if is_as_listed(node, claim, halves.as_slice()) {
+        return Ok(());
+    }
+    add_ends(places, node.edges.as_slice(), halves.as_slice())?;
+    add_ends(places, halves.as_slice(), node.edges.as_slice())?;
     add_place(places, place)
 }
 
@@ -150,7 +101,7 @@ fn add_changed(
     if !are_same_subs(node.subs.as_slice(), claim.subs.as_slice()) {
         return Ok(false);
     }
-    add_all(places, nodes, place, node.edges.as_slice(), &claim)?;
+    add_all(places, nodes, place, node, &claim)?;
     Ok(true)
 }
 

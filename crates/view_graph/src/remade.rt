@@ -22,7 +22,7 @@ fn leads(links: &[Link], system: &SystemId) -> bool
 }
 
 /// Whether a system lists a link to that one.
-pub(crate) fn lists(claim: &Claim, system: &SystemId) -> bool
+fn lists(claim: &Claim, system: &SystemId) -> bool
     ensures { result ≡ lists claim.now system.now }
 {
     leads(claim.links.as_slice(), system)

@@ -53,7 +53,7 @@ pub(crate) fn are_same_subs(a: &[ViewSub], b: &[ViewSub]) -> bool
     true
 }
 
-fn are_same_edges(a: &[ViewEdge], b: &[ViewEdge]) -> bool
+pub(crate) fn are_same_edges(a: &[ViewEdge], b: &[ViewEdge]) -> bool
     ensures { Decides result (a.now ≡ b.now) }
 {
     a == b

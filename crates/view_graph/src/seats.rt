@@ -2,7 +2,7 @@
 ghost use Rattle.std.specs.Prelude.{◌≡◌, ◌≤◌, List, [], ◌∷◌, ◌++◌, length, IfOk, OnOk};
 ghost use Rattle.wire_base.specs.model.View.{Link as LinkItem};
 ghost use Rattle.view_graph.specs.Edges.{AreInOrder, half_edges, metrics_to, place_in, stands_at};
-ghost use Rattle.view_graph.specs.Renewal.{seats};
+ghost use Rattle.view_graph.specs.Renewal.{halves_now, seats};
 
 use crate::edges::{is_above, put_edge};
 use crate::links::Link;
@@ -58,7 +58,7 @@ fn count(nodes: &[ViewNode], edges: &mut Vec<ViewEdge>, link: &Link) -> M<()>
 pub(crate) fn half_edges(alloc: Global, nodes: &[ViewNode], links: &[Link]) -> M<Vec<ViewEdge>>
     requires order { AreInOrder (seats nodes.now) }
     requires few { length nodes.now ≤ 65536 }
-    ensures { IfOk result (λ edges. edges.items ≡ half_edges 0 (metrics_to links.now (seats nodes.now))) }
+    ensures { IfOk result (λ edges. edges.items ≡ halves_now nodes.now links.now) }
 {
     let mut edges: Vec<ViewEdge> = Vec::with_capacity(alloc, links.len())?;
     'links: for link in links {

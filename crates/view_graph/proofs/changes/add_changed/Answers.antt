@@ -1,7 +1,6 @@
-use Rattle.std.proofs.Common.{slice_get, refl, sym, ap, ◌∙◌, arith}
+use Rattle.std.proofs.Common.{slice_get, sym, ap, ◌∙◌, arith}
 use Rattle.wire_base.specs.model.View.{Claim}
 use Rattle.view_graph.specs.Renewal.{has}
-use Rattle.view_graph.proofs.ChangeLaws.{still_seen, had_seen}
 use Rattle.view_graph.proofs.SeatLaws.{read_get, sits_there, sits_within}
 use Rattle.view_graph.proofs.changes.add_changed.Goals as goal
 
@@ -19,7 +18,6 @@ returns-clause-noted c = λ _. record {
   at_place = ap (slice_get c.args.nodes.now) (sym c.seat_of-place.ensures) ∙ read_get c.args.nodes.now c.seat_of-place.result c.index-nodes-place.result (sits_within c.args.nodes.now c.seat_of-place.result c.args.system.now (sym c.sits_at.ensures ∙ c.if-not-sits_at.false)) c.index-nodes-place.is;
   system = sits_there c.args.nodes.now c.seat_of-place.result c.index-nodes-place.result c.args.system.now c.index-nodes-place.is (sym c.sits_at.ensures ∙ c.if-not-sits_at.false);
   subs = sym c.as_slice.ensures ∙ c.are_same_subs.ensures.0 c.if-not-are_same_subs.false ∙ c.as_slice-2.ensures ∙ ap (λ (x : Claim). x.subs) c.claim.view_is;
-  own = ap (has c.add_all.new.places.items) (sym c.seat_of-place.ensures) ∙ c.in_ok-add_all.ensures.own;
-  listed = still_seen c.args.nodes.now c.in-Some.claim c.in-Some.claim c.as_slice-3.result.now c.index-nodes-place.result.edges c.add_all.new.places.items refl c.as_slice-3.ensures c.in_ok-add_all.ensures.listed;
-  had = had_seen c.args.nodes.now c.in-Some.claim.links c.in-Some.claim.links c.as_slice-3.result.now c.index-nodes-place.result.edges c.add_all.new.places.items refl c.as_slice-3.ensures c.in_ok-add_all.ensures.had;
+  ends = c.in_ok-add_all.ensures.ends;
+  own = λ away. c.in_ok-add_all.ensures.own (ap (has c.add_all.new.places.items) c.seat_of-place.ensures ∙ away);
 }

@@ -1,4 +1,4 @@
-use Rattle.std.proofs.Common.{◌≡◌, List, length, map, not, slice_get, Some, subst, sym, ap, ◌∙◌}
+use Rattle.std.proofs.Common.{List, length, map, slice_get, subst, sym, ap, ◌∙◌}
 use Rattle.std.specs.List.{list_any}
 use Rattle.wire_base.specs.declared.view.ViewSub.{ViewSub}
 use Rattle.wire_base.specs.model.View.{Claim}
