@@ -62,13 +62,20 @@ said_put kinds e es s apart =
     part : (x : Entry) → x.id.system ≡ e.id.system → is_part_of s x ≡ false
     part x h = ap (λ (t : SystemId). same_system t s && ((x.id.pseudonode == 0) && nat_lt 0 x.life)) h ∙ ap (λ b. b && ((x.id.pseudonode == 0) && nat_lt 0 x.life)) apart
 
-pub others_same : (k : Keep) (own : SystemId) (kinds : List SubKind) (e : Entry) (before after : List Entry) (changed : List SystemId) → k.system ≡ own → k.kinds ≡ kinds → k.others ≡ heard own kinds before → after ≡ put_entry e before → changed ≡ e.id.system ∷ [] → IsUnchanged k changed after
-others_same k own kinds e before after changed system_is kinds_are others put named s apart away =
+-- what a kept view holds of systems that are not named
+pub others_same : (k : Keep) (own : SystemId) (kinds : List SubKind) (before after : List Entry) (changed : List SystemId) → k.system ≡ own → k.kinds ≡ kinds → k.others ≡ heard own kinds before → ((s : SystemId) → is_named changed s ≡ false → said_in kinds after s ≡ said_in kinds before s) → IsUnchanged k changed after
+others_same k own kinds before after changed system_is kinds_are others same s apart away =
     let other : same_system s own ≡ false = ap (same_system s) (sym system_is) ∙ apart in
-    let alone : same_system e.id.system s ≡ false = first (same_system e.id.system s) (sym (ap (λ (l : List SystemId). is_named l s) named) ∙ away) in
-    ap (λ (cs : List Claim). said_by cs s) others ∙ said_heard kinds before own s other ∙ sym (said_put kinds e before s alone) ∙ ap (λ (l : List Entry). said_in kinds l s) (sym put)
-    ∙ ap (λ (ts : List SubKind). said_in ts after s) (sym kinds_are) ∙ sym (said_heard k.kinds after k.system s apart)
-  where
-    first : (b : Bool) → (b || false) ≡ false → b ≡ false
-    first true h = absurd (false≢true (sym h))
-    first false h = h
+    ap (λ (cs : List Claim). said_by cs s) others ∙ said_heard kinds before own s other ∙ sym (same s away) ∙ ap (λ (ts : List SubKind). said_in ts after s) (sym kinds_are) ∙ sym (said_heard k.kinds after k.system s apart)
+
+unnamed : (a b : Bool) → (a || b) ≡ false → (a ≡ false) × (b ≡ false)
+unnamed true b h = absurd (false≢true (sym h))
+unnamed false b h = (refl, h)
+
+pub one_put : (kinds : List SubKind) (e : Entry) (before after : List Entry) → after ≡ put_entry e before → (s : SystemId) → is_named (e.id.system ∷ []) s ≡ false → said_in kinds after s ≡ said_in kinds before s
+one_put kinds e before after put s away = ap (λ (l : List Entry). said_in kinds l s) put ∙ said_put kinds e before s (unnamed (same_system e.id.system s) false away).0
+
+pub two_put : (kinds : List SubKind) (e f : Entry) (before between after : List Entry) → between ≡ put_entry e before → after ≡ put_entry f between → (s : SystemId) → is_named (e.id.system ∷ f.id.system ∷ []) s ≡ false → said_in kinds after s ≡ said_in kinds before s
+two_put kinds e f before between after first second s away =
+    let both = unnamed (same_system e.id.system s) (same_system f.id.system s || false) away in
+    one_put kinds f between after second s both.1 ∙ ap (λ (l : List Entry). said_in kinds l s) first ∙ said_put kinds e before s both.0

@@ -34,8 +34,8 @@ fn show(rt: &HostRuntime, nodes: u16, with_times: bool) -> Result<(), Stop>
     )?;
     if with_times {
         println!(rt;
-            "  view {} us, renewal {} us, distances to each {} us, rows {} us",
-            times.view, times.renewal, times.distances, times.rows
+            "  view {} us, renewal {} us, of two {} us, distances to each {} us, rows {} us",
+            times.view, times.renewal, times.parting, times.distances, times.rows
         )?;
     }
     Ok(())

@@ -3,7 +3,7 @@ ghost use Rattle.std.specs.Prelude.{◌≡◌, ◌≤◌, ◌<◌, length};
 ghost use Rattle.wire_base.specs.model.Configuration.{IsSound};
 
 use crate::conf::own_conf;
-use crate::ring::{changed_entry, database};
+use crate::ring::{changed_entry, database, parted_entries};
 use crate::stop::Stop;
 use birt_rows::rows;
 use lsp_store::Store;
@@ -23,12 +23,13 @@ pub struct Ring {
     pub rows: usize,
 }
 
-/// The microseconds that the view took, its renewal once a metric has changed, the distances to each router, and the rows
-/// of one set.
+/// The microseconds that the view took, its renewal once a metric has changed and once both ends of a link have lost it,
+/// the distances to each router, and the rows of one set.
 #[derive(Clone, Copy)]
 pub struct Times {
     pub view: u128,
     pub renewal: u128,
+    pub parting: u128,
     pub distances: u128,
     pub rows: u128,
 }
@@ -50,6 +51,8 @@ pub fn measure(rt: &HostRuntime, nodes: u16) -> Result<(Ring, Times), Stop>
     let rows = routed(alloc, &seen, &conf)?;
     let routed = start.elapsed(rt)?;
     let renewal = renewed(rt, &conf, &mut store, changed_entry(alloc, nodes)?)?;
+    let (first, second) = parted_entries(alloc, nodes)?;
+    let parting = parted(rt, &conf, &mut store, first, second)?;
     let ring = Ring {
         edges: seen
             .as_slice()
@@ -63,6 +66,7 @@ pub fn measure(rt: &HostRuntime, nodes: u16) -> Result<(Ring, Times), Stop>
     let times = Times {
         view: viewed.as_micros(),
         renewal: renewal.as_micros(),
+        parting: parting.as_micros(),
         distances: searched.as_micros(),
         rows: routed.as_micros(),
     };
@@ -87,6 +91,32 @@ fn renewed(
     }
     let start = Instant::now(rt)?;
     let _is_new = keep.renew(conf, &[true, true], store, &[system])?;
+    Ok(start.elapsed(rt)?)
+}
+
+/// How long it takes once two entries are other ones.
+fn parted(
+    rt: &HostRuntime,
+    conf: &RouterConf,
+    store: &mut Store,
+    first: Entry,
+    second: Entry,
+) -> Result<Duration, Stop>
+    requires sound { IsSound conf.now }
+    requires ends { length conf.now.ends ≡ 2 }
+{
+    let systems = [first.id.system, second.id.system];
+    let mut keep = ViewKeep::new(rt.alloc(), conf, &[true, true], store)?;
+    match store.put(first) {
+        Ok(()) => (),
+        Err(_) => return Err(Stop::Memory),
+    }
+    match store.put(second) {
+        Ok(()) => (),
+        Err(_) => return Err(Stop::Memory),
+    }
+    let start = Instant::now(rt)?;
+    let _is_new = keep.renew(conf, &[true, true], store, &systems)?;
     Ok(start.elapsed(rt)?)
 }
 

@@ -27,17 +27,47 @@ fn append_link(content: &mut Octets, router: u16, metric: u8) -> M<()> {
     content.append(&[0, 0, 0, metric, 0])
 }
 
-/// Appends the links of the router at a place: those of the ring, and at each fifth place a chord to the other side. The
-/// link to the next router has that metric.
-fn append_links(content: &mut Octets, nodes: u16, place: u16, metric: u8) -> M<()>
+/// A router that says nothing: a link to it doesn't count.
+const NOWHERE: u16 = 65_535;
+
+/// What changes of what a router says: its sequence number, the metric of its link to the next router of the ring, and
+/// which of its two links there are up.
+#[derive(Clone, Copy)]
+struct Says {
+    seq: u32,
+    metric: u8,
+    has_next: bool,
+    has_previous: bool,
+}
+
+/// What a router says at first.
+const FIRST: Says = Says {
+    seq: 1,
+    metric: 10,
+    has_next: true,
+    has_previous: true,
+};
+
+/// Appends the links of the router at a place: those of the ring, and at each fifth place a chord to the other side.
+fn append_links(content: &mut Octets, nodes: u16, place: u16, says: Says) -> M<()>
     requires few { nodes ≤ 1000 }
     requires some { 0 < nodes }
     requires within { place < nodes }
 {
     let chord = place % 5 == 2;
     content.append(&[22, if chord { 33 } else { 22 }])?;
-    append_link(content, router_at(nodes, (place + 1) % nodes), metric)?;
-    append_link(content, router_at(nodes, (place + nodes - 1) % nodes), 10)?;
+    let next = router_at(nodes, (place + 1) % nodes);
+    let previous = router_at(nodes, (place + nodes - 1) % nodes);
+    append_link(
+        content,
+        if says.has_next { next } else { NOWHERE },
+        says.metric,
+    )?;
+    append_link(
+        content,
+        if says.has_previous { previous } else { NOWHERE },
+        10,
+    )?;
     if chord {
         append_link(content, router_at(nodes, (place + nodes / 2) % nodes), 25)?;
     }
@@ -55,14 +85,14 @@ fn append_place(content: &mut Octets, router: u16) -> M<()> {
 }
 
 /// What the router at a place says of itself.
-fn router_entry(alloc: Global, nodes: u16, place: u16, seq: u32, metric: u8) -> M<Entry>
+fn router_entry(alloc: Global, nodes: u16, place: u16, says: Says) -> M<Entry>
     requires few { nodes ≤ 1000 }
     requires some { 0 < nodes }
     requires within { place < nodes }
 {
     let router = router_at(nodes, place);
     let mut content = Octets::new(alloc);
-    append_links(&mut content, nodes, place, metric)?;
+    append_links(&mut content, nodes, place, says)?;
     append_place(&mut content, router)?;
     Ok(Entry {
         id: LspId {
@@ -70,7 +100,7 @@ fn router_entry(alloc: Global, nodes: u16, place: u16, seq: u32, metric: u8) -> 
             pseudonode: 0,
             fragment: 0,
         },
-        seq,
+        seq: says.seq,
         life: 1200,
         hold: 0,
         sum: 1,
@@ -84,7 +114,7 @@ fn put_router(store: &mut Store, alloc: Global, nodes: u16, place: u16) -> M<()>
     requires some { 0 < nodes }
     requires within { place < nodes }
 {
-    match store.put(router_entry(alloc, nodes, place, 1, 10)?) {
+    match store.put(router_entry(alloc, nodes, place, FIRST)?) {
         Ok(()) => Ok(()),
         Err(_) => Err(Memory),
     }
@@ -106,5 +136,31 @@ pub fn changed_entry(alloc: Global, nodes: u16) -> M<Entry>
     requires few { nodes ≤ 1000 }
     requires some { 0 < nodes }
 {
-    router_entry(alloc, nodes, nodes / 2, 2, 20)
+    let says = Says {
+        seq: 2,
+        metric: 20,
+        ..FIRST
+    };
+    router_entry(alloc, nodes, nodes / 2, says)
+}
+
+/// What that router and the next one say once the link between them is lost.
+pub fn parted_entries(alloc: Global, nodes: u16) -> M<(Entry, Entry)>
+    requires few { nodes ≤ 1000 }
+    requires some { 0 < nodes }
+{
+    let before = Says {
+        seq: 3,
+        has_next: false,
+        ..FIRST
+    };
+    let after = Says {
+        seq: 2,
+        has_previous: false,
+        ..FIRST
+    };
+    let place = nodes / 2;
+    let first = router_entry(alloc, nodes, place, before)?;
+    let second = router_entry(alloc, nodes, (place + 1) % nodes, after)?;
+    Ok((first, second))
 }
