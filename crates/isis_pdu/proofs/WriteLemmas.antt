@@ -1,17 +1,25 @@
 -- What is written is read again.
-use Rattle.std.proofs.Common.{◌≡◌, ℕ, ◌*◌, ◌<◌, ◌≤◌, min, List, [], ◌∷◌, ◌++◌, length, take, drop, true, Result, Ok, Err, sym, subst, ap, ◌∙◌, append_assoc, arith}
+use Rattle.std.proofs.Common.{◌≡◌, ℕ, zero, suc, ◌+◌, ◌*◌, ◌/◌, ◌<◌, ◌≤◌, min, List, [], ◌∷◌, ◌++◌, length, take, drop, true, Result, Ok, Err, sym, subst, ap, ◌∙◌, append_assoc, length-append, length-take, length-drop, arith}
 use Rattle.std.specs.List.{flat_map, AllByRecursion}
 use Rattle.std.specs.Prelude.{IfOk, OnOk}
 use Rattle.std.proofs.lemmas.List.{append-nil, take_all, take-append-drop, nil_from_length}
+use Rattle.byteorder.specs.Endian.{big_bytes}
 use Rattle.wire_base.specs.declared.limits.TheConstants.{MOST_LISTED}
 use Rattle.wire_base.specs.declared.addresses.SystemId.{SystemId}
 use Rattle.wire_base.specs.declared.addresses.LspId.{LspId}
 use Rattle.wire_base.specs.declared.triple.Summary.{Summary}
 use Rattle.wire_base.specs.declared.conf.Level.{Level}
-use Rattle.wire_base.specs.model.Tlv.{tlv, SummaryFits, LspIdFits, row}
-use Rattle.wire_base.specs.model.Pdu.{Head, LspPdu, CsnpPdu, PsnpPdu, LspFits, lsp, csnp, psnp, pdu_at, row_tlv, row_tlvs}
-use Rattle.format_laws.proofs.TlvListLaws.{row_tlvs_pass, row_tlvs_length, row_tlvs_step, row_tlvs_end, length_rows, fits_joined, passes_are}
+use Rattle.wire_base.specs.model.Tlv.{tlv, lsp_id, SummaryFits, LspIdFits, row}
+use Rattle.wire_base.specs.model.Pdu.{Head, LspPdu, CsnpPdu, PsnpPdu, LspFits, common, lsp_type, lsp, csnp, psnp, pdu_at, row_tlv, row_tlvs, blocks_within}
+use Rattle.format_laws.proofs.TlvListLaws.{row_tlvs_pass, row_tlvs_length, row_tlvs_step, row_tlvs_end, length_rows, fits_take, fits_drop, fits_joined, passes_are}
 use Rattle.format_laws.proofs.PduLaws.{lsp_read, csnp_read, psnp_read}
+
+-- the octets before the TLVs, and the TLVs, are the whole
+pub lsp_joined : (level : Level) (head : Head) (tlvs front : List ℕ) → front ≡ common 27 (lsp_type level) ++ (big_bytes 2 (27 + length tlvs) ++ (big_bytes 2 head.life ++ (lsp_id head.id ++ (big_bytes 4 head.seq ++ (big_bytes 2 head.sum ++ (head.flags ∷ [])))))) → front ++ tlvs ≡ lsp level head tlvs
+lsp_joined level head tlvs front is =
+    let after = big_bytes 4 head.seq ++ (big_bytes 2 head.sum ++ (head.flags ∷ [])) in
+    ap (λ (l : List ℕ). l ++ tlvs) is
+    ∙ ap (λ (l : List ℕ). common 27 (lsp_type level) ++ (big_bytes 2 (27 + length tlvs) ++ (big_bytes 2 head.life ++ l))) (append_assoc (lsp_id head.id) after tlvs)
 
 pub lsp_read_again : {E : Type 0} (level : Level) (head : Head) (tlvs : List ℕ) (r : Result (List ℕ) E) → IfOk r (λ o. o ≡ lsp level head tlvs) → LspFits head tlvs
     → IfOk r (λ o. (rest : List ℕ) → pdu_at level (o ++ rest) ≡ Ok (LspPdu head tlvs))
@@ -52,8 +60,18 @@ cut_end out total rest none text =
     let nil : rest ≡ [] = nil_from_length rest none in
     sym (append-nil out) ∙ ap (λ (l : List ℕ). out ++ l) (sym row_tlvs_end) ∙ ap (λ (es : List Summary). out ++ row_tlvs es) (sym nil) ∙ text
 
-pub rows_short : (tlvs : List ℕ) (rows : List Summary) → length rows ≤ MOST_LISTED → tlvs ≡ row_tlvs rows → AllByRecursion SummaryFits rows → length tlvs ≤ 1620
-rows_short tlvs rows few e fits =
-    let l0 = ap length e in
-    let l1 = row_tlvs_length rows fits in
-    omega (arith, l0, l1)
+listed_within : (m : ℕ) (rows : List Summary) → length rows ≤ m → AllByRecursion SummaryFits rows → length (flat_map (λ block. tlv (row_tlv block)) (blocks_within m rows)) ≤ 16 * length rows + 2 * ((length rows + 14) / 15)
+unfolding blocks_within
+listed_within zero [] h all = omega arith
+listed_within zero (s ∷ rows) h all = absurd (omega (arith, h))
+listed_within (suc m) [] h all = omega arith
+listed_within (suc m) (s ∷ rows) h all =
+    let first = length-append (tlv (row_tlv (take 15 (s ∷ rows)))) (flat_map (λ block. tlv (row_tlv block)) (blocks_within m (drop 15 (s ∷ rows)))) in
+    let more = listed_within m (drop 15 (s ∷ rows)) (omega (arith, h, length-drop 15 (s ∷ rows))) (fits_drop 15 (s ∷ rows) all) in
+    let one = length_rows (take 15 (s ∷ rows)) (fits_take 15 (s ∷ rows) all) in
+    let few = length-take 15 (s ∷ rows) in
+    omega (arith, first, more, one, few, length-drop 15 (s ∷ rows))
+
+pub rows_short : (tlvs : List ℕ) (rows : List Summary) → length rows ≤ MOST_LISTED → tlvs ≡ row_tlvs rows → AllByRecursion SummaryFits rows → length tlvs ≤ 1452
+unfolding row_tlvs
+rows_short tlvs rows few e all = omega (arith, ap length e, listed_within (length rows) rows (omega arith) all, few)

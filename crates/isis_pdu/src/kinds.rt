@@ -2,7 +2,7 @@ use wire_base::{LspId, SystemId};
 
 /// The head of a link state PDU: the seconds that it has to live, 0 where it is dead, its identifier, its sequence
 /// number, its checksum and its flags octet (ISO/IEC 10589, 9.8).
-#[derive(Clone, Copy, Debug, PartialEq, Eq)]
+#[derive(Clone, Copy)]
 pub struct LspHead {
     pub life: u16,
     pub id: LspId,
@@ -13,7 +13,7 @@ pub struct LspHead {
 
 /// A PDU of the area's level, with the octets of its TLVs; a hello; or another type, the low five bits of the type
 /// octet (ISO/IEC 10589, 9.5 to 9.13).
-#[derive(Clone, Copy, Debug)]
+#[derive(Clone, Copy)]
 pub enum Pdu<'a> {
     /// A link state PDU.
     Lsp {

@@ -12,4 +12,7 @@ pub use checksum::{checksum_at, right_sum};
 pub use kinds::{LspHead, Pdu};
 pub use reader::read_pdu;
 pub use wire_base::PduFault;
-pub use writer::{write_csnp, write_lsp, write_psnp};
+pub use writer::{
+    CSNP_FRONT, LSP_FRONT, MOST_LISTED_OCTETS, PSNP_FRONT, append_csnp, append_lsp, append_psnp,
+    write_csnp, write_lsp, write_psnp, write_rows,
+};

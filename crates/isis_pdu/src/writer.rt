@@ -1,33 +1,52 @@
-ghost use Rattle.std.specs.Prelude.{◌≡◌, ◌<◌, ◌≤◌, ◌++◌, ℕ, List, false, length, Ok, IfOk, OnOk, OnErr};
+ghost use Rattle.std.specs.Prelude.{◌≡◌, ◌<◌, ◌≤◌, ◌+◌, ◌++◌, ◌∷◌, [], ℕ, List, false, length, Ok, IfOk, OnOk, OnErr};
 ghost use Rattle.std.specs.List.{AllByRecursion};
+ghost use Rattle.byteorder.specs.Endian.{big_bytes};
 ghost use Rattle.wire_base.specs.model.Tlv.{tlv, lsp_id, LspIdFits, SummaryFits};
 ghost use Rattle.wire_base.specs.model.Checksum.{IsRight};
-ghost use Rattle.wire_base.specs.model.Pdu.{LspPdu, CsnpPdu, PsnpPdu, HeadFits, AreTlvs, common, lsp_covered, lsp, csnp, psnp, row_tlv, row_tlvs, pdu_at};
+ghost use Rattle.wire_base.specs.model.Pdu.{LspPdu, CsnpPdu, PsnpPdu, HeadFits, AreTlvs, lsp_type, csnp_type, psnp_type, common, lsp_covered, lsp, csnp, psnp, row_tlv, row_tlvs, pdu_at};
 ghost use Rattle.isis_pdu.specs.Views.{head_of};
 
 use crate::kinds::LspHead;
 use crate::reader::{csnp_number, lsp_number, psnp_number};
+use arrayvec::ArrayVec;
+use isis_tlv::fixed::put;
 use isis_tlv::push_summary;
 use std::alloc::Global;
 use wire_base::limits::{MOST_CONTENT, MOST_LISTED};
 use wire_base::{Level, LspId, M, Octets, Summary, SystemId};
 
-fn append_common(out: &mut Octets, size: u8, number: u8) -> M<()>
-    ensures { OnOk result (out.new ≡ out.old ++ common size number) }
+/// How many octets stand before the TLVs of a link state PDU.
+pub const LSP_FRONT: usize = 27;
+
+/// How many stand before those of a complete sequence numbers PDU.
+pub const CSNP_FRONT: usize = 33;
+
+/// How many stand before those of a partial one.
+pub const PSNP_FRONT: usize = 17;
+
+/// Octets of the TLVs that list the entries of a sequence numbers PDU: 90 of 16 octets, in six TLVs.
+pub const MOST_LISTED_OCTETS: usize = 1_452;
+
+/// The eight octets that begin each PDU: its header has that length, and it has that type.
+fn common(size: u8, number: u8) -> [u8; 8]
+    ensures { result ≡ common size number }
 {
-    out.append(&[0x83, size, 1, 0, number, 1, 0, 0])
+    [0x83, size, 1, 0, number, 1, 0, 0]
 }
 
-fn append_id(out: &mut Octets, id: LspId) -> M<()>
-    ensures spelled { OnOk result (out.new ≡ out.old ++ lsp_id id) }
+/// The octets of an identifier.
+fn id_octets(id: LspId) -> [u8; 8]
+    ensures spelled { result ≡ lsp_id id }
     ensures fits { LspIdFits id }
 {
-    out.append_two(&id.system.0, &[id.pseudonode, id.fragment])
+    let [a, b, c, d, e, f] = id.system.0;
+    [a, b, c, d, e, f, id.pseudonode, id.fragment]
 }
 
-fn lsp_octets(alloc: Global, level: Level, head: &LspHead, tlvs: &[u8]) -> M<Octets>
-    requires { length tlvs.now ≤ MOST_CONTENT }
-    ensures spelled { IfOk result (λ o. o ≡ lsp level (head_of head.now) tlvs.now) }
+/// The octets before the TLVs of a link state PDU of that length.
+fn lsp_front(level: Level, head: &LspHead, size: u16) -> ArrayVec<u8, LSP_FRONT>
+    ensures spelled { result.items ≡ common 27 (lsp_type level) ++ (big_bytes 2 size ++ (big_bytes 2 head.now.life ++ (lsp_id head.now.id ++ (big_bytes 4 head.now.seq ++ (big_bytes 2 head.now.sum ++ (head.now.flags ∷ [])))))) }
+    ensures long { length result.items ≡ 27 }
     ensures fits { HeadFits (head_of head.now) }
 {
     let LspHead {
@@ -37,16 +56,38 @@ fn lsp_octets(alloc: Global, level: Level, head: &LspHead, tlvs: &[u8]) -> M<Oct
         sum,
         flags,
     } = *head;
-    let size = 27 + tlvs.len() as u16;
-    let mut out = Octets::with_room(alloc, usize::from(size))?;
-    append_common(&mut out, 27, lsp_number(level))?;
-    out.append(&size.to_be_bytes())?;
-    out.append(&life.to_be_bytes())?;
-    append_id(&mut out, id)?;
-    out.append(&seq.to_be_bytes())?;
-    out.append(&sum.to_be_bytes())?;
-    out.push(flags)?;
-    out.append(tlvs)?;
+    let mut front = ArrayVec::new();
+    put(&mut front, &common(27, lsp_number(level)));
+    put(&mut front, &size.to_be_bytes());
+    put(&mut front, &life.to_be_bytes());
+    put(&mut front, &id_octets(id));
+    put(&mut front, &seq.to_be_bytes());
+    put(&mut front, &sum.to_be_bytes());
+    front.push(flags);
+    front
+}
+
+/// Appends a link state PDU, with the checksum that the head has (ISO/IEC 10589, 9.8 and 9.9). At most 1,470 octets of
+/// TLVs.
+pub fn append_lsp(out: &mut Octets, level: Level, head: &LspHead, tlvs: &[u8]) -> M<()>
+    requires { length tlvs.now ≤ MOST_CONTENT }
+    ensures ok { OnOk result (out.new ≡ out.old ++ lsp level (head_of head.now) tlvs.now) }
+    ensures err { OnErr result (out.new ≡ out.old) }
+    ensures long { length (lsp level (head_of head.now) tlvs.now) ≡ LSP_FRONT + length tlvs.now }
+    ensures fits { HeadFits (head_of head.now) }
+{
+    let front = lsp_front(level, head, (LSP_FRONT + tlvs.len()) as u16);
+    out.append_two(front.as_slice(), tlvs)
+}
+
+fn lsp_octets(alloc: Global, level: Level, head: &LspHead, tlvs: &[u8]) -> M<Octets>
+    requires { length tlvs.now ≤ MOST_CONTENT }
+    ensures spelled { IfOk result (λ o. o ≡ lsp level (head_of head.now) tlvs.now) }
+    ensures fits { HeadFits (head_of head.now) }
+{
+    let front = lsp_front(level, head, (LSP_FRONT + tlvs.len()) as u16);
+    let mut out = Octets::with_room(alloc, LSP_FRONT + tlvs.len())?;
+    out.append_two(front.as_slice(), tlvs)?;
     Ok(out)
 }
 
@@ -90,40 +131,60 @@ fn append_rows(out: &mut Octets, rows: &[Summary]) -> M<()>
     Ok(())
 }
 
-fn row_octets(alloc: Global, rows: &[Summary]) -> M<Octets>
+/// The TLVs 9 that list those entries, at most 15 each, full ones first (ISO/IEC 10589, 9.10). At most 90 entries.
+pub fn write_rows(alloc: Global, rows: &[Summary]) -> M<Octets>
     requires { length rows.now ≤ MOST_LISTED }
     ensures ok { IfOk result (λ o. o ≡ row_tlvs rows.now) }
-    ensures short { IfOk result (λ o. length o ≤ 1620) }
+    ensures short { IfOk result (λ o. length o ≤ MOST_LISTED_OCTETS) }
     ensures fits { OnOk result (AllByRecursion SummaryFits rows.now) }
 {
-    let mut out = Octets::new(alloc);
+    let blocks = (rows.len() + 14) / 15;
+    let mut out = Octets::with_room(alloc, 16 * rows.len() + 2 * blocks)?;
     append_rows(&mut out, rows)?;
     Ok(out)
 }
 
-fn csnp_octets(
-    alloc: Global,
+/// The octets before the TLVs of a complete sequence numbers PDU of that length.
+fn csnp_front(
+    level: Level,
+    source: SystemId,
+    start: LspId,
+    last: LspId,
+    size: u16,
+) -> ArrayVec<u8, CSNP_FRONT>
+    ensures spelled { result.items ≡ common 33 (csnp_type level) ++ (big_bytes 2 size ++ (source.0 ++ (0 ∷ (lsp_id start ++ lsp_id last)))) }
+    ensures long { length result.items ≡ 33 }
+    ensures source { length source.0 ≡ 6 }
+    ensures fits { LspIdFits start × LspIdFits last }
+{
+    let mut front = ArrayVec::new();
+    put(&mut front, &common(33, csnp_number(level)));
+    put(&mut front, &size.to_be_bytes());
+    put(&mut front, &source.0);
+    front.push(0);
+    put(&mut front, &id_octets(start));
+    put(&mut front, &id_octets(last));
+    front
+}
+
+/// Appends a complete sequence numbers PDU with those TLVs (ISO/IEC 10589, 9.10 and 9.11).
+pub fn append_csnp(
+    out: &mut Octets,
     level: Level,
     source: SystemId,
     start: LspId,
     last: LspId,
     tlvs: &[u8],
-) -> M<Octets>
-    requires { length tlvs.now ≤ 1620 }
-    ensures spelled { IfOk result (λ o. o ≡ csnp level source start last tlvs.now) }
+) -> M<()>
+    requires { length tlvs.now ≤ MOST_LISTED_OCTETS }
+    ensures ok { OnOk result (out.new ≡ out.old ++ csnp level source start last tlvs.now) }
+    ensures err { OnErr result (out.new ≡ out.old) }
+    ensures long { length (csnp level source start last tlvs.now) ≡ CSNP_FRONT + length tlvs.now }
     ensures source { length source.0 ≡ 6 }
-    ensures fits { OnOk result (LspIdFits start × LspIdFits last) }
+    ensures fits { LspIdFits start × LspIdFits last }
 {
-    let size = 33 + tlvs.len() as u16;
-    let mut out = Octets::with_room(alloc, usize::from(size))?;
-    append_common(&mut out, 33, csnp_number(level))?;
-    out.append(&size.to_be_bytes())?;
-    out.append(&source.0)?;
-    out.push(0)?;
-    append_id(&mut out, start)?;
-    append_id(&mut out, last)?;
-    out.append(tlvs)?;
-    Ok(out)
+    let front = csnp_front(level, source, start, last, (CSNP_FRONT + tlvs.len()) as u16);
+    out.append_two(front.as_slice(), tlvs)
 }
 
 fn csnp_whole(
@@ -140,8 +201,10 @@ fn csnp_whole(
     ensures fits { OnOk result (LspIdFits start × LspIdFits last) }
     ensures rows { OnOk result (AllByRecursion SummaryFits rows.now) }
 {
-    let tlvs = row_octets(alloc, rows)?;
-    csnp_octets(alloc, level, source, start, last, tlvs.as_slice())
+    let tlvs = write_rows(alloc, rows)?;
+    let mut out = Octets::with_room(alloc, CSNP_FRONT + tlvs.len())?;
+    append_csnp(&mut out, level, source, start, last, tlvs.as_slice())?;
+    Ok(out)
 }
 
 /// A complete sequence numbers PDU, its entries in TLVs 9 of at most 15 (ISO/IEC 10589, 9.10 and 9.11). At most 90
@@ -164,19 +227,30 @@ pub fn write_csnp(
     csnp_whole(alloc, level, source, start, last, rows)
 }
 
-fn psnp_octets(alloc: Global, level: Level, source: SystemId, tlvs: &[u8]) -> M<Octets>
-    requires { length tlvs.now ≤ 1620 }
-    ensures spelled { IfOk result (λ o. o ≡ psnp level source tlvs.now) }
+/// The octets before the TLVs of a partial sequence numbers PDU of that length.
+fn psnp_front(level: Level, source: SystemId, size: u16) -> ArrayVec<u8, PSNP_FRONT>
+    ensures spelled { result.items ≡ common 17 (psnp_type level) ++ (big_bytes 2 size ++ (source.0 ++ (0 ∷ []))) }
+    ensures long { length result.items ≡ 17 }
     ensures source { length source.0 ≡ 6 }
 {
-    let size = 17 + tlvs.len() as u16;
-    let mut out = Octets::with_room(alloc, usize::from(size))?;
-    append_common(&mut out, 17, psnp_number(level))?;
-    out.append(&size.to_be_bytes())?;
-    out.append(&source.0)?;
-    out.push(0)?;
-    out.append(tlvs)?;
-    Ok(out)
+    let mut front = ArrayVec::new();
+    put(&mut front, &common(17, psnp_number(level)));
+    put(&mut front, &size.to_be_bytes());
+    put(&mut front, &source.0);
+    front.push(0);
+    front
+}
+
+/// Appends a partial sequence numbers PDU with those TLVs (ISO/IEC 10589, 9.12 and 9.13).
+pub fn append_psnp(out: &mut Octets, level: Level, source: SystemId, tlvs: &[u8]) -> M<()>
+    requires { length tlvs.now ≤ MOST_LISTED_OCTETS }
+    ensures ok { OnOk result (out.new ≡ out.old ++ psnp level source tlvs.now) }
+    ensures err { OnErr result (out.new ≡ out.old) }
+    ensures long { length (psnp level source tlvs.now) ≡ PSNP_FRONT + length tlvs.now }
+    ensures source { length source.0 ≡ 6 }
+{
+    let front = psnp_front(level, source, (PSNP_FRONT + tlvs.len()) as u16);
+    out.append_two(front.as_slice(), tlvs)
 }
 
 fn psnp_whole(alloc: Global, level: Level, source: SystemId, rows: &[Summary]) -> M<Octets>
@@ -185,8 +259,10 @@ fn psnp_whole(alloc: Global, level: Level, source: SystemId, rows: &[Summary]) -
     ensures source { OnOk result (length source.0 ≡ 6) }
     ensures rows { OnOk result (AllByRecursion SummaryFits rows.now) }
 {
-    let tlvs = row_octets(alloc, rows)?;
-    psnp_octets(alloc, level, source, tlvs.as_slice())
+    let tlvs = write_rows(alloc, rows)?;
+    let mut out = Octets::with_room(alloc, PSNP_FRONT + tlvs.len())?;
+    append_psnp(&mut out, level, source, tlvs.as_slice())?;
+    Ok(out)
 }
 
 /// A partial sequence numbers PDU, its entries in TLVs 9 of at most 15 (ISO/IEC 10589, 9.12 and 9.13). At most 90
