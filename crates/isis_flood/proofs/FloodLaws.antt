@@ -14,8 +14,8 @@ use Rattle.wire_base.specs.model.Flooding.{mark_all, forget, with_row, no_links,
 use Rattle.lsp_store.proofs.OrderLaws.{tie_is_same, below_trans, below_differs, above_differs, same_turned}
 use Rattle.isis_flood.specs.declared.table.Bits.{Bits}
 use Rattle.isis_flood.specs.Masks.{links_in, row_of, rows_of, row_ids, row_in, no_bits, bits_in, put_bits, without_bits, flood_of, Flooding, clears}
-use Rattle.isis_flood.specs.Flags.{has_flags}
-use Rattle.isis_flood.proofs.BusyLaws.{past_rows, rows_same}
+use Rattle.isis_flood.specs.Flags.{has_srm, has_ssn}
+use Rattle.isis_flood.proofs.BusyLaws.{past_srm, past_ssn, rows_same}
 use Rattle.isis_flood.proofs.MaskLaws.{links_none, links_long}
 
 none_is : (n : ℕ) (id : LspId) → row_of n (no_bits id) ≡ no_flags n id
@@ -167,12 +167,18 @@ module _ (own : SystemId) (n up due spare : ℕ) (rows : List Bits) (now : Flood
   ssn_is link id b answer row asc is =
       is ∙ ap (λ (r : Bits). get_or (links_in n r.ssn) link false) row ∙ ssn_seen n link rows id asc ∙ ap (λ (f : Flood). ssn_in f.rows id link) flood_seen
 
-  -- whether there is a flag on a link
-  pub flags_are : (link : ℕ) (answer : Bool) → answer ≡ has_flags (rows_of n rows) link → answer ≡ has_flags now.flood.rows link
-  flags_are link answer is = is ∙ ap (λ (f : Flood). has_flags f.rows link) flood_seen
+  -- whether there is a flag of a kind on a link
+  pub unsent_is : (link : ℕ) → has_srm (rows_of n rows) link ≡ false → has_srm now.flood.rows link ≡ false
+  unsent_is link none = ap (λ (f : Flood). has_srm f.rows link) (sym flood_seen) ∙ none
 
-  pub past_is : (link : ℕ) → n ≤ link → false ≡ has_flags now.flood.rows link
-  past_is link past = flags_are link false (sym (past_rows n rows link past))
+  pub unasked_is : (link : ℕ) → has_ssn (rows_of n rows) link ≡ false → has_ssn now.flood.rows link ≡ false
+  unasked_is link none = ap (λ (f : Flood). has_ssn f.rows link) (sym flood_seen) ∙ none
+
+  pub past_unsent : (link : ℕ) → n ≤ link → has_srm now.flood.rows link ≡ false
+  past_unsent link past = unsent_is link (past_srm n rows link past)
+
+  pub past_unasked : (link : ℕ) → n ≤ link → has_ssn now.flood.rows link ≡ false
+  past_unasked link past = unasked_is link (past_ssn n rows link past)
 
   -- nothing is changed on a link that there isn't
   pub past_down : (link : ℕ) → n ≤ link → now.flood ≡ link_down now.flood link
@@ -181,7 +187,7 @@ module _ (own : SystemId) (n up due spare : ℕ) (rows : List Bits) (now : Flood
       subst (λ (f : Flood). f ≡ link_down f link) flood_seen (sym (
       ap (λ (l : List Bool). record { own = own; up = l; due = set (links_in n due) link false; rows = map (clears true link) (rows_of n rows) }) (set_past (links_in n up) link false (let long = links_long n up in omega (arith, long, past)))
       ∙ ap (λ (l : List Bool). record { own = own; up = links_in n up; due = l; rows = map (clears true link) (rows_of n rows) }) (set_past (links_in n due) link false (let long = links_long n due in omega (arith, long, past)))
-      ∙ ap (λ (rs : List FlagRow). record { own = own; up = links_in n up; due = links_in n due; rows = rs }) (rows_same true link (rows_of n rows) (past_rows n rows link past))
+      ∙ ap (λ (rs : List FlagRow). record { own = own; up = links_in n up; due = links_in n due; rows = rs }) (rows_same true link (rows_of n rows) (past_ssn n rows link past) (past_srm n rows link past))
       ))
 
   pub past_sent : (link : ℕ) → n ≤ link → now.flood ≡ sent_on now.flood link
@@ -189,7 +195,7 @@ module _ (own : SystemId) (n up due spare : ℕ) (rows : List Bits) (now : Flood
   past_sent link past =
       subst (λ (f : Flood). f ≡ sent_on f link) flood_seen (sym (
       ap (λ (l : List Bool). record { own = own; up = links_in n up; due = l; rows = map (clears false link) (rows_of n rows) }) (set_past (links_in n due) link false (let long = links_long n due in omega (arith, long, past)))
-      ∙ ap (λ (rs : List FlagRow). record { own = own; up = links_in n up; due = links_in n due; rows = rs }) (rows_same false link (rows_of n rows) (past_rows n rows link past))
+      ∙ ap (λ (rs : List FlagRow). record { own = own; up = links_in n up; due = links_in n due; rows = rs }) (rows_same false link (rows_of n rows) (past_ssn n rows link past) refl)
       ))
 
   pub forgets : (id : LspId) (new : List Bits) → new ≡ without_bits id rows → flood_of own n up due new ≡ forget now.flood id

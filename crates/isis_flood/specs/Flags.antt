@@ -1,12 +1,16 @@
--- Whether there is anything to send on a link.
-use Rattle.std.specs.Prelude.{ℕ, ◌||◌, Bool, false, List, slice_index_or}
+-- Whether there is anything to send on a link, by kind.
+use Rattle.std.specs.Prelude.{ℕ, Bool, false, List, slice_index_or}
 use Rattle.std.specs.List.{list_any}
 use Rattle.wire_base.specs.model.Control.{FlagRow}
 
--- a row with a flag on a link
-abbrev pub is_flagged : ℕ → FlagRow → Bool
-is_flagged link row = slice_index_or row.srm link false || slice_index_or row.ssn link false
+-- whether some row has a flag on a link, of those that are read from a row so
+abbrev pub has_flag : (FlagRow → List Bool) → List FlagRow → ℕ → Bool
+has_flag flags rows link = list_any (λ row. slice_index_or (flags row) link false) rows
 
--- whether the link state PDU of some identifier is to be sent, acknowledged or asked for on a link
-abbrev pub has_flags : List FlagRow → ℕ → Bool
-has_flags rows link = list_any (is_flagged link) rows
+-- whether the link state PDU of some identifier is to be sent on a link
+abbrev pub has_srm : List FlagRow → ℕ → Bool
+has_srm rows link = has_flag (λ row. row.srm) rows link
+
+-- whether that of some identifier is to be acknowledged or asked for there
+abbrev pub has_ssn : List FlagRow → ℕ → Bool
+has_ssn rows link = has_flag (λ row. row.ssn) rows link

@@ -8,7 +8,7 @@ use Rattle.wire_base.specs.model.Control.{id_order, same_id, AreAscending, FlagR
 use Rattle.wire_base.specs.model.Flooding.{clear_both, clear_ssn}
 use Rattle.lsp_store.specs.Places.{place_in, stands_at}
 use Rattle.isis_flood.specs.declared.table.Bits.{Bits}
-use Rattle.isis_flood.specs.Flags.{has_flags}
+use Rattle.isis_flood.specs.Flags.{has_srm, has_ssn}
 
 -- the values of a test at n numbers from i on
 abbrev pub spread : (ℕ → Bool) → ℕ → ℕ → List Bool
@@ -75,10 +75,11 @@ pub record IsPlace (rows : List Bits) (id : LspId) (there : Bool) (p : ℕ) : Ty
   pub place : p ≡ place_in (row_ids rows) id
   pub stands : stands_at (row_ids rows) p id ≡ there
 
--- what a table of rows keeps: no row has a flag on a link that isn't busy
-pub record IsTable (busy : ℕ) (rows : List Bits) : Type 0 where
+-- what a table of rows keeps: of each kind, no row has a flag on a link that isn't in the kind's mask
+pub record IsTable (sending asking : ℕ) (rows : List Bits) : Type 0 where
   pub ascends : AreAscending (row_ids rows)
-  pub idle : (i : ℕ) → i < 64 → at_bit busy i ≡ false → has_flags (rows_of 64 rows) i ≡ false
+  pub unsent : (i : ℕ) → i < 64 → at_bit sending i ≡ false → has_srm (rows_of 64 rows) i ≡ false
+  pub unasked : (i : ℕ) → i < 64 → at_bit asking i ≡ false → has_ssn (rows_of 64 rows) i ≡ false
 
 -- a row without its acknowledgements on a link, or without any flag there
 abbrev pub clears : Bool → ℕ → FlagRow → FlagRow

@@ -1,7 +1,7 @@
 ghost use Rattle.std.specs.Prelude.{◌≡◌, ◌<◌, ◌≤◌, ◌+◌, length, slice_get, slice_index_or, slice_set, Some, None, IfSome, if◌then◌else◌, true, false, IsOk, IfOk, OnOk, OnErr};
 ghost use Rattle.wire_base.specs.model.Control.{FlagRow, srm_in, ssn_in, without_row};
 ghost use Rattle.wire_base.specs.model.Flooding.{with_row, send_on, ask_on, set_srm, pass_on, mark_all, forget, link_down, sent_on, new_flood};
-ghost use Rattle.isis_flood.specs.Flags.{has_flags};
+ghost use Rattle.isis_flood.specs.Flags.{has_srm, has_ssn};
 ghost use Rattle.isis_flood.specs.Masks.{links_in, row_of, row_in};
 
 use crate::masks::{has_of, mask_of, with, without};
@@ -85,15 +85,26 @@ impl Flood {
         has_of(self.table.get(&id).ssn, self.links, link)
     }
 
-    /// Whether the link state PDU of some identifier is to be sent, acknowledged or asked for on a link. No row is read
-    /// where none had a flag there when `sent` or `link_down` was last called, and none got one since.
-    pub fn has_flags(&self, link: u16) -> bool
-        ensures { result ≡ has_flags self.now.flood.rows link }
+    /// Whether the link state PDU of some identifier may be to be sent on a link: false only where none is. It reads no
+    /// row, and is false where none was to be sent there when `sent` or `link_down` was last called, and none came since.
+    pub fn may_send(&self, link: u16) -> bool
+        ensures { result ≡ false → has_srm self.now.flood.rows link ≡ false }
     {
         if link >= self.links {
             return false;
         }
-        self.table.has_flags(link)
+        self.table.may_send(link)
+    }
+
+    /// Whether the link state PDU of some identifier may be to be acknowledged or asked for on a link: false only where
+    /// none is. It reads no row, and is false after `sent` and `link_down` until one comes.
+    pub fn may_ask(&self, link: u16) -> bool
+        ensures { result ≡ false → has_ssn self.now.flood.rows link ≡ false }
+    {
+        if link >= self.links {
+            return false;
+        }
+        self.table.may_ask(link)
     }
 
     /// How many identifiers have a row of flags, in their order; a row may be without flags.
@@ -309,5 +320,6 @@ impl Flood {
         }
         self.due = without(self.due, link);
         self.table.clear(link, false);
+        self.table.settle(link);
     }
 }

@@ -20,6 +20,13 @@ pub(crate) fn without_bit(mask: u64, link: u16) -> u64
     mask & !(1 << link)
 }
 
+/// The links of both masks.
+pub(crate) fn joined(mask: u64, more: u64) -> u64
+    ensures { (i : ℕ) → at_bit result i ≡ false → (at_bit mask i ≡ false) × (at_bit more i ≡ false) }
+{
+    mask | more
+}
+
 /// Whether the mask has a link.
 pub(crate) fn has_bit(mask: u64, link: u16) -> bool
     requires { link < 64 }

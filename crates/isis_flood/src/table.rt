@@ -1,10 +1,10 @@
-ghost use Rattle.std.specs.Prelude.{◌≡◌, ◌≢◌, ◌<◌, ◌≤◌, ◌+◌, ◌||◌, [], map, ℕ, true, false, length, vec_len, vec_capacity, IsOk, IfOk, IfErr, OnOk, OnErr};
+ghost use Rattle.std.specs.Prelude.{◌≡◌, ◌≢◌, ◌<◌, ◌≤◌, ◌+◌, ◌||◌, ◌&&◌, [], map, ℕ, true, false, length, vec_len, vec_capacity, IsOk, IfOk, IfErr, OnOk, OnErr};
 ghost use Rattle.std.specs.List.{list_any};
 ghost use Rattle.wire_base.specs.model.Control.{AreAscending};
-ghost use Rattle.isis_flood.specs.Flags.{is_flagged, has_flags};
+ghost use Rattle.isis_flood.specs.Flags.{has_srm, has_ssn};
 ghost use Rattle.isis_flood.specs.Masks.{at_bit, row_of, rows_of, row_ids, bits_in, put_bits, without_bits, clears, IsPlace};
 
-use crate::masks::{has, has_bit, with_bit, without, without_bit};
+use crate::masks::{has_bit, joined, without, without_bit};
 use lsp_store::{Keyed, place_of, stands_at};
 use std::alloc::Global;
 use std::marker::Model;
@@ -19,12 +19,13 @@ pub(crate) struct Bits {
     pub(crate) ssn: u64,
 }
 
-/// Rows of flags in the order of their identifiers, none twice. No row has a flag on a link that isn't busy, so that
-/// what asks for the flags of such a link reads no row.
+/// Rows of flags in the order of their identifiers, none twice. No row is to be sent on a link that isn't in `sending`,
+/// and none is to be acknowledged or asked for on one that isn't in `asking`: so no row is read for such a link.
 #[derive(Drop)]
 pub(crate) struct Table {
     items: Vec<Bits>,
-    busy: u64,
+    sending: u64,
+    asking: u64,
 }
 
 impl Model for Table {
@@ -35,7 +36,7 @@ impl Model for Table {
 
     ghost view = { λ t. record { rows = t.items.items; spare = vec_capacity t.items - vec_len t.items } };
 
-    ghost invariant = { λ t. IsTable t.busy t.items.items };
+    ghost invariant = { λ t. IsTable t.sending t.asking t.items.items };
 }
 
 impl Keyed for Bits {
@@ -84,39 +85,32 @@ fn clear_rows(rows: &mut Vec<Bits>, link: u16, both: bool)
     clear_at(rows.as_mut_slice(), link, both);
 }
 
-/// Whether a row has a flag on a link.
-fn is_flagged(row: &Bits, link: u16) -> bool
+/// Whether some row is to be sent on a link.
+fn any_sent(rows: &[Bits], link: u16) -> bool
     requires { link < 64 }
-    ensures { result ≡ is_flagged link (row_of 64 row.now) }
+    ensures { result ≡ list_any (λ b. at_bit b.srm link) rows.now }
 {
-    has(row.srm, link) || has(row.ssn, link)
+    rows.iter().any(|row| has_bit(row.srm, link))
 }
 
-/// Whether some row has a flag on a link.
-fn any_flagged(rows: &[Bits], link: u16) -> bool
+/// Whether a link has what is to be cleared, by the masks.
+fn may_clear(sending: u64, asking: u64, link: u16, both: bool) -> bool
     requires { link < 64 }
-    ensures { result ≡ list_any (λ b. is_flagged link (row_of 64 b)) rows.now }
+    ensures { result ≡ (at_bit asking link || (both && at_bit sending link)) }
 {
-    rows.iter().any(|row| is_flagged(row, link))
+    has_bit(asking, link) || both && has_bit(sending, link)
 }
 
-/// The links that are busy once a row is there.
-fn busy_with(busy: u64, row: &Bits) -> u64
-    ensures { (i : ℕ) → i < 64 → at_bit result i ≡ false → (at_bit busy i ≡ false) × (is_flagged i (row_of 64 row.now) ≡ false) }
-{
-    busy | row.srm | row.ssn
-}
-
-/// The links that are busy once the rows of one were read.
-fn busy_after(busy: u64, rows: &[Bits], link: u16) -> u64
+/// The mask, without a link where `cleared`.
+fn without_if(mask: u64, link: u16, cleared: bool) -> u64
     requires { link < 64 }
-    ensures here { at_bit result link ≡ list_any (λ b. is_flagged link (row_of 64 b)) rows.now }
-    ensures others { (i : ℕ) → i < 64 → i ≢ link → at_bit result i ≡ at_bit busy i }
+    ensures same { cleared ≡ false → result ≡ mask }
+    ensures others { (i : ℕ) → i < 64 → i ≢ link → at_bit result i ≡ at_bit mask i }
 {
-    if any_flagged(rows, link) {
-        with_bit(busy, link)
+    if cleared {
+        without_bit(mask, link)
     } else {
-        without_bit(busy, link)
+        mask
     }
 }
 
@@ -126,7 +120,8 @@ impl Table {
     {
         Table {
             items: Vec::new(alloc),
-            busy: 0,
+            sending: 0,
+            asking: 0,
         }
     }
 
@@ -174,13 +169,15 @@ impl Table {
     {
         match self.find(&row.id) {
             Ok(place) => {
-                self.busy = busy_with(self.busy, &row);
+                self.sending = joined(self.sending, row.srm);
+                self.asking = joined(self.asking, row.ssn);
                 self.items[place] = row;
                 Ok(())
             }
             Err(place) => {
                 self.items.insert(place, row)?;
-                self.busy = busy_with(self.busy, &row);
+                self.sending = joined(self.sending, row.srm);
+                self.asking = joined(self.asking, row.ssn);
                 Ok(())
             }
         }
@@ -210,28 +207,45 @@ impl Table {
         Ok(())
     }
 
-    /// Whether some row has a flag on a link. No row is read where the link isn't busy.
-    pub(crate) fn has_flags(&self, link: u16) -> bool
+    /// Whether a row may be to be sent on a link.
+    pub(crate) fn may_send(&self, link: u16) -> bool
         requires { link < 64 }
-        ensures { (n : ℕ) → link < n → n ≤ 64 → result ≡ has_flags (rows_of n self.now.rows) link }
+        ensures { (n : ℕ) → link < n → n ≤ 64 → result ≡ false → has_srm (rows_of n self.now.rows) link ≡ false }
     {
-        if !has_bit(self.busy, link) {
-            return false;
-        }
-        any_flagged(self.items.as_slice(), link)
+        has_bit(self.sending, link)
+    }
+
+    /// Whether a row may be to be acknowledged or asked for on a link.
+    pub(crate) fn may_ask(&self, link: u16) -> bool
+        requires { link < 64 }
+        ensures { (n : ℕ) → link < n → n ≤ 64 → result ≡ false → has_ssn (rows_of n self.now.rows) link ≡ false }
+    {
+        has_bit(self.asking, link)
     }
 
     /// No row is to be acknowledged or asked for on a link; where `both`, none is to be sent there either. No row is
-    /// read where the link isn't busy, and a link that is left without flags is busy no longer.
+    /// read where the masks say that none has such a flag.
     pub(crate) fn clear(&mut self, link: u16, both: bool)
         requires { link < 64 }
         ensures rows { (n : ℕ) → link < n → n ≤ 64 → rows_of n self.new.rows ≡ map (clears both link) (rows_of n self.old.rows) }
         ensures spare { self.new.spare ≡ self.old.spare }
     {
-        if !has_bit(self.busy, link) {
+        if !may_clear(self.sending, self.asking, link, both) {
             return;
         }
         clear_rows(&mut self.items, link, both);
-        self.busy = busy_after(self.busy, self.items.as_slice(), link);
+        self.sending = without_if(self.sending, link, both);
+        self.asking = without_bit(self.asking, link);
+    }
+
+    /// The rows stay, and a link on which none is to be sent isn't among those on which one may be.
+    pub(crate) fn settle(&mut self, link: u16)
+        requires { link < 64 }
+        ensures rows { self.new.rows ≡ self.old.rows }
+        ensures spare { self.new.spare ≡ self.old.spare }
+    {
+        if has_bit(self.sending, link) && !any_sent(self.items.as_slice(), link) {
+            self.sending = without_bit(self.sending, link);
+        }
     }
 }

@@ -12,16 +12,16 @@ insert-requires c = omega (arith, add_within c.self.inside.items.items c.args.se
 
 pub invariant_of-self : goal.invariant_of-self
 invariant_of-self c =
-    put_table c.self.inside.busy c.busy_with-self-inside.result c.self.inside.items.items _ c.args.row c.self.invariant (set_ascends c.self.inside.items.items c.args.self.now.rows c.in-Ok.place c.args.row (ap (λ (t : Held). t.rows) c.self.view_is) c.self.invariant.ascends c.in-Ok.ensures.there)
-    (set_puts c.self.inside.items.items c.args.self.now.rows c.in-Ok.place c.args.row (ap (λ (t : Held). t.rows) c.self.view_is) c.in-Ok.ensures.there ∙ ap (put_bits c.args.row) (sym (ap (λ (t : Held). t.rows) c.self.view_is))) c.busy_with-self-inside.ensures
+    put_table c.self.inside.sending c.self.inside.asking c.joined-self-inside.result c.joined-self-inside-in-Ok.result c.self.inside.items.items _ c.args.row c.self.invariant (set_ascends c.self.inside.items.items c.args.self.now.rows c.in-Ok.place c.args.row (ap (λ (t : Held). t.rows) c.self.view_is) c.self.invariant.ascends c.in-Ok.ensures.there)
+    (set_puts c.self.inside.items.items c.args.self.now.rows c.in-Ok.place c.args.row (ap (λ (t : Held). t.rows) c.self.view_is) c.in-Ok.ensures.there ∙ ap (put_bits c.args.row) (sym (ap (λ (t : Held). t.rows) c.self.view_is))) c.joined-self-inside.ensures c.joined-self-inside-in-Ok.ensures
 
 pub returns-in-Ok-clause-ok : goal.returns-in-Ok-clause-ok
 returns-in-Ok-clause-ok c = set_puts c.self.inside.items.items c.args.self.now.rows c.in-Ok.place c.args.row (ap (λ (t : Held). t.rows) c.self.view_is) c.in-Ok.ensures.there
 
 pub invariant_of-self-in-Err : goal.invariant_of-self-in-Err
 invariant_of-self-in-Err c =
-    put_table c.self.inside.busy c.busy_with-self-inside-in-Err.result c.self.inside.items.items c.insert.new.self.items c.args.row c.self.invariant (add_ascends c.self.inside.items.items c.args.self.now.rows c.insert.new.self.items c.in-Err.place c.args.row true (ap (λ (t : Held). t.rows) c.self.view_is) c.self.invariant.ascends c.in-Err.ensures.gone c.in_ok-insert-in-Err.ensures.items)
-    (add_puts c.self.inside.items.items c.args.self.now.rows c.insert.new.self.items c.in-Err.place c.args.row (ap (λ (t : Held). t.rows) c.self.view_is) c.in-Err.ensures.gone c.in_ok-insert-in-Err.ensures.items ∙ ap (put_bits c.args.row) (sym (ap (λ (t : Held). t.rows) c.self.view_is))) c.busy_with-self-inside-in-Err.ensures
+    put_table c.self.inside.sending c.self.inside.asking c.joined-self-inside-in-Err.result c.joined-self-inside-in-Err-2.result c.self.inside.items.items c.insert.new.self.items c.args.row c.self.invariant (add_ascends c.self.inside.items.items c.args.self.now.rows c.insert.new.self.items c.in-Err.place c.args.row true (ap (λ (t : Held). t.rows) c.self.view_is) c.self.invariant.ascends c.in-Err.ensures.gone c.in_ok-insert-in-Err.ensures.items)
+    (add_puts c.self.inside.items.items c.args.self.now.rows c.insert.new.self.items c.in-Err.place c.args.row (ap (λ (t : Held). t.rows) c.self.view_is) c.in-Err.ensures.gone c.in_ok-insert-in-Err.ensures.items ∙ ap (put_bits c.args.row) (sym (ap (λ (t : Held). t.rows) c.self.view_is))) c.joined-self-inside-in-Err.ensures c.joined-self-inside-in-Err-2.ensures
 
 pub returns-in_ok-insert-in-Err-clause-ok : goal.returns-in_ok-insert-in-Err-clause-ok
 returns-in_ok-insert-in-Err-clause-ok c = add_puts c.self.inside.items.items c.args.self.now.rows c.insert.new.self.items c.in-Err.place c.args.row (ap (λ (t : Held). t.rows) c.self.view_is) c.in-Err.ensures.gone c.in_ok-insert-in-Err.ensures.items
