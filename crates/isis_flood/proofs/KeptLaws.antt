@@ -17,10 +17,9 @@ use Rattle.wire_base.specs.declared.memory.Memory.{Memory}
 use Rattle.wire_base.specs.declared.triple.Summary.{Summary}
 use Rattle.wire_base.specs.model.Control.{same_system, same_id, id_order, entry_in, put_entry, purge, is_full, is_unknown, is_newer_or_confused, age_of, age_by_life, seq_of, Flood, fragment_0}
 use Rattle.wire_base.specs.model.Pdu.{Head, head_summary}
-use Rattle.wire_base.specs.model.Tlv.{rows_of}
-use Rattle.wire_base.specs.model.Flooding.{LspAnswer, SnpAnswer, mark_all, kept, on_lsp, lsp_in, lsp_aged, is_own_ahead, is_stray, wanted, is_live_summary, listed_aged, on_listed, on_list, lacks, send_lacking, on_csnp, on_psnp, nothing_asked, with_row, set_srm}
+use Rattle.wire_base.specs.model.Flooding.{LspAnswer, SnpAnswer, mark_all, kept, on_lsp, lsp_in, lsp_aged, is_own_ahead, is_stray, wanted, is_live_summary, listed_aged, on_listed, on_list, lacks, send_lacking, nothing_asked, with_row, set_srm}
 use Rattle.lsp_store.proofs.OrderLaws.{id_total, tie_is_same, above_differs}
-use Rattle.isis_flood.specs.Answers.{LspDone, SnpDone}
+use Rattle.isis_flood.specs.Answers.{LspDone, SnpDone, csnp_listed}
 use Rattle.isis_flood.specs.Kept.{IsAtMost, Stays, NotLowered}
 use Rattle.isis_flood.proofs.AgeLaws.{unknown_is_none}
 use Rattle.isis_flood.proofs.FloodLaws.{same_from_tie}
@@ -242,9 +241,9 @@ rows_keep link spent a (s ∷ rows) =
     let rest = rows_keep link spent (on_listed link spent a s) rows in
     record { own = rest.own ∙ first.own; up = rest.up ∙ first.up; entries = not_lowered_trans a.entries _ _ first.entries rest.entries }
 
-pub psnp_keeps : (f : Flood) (es : List Entry) (link : ℕ) (tlvs : List ℕ) (spent : Bool) → Keeps f es (on_psnp f es link tlvs spent).flood (on_psnp f es link tlvs spent).entries
-unfolding on_psnp on_list
-psnp_keeps f es link tlvs spent = rows_keep link spent _ (rows_of tlvs)
+pub list_keeps : (f : Flood) (es : List Entry) (link : ℕ) (rows : List Summary) (spent : Bool) → Keeps f es (on_list f es link rows spent).flood (on_list f es link rows spent).entries
+unfolding on_list
+list_keeps f es link rows spent = rows_keep link spent _ rows
 
 lacking_same : (link : ℕ) (start last : LspId) (rows : List Summary) (f : Flood) (es : List Entry) → ((fold (send_lacking link start last rows) f es).own ≡ f.own) × ((fold (send_lacking link start last rows) f es).up ≡ f.up)
 lacking_same link start last rows f [] = (refl, refl)
@@ -256,11 +255,11 @@ lacking_same link start last rows f (e ∷ es) =
     pick P true h k = h
     pick P false h k = k
 
-pub csnp_keeps : (f : Flood) (es : List Entry) (link : ℕ) (start last : LspId) (tlvs : List ℕ) (spent : Bool) → Keeps f es (on_csnp f es link start last tlvs spent).flood (on_csnp f es link start last tlvs spent).entries
-unfolding on_csnp on_list
-csnp_keeps f es link start last tlvs spent =
-    let listed = rows_keep link spent (record { flood = f; entries = es; answer = nothing_asked }) (rows_of tlvs) in
-    let lacking = lacking_same link start last (rows_of tlvs) (on_list f es link (rows_of tlvs) spent).flood (on_list f es link (rows_of tlvs) spent).entries in
+pub csnp_keeps : (f : Flood) (es : List Entry) (link : ℕ) (start last : LspId) (rows : List Summary) (spent : Bool) → Keeps f es (csnp_listed f es link start last rows spent).flood (csnp_listed f es link start last rows spent).entries
+unfolding on_list
+csnp_keeps f es link start last rows spent =
+    let listed = rows_keep link spent (record { flood = f; entries = es; answer = nothing_asked }) rows in
+    let lacking = lacking_same link start last rows (on_list f es link rows spent).flood (on_list f es link rows spent).entries in
     record { own = lacking.0 ∙ listed.own; up = lacking.1 ∙ listed.up; entries = listed.entries }
 
 pub snp_done_keeps : (r : Result SnpOut Memory) (f : Flood) (es : List Entry) (g : Flood) (new : List Entry) (rules : SnpAnswer) → Keeps f es rules.flood rules.entries → SnpDone r f es g new rules → Keeps f es g new

@@ -1,11 +1,13 @@
 -- What a call that takes a PDU leaves: what the rules say, or, where memory ran out, what there was.
-use Rattle.std.specs.Prelude.{◌≡◌, List, Result, Ok, Err}
+use Rattle.std.specs.Prelude.{◌≡◌, ℕ, Bool, List, Result, Ok, Err, fold}
+use Rattle.wire_base.specs.declared.addresses.LspId.{LspId}
 use Rattle.wire_base.specs.declared.entry.Entry.{Entry}
 use Rattle.wire_base.specs.declared.flood_out.FloodOut.{FloodOut}
 use Rattle.wire_base.specs.declared.flood_out.SnpOut.{SnpOut}
+use Rattle.wire_base.specs.declared.triple.Summary.{Summary}
 use Rattle.wire_base.specs.declared.memory.Memory.{Memory}
 use Rattle.wire_base.specs.model.Control.{Flood}
-use Rattle.wire_base.specs.model.Flooding.{LspAnswer, SnpAnswer}
+use Rattle.wire_base.specs.model.Flooding.{LspAnswer, SnpAnswer, on_list, send_lacking}
 
 abbrev pub LspDone : Result FloodOut Memory → Flood → List Entry → Flood → List Entry → LspAnswer → Type 0
 LspDone (Ok answer) f entries new_f new_entries rules = rules ≡ record { flood = new_f; entries = new_entries; answer = answer }
@@ -23,3 +25,9 @@ SnpDone (Err memory) f entries new_f new_entries rules = (new_f ≡ f) × (new_e
 abbrev pub Becomes : Result (Unit {0}) Memory → SnpAnswer → SnpAnswer → Type 0
 Becomes (Ok u) new rules = rules ≡ new
 Becomes (Err memory) new rules = Unit {0}
+
+-- a CSNP from `start` to `last` that lists those entries: what they ask for, and then what the list lacks
+abbrev pub csnp_listed : Flood → List Entry → ℕ → LspId → LspId → List Summary → Bool → SnpAnswer
+csnp_listed f entries link start last rows spent =
+    let a = on_list f entries link rows spent in
+    record a { flood = fold (send_lacking link start last rows) a.flood a.entries }

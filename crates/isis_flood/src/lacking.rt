@@ -3,7 +3,7 @@ ghost use Rattle.std.specs.Prelude.{◌≡◌, ◌<◌, ◌≤◌, ◌+◌, leng
 ghost use Rattle.wire_base.specs.model.Control.{same_id, is_below};
 ghost use Rattle.wire_base.specs.model.Flooding.{lists, lacks, send_lacking, send_known, on_csnp, link_up};
 ghost use Rattle.wire_base.specs.model.Tlv.{rows_of};
-ghost use Rattle.isis_flood.specs.Answers.{SnpDone};
+ghost use Rattle.isis_flood.specs.Answers.{SnpDone, csnp_listed};
 ghost use Rattle.isis_flood.specs.Kept.{NotLowered};
 
 use crate::entries::listed;
@@ -72,6 +72,7 @@ impl Flood {
 
     /// A complete sequence numbers PDU from `start` to `last` that came on a link, with the octets of its TLVs. The
     /// answer is that of a partial one (ISO/IEC 10589, 7.3.15.2). Where memory runs out, all is as it was.
+    #[tactic(auto, unfolding(wire_base::specs::model::Flooding::on_csnp))]
     pub fn on_csnp(
         &mut self,
         store: &mut Store,
@@ -89,35 +90,55 @@ impl Flood {
         ensures spare { self.old.spare ≤ self.new.spare + (length (rows_of tlvs.now) + length store.old.entries) }
         ensures links { length self.new.flood.up ≡ length self.old.flood.up }
     {
-        self.apply_csnp(store, link, &start, &last, tlvs, spent)
+        let rows = listed(store.allocator(), tlvs)?;
+        self.on_csnp_listed(store, link, &start, &last, rows.as_slice(), spent)
+    }
+
+    /// The same of the entries that it lists.
+    pub fn on_csnp_listed(
+        &mut self,
+        store: &mut Store,
+        link: u16,
+        start: &LspId,
+        last: &LspId,
+        rows: &[Summary],
+        spent: bool,
+    ) -> M<SnpOut>
+        requires link { link < length self.old.flood.up }
+        requires few { length rows.now ≤ 65535 }
+        ensures done { SnpDone result self.old.flood store.old.entries self.new.flood store.new.entries (csnp_listed self.old.flood store.old.entries link start.now last.now rows.now spent) }
+        ensures kept { NotLowered store.old.entries store.new.entries }
+        ensures spare { self.old.spare ≤ self.new.spare + (length rows.now + length store.old.entries) }
+        ensures links { length self.new.flood.up ≡ length self.old.flood.up }
+    {
+        self.apply_csnp(store, link, start, last, rows, spent)
     }
 
     /// The entries of a complete one, and then what it lacks, once all memory is taken: a row for each entry that it lists,
     /// and for each that was there.
-    #[tactic(auto, unfolding(wire_base::specs::model::Flooding::on_csnp, wire_base::specs::model::Flooding::on_list))]
+    #[tactic(auto, unfolding(wire_base::specs::model::Flooding::on_list))]
     fn apply_csnp(
         &mut self,
         store: &mut Store,
         link: u16,
         start: &LspId,
         last: &LspId,
-        tlvs: &[u8],
+        rows: &[Summary],
         spent: bool,
     ) -> M<SnpOut>
         requires link { link < length self.old.flood.up }
-        requires tlvs { length tlvs.now ≤ 65535 }
-        ensures done { SnpDone result self.old.flood store.old.entries self.new.flood store.new.entries (on_csnp self.old.flood store.old.entries link start.now last.now tlvs.now spent) }
-        ensures spare { self.old.spare ≤ self.new.spare + (length (rows_of tlvs.now) + length store.old.entries) }
+        requires few { length rows.now ≤ 65535 }
+        ensures done { SnpDone result self.old.flood store.old.entries self.new.flood store.new.entries (csnp_listed self.old.flood store.old.entries link start.now last.now rows.now spent) }
+        ensures spare { self.old.spare ≤ self.new.spare + (length rows.now + length store.old.entries) }
     {
-        let rows = listed(store.allocator(), tlvs)?;
         self.reserve(rows.len() + store.len())?;
         store.reserve(rows.len())?;
         let mut answer = SnpOut {
             reissue: None,
             full: 0,
         };
-        self.on_list(store, link, rows.as_slice(), spent, &mut answer)?;
-        self.send_lacking(store, link, start, last, rows.as_slice())?;
+        self.on_list(store, link, rows, spent, &mut answer)?;
+        self.send_lacking(store, link, start, last, rows)?;
         Ok(answer)
     }
 

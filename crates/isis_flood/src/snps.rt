@@ -1,7 +1,7 @@
 //! Sequence numbers PDUs that are received (ISO/IEC 10589, 7.3.15.2).
 ghost use Rattle.std.specs.Prelude.{◌≡◌, ◌<◌, ◌≤◌, ◌+◌, length, fold, false, IsOk, OnOk, OnErr};
 ghost use Rattle.wire_base.specs.model.Control.{entry_in, put_entry, age_of, is_full};
-ghost use Rattle.wire_base.specs.model.Flooding.{wanted, asks, listed_aged, on_listed, on_psnp};
+ghost use Rattle.wire_base.specs.model.Flooding.{wanted, asks, listed_aged, on_listed, on_list, on_psnp};
 ghost use Rattle.wire_base.specs.model.Tlv.{rows_of};
 ghost use Rattle.wire_base.specs.declared.entry.Age.TheVariants.{Confused};
 ghost use Rattle.lsp_store.specs.Places.{is_new};
@@ -181,6 +181,7 @@ impl Flood {
     /// A partial sequence numbers PDU that came on a link, with the octets of its TLVs. The answer is the sequence
     /// number past which the own link state PDU must be issued, if one was listed that is at odds with it, and how many
     /// entries found no room (ISO/IEC 10589, 7.3.15.2). Where memory runs out, all is as it was.
+    #[tactic(auto, unfolding(wire_base::specs::model::Flooding::on_psnp))]
     pub fn on_psnp(&mut self, store: &mut Store, link: u16, tlvs: &[u8], spent: bool) -> M<SnpOut>
         requires link { link < length self.old.flood.up }
         requires tlvs { length tlvs.now ≤ 65535 }
@@ -189,25 +190,49 @@ impl Flood {
         ensures spare { self.old.spare ≤ self.new.spare + length (rows_of tlvs.now) }
         ensures links { length self.new.flood.up ≡ length self.old.flood.up }
     {
-        self.apply_psnp(store, link, tlvs, spent)
+        let rows = listed(store.allocator(), tlvs)?;
+        self.on_psnp_listed(store, link, rows.as_slice(), spent)
+    }
+
+    /// The same of the entries that it lists.
+    pub fn on_psnp_listed(
+        &mut self,
+        store: &mut Store,
+        link: u16,
+        rows: &[Summary],
+        spent: bool,
+    ) -> M<SnpOut>
+        requires link { link < length self.old.flood.up }
+        requires few { length rows.now ≤ 65535 }
+        ensures done { SnpDone result self.old.flood store.old.entries self.new.flood store.new.entries (on_list self.old.flood store.old.entries link rows.now spent) }
+        ensures kept { NotLowered store.old.entries store.new.entries }
+        ensures spare { self.old.spare ≤ self.new.spare + length rows.now }
+        ensures links { length self.new.flood.up ≡ length self.old.flood.up }
+    {
+        self.apply_psnp(store, link, rows, spent)
     }
 
     /// The entries of a partial one, once all memory is taken.
-    #[tactic(auto, unfolding(wire_base::specs::model::Flooding::on_psnp, wire_base::specs::model::Flooding::on_list))]
-    fn apply_psnp(&mut self, store: &mut Store, link: u16, tlvs: &[u8], spent: bool) -> M<SnpOut>
+    #[tactic(auto, unfolding(wire_base::specs::model::Flooding::on_list))]
+    fn apply_psnp(
+        &mut self,
+        store: &mut Store,
+        link: u16,
+        rows: &[Summary],
+        spent: bool,
+    ) -> M<SnpOut>
         requires link { link < length self.old.flood.up }
-        requires tlvs { length tlvs.now ≤ 65535 }
-        ensures done { SnpDone result self.old.flood store.old.entries self.new.flood store.new.entries (on_psnp self.old.flood store.old.entries link tlvs.now spent) }
-        ensures spare { self.old.spare ≤ self.new.spare + length (rows_of tlvs.now) }
+        requires few { length rows.now ≤ 65535 }
+        ensures done { SnpDone result self.old.flood store.old.entries self.new.flood store.new.entries (on_list self.old.flood store.old.entries link rows.now spent) }
+        ensures spare { self.old.spare ≤ self.new.spare + length rows.now }
     {
-        let rows = listed(store.allocator(), tlvs)?;
         self.reserve(rows.len())?;
         store.reserve(rows.len())?;
         let mut answer = SnpOut {
             reissue: None,
             full: 0,
         };
-        self.on_list(store, link, rows.as_slice(), spent, &mut answer)?;
+        self.on_list(store, link, rows, spent, &mut answer)?;
         Ok(answer)
     }
 }

@@ -1,14 +1,5 @@
-use Rattle.std.proofs.Common.{ap, List, Bool, length}
-use Rattle.isis_flood.proofs.KeptLaws.{Keeps, csnp_keeps, snp_done_keeps}
+use Rattle.isis_flood.proofs.KeptLaws.{not_lowered_refl}
 use Rattle.isis_flood.proofs.flood.Flood.on_csnp.Goals as goal
 
-keeps : (c : goal.After-apply_csnp) → Keeps c.args.self.now.flood c.args.store.now.entries c.apply_csnp.new.self.flood c.apply_csnp.new.store.entries
-keeps c =
-    snp_done_keeps c.apply_csnp.result c.args.self.now.flood c.args.store.now.entries c.apply_csnp.new.self.flood c.apply_csnp.new.store.entries _
-    (csnp_keeps c.args.self.now.flood c.args.store.now.entries c.args.link c.args.start c.args.last c.args.tlvs.now c.args.spent) c.apply_csnp.ensures.done
-
-pub returns-clause-kept : goal.returns-clause-kept
-returns-clause-kept c = (keeps c).entries
-
-pub returns-clause-links : goal.returns-clause-links
-returns-clause-links c = ap (λ (l : List Bool). length l) (keeps c).up
+pub returns-in_err-rows-clause-kept : goal.returns-in_err-rows-clause-kept
+returns-in_err-rows-clause-kept c = not_lowered_refl c.args.store.now.entries
