@@ -1,4 +1,11 @@
--- What the types of this crate stand for.
+-- What the types of this crate stand for, and the part of a link state PDU that its checksum covers.
+use Rattle.std.specs.Prelude.{ℕ, false, not, ◌&&◌, List, Result, Ok, Err, nat_lt, if◌then◌else◌}
+use Rattle.wire_base.specs.declared.faults.PduFault.{PduFault}
+use Rattle.wire_base.specs.declared.faults.PduFault.TheVariants as faults
+use Rattle.wire_base.specs.model.Fields.{◌>>=◌, octet_at, number_at}
+use Rattle.wire_base.specs.model.Checksum.{is_right}
+use Rattle.wire_base.specs.model.Tlv.{lsp_id_at}
+use Rattle.wire_base.specs.model.Pdu.{tlvs_pass}
 use Rattle.wire_base.specs.model.Pdu.{Head, LspPdu, CsnpPdu, PsnpPdu, HelloPdu, OtherPdu}
 use Rattle.wire_base.specs.model.Pdu.{Pdu as PduItem}
 use Rattle.isis_pdu.specs.declared.kinds.LspHead.{LspHead}
@@ -14,3 +21,14 @@ pdu_of (Csnp source start last tlvs) = CsnpPdu source start last tlvs.now
 pdu_of (Psnp source tlvs) = PsnpPdu source tlvs.now
 pdu_of Hello = HelloPdu
 pdu_of (Other number) = OtherPdu number
+
+-- a link state PDU from its identifier on, where it has that many seconds to live: what lsp_at reads after them
+abbrev pub covered_at : ℕ → List ℕ → Result PduItem PduFault
+covered_at life octets = do
+  id ← lsp_id_at faults.PduLength octets
+  seq ← number_at faults.PduLength 4 id.1
+  check ← number_at faults.PduLength 2 seq.1
+  flags ← octet_at faults.PduLength check.1
+  if nat_lt 0 life && not (is_right octets) then Err faults.Checksum
+      else if tlvs_pass false flags.1 then Ok (LspPdu (record { life = life; id = id.0; seq = seq.0; sum = check.0; flags = flags.0 }) flags.1)
+      else Err faults.Tlv

@@ -3,7 +3,7 @@ ghost use Rattle.wire_base.specs.model.Fields.{Gives};
 ghost use Rattle.wire_base.specs.model.Pdu.{lsp_type, csnp_type, psnp_type, passes, tlvs_pass, sized_at, lsp_at, csnp_at, psnp_at, body_at, pdu_at, IsPdu};
 ghost use Rattle.wire_base.specs.model.Pdu.{Pdu as PduItem};
 ghost use Rattle.isis_tlv.specs.Views.{item};
-ghost use Rattle.isis_pdu.specs.Views.{pdu_of};
+ghost use Rattle.isis_pdu.specs.Views.{covered_at, pdu_of};
 
 use crate::checksum::right_sum;
 use crate::kinds::{LspHead, Pdu};
@@ -78,12 +78,10 @@ fn sized(size: u16, bytes: &[u8]) -> Result<(&[u8], &[u8]), PduFault>
     octets_of(PduFault::PduLength, usize::from(n - 10), rest)
 }
 
-#[tactic(auto, unfolding(wire_base::specs::model::Pdu::lsp_at))]
-fn read_lsp(bytes: &[u8]) -> Result<Pdu<'_>, PduFault>
-    ensures { Gives pdu_of result (lsp_at bytes.now) }
+/// A link state PDU from its identifier on, which its checksum covers.
+fn read_covered(life: u16, covered: &[u8]) -> Result<Pdu<'_>, PduFault>
+    ensures { Gives pdu_of result (covered_at life covered.now) }
 {
-    let (body, _) = sized(27, bytes)?;
-    let (life, covered) = two_of(PduFault::PduLength, body)?;
     let (id, rest) = lsp_id_of(PduFault::PduLength, covered)?;
     let (seq, rest) = four_of(PduFault::PduLength, rest)?;
     let (sum, rest) = two_of(PduFault::PduLength, rest)?;
@@ -104,6 +102,15 @@ fn read_lsp(bytes: &[u8]) -> Result<Pdu<'_>, PduFault>
         },
         tlvs,
     })
+}
+
+#[tactic(auto, unfolding(wire_base::specs::model::Pdu::lsp_at))]
+fn read_lsp(bytes: &[u8]) -> Result<Pdu<'_>, PduFault>
+    ensures { Gives pdu_of result (lsp_at bytes.now) }
+{
+    let (body, _) = sized(27, bytes)?;
+    let (life, covered) = two_of(PduFault::PduLength, body)?;
+    read_covered(life, covered)
 }
 
 #[tactic(auto, unfolding(wire_base::specs::model::Pdu::csnp_at))]
