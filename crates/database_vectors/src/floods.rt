@@ -243,20 +243,22 @@ fn links(rt: HostRuntime) -> Result<(), Fail> {
         [true, true, false]
     );
     assert_eq!(rt;
-        [flood.has_flags(0), flood.has_flags(1), flood.has_flags(2)],
+        [flood.may_send(0), flood.may_send(1), flood.may_send(2)],
         [true, true, false]
     );
+    assert_eq!(rt; [flood.may_ask(0), flood.may_ask(1)], [true, false]);
     flood.sent(0);
     flood.sent(1);
     assert_eq!(rt; [flood.due(0), flood.due(1)], [false, false]);
     assert_eq!(rt; flags_of(&flood, id(2, 0)), [false, true, false, false]);
-    assert_eq!(rt; [flood.has_flags(0), flood.has_flags(1)], [false, true]);
+    assert_eq!(rt; [flood.may_send(0), flood.may_send(1)], [false, true]);
+    assert_eq!(rt; [flood.may_ask(0), flood.may_ask(1)], [false, false]);
     flood.link_up(&store, 2)?;
     assert!(rt; flood.is_up(2) && flood.due(2) && flood.srm(id(1, 0), 2) && flood.srm(id(2, 0), 2));
     flood.link_down(1);
-    assert!(rt; !flood.is_up(1) && !flood.has_flags(1));
+    assert!(rt; !flood.is_up(1) && !flood.may_send(1) && !flood.may_ask(1));
     flood.forget(id(2, 0));
-    assert!(rt; flood.has_flags(2) && !flood.srm(id(2, 0), 2));
+    assert!(rt; flood.may_send(2) && !flood.srm(id(2, 0), 2));
     Ok(())
 }
 

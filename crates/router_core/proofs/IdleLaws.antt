@@ -1,6 +1,6 @@
--- Where no flag stands on a link, no entry is to be sent, acknowledged or asked for there.
-use mathlib.Core.Bool.{true≢false}
-use Rattle.std.proofs.Common.{◌≡◌, ◌∙◌, ℕ, ◌||◌, Bool, true, false, List, [], ◌∷◌, ◌++◌, filter, slice_index_or, refl, sym, ap, if◌then◌else◌}
+-- Where no flag of a kind stands on a link, no entry is to be sent there, or acknowledged or asked for.
+use Rattle.std.proofs.Common.{◌≡◌, ◌∙◌, ℕ, Bool, true, false, List, [], ◌∷◌, ◌++◌, filter, slice_index_or, refl, sym, ap, if◌then◌else◌}
+use Rattle.std.proofs.lemmas.Bool.{or_parts}
 use Rattle.std.proofs.lemmas.List.{append-nil}
 use Rattle.std.specs.List.{flat_map}
 use Rattle.std.proofs.lemmas.List.Concat.{flat_map-cons}
@@ -11,28 +11,24 @@ use Rattle.wire_base.specs.declared.entry.Entry.{Entry}
 use Rattle.wire_base.specs.model.Control.{FlagRow, same_id, srm_in, ssn_in}
 use Rattle.wire_base.specs.model.Flooding.{lsp_of}
 use Rattle.wire_base.specs.model.OnFrame.{frames_of}
-use Rattle.isis_flood.specs.Flags.{has_flags, is_flagged}
+use Rattle.isis_flood.specs.Flags.{has_srm, has_ssn}
 use Rattle.router_core.specs.Sending.{lsp_frames}
 
-either-false : (a b : Bool) → (a || b) ≡ false → (a ≡ false) × (b ≡ false)
-either-false true b h = absurd (true≢false h)
-either-false false b h = (refl, h)
-
-no-srm : (rows : List FlagRow) (id : LspId) (link : ℕ) → has_flags rows link ≡ false → srm_in rows id link ≡ false
+no-srm : (rows : List FlagRow) (id : LspId) (link : ℕ) → has_srm rows link ≡ false → srm_in rows id link ≡ false
 no-srm [] id link none = refl
 no-srm (row ∷ rows) id link none =
-    let is = either-false (is_flagged link row) (has_flags rows link) none in
-    by (same_id row.id id) (either-false (slice_index_or row.srm link false) (slice_index_or row.ssn link false) is.0).0 (no-srm rows id link is.1)
+    let is = or_parts (slice_index_or row.srm link false) (has_srm rows link) none in
+    by (same_id row.id id) is.0 (no-srm rows id link is.1)
   where
     by : (b : Bool) → slice_index_or row.srm link false ≡ false → srm_in rows id link ≡ false → (if b then slice_index_or row.srm link false else srm_in rows id link) ≡ false
     by true here more = here
     by false here more = more
 
-no-ssn : (rows : List FlagRow) (id : LspId) (link : ℕ) → has_flags rows link ≡ false → ssn_in rows id link ≡ false
+no-ssn : (rows : List FlagRow) (id : LspId) (link : ℕ) → has_ssn rows link ≡ false → ssn_in rows id link ≡ false
 no-ssn [] id link none = refl
 no-ssn (row ∷ rows) id link none =
-    let is = either-false (is_flagged link row) (has_flags rows link) none in
-    by (same_id row.id id) (either-false (slice_index_or row.srm link false) (slice_index_or row.ssn link false) is.0).1 (no-ssn rows id link is.1)
+    let is = or_parts (slice_index_or row.ssn link false) (has_ssn rows link) none in
+    by (same_id row.id id) is.0 (no-ssn rows id link is.1)
   where
     by : (b : Bool) → slice_index_or row.ssn link false ≡ false → ssn_in rows id link ≡ false → (if b then slice_index_or row.ssn link false else ssn_in rows id link) ≡ false
     by true here more = here
@@ -42,13 +38,13 @@ filter-none : {X : Type 0} (test : X → Bool) → ((x : X) → test x ≡ false
 filter-none {X} test none [] = refl
 filter-none {X} test none (x ∷ xs) = rw (none x) (filter-none test none xs)
 
-pub idle-marked : (rows : List FlagRow) (link : ℕ) (entries : List Entry) → has_flags rows link ≡ false → filter (λ e. srm_in rows e.id link) entries ≡ []
+pub idle-marked : (rows : List FlagRow) (link : ℕ) (entries : List Entry) → has_srm rows link ≡ false → filter (λ e. srm_in rows e.id link) entries ≡ []
 idle-marked rows link entries none = filter-none (λ (e : Entry). srm_in rows e.id link) (λ e. no-srm rows e.id link none) entries
 
-pub idle-asked : (rows : List FlagRow) (link : ℕ) (entries : List Entry) → has_flags rows link ≡ false → filter (λ e. ssn_in rows e.id link) entries ≡ []
+pub idle-asked : (rows : List FlagRow) (link : ℕ) (entries : List Entry) → has_ssn rows link ≡ false → filter (λ e. ssn_in rows e.id link) entries ≡ []
 idle-asked rows link entries none = filter-none (λ (e : Entry). ssn_in rows e.id link) (λ e. no-ssn rows e.id link none) entries
 
-idle-lsps : (r : RouterConf) (rows : List FlagRow) (link : ℕ) (entries : List Entry) → has_flags rows link ≡ false → flat_map (lsp_frames r rows link) entries ≡ []
+idle-lsps : (r : RouterConf) (rows : List FlagRow) (link : ℕ) (entries : List Entry) → has_srm rows link ≡ false → flat_map (lsp_frames r rows link) entries ≡ []
 idle-lsps r rows link [] none = refl
 idle-lsps r rows link (e ∷ entries) none =
     flat_map-cons (lsp_frames r rows link) e entries
@@ -56,5 +52,5 @@ idle-lsps r rows link (e ∷ entries) none =
     ∙ idle-lsps r rows link entries none
 
 -- nothing is appended
-pub idle-sent : (r : RouterConf) (rows : List FlagRow) (link : ℕ) (entries : List Entry) (sent : List Sent) → has_flags rows link ≡ false → sent ≡ sent ++ flat_map (lsp_frames r rows link) entries
+pub idle-sent : (r : RouterConf) (rows : List FlagRow) (link : ℕ) (entries : List Entry) (sent : List Sent) → has_srm rows link ≡ false → sent ≡ sent ++ flat_map (lsp_frames r rows link) entries
 idle-sent r rows link entries sent none = sym (ap (λ (more : List Sent). sent ++ more) (idle-lsps r rows link entries none) ∙ append-nil sent)

@@ -1,5 +1,5 @@
 -- What is kept of a view, through the events of a router.
-use Rattle.std.proofs.Common.{◌≡◌, ◌∙◌, ℕ, Bool, true, false, List, [], ◌∷◌, ◌++◌, ◌||◌, Option, Some, None, is_none, Result, Ok, Err, IfOk, OnOk, OnErr, refl, sym, ap, subst}
+use Rattle.std.proofs.Common.{◌≡◌, ◌∙◌, ℕ, Bool, true, false, List, [], ◌∷◌, ◌++◌, ◌||◌, Option, Some, None, Result, Ok, Err, IfOk, OnOk, OnErr, refl, sym, ap, subst}
 use Rattle.std.proofs.lemmas.Bool.{false≢true, true≢false}
 use Rattle.std.proofs.lemmas.List.Folds.{list_any-append}
 use Rattle.std.specs.List.{list_any}
@@ -133,11 +133,6 @@ module _ (c : Control) (tlvs : List ℕ) (k : Option Kept) (all : (next : Contro
   psnp_keeps link source =
       subst (λ (x : Control). MayKeep x k) (sym (framed_is link (on_pdu c link (PsnpPdu source tlvs))))
       (all (on_pdu c link (PsnpPdu source tlvs)).control (λ none. but_says c.conf.system c (on_pdu c link (PsnpPdu source tlvs)).control (psnp_but c link source tlvs none)))
-
--- nothing is kept
-pub none_keeps : (c : Control) (k : Option Kept) → is_none k ≡ true → MayKeep c k
-none_keeps c None h = tt
-none_keeps c (Some k) h = absurd (false≢true h)
 
 -- ---- sending
 

@@ -1,59 +1,32 @@
--- How long the PDUs are that a router sends, and how lists are cut into them.
-use Rattle.std.proofs.Common.{◌≡◌, ◌∙◌, ℕ, zero, suc, ◌+◌, ◌*◌, ◌/◌, ◌<◌, ◌≤◌, Bool, true, false, List, [], ◌∷◌, ◌++◌, length, get_or, take, drop, map, filter, min, slice_get, if◌then◌else◌, slice_index_or, refl, sym, ap, append_assoc, length-append, length-take, length-drop, arith}
+-- The frames that a router sends, and how lists are cut into PDUs.
+use Rattle.std.proofs.Common.{Option, Some, None, ◌≡◌, ◌∙◌, ℕ, zero, suc, ◌<◌, ◌≤◌, Bool, true, false, List, [], ◌∷◌, ◌++◌, length, get_or, take, drop, map, filter, min, slice_get, if◌then◌else◌, slice_index_or, refl, sym, ap, append_assoc, length-drop, arith}
 use Rattle.std.proofs.lemmas.List.{append-nil, length-take-le, take_all, drop_all, map-append}
-use Rattle.std.specs.List.{AllByRecursion, flat_map}
-use Rattle.byteorder.specs.Endian.{big_bytes}
-use Rattle.byteorder.specs.Numbers.{length-bytes_high_first}
+use Rattle.std.specs.List.{flat_map}
 use Rattle.wire_base.specs.declared.limits.TheConstants.{MOST_LISTED}
-use Rattle.wire_base.specs.declared.addresses.SystemId.{SystemId}
 use Rattle.wire_base.specs.declared.addresses.LspId.{LspId}
-use Rattle.wire_base.specs.declared.conf.Level.{Level}
+use Rattle.wire_base.specs.declared.conf.End.{End}
 use Rattle.wire_base.specs.declared.conf.RouterConf.{RouterConf}
 use Rattle.wire_base.specs.declared.effects.Sent.{Sent}
 use Rattle.wire_base.specs.declared.entry.Entry.{Entry}
 use Rattle.wire_base.specs.declared.triple.Summary.{Summary}
-use Rattle.wire_base.specs.model.Tlv.{tlv, lsp_id, SummaryFits}
 use Rattle.wire_base.specs.model.Control.{Control, Flood, srm_in, ssn_in, summary_of}
 use Rattle.wire_base.specs.model.Flooding.{csnps, csnp_of, psnp_of, lsp_of, id_after, last_listed, last_id, zero_id, is_known, due_csnps, send_of}
 use Rattle.wire_base.specs.model.Lists.{blocks}
 use Rattle.wire_base.specs.model.OnFrame.{frames_of, pdu_frame}
-use Rattle.wire_base.specs.model.Pdu.{Pdu, CsnpPdu, row_tlv, row_tlvs, csnp, psnp, blocks_within}
-use Rattle.format_laws.proofs.TlvListLaws.{length_rows}
-use Rattle.lsp_origin.proofs.ContentLaws.{all_taken, all_dropped, blocks_step}
-use Rattle.router_core.specs.Sending.{conf_alone, lsp_frames}
+use Rattle.wire_base.specs.model.Pdu.{Pdu, CsnpPdu, row_tlvs, pdu}
+use Rattle.lsp_origin.proofs.ContentLaws.{blocks_step}
+use Rattle.router_core.specs.Sending.{conf_alone, lsp_frames, octets_on}
 use Rattle.router_core.specs.State.{control_of}
 
-listed_within : (m : ℕ) (rows : List Summary) → length rows ≤ m → AllByRecursion SummaryFits rows → length (flat_map (λ block. tlv (row_tlv block)) (blocks_within m rows)) ≤ 16 * length rows + 2 * ((length rows + 14) / 15)
-unfolding blocks_within
-listed_within zero [] h all = omega arith
-listed_within zero (s ∷ rows) h all = absurd (omega (arith, h))
-listed_within (suc m) [] h all = omega arith
-listed_within (suc m) (s ∷ rows) h all =
-    let first = length-append (tlv (row_tlv (take 15 (s ∷ rows)))) (flat_map (λ block. tlv (row_tlv block)) (blocks_within m (drop 15 (s ∷ rows)))) in
-    let more = listed_within m (drop 15 (s ∷ rows)) (omega (arith, h, length-drop 15 (s ∷ rows))) (all_dropped SummaryFits 15 (s ∷ rows) all) in
-    let one = length_rows (take 15 (s ∷ rows)) (all_taken SummaryFits 15 (s ∷ rows) all) in
-    let few = length-take 15 (s ∷ rows) in
-    omega (arith, first, more, one, few, length-drop 15 (s ∷ rows))
+-- ---- one frame
 
-pub rows_short : (rows : List Summary) → length rows ≤ MOST_LISTED → AllByRecursion SummaryFits rows → length (row_tlvs rows) ≤ 1452
-unfolding row_tlvs
-rows_short rows few all = omega (arith, listed_within (length rows) rows (omega arith) all, few)
+framed_as : (r : RouterConf) (link : ℕ) (p : Pdu) (e : Option End) → octets_on e (pdu r.level p) ≡ pdu_frame r e p
+framed_as r link p None = refl
+framed_as r link p (Some e) = refl
 
-pub psnp_short : (level : Level) (source : SystemId) (rows : List Summary) (octets : List ℕ) → octets ≡ psnp level source (row_tlvs rows) → length source.0 ≡ 6 → length rows ≤ MOST_LISTED → AllByRecursion SummaryFits rows → length octets ≤ 1497
-psnp_short level source rows octets is six few all =
-    let a = length-append (big_bytes 2 (17 + length (row_tlvs rows))) (source.0 ++ (0 ∷ row_tlvs rows)) in
-    let b = length-append source.0 (0 ∷ row_tlvs rows) in
-    omega (arith, ap length is, a, b, six, length-bytes_high_first 2 (17 + length (row_tlvs rows)), rows_short rows few all)
-
-pub csnp_short : (level : Level) (source : SystemId) (start last : LspId) (rows : List Summary) (octets : List ℕ) → octets ≡ csnp level source start last (row_tlvs rows) → length source.0 ≡ 6 → length start.system.0 ≡ 6 → length last.system.0 ≡ 6 → length rows ≤ MOST_LISTED → AllByRecursion SummaryFits rows → length octets ≤ 1497
-csnp_short level source start last rows octets is six first second few all =
-    let a = length-append (big_bytes 2 (33 + length (row_tlvs rows))) (source.0 ++ (0 ∷ (lsp_id start ++ (lsp_id last ++ row_tlvs rows)))) in
-    let b = length-append source.0 (0 ∷ (lsp_id start ++ (lsp_id last ++ row_tlvs rows))) in
-    let c = length-append (lsp_id start) (lsp_id last ++ row_tlvs rows) in
-    let d = length-append (lsp_id last) (row_tlvs rows) in
-    let e = length-append start.system.0 (start.pseudonode ∷ start.fragment ∷ []) in
-    let f = length-append last.system.0 (last.pseudonode ∷ last.fragment ∷ []) in
-    omega (arith, ap length is, a, b, c, d, e, f, six, first, second, length-bytes_high_first 2 (33 + length (row_tlvs rows)), rows_short rows few all)
+-- the frame of a PDU is appended
+pub pushed : (r : RouterConf) (link : ℕ) (p : Pdu) (out new : List Sent) (octets : List ℕ) → octets ≡ octets_on (slice_get r.ends link) (pdu r.level p) → new ≡ out ++ record { link = link; octets = octets } ∷ [] → new ≡ out ++ frames_of r link (p ∷ [])
+pushed r link p out new octets is added = added ∙ ap (λ (o : List ℕ). out ++ record { link = link; octets = o } ∷ []) (is ∙ framed_as r link p (slice_get r.ends link))
 
 -- ---- blocks
 

@@ -7,7 +7,7 @@ ghost use Rattle.lsp_store.specs.Places.{is_refused};
 ghost use Rattle.router_core.specs.State.{is_up};
 
 use crate::control::Control;
-use crate::own::{issue, issue_within, own_past, spent_past};
+use crate::own::{issue, issue_within, own_with, spent_past};
 use isis_flood::Flood;
 use lsp_origin::originate;
 use lsp_store::Store;
@@ -71,14 +71,24 @@ fn all_up(alloc: Global, ends: usize) -> M<Vec<bool>>
     Ok(up)
 }
 
+/// The database and the flags of a router that has just started, with all its ends up.
+fn first_started(alloc: Global, conf: &RouterConf) -> M<(Store, Flood)>
+    requires { IsSound conf.now }
+    ensures entries { IfOk result (λ s. s.0.entries ≡ (started conf.now (replicate (length conf.now.ends) true)).entries) }
+    ensures flood { IfOk result (λ s. s.1.flood ≡ (started conf.now (replicate (length conf.now.ends) true)).flood) }
+    ensures database { IfOk result (λ s. IsDatabase s.0.entries) }
+{
+    let up = all_up(alloc, conf.ends.len())?;
+    started(alloc, conf, up.as_slice())
+}
+
 impl Control {
     /// A router that has just started, with all its ends up.
     pub(crate) fn new(alloc: Global, conf: RouterConf) -> M<Control>
         requires { IsSound conf }
         ensures { IfOk result (λ c. c ≡ first_control conf) }
     {
-        let up = all_up(alloc, conf.ends.len())?;
-        let (store, flood) = started(alloc, &conf, up.as_slice())?;
+        let (store, flood) = first_started(alloc, &conf)?;
         Ok(Control {
             conf,
             store,
@@ -110,10 +120,9 @@ impl Control {
             self.flood.link_up(&self.store, link)?;
             return Ok(());
         }
-        let mut up = self.ends_up()?;
-        up[usize::from(link)] = true;
+        let alloc = self.allocator();
         let seq = self.store.seq_of(&LspId::fragment_0(self.conf.system));
-        let own = own_past(self.allocator(), &self.conf, up.as_slice(), seq)?;
+        let own = own_with(alloc, &self.conf, &self.flood, link, true, seq)?;
         link_up_issuing(&mut self.store, &mut self.flood, link, own)?;
         self.spent = spent_past(self.spent, seq);
         Ok(())
@@ -129,10 +138,9 @@ impl Control {
             self.flood.link_down(link);
             return Ok(());
         }
-        let mut up = self.ends_up()?;
-        up[usize::from(link)] = false;
+        let alloc = self.allocator();
         let seq = self.store.seq_of(&LspId::fragment_0(self.conf.system));
-        let own = own_past(self.allocator(), &self.conf, up.as_slice(), seq)?;
+        let own = own_with(alloc, &self.conf, &self.flood, link, false, seq)?;
         link_down_issuing(&mut self.store, &mut self.flood, link, own)?;
         self.spent = spent_past(self.spent, seq);
         Ok(())

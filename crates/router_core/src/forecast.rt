@@ -11,7 +11,7 @@ ghost use Rattle.router_core.specs.Own.{own_past};
 ghost use Rattle.router_core.specs.Received.{full_drop};
 
 use crate::control::Control;
-use crate::own::{issue_within, own_past, spent_past};
+use crate::own::{issue_within, own_now, spent_past};
 use bier_forward::DropNote;
 use isis_flood::{Flood, listed};
 use lsp_store::Store;
@@ -195,8 +195,7 @@ impl Control {
         match past {
             None => Ok(None),
             Some(seq) => {
-                let up = self.ends_up()?;
-                let own = own_past(self.allocator(), &self.conf, up.as_slice(), seq)?;
+                let own = own_now(self.allocator(), &self.conf, &self.flood, seq)?;
                 Ok(Some(own))
             }
         }

@@ -1,5 +1,5 @@
 //! The router's own link state PDU (ISO/IEC 10589, 7.3.6 and 7.3.16.1).
-ghost use Rattle.std.specs.Prelude.{◌≡◌, ◌≤◌, true, false, length, IfOk, OnOk, OnErr};
+ghost use Rattle.std.specs.Prelude.{◌≡◌, ◌<◌, ◌≤◌, true, false, length, slice_set, IfOk, OnOk, OnErr};
 ghost use Rattle.wire_base.specs.model.Configuration.{IsSound};
 ghost use Rattle.wire_base.specs.model.Control.{IsDatabase, put_entry};
 ghost use Rattle.wire_base.specs.model.Flooding.{mark_all, reissue};
@@ -48,6 +48,35 @@ pub(crate) fn ends_up(alloc: Global, flood: &Flood, ends: u16) -> M<Vec<bool>>
     Ok(up)
 }
 
+/// The own link state PDU past a sequence number, by the ends that are up.
+pub(crate) fn own_now(alloc: Global, conf: &RouterConf, flood: &Flood, seq: u32) -> M<Entry>
+    requires sound { IsSound conf.now }
+    requires ends { length flood.now.flood.up ≡ length conf.now.ends }
+    ensures { IfOk result (λ e. e ≡ own_past conf.now flood.now.flood.up seq) }
+{
+    let up = ends_up(alloc, flood, conf.ends.len() as u16)?;
+    own_past(alloc, conf, up.as_slice(), seq)
+}
+
+/// The same, once the end at a place is up or down.
+pub(crate) fn own_with(
+    alloc: Global,
+    conf: &RouterConf,
+    flood: &Flood,
+    link: u16,
+    is_up: bool,
+    seq: u32,
+) -> M<Entry>
+    requires sound { IsSound conf.now }
+    requires ends { length flood.now.flood.up ≡ length conf.now.ends }
+    requires link { link < length conf.now.ends }
+    ensures { IfOk result (λ e. e ≡ own_past conf.now (slice_set flood.now.flood.up link is_up) seq) }
+{
+    let mut up = ends_up(alloc, flood, conf.ends.len() as u16)?;
+    up[usize::from(link)] = is_up;
+    own_past(alloc, conf, up.as_slice(), seq)
+}
+
 /// Puts the own link state PDU, and marks it on all links that are up; or all is as it was.
 pub(crate) fn issue(store: &mut Store, flood: &mut Flood, own: Entry) -> M<()>
     requires { is_refused store.old.entries own.id ≡ false }
@@ -91,8 +120,7 @@ impl Control {
         ensures ok { OnOk result (self.new ≡ reissue self.old seq) }
         ensures err { OnErr result (self.new ≡ self.old) }
     {
-        let up = self.ends_up()?;
-        let own = own_past(self.allocator(), &self.conf, up.as_slice(), seq)?;
+        let own = own_now(self.allocator(), &self.conf, &self.flood, seq)?;
         issue(&mut self.store, &mut self.flood, own)?;
         self.spent = spent_past(self.spent, seq);
         Ok(())

@@ -31,7 +31,7 @@ fn marked(entries: &[Entry], flood: &Flood, link: u16) -> usize
     ensures marked { result ≡ length (filter (λ e. srm_in flood.now.flood.rows e.id link) entries.now) }
     ensures few { result ≤ length entries.now }
 {
-    if !flood.has_flags(link) {
+    if !flood.may_send(link) {
         return 0;
     }
     entries.iter().filter(|e| flood.srm(e.id, link)).count()
@@ -43,7 +43,7 @@ fn asked(entries: &[Entry], flood: &Flood, link: u16) -> usize
     ensures asked { result ≡ length (filter (λ e. ssn_in flood.now.flood.rows e.id link) entries.now) }
     ensures few { result ≤ length entries.now }
 {
-    if !flood.has_flags(link) {
+    if !flood.may_ask(link) {
         return 0;
     }
     entries.iter().filter(|e| flood.ssn(e.id, link)).count()

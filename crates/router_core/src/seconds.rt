@@ -7,7 +7,7 @@ ghost use Rattle.lsp_store.specs.Places.{is_refused};
 ghost use Rattle.router_core.specs.Aging.{IsOneAged, count_left, is_near};
 
 use crate::control::Control;
-use crate::own::{issue_within, own_past, spent_past};
+use crate::own::{issue_within, own_now, spent_past};
 use isis_flood::Flood;
 use lsp_store::Store;
 use wire_base::limits::{MOST_ENTRIES, REFRESH_LIFE};
@@ -116,8 +116,7 @@ impl Control {
             return Ok(());
         }
         let seq = self.store.seq_of(&id);
-        let up = self.ends_up()?;
-        let own = own_past(self.allocator(), &self.conf, up.as_slice(), seq)?;
+        let own = own_now(self.allocator(), &self.conf, &self.flood, seq)?;
         age_issuing(&mut self.store, &mut self.flood, own)?;
         self.spent = spent_past(self.spent, seq);
         Ok(())

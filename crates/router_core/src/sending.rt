@@ -80,7 +80,7 @@ fn push_known(rows: &mut Vec<Summary>, entry: Option<&Entry>) -> M<()>
     }
 }
 
-/// The entries to be acknowledged or asked for on a link. Where nothing is flagged there, no row of flags is looked at.
+/// The entries to be acknowledged or asked for on a link. Where there is none, mostly no row of flags is looked at.
 fn asked_rows(store: &Store, flood: &Flood, link: u16) -> M<Vec<Summary>>
     requires link { link < length flood.now.flood.up }
     requires order { AreAscending (row_ids flood.now.flood.rows) }
@@ -89,7 +89,7 @@ fn asked_rows(store: &Store, flood: &Flood, link: u16) -> M<Vec<Summary>>
 {
     let _order = store.len();
     let mut rows = Vec::new(store.allocator());
-    if !flood.has_flags(link) {
+    if !flood.may_ask(link) {
         return Ok(rows);
     }
     'rows: for place in 0..flood.rows() {
@@ -163,8 +163,8 @@ fn push_found(
     }
 }
 
-/// Appends the frames of the entries that are to be sent on a link. Where nothing is flagged there, no row of flags is
-/// looked at, and else no entry but those that are sent.
+/// Appends the frames of the entries that are to be sent on a link. Where there is none, mostly no row of flags is looked
+/// at; and never an entry but those that are sent.
 fn push_lsps(
     out: &mut Rows<Sent>,
     conf: &RouterConf,
@@ -180,7 +180,7 @@ fn push_lsps(
     ensures { OnOk result (out.new ≡ out.old ++ flat_map (lsp_frames conf.now flood.now.flood.rows link) store.now.entries) }
 {
     let _order = store.len();
-    if !flood.has_flags(link) {
+    if !flood.may_send(link) {
         return Ok(());
     }
     'rows: for place in 0..flood.rows() {

@@ -5,8 +5,8 @@ use Rattle.router_core.proofs.IdleLaws.{idle-asked}
 use Rattle.router_core.proofs.MergeLaws.{asked_step, asked_end}
 use Rattle.router_core.proofs.sending.asked_rows.Goals as goal
 
-pub returns-then-not-has_flags : goal.returns-then-not-has_flags
-returns-then-not-has_flags c = c.new-rows.ensures.items ∙ sym (ap (λ (es : List Entry). map summary_of es) (idle-asked c.args.flood.now.flood.rows c.args.link c.args.store.now.entries (sym c.if-not-has_flags.ensures)))
+pub returns-then-not-may_ask : goal.returns-then-not-may_ask
+returns-then-not-may_ask c = c.new-rows.ensures.items ∙ sym (ap (λ (es : List Entry). map summary_of es) (idle-asked c.args.flood.now.flood.rows c.args.link c.args.store.now.entries (c.may_ask.ensures c.if-not-may_ask.true)))
 
 pub rows-preserved : goal.rows-preserved
 rows-preserved c =

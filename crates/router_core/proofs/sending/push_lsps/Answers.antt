@@ -1,10 +1,10 @@
-use Rattle.std.proofs.Common.{◌+◌, ◌<◌, ◌≤◌, length, refl, sym, arith}
+use Rattle.std.proofs.Common.{◌+◌, ◌<◌, ◌≤◌, length, refl, arith}
 use Rattle.router_core.proofs.IdleLaws.{idle-sent}
 use Rattle.router_core.proofs.MergeLaws.{sent_step, sent_end}
 use Rattle.router_core.proofs.sending.push_lsps.Goals as goal
 
-pub returns-then-not-has_flags : goal.returns-then-not-has_flags
-returns-then-not-has_flags c = idle-sent c.args.conf.now c.args.flood.now.flood.rows c.args.link c.args.store.now.entries c.args.out.now (sym c.if-not-has_flags.ensures)
+pub returns-then-not-may_send : goal.returns-then-not-may_send
+returns-then-not-may_send c = idle-sent c.args.conf.now c.args.flood.now.flood.rows c.args.link c.args.store.now.entries c.args.out.now (c.may_send.ensures c.if-not-may_send.true)
 
 pub rows-preserved : goal.rows-preserved
 rows-preserved c =

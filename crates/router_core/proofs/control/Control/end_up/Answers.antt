@@ -1,5 +1,5 @@
 use Rattle.router_core.proofs.IssuedLaws.{spent_issued, up_issued}
-use Rattle.std.proofs.Common.{◌∙◌, ℕ, ◌<◌, Bool, true, List, length, set, ap, sym, arith}
+use Rattle.std.proofs.Common.{◌∙◌, ◌<◌, length, ap, refl, arith}
 use Rattle.wire_base.specs.declared.addresses.LspId.{LspId}
 use Rattle.wire_base.specs.model.Control.{Control, entry_in, seq_of}
 use Rattle.wire_base.specs.model.Flooding.{end_up}
@@ -36,7 +36,7 @@ invariant_of-self-2 c =
       issued =
           up_issued c.self.inside.conf c.self.inside.flood.flood c.self.inside.store.entries c.self.inside.spent c.self.invariant.router c.self.invariant.issued c.seq_of-seq.result _ c.in_ok-own.own c.in_ok-own.ensures
           c.link_up_issuing.new.flood.flood c.link_up_issuing.new.store.entries _ c.spent_past-self-inside.ensures c.args.link c.in_ok-link_up_issuing.ensures.ok.0 c.in_ok-link_up_issuing.ensures.ok.1 c.if-self.false
-          (c.as_slice.ensures.value ∙ ap (λ (l : List Bool). set l c.from.result true) (c.in_ok-up.ensures ∙ ap (λ (x : Control). x.flood.up) (sym c.self.view_is)) ∙ ap (λ (n : ℕ). set c.self.inside.flood.flood.up n true) c.from.ensures);
+          refl;
     }
 
 pub returns-clause-ok : goal.returns-clause-ok
@@ -44,5 +44,5 @@ returns-clause-ok c =
     up_issued_is c.self.inside.conf c.self.inside.flood.flood c.self.inside.store.entries c.self.inside.spent c.self.invariant.router c.args.link c.seq_of-seq.result _ c.in_ok-own.own c.in_ok-own.ensures
     c.link_up_issuing.new.flood.flood c.link_up_issuing.new.store.entries _ c.in_ok-link_up_issuing.ensures.ok.1 c.spent_past-self-inside.ensures c.in_ok-link_up_issuing.ensures.database
     c.in_ok-link_up_issuing.ensures.ok.0 (let lt : c.args.link < length c.self.inside.conf.ends = omega (arith, ap (λ (x : Control). length x.conf.ends) c.self.view_is) in lt) c.if-self.false (c.seq_of-seq.ensures ∙ ap (λ (i : LspId). seq_of (entry_in c.self.inside.store.entries i)) c.fragment_0.ensures)
-    (c.as_slice.ensures.value ∙ ap (λ (l : List Bool). set l c.from.result true) (c.in_ok-up.ensures ∙ ap (λ (x : Control). x.flood.up) (sym c.self.view_is)) ∙ ap (λ (n : ℕ). set c.self.inside.flood.flood.up n true) c.from.ensures)
+    refl
     ∙ ap (λ (x : Control). (end_up x c.args.link).control) c.self.view_is

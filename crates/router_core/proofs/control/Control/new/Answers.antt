@@ -1,5 +1,5 @@
 use Rattle.router_core.proofs.IssuedLaws.{started_issued}
-use Rattle.std.proofs.Common.{◌∙◌, ℕ, true, length, replicate, ap}
+use Rattle.std.proofs.Common.{◌∙◌, true, length, refl}
 use Rattle.std.proofs.lemmas.List.{length-replicate}
 use Rattle.router_core.proofs.EventLaws.{started_is, started_keeps, first_is}
 use Rattle.router_core.proofs.control.Control.new.Goals as goal
@@ -9,7 +9,7 @@ invariant_of-result c =
     record {
       router =
           started_keeps c.args.conf _ c.in_ok-store.flood.flood c.in_ok-store.store.entries c.in_ok-store.ensures.entries c.in_ok-store.ensures.flood c.requires
-          (ap length (c.as_slice.ensures.value ∙ c.in_ok-up.ensures) ∙ length-replicate c.len.result true ∙ c.len.ensures)
+          (length-replicate (length c.args.conf.ends) true)
           c.in_ok-store.ensures.database;
       issued =
           started_issued c.args.conf _ c.in_ok-store.flood.flood c.in_ok-store.store.entries c.in_ok-store.ensures.entries c.in_ok-store.ensures.flood;
@@ -18,4 +18,4 @@ invariant_of-result c =
 pub returns : goal.returns
 returns c =
     started_is c.args.conf _ c.in_ok-store.flood.flood c.in_ok-store.store.entries c.in_ok-store.ensures.entries c.in_ok-store.ensures.flood
-    ∙ first_is c.args.conf _ (c.as_slice.ensures.value ∙ c.in_ok-up.ensures ∙ ap (λ (n : ℕ). replicate n true) c.len.ensures)
+    ∙ first_is c.args.conf _ refl

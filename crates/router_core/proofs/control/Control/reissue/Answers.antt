@@ -1,5 +1,5 @@
 use Rattle.router_core.proofs.IssuedLaws.{reissued_issued}
-use Rattle.std.proofs.Common.{◌∙◌, ap, sym}
+use Rattle.std.proofs.Common.{◌∙◌, ap, refl}
 use Rattle.wire_base.specs.model.Control.{Control}
 use Rattle.wire_base.specs.model.Flooding.{reissue}
 use Rattle.router_core.proofs.OwnLaws.{own_not_refused, made_id, reissued_is, reissued_keeps, kept_of}
@@ -22,12 +22,12 @@ invariant_of-self-2 c =
       issued =
           reissued_issued c.self.inside.conf c.self.inside.flood.flood c.self.inside.store.entries c.self.inside.spent c.self.invariant.router c.self.invariant.issued c.args.seq _ c.in_ok-own.own c.in_ok-own.ensures
           c.issue.new.flood.flood c.issue.new.store.entries _ c.spent_past-self-inside.ensures c.in_ok-issue.ensures.ok.0 c.in_ok-issue.ensures.ok.1 (ap (λ (x : Control). x.spent) c.self.view_is ∙ c.requires)
-          (c.as_slice.ensures.value ∙ c.in_ok-up.ensures ∙ ap (λ (x : Control). x.flood.up) (sym c.self.view_is));
+          refl;
     }
 
 pub returns-clause-ok : goal.returns-clause-ok
 returns-clause-ok c =
     reissued_is c.self.inside.conf c.self.inside.flood.flood c.self.inside.store.entries c.self.inside.spent c.args.seq _ c.in_ok-own.own c.in_ok-own.ensures
     c.issue.new.flood.flood c.issue.new.store.entries _ c.in_ok-issue.ensures.ok.0 c.in_ok-issue.ensures.ok.1 c.spent_past-self-inside.ensures
-    (c.as_slice.ensures.value ∙ c.in_ok-up.ensures ∙ ap (λ (x : Control). x.flood.up) (sym c.self.view_is))
+    refl
     ∙ ap (λ (x : Control). reissue x c.args.seq) c.self.view_is
