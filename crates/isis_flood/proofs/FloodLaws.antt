@@ -13,7 +13,8 @@ use Rattle.wire_base.specs.model.Control.{same_id, system_order, id_order, is_be
 use Rattle.wire_base.specs.model.Flooding.{mark_all, forget, with_row, no_links, new_flood, link_down, sent_on}
 use Rattle.lsp_store.proofs.OrderLaws.{tie_is_same, below_trans, below_differs, above_differs, same_turned}
 use Rattle.isis_flood.specs.declared.table.Bits.{Bits}
-use Rattle.isis_flood.specs.Masks.{links_in, row_of, rows_of, row_ids, row_in, no_bits, bits_in, put_bits, without_bits, flood_of, Flooding, clears}
+use Rattle.isis_flood.specs.Masks.{links_in, row_of, rows_of, row_ids, row_in, no_bits, bits_in, put_bits, without_bits, flood_of, Flooding, clears, turned, turned_flag}
+use Rattle.isis_flood.specs.declared.masks.Turn.{Turn}
 use Rattle.isis_flood.specs.Flags.{has_srm, has_ssn}
 use Rattle.isis_flood.proofs.BusyLaws.{past_srm, past_ssn, rows_same}
 use Rattle.isis_flood.proofs.MaskLaws.{links_none, links_long}
@@ -220,13 +221,17 @@ module _ (own : SystemId) (n up due spare : ℕ) (rows : List Bits) (now : Flood
   pub few_links : n ≤ 64 → length now.flood.up ≤ 64
   few_links few = omega (arith, few, links_are_n)
 
-  pub row_is : (id : LspId) (b : Bits) → b ≡ bits_in rows id → row_of (length now.flood.up) (record { id = id; srm = b.srm; ssn = b.ssn }) ≡ row_in (length now.flood.up) now.flood.rows id
-  row_is id b is =
+  -- the flags of an identifier on a link are turned
+  pub turns : (link : ℕ) → n ≤ 64 → link < length now.flood.up → (srm ssn : Turn) (id : LspId) (b : Bits) (x y : ℕ) (new : List Bits) → b ≡ bits_in rows id
+      → ((m : ℕ) → link < m → m ≤ 64 → links_in m x ≡ turned_flag link srm (links_in m b.srm)) → ((m : ℕ) → link < m → m ≤ 64 → links_in m y ≡ turned_flag link ssn (links_in m b.ssn))
+      → new ≡ put_bits (record { id = id; srm = x; ssn = y }) rows → flood_of own n up due new ≡ with_row now.flood id (turned link srm ssn)
+  turns link few there srm ssn id b x y new is s a made =
       let whole : row_of n b ≡ row_in n (rows_of n rows) id = ap (λ (r : Bits). row_of n r) is ∙ row_seen n rows id in
       let same : b.id ≡ id = ap (λ (r : FlagRow). r.id) whole ∙ row_in_id n (rows_of n rows) id in
-      ap (λ m. row_of m (record { id = id; srm = b.srm; ssn = b.ssn })) links_are_n
-      ∙ ap (λ (i : LspId). row_of n (record { id = i; srm = b.srm; ssn = b.ssn })) (sym same) ∙ whole
-      ∙ ap (λ m. row_in m (rows_of n rows) id) (sym links_are_n) ∙ ap (λ (f : Flood). row_in (length now.flood.up) f.rows id) flood_seen
+      changes (record { id = id; srm = x; ssn = y }) (turned link srm ssn) new made
+      (ap (λ (l : List Bool). record { id = id; srm = l; ssn = links_in n y }) (s n (link_of link there) few) ∙ ap (λ (l : List Bool). record { id = id; srm = turned_flag link srm (links_in n b.srm); ssn = l }) (a n (link_of link there) few)
+      ∙ ap (λ (i : LspId). record { id = i; srm = turned_flag link srm (links_in n b.srm); ssn = turned_flag link ssn (links_in n b.ssn) }) (sym same)
+      ∙ ap (λ (r : FlagRow). turned link srm ssn r) whole)
 
   pub row_changes : (b : Bits) (change : FlagRow → FlagRow) (new : List Bits) → new ≡ put_bits b rows → row_of (length now.flood.up) b ≡ change (row_in (length now.flood.up) now.flood.rows b.id) → flood_of own n up due new ≡ with_row now.flood b.id change
   row_changes b change new is changed =
@@ -277,12 +282,6 @@ unfolding new_flood
 starts own n mask ups rows long is none =
     let all : links_in n mask ≡ ups = ap (λ m. links_in m mask) (sym long) ∙ is in
     ap (λ (l : List Bool). record { own = own; up = l; due = l; rows = rows_of n rows }) all ∙ ap (λ (rs : List Bits). record { own = own; up = ups; due = ups; rows = rows_of n rs }) none
-
--- a row with its masks changed
-pub changed_row : (n : ℕ) (r : Bits) (id : LspId) (srm ssn : ℕ) (before : FlagRow) (s t : List Bool → List Bool) → r.id ≡ id → row_of n r ≡ before → links_in n srm ≡ s (links_in n r.srm) → links_in n ssn ≡ t (links_in n r.ssn) → row_of n (record { id = id; srm = srm; ssn = ssn }) ≡ record before { srm = s before.srm; ssn = t before.ssn }
-changed_row n r id srm ssn before s t same is a b =
-    ap (λ (l : List Bool). record { id = id; srm = l; ssn = links_in n ssn }) a ∙ ap (λ (l : List Bool). record { id = id; srm = s (links_in n r.srm); ssn = l }) b
-    ∙ ap (λ (i : LspId). record { id = i; srm = s (links_in n r.srm); ssn = t (links_in n r.ssn) }) (sym same) ∙ ap (λ (row : FlagRow). record row { srm = s row.srm; ssn = t row.ssn }) is
 
 -- ---- every row
 

@@ -1,5 +1,5 @@
 -- Masks over links: the truth values that a number of 64 bits stands for, and rows of flags kept as such numbers.
-use Rattle.std.specs.Prelude.{◌≡◌, ◌<◌, ℕ, zero, suc, ◌==◌, Bool, true, false, List, [], ◌∷◌, map, if◌then◌else◌}
+use Rattle.std.specs.Prelude.{◌≡◌, ◌<◌, ℕ, zero, suc, ◌==◌, Bool, true, false, List, [], ◌∷◌, map, slice_set, if◌then◌else◌}
 use Rattle.std.specs.Int.{bit_at}
 use Rattle.std.specs.Ordering.{match_ordering}
 use Rattle.wire_base.specs.declared.addresses.SystemId.{SystemId}
@@ -7,6 +7,8 @@ use Rattle.wire_base.specs.declared.addresses.LspId.{LspId}
 use Rattle.wire_base.specs.model.Control.{id_order, same_id, AreAscending, FlagRow, Flood, no_flags}
 use Rattle.wire_base.specs.model.Flooding.{clear_both, clear_ssn}
 use Rattle.lsp_store.specs.Places.{place_in, stands_at}
+use Rattle.isis_flood.specs.declared.masks.Turn.{Turn}
+use Rattle.isis_flood.specs.declared.masks.Turn.TheVariants.{On, Off, Same}
 use Rattle.isis_flood.specs.declared.table.Bits.{Bits}
 use Rattle.isis_flood.specs.Flags.{has_srm, has_ssn}
 
@@ -85,3 +87,12 @@ pub record IsTable (sending asking : ℕ) (rows : List Bits) : Type 0 where
 abbrev pub clears : Bool → ℕ → FlagRow → FlagRow
 clears true link row = clear_both link row
 clears false link row = clear_ssn link row
+
+-- the flags of a row's identifier, with that of a link turned
+abbrev pub turned_flag : ℕ → Turn → List Bool → List Bool
+turned_flag link On flags = slice_set flags link true
+turned_flag link Off flags = slice_set flags link false
+turned_flag link Same flags = flags
+
+abbrev pub turned : ℕ → Turn → Turn → FlagRow → FlagRow
+turned link srm ssn row = record row { srm = turned_flag link srm row.srm; ssn = turned_flag link ssn row.ssn }

@@ -2,9 +2,9 @@ ghost use Rattle.std.specs.Prelude.{◌≡◌, ◌<◌, ◌≤◌, ◌+◌, leng
 ghost use Rattle.wire_base.specs.model.Control.{FlagRow, srm_in, ssn_in, without_row};
 ghost use Rattle.wire_base.specs.model.Flooding.{with_row, send_on, ask_on, set_srm, pass_on, mark_all, forget, link_down, sent_on, new_flood};
 ghost use Rattle.isis_flood.specs.Flags.{has_srm, has_ssn};
-ghost use Rattle.isis_flood.specs.Masks.{links_in, row_of, row_in};
+ghost use Rattle.isis_flood.specs.Masks.{links_in, row_of, row_in, turned};
 
-use crate::masks::{has_of, mask_of, with, without};
+use crate::masks::{Turn, has_of, mask_of, turned, with, without};
 use crate::table::{Bits, Table};
 use std::alloc::Global;
 use std::marker::Model;
@@ -163,20 +163,6 @@ impl Flood {
         self.table.remove(&id);
     }
 
-    /// The row of an identifier, without flags where it isn't there.
-    fn row(&self, id: &LspId) -> Bits
-        ensures id { result.id ≡ id.now }
-        ensures row { row_of (length self.now.flood.up) result ≡ row_in (length self.now.flood.up) self.now.flood.rows id.now }
-        ensures few { length self.now.flood.up ≤ 64 }
-    {
-        let row = self.table.get(id);
-        Bits {
-            id: *id,
-            srm: row.srm,
-            ssn: row.ssn,
-        }
-    }
-
     /// Changes the row of an identifier to this one.
     fn set_row(&mut self, row: Bits) -> M<()>
         ensures ok { (change : FlagRow → FlagRow) → row_of (length self.old.flood.up) row ≡ change (row_in (length self.old.flood.up) self.old.flood.rows row.id)
@@ -188,6 +174,24 @@ impl Flood {
         self.table.put(row)
     }
 
+    /// Turns the flags of an identifier on a link, to be sent there and to be acknowledged or asked for.
+    fn turn(&mut self, id: LspId, link: u16, srm: Turn, ssn: Turn) -> M<()>
+        requires { link < length self.old.flood.up }
+        ensures ok { OnOk result (self.new.flood ≡ with_row self.old.flood id (turned link srm ssn)) }
+        ensures err { OnErr result (self.new.flood ≡ self.old.flood) }
+        ensures room { 0 < self.old.spare → IsOk result }
+        ensures spare { self.old.spare ≤ self.new.spare + 1 }
+    {
+        let found = self.table.find(&id);
+        let row = self.table.row_at(found, id);
+        let changed = Bits {
+            id,
+            srm: turned(row.srm, link, srm),
+            ssn: turned(row.ssn, link, ssn),
+        };
+        self.table.put_at(found, changed)
+    }
+
     /// To be acknowledged or asked for on a link, and not sent there.
     pub(crate) fn ask(&mut self, id: LspId, link: u16) -> M<()>
         requires { link < length self.old.flood.up }
@@ -196,12 +200,7 @@ impl Flood {
         ensures room { 0 < self.old.spare → IsOk result }
         ensures spare { self.old.spare ≤ self.new.spare + 1 }
     {
-        let row = self.row(&id);
-        self.set_row(Bits {
-            id,
-            srm: without(row.srm, link),
-            ssn: with(row.ssn, link),
-        })
+        self.turn(id, link, Turn::Off, Turn::On)
     }
 
     /// To be sent on a link, and not acknowledged there.
@@ -212,12 +211,7 @@ impl Flood {
         ensures room { 0 < self.old.spare → IsOk result }
         ensures spare { self.old.spare ≤ self.new.spare + 1 }
     {
-        let row = self.row(&id);
-        self.set_row(Bits {
-            id,
-            srm: with(row.srm, link),
-            ssn: without(row.ssn, link),
-        })
+        self.turn(id, link, Turn::On, Turn::Off)
     }
 
     /// Not to be sent on a link.
@@ -228,12 +222,7 @@ impl Flood {
         ensures room { 0 < self.old.spare → IsOk result }
         ensures spare { self.old.spare ≤ self.new.spare + 1 }
     {
-        let row = self.row(&id);
-        self.set_row(Bits {
-            id,
-            srm: without(row.srm, link),
-            ssn: row.ssn,
-        })
+        self.turn(id, link, Turn::Off, Turn::Same)
     }
 
     /// To be sent on a link.
@@ -244,12 +233,7 @@ impl Flood {
         ensures room { 0 < self.old.spare → IsOk result }
         ensures spare { self.old.spare ≤ self.new.spare + 1 }
     {
-        let row = self.row(&id);
-        self.set_row(Bits {
-            id,
-            srm: with(row.srm, link),
-            ssn: row.ssn,
-        })
+        self.turn(id, link, Turn::On, Turn::Same)
     }
 
     /// The links that are up, as a mask.

@@ -1,6 +1,6 @@
 //! Masks over links, of which there are at most 64: bit i of a mask is the link at place i.
 ghost use Rattle.std.specs.Prelude.{◌≡◌, ◌≢◌, ◌<◌, ◌≤◌, ℕ, true, false, length, slice_set, slice_index_or};
-ghost use Rattle.isis_flood.specs.Masks.{links_in, at_bit};
+ghost use Rattle.isis_flood.specs.Masks.{links_in, at_bit, turned_flag};
 
 /// With a link.
 pub(crate) fn with_bit(mask: u64, link: u16) -> u64
@@ -49,6 +49,26 @@ pub(crate) fn without(mask: u64, link: u16) -> u64
     ensures { (n : ℕ) → link < n → n ≤ 64 → links_in n result ≡ slice_set (links_in n mask) link false }
 {
     without_bit(mask, link)
+}
+
+/// What becomes of a flag.
+#[derive(Clone, Copy)]
+pub(crate) enum Turn {
+    On,
+    Off,
+    Same,
+}
+
+/// The mask with that link on, off or as it is.
+pub(crate) fn turned(mask: u64, link: u16, turn: Turn) -> u64
+    requires { link < 64 }
+    ensures { (n : ℕ) → link < n → n ≤ 64 → links_in n result ≡ turned_flag link turn (links_in n mask) }
+{
+    match turn {
+        Turn::On => with(mask, link),
+        Turn::Off => without(mask, link),
+        Turn::Same => mask,
+    }
 }
 
 /// Whether the mask has a link.

@@ -1,4 +1,4 @@
-ghost use Rattle.std.specs.Prelude.{◌≡◌, ◌≢◌, ◌<◌, ◌≤◌, ◌+◌, ◌||◌, ◌&&◌, [], map, ℕ, true, false, length, vec_len, vec_capacity, IsOk, IfOk, IfErr, OnOk, OnErr};
+ghost use Rattle.std.specs.Prelude.{◌≡◌, ◌≢◌, ◌<◌, ◌≤◌, ◌+◌, ◌||◌, ◌&&◌, [], map, ℕ, true, false, length, vec_len, vec_capacity, IsOk, OnOk, OnErr};
 ghost use Rattle.std.specs.List.{list_any};
 ghost use Rattle.wire_base.specs.model.Control.{AreAscending};
 ghost use Rattle.isis_flood.specs.Flags.{has_srm, has_ssn};
@@ -17,6 +17,13 @@ pub(crate) struct Bits {
     pub(crate) id: LspId,
     pub(crate) srm: u64,
     pub(crate) ssn: u64,
+}
+
+/// Where the row of an identifier stands in a table, or would stand.
+#[derive(Clone, Copy)]
+pub(crate) struct Found {
+    place: usize,
+    is_there: bool,
 }
 
 /// Rows of flags in the order of their identifiers, none twice. No row is to be sent on a link that isn't in `sending`,
@@ -132,17 +139,27 @@ impl Table {
     }
 
     /// Where an identifier stands, or would stand.
-    fn find(&self, id: &LspId) -> Result<usize, usize>
-        ensures there { IfOk result (λ place. IsPlace self.now.rows id.now true place) }
-        ensures gone { IfErr result (λ place. IsPlace self.now.rows id.now false place) }
+    pub(crate) fn find(&self, id: &LspId) -> Found
+        ensures place { IsPlace self.now.rows id.now result.is_there result.place }
+        ensures ascends { AreAscending (row_ids self.now.rows) }
     {
         let rows = self.items.as_slice();
         let place = place_of(rows, id);
-        if stands_at(rows, place, id) {
-            Ok(place)
-        } else {
-            Err(place)
+        Found {
+            place,
+            is_there: stands_at(rows, place, id),
         }
+    }
+
+    /// The row of an identifier that was found, without flags where it isn't there.
+    pub(crate) fn row_at(&self, found: Found, id: LspId) -> Bits
+        requires { IsPlace self.now.rows id found.is_there found.place }
+        ensures { result ≡ bits_in self.now.rows id }
+    {
+        if found.is_there {
+            return self.items[found.place];
+        }
+        Bits { id, srm: 0, ssn: 0 }
     }
 
     /// The row of an identifier, without flags where it isn't there.
@@ -150,14 +167,27 @@ impl Table {
         ensures row { result ≡ bits_in self.now.rows id.now }
         ensures ascends { AreAscending (row_ids self.now.rows) }
     {
-        match self.find(id) {
-            Ok(place) => self.items[place],
-            Err(_) => Bits {
-                id: *id,
-                srm: 0,
-                ssn: 0,
-            },
+        self.row_at(self.find(id), *id)
+    }
+
+    /// Puts a row at the place of its identifier, in place of the row that is there.
+    pub(crate) fn put_at(&mut self, found: Found, row: Bits) -> M<()>
+        requires { IsPlace self.old.rows row.id found.is_there found.place }
+        ensures ok { OnOk result (self.new.rows ≡ put_bits row self.old.rows) }
+        ensures err { OnErr result (self.new.rows ≡ self.old.rows) }
+        ensures room { 0 < self.old.spare → IsOk result }
+        ensures spare { self.old.spare ≤ self.new.spare + 1 }
+    {
+        if found.is_there {
+            self.sending = joined(self.sending, row.srm);
+            self.asking = joined(self.asking, row.ssn);
+            self.items[found.place] = row;
+            return Ok(());
         }
+        self.items.insert(found.place, row)?;
+        self.sending = joined(self.sending, row.srm);
+        self.asking = joined(self.asking, row.ssn);
+        Ok(())
     }
 
     /// Puts a row at its place, or in place of the one of its identifier.
@@ -167,20 +197,8 @@ impl Table {
         ensures room { 0 < self.old.spare → IsOk result }
         ensures spare { self.old.spare ≤ self.new.spare + 1 }
     {
-        match self.find(&row.id) {
-            Ok(place) => {
-                self.sending = joined(self.sending, row.srm);
-                self.asking = joined(self.asking, row.ssn);
-                self.items[place] = row;
-                Ok(())
-            }
-            Err(place) => {
-                self.items.insert(place, row)?;
-                self.sending = joined(self.sending, row.srm);
-                self.asking = joined(self.asking, row.ssn);
-                Ok(())
-            }
-        }
+        let found = self.find(&row.id);
+        self.put_at(found, row)
     }
 
     /// Takes the row of an identifier away.
@@ -188,11 +206,9 @@ impl Table {
         ensures rows { self.new.rows ≡ without_bits id.now self.old.rows }
         ensures spare { self.old.spare ≤ self.new.spare }
     {
-        match self.find(id) {
-            Ok(place) => {
-                self.items.remove(place);
-            }
-            Err(_) => (),
+        let found = self.find(id);
+        if found.is_there {
+            self.items.remove(found.place);
         }
     }
 
