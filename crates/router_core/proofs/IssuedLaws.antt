@@ -15,12 +15,12 @@ use Rattle.wire_base.specs.declared.flood_out.FloodOut.{FloodOut}
 use Rattle.wire_base.specs.declared.flood_out.FloodOut.TheVariants as out
 use Rattle.wire_base.specs.declared.triple.Summary.{Summary}
 use Rattle.wire_base.specs.model.Control.{Flood, AreAscending, ids_of, same_id, same_system, fragment_0, entry_in, put_entry, purge, age_of, is_unknown, is_newer_or_confused, is_full, seq_of, aged_to, after_second}
-use Rattle.wire_base.specs.model.Flooding.{LspAnswer, SnpAnswer, only_says, puts_marked, kept, lsp_aged, is_own_ahead, is_stray, lsp_in, on_lsp, wanted, is_live_summary, listed_aged, on_listed, on_list, on_csnp, on_psnp, mark_all, last_sequence, started, new_flood, link_up, link_down, sent_on, send_known, set_srm, with_row, flood_aged}
+use Rattle.wire_base.specs.model.Flooding.{LspAnswer, SnpAnswer, only_says, puts_marked, kept, lsp_aged, is_own_ahead, is_stray, lsp_in, on_lsp, wanted, is_live_summary, listed_aged, on_listed, on_list, mark_all, last_sequence, started, new_flood, link_up, link_down, sent_on, send_known, set_srm, with_row, flood_aged}
 use Rattle.wire_base.specs.model.OwnLsp.{own_lsp}
 use Rattle.wire_base.specs.model.Pdu.{Head, head_summary}
-use Rattle.wire_base.specs.model.Tlv.{rows_of}
 use Rattle.router_core.specs.Own.{own_past, spent_past}
 use Rattle.router_core.specs.Aging.{is_near}
+use Rattle.router_core.specs.Received.{list_taken}
 use Rattle.router_core.specs.State.{IsIssued, AreIssued, IsRouter, control_of}
 use Rattle.router_core.proofs.EntryLaws.{same_is, put_reads, id_self, bytes_self}
 use Rattle.router_core.proofs.EventLaws.{aged_reads}
@@ -139,13 +139,10 @@ module _ (r : RouterConf) (up : List Bool) (spent : Bool) (link : ℕ) where
   rows_issued [] a all = all
   rows_issued (s ∷ rows) a all = rows_issued rows (on_listed link spent a s) (listed_issued a s all)
 
-  pub psnp_issued : (f : Flood) (es : List Entry) (tlvs : List ℕ) → AreIssued r up spent es → AreIssued r up spent (on_psnp f es link tlvs spent).entries
-  unfolding on_psnp on_list
-  psnp_issued f es tlvs all = rows_issued (rows_of tlvs) (record { flood = f; entries = es; answer = record { reissue = None; full = 0 } }) all
-
-  pub csnp_issued : (f : Flood) (es : List Entry) (start last : LspId) (tlvs : List ℕ) → AreIssued r up spent es → AreIssued r up spent (on_csnp f es link start last tlvs spent).entries
-  unfolding on_csnp on_list
-  csnp_issued f es start last tlvs all = rows_issued (rows_of tlvs) (record { flood = f; entries = es; answer = record { reissue = None; full = 0 } }) all
+  pub list_issued : (f : Flood) (es : List Entry) (range : Option (LspId × LspId)) (rows : List Summary) → AreIssued r up spent es → AreIssued r up spent (list_taken f es link range rows spent).entries
+  unfolding on_list
+  list_issued f es None rows all = rows_issued rows (record { flood = f; entries = es; answer = record { reissue = None; full = 0 } }) all
+  list_issued f es (Some range) rows all = rows_issued rows (record { flood = f; entries = es; answer = record { reissue = None; full = 0 } }) all
 
 -- ---- a second
 

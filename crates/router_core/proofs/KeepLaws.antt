@@ -1,5 +1,5 @@
 -- What is kept of a view, through the events of a router.
-use Rattle.std.proofs.Common.{◌≡◌, ◌∙◌, ℕ, Bool, true, false, List, [], ◌∷◌, ◌++◌, ◌||◌, Option, Some, None, Result, Ok, Err, IfOk, OnOk, OnErr, refl, sym, ap, subst}
+use Rattle.std.proofs.Common.{◌≡◌, ◌∙◌, ℕ, Bool, true, false, List, [], ◌∷◌, ◌++◌, ◌||◌, Option, Some, None, Result, Ok, Err, is_ok, if◌then◌else◌, IfOk, OnOk, OnErr, refl, sym, ap, subst}
 use Rattle.std.proofs.lemmas.Bool.{false≢true, true≢false}
 use Rattle.std.proofs.lemmas.List.Folds.{list_any-append}
 use Rattle.std.specs.List.{list_any}
@@ -23,7 +23,7 @@ use Rattle.bier_forward.specs.Kept.{AreRoutes}
 use Rattle.bier_forward.specs.declared.routes.Routes.{Routes}
 use Rattle.router_core.specs.Forecast.{is_confusing}
 use Rattle.router_core.specs.declared.kept.Kept.{Kept}
-use Rattle.router_core.specs.Keeping.{IsKept, IsCurrent, MayKeep, SaysSame, StaysKept, StaysOwn, is_last}
+use Rattle.router_core.specs.Keeping.{IsKept, IsCurrent, IsNow, MayKeep, SaysSame, StaysKept, StaysOwn, is_last}
 use Rattle.router_core.proofs.NotingLaws.{but_says, says_itself, lsp_but, csnp_but, psnp_but, tick_but, up_but, down_but}
 
 -- ---- what may have changed is noted
@@ -53,6 +53,11 @@ noted_before c next k system there kept same = outdated c next k system k.change
     by : (s : SystemId) → is_named k.changed s ≡ false → (b : Bool) → same_system system s ≡ b → b ≡ false
     by s away true h = absurd (true≢false (sym there ∙ ap (is_named k.changed) (same_is system s h) ∙ away))
     by s away false h = refl
+
+-- a call that succeeded
+pub pushed_is : {T E : Type 0} {P : Type 0} (result : Result T E) → is_ok result ≡ true → OnOk result P → P
+pushed_is (Ok x) is done = done
+pushed_is (Err e) is done = absurd (false≢true is)
 
 -- a system that is noted now
 pub noted_now : (c next : Control) (k : Kept) (system : SystemId) (changed : List SystemId) → changed ≡ k.changed ++ system ∷ [] → IsKept c k → SaysSame system c next → IsKept next (record k { is_current = false; changed = changed })
@@ -86,6 +91,20 @@ renewed_is c r up entries v changed routes conf ups es exact system kinds others
 
     said : v.others ≡ heard v.system v.kinds c.entries
     said = others ∙ ap (λ (t : SystemId). heard t r.kinds entries) (sym system) ∙ ap (λ (ks : List SubKind). heard v.system ks entries) (sym kinds) ∙ ap (λ (x : List Entry). heard v.system v.kinds x) es
+
+-- something that is kept, once it was renewed
+pub now_is : (c : Control) (kept : Option Kept) (k : Kept) → kept ≡ Some k → IsNow c kept → IsCurrent c k
+now_is c kept k is now = subst (IsNow c) is now
+
+-- where packets are forwarded what is kept stays, and where memory runs out nothing is kept
+pub forwarded_keeps : {T E : Type 0} (c : Control) (k k' : Option Kept) (result : Result T E) (stays : Bool) → stays ≡ is_ok result → OnOk result (MayKeep c k) → k' ≡ (if stays then k else None) → MayKeep c k'
+forwarded_keeps c k k' (Ok e) stays is kept now = subst (MayKeep c) (sym (now ∙ ap (λ (b : Bool). if b then k else None) is)) kept
+forwarded_keeps c k k' (Err m) stays is kept now = subst (MayKeep c) (sym (now ∙ ap (λ (b : Bool). if b then k else None) is)) tt
+
+-- so where a system is noted
+pub noted_keeps : (system : SystemId) (k k' now : Option Kept) (stays : Bool) → (stays ≡ true → StaysKept system k k') → now ≡ (if stays then k' else None) → StaysKept system k now
+noted_keeps system k k' now true all is = λ b next kept same. subst (MayKeep next) (sym is) (all refl b next kept same)
+noted_keeps system k k' now false all is = λ b next kept same. subst (MayKeep next) (sym is) tt
 
 -- ---- events
 

@@ -7,7 +7,6 @@ use Rattle.std.specs.Prelude.{option_map}
 use Rattle.byteorder.specs.Endian.{big_bytes}
 use Rattle.byteorder.specs.Numbers.{length-bytes_high_first}
 use Rattle.wire_base.specs.declared.limits.TheConstants.{MOST_CONTENT}
-use Rattle.wire_base.specs.declared.addresses.SystemId.{SystemId}
 use Rattle.wire_base.specs.declared.addresses.LspId.{LspId}
 use Rattle.wire_base.specs.declared.cause.Cause.TheVariants as cause
 use Rattle.wire_base.specs.declared.conf.Level.{Level}
@@ -20,19 +19,19 @@ use Rattle.wire_base.specs.declared.flood_out.FloodOut.TheVariants as out
 use Rattle.wire_base.specs.declared.triple.Summary.{Summary}
 use Rattle.wire_base.specs.model.Control.{Control, Flood, IsDatabase, entry_in, age_of, is_full, is_unknown}
 use Rattle.wire_base.specs.model.Ethernet.{IsFrame, IsisPdu}
-use Rattle.wire_base.specs.model.Flooding.{on_pdu, on_lsp, lsp_in, lsp_aged, is_own_ahead, is_stray, on_csnp, on_psnp, snp_done, reissue_if, LspAnswer, SnpAnswer}
+use Rattle.wire_base.specs.model.Flooding.{on_lsp, lsp_in, lsp_aged, is_own_ahead, is_stray, snp_done, reissue_if, LspAnswer, SnpAnswer}
 use Rattle.wire_base.specs.model.OnFrame.{Drop, Effects, nothing, framed}
 use Rattle.wire_base.specs.model.Pdu.{Head, head_summary, Pdu, LspPdu, CsnpPdu, PsnpPdu, HelloPdu, OtherPdu, IsPdu, lsp_type, csnp_type, psnp_type, shaped, shape, lsp_body, csnp_body, psnp_body, lsp_covered}
-use Rattle.wire_base.specs.model.Tlv.{lsp_id, rows_of}
+use Rattle.wire_base.specs.model.Tlv.{lsp_id}
 use Rattle.lsp_store.specs.Places.{is_new}
 use Rattle.router_core.specs.declared.forecast.Ready.{Ready}
 use Rattle.router_core.specs.Forecast.{spent_if, flags_issued, entries_issued, count_full, past_of, IsReady}
 use Rattle.router_core.specs.Own.{own_past}
-use Rattle.router_core.specs.Received.{HasRoom, full_drop, is_kept}
+use Rattle.router_core.specs.Received.{HasRoom, full_drop, is_kept, list_taken}
 use Rattle.router_core.specs.State.{IsRouter, AreIssued, is_up, control_of}
 use Rattle.router_core.proofs.ForecastLaws.{past_is, full_is}
 use Rattle.router_core.proofs.IssuedLaws.{issued_now, marked_up}
-use Rattle.router_core.proofs.KeptLaws.{Kept, OwnStands, LspKept, SnpKept, lsp_kept, csnp_kept, psnp_kept}
+use Rattle.router_core.proofs.KeptLaws.{Kept, OwnStands, LspKept, SnpKept, lsp_kept, csnp_kept, list_kept}
 use Rattle.router_core.proofs.OwnLaws.{past_id, kept_of, router_of, reissued_is, reissued_keeps}
 
 -- ---- lengths
@@ -136,41 +135,28 @@ module _ (c before : Control) (k : IsRouter c) (is : c ≡ before) (link : ℕ) 
   open_ : get_or c.flood.up link false ≡ true
   open_ = ap (λ (x : Control). get_or x.flood.up link false) is ∙ up
 
-  module _ (start last : LspId) (tlvs : List ℕ) (done : on_csnp f c.entries link start last tlvs c.spent ≡ a) where
-    csnp_done : on_csnp c.flood c.entries link start last tlvs c.spent ≡ a
-    csnp_done = ap (λ (g : Flood). on_csnp g c.entries link start last tlvs c.spent) (sym reserved) ∙ done
+  module _ (range : Option (LspId × LspId)) (rows : List Summary) (done : list_taken f c.entries link range rows c.spent ≡ a) where
+    list_done : list_taken c.flood c.entries link range rows c.spent ≡ a
+    list_done = ap (λ (g : Flood). list_taken g c.entries link range rows c.spent) (sym reserved) ∙ done
 
-    pub csnp_listed : IsListed c (rows_of tlvs) a
-    unfolding on_csnp
-    csnp_listed =
-        subst (λ (x : SnpAnswer). IsListed c (rows_of tlvs) x) csnp_done
-        (record {
-          kept = csnp_kept c.conf.system c.flood.up c.spent link open_ c.flood c.entries start last tlvs (kept_of c k);
-          asked = past_is link c.conf.system c.spent c.flood c.entries (rows_of tlvs) k.control.own k.own;
-          counted = full_is link c.spent c.flood c.entries (rows_of tlvs) k.control.entries.in_order;
-        })
+    -- what is asked for beside flags and entries is the same of both kinds of list
+    listed_so : (o : Option (LspId × LspId)) → IsListed c rows (list_taken c.flood c.entries link o rows c.spent)
+    listed_so None = record {
+      kept = list_kept c.conf.system c.flood.up c.spent link open_ c.flood c.entries rows (kept_of c k);
+      asked = past_is link c.conf.system c.spent c.flood c.entries rows k.control.own k.own;
+      counted = full_is link c.spent c.flood c.entries rows k.control.entries.in_order;
+    }
+    listed_so (Some o) = record {
+      kept = csnp_kept c.conf.system c.flood.up c.spent link open_ c.flood c.entries o.0 o.1 rows (kept_of c k);
+      asked = past_is link c.conf.system c.spent c.flood c.entries rows k.control.own k.own;
+      counted = full_is link c.spent c.flood c.entries rows k.control.entries.in_order;
+    }
 
-    pub csnp_framed : (source : SystemId) → framed link (snp_done c a) ≡ framed link (on_pdu before link (CsnpPdu source start last tlvs))
-    unfolding on_pdu
-    csnp_framed source = ap (λ (x : SnpAnswer). framed link (snp_done c x)) (sym csnp_done) ∙ ap (λ (x : Control). framed link (on_pdu x link (CsnpPdu source start last tlvs))) is
+    pub list_listed : IsListed c rows a
+    list_listed = subst (λ (x : SnpAnswer). IsListed c rows x) list_done (listed_so range)
 
-  module _ (tlvs : List ℕ) (done : on_psnp f c.entries link tlvs c.spent ≡ a) where
-    psnp_done : on_psnp c.flood c.entries link tlvs c.spent ≡ a
-    psnp_done = ap (λ (g : Flood). on_psnp g c.entries link tlvs c.spent) (sym reserved) ∙ done
-
-    pub psnp_listed : IsListed c (rows_of tlvs) a
-    unfolding on_psnp
-    psnp_listed =
-        subst (λ (x : SnpAnswer). IsListed c (rows_of tlvs) x) psnp_done
-        (record {
-          kept = psnp_kept c.conf.system c.flood.up c.spent link open_ c.flood c.entries tlvs (kept_of c k);
-          asked = past_is link c.conf.system c.spent c.flood c.entries (rows_of tlvs) k.control.own k.own;
-          counted = full_is link c.spent c.flood c.entries (rows_of tlvs) k.control.entries.in_order;
-        })
-
-    pub psnp_framed : (source : SystemId) → framed link (snp_done c a) ≡ framed link (on_pdu before link (PsnpPdu source tlvs))
-    unfolding on_pdu
-    psnp_framed source = ap (λ (x : SnpAnswer). framed link (snp_done c x)) (sym psnp_done) ∙ ap (λ (x : Control). framed link (on_pdu x link (PsnpPdu source tlvs))) is
+    pub list_framed : framed link (snp_done c a) ≡ framed link (snp_done before (list_taken before.flood before.entries link range rows before.spent))
+    list_framed = ap (λ (x : SnpAnswer). framed link (snp_done c x)) (sym list_done) ∙ ap (λ (x : Control). framed link (snp_done x (list_taken x.flood x.entries link range rows x.spent))) is
 
 -- what was made ready is all that the list asks for
 module _ (c before : Control) (k : IsRouter c) (is : c ≡ before) (rows : List Summary) (a : SnpAnswer) (l : IsListed c rows a) (ready : Ready) (told : IsReady before rows ready) where

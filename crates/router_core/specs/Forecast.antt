@@ -75,7 +75,6 @@ past_of c rows = past_asked c.spent c.entries (fragment_0 c.conf.system) rows
 
 -- all that a list of entries asks of a router
 pub record IsReady (c : Control) (rows : List Summary) (r : Ready) : Type 0 where
-  pub listed : r.listed ≡ length rows
   pub own : r.own ≡ option_map (own_past c.conf c.flood.up) (past_of c rows)
   pub spent : r.spent ≡ spent_if c.spent (past_of c rows)
   pub drops : r.drops ≡ map full_drop (replicate (count_full c.entries rows) cause.Full)

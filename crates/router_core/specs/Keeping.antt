@@ -27,6 +27,11 @@ pub record IsCurrent (c : Control) (k : Kept) : Type 0 where
   pub kept : IsKept c k
   pub view : k.view.nodes ≡ control_view c
 
+-- something is kept, and the view is that of the control state
+abbrev pub IsNow : Control → Option Kept → Type 0
+IsNow c None = ⊥
+IsNow c (Some k) = IsCurrent c k
+
 -- In two control states of one configuration each system says the same, but for the router itself and one more.
 pub record SaysSame (system : SystemId) (c next : Control) : Type 0 where
   pub conf : next.conf ≡ c.conf

@@ -1,5 +1,11 @@
 -- PDUs that are received.
-use Rattle.std.specs.Prelude.{◌≤◌, Bool, true, false, length, None}
+use Rattle.std.specs.Prelude.{ℕ, ◌+◌, ◌≤◌, Bool, true, false, List, length, Option, Some, None}
+use Rattle.wire_base.specs.declared.addresses.LspId.{LspId}
+use Rattle.wire_base.specs.declared.entry.Entry.{Entry}
+use Rattle.wire_base.specs.declared.triple.Summary.{Summary}
+use Rattle.wire_base.specs.model.Control.{Flood}
+use Rattle.wire_base.specs.model.Flooding.{SnpAnswer, on_list}
+use Rattle.isis_flood.specs.Answers.{csnp_listed}
 use Rattle.wire_base.specs.declared.limits.TheConstants.{MOST_CONTENT}
 use Rattle.wire_base.specs.declared.cause.Cause.{Cause}
 use Rattle.wire_base.specs.declared.flood_out.FloodOut.{FloodOut}
@@ -26,3 +32,13 @@ is_kept (out.Reissue s) = false
 is_kept (out.Ack s) = false
 is_kept out.Full = false
 is_kept out.Zero = false
+
+-- what a list of entries that came on a link does: that of a CSNP, which has a range, or of a PSNP
+abbrev pub list_taken : Flood → List Entry → ℕ → Option (LspId × LspId) → List Summary → Bool → SnpAnswer
+list_taken f entries link None rows spent = on_list f entries link rows spent
+list_taken f entries link (Some range) rows spent = csnp_listed f entries link range.0 range.1 rows spent
+
+-- how many rows of flags it may need
+abbrev pub list_room : Option (LspId × LspId) → ℕ → ℕ → ℕ
+list_room None rows entries = rows
+list_room (Some range) rows entries = rows + entries

@@ -1,17 +1,53 @@
 //! Payloads that enter the domain (RFC 8279, 3; RFC 8296, 3).
-ghost use Rattle.std.specs.Prelude.{◌≡◌, ◌<◌, ◌≤◌, ◌^◌, None, IfOk, MatchResult, length};
-ghost use Rattle.wire_base.specs.model.Ingress.{edge_fault, inject};
-ghost use Rattle.bfr_edge.specs.Entry.{Refuses};
+ghost use Rattle.std.specs.Prelude.{◌≡◌, ◌<◌, ◌≤◌, ◌^◌, ℕ, List, None, IfOk, OnOk, MatchResult, length, map};
+ghost use Rattle.std.specs.List.{AllByRecursion};
+ghost use Rattle.wire_base.specs.declared.bsl.Bsl.{Bsl as Length};
+ghost use Rattle.wire_base.specs.model.Ingress.{edge_fault, inject, packets_for};
+ghost use Rattle.bfr_edge.specs.Entry.{Refuses, placed, positions_in};
+ghost use Rattle.bier_forward.specs.Sets.{HasLength};
 ghost use Rattle.router_core.specs.Keeping.{MayKeep};
 
 use crate::control::Control;
-use crate::kept::Kept;
-use bfr_edge::ingress;
+use crate::kept::{Kept, keep_if};
+use bfr_edge::{Packet, ingress};
 use bier_forward::{Effects, enter_packets};
 use wire_base::limits::MOST_PAYLOAD;
-use wire_base::{Bsl, EdgeFault};
+use wire_base::{Bsl, EdgeFault, M, Memory};
 
 impl Control {
+    /// Forwards packets that enter the domain by the view that the router has now, which is kept for the next ones.
+    fn enter(
+        &self,
+        kept: &mut Option<Kept>,
+        packets: &[Packet],
+        ttl: u8,
+        entropy: u32,
+        payload: &[u8],
+    ) -> M<Effects>
+        requires lengths { AllByRecursion HasLength packets.now }
+        requires entropy { entropy < 2 ^ 20 }
+        requires payload { length payload.now ≤ MOST_PAYLOAD }
+        requires kept { MayKeep self.now kept.old }
+        ensures injected { IfOk result (λ e. (sd : ℕ) (bsl : Length) (ids : List ℕ) → map positions_in packets.now ≡ map placed (packets_for sd bsl ids) → e ≡ inject self.now sd bsl ids ttl entropy payload.now) }
+        ensures kept { OnOk result (MayKeep self.now kept.new) }
+    {
+        self.keep(kept)?;
+        match kept {
+            // Something is kept now.
+            None => Err(Memory),
+            Some(now) => enter_packets(
+                self.allocator(),
+                &self.conf,
+                now.view.view(),
+                &mut now.routes,
+                packets,
+                ttl,
+                entropy,
+                payload,
+            ),
+        }
+    }
+
     /// A payload enters for a list of BFR-ids.
     pub(crate) fn inject(
         &self,
@@ -30,20 +66,9 @@ impl Control {
         ensures effects { IfOk result (λ e. e ≡ inject self.now sd bsl ids.now ttl entropy payload.now) }
         ensures kept { MayKeep self.now kept.new }
     {
-        let alloc = self.allocator();
-        let packets = ingress(alloc, &self.conf, sd, bsl, ids)?;
-        let mut now = self.keep(kept.take())?;
-        let effects = enter_packets(
-            alloc,
-            &self.conf,
-            now.view.view(),
-            &mut now.routes,
-            packets.as_slice(),
-            ttl,
-            entropy,
-            payload,
-        )?;
-        *kept = Some(now);
-        Ok(effects)
+        let packets = ingress(self.allocator(), &self.conf, sd, bsl, ids)?;
+        let effects = self.enter(kept, packets.as_slice(), ttl, entropy, payload);
+        keep_if(kept, effects.is_ok());
+        Ok(effects?)
     }
 }

@@ -4,7 +4,6 @@ ghost use Rattle.std.specs.Prelude.{◌≡◌, ◌≤◌, ◌<◌, ◌+◌, ◌^
 ghost use Rattle.std.specs.List.{list_any};
 ghost use Rattle.wire_base.specs.declared.cause.Cause.TheVariants as cause;
 ghost use Rattle.wire_base.specs.model.Control.{IsDatabase, same_id};
-ghost use Rattle.wire_base.specs.model.Tlv.{rows_of};
 ghost use Rattle.lsp_store.specs.Places.{is_new};
 ghost use Rattle.router_core.specs.Forecast.{is_confused, is_confusing, is_at_odds, past_asked, spent_if, flags_issued, entries_issued, is_wanted, looked, count_full, IsReady};
 ghost use Rattle.router_core.specs.Own.{own_past};
@@ -13,7 +12,7 @@ ghost use Rattle.router_core.specs.Received.{full_drop};
 use crate::control::Control;
 use crate::own::{issue_within, own_now, spent_past};
 use bier_forward::DropNote;
-use isis_flood::{Flood, listed};
+use isis_flood::Flood;
 use lsp_store::Store;
 use std::alloc::Global;
 use wire_base::limits::MOST_ENTRIES;
@@ -22,8 +21,6 @@ use wire_base::{Age, Cause, Entry, LspId, M, Rows, Summary};
 /// What is made ready for a list of entries.
 #[derive(Drop)]
 pub(crate) struct Ready {
-    /// How many entries it lists.
-    pub(crate) listed: usize,
     /// The own link state PDU, where it is to be issued anew.
     pub(crate) own: Option<Entry>,
     /// Whether the router is spent then.
@@ -201,25 +198,17 @@ impl Control {
         }
     }
 
-    /// All that a sequence numbers PDU of those TLVs asks for.
-    pub(crate) fn ready(&self, tlvs: &[u8]) -> M<Ready>
-        ensures ready { IfOk result (λ r. IsReady self.now (rows_of tlvs.now) r) }
-        ensures few { IfOk result (λ r. r.listed ≤ length tlvs.now) }
+    /// All that a list of entries asks for.
+    pub(crate) fn ready(&self, rows: &[Summary]) -> M<Ready>
+        ensures { IfOk result (λ r. IsReady self.now rows.now r) }
     {
-        let alloc = self.allocator();
-        let rows = listed(alloc, tlvs)?;
-        let past = past_asked(
-            &self.store,
-            &LspId::fragment_0(self.conf.system),
-            rows.as_slice(),
-            self.spent,
-        );
-        let full = count_full(&self.store, rows.as_slice())?;
+        let own = LspId::fragment_0(self.conf.system);
+        let past = past_asked(&self.store, &own, rows, self.spent);
+        let full = count_full(&self.store, rows)?;
         Ok(Ready {
-            listed: rows.len(),
             own: self.own_asked(past)?,
             spent: spent_if(self.spent, past),
-            drops: full_drops(alloc, full)?,
+            drops: full_drops(self.allocator(), full)?,
         })
     }
 }

@@ -1,46 +1,85 @@
 //! Frames that are taken, class by class (ISO/IEC 10589, 7.3.15; RFC 8279, 6; RFC 8296, 2 and 3; RFC 2784).
-ghost use Rattle.std.specs.Prelude.{◌≡◌, ◌≤◌, true, length, IfOk, OnErr};
+ghost use Rattle.std.specs.Prelude.{◌≡◌, ◌≤◌, true, false, length, IfOk, OnOk, OnErr};
+ghost use Rattle.std.specs.Str.{bytes_eq};
 ghost use Rattle.wire_base.specs.model.Ethernet.{IsFrame};
 ghost use Rattle.wire_base.specs.model.OnFrame.{on_packet, tunnel_taken, on_tunnel, carried_taken, on_frame};
+ghost use Rattle.wire_base.specs.model.View.{control_view};
+ghost use Rattle.bier_forward.specs.Packets.{IsShort, hopped};
+ghost use Rattle.bier_forward.specs.Tunnels.{carried_on};
 ghost use Rattle.gre_ip.specs.Tunnels.{HasPlaces as HasTunnel, packet_of};
 ghost use Rattle.link_frame.specs.Frames.{carried, HasPlaces};
 ghost use Rattle.router_core.specs.Keeping.{MayKeep};
 ghost use Rattle.router_core.specs.State.{is_up};
 
 use crate::control::Control;
-use crate::kept::Kept;
-use bier_forward::{Effects, carry_on, hop_packet, read_packet};
+use crate::kept::{Kept, keep_if};
+use bier_forward::{Effects, Incoming, carry_on, hop_packet, read_packet};
 use gre_ip::{Tunnel, read_tunnel};
 use link_frame::{Class, classify};
 use wire_base::limits::MOST_FRAME;
-use wire_base::{Cause, Kind, M};
+use wire_base::{Cause, Kind, M, Memory};
 
 impl Control {
-    /// The octets of a BIER packet, whose BIFT-id is of that kind. The view that it is forwarded by is that of now, which is
-    /// kept for the next packet; one that isn't read needs none.
+    /// Forwards a packet that was read by the view that the router has now, which is kept for the next one.
+    fn hop(&self, kept: &mut Option<Kept>, packet: &Incoming<'_>) -> M<Effects>
+        requires short { IsShort packet.now }
+        requires kept { MayKeep self.now kept.old }
+        ensures effects { IfOk result (λ e. e ≡ hopped self.now.conf (control_view self.now) packet.now packet.now.header.ttl) }
+        ensures kept { OnOk result (MayKeep self.now kept.new) }
+    {
+        self.keep(kept)?;
+        match kept {
+            // Something is kept now.
+            None => Err(Memory),
+            Some(now) => hop_packet(
+                self.allocator(),
+                &self.conf,
+                now.view.view(),
+                &mut now.routes,
+                packet,
+                u16::from(packet.header.ttl),
+            ),
+        }
+    }
+
+    /// The octets of a BIER packet, whose BIFT-id is of that kind. One that isn't read needs no view.
     fn on_packet(&self, kept: &mut Option<Kept>, kind: Kind, octets: &[u8]) -> M<Effects>
         requires short { length octets.now ≤ MOST_FRAME }
         requires kept { MayKeep self.now kept.old }
         ensures effects { IfOk result (λ e. e ≡ on_packet self.now kind octets.now) }
         ensures kept { MayKeep self.now kept.new }
     {
-        let alloc = self.allocator();
         let read = read_packet(&self.conf, kind, octets);
         match read {
-            Err(cause) => Effects::dropped(alloc, cause),
+            Err(cause) => Effects::dropped(self.allocator(), cause),
             Ok(packet) => {
-                let mut now = self.keep(kept.take())?;
-                let effects = hop_packet(
-                    alloc,
-                    &self.conf,
-                    now.view.view(),
-                    &mut now.routes,
-                    &packet,
-                    u16::from(packet.header.ttl),
-                )?;
-                *kept = Some(now);
-                Ok(effects)
+                let effects = self.hop(kept, &packet);
+                keep_if(kept, effects.is_ok());
+                effects
             }
+        }
+    }
+
+    /// Sends a tunnel packet for another router on, by the view that the router has now.
+    fn carry(&self, kept: &mut Option<Kept>, octets: &[u8], tunnel: &Tunnel) -> M<Effects>
+        requires places { HasTunnel octets.now tunnel.now }
+        requires elsewhere { bytes_eq tunnel.now.dst.0 self.now.conf.prefix.0 ≡ false }
+        requires kept { MayKeep self.now kept.old }
+        ensures effects { IfOk result (λ e. e ≡ carried_on self.now.conf (control_view self.now) octets.now (packet_of octets.now tunnel.now)) }
+        ensures kept { OnOk result (MayKeep self.now kept.new) }
+    {
+        self.keep(kept)?;
+        match kept {
+            // Something is kept now.
+            None => Err(Memory),
+            Some(now) => carry_on(
+                self.allocator(),
+                &self.conf,
+                now.view.view(),
+                &mut now.routes,
+                octets,
+                tunnel,
+            ),
         }
     }
 
@@ -55,17 +94,9 @@ impl Control {
         if tunnel.dst == self.conf.prefix {
             return self.on_packet(kept, tunnel.inner, &octets[tunnel.from..tunnel.to]);
         }
-        let mut now = self.keep(kept.take())?;
-        let effects = carry_on(
-            self.allocator(),
-            &self.conf,
-            now.view.view(),
-            &mut now.routes,
-            octets,
-            tunnel,
-        )?;
-        *kept = Some(now);
-        Ok(effects)
+        let effects = self.carry(kept, octets, tunnel);
+        keep_if(kept, effects.is_ok());
+        effects
     }
 
     /// The octets of an IPv4 packet.

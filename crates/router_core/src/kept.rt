@@ -1,9 +1,9 @@
 //! The view that a router keeps from one packet to the next, with what it keeps of it to forward packets by.
-ghost use Rattle.std.specs.Prelude.{◌≡◌, ◌↔◌, List, false, IfOk};
+ghost use Rattle.std.specs.Prelude.{◌≡◌, ◌↔◌, List, None, if◌then◌else◌, false, IfOk, OnOk};
 ghost use Rattle.wire_base.specs.declared.conf.RouterConf.{RouterConf as Conf};
 ghost use Rattle.wire_base.specs.declared.view.ViewNode.{ViewNode};
 ghost use Rattle.bier_forward.specs.Kept.{AreRoutes};
-ghost use Rattle.router_core.specs.Keeping.{IsCurrent, IsKept, MayKeep};
+ghost use Rattle.router_core.specs.Keeping.{IsCurrent, IsKept, IsNow, MayKeep};
 
 use crate::control::Control;
 use bier_forward::Routes;
@@ -22,26 +22,43 @@ pub struct Kept {
     pub(crate) routes: Routes,
 }
 
+/// What is kept stays or goes.
+pub(crate) fn keep_if(kept: &mut Option<Kept>, stays: bool)
+    ensures { kept.new ≡ (if stays then kept.old else None) }
+{
+    if !stays {
+        *kept = None;
+    }
+}
+
 /// What is kept of a view once it was renewed: where it is another one, nothing.
-fn routes_of(alloc: Global, is_new: bool, routes: Routes) -> Routes
-    ensures { (r : Conf) (before now : List ViewNode) → AreRoutes r before routes → ((is_new ≡ false) ↔ (now ≡ before)) → AreRoutes r now result }
+fn renew_routes(alloc: Global, routes: &mut Routes, is_new: bool)
+    ensures { (r : Conf) (before now : List ViewNode) → AreRoutes r before routes.old → ((is_new ≡ false) ↔ (now ≡ before)) → AreRoutes r now routes.new }
 {
     if is_new {
-        return Routes::new(alloc);
+        *routes = Routes::new(alloc);
     }
-    routes
 }
 
 impl Control {
-    /// What is kept, renewed where something has changed since; where nothing is kept, the view of now.
-    pub(crate) fn keep(&self, kept: Option<Kept>) -> M<Kept>
-        requires { MayKeep self.now kept }
-        ensures { IfOk result (IsCurrent self.now) }
+    /// Renews what is kept, where something has changed since; where nothing is kept, the view of now is.
+    pub(crate) fn keep(&self, kept: &mut Option<Kept>) -> M<()>
+        requires { MayKeep self.now kept.old }
+        ensures { OnOk result (IsNow self.now kept.new) }
     {
         match kept {
-            None => self.first_kept(),
-            Some(kept) => self.renewed(kept),
+            None => self.keep_first(kept),
+            Some(kept) => self.renew(kept),
         }
+    }
+
+    /// The view of now is kept, with nothing of it yet.
+    fn keep_first(&self, kept: &mut Option<Kept>) -> M<()>
+        ensures { OnOk result (IsNow self.now kept.new) }
+    {
+        let first = self.first_kept()?;
+        *kept = Some(first);
+        Ok(())
     }
 
     /// The view of now, with nothing kept of it yet.
@@ -49,39 +66,31 @@ impl Control {
         ensures { IfOk result (IsCurrent self.now) }
     {
         let alloc = self.allocator();
-        let conf = self.conf();
         let up = self.ends_up()?;
         Ok(Kept {
-            view: ViewKeep::new(alloc, conf, up.as_slice(), &self.store)?,
+            view: ViewKeep::new(alloc, self.conf(), up.as_slice(), &self.store)?,
             is_current: true,
             changed: Rows::new(alloc),
             routes: Routes::new(alloc),
         })
     }
 
-    /// What is kept, renewed. Where the view is the same then, all that is kept of it stays.
-    fn renewed(&self, mut kept: Kept) -> M<Kept>
-        requires { IsKept self.now kept }
-        ensures { IfOk result (IsCurrent self.now) }
+    /// Renews what is kept. Where the view is the same then, all that is kept of it stays.
+    fn renew(&self, kept: &mut Kept) -> M<()>
+        requires { IsKept self.now kept.old }
+        ensures { OnOk result (IsCurrent self.now kept.new) }
     {
         if kept.is_current {
-            return Ok(kept);
+            return Ok(());
         }
-        let Kept {
-            mut view,
-            is_current: _,
-            changed,
-            routes,
-        } = kept;
         let alloc = self.allocator();
         let conf = self.conf();
         let up = self.ends_up()?;
-        let is_new = view.renew(conf, up.as_slice(), &self.store, changed.as_slice())?;
-        Ok(Kept {
-            view,
-            is_current: true,
-            changed: Rows::new(alloc),
-            routes: routes_of(alloc, is_new, routes),
-        })
+        let changed = kept.changed.as_slice();
+        let is_new = kept.view.renew(conf, up.as_slice(), &self.store, changed)?;
+        kept.is_current = true;
+        kept.changed = Rows::new(alloc);
+        renew_routes(alloc, &mut kept.routes, is_new);
+        Ok(())
     }
 }

@@ -1,6 +1,6 @@
 //! What may change the view that is kept, noted before it happens: which systems may say something else then. The view is
 //! renewed when it is next needed, and where it is the same then, nothing that is kept of it is lost.
-ghost use Rattle.std.specs.Prelude.{◌≡◌, ℕ, false};
+ghost use Rattle.std.specs.Prelude.{◌≡◌, ℕ, true, false};
 ghost use Rattle.std.specs.List.{list_any};
 ghost use Rattle.wire_base.specs.model.Control.{Control as ControlState};
 ghost use Rattle.wire_base.specs.model.Flooding.{tick};
@@ -13,7 +13,7 @@ ghost use Rattle.router_core.specs.Keeping.{IsKept, MayKeep, SaysSame, StaysKept
 
 use crate::control::Control;
 use crate::forecast::any_confusing;
-use crate::kept::Kept;
+use crate::kept::{Kept, keep_if};
 use isis_flood::listed;
 use isis_pdu::Pdu;
 use wire_base::{Entry, SystemId};
@@ -43,30 +43,36 @@ pub(crate) fn note_own(kept: &mut Option<Kept>)
     }
 }
 
-/// What is kept, once a system may say something else. Nothing is, where there is no room to note that system.
-fn noted(mut kept: Kept, system: SystemId) -> Option<Kept>
-    ensures { (c next : ControlState) → IsKept c kept → SaysSame system c next → MayKeep next result }
+/// Notes that a system may say something else, where there is room to note it.
+fn noted(kept: &mut Kept, system: SystemId) -> bool
+    ensures { result ≡ true → (c next : ControlState) → IsKept c kept.old → SaysSame system c next → IsKept next kept.new }
 {
     kept.is_current = false;
     if is_named(kept.changed.as_slice(), &system) {
-        return Some(kept);
+        return true;
     }
     if kept.changed.len() >= MOST_CHANGED {
-        return None;
+        return false;
     }
-    match kept.changed.push(system) {
-        Ok(()) => Some(kept),
-        Err(_) => None,
+    kept.changed.push(system).is_ok()
+}
+
+/// The same where anything is kept.
+fn may_note(kept: &mut Option<Kept>, system: SystemId) -> bool
+    ensures { result ≡ true → StaysKept system kept.old kept.new }
+{
+    match kept {
+        None => true,
+        Some(kept) => noted(kept, system),
     }
 }
 
-/// A system, and the router itself, may say something else.
+/// A system, and the router itself, may say something else. Nothing is kept where there is no room to note that system.
 fn note(kept: &mut Option<Kept>, system: SystemId)
     ensures { StaysKept system kept.old kept.new }
 {
-    if let Some(now) = kept.take() {
-        *kept = noted(now, system);
-    }
+    let stays = may_note(kept, system);
+    keep_if(kept, stays);
 }
 
 impl Control {

@@ -1,13 +1,14 @@
 //! PDUs of IS-IS that are received (ISO/IEC 10589, 7.3.15 and 7.3.16).
-ghost use Rattle.std.specs.Prelude.{◌≡◌, ◌<◌, ◌≤◌, ◌∷◌, [], ℕ, true, false, length, IfOk, OnErr};
+ghost use Rattle.std.specs.Prelude.{◌≡◌, ◌<◌, ◌≤◌, ◌+◌, ◌^◌, ◌∷◌, [], ℕ, true, false, length, IfOk, OnErr};
 ghost use Rattle.wire_base.specs.declared.addresses.SystemId.{SystemId};
 ghost use Rattle.wire_base.specs.declared.flood_out.FloodOut.TheVariants as out;
-ghost use Rattle.wire_base.specs.model.Flooding.{on_pdu, psnp_of, answer_lsp};
+ghost use Rattle.wire_base.specs.model.Flooding.{on_pdu, psnp_of, answer_lsp, snp_done};
 ghost use Rattle.wire_base.specs.model.OnFrame.{nothing, framed, frames_of, pdu_taken, pdu_read};
 ghost use Rattle.wire_base.specs.model.Pdu.{LspPdu, CsnpPdu, PsnpPdu, pdu_at};
 ghost use Rattle.isis_pdu.specs.Views.{head_of, pdu_of};
 ghost use Rattle.router_core.specs.Keeping.{MayKeep};
-ghost use Rattle.router_core.specs.Received.{HasRoom, is_kept};
+ghost use Rattle.router_core.specs.Received.{HasRoom, is_kept, list_room, list_taken};
+ghost use Rattle.isis_flood.specs.Answers.{SnpDone};
 ghost use Rattle.router_core.specs.State.{is_up};
 
 use crate::control::Control;
@@ -15,9 +16,11 @@ use crate::forecast::issue_ready;
 use crate::framing::push_psnp;
 use crate::kept::Kept;
 use bier_forward::{DropNote, Effects};
+use isis_flood::{Flood, listed};
 use isis_pdu::{LspHead, Pdu, read_pdu};
+use lsp_store::Store;
 use wire_base::limits::MOST_CONTENT;
-use wire_base::{Cause, FloodOut, LspId, M, Rows, Summary};
+use wire_base::{Cause, FloodOut, LspId, M, Rows, SnpOut, Summary};
 
 /// Nothing is sent or delivered, and those entries are dropped.
 fn dropped_each(drops: Rows<DropNote>) -> Effects
@@ -29,6 +32,37 @@ fn dropped_each(drops: Rows<DropNote>) -> Effects
         got: Rows::new(alloc),
         drops,
         passed: false,
+    }
+}
+
+/// How many rows of flags a list of entries may need.
+fn list_room(range: Option<(LspId, LspId)>, rows: usize, entries: usize) -> usize
+    requires { rows + entries < 2 ^ 64 }
+    ensures { result ≡ list_room range rows entries }
+{
+    match range {
+        None => rows,
+        Some(_) => rows + entries,
+    }
+}
+
+/// Applies the entries of a complete list, which has a range, or of a partial one.
+fn apply_list(
+    flood: &mut Flood,
+    store: &mut Store,
+    link: u16,
+    range: Option<(LspId, LspId)>,
+    rows: &[Summary],
+    spent: bool,
+) -> M<SnpOut>
+    requires link { link < length flood.old.flood.up }
+    requires few { length rows.now ≤ 65535 }
+    ensures done { SnpDone result flood.old.flood store.old.entries flood.new.flood store.new.entries (list_taken flood.old.flood store.old.entries link range rows.now spent) }
+    ensures spare { flood.old.spare ≤ flood.new.spare + list_room range (length rows.now) (length store.old.entries) }
+{
+    match range {
+        None => flood.on_psnp_listed(store, link, rows, spent),
+        Some((start, last)) => flood.on_csnp_listed(store, link, &start, &last, rows, spent),
     }
 }
 
@@ -85,35 +119,57 @@ impl Control {
         self.answer_lsp(link, answer)
     }
 
-    /// A complete sequence numbers PDU; or all is as it was. What it asks for is made ready before anything changes.
+    /// The entries that a sequence numbers PDU lists; or all is as it was. What they ask for is made ready before anything
+    /// changes.
+    fn take_list(
+        &mut self,
+        link: u16,
+        range: Option<(LspId, LspId)>,
+        rows: &[Summary],
+    ) -> M<Effects>
+        requires up { is_up self.old link ≡ true }
+        requires few { length rows.now ≤ 1497 }
+        ensures next { IfOk result (λ e. record { control = self.new; effects = e } ≡ framed link (snp_done self.old (list_taken self.old.flood self.old.entries link range rows.now self.old.spent))) }
+        ensures err { OnErr result (self.new ≡ self.old) }
+    {
+        let ready = self.ready(rows)?;
+        self.flood
+            .reserve(list_room(range, rows.len(), self.store.len()) + 1)?;
+        apply_list(
+            &mut self.flood,
+            &mut self.store,
+            link,
+            range,
+            rows,
+            self.spent,
+        )?;
+        issue_ready(&mut self.store, &mut self.flood, ready.own);
+        self.spent = ready.spent;
+        Ok(dropped_each(ready.drops))
+    }
+
+    /// A complete sequence numbers PDU; or all is as it was.
+    #[tactic(auto, unfolding(wire_base::specs::model::Flooding::on_pdu, wire_base::specs::model::Flooding::on_csnp))]
     fn on_csnp(&mut self, link: u16, start: LspId, last: LspId, tlvs: &[u8]) -> M<Effects>
         requires up { is_up self.old link ≡ true }
         requires short { length tlvs.now ≤ 1497 }
         ensures next { IfOk result (λ e. (source : SystemId) → record { control = self.new; effects = e } ≡ framed link (on_pdu self.old link (CsnpPdu source start last tlvs.now))) }
         ensures err { OnErr result (self.new ≡ self.old) }
     {
-        let ready = self.ready(tlvs)?;
-        self.flood.reserve(ready.listed + self.store.len() + 1)?;
-        self.flood
-            .on_csnp(&mut self.store, link, start, last, tlvs, self.spent)?;
-        issue_ready(&mut self.store, &mut self.flood, ready.own);
-        self.spent = ready.spent;
-        Ok(dropped_each(ready.drops))
+        let rows = listed(self.allocator(), tlvs)?;
+        self.take_list(link, Some((start, last)), rows.as_slice())
     }
 
-    /// A partial sequence numbers PDU; or all is as it was. What it asks for is made ready before anything changes.
+    /// A partial sequence numbers PDU; or all is as it was.
+    #[tactic(auto, unfolding(wire_base::specs::model::Flooding::on_pdu, wire_base::specs::model::Flooding::on_psnp))]
     fn on_psnp(&mut self, link: u16, tlvs: &[u8]) -> M<Effects>
         requires up { is_up self.old link ≡ true }
         requires short { length tlvs.now ≤ 1497 }
         ensures next { IfOk result (λ e. (source : SystemId) → record { control = self.new; effects = e } ≡ framed link (on_pdu self.old link (PsnpPdu source tlvs.now))) }
         ensures err { OnErr result (self.new ≡ self.old) }
     {
-        let ready = self.ready(tlvs)?;
-        self.flood.reserve(ready.listed + 1)?;
-        self.flood.on_psnp(&mut self.store, link, tlvs, self.spent)?;
-        issue_ready(&mut self.store, &mut self.flood, ready.own);
-        self.spent = ready.spent;
-        Ok(dropped_each(ready.drops))
+        let rows = listed(self.allocator(), tlvs)?;
+        self.take_list(link, None, rows.as_slice())
     }
 
     /// A PDU that floods; hellos and other types are passed over. Or all is as it was.
