@@ -14,7 +14,8 @@ use Rattle.wire_base.specs.declared.flood_out.FloodOut.TheVariants as out
 use Rattle.wire_base.specs.declared.triple.Summary.{Summary}
 use Rattle.wire_base.specs.model.Pdu.{Head, head_summary}
 use Rattle.wire_base.specs.model.Control.{same_id, same_system, fragment_0, entry_in, put_entry, purge, seq_of, age_of, age_by_life, is_unknown, is_newer_or_confused, is_full, FlagRow, no_flags, Flood, IsFlood, IsFlagRow, HasEntry}
-use Rattle.wire_base.specs.model.Flooding.{with_row, no_links, send_on, ask_on, set_srm, mark_all, kept, stores, puts_marked, only_says, flags_alone, lsp_aged, is_stray, is_own_ahead, lsp_in, on_lsp, LspAnswer, SnpAnswer, with_flags, wanted, asks, is_live_summary, listed_aged, on_listed, on_list, lacks, send_lacking}
+use Rattle.wire_base.specs.model.Flooding.{with_row, no_links, send_on, ask_on, set_srm, mark_all, kept, stores, puts_marked, only_says, flags_alone, lsp_aged, is_stray, is_own_ahead, lsp_in, on_lsp, LspAnswer, SnpAnswer, with_flags, wanted, asks, is_live_summary, listed_aged, on_listed, on_list, lacks, send_lacking, on_csnp, on_psnp}
+use Rattle.wire_base.specs.model.Tlv.{rows_of}
 use Rattle.isis_flood.specs.Answers.{csnp_listed}
 use Rattle.router_core.specs.State.{IsShort}
 use Rattle.router_core.proofs.EntryLaws.{HasId, same_is, put_reads, put_has, put_keeps, put_other, rows_named, all_put, all_have}
@@ -290,10 +291,18 @@ module _ (own : SystemId) (up : List Bool) (spent : Bool) (link : ℕ) (open_ : 
       cases true = row_kept own up spent f es y.id (set_srm link true) k all.0 (keeps_srm f.up link (there_up f.up up link k.up_is open_))
       cases false = k
 
-  pub csnp_kept : (f : Flood) (es : List Entry) (start last : LspId) (rows : List Summary) → Kept own up spent f es → SnpKept own up spent (csnp_listed f es link start last rows spent)
-  csnp_kept f es start last rows k =
+  pub range_kept : (f : Flood) (es : List Entry) (start last : LspId) (rows : List Summary) → Kept own up spent f es → SnpKept own up spent (csnp_listed f es link start last rows spent)
+  range_kept f es start last rows k =
       let a = list_kept f es rows k in
       record {
         kept = lacking_kept start last rows (on_list f es link rows spent).entries (on_list f es link rows spent).entries (on_list f es link rows spent).flood a.kept (all_have (on_list f es link rows spent).entries);
         asked = a.asked;
       }
+
+  pub psnp_kept : (f : Flood) (es : List Entry) (tlvs : List ℕ) → Kept own up spent f es → SnpKept own up spent (on_psnp f es link tlvs spent)
+  unfolding on_psnp
+  psnp_kept f es tlvs k = list_kept f es (rows_of tlvs) k
+
+  pub csnp_kept : (f : Flood) (es : List Entry) (start last : LspId) (tlvs : List ℕ) → Kept own up spent f es → SnpKept own up spent (on_csnp f es link start last tlvs spent)
+  unfolding on_csnp
+  csnp_kept f es start last tlvs k = range_kept f es start last (rows_of tlvs) k

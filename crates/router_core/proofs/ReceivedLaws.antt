@@ -31,7 +31,7 @@ use Rattle.router_core.specs.Received.{HasRoom, full_drop, is_kept, list_taken}
 use Rattle.router_core.specs.State.{IsRouter, AreIssued, is_up, control_of}
 use Rattle.router_core.proofs.ForecastLaws.{past_is, full_is}
 use Rattle.router_core.proofs.IssuedLaws.{issued_now, marked_up}
-use Rattle.router_core.proofs.KeptLaws.{Kept, OwnStands, LspKept, SnpKept, lsp_kept, csnp_kept, list_kept}
+use Rattle.router_core.proofs.KeptLaws.{Kept, OwnStands, LspKept, SnpKept, lsp_kept, range_kept, list_kept}
 use Rattle.router_core.proofs.OwnLaws.{past_id, kept_of, router_of, reissued_is, reissued_keeps}
 
 -- ---- lengths
@@ -147,7 +147,7 @@ module _ (c before : Control) (k : IsRouter c) (is : c ≡ before) (link : ℕ) 
       counted = full_is link c.spent c.flood c.entries rows k.control.entries.in_order;
     }
     listed_so (Some o) = record {
-      kept = csnp_kept c.conf.system c.flood.up c.spent link open_ c.flood c.entries o.0 o.1 rows (kept_of c k);
+      kept = range_kept c.conf.system c.flood.up c.spent link open_ c.flood c.entries o.0 o.1 rows (kept_of c k);
       asked = past_is link c.conf.system c.spent c.flood c.entries rows k.control.own k.own;
       counted = full_is link c.spent c.flood c.entries rows k.control.entries.in_order;
     }
