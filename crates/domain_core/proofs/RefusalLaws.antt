@@ -1,5 +1,5 @@
 -- What is known where an event is allowed.
-use Rattle.std.proofs.Common.{◌≡◌, ℕ, ◌<◌, not, nat_le, Bool, true, false, length, slice_get, is_none, Option, Some, None, refl, sym, ap, subst, ◌∙◌}
+use Rattle.std.proofs.Common.{◌≡◌, ℕ, ◌<◌, not, nat_le, Bool, true, false, List, length, slice_get, is_none, Option, Some, None, refl, sym, ap, subst, ◌∙◌}
 use mathlib.Core.Bool.{true≢false}
 use Rattle.std.proofs.lemmas.Option.{same_Some}
 use Rattle.wire_base.specs.declared.conf.RouterConf.{RouterConf}
@@ -9,9 +9,9 @@ use Rattle.domain_model.specs.declared.fault.EventFault.{EventFault}
 use Rattle.domain_model.specs.declared.fault.EventFault.TheVariants as faults
 use Rattle.domain_model.specs.Faults.{most_events, first_fault, unless_joined, unless_room, up_over, is_up_toward, rule_fault, event_fault}
 use Rattle.domain_model.specs.Truth.{IsTruthful}
-use Rattle.domain_model.specs.World.{WorldState, is_up, link_between}
+use Rattle.domain_model.specs.World.{WorldState, is_up, link_between, peer_place}
 use Rattle.domain_core.proofs.FramedWorld.{conf_there}
-use Rattle.domain_model.proofs.LinkLaws.{join_of, end_found}
+use Rattle.domain_model.proofs.LinkLaws.{join_of, end_found, peer_is}
 use Rattle.domain_model.proofs.QueueLaws.{got_within}
 
 pub none_first : (b : Bool) (reason : EventFault) (next : Option EventFault) → first_fault b reason next ≡ None → (b ≡ false) × (next ≡ None)
@@ -57,3 +57,7 @@ module _ (w : WorldState) (a b link : ℕ) (c : Control) (at : slice_get w.route
       let same : j.near ≡ c.conf = same_Some j.near c.conf (sym j.near_at ∙ conf_there w t a c at) in
       let there = end_found j.near.ends j.far.system link j.toward in
       subst (λ (r : RouterConf). link < length r.ends) same (got_within j.near.ends link there.at there.there)
+
+-- where an end leads that was found by the router there
+pub leads_to : (w : WorldState) (a b link : ℕ) → IsTruthful w → link_between w.domain.routers a b ≡ Some link → (confs : List RouterConf) → confs ≡ w.domain.routers → b ≡ peer_place confs a link
+leads_to w a b link t joined confs same = sym (ap (λ (cs : List RouterConf). peer_place cs a link) same ∙ peer_is w.domain.routers t.valid.systems a b link joined)

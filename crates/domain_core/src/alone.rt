@@ -101,7 +101,8 @@ impl Network {
         let confs = confs_of(&self.domain);
         let router = &mut self.routers[usize::from(from)];
         let effects = router.due(link)?;
-        let out = carry(&mut self.flights, confs, from, None, &effects)?;
+        let known = Some((link, to));
+        let out = carry(&mut self.flights, confs, from, None, known, effects)?;
         router.sent(link);
         Ok(out)
     }
@@ -135,7 +136,7 @@ impl Network {
             Err(fault) => return Err(entry_refused(fault)),
         };
         let confs = confs_of(&self.domain);
-        let out = carry(&mut self.flights, confs, at, Some(number), &effects)?;
+        let out = carry(&mut self.flights, confs, at, Some(number), None, effects)?;
         self.injections = number;
         Ok(out)
     }

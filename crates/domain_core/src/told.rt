@@ -27,22 +27,24 @@ use wire_base::limits::MOST_ROUTERS;
 use wire_base::{Cause, M, RouterConf, Rows, Triple};
 
 /// What is told of what the router at a place did, for that injection or for none, having taken that frame or none. Where it
-/// did nothing, no memory is taken.
+/// did nothing, no memory is taken. Where one of its ends leads may be known.
 pub(crate) fn told_of(
     alloc: Global,
     confs: &[RouterConf],
     at: u16,
     number: Option<u32>,
+    known: Option<(u16, u16)>,
     taken: Option<&Flight>,
     effects: &Effects,
 ) -> M<StepOut>
     requires few { length confs.now ≤ MOST_ROUTERS }
     requires sound { AllByRecursion IsSound confs.now }
+    requires known { IfSome known (λ k. k.1 ≡ peer_place confs.now at k.0) }
     ensures out { IfOk result (λ out. out ≡ told_of confs.now at number (ids_taken confs.now (option_map (λ f. f.now) taken.entry)) effects.now) }
     ensures memory { OnErr result (IsSilent effects.now → ⊥) }
 {
     Ok(StepOut {
-        sent: wire_frames(alloc, confs, at, effects.sent.as_slice())?,
+        sent: wire_frames(alloc, confs, at, known, effects.sent.as_slice())?,
         got: got_lines(alloc, at, number, effects.got.as_slice())?,
         drops: drop_lines(alloc, confs, at, number, taken, effects.drops.as_slice())?,
     })
@@ -58,26 +60,33 @@ pub(crate) fn number_of(flight: &Flight) -> Option<u32>
     }
 }
 
-/// The place of the router at the other end of a link. Frames that go out together mostly share their link, so the place that
-/// was found last is at hand.
-fn peer_again(confs: &[RouterConf], at: u16, link: u16, last: Option<(u16, u16)>) -> u16
+/// The place of the router at the other end of a link, which may be that of the end that is known.
+fn peer_again(confs: &[RouterConf], at: u16, link: u16, known: Option<(u16, u16)>) -> u16
     requires few { length confs.now ≤ MOST_ROUTERS }
-    requires last { IfSome last (λ l. l.1 ≡ peer_place confs.now at l.0) }
+    requires known { IfSome known (λ k. k.1 ≡ peer_place confs.now at k.0) }
     ensures { result ≡ peer_place confs.now at link }
 {
-    match last {
-        Some((known, to)) if known == link => to,
+    match known {
+        Some((end, to)) if end == link => to,
         _ => peer_place(confs, at, link),
     }
 }
 
-fn wire_frames(alloc: Global, confs: &[RouterConf], at: u16, sent: &[Sent]) -> M<Rows<WireFrame>>
-    requires { length confs.now ≤ MOST_ROUTERS }
+/// What is sent, as frames. Those that go out together mostly share their link, so the place that was found last is at hand.
+fn wire_frames(
+    alloc: Global,
+    confs: &[RouterConf],
+    at: u16,
+    known: Option<(u16, u16)>,
+    sent: &[Sent],
+) -> M<Rows<WireFrame>>
+    requires few { length confs.now ≤ MOST_ROUTERS }
+    requires known { IfSome known (λ k. k.1 ≡ peer_place confs.now at k.0) }
     ensures frames { IfOk result (λ frames. frames ≡ map (wire_from confs.now at) sent.now) }
     ensures memory { OnErr result (sent.now ≡ [] → ⊥) }
 {
     let mut frames = Rows::new(alloc);
-    let mut last = None::<(u16, u16)>;
+    let mut last = known;
     for frame in sent {
         let to = peer_again(confs, at, frame.link, last);
         last = Some((frame.link, to));

@@ -90,14 +90,9 @@ impl Network {
         }
         let number = number_of(flight);
         let effects = router.frame(back, flight.octets.as_slice())?;
-        let out = told_of(alloc, confs, to, number, Some(flight), &effects)?;
-        send_all(
-            &mut self.flights,
-            confs,
-            to,
-            number,
-            effects.sent.as_slice(),
-        )?;
+        let known = Some((back, from));
+        let out = told_of(alloc, confs, to, number, known, Some(flight), &effects)?;
+        send_all(&mut self.flights, confs, to, number, effects.sent)?;
         self.flights.remove(from, link, i as usize);
         Ok(out)
     }

@@ -7,7 +7,7 @@ use Rattle.domain_core.specs.Held.{state_of, world_in}
 use Rattle.domain_model.specs.Moves.{replied}
 use Rattle.domain_model.specs.Step.{Happened}
 use Rattle.domain_core.proofs.CarryLaws.{carried_world, same_next, send_is, send_control, send_carried}
-use Rattle.domain_core.proofs.RefusalLaws.{up_at_send, link_within}
+use Rattle.domain_core.proofs.RefusalLaws.{up_at_send, link_within, leads_to}
 use Rattle.domain_core.proofs.TransitLaws.{same_frames}
 use Rattle.domain_core.proofs.TurnLaws.{router_there, control_at, same_heard}
 use Rattle.domain_core.proofs.network.Network.send.Goals as goal
@@ -18,6 +18,9 @@ due-requires c =
     let r = c.index_mut-router.result.now in
     let there = router_there n.routers c.from.result c.args.from r c.from.ensures c.requires.place c.index_mut-router.ensures.value in
     up_at_send (world_in c.args.self.now) c.args.from c.args.to c.in-Some.link r.control (control_at n c.args.from r there) (sym c.in-Some.ensures) c.requires.allowed
+
+pub carry-requires-clause-known : goal.carry-requires-clause-known
+carry-requires-clause-known c = leads_to (world_in c.args.self.now) c.args.from c.args.to c.in-Some.link c.requires.truth.truth (sym c.in-Some.ensures) c.confs_of-confs.result.now c.confs_of-confs.ensures.confs
 
 pub sent-requires : goal.sent-requires
 sent-requires c =

@@ -16,7 +16,7 @@ use Rattle.domain_model.specs.Step.{Happened, taken_off}
 use Rattle.domain_model.specs.World.{is_up, queue_over}
 use Rattle.domain_core.proofs.CarryLaws.{set_same, still_world, is_short, unmoved, heard_there, taken_done}
 use Rattle.domain_core.proofs.FlightLaws.{goes_after}
-use Rattle.domain_core.proofs.RefusalLaws.{toward, link_within}
+use Rattle.domain_core.proofs.RefusalLaws.{toward, link_within, leads_to}
 use Rattle.domain_core.proofs.SeenLaws.{none_seen_at, some_seen_at, frames_left}
 use Rattle.domain_core.proofs.TransitLaws.{gone_world, lost_world, lost_told, same_frames, none_taken, down_taken, unheard, none_heard}
 use Rattle.domain_core.proofs.TurnLaws.{on_err, router_there, nothing_told, control_at, same_heard}
@@ -84,6 +84,9 @@ frame-requires-clause-short c =
     let up : is_up r.control c.in-Some-link.back ≡ true = sym c.if-not-is_up.ensures in
     subst (λ (octets : List ℕ). length octets ≤ MOST_FRAME) (sym c.as_slice.ensures) (is_short n c.requires.truth c.args.from c.args.to c.in-Some.link c.in-Some-link.back c.args.i r there (sym c.in-Some.ensures) up f c.in-Some-get.ensures)
 
+pub told_of-requires-clause-known : goal.told_of-requires-clause-known
+told_of-requires-clause-known c = leads_to (world_in c.args.self.now) c.args.to c.args.from c.in-Some-link.back c.requires.truth.truth (sym c.in-Some-link.ensures) c.confs_of-confs.result.now c.confs_of-confs.ensures.confs
+
 pub returns-in_err-out-2-clause-err : goal.returns-in_err-out-2-clause-err
 returns-in_err-out-2-clause-err c =
     let n = state_of c.args.self.now in
@@ -107,7 +110,7 @@ returns-in_err-send_all-clause-err c =
     let there = router_there n.routers c.from.result c.args.to r c.from.ensures c.requires.place c.index_mut-router.ensures.value in
     let up : is_up r.control c.in-Some-link.back ≡ true = sym c.if-not-is_up.ensures in
     let done = c.in_ok-effects.ensures.next ∙ ap (λ (octets : List ℕ). on_frame r.control c.in-Some-link.back octets) c.as_slice.ensures in
-    let sent : c.as_slice-2.result.now ≡ c.in_ok-effects.effects.sent = c.as_slice-2.ensures ∙ ap (λ (e : Effects). e.sent) c.effects.view_is in
+    let sent = ap (λ (e : Effects). e.sent) c.effects.view_is in
     let same = unmoved n c.requires.truth c.args.from c.args.to c.in-Some.link c.in-Some-link.back c.args.i r there (sym c.in-Some.ensures) up f c.in-Some-get.ensures c.frame.new.self.control c.in_ok-effects.effects done (λ silent. c.in_err-send_all.ensures.memory (sent ∙ silent.sent)) in
     on_err c.from_residual-in_err-send_all.result _
     (record {
@@ -128,7 +131,7 @@ returns-clause-done c =
     let effects = c.in_ok-effects.effects in
     let sent : c.send_all.new.flights ≡ push_all_sent n.domain.routers c.args.to (number_of f) n.flights effects.sent =
     c.in_ok-send_all.ensures.ok
-    ∙ ap (λ (ss : List Sent). push_all_sent c.confs_of-confs.result.now c.args.to c.number_of-number.result n.flights ss) (c.as_slice-2.ensures ∙ ap (λ (e : Effects). e.sent) c.effects.view_is)
+    ∙ ap (λ (ss : List Sent). push_all_sent c.confs_of-confs.result.now c.args.to c.number_of-number.result n.flights ss) (ap (λ (e : Effects). e.sent) c.effects.view_is)
     ∙ ap (λ (cs : List RouterConf). push_all_sent cs c.args.to c.number_of-number.result n.flights effects.sent) confs
     ∙ ap (λ (o : Option ℕ). push_all_sent n.domain.routers c.args.to o n.flights effects.sent) c.number_of-number.ensures in
     let gone : c.remove-2.new.self ≡ push_all_sent n.domain.routers c.args.to (number_of f) (without_frame n.flights c.args.from c.in-Some.link c.args.i) effects.sent =
