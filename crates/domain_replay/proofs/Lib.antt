@@ -4,5 +4,7 @@ pub mod TellsLaws
 mod StopLaws
 pub mod DirectionLaws
 pub mod EventTells
+pub mod InTurn
 pub mod SendLaws
 mod LineTells
+mod SameDomain

@@ -1,11 +1,11 @@
 -- Where a call stops within events, part by part.
-use Rattle.std.proofs.Common.{◌≡◌, ◌⊎◌, inl, inr, ℕ, suc, ◌+◌, ◌-◌, ◌<◌, length, drop, replicate, slice_index_or, add-one, drop-cons, append_assoc, arith, List, [], ◌∷◌, ◌++◌, None, Result, Ok, Err, OnErr, refl, sym, ap, subst, ◌∙◌}
+use Rattle.std.proofs.Common.{◌≡◌, ◌⊎◌, inl, inr, ℕ, suc, ◌+◌, ◌-◌, ◌<◌, replicate, append_assoc, arith, List, [], ◌∷◌, ◌++◌, None, Result, Ok, Err, OnErr, refl, sym, ap, subst, ◌∙◌}
 use Rattle.replay_text.specs.declared.event.Event.{Event}
 use Rattle.domain_model.specs.declared.fault.EventFault.{EventFault}
 use Rattle.domain_model.specs.World.{WorldState}
 use Rattle.domain_model.specs.Step.{happens}
 use Rattle.domain_model.specs.Faults.{event_fault}
-use Rattle.domain_model.specs.Run.{Direction, directions, round_sends, taken_now, round_takes, round_events, settle_events, world_after}
+use Rattle.domain_model.specs.Run.{Direction, directions, round_sends, round_takes, round_events, settle_events, world_after}
 use Rattle.domain_replay.specs.declared.texts.Texts.{Texts}
 use Rattle.domain_replay.specs.Telling.{Telling, Told, told, tells_on, tells_all}
 use Rattle.domain_replay.specs.Replaying.{NextUntold, StopsIn}
@@ -19,11 +19,6 @@ with_texts w texts = record { world = w; counts = texts.counts; frames = texts.f
 pub stops_before : (line : ℕ) (t now : Telling) (es : List Event) → now ≡ t → StopsIn line t es now
 unfolding tells_all
 stops_before line t now es same = record { done = []; left = es; all = refl; so_far = t; tells = refl; stands = inl same }
-
--- as a call answers that has not begun
-pub not_begun : (line : ℕ) (t : Telling) (es : List Event) (result : Result (Unit {0}) EventFault) → OnErr result (StopsIn line t es t)
-not_begun line t es (Ok u) = tt
-not_begun line t es (Err why) = stops_before line t t es refl
 
 -- one event was done, and not told
 pub stops_untold : (line : ℕ) (t now : Telling) (e : Event) → event_fault t.world e ≡ None → now ≡ record t { world = (happens t.world e).world } → StopsIn line t (e ∷ []) now
@@ -74,18 +69,6 @@ pub stops_on : (line : ℕ) (t mid now : Telling) (xs : List Event) (rest : Worl
     StopsIn line t (xs ++ rest (world_after t.world xs)) now
 stops_on line t mid now xs rest h s = stops_behind line t mid now xs (rest (world_after t.world xs)) h (subst (λ (w : WorldState). StopsIn line mid (rest w) now) (world_told line xs t mid h) s)
 
--- ---- the events of a list from a place on
-
-from_index : (es : List Event) (i : ℕ) (e : Event) → i < length es → e ≡ slice_index_or es i e → drop i es ≡ e ∷ drop (i + 1) es
-from_index es i e within is = rw add-one (drop-cons es i e within) ∙ ap (λ (x : Event). x ∷ drop (i + 1) es) (sym is)
-
-pub index_first : (line : ℕ) (t now : Telling) (es : List Event) (i : ℕ) (e : Event) → i < length es → e ≡ slice_index_or es i e → StopsIn line t (e ∷ []) now → StopsIn line t (drop i es) now
-index_first line t now es i e within is s = subst (λ (l : List Event). StopsIn line t l now) (sym (from_index es i e within is)) (stops_first line t now (e ∷ []) (drop (i + 1) es) s)
-
-pub index_behind : (line : ℕ) (t mid now : Telling) (es : List Event) (i : ℕ) (e : Event) → i < length es → e ≡ slice_index_or es i e → tells_on line (told t) e ≡ told mid → StopsIn line mid (drop (i + 1) es) now → StopsIn line t (drop i es) now
-unfolding tells_all
-index_behind line t mid now es i e within is h s = subst (λ (l : List Event). StopsIn line t l now) (sym (from_index es i e within is)) (stops_behind line t mid now (e ∷ []) (drop (i + 1) es) h s)
-
 -- ---- events alike
 
 alike_split : (e : Event) (n i : ℕ) → i < n → replicate (n - i) e ≡ e ∷ replicate (n - (i + 1)) e
@@ -97,23 +80,6 @@ alike_first line t now e n i within s = subst (λ (l : List Event). StopsIn line
 pub alike_behind : (line : ℕ) (t mid now : Telling) (e : Event) (n i : ℕ) → i < n → tells_on line (told t) e ≡ told mid → StopsIn line mid (replicate (n - (i + 1)) e) now → StopsIn line t (replicate (n - i) e) now
 unfolding tells_all
 alike_behind line t mid now e n i within h s = subst (λ (l : List Event). StopsIn line t l now) (sym (alike_split e n i within)) (stops_behind line t mid now (e ∷ []) (replicate (n - (i + 1)) e) h s)
-
--- ---- the takes of the directions from a place on
-
-takes_split : (w : WorldState) (ds : List Direction) (i : ℕ) (d : Direction) → i < length ds → d ≡ slice_index_or ds i d →
-    round_takes w (drop i ds) ≡ taken_now w d ++ round_takes (world_after w (taken_now w d)) (drop (i + 1) ds)
-takes_split w ds i d within is = ap (round_takes w) (rw add-one (drop-cons ds i d within) ∙ ap (λ (x : Direction). x ∷ drop (i + 1) ds) (sym is))
-
-pub takes_first : (line : ℕ) (t now : Telling) (ds : List Direction) (i : ℕ) (d : Direction) → i < length ds → d ≡ slice_index_or ds i d → StopsIn line t (taken_now t.world d) now → StopsIn line t (round_takes t.world (drop i ds)) now
-takes_first line t now ds i d within is s =
-    subst (λ (l : List Event). StopsIn line t l now) (sym (takes_split t.world ds i d within is))
-    (stops_first line t now (taken_now t.world d) (round_takes (world_after t.world (taken_now t.world d)) (drop (i + 1) ds)) s)
-
-pub takes_behind : (line : ℕ) (t mid now : Telling) (ds : List Direction) (i : ℕ) (d : Direction) → i < length ds → d ≡ slice_index_or ds i d → tells_all line (told t) (taken_now t.world d) ≡ told mid →
-    StopsIn line mid (round_takes mid.world (drop (i + 1) ds)) now → StopsIn line t (round_takes t.world (drop i ds)) now
-takes_behind line t mid now ds i d within is h s =
-    subst (λ (l : List Event). StopsIn line t l now) (sym (takes_split t.world ds i d within is))
-    (stops_on line t mid now (taken_now t.world d) (λ (w : WorldState). round_takes w (drop (i + 1) ds)) h s)
 
 -- ---- a round, and the rounds that are left
 

@@ -1,6 +1,7 @@
 -- What the calls of a replay do.
-use Rattle.std.specs.Prelude.{ℕ, ◌≡◌, ◌⊎◌, ◌<◌, ◌^◌, List, [], ◌∷◌, ◌++◌, Some, None, Result, Ok, Err, if◌then◌else◌}
+use Rattle.std.specs.Prelude.{ℕ, ◌≡◌, ◌⊎◌, ◌<◌, ◌^◌, List, [], ◌∷◌, ◌++◌, length, map, filter, Some, None, Result, Ok, Err, if◌then◌else◌}
 use Rattle.std.specs.List.{AllByRecursion}
+use Rattle.wire_base.specs.declared.conf.RouterConf.{RouterConf}
 use Rattle.replay_text.specs.declared.event.Event.{Event}
 use Rattle.domain_model.specs.declared.fault.EventFault.{EventFault}
 use Rattle.domain_model.specs.declared.fault.EventFault.TheVariants as faults
@@ -8,7 +9,7 @@ use Rattle.replay_text.specs.declared.event.Event.TheVariants.{Inject, Take, Los
 use Rattle.domain_model.specs.World.{WorldState}
 use Rattle.domain_model.specs.Step.{happens}
 use Rattle.domain_model.specs.Faults.{event_fault}
-use Rattle.domain_model.specs.Run.{Direction, may_send}
+use Rattle.domain_model.specs.Run.{Direction, directions, may_send}
 use Rattle.domain_model.specs.Truth.{EventFits}
 use Rattle.domain_replay.specs.Counting.{NamesOnce}
 use Rattle.domain_replay.specs.Telling.{Telling, Told, told, tells_all}
@@ -83,3 +84,14 @@ pub record IsJoining (count : ℕ) (d : Direction) : Type 0 where
 -- what the end sends over which a direction leaves: nothing where it is down
 abbrev pub sends_of : WorldState → Direction → List Event
 sends_of w d = if may_send w d then Send d.from d.to ∷ [] else []
+
+-- what the ends send over which those directions leave, where they are up
+abbrev pub sends_in : WorldState → List Direction → List Event
+sends_in w ds = map (λ d. Send d.from d.to) (filter (may_send w) ds)
+
+-- ---- what a replay keeps
+
+-- They are all directions of those routers' links, and each joins two of them.
+pub record AreDirections (routers : List RouterConf) (all : List Direction) : Type 0 where
+  pub value : all ≡ directions routers
+  pub joins : AllByRecursion (IsJoining (length routers)) all

@@ -13,6 +13,7 @@ mod lines;
 mod refused;
 mod replay;
 mod texts;
+mod told_world;
 
 pub use capture::push_frames;
 pub use counts::Counts;

@@ -5,7 +5,7 @@ use Rattle.wire_base.specs.model.Configuration.{DomainConf}
 use Rattle.domain_replay.specs.Telling.{Telling}
 use Rattle.domain_replay.specs.Replaying.{IsJoining}
 use Rattle.domain_replay.proofs.SendLaws.{joins_ok}
-use Rattle.domain_replay.proofs.replay.Replay.directions.Goals as goal
+use Rattle.domain_replay.proofs.told_world.ToldWorld.directions.Goals as goal
 
 pub returns-clause-joins : goal.returns-clause-joins
 returns-clause-joins c =

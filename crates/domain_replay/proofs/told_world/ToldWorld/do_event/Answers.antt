@@ -6,7 +6,7 @@ use Rattle.domain_replay.proofs.Stays.{happens_domain}
 use Rattle.domain_replay.specs.Telling.{Telling, told, tells_on}
 use Rattle.domain_replay.proofs.StopLaws.{step_stops, tell_stops}
 use Rattle.domain_replay.proofs.EventTells.{event_told, event_refused}
-use Rattle.domain_replay.proofs.replay.Replay.do_event.Goals as goal
+use Rattle.domain_replay.proofs.told_world.ToldWorld.do_event.Goals as goal
 
 pub returns-in_err-made-clause-told : goal.returns-in_err-made-clause-told
 returns-in_err-made-clause-told c =

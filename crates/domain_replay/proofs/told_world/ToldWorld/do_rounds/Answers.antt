@@ -2,21 +2,18 @@ use Rattle.std.proofs.Common.{◌∙◌, ◌+◌, ◌-◌}
 use Rattle.std.proofs.lemmas.Result.{err_from_is_err_and}
 use Rattle.domain_model.specs.Run.{round_events, settle_events, world_after}
 use Rattle.domain_replay.proofs.TellsLaws.{err_at, rounds_split, rounds_at, rounds_none}
-use Rattle.domain_replay.proofs.StopLaws.{not_begun, rounds_first, rounds_behind}
-use Rattle.domain_replay.proofs.replay.Replay.do_rounds.Goals as goal
+use Rattle.domain_replay.proofs.StopLaws.{rounds_first, rounds_behind}
+use Rattle.domain_replay.proofs.told_world.ToldWorld.do_rounds.Goals as goal
 
 pub returns-in_err-do_round-clause-told : goal.returns-in_err-do_round-clause-told
 returns-in_err-do_round-clause-told c =
-    let p = err_from_is_err_and c.from_residual-in_err-do_round.result c.from_residual-in_err-do_round.ensures.1 in
+    let p = err_from_is_err_and c.from_residual.result c.from_residual.ensures.1 in
     rw (p.1, p.2) (err_at c.args.line _ _ (settle_events (world_after c.loop-round.self.world (round_events c.loop-round.self.world)) (c.args.rounds - (c.loop-round._round + 1))) _ _
     (c.loop-round.invariant.left ∙ rounds_split c.args.line c.loop-round.self c.args.rounds c.loop-round._round c.loop-round-test.true) c.in_err-do_round.ensures.told)
 
-pub returns-in_err-all-clause-stops : goal.returns-in_err-all-clause-stops
-returns-in_err-all-clause-stops c = not_begun c.args.line c.args.self.now (settle_events c.args.self.now.world c.args.rounds) c.from_residual.result
-
 pub returns-in_err-do_round-clause-stops : goal.returns-in_err-do_round-clause-stops
 returns-in_err-do_round-clause-stops c =
-    let p = err_from_is_err_and c.from_residual-in_err-do_round.result c.from_residual-in_err-do_round.ensures.1 in
+    let p = err_from_is_err_and c.from_residual.result c.from_residual.ensures.1 in
     rw p.1 (c.loop-round.invariant.stops _ (rounds_first c.args.line c.loop-round.self _ c.args.rounds c.loop-round._round c.loop-round-test.true c.in_err-do_round.ensures.stops))
 
 pub loop-round-preserved : goal.loop-round-preserved

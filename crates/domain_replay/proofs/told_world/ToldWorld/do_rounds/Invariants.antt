@@ -2,7 +2,7 @@ use Rattle.std.proofs.Common.{◌≡◌, ◌-◌}
 use Rattle.domain_model.specs.Run.{settle_events}
 use Rattle.domain_replay.specs.Telling.{Telling, told, tells_all}
 use Rattle.domain_replay.specs.Replaying.{StopsIn}
-use Rattle.domain_replay.proofs.replay.Replay.do_rounds.Given as goal
+use Rattle.domain_replay.proofs.told_world.ToldWorld.do_rounds.Given as goal
 
 abbrev pub invariant-loop-round : goal.invariant-loop-round
 invariant-loop-round l =

@@ -2,7 +2,7 @@ use Rattle.std.proofs.Common.{◌≡◌, drop}
 use Rattle.domain_model.specs.Run.{round_takes}
 use Rattle.domain_replay.specs.Telling.{Telling, told, tells_all}
 use Rattle.domain_replay.specs.Replaying.{StopsIn}
-use Rattle.domain_replay.proofs.replay.Replay.do_takes.Given as goal
+use Rattle.domain_replay.proofs.told_world.ToldWorld.do_takes.Given as goal
 
 abbrev pub invariant-loop-direction : goal.invariant-loop-direction
 invariant-loop-direction l =

@@ -3,7 +3,7 @@ use Rattle.std.proofs.lemmas.Result.{err_from_is_err_and}
 use Rattle.domain_replay.specs.Telling.{Told, told, tells_all}
 use Rattle.domain_replay.proofs.TellsLaws.{err_at, times_first, times_none}
 use Rattle.domain_replay.proofs.StopLaws.{alike_first, alike_behind}
-use Rattle.domain_replay.proofs.replay.Replay.do_times.Goals as goal
+use Rattle.domain_replay.proofs.told_world.ToldWorld.do_times.Goals as goal
 
 pub returns-in_err-do_event-clause-told : goal.returns-in_err-do_event-clause-told
 returns-in_err-do_event-clause-told c =

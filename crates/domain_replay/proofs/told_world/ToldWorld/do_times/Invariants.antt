@@ -1,7 +1,7 @@
 use Rattle.std.proofs.Common.{◌≡◌, ◌-◌, replicate}
 use Rattle.domain_replay.specs.Telling.{Telling, told, tells_all}
 use Rattle.domain_replay.specs.Replaying.{StopsIn}
-use Rattle.domain_replay.proofs.replay.Replay.do_times.Given as goal
+use Rattle.domain_replay.proofs.told_world.ToldWorld.do_times.Given as goal
 
 abbrev pub invariant-loop-time : goal.invariant-loop-time
 invariant-loop-time l =

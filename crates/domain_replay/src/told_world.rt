@@ -1,0 +1,204 @@
+//! A domain at work, whose events are told as they are done.
+ghost use Rattle.std.specs.Prelude.{◌≡◌, ◌∷◌, length, IfOk, OnOk, OnErr, [], replicate};
+ghost use Rattle.std.specs.List.{AllByRecursion};
+ghost use Rattle.replay_text.specs.Events.{LineFits};
+ghost use Rattle.domain_model.specs.Run as run;
+ghost use Rattle.domain_model.specs.Run.{taken_now, round_events, line_events};
+ghost use Rattle.domain_replay.specs.Telling.{first_telling, told, tells_on, tells_all, tells_line, LineNamesOnce};
+ghost use Rattle.domain_replay.specs.Replaying.{Tells, StopsIn, IsAsked, IsJoining, sends_of, sends_in};
+
+use crate::asked::numbers_fit;
+use crate::direction::{Direction, directions};
+use crate::texts::Texts;
+use domain_core::{EventFault, World, confs_of};
+use replay_text::{Event, Line};
+use std::alloc::Global;
+use std::marker::Model;
+use wire_base::{Domain, M, Rows};
+
+/// A domain at work, and what is told of it.
+#[derive(Drop)]
+pub struct ToldWorld {
+    pub world: World,
+    pub texts: Texts,
+}
+
+impl Model for ToldWorld {
+    ghost use Rattle.domain_replay.specs.Telling.{Telling};
+
+    ghost Value = { Telling };
+
+    ghost view = { λ t. record { world = t.world.world; counts = t.texts.counts; frames = t.texts.frames; report = t.texts.report } };
+}
+
+impl ToldWorld {
+    /// Nothing is done yet.
+    pub(crate) fn new(alloc: Global, domain: Domain) -> M<Self>
+        ensures { IfOk result (λ told. told ≡ first_telling domain) }
+    {
+        Ok(ToldWorld {
+            world: World::new(alloc, domain)?,
+            texts: Texts::new(alloc)?,
+        })
+    }
+
+    /// One event, of a line.
+    fn do_event(&mut self, alloc: Global, line: u32, event: &Event) -> Result<(), EventFault>
+        requires { IsAsked (length self.old.world.domain.routers) event.now }
+        ensures told { Tells (tells_on line (told self.old) event.now) self.new result }
+        ensures domain { OnOk result (self.new.world.domain ≡ self.old.world.domain) }
+        ensures stops { OnErr result (StopsIn line self.old (event.now ∷ []) self.new) }
+    {
+        let made = self.world.step(event)?;
+        let routers = self.world.domain().routers.as_slice();
+        self.texts.tell(alloc, routers, line, event, &made)?;
+        Ok(())
+    }
+
+    /// So many events alike, up to one that isn't allowed.
+    fn do_times(
+        &mut self,
+        alloc: Global,
+        line: u32,
+        event: &Event,
+        count: usize,
+    ) -> Result<(), EventFault>
+        requires { IsAsked (length self.old.world.domain.routers) event.now }
+        ensures told { Tells (tells_all line (told self.old) (replicate count event.now)) self.new result }
+        ensures domain { OnOk result (self.new.world.domain ≡ self.old.world.domain) }
+        ensures stops { OnErr result (StopsIn line self.old (replicate count event.now) self.new) }
+    {
+        for _time in 0..count {
+            self.do_event(alloc, line, event)?;
+        }
+        Ok(())
+    }
+
+    /// The directions of the domain's links, each of which joins two routers.
+    pub(crate) fn directions(&self, alloc: Global) -> M<Rows<Direction>>
+        ensures value { IfOk result (λ all. all ≡ run.directions self.now.world.domain.routers) }
+        ensures joins { IfOk result (λ all. AllByRecursion (IsJoining (length self.now.world.domain.routers)) all) }
+    {
+        let domain = self.world.domain();
+        // The domain is valid, so the routers are there.
+        let _routers = domain.routers.as_slice();
+        directions(alloc, confs_of(domain))
+    }
+
+    /// Whether the end is up over which a direction leaves.
+    fn may_send(&self, direction: Direction) -> bool
+        requires { IsJoining (length self.now.world.domain.routers) direction }
+        ensures { result ≡ run.may_send self.now.world direction }
+    {
+        self.world.router(direction.from).is_up(direction.link)
+    }
+
+    /// What the end sends over which a direction leaves, where it is up.
+    fn send_now(&mut self, alloc: Global, line: u32, direction: Direction) -> Result<(), EventFault>
+        requires { IsJoining (length self.old.world.domain.routers) direction }
+        ensures told { Tells (tells_all line (told self.old) (sends_of self.old.world direction)) self.new result }
+        ensures domain { OnOk result (self.new.world.domain ≡ self.old.world.domain) }
+        ensures stops { OnErr result (StopsIn line self.old (sends_of self.old.world direction) self.new) }
+    {
+        if !self.may_send(direction) {
+            return Ok(());
+        }
+        let Direction { from, to, .. } = direction;
+        self.do_event(alloc, line, &Event::Send { from, to })
+    }
+
+    /// Each end that is up sends, direction by direction. No end comes up or goes down by that.
+    fn do_sends(&mut self, alloc: Global, line: u32, all: &[Direction]) -> Result<(), EventFault>
+        requires { AllByRecursion (IsJoining (length self.old.world.domain.routers)) all.now }
+        ensures told { Tells (tells_all line (told self.old) (sends_in self.old.world all.now)) self.new result }
+        ensures domain { OnOk result (self.new.world.domain ≡ self.old.world.domain) }
+        ensures stops { OnErr result (StopsIn line self.old (sends_in self.old.world all.now) self.new) }
+    {
+        for direction in all {
+            self.send_now(alloc, line, *direction)?;
+        }
+        Ok(())
+    }
+
+    /// As many frames arrive as are on their way in a direction now.
+    fn take_now(&mut self, alloc: Global, line: u32, direction: Direction) -> Result<(), EventFault>
+        requires { IsJoining (length self.old.world.domain.routers) direction }
+        ensures told { Tells (tells_all line (told self.old) (taken_now self.old.world direction)) self.new result }
+        ensures domain { OnOk result (self.new.world.domain ≡ self.old.world.domain) }
+        ensures stops { OnErr result (StopsIn line self.old (taken_now self.old.world direction) self.new) }
+    {
+        let Direction { from, to, .. } = direction;
+        let count = self.world.frames(from, to);
+        self.do_times(alloc, line, &Event::Take { from, to, i: 0 }, count)
+    }
+
+    /// All routers take what is on its way to them, direction by direction.
+    fn do_takes(&mut self, alloc: Global, line: u32, all: &[Direction]) -> Result<(), EventFault>
+        requires { AllByRecursion (IsJoining (length self.old.world.domain.routers)) all.now }
+        ensures told { Tells (tells_all line (told self.old) (run.round_takes self.old.world all.now)) self.new result }
+        ensures domain { OnOk result (self.new.world.domain ≡ self.old.world.domain) }
+        ensures stops { OnErr result (StopsIn line self.old (run.round_takes self.old.world all.now) self.new) }
+    {
+        for direction in all {
+            self.take_now(alloc, line, *direction)?;
+        }
+        Ok(())
+    }
+
+    /// All routers send what is due, and then all take.
+    fn do_round(&mut self, alloc: Global, line: u32, all: &[Direction]) -> Result<(), EventFault>
+        requires value { all.now ≡ run.directions self.old.world.domain.routers }
+        requires joins { AllByRecursion (IsJoining (length self.old.world.domain.routers)) all.now }
+        ensures told { Tells (tells_all line (told self.old) (round_events self.old.world)) self.new result }
+        ensures domain { OnOk result (self.new.world.domain ≡ self.old.world.domain) }
+        ensures stops { OnErr result (StopsIn line self.old (round_events self.old.world) self.new) }
+    {
+        self.do_sends(alloc, line, all)?;
+        self.do_takes(alloc, line, all)
+    }
+
+    /// So many rounds.
+    fn do_rounds(
+        &mut self,
+        alloc: Global,
+        line: u32,
+        all: &[Direction],
+        rounds: u32,
+    ) -> Result<(), EventFault>
+        requires value { all.now ≡ run.directions self.old.world.domain.routers }
+        requires joins { AllByRecursion (IsJoining (length self.old.world.domain.routers)) all.now }
+        ensures told { Tells (tells_all line (told self.old) (run.settle_events self.old.world rounds)) self.new result }
+        ensures stops { OnErr result (StopsIn line self.old (run.settle_events self.old.world rounds) self.new) }
+    {
+        for _round in 0..rounds {
+            self.do_round(alloc, line, all)?;
+        }
+        Ok(())
+    }
+
+    /// The events of what a line says.
+    #[tactic(auto, using(crate::proofs::LineTells::event_asked), unfolding(crate::specs::Telling::tells_line, crate::specs::Telling::tells_all))]
+    pub(crate) fn do_line(
+        &mut self,
+        alloc: Global,
+        line: u32,
+        all: &[Direction],
+        said: &Line,
+    ) -> Result<(), EventFault>
+        requires value { all.now ≡ run.directions self.old.world.domain.routers }
+        requires joins { AllByRecursion (IsJoining (length self.old.world.domain.routers)) all.now }
+        requires fits { LineFits (length self.old.world.domain.routers) said.now }
+        requires once { LineNamesOnce said.now }
+        ensures told { Tells (tells_line line self.old said.now) self.new result }
+        ensures stops { OnErr result (StopsIn line self.old (line_events self.old.world said.now) self.new) }
+    {
+        match said {
+            Line::Empty => Ok(()),
+            Line::One(event) => {
+                numbers_fit(event);
+                self.do_event(alloc, line, event)
+            }
+            Line::Settle(rounds) => self.do_rounds(alloc, line, all, *rounds),
+        }
+    }
+}
