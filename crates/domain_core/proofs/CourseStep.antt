@@ -4,7 +4,7 @@ use Rattle.wire_base.specs.model.Control.{Control}
 use Rattle.wire_base.specs.model.View.{control_view}
 use Rattle.replay_text.specs.declared.event.Event.{Event}
 use Rattle.domain_model.specs.declared.fault.EventFault.{EventFault}
-use Rattle.domain_core.specs.declared.step_out.StepOut.{StepOut}
+use Rattle.domain_model.specs.declared.step_out.StepOut.{StepOut}
 use Rattle.domain_model.specs.Faults.{event_fault}
 use Rattle.domain_model.specs.Step.{happens}
 use Rattle.domain_model.specs.Truth.{IsTruthful, EventFits}
@@ -15,7 +15,8 @@ use Rattle.course_laws.proofs.KnownLaws.{few_nodes}
 use Rattle.course_laws.proofs.LawLaws.{begun, gone_on}
 use Rattle.course_laws.proofs.OnceLaws.{all_fit, small_fit}
 use Rattle.course_laws.proofs.WayLaws.{copy_sent}
-use Rattle.domain_core.specs.Answers.{Refuses, told}
+use Rattle.domain_core.specs.Answers.{Refuses}
+use Rattle.domain_frames.specs.Told.{told}
 use Rattle.domain_core.specs.Course.{Enters, StaysOut, KeepsCourse}
 
 module _ (w : WorldState) (t : IsTruthful w) (e : Event) where

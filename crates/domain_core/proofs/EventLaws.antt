@@ -10,8 +10,9 @@ use Rattle.replay_text.specs.declared.event.Event.TheVariants.{Inject, Take, Los
 use Rattle.domain_model.specs.declared.fault.EventFault.{EventFault}
 use Rattle.domain_model.specs.declared.fault.EventFault.TheVariants as faults
 use Rattle.domain_core.specs.declared.network.Network.{Network}
-use Rattle.domain_core.specs.declared.step_out.StepOut.{StepOut}
-use Rattle.domain_core.specs.Answers.{early_fault, early_rule, Refuses, told}
+use Rattle.domain_model.specs.declared.step_out.StepOut.{StepOut}
+use Rattle.domain_core.specs.Answers.{early_fault, early_rule, Refuses}
+use Rattle.domain_frames.specs.Told.{told}
 use Rattle.domain_model.specs.Faults.{most_events, most_in_flight, first_fault, entry_fault, rule_fault, event_fault}
 use Rattle.domain_core.specs.Held.{state_of, world_in, IsDone}
 use Rattle.domain_core.specs.Network.{NetworkState, world_of, seen_of, AreFramesOver, IsAsBefore, IsTrueNetwork}

@@ -30,8 +30,8 @@ use Rattle.domain_model.specs.World.{is_up, peer_place, link_between}
 use Rattle.domain_model.specs.Moves as moves
 use Rattle.domain_model.specs.Moves.{Sending, Made, over_end, hop_made, passes_through, entering_item, inject_made}
 use Rattle.domain_model.specs.Truth.{IsAmong, IsPrefixOf, OuterFits, MeansAt, router_at, IsTrueItem, IsTrueCopy, IsTrueControl, InjectFits}
-use Rattle.domain_core.specs.Framed.{frame_over, sent_of, item_sent, IsFramed, IsHopped}
-use Rattle.domain_core.specs.Read.{item_in}
+use Rattle.domain_frames.specs.Framed.{frame_over, sent_of, item_sent, IsFramed, IsHopped}
+use Rattle.domain_frames.specs.Read.{item_in}
 use Rattle.domain_model.proofs.EachLaws.{each_weaker, each_both, each_got}
 use Rattle.domain_model.proofs.DomainLaws.{bytes_is, sound_of}
 use Rattle.domain_model.proofs.LinkLaws.{prefix_place, join_of, end_found}

@@ -32,8 +32,8 @@ use Rattle.domain_model.specs.declared.lines.DropLine.{DropLine}
 use Rattle.domain_model.specs.World.{is_up, link_between}
 use Rattle.domain_model.specs.Moves.{over_end, control_lost, replied}
 use Rattle.domain_model.specs.Truth.{IsAmong, IsOwnLsp, IsDeadLsp, IsTrueLsp, IsTrueRow, IsSource, IsTruePdu, IsTrueControl}
-use Rattle.domain_core.specs.Framed.{frame_over, sent_of, item_sent, drop_line, IsFramed, IsFlooded}
-use Rattle.domain_core.specs.Read.{item_in}
+use Rattle.domain_frames.specs.Framed.{frame_over, sent_of, item_sent, drop_line, IsFramed, IsFlooded}
+use Rattle.domain_frames.specs.Read.{item_in}
 use Rattle.domain_model.proofs.EachLaws.{each_weaker, each_mapped, each_got}
 use Rattle.domain_model.proofs.DomainLaws.{sound_of, alike}
 use Rattle.domain_model.proofs.LinkLaws.{join_of, end_found}

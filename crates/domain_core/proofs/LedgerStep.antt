@@ -2,7 +2,7 @@
 use Rattle.std.proofs.Common.{◌≡◌, length, None, Result, Ok, Err, IfOk, OnOk, MatchResult, sym, subst}
 use Rattle.replay_text.specs.declared.event.Event.{Event}
 use Rattle.domain_model.specs.declared.fault.EventFault.{EventFault}
-use Rattle.domain_core.specs.declared.step_out.StepOut.{StepOut}
+use Rattle.domain_model.specs.declared.step_out.StepOut.{StepOut}
 use Rattle.domain_model.specs.Faults.{event_fault}
 use Rattle.domain_model.specs.Step.{happens}
 use Rattle.domain_model.specs.Truth.{IsTruthful, EventFits}
@@ -11,7 +11,8 @@ use Rattle.ledger_laws.proofs.DeliveryLaws.{later_of, first_of_it}
 use Rattle.ledger_laws.proofs.FallLaws.{event_weight, first_is, take_weight}
 use Rattle.ledger_laws.proofs.LedgerLaws.{event_balances}
 use Rattle.ledger_laws.proofs.TotalLaws.{event_total}
-use Rattle.domain_core.specs.Answers.{Refuses, told}
+use Rattle.domain_core.specs.Answers.{Refuses}
+use Rattle.domain_frames.specs.Told.{told}
 use Rattle.domain_core.specs.Ledger.{KeepsLedger}
 
 event_keeps : (w : WorldState) → IsTruthful w → (e : Event) → EventFits (length w.domain.routers) e → event_fault w e ≡ None → KeepsLedger w (happens w e).world e (told w.domain.routers (happens w e).made)

@@ -1,7 +1,6 @@
 pub mod CarryLaws
 pub mod CourseStep
 pub mod EventLaws
-pub mod FlightLaws
 pub mod FramedBack
 pub mod FramedCopies
 pub mod FramedHop

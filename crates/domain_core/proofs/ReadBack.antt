@@ -24,7 +24,7 @@ use Rattle.bier_forward.specs.Packets.{packet_at}
 use Rattle.domain_model.specs.Moves.{packet_of}
 use Rattle.domain_model.specs.Truth.{IsAmong, MeansAt, router_at}
 use Rattle.domain_model.proofs.DomainLaws.{alike}
-use Rattle.domain_core.specs.Read.{pdu_or_hello, pdu_carried, level_at, level_of, packet_or_none, packet_read, tunnel_carried, packet_carried, packet_in, outer_or_none, outer_carried, outer_in, copy_read, copy_in, item_in}
+use Rattle.domain_frames.specs.Read.{pdu_or_hello, pdu_carried, level_at, level_of, packet_or_none, packet_read, tunnel_carried, packet_carried, packet_in, outer_or_none, outer_carried, outer_in, copy_read, copy_in, item_in}
 
 -- ---- PDUs
 

@@ -4,14 +4,15 @@ use Rattle.std.specs.List.{AllByRecursion}
 use Rattle.wire_base.specs.model.Configuration.{DomainConf, IsValid}
 use Rattle.replay_text.specs.declared.event.Event.{Event}
 use Rattle.domain_model.specs.declared.fault.EventFault.{EventFault}
-use Rattle.domain_core.specs.declared.step_out.StepOut.{StepOut}
-use Rattle.domain_core.specs.Answers.{IsShortFrame, Refuses, told}
+use Rattle.domain_model.specs.declared.step_out.StepOut.{StepOut}
+use Rattle.domain_core.specs.Answers.{Refuses}
+use Rattle.domain_frames.specs.Told.{IsShortFrame, told}
 use Rattle.domain_model.specs.World.{WorldState, peer_place}
 use Rattle.domain_model.specs.Moves.{Sending}
 use Rattle.domain_model.specs.Faults.{event_fault}
 use Rattle.domain_model.specs.Step.{happens}
 use Rattle.domain_model.specs.Truth.{IsTruthful, EventFits}
-use Rattle.domain_core.specs.Framed.{wire_of}
+use Rattle.domain_frames.specs.Framed.{wire_of}
 use Rattle.domain_model.proofs.CopyTruth.{IsTrueSending}
 use Rattle.domain_core.proofs.FramedWorld.{frame_short}
 use Rattle.domain_model.proofs.WorldTruth.{happens_true}

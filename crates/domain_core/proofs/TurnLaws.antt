@@ -6,8 +6,8 @@ use Rattle.wire_base.specs.declared.conf.RouterConf.{RouterConf}
 use Rattle.wire_base.specs.model.Control.{Control}
 use Rattle.wire_base.specs.model.Flooding.{Reply}
 use Rattle.router_core.specs.State.{RouterState, counted}
-use Rattle.domain_core.specs.declared.step_out.StepOut.{StepOut}
-use Rattle.domain_core.specs.Answers.{told}
+use Rattle.domain_model.specs.declared.step_out.StepOut.{StepOut}
+use Rattle.domain_frames.specs.Told.{told}
 use Rattle.domain_model.specs.Moves.{Made, none_made}
 use Rattle.domain_core.specs.Network.{NetworkState, world_of, heard_at}
 use Rattle.domain_model.specs.Step.{Happened, with_router, turns, changes, changes_end}

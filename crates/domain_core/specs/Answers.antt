@@ -1,21 +1,13 @@
--- What one event answers.
-use Rattle.std.specs.Prelude.{◌≡◌, ℕ, ◌<◌, nat_le, List, [], length, map, Option, Some, None}
-use Rattle.wire_base.specs.declared.conf.RouterConf.{RouterConf}
+-- Why an event is refused.
+use Rattle.std.specs.Prelude.{◌≡◌, nat_le, Option, Some, None}
 use Rattle.wire_base.specs.declared.faults.EdgeFault.{EdgeFault}
 use Rattle.wire_base.specs.declared.faults.EdgeFault.TheVariants as edge
-use Rattle.wire_base.specs.model.OnFrame.{Effects}
 use Rattle.replay_text.specs.declared.event.Event.{Event}
 use Rattle.replay_text.specs.declared.event.Event.TheVariants.{Inject, Take, Lose, Again, Down, Up, Send, Tick, Restart}
 use Rattle.domain_model.specs.declared.fault.EventFault.{EventFault}
 use Rattle.domain_model.specs.declared.fault.EventFault.TheVariants as faults
-use Rattle.domain_core.specs.declared.step_out.StepOut.{StepOut}
-use Rattle.domain_core.specs.declared.step_out.WireFrame.{WireFrame}
 use Rattle.domain_model.specs.Faults.{most_events, first_fault, unless_room, rule_fault}
-use Rattle.domain_core.specs.Framed.{wire_of, wire_from, got_line, drop_line}
-use Rattle.domain_model.specs.Moves.{Made}
 use Rattle.domain_model.specs.World.{WorldState}
-
--- ---- refusals
 
 -- A refusal is the first reason that holds, or memory was refused.
 abbrev pub Refuses : Option EventFault → EventFault → Type 0
@@ -62,28 +54,3 @@ entry_refused (edge.SiLarge k) = faults.Edge (edge.SiLarge k)
 entry_refused edge.NotBfr = faults.Edge edge.NotBfr
 entry_refused edge.BslUnknown = faults.Edge edge.BslUnknown
 entry_refused edge.Memory = faults.Memory
-
--- ---- what is told
-
--- what was sent, as frames, delivered and dropped
-abbrev pub told : List RouterConf → Made → StepOut
-told confs m = record { sent = map (wire_of confs) m.sent; got = m.got; drops = m.drops }
-
--- nothing was sent, delivered or dropped, so nothing is told
-pub record IsSilent (e : Effects) : Type 0 where
-  pub sent : e.sent ≡ []
-  pub got : e.got ≡ []
-  pub drops : e.drops ≡ []
-
--- a frame that fits a record of a capture
-abbrev pub IsShortFrame : WireFrame → Type 0
-IsShortFrame f = length f.octets < 65536
-
--- the same of what the router at place a did for that injection or for none, having taken a packet with those BFR-ids
-abbrev pub told_of : List RouterConf → ℕ → Option ℕ → List ℕ → Effects → StepOut
-told_of confs a number ids e =
-    record {
-      sent = map (wire_from confs a) e.sent;
-      got = map (got_line a number) e.got;
-      drops = map (drop_line a number ids) e.drops;
-    }

@@ -11,7 +11,7 @@ use Rattle.domain_model.specs.Moves.{packet_of, item_copied}
 use Rattle.domain_model.specs.World.{WorldState}
 use Rattle.ledger_laws.specs.Ledger.{Injection, entered, triple_for, drops_of}
 use Rattle.course_laws.specs.Course.{Agreed, IsReachable, KeptFor, loses_copy, own_node}
-use Rattle.domain_core.specs.declared.step_out.StepOut.{StepOut}
+use Rattle.domain_model.specs.declared.step_out.StepOut.{StepOut}
 
 -- The event is the injection n, at the router c, where k is reachable over a path that the TTL covers.
 pub record Enters (old : WorldState) (e : Event) (c : Control) (n k : ℕ) (i : Injection) : Type 0 where

@@ -3,8 +3,8 @@ use Rattle.std.specs.Prelude.{◌≡◌, ℕ, List, slice_get, Option}
 use Rattle.wire_base.specs.declared.bsl.Bsl.{Bsl}
 use Rattle.domain_model.specs.declared.fault.EventFault.{EventFault}
 use Rattle.domain_core.specs.declared.network.Network.{Network}
-use Rattle.domain_core.specs.declared.step_out.StepOut.{StepOut}
-use Rattle.domain_core.specs.Answers.{told}
+use Rattle.domain_model.specs.declared.step_out.StepOut.{StepOut}
+use Rattle.domain_frames.specs.Told.{told}
 use Rattle.domain_model.specs.Faults.{entry_fault}
 use Rattle.domain_core.specs.Network.{NetworkState, seen_of, world_of, AreFramesOver}
 use Rattle.domain_model.specs.Step.{Happened}

@@ -6,7 +6,7 @@ use Rattle.domain_model.specs.World.{WorldState, ids_in_flight}
 use Rattle.ledger_laws.specs.Ledger.{Injection, injection_of, names, entered, copies_of, deliveries_of, drops_of, AreCopiesOf, AreDeliveriesOf}
 use Rattle.ledger_laws.specs.Runs.{named_in}
 use Rattle.ledger_laws.specs.Weights.{weights, first_weight, takes_copy}
-use Rattle.domain_core.specs.declared.step_out.StepOut.{StepOut}
+use Rattle.domain_model.specs.declared.step_out.StepOut.{StepOut}
 
 -- Each injection is named by its number n, and k is a BFR-id.
 pub record KeepsLedger (old new : WorldState) (e : Event) (out : StepOut) : Type 0 where

@@ -10,11 +10,11 @@ use Rattle.router_core.specs.State.{RouterState}
 use Rattle.router_core.specs.State as router
 use Rattle.replay_text.specs.declared.event.Event.{Event}
 use Rattle.replay_text.specs.declared.event.Event.TheVariants.{Inject, Take, Lose, Again, Down, Up, Send, Tick, Restart}
-use Rattle.domain_core.specs.declared.flight.Flight.{Flight}
+use Rattle.domain_frames.specs.declared.flight.Flight.{Flight}
 use Rattle.domain_model.specs.World.{WorldState, frames_between}
 use Rattle.domain_model.specs.Faults.{is_up_toward}
-use Rattle.domain_core.specs.Flights.{item_seen, items_seen, frames_at}
-use Rattle.domain_core.specs.Framed.{frame_over}
+use Rattle.domain_frames.specs.Flights.{item_seen, items_seen, frames_at}
+use Rattle.domain_frames.specs.Framed.{frame_over}
 use Rattle.domain_model.specs.Truth.{IsTruthful}
 
 -- ---- as it is held

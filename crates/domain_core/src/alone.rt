@@ -9,10 +9,8 @@ ghost use Rattle.domain_model.specs.Step.{doing};
 ghost use Rattle.domain_model.specs.Truth.{InjectFits};
 
 use crate::network::Network;
-use crate::places::confs_of;
-use crate::sent::carry;
-use crate::step_out::StepOut;
-use domain_model::EventFault;
+use domain_frames::{carry, confs_of};
+use domain_model::{EventFault, StepOut};
 use wire_base::{Bsl, EdgeFault, M};
 
 impl Network {

@@ -1,6 +1,7 @@
 //! One event, whichever it is.
 ghost use Rattle.std.specs.Prelude.{◌≡◌, length, None, IfOk, OnOk, OnErr, IfErr, MatchResult};
-ghost use Rattle.domain_core.specs.Answers.{early_fault, Refuses, Stays, told};
+ghost use Rattle.domain_core.specs.Answers.{early_fault, Refuses, Stays};
+ghost use Rattle.domain_frames.specs.Told.{told};
 ghost use Rattle.domain_model.specs.Faults.{event_fault};
 ghost use Rattle.domain_core.specs.Held.{state_of, world_in, heard_in, IsDone};
 ghost use Rattle.domain_core.specs.Network.{IsAsBefore, IsTrueNetwork, heard_after, seen_of};
@@ -8,8 +9,7 @@ ghost use Rattle.domain_model.specs.Step.{doing, happens};
 ghost use Rattle.domain_model.specs.Truth.{EventFits, AreWorldDrops};
 
 use crate::network::Network;
-use crate::step_out::StepOut;
-use domain_model::EventFault;
+use domain_model::{EventFault, StepOut};
 use replay_text::Event;
 
 impl Network {

@@ -5,23 +5,14 @@
 #![tactic(auto)]
 
 mod alone;
-mod carried;
 mod events;
-mod flight;
-mod flights;
 mod frame_laws;
-mod inside;
 mod network;
-mod places;
 mod refusal;
-mod sent;
-mod step_out;
-mod told;
 mod transit;
 mod world;
 
-pub use domain_model::{DropLine, EventFault, GotLine};
+pub use domain_frames::{confs_of, peer_place};
+pub use domain_model::{DropLine, EventFault, GotLine, StepOut, WireFrame};
 pub use frame_laws::{frames_do_what_items_do, sent_frames_are_items};
-pub use places::{confs_of, peer_place};
-pub use step_out::{StepOut, WireFrame};
 pub use world::World;

@@ -5,12 +5,9 @@ ghost use Rattle.domain_core.specs.Held.{state_of, world_in, heard_in, IsDone};
 ghost use Rattle.domain_core.specs.Network.{IsAsBefore, IsTrueNetwork, heard_after, seen_of};
 ghost use Rattle.domain_model.specs.Step.{doing};
 
-use crate::flight::Flight;
 use crate::network::Network;
-use crate::places::confs_of;
-use crate::sent::send_all;
-use crate::step_out::StepOut;
-use crate::told::{lost, number_of, told_of};
+use domain_frames::{Flight, confs_of, lost, number_of, send_all, told_of};
+use domain_model::StepOut;
 use wire_base::{Cause, M};
 
 impl Network {

@@ -1,7 +1,8 @@
 //! A domain at work.
 ghost use Rattle.std.specs.Prelude.{◌≡◌, ◌<◌, length, map, slice_get, Option, Some, None, IfOk, OnOk, OnErr, IfErr, MatchResult};
 ghost use Rattle.std.specs.List.{AllByRecursion};
-ghost use Rattle.domain_core.specs.Answers.{IsShortFrame, Refuses, Stays, told};
+ghost use Rattle.domain_core.specs.Answers.{Refuses, Stays};
+ghost use Rattle.domain_frames.specs.Told.{IsShortFrame, told};
 ghost use Rattle.domain_model.specs.Faults.{event_fault};
 ghost use Rattle.domain_core.specs.Course.{KeepsCourse};
 ghost use Rattle.domain_core.specs.Ledger.{KeepsLedger};
@@ -11,8 +12,7 @@ ghost use Rattle.domain_model.specs.Truth.{IsTruthful, EventFits, AreWorldDrops}
 ghost use Rattle.domain_model.specs.World.{first_world, frames_between, ids_in_flight};
 
 use crate::network::Network;
-use crate::step_out::StepOut;
-use domain_model::EventFault;
+use domain_model::{EventFault, StepOut};
 use replay_text::Event;
 use router_core::Router;
 use std::alloc::Global;

@@ -413,31 +413,3 @@ first_true d valid = record {
   injections = omega arith;
   events = omega arith;
 }
-
--- ---- an event that is cut short
-
--- a router turns, and what it sends isn't on its way
-turned_true : (w : WorldState) → IsTruthful w → (a : ℕ) (c : Control) (r : Reply) → slice_get w.routers a ≡ Some c → IsTrueReply w.domain.routers c r → IsRouter r.control → IsTruthful (with_router w a r.control)
-turned_true w t a c r at reply kept =
-    let base = base_of w t in
-    let next = control_of w.domain t.valid w.events c r.control (control_at w.domain t.valid w.events w base a c at) kept reply.next in
-    let b = router_base w.domain t.valid w.events w a c r.control base at reply.next.conf next in
-    record { valid = t.valid; confs = b.confs; controls = b.controls; queues = b.queues; items = b.items; injections = t.injections; events = t.events }
-
-pub send_turned : (w : WorldState) → IsTruthful w → (a link : ℕ) (c : Control) → slice_get w.routers a ≡ Some c → IsTruthful (with_router w a (send c link).control)
-send_turned w t a link c at =
-    let k = control_at w.domain t.valid w.events w (base_of w t) a c at in
-    let reply = send_true w.domain.routers t.valid.sound c k.among (state_of w.domain.routers c k) link in
-    turned_true w t a c (send c link) at reply (send_keeps w.domain.routers t.valid.few (sound_of w.domain t.valid) c k link reply)
-
-pub pdu_turned : (w : WorldState) → IsTruthful w → (b back : ℕ) (c : Control) (p : Pdu) → slice_get w.routers b ≡ Some c → is_up c back ≡ true → IsTruePdu w.domain.routers p → IsTruthful (with_router w b (on_pdu c back p).control)
-pdu_turned w t b back c p at up says =
-    let k = control_at w.domain t.valid w.events w (base_of w t) b c at in
-    let reply = pdu_reply w.domain t.valid w.events c back p k says in
-    turned_true w t b c (on_pdu c back p) at reply (pdu_keeps w.domain.routers t.valid.few (sound_of w.domain t.valid) c k back p up says reply)
-
--- an item is gone
-pub gone_true : (w : WorldState) → IsTruthful w → (a link i : ℕ) → IsTruthful (taken_off w a link i)
-gone_true w t a link i =
-    let b = taken_base w.domain t.valid w.events w a link i (base_of w t) in
-    record { valid = t.valid; confs = b.confs; controls = b.controls; queues = b.queues; items = b.items; injections = t.injections; events = t.events }

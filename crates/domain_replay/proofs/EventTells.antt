@@ -5,19 +5,19 @@ use Rattle.wire_base.specs.declared.conf.RouterConf.{RouterConf}
 use Rattle.replay_text.specs.declared.event.Event.{Event}
 use Rattle.domain_model.specs.declared.fault.EventFault.{EventFault}
 use Rattle.domain_model.specs.declared.fault.EventFault.TheVariants as faults
-use Rattle.domain_core.specs.declared.step_out.StepOut.{StepOut}
-use Rattle.domain_core.specs.Answers as answer
+use Rattle.domain_model.specs.declared.step_out.StepOut.{StepOut}
+use Rattle.domain_frames.specs.Told as answer
 use Rattle.domain_core.specs.Answers.{Refuses, Stays}
 use Rattle.domain_model.specs.Faults.{event_fault}
-use Rattle.domain_core.specs.Framed.{wire_of}
+use Rattle.domain_frames.specs.Framed.{wire_of}
 use Rattle.domain_model.specs.Moves.{Sending}
 use Rattle.domain_core.specs.Network.{Seen}
 use Rattle.domain_model.specs.Step.{happens}
 use Rattle.domain_model.specs.World.{WorldState}
-use Rattle.domain_replay.specs.declared.counts.Counts.{Counts}
-use Rattle.domain_replay.specs.Captures.{wire_record}
-use Rattle.domain_replay.specs.Counting.{counted}
-use Rattle.domain_replay.specs.Lines.{event_text}
+use Rattle.replay_report.specs.declared.counts.Counts.{Counts}
+use Rattle.replay_report.specs.Captures.{wire_record}
+use Rattle.replay_report.specs.Counting.{counted}
+use Rattle.replay_report.specs.Lines.{event_text}
 use Rattle.domain_replay.specs.Telling.{Telling, told, tells, tells_or, tells_on, sent_records}
 use Rattle.domain_replay.specs.Replaying.{Tells, ends_with}
 use Rattle.domain_replay.proofs.TellingLaws.{same_telling}

@@ -6,7 +6,7 @@ use Rattle.replay_text.specs.Events as lines
 use Rattle.domain_model.specs.declared.fault.EventFault.{EventFault}
 use Rattle.domain_model.specs.declared.fault.EventFault.TheVariants as faults
 use Rattle.domain_model.specs.Truth.{EventFits}
-use Rattle.domain_replay.specs.Counting.{NamesOnce}
+use Rattle.replay_report.specs.Counting.{NamesOnce}
 use Rattle.domain_replay.specs.Telling.{Telling, Told, told}
 use Rattle.domain_replay.specs.Replaying.{Tells, NumbersFit, IsAsked}
 

@@ -9,7 +9,7 @@ use Rattle.domain_model.specs.World.{WorldState, is_up, link_between, queue_at}
 use Rattle.domain_model.specs.Moves.{Made, item_lost, inject_made}
 use Rattle.wire_base.specs.declared.cause.Cause.TheVariants as cause
 use Rattle.domain_model.specs.Step.{Happened, makes, arrives, comes, takes, takes_over, loses, loses_over, repeats, repeats_over, injects, changes_end, sends, changes, doing, happens}
-use Rattle.domain_replay.specs.Counting.{injected_by}
+use Rattle.replay_report.specs.Counting.{injected_by}
 use Rattle.domain_replay.specs.Telling.{IsEntered}
 
 -- with so many injections more

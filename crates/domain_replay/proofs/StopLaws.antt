@@ -6,7 +6,7 @@ use Rattle.domain_model.specs.World.{WorldState}
 use Rattle.domain_model.specs.Step.{happens}
 use Rattle.domain_model.specs.Faults.{event_fault}
 use Rattle.domain_model.specs.Run.{Direction, directions, round_sends, round_takes, round_events, settle_events, world_after}
-use Rattle.domain_replay.specs.declared.texts.Texts.{Texts}
+use Rattle.replay_report.specs.declared.texts.Texts.{Texts}
 use Rattle.domain_replay.specs.Telling.{Telling, Told, told, tells_on, tells_all}
 use Rattle.domain_replay.specs.Replaying.{NextUntold, StopsIn}
 use Rattle.domain_replay.proofs.TellsLaws.{all_joined, world_told}

@@ -20,9 +20,9 @@ use Rattle.domain_model.specs.Step.{happens}
 use Rattle.domain_model.specs.Faults.{event_fault}
 use Rattle.domain_model.specs.Run.{Run, Progress, first_run, goes_on, on_line, Direction, directions, may_send, round_sends, taken_now, round_takes, world_after, round_events, settle_events, does, line_done, line_events, goes_unless, tries}
 use Rattle.domain_model.proofs.EachLaws.{each_from, each_joined, each_mapped, each_repeated}
-use Rattle.domain_replay.specs.declared.counts.Counts.{Counts}
-use Rattle.domain_replay.specs.Captures.{sending_record}
-use Rattle.domain_replay.specs.Counting.{injected_by, named_by, dropped_ids, counted, counts_of}
+use Rattle.replay_report.specs.declared.counts.Counts.{Counts}
+use Rattle.replay_report.specs.Captures.{sending_record}
+use Rattle.replay_report.specs.Counting.{injected_by, named_by, dropped_ids, counted, counts_of}
 use Rattle.domain_replay.specs.Texts.{world_after_all, made_text, events_text, capture_text, run_text}
 use Rattle.domain_replay.specs.Telling.{Telling, first_telling, sent_records, tells, Told, told, tells_on, tells_all, tells_line, telling_of, IsRunOf, IsEntered, LineEnters, tells_or, tells_unless, at_line, IsToldSo}
 use Rattle.domain_replay.proofs.Stays.{Stays, happens_stays}

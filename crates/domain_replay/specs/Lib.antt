@@ -1,6 +1,6 @@
-pub mod Lines
-pub mod Captures
-pub mod Counting
+pub use Rattle.replay_report.specs.Lines
+pub use Rattle.replay_report.specs.Captures
+pub use Rattle.replay_report.specs.Counting
 pub mod Texts
 pub mod Telling
 pub mod Replaying

@@ -11,7 +11,7 @@ use Rattle.domain_model.specs.Step.{happens}
 use Rattle.domain_model.specs.Faults.{event_fault}
 use Rattle.domain_model.specs.Run.{Direction, directions, may_send}
 use Rattle.domain_model.specs.Truth.{EventFits}
-use Rattle.domain_replay.specs.Counting.{NamesOnce}
+use Rattle.replay_report.specs.Counting.{NamesOnce}
 use Rattle.domain_replay.specs.Telling.{Telling, Told, told, tells_all}
 
 -- the events that were told ended with that reason

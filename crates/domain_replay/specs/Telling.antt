@@ -14,9 +14,9 @@ use Rattle.domain_model.specs.Moves.{Sending}
 use Rattle.domain_model.specs.Step.{Happened, happens}
 use Rattle.domain_model.specs.Faults.{event_fault}
 use Rattle.domain_model.specs.Run.{Run, Progress, line_events, on_line}
-use Rattle.domain_replay.specs.declared.counts.Counts.{Counts}
-use Rattle.domain_replay.specs.Captures.{sending_record}
-use Rattle.domain_replay.specs.Counting.{no_counts, counted, counts_of, NamesOnce}
+use Rattle.replay_report.specs.declared.counts.Counts.{Counts}
+use Rattle.replay_report.specs.Captures.{sending_record}
+use Rattle.replay_report.specs.Counting.{no_counts, counted, counts_of, NamesOnce}
 use Rattle.domain_replay.specs.Texts.{world_after_all, made_text, capture_text, run_text}
 
 -- The world now, what was counted, the capture so far, and the lines of the report so far.

@@ -12,10 +12,10 @@ use Rattle.domain_model.specs.World.{WorldState, first_world, ids_in_flight}
 use Rattle.domain_model.specs.Moves.{Made}
 use Rattle.domain_model.specs.Step.{happens}
 use Rattle.domain_model.specs.Run.{Run, first_run, Progress, line_done}
-use Rattle.domain_replay.specs.Captures.{capture_of}
-use Rattle.domain_replay.specs.Lines.{event_text, done_text, text_refused_text, event_refused_text, too_long}
+use Rattle.replay_report.specs.Captures.{capture_of}
+use Rattle.replay_report.specs.Lines.{event_text, done_text, text_refused_text, event_refused_text, too_long}
 use Rattle.replay_text.specs.Fault.{fault_text}
-use Rattle.domain_replay.specs.Counting.{counts_of}
+use Rattle.replay_report.specs.Counting.{counts_of}
 
 -- ---- of a run
 

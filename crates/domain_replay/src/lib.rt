@@ -5,19 +5,13 @@
 #![tactic(auto)]
 
 mod asked;
-mod capture;
-mod counts;
-mod direction;
 mod laws;
-mod lines;
-mod refused;
 mod replay;
-mod texts;
 mod told_world;
 
-pub use capture::push_frames;
-pub use counts::Counts;
 pub use laws::{a_start_is_told, each_line_is_told};
-pub use lines::{push_done, push_event};
-pub use refused::{push_conf_refused, push_event_refused, push_text_refused, push_too_long};
 pub use replay::Replay;
+pub use replay_report::{
+    Counts, push_conf_refused, push_done, push_event, push_event_refused, push_frames,
+    push_text_refused, push_too_long,
+};

@@ -5,17 +5,16 @@ ghost use Rattle.replay_text.specs.declared.fault.TextFault.TheVariants as texts
 ghost use Rattle.domain_model.specs.declared.fault.EventFault.TheVariants as fault;
 ghost use Rattle.domain_model.specs.World.{ids_in_flight};
 ghost use Rattle.domain_model.specs.Run.{line_events};
-ghost use Rattle.domain_replay.specs.Lines.{done_text, text_refused_text, event_refused_text, too_long};
+ghost use Rattle.replay_report.specs.Lines.{done_text, text_refused_text, event_refused_text, too_long};
 ghost use Rattle.replay_text.specs.Fault.{fault_text};
 ghost use Rattle.domain_replay.specs.Telling.{first_telling, told, tells_line, LineNamesOnce};
 ghost use Rattle.domain_replay.specs.Replaying.{StopsIn};
 
-use crate::counts::Counts;
-use crate::direction::Direction;
-use crate::lines::push_done;
-use crate::refused::{push_event_refused, push_text_refused, push_too_long};
 use crate::told_world::ToldWorld;
-use domain_core::EventFault;
+use domain_model::EventFault;
+use replay_report::{
+    Counts, Direction, push_done, push_event_refused, push_text_refused, push_too_long,
+};
 use replay_text::{Line, TextFault};
 use std::alloc::Global;
 use std::marker::Model;

@@ -8,9 +8,8 @@ ghost use Rattle.domain_replay.specs.Telling.{first_telling, told, tells_on, tel
 ghost use Rattle.domain_replay.specs.Replaying.{Tells, StopsIn, IsAsked, IsJoining, sends_of, sends_in};
 
 use crate::asked::numbers_fit;
-use crate::direction::{Direction, directions};
-use crate::texts::Texts;
 use domain_core::{EventFault, World, confs_of};
+use replay_report::{Direction, Texts, directions};
 use replay_text::{Event, Line};
 use std::alloc::Global;
 use std::marker::Model;

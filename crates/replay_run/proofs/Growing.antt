@@ -24,7 +24,7 @@ use Rattle.domain_conf.proofs.ValidAmong.{all_map}
 use Rattle.domain_model.specs.declared.fault.EventFault.{EventFault}
 use Rattle.domain_model.specs.World.{first_world, ids_in_flight}
 use Rattle.domain_model.specs.Run.{Progress, first_run, goes_unless, does, line_events, line_done, lines_done, schedule_done}
-use Rattle.domain_replay.specs.declared.counts.Counts.{Counts}
+use Rattle.replay_report.specs.declared.counts.Counts.{Counts}
 use Rattle.domain_replay.specs.Counting.{counts_of}
 use Rattle.replay_text.specs.Report.{line_of}
 use Rattle.domain_replay.specs.Lines.{done_text, event_refused_text}

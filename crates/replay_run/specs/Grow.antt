@@ -9,7 +9,7 @@ use Rattle.grown_domain.specs.Schedule.{grown_lines}
 use Rattle.domain_model.specs.declared.fault.EventFault.{EventFault}
 use Rattle.domain_model.specs.World.{ids_in_flight}
 use Rattle.domain_model.specs.Run.{Run, Progress, schedule_done}
-use Rattle.domain_replay.specs.declared.counts.Counts.{Counts}
+use Rattle.replay_report.specs.declared.counts.Counts.{Counts}
 use Rattle.domain_replay.specs.Counting.{counts_of}
 use Rattle.replay_text.specs.Report.{line_of}
 use Rattle.domain_replay.specs.Lines.{event_refused_text}

@@ -2,8 +2,8 @@ use Rattle.std.proofs.Common.{◌∙◌, List, sym, ap}
 use Rattle.wire_base.specs.declared.cause.Cause.TheVariants as cause
 use Rattle.wire_base.specs.declared.conf.RouterConf.{RouterConf}
 use Rattle.domain_model.specs.Moves.{item_lost}
-use Rattle.domain_core.specs.Answers.{told}
-use Rattle.domain_core.specs.Flights.{item_seen}
+use Rattle.domain_frames.specs.Told.{told}
+use Rattle.domain_frames.specs.Flights.{item_seen}
 use Rattle.domain_core.specs.Held.{state_of, world_in}
 use Rattle.domain_core.specs.Network.{IsFrameOver}
 use Rattle.domain_model.specs.Step.{Happened, taken_off}

@@ -7,15 +7,15 @@ use Rattle.wire_base.specs.model.OnFrame.{Effects, on_frame}
 use Rattle.domain_model.specs.Moves.{item_lost}
 use Rattle.router_core.specs.State.{RouterState}
 use Rattle.domain_model.proofs.QueueLaws.{got_within}
-use Rattle.domain_core.specs.declared.flight.Flight.{Flight}
-use Rattle.domain_core.specs.Answers.{told, told_of}
-use Rattle.domain_core.specs.Flights.{item_seen, ids_seen, number_of, frames_at, without_frame, push_all_sent}
+use Rattle.domain_frames.specs.declared.flight.Flight.{Flight}
+use Rattle.domain_frames.specs.Told.{told, told_of}
+use Rattle.domain_frames.specs.Flights.{item_seen, ids_seen, number_of, frames_at, without_frame, push_all_sent}
 use Rattle.domain_core.specs.Held.{state_of, world_in, heard_in}
 use Rattle.domain_core.specs.Network.{world_of, IsFrameOver}
 use Rattle.domain_model.specs.Step.{Happened, taken_off}
 use Rattle.domain_model.specs.World.{is_up, queue_over}
 use Rattle.domain_core.proofs.CarryLaws.{set_same, still_world, is_short, unmoved, heard_there, taken_done}
-use Rattle.domain_core.proofs.FlightLaws.{goes_after}
+use Rattle.domain_frames.proofs.FlightLaws.{goes_after}
 use Rattle.domain_core.proofs.RefusalLaws.{toward, link_within, leads_to}
 use Rattle.domain_core.proofs.SeenLaws.{none_seen_at, some_seen_at, frames_left}
 use Rattle.domain_core.proofs.TransitLaws.{gone_world, lost_world, lost_told, same_frames, none_taken, down_taken, unheard, none_heard}

@@ -1,0 +1,73 @@
+-- Frames on their way: for each router and each of its ends those that go over that end, the oldest first, each with what
+-- its octets don't tell. And the items that they are.
+use Rattle.std.specs.Prelude.{ℕ, List, [], ◌∷◌, ◌++◌, length, map, slice_index_or, slice_set, sum_by, Option, Some, None, option_map}
+use Rattle.std.specs.List.{fold, remove}
+use Rattle.wire_base.specs.declared.conf.RouterConf.{RouterConf}
+use Rattle.wire_base.specs.declared.effects.Sent.{Sent}
+use Rattle.wire_base.specs.model.Item.{Item}
+use Rattle.domain_model.specs.World.{carried}
+use Rattle.domain_frames.specs.declared.flight.Flight.{Flight}
+use Rattle.domain_frames.specs.Framed.{note_over}
+use Rattle.domain_frames.specs.Read.{item_in, item_ids}
+
+-- ---- the item of a frame
+
+abbrev pub item_seen : List RouterConf → Flight → Item
+item_seen confs f = item_in confs f.note f.octets
+
+abbrev pub items_seen : List RouterConf → List (List (List Flight)) → List (List (List Item))
+items_seen confs flights = map (λ row. map (λ queue. map (item_seen confs) queue) row) flights
+
+-- the injection that a frame comes of
+abbrev pub number_of : Flight → Option ℕ
+number_of f = option_map (λ note. note.number) f.note
+
+-- the BFR-ids of a frame
+abbrev pub ids_seen : List RouterConf → Flight → List ℕ
+ids_seen confs f = item_ids (item_seen confs f)
+
+-- of one that was taken, where one was
+abbrev pub ids_taken : List RouterConf → Option Flight → List ℕ
+ids_taken confs None = []
+ids_taken confs (Some f) = ids_seen confs f
+
+-- ---- what is on the way
+
+abbrev pub frames_at : List (List (List Flight)) → ℕ → ℕ → List Flight
+frames_at flights place link = slice_index_or (slice_index_or flights place []) link []
+
+abbrev pub with_frames : List (List (List Flight)) → ℕ → ℕ → List Flight → List (List (List Flight))
+with_frames flights place link queue = slice_set flights place (slice_set (slice_index_or flights place []) link queue)
+
+-- a frame goes to the end of its direction
+abbrev pub push_frame : List (List (List Flight)) → ℕ → ℕ → Flight → List (List (List Flight))
+push_frame flights place link f = with_frames flights place link (frames_at flights place link ++ f ∷ [])
+
+-- and another is gone from there
+abbrev pub without_frame : List (List (List Flight)) → ℕ → ℕ → ℕ → List (List (List Flight))
+without_frame flights place link i = with_frames flights place link (remove (frames_at flights place link) i)
+
+-- how many there are in all
+abbrev pub frame_count : List (List (List Flight)) → ℕ
+frame_count flights = sum_by (λ row. sum_by (λ queue. length queue) row) flights
+
+-- how many BFR-ids they have
+abbrev pub ids_carried_by : List RouterConf → List (List (List Flight)) → ℕ
+ids_carried_by confs flights = sum_by (λ row. sum_by (λ queue. sum_by (λ f. carried (item_seen confs f)) queue) row) flights
+
+-- nothing is on the way
+abbrev pub no_frames : List RouterConf → List (List (List Flight))
+no_frames confs = map (λ r. map (λ e. []) r.ends) confs
+
+-- ---- what a router sends
+
+-- a frame that the router at place a sends, for that injection or for none
+abbrev pub flight_of : List RouterConf → ℕ → Option ℕ → Sent → Flight
+flight_of confs a number s = record { octets = s.octets; note = note_over confs a number s.link }
+
+-- what a router sends goes to the ends of its directions, in order
+abbrev pub push_sent : List RouterConf → ℕ → Option ℕ → List (List (List Flight)) → Sent → List (List (List Flight))
+push_sent confs a number flights s = push_frame flights a s.link (flight_of confs a number s)
+
+abbrev pub push_all_sent : List RouterConf → ℕ → Option ℕ → List (List (List Flight)) → List Sent → List (List (List Flight))
+push_all_sent confs a number flights sent = fold (push_sent confs a number) flights sent

@@ -1,0 +1,4 @@
+pub mod Flights
+pub mod Framed
+pub mod Read
+pub mod Told

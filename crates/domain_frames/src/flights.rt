@@ -1,0 +1,306 @@
+//! Frames on their way: a queue for each end of each router.
+ghost use Rattle.std.specs.Prelude.{◌≡◌, ◌+◌, ◌≤◌, ◌∷◌, ◌++◌, [], nat_lt, List, length, map, slice_get, slice_index_or, slice_set, option_map, sum_by, OnOk, OnErr, IfOk};
+ghost use Rattle.std.specs.List.{AllByRecursion, remove};
+ghost use Rattle.wire_base.specs.model.Configuration.{IsSound};
+ghost use Rattle.domain_frames.specs.declared.flight.Flight.{Flight};
+ghost use Rattle.domain_frames.specs.Flights.{item_seen, frames_at, push_frame, without_frame, frame_count, ids_carried_by, no_frames};
+ghost use Rattle.domain_model.specs.World.{carried};
+
+use crate::carried::{count_of, sum};
+use crate::flight::Flight;
+use std::alloc::Global;
+use std::collections::VecDeque;
+use std::marker::Model;
+use wire_base::limits::MOST_ROUTERS;
+use wire_base::{End, M, Memory, RouterConf};
+
+/// The frames on their way over one end, the oldest first.
+#[derive(Drop)]
+struct Queue {
+    frames: VecDeque<Flight>,
+}
+
+impl Model for Queue {
+    ghost use Rattle.std.specs.Prelude.{List};
+    ghost use Rattle.domain_frames.specs.declared.flight.Flight.{Flight};
+
+    ghost Value = { List Flight };
+
+    ghost view = { λ q. q.frames.items };
+}
+
+impl Queue {
+    fn new(alloc: Global) -> Queue
+        ensures { result ≡ [] }
+    {
+        Queue {
+            frames: VecDeque::new(alloc),
+        }
+    }
+
+    fn len(&self) -> usize
+        ensures { result ≡ length self.now }
+    {
+        self.frames.len()
+    }
+
+    fn get(&self, i: usize) -> Option<&Flight>
+        ensures { option_map (λ f. f.now) result ≡ slice_get self.now i }
+    {
+        self.frames.get(i)
+    }
+
+    /// How many BFR-ids its frames have.
+    fn ids(&self, confs: &[RouterConf]) -> M<u64>
+        requires few { length confs.now ≤ MOST_ROUTERS }
+        requires sound { AllByRecursion IsSound confs.now }
+        ensures { IfOk result (λ count. count ≡ sum_by (λ f. carried (item_seen confs.now f)) self.now) }
+    {
+        let mut total = 0;
+        for flight in self.frames.iter() {
+            total = sum(total, count_of(confs, flight))?;
+        }
+        Ok(total)
+    }
+
+    fn push(&mut self, flight: Flight) -> M<()>
+        ensures ok { OnOk result (self.new ≡ self.old ++ flight ∷ []) }
+        ensures err { OnErr result (self.new ≡ self.old) }
+    {
+        self.frames.push_back(flight)?;
+        Ok(())
+    }
+
+    /// Whether there was a frame at that place, which is gone then.
+    fn remove(&mut self, i: usize) -> bool
+        ensures rest { self.new ≡ remove self.old i }
+        ensures gone { result ≡ nat_lt i (length self.old) }
+    {
+        self.frames.remove(i).is_some()
+    }
+}
+
+/// The queues of one router, by its ends.
+#[derive(Drop)]
+struct Queues {
+    ends: Vec<Queue>,
+}
+
+impl Model for Queues {
+    ghost use Rattle.std.specs.Prelude.{List};
+    ghost use Rattle.domain_frames.specs.declared.flight.Flight.{Flight};
+
+    ghost Value = { List (List Flight) };
+
+    ghost view = { λ q. q.ends.items };
+}
+
+impl Queues {
+    /// An empty queue for each end.
+    fn new(alloc: Global, ends: &[End]) -> M<Queues>
+        ensures { IfOk result (λ queues. queues ≡ map (λ e. []) ends.now) }
+    {
+        let mut queues = Vec::new(alloc);
+        for _end in ends {
+            queues.push(Queue::new(alloc))?;
+        }
+        Ok(Queues { ends: queues })
+    }
+
+    /// How many frames are on their way over an end; 0 where there is no such end.
+    fn len(&self, link: usize) -> usize
+        ensures { result ≡ length (slice_index_or self.now link []) }
+    {
+        if link < self.ends.len() {
+            self.ends[link].len()
+        } else {
+            0
+        }
+    }
+
+    /// How many BFR-ids the frames of all ends have.
+    fn ids(&self, confs: &[RouterConf]) -> M<u64>
+        requires few { length confs.now ≤ MOST_ROUTERS }
+        requires sound { AllByRecursion IsSound confs.now }
+        ensures { IfOk result (λ count. count ≡ sum_by (λ queue. sum_by (λ f. carried (item_seen confs.now f)) queue) self.now) }
+    {
+        let mut total = 0;
+        for queue in &self.ends {
+            total = sum(total, queue.ids(confs)?)?;
+        }
+        Ok(total)
+    }
+
+    fn get(&self, link: usize, i: usize) -> Option<&Flight>
+        ensures { option_map (λ f. f.now) result ≡ slice_get (slice_index_or self.now link []) i }
+    {
+        if link < self.ends.len() {
+            let queue = &self.ends[link];
+            queue.get(i)
+        } else {
+            None
+        }
+    }
+
+    /// Puts a frame behind those on their way over an end, and says whether there is such an end.
+    fn push(&mut self, link: usize, flight: Flight) -> M<bool>
+        ensures ok { OnOk result (self.new ≡ slice_set self.old link (slice_index_or self.old link [] ++ flight ∷ [])) }
+        ensures added { IfOk result (λ added. added ≡ nat_lt link (length self.old)) }
+        ensures err { OnErr result (self.new ≡ self.old) }
+    {
+        if link < self.ends.len() {
+            let queue = &mut self.ends[link];
+            queue.push(flight)?;
+            return Ok(true);
+        }
+        Ok(false)
+    }
+
+    /// Whether there was a frame at that place of those over an end, which is gone then.
+    fn remove(&mut self, link: usize, i: usize) -> bool
+        ensures rest { self.new ≡ slice_set self.old link (remove (slice_index_or self.old link []) i) }
+        ensures gone { result ≡ nat_lt i (length (slice_index_or self.old link [])) }
+    {
+        if link < self.ends.len() {
+            let queue = &mut self.ends[link];
+            queue.remove(i)
+        } else {
+            false
+        }
+    }
+}
+
+/// All frames on their way. A direction of a link is named by the place of the router that sends there and its end.
+///
+/// Their number is kept, so that nothing is counted when it is asked for.
+#[derive(Drop)]
+pub struct Flights {
+    routers: Vec<Queues>,
+    count: usize,
+}
+
+impl Model for Flights {
+    ghost use Rattle.std.specs.Prelude.{◌≡◌, List};
+    ghost use Rattle.domain_frames.specs.declared.flight.Flight.{Flight};
+    ghost use Rattle.domain_frames.specs.Flights.{frame_count};
+
+    ghost Value = { List (List (List Flight)) };
+
+    ghost view = { λ f. f.routers.items };
+
+    ghost invariant = { λ f. f.count ≡ frame_count f.routers.items };
+}
+
+impl Flights {
+    /// Nothing is on its way in a domain of those routers.
+    pub fn new(alloc: Global, confs: &[RouterConf]) -> M<Flights>
+        ensures { IfOk result (λ flights. flights ≡ no_frames confs.now) }
+    {
+        let mut routers = Vec::new(alloc);
+        for conf in confs {
+            routers.push(Queues::new(alloc, conf.ends.as_slice())?)?;
+        }
+        Ok(Flights { routers, count: 0 })
+    }
+
+    /// How many frames there are in all.
+    pub fn count(&self) -> usize
+        ensures { result ≡ frame_count self.now }
+    {
+        self.count
+    }
+
+    /// How many BFR-ids all frames have.
+    pub fn ids(&self, confs: &[RouterConf]) -> M<u64>
+        requires few { length confs.now ≤ MOST_ROUTERS }
+        requires sound { AllByRecursion IsSound confs.now }
+        ensures { IfOk result (λ count. count ≡ ids_carried_by confs.now self.now) }
+    {
+        ids_in(self.routers.as_slice(), confs)
+    }
+
+    /// How many are on their way in a direction; 0 where there is no such direction.
+    pub fn len(&self, place: u16, link: u16) -> usize
+        ensures { result ≡ length (frames_at self.now place link) }
+    {
+        if usize::from(place) < self.routers.len() {
+            self.routers[usize::from(place)].len(usize::from(link))
+        } else {
+            0
+        }
+    }
+
+    /// The frame at a place of those in a direction, from 0.
+    pub fn get(&self, place: u16, link: u16, i: u32) -> Option<&Flight>
+        ensures { option_map (λ f. f.now) result ≡ slice_get (frames_at self.now place link) i }
+    {
+        if usize::from(place) < self.routers.len() {
+            let queues = &self.routers[usize::from(place)];
+            queues.get(usize::from(link), i as usize)
+        } else {
+            None
+        }
+    }
+
+    /// Puts a frame at the end of a direction. Where there is no such direction nothing changes.
+    pub fn push(&mut self, place: u16, link: u16, flight: Flight) -> M<()>
+        ensures ok { OnOk result (self.new ≡ push_frame self.old place link flight) }
+        ensures err { OnErr result (self.new ≡ self.old) }
+    {
+        if usize::from(place) < self.routers.len() {
+            let count = one_more(self.count)?;
+            let queues = &mut self.routers[usize::from(place)];
+            let added = queues.push(usize::from(link), flight)?;
+            if added {
+                self.count = count;
+            }
+        }
+        Ok(())
+    }
+
+    /// The frame at a place of those in a direction is gone. Where there is no such frame nothing changes.
+    pub fn remove(&mut self, place: u16, link: u16, i: usize)
+        ensures { self.new ≡ without_frame self.old place link i }
+    {
+        if usize::from(place) < self.routers.len() {
+            let queues = &mut self.routers[usize::from(place)];
+            let gone = queues.remove(usize::from(link), i);
+            if gone {
+                self.count -= 1;
+            }
+        }
+    }
+
+    /// The frame that was last put at the end of a direction is gone.
+    pub fn pop(&mut self, place: u16, link: u16)
+        ensures { (f : Flight) (before : List (List (List Flight))) → self.old ≡ push_frame before place link f → self.new ≡ before }
+    {
+        let count = self.len(place, link);
+        if count > 0 {
+            self.remove(place, link, count - 1);
+        }
+    }
+}
+
+/// One more; there is no memory for more frames than can be counted.
+fn one_more(count: usize) -> M<usize>
+    ensures { IfOk result (λ more. more ≡ count + 1) }
+{
+    match count.checked_add(1) {
+        Some(more) => Ok(more),
+        None => Err(Memory),
+    }
+}
+
+/// How many BFR-ids the frames of all routers have.
+fn ids_in(routers: &[Queues], confs: &[RouterConf]) -> M<u64>
+    requires few { length confs.now ≤ MOST_ROUTERS }
+    requires sound { AllByRecursion IsSound confs.now }
+    ensures { IfOk result (λ count. count ≡ ids_carried_by confs.now routers.now) }
+{
+    let mut total = 0;
+    for queues in routers {
+        total = sum(total, queues.ids(confs)?)?;
+    }
+    Ok(total)
+}

@@ -1,0 +1,102 @@
+//! Where the ends of routers lead.
+ghost use Rattle.std.specs.Prelude.{◌≡◌, ◌≤◌, length, slice_get, option_map, IfSome};
+ghost use Rattle.std.specs.List.{AllByRecursion};
+ghost use Rattle.std.specs.Str.{bytes_eq};
+ghost use Rattle.wire_base.specs.model.Configuration.{IsSound, IsValid};
+ghost use Rattle.wire_base.specs.model.Item.{router_with};
+ghost use Rattle.domain_model.specs.World.{place_of, end_at, peer_place, link_between};
+
+use wire_base::limits::MOST_ROUTERS;
+use wire_base::{Domain, End, Ipv4, RouterConf, SystemId, end_toward};
+
+/// The configurations of a domain's routers, by place.
+pub fn confs_of(domain: &Domain) -> &[RouterConf]
+    ensures confs { result.now ≡ domain.now.routers }
+    ensures valid { IsValid domain.now }
+    ensures sound { AllByRecursion IsSound result.now }
+    ensures few { length result.now ≤ MOST_ROUTERS }
+{
+    domain.routers.as_slice()
+}
+
+/// The configuration of the router at a place.
+pub(crate) fn conf_at(confs: &[RouterConf], place: u16) -> Option<&RouterConf>
+    ensures conf { option_map (λ r. r.now) result ≡ slice_get confs.now place }
+    ensures sound { AllByRecursion IsSound confs.now → IfSome result (λ r. IsSound r.now) }
+{
+    if usize::from(place) < confs.len() {
+        Some(&confs[usize::from(place)])
+    } else {
+        None
+    }
+}
+
+fn end_at(ends: &[End], link: u16) -> Option<End>
+    ensures { result ≡ slice_get ends.now link }
+{
+    if usize::from(link) < ends.len() {
+        Some(ends[usize::from(link)])
+    } else {
+        None
+    }
+}
+
+/// The end of a router that leads to another, where a link joins the two.
+pub fn link_between(confs: &[RouterConf], from: u16, to: u16) -> Option<u16>
+    requires { AllByRecursion IsSound confs.now }
+    ensures { result ≡ link_between confs.now from to }
+{
+    let near = conf_at(confs, from)?;
+    let far = conf_at(confs, to)?;
+    end_toward(near.ends.as_slice(), far.system)
+}
+
+/// The place of the router of a system; past the end where there is none.
+fn place_of(confs: &[RouterConf], system: SystemId) -> u16
+    requires { length confs.now ≤ MOST_ROUTERS }
+    ensures { result ≡ place_of confs.now system }
+{
+    for place in 0..confs.len() {
+        if confs[place].system == system {
+            return place as u16;
+        }
+    }
+    confs.len() as u16
+}
+
+/// The place of the first router with a prefix.
+pub(crate) fn router_with(confs: &[RouterConf], prefix: Ipv4) -> Option<u16>
+    requires { length confs.now ≤ MOST_ROUTERS }
+    ensures { result ≡ router_with 0 confs.now prefix }
+{
+    for place in 0..confs.len() {
+        if is_prefix(confs[place].prefix, prefix) {
+            return Some(place as u16);
+        }
+    }
+    None
+}
+
+fn is_prefix(a: Ipv4, b: Ipv4) -> bool
+    ensures { result ≡ bytes_eq a.0 b.0 }
+{
+    a == b
+}
+
+/// The place of the router at the other end of a link.
+pub fn peer_place(confs: &[RouterConf], place: u16, link: u16) -> u16
+    requires { length confs.now ≤ MOST_ROUTERS }
+    ensures { result ≡ peer_place confs.now place link }
+{
+    match peer_of(confs, place, link) {
+        Some(end) => place_of(confs, end.peer),
+        None => confs.len() as u16,
+    }
+}
+
+fn peer_of(confs: &[RouterConf], place: u16, link: u16) -> Option<End>
+    ensures { result ≡ end_at (slice_get confs.now place) link }
+{
+    let conf = conf_at(confs, place)?;
+    end_at(conf.ends.as_slice(), link)
+}

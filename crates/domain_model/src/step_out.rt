@@ -1,0 +1,35 @@
+//! What an event does to the outside. Routers are named by their places in the domain.
+ghost use Rattle.std.specs.Prelude.{◌≡◌, []};
+
+use crate::lines::{DropLine, GotLine};
+use std::alloc::Global;
+use wire_base::{Octets, Rows};
+
+/// A frame that a router sends to another.
+#[derive(Drop)]
+pub struct WireFrame {
+    pub from: u16,
+    pub to: u16,
+    pub octets: Octets,
+}
+
+/// What one event sends, delivers and drops, each in order.
+#[derive(Drop)]
+pub struct StepOut {
+    pub sent: Rows<WireFrame>,
+    pub got: Rows<GotLine>,
+    pub drops: Rows<DropLine>,
+}
+
+impl StepOut {
+    /// Nothing was sent, delivered or dropped.
+    pub fn nothing(alloc: Global) -> Self
+        ensures { result ≡ record { sent = []; got = []; drops = [] } }
+    {
+        StepOut {
+            sent: Rows::new(alloc),
+            got: Rows::new(alloc),
+            drops: Rows::new(alloc),
+        }
+    }
+}

@@ -1,7 +1,0 @@
-use Rattle.std.proofs.Common.{◌≡◌, ◌++◌, take}
-use Rattle.std.specs.Prelude.{flat_map}
-use Rattle.domain_replay.specs.Captures.{wire_record}
-use Rattle.domain_replay.proofs.capture.push_each.Given as goal
-
-abbrev pub invariant-loop-frame : goal.invariant-loop-frame
-invariant-loop-frame l = l.out ≡ l.fn.out ++ flat_map (wire_record l.line) (take l.frame-index l.frames)

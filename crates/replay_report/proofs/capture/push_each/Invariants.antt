@@ -1,0 +1,7 @@
+use Rattle.std.proofs.Common.{◌≡◌, ◌++◌, take}
+use Rattle.std.specs.Prelude.{flat_map}
+use Rattle.replay_report.specs.Captures.{wire_record}
+use Rattle.replay_report.proofs.capture.push_each.Given as goal
+
+abbrev pub invariant-loop-frame : goal.invariant-loop-frame
+invariant-loop-frame l = l.out ≡ l.fn.out ++ flat_map (wire_record l.line) (take l.frame-index l.frames)

@@ -1,0 +1,140 @@
+//! The lines of a report: what each event delivered and dropped, and the last line.
+ghost use Rattle.std.specs.Prelude.{◌≡◌, ◌++◌, ◌∷◌, [], IfOk, OnOk, OnErr, flat_map};
+ghost use Rattle.std.specs.Fmt.{decimal};
+ghost use Rattle.replay_report.specs.Lines as spec;
+
+use crate::counts::Counts;
+use domain_model::{DropLine, GotLine, StepOut};
+use replay_text::{push_loss, push_number, push_payload};
+use std::alloc::Global;
+use wire_base::{M, Octets, RouterConf};
+
+/// The name of the router at a place; none of another place.
+fn name_at(routers: &[RouterConf], place: u16) -> &[u8]
+    ensures { result.now ≡ spec.name_at routers.now place }
+{
+    match routers.get(usize::from(place)) {
+        None => &[],
+        Some(router) => router.name.as_slice(),
+    }
+}
+
+/// Appends the number of a line, what it tells, and the name of a router, with a blank behind.
+fn push_front(out: &mut Octets, line: u32, what: &[u8], router: &[u8]) -> M<()>
+    ensures { OnOk result (out.new ≡ out.old ++ (decimal line ++ (what.now ++ (router.now ++ 32 ∷ [])))) }
+{
+    out.append_number(u64::from(line))?;
+    out.append(what)?;
+    out.append(router)?;
+    out.push(b' ')
+}
+
+/// Appends the line of a delivery.
+fn push_got(out: &mut Octets, routers: &[RouterConf], line: u32, got: &GotLine) -> M<()>
+    ensures { OnOk result (out.new ≡ out.old ++ spec.got_text routers.now line got.now) }
+{
+    push_front(out, line, b" got ", name_at(routers, got.router))?;
+    push_number(out, got.injection)?;
+    push_number(out, u32::from(got.id))?;
+    push_payload(out, got.payload.as_slice())?;
+    out.push(b'\n')
+}
+
+/// Appends the number of an injection, or `-` where there is none.
+fn push_injection(out: &mut Octets, injection: Option<u32>) -> M<()>
+    ensures { OnOk result (out.new ≡ out.old ++ spec.injection_text injection) }
+{
+    match injection {
+        None => out.push(b'-'),
+        Some(number) => out.append_number(u64::from(number)),
+    }
+}
+
+/// Appends the line of a drop.
+fn push_drop(out: &mut Octets, routers: &[RouterConf], line: u32, dropped: &DropLine) -> M<()>
+    ensures { OnOk result (out.new ≡ out.old ++ spec.drop_text routers.now line dropped.now) }
+{
+    push_front(out, line, b" drop ", name_at(routers, dropped.router))?;
+    push_injection(out, dropped.injection)?;
+    out.push(b' ')?;
+    push_loss(out, &dropped.cause, dropped.ids.as_slice())
+}
+
+fn push_gots(out: &mut Octets, routers: &[RouterConf], line: u32, gots: &[GotLine]) -> M<()>
+    ensures { OnOk result (out.new ≡ out.old ++ flat_map (spec.got_text routers.now line) gots.now) }
+{
+    for got in gots {
+        push_got(out, routers, line, got)?;
+    }
+    Ok(())
+}
+
+fn push_drops(out: &mut Octets, routers: &[RouterConf], line: u32, drops: &[DropLine]) -> M<()>
+    ensures { OnOk result (out.new ≡ out.old ++ flat_map (spec.drop_text routers.now line) drops.now) }
+{
+    for dropped in drops {
+        push_drop(out, routers, line, dropped)?;
+    }
+    Ok(())
+}
+
+/// The lines of an event, apart.
+fn lines_of(alloc: Global, routers: &[RouterConf], line: u32, made: &StepOut) -> M<Octets>
+    ensures { IfOk result (λ text. text ≡ spec.event_text routers.now line made.now.got made.now.drops) }
+{
+    let mut text = Octets::new(alloc);
+    push_gots(&mut text, routers, line, made.got.as_slice())?;
+    push_drops(&mut text, routers, line, made.drops.as_slice())?;
+    Ok(text)
+}
+
+/// Appends the lines of an event that stands in a line of the schedule: its deliveries, as
+/// `LINE got ROUTER INJECTION ID PAYLOAD`, and then its drops, as `LINE drop ROUTER INJECTION CAUSE IDS`, where the injection is
+/// `-` for what carries no packet. Where memory is refused, nothing is appended.
+pub fn push_event(
+    alloc: Global,
+    out: &mut Octets,
+    routers: &[RouterConf],
+    line: u32,
+    made: &StepOut,
+) -> M<()>
+    ensures ok { OnOk result (out.new ≡ out.old ++ spec.event_text routers.now line made.now.got made.now.drops) }
+    ensures err { OnErr result (out.new ≡ out.old) }
+{
+    let text = lines_of(alloc, routers, line, made)?;
+    out.append(text.as_slice())
+}
+
+/// Appends words and the number behind them.
+fn push_count(out: &mut Octets, what: &[u8], count: u64) -> M<()>
+    ensures { OnOk result (out.new ≡ out.old ++ (what.now ++ decimal count)) }
+{
+    out.append(what)?;
+    out.append_number(count)
+}
+
+/// The last line, apart.
+fn done_line(alloc: Global, lines: u64, counts: &Counts, flight: u64) -> M<Octets>
+    ensures { IfOk result (λ text. text ≡ spec.done_text lines counts.now flight) }
+{
+    let mut text = Octets::new(alloc);
+    push_count(&mut text, b"done lines ", lines)?;
+    push_count(&mut text, b" injected ", counts.injected)?;
+    push_count(&mut text, b" named ", counts.named)?;
+    push_count(&mut text, b" got ", counts.got)?;
+    push_count(&mut text, b" dropped ", counts.dropped)?;
+    push_count(&mut text, b" flight ", flight)?;
+    text.push(b'\n')?;
+    Ok(text)
+}
+
+/// Appends the last line of a report on a schedule of so many lines, all of which were done:
+/// `done lines L injected I named N got G dropped D flight F`, with the counts of the run and the number of BFR-ids that are on
+/// the way. Where memory is refused, nothing is appended.
+pub fn push_done(alloc: Global, out: &mut Octets, lines: u64, counts: &Counts, flight: u64) -> M<()>
+    ensures ok { OnOk result (out.new ≡ out.old ++ spec.done_text lines counts.now flight) }
+    ensures err { OnErr result (out.new ≡ out.old) }
+{
+    let text = done_line(alloc, lines, counts, flight)?;
+    out.append(text.as_slice())
+}
