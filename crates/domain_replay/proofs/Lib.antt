@@ -8,3 +8,5 @@ pub mod InTurn
 pub mod SendLaws
 mod LineTells
 mod SameDomain
+pub mod CourseLaws
+pub mod RoundLaws

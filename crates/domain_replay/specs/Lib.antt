@@ -4,3 +4,4 @@ pub use Rattle.replay_report.specs.Counting
 pub mod Texts
 pub mod Telling
 pub mod Replaying
+pub mod Courses

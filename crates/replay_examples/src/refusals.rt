@@ -3,19 +3,15 @@ ghost use Rattle.wire_base.specs.declared.cause.Cause.TheVariants as cause;
 ghost use Rattle.wire_base.specs.declared.faults.EdgeFault.TheVariants as edge;
 ghost use Rattle.wire_base.specs.declared.faults.IpFault.TheVariants as ip;
 ghost use Rattle.wire_base.specs.declared.faults.PduFault.TheVariants as pdu;
-ghost use Rattle.domain_conf.specs.declared.fault.ConfFault.TheVariants as conf;
 ghost use Rattle.replay_text.specs.declared.fault.TextFault.TheVariants as text;
 ghost use Rattle.domain_model.specs.declared.fault.EventFault.TheVariants as event;
 ghost use Rattle.model_examples.specs.Domains.{pair};
 ghost use Rattle.replay_text.specs.Report.{cause_text};
-ghost use Rattle.domain_replay.specs.Lines.{conf_refused_text};
 ghost use Rattle.domain_replay.specs.Texts.{BadText, BadEvent, TooLong, refusal_text, run_text, schedule_reaches};
 ghost use Rattle.replay_examples.specs.Schedules.{said, too_few, nobody};
 
 /// How refusals are said, and causes with a number.
 pub fn lines_of_refusals()
-    ensures conf { conf_refused_text (conf.Duplicate (codes "router[1].system")) ≡ said (codes "refused conf 3 Duplicate router[1].system") }
-    ensures toml { conf_refused_text conf.Toml ≡ said (codes "refused conf 1 Toml -") }
     ensures hex { refusal_text 1 (BadText text.Hex) ≡ said (codes "refused 1 text 4 Hex") }
     ensures long { refusal_text 12 TooLong ≡ said (codes "refused 12 text 6 TooLong") }
     ensures edge { refusal_text 1 (BadEvent (event.Edge (edge.SiLarge 65535))) ≡ said (codes "refused 1 event 7 Edge 3 SiLarge 65535") }

@@ -9,8 +9,6 @@ use Rattle.replay_text.specs.Fault.{rule_text}
 use Rattle.replay_text.specs.Ids.{ids_text}
 use Rattle.replay_text.specs.Payload.{payload_text}
 use Rattle.replay_text.specs.Report.{line_of, cause_text}
-use Rattle.domain_conf.specs.declared.fault.ConfFault.{ConfFault}
-use Rattle.domain_conf.specs.Fault as conf
 use Rattle.domain_model.specs.declared.fault.EventFault.{EventFault}
 use Rattle.domain_model.specs.declared.fault.EventFault.TheVariants as event
 use Rattle.domain_model.specs.declared.lines.GotLine.{GotLine}
@@ -50,9 +48,7 @@ done_text lines counts flight =
     line_of (codes "done" ∷ codes "lines" ∷ decimal lines ∷ codes "injected" ∷ decimal counts.injected ∷ codes "named" ∷ decimal counts.named
     ∷ codes "got" ∷ decimal counts.got ∷ codes "dropped" ∷ decimal counts.dropped ∷ codes "flight" ∷ decimal flight ∷ [])
 
--- `refused conf N NAME PATH`
-abbrev pub conf_refused_text : ConfFault → List ℕ
-conf_refused_text why = line_of (codes "refused" ∷ codes "conf" ∷ decimal (conf.number_of why) ∷ conf.name_of why ∷ conf.path_of why ∷ [])
+-- ---- a line that is refused
 
 -- the rule that a text of more than 67,108,864 octets breaks
 abbrev pub too_long : List ℕ

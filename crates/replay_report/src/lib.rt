@@ -15,5 +15,5 @@ pub use capture::push_frames;
 pub use counts::Counts;
 pub use direction::{Direction, directions};
 pub use lines::{push_done, push_event};
-pub use refused::{push_conf_refused, push_event_refused, push_text_refused, push_too_long};
+pub use refused::{push_event_refused, push_text_refused, push_too_long};
 pub use texts::Texts;

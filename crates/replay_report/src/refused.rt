@@ -1,48 +1,16 @@
-//! The line that ends a report where a domain file or a line of a schedule is refused.
+//! The line that ends a report where a line of a schedule is refused.
 ghost use Rattle.std.specs.Prelude.{◌≡◌, ◌≢◌, ◌++◌, ◌∷◌, [], IfOk, OnOk, OnErr, codes};
 ghost use Rattle.std.specs.Fmt.{decimal};
 ghost use Rattle.wire_base.specs.declared.faults.EdgeFault.TheVariants as edges;
 ghost use Rattle.replay_text.specs.declared.fault.TextFault.TheVariants as texts;
-ghost use Rattle.domain_conf.specs.declared.fault.ConfFault.TheVariants as confs;
 ghost use Rattle.domain_model.specs.declared.fault.EventFault.TheVariants as events;
 ghost use Rattle.replay_text.specs.Fault.{rule_text, fault_text};
 ghost use Rattle.replay_report.specs.Lines as spec;
 
-use domain_conf::ConfFault;
 use domain_model::EventFault;
 use replay_text::{TextFault, push_rule};
 use std::alloc::Global;
 use wire_base::{EdgeFault, M, Memory, Octets};
-
-/// The line of a domain file that is refused, apart.
-fn conf_line(alloc: Global, why: &ConfFault) -> M<Octets>
-    ensures known { OnOk result (why.now ≢ confs.Memory) }
-    ensures text { IfOk result (λ text. text ≡ spec.conf_refused_text why.now) }
-{
-    if let ConfFault::Memory = why {
-        return Err(Memory);
-    }
-    let mut text = Octets::new(alloc);
-    text.append(b"refused conf ")?;
-    text.append_number(u64::from(why.number()))?;
-    text.push(b' ')?;
-    text.append(why.name())?;
-    text.push(b' ')?;
-    text.append(why.path())?;
-    text.push(b'\n')?;
-    Ok(text)
-}
-
-/// Appends the line of a domain file that is refused: `refused conf N NAME PATH`. Want of memory is passed on, and then, or where
-/// memory is refused, nothing is appended.
-pub fn push_conf_refused(alloc: Global, out: &mut Octets, why: &ConfFault) -> M<()>
-    ensures known { OnOk result (why.now ≢ confs.Memory) }
-    ensures ok { OnOk result (out.new ≡ out.old ++ spec.conf_refused_text why.now) }
-    ensures err { OnErr result (out.new ≡ out.old) }
-{
-    let text = conf_line(alloc, why)?;
-    out.append(text.as_slice())
-}
 
 /// The line of a text that breaks a rule, apart.
 fn text_line(alloc: Global, line: u64, number: u8, name: &[u8]) -> M<Octets>

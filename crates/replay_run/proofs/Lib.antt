@@ -1,16 +1,5 @@
-pub mod Asked
-pub mod WordForms
-pub mod DomainFiles
 pub mod Owed
 pub mod Replays
 pub mod Nodes
 pub mod Quiet
 pub mod RunsDone
-pub mod NamedOnce
-pub mod ScheduleSteps
-pub mod Wrote
-pub mod Rounds
-pub mod SaidSteps
-pub mod Grown
-pub mod ScheduleLoop
-pub mod Growing

@@ -1,5 +1,5 @@
 -- What a command did is what a run owes.
-use Rattle.std.proofs.Common.{◌≡◌, ℕ, ◌<◌, List, [], Option, Some, None, refl, sym, subst, ◌∙◌, arith, append-nil, inl, inr}
+use Rattle.std.proofs.Common.{◌≡◌, ℕ, ◌<◌, List, [], Option, Some, None, refl, sym, subst, ◌∙◌, arith, inl, inr}
 use Rattle.std.specs.Prelude.{IfSome, ◌⊎◌, Result, Ok, Err}
 use Rattle.std.specs.Io.KnownBytes.{Appends}
 use Rattle.wire_base.specs.declared.status.Status.{Status}
@@ -8,15 +8,16 @@ use Rattle.wire_base.specs.declared.conf.RouterConf.{RouterConf}
 use Rattle.wire_base.specs.model.Configuration.{DomainConf}
 use Rattle.domain_conf.specs.Domain.{domain_of}
 use Rattle.domain_conf.specs.declared.fault.ConfFault.{ConfFault}
-use Rattle.replay_run.specs.declared.words.Form.{Form}
-use Rattle.replay_run.specs.declared.words.Form.TheVariants.{Replay, Node, Hop, Headers, Grow, Unknown}
-use Rattle.replay_run.specs.Words.{usage_text}
-use Rattle.replay_run.specs.Routers.{router_named}
-use Rattle.replay_run.specs.Grow.{grow_answer}
+use Rattle.node_run.specs.declared.words.Form.{Form}
+use Rattle.node_run.specs.declared.words.Form.TheVariants.{Replay, Node, Hop, Headers, Grow, Unknown}
+use Rattle.node_run.specs.Words.{usage_text}
+use Rattle.node_run.specs.Routers.{router_named}
+use Rattle.grow_run.specs.Grow.{grow_answer}
 use Rattle.tool_run.specs.HopText.{hop_answer, packets_of, IsAllowed}
 use Rattle.tool_run.specs.Partition.{Reports}
 use Rattle.tool_run.specs.Answer.{Verdict}
-use Rattle.replay_run.specs.Verdict.{verdict, reported, replay_on, node_by, node_on}
+use Rattle.replay_run.specs.Verdict.{verdict, replay_on, node_on}
+use Rattle.node_run.specs.Named.{reported, node_by}
 use Rattle.tool_run.specs.Answer.{IsDecided}
 use Rattle.replay_run.specs.Judged.{OnHeld}
 use Rattle.tool_run.specs.Outside.{Held, Gave, Meets, AppendsFront}
@@ -24,19 +25,7 @@ use Rattle.tool_run.proofs.Packets.{all_parted}
 use Rattle.tool_run.specs.HeadersText.{headers_answer, IsRead}
 use Rattle.tool_run.proofs.Inputs.{allowed_done}
 use Rattle.tool_run.proofs.Captures.{read_done}
-
-pub nothing_more : (known : Option (List ℕ)) → Appends known known []
-nothing_more None = tt
-nothing_more (Some xs) = sym (append-nil xs)
-
--- nothing is the front of each text
-pub no_front : (known : Option (List ℕ)) (text : List ℕ) → AppendsFront known known text
-no_front known text = (0, nothing_more known)
-
--- a source may have held something
-pub held_some : (left : Option (List ℕ)) → (octets : List ℕ) × Held left octets
-held_some None = ([], tt)
-held_some (Some octets) = (octets, refl)
+use Rattle.node_run.proofs.Told.{nothing_more, no_front, held_some, ended_so}
 
 -- ---- verdicts on what was held
 
@@ -213,17 +202,6 @@ usage_holds router conf left Holds holds =
     let file = held_some conf in
     let octets = held_some left in
     (file.0, octets.0, file.1, octets.1, holds)
-
--- of a call that ends so or with a write fault
-pub ended_so : (wanted s : Status) → IsDecided s → (s ≡ wanted) ⊎ (s ≡ WriteFault) → s ≡ wanted
-ended_so wanted s decided (inl e) = e
-ended_so wanted s decided (inr e) = absurd (subst IsDecided e decided)
-
--- and a call that takes no memory stops at a fault of its sink alone
-pub write_fault : (wanted s : Status) → IsDecided wanted → (s ≡ wanted) ⊎ (s ≡ WriteFault) → (s ≡ WriteFault) ⊎ (s ≡ Memory) → s ≡ WriteFault
-write_fault wanted s decided (inr e) stopped = e
-write_fault wanted s decided (inl e) (inl failed) = failed
-write_fault wanted s decided (inl e) (inr memory) = absurd (subst IsDecided (sym e ∙ memory) decided)
 
 pub usage_meets : (router : List ℕ) (conf left before now frames : Option (List ℕ)) (result : Status) → IsDecided result → (result ≡ Usage) ⊎ (result ≡ WriteFault) → Appends before now usage_text
     → OnHeld Unknown router conf left (λ owed. Meets owed result before now frames frames)

@@ -12,12 +12,12 @@ use Rattle.tool_run.specs.HopText.{hop_cut}
 use Rattle.tool_run.specs.Headers.{IsOpen, lines_of}
 use Rattle.tool_run.specs.NodeRun.{node_cut, node_reached}
 use Rattle.tool_run.specs.Outside.{Gave, Meets, AppendsFront}
-use Rattle.replay_run.specs.declared.words.Form.{Form}
-use Rattle.replay_run.specs.declared.words.Form.TheVariants.{Replay, Node, Hop, Headers, Unknown}
-use Rattle.replay_run.specs.DomainFile.{Says}
-use Rattle.replay_run.specs.Routers.{SaysRouter}
-use Rattle.replay_run.specs.ScheduleText.{schedule_cut}
-use Rattle.replay_run.specs.Words.{IsGrow}
+use Rattle.node_run.specs.declared.words.Form.{Form}
+use Rattle.node_run.specs.declared.words.Form.TheVariants.{Replay, Node, Hop, Headers, Unknown}
+use Rattle.node_run.specs.DomainFile.{Says}
+use Rattle.node_run.specs.Routers.{SaysRouter}
+use Rattle.schedule_run.specs.ScheduleText.{schedule_cut}
+use Rattle.node_run.specs.Words.{IsGrow}
 
 -- the status of a run that could be done, where no count rose
 abbrev pub DoneOrMemory : Status → Type 0

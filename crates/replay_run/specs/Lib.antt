@@ -1,12 +1,6 @@
-pub mod Words
-pub mod Grow
 pub mod Verdict
-pub mod ScheduleText
-pub mod DomainFile
-pub mod Routers
 pub mod Judged
 pub mod Replayed
-pub mod Scheduling
 pub mod RunDone
 pub mod Faults
 pub mod Endings

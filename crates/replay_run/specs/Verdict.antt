@@ -1,26 +1,20 @@
 -- What a run owes on its words and on what its sources hold.
-use Rattle.std.specs.Prelude.{ℕ, List, [], Option, Some, None, option_map, Result, Ok, Err}
-use Rattle.wire_base.specs.declared.status.Status.{Status}
+use Rattle.std.specs.Prelude.{ℕ, List, Option, Some, None, option_map, Result, Ok, Err}
 use Rattle.wire_base.specs.declared.status.Status.TheVariants as status
-use Rattle.wire_base.specs.declared.conf.RouterConf.{RouterConf}
 use Rattle.wire_base.specs.model.Configuration.{DomainConf}
 use Rattle.domain_conf.specs.Domain.{domain_of}
 use Rattle.domain_conf.specs.declared.fault.ConfFault.{ConfFault}
-use Rattle.domain_replay.specs.Lines.{conf_refused_text}
+use Rattle.node_run.specs.DomainFile.{conf_refused_text}
 use Rattle.tool_run.specs.Answer.{Verdict}
-use Rattle.replay_run.specs.declared.words.Form.{Form}
-use Rattle.replay_run.specs.declared.words.Form.TheVariants.{Replay, Node, Hop, Headers, Grow, Unknown}
-use Rattle.replay_run.specs.Words.{usage_text}
-use Rattle.replay_run.specs.Routers.{router_named, no_router_text}
+use Rattle.node_run.specs.declared.words.Form.{Form}
+use Rattle.node_run.specs.declared.words.Form.TheVariants.{Replay, Node, Hop, Headers, Grow, Unknown}
+use Rattle.node_run.specs.Words.{usage_text}
+use Rattle.node_run.specs.Routers.{router_named}
 use Rattle.tool_run.specs.HopText.{hop_answer}
 use Rattle.tool_run.specs.HeadersText.{headers_answer}
-use Rattle.tool_run.specs.NodeRun.{node_answer}
-use Rattle.replay_run.specs.ScheduleText.{schedule_answer}
-use Rattle.replay_run.specs.Grow.{grow_answer}
-
--- a status and a report, where no frame is written
-abbrev pub reported : Status × List ℕ → Verdict
-reported answer = record { status = answer.0; report = answer.1; frames = [] }
+use Rattle.schedule_run.specs.ScheduleText.{schedule_answer}
+use Rattle.grow_run.specs.Grow.{grow_answer}
+use Rattle.node_run.specs.Named.{reported, node_by}
 
 -- on a domain file that breaks a rule
 abbrev pub conf_refused : ConfFault → Verdict
@@ -34,11 +28,6 @@ replay_on (Ok d) schedule = option_map (λ (octets : List ℕ). schedule_answer 
 abbrev pub replay_verdict : (conf schedule : Option (List ℕ)) → Option Verdict
 replay_verdict None schedule = None
 replay_verdict (Some file) schedule = replay_on (domain_of file) schedule
-
--- on the router that a word names: where it names none, the capture doesn't matter
-abbrev pub node_by : Option RouterConf → (capture : Option (List ℕ)) → Option Verdict
-node_by None capture = Some (reported (status.ConfRefused, no_router_text))
-node_by (Some own) capture = option_map (λ (octets : List ℕ). node_answer own octets) capture
 
 -- on what a domain file says: where it breaks a rule, neither the router nor the capture matters
 abbrev pub node_on : Result DomainConf ConfFault → (router : List ℕ) → (capture : Option (List ℕ)) → Option Verdict

@@ -5,12 +5,8 @@
 //! that each status has its cause, and what a stop leaves.
 #![tactic(auto)]
 
-mod domain_file;
-mod grow;
 mod node;
-mod replay;
 mod top;
-mod words;
 
 pub use tool_run::packets_are_parted;
 pub use top::run;

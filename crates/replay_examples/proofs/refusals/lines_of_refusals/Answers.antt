@@ -2,14 +2,6 @@ use Rattle.std.proofs.Common.{refl}
 use Rattle.std.specs.Fmt.{digits}
 use Rattle.replay_examples.proofs.refusals.lines_of_refusals.Goals as goal
 
-pub returns-clause-conf : goal.returns-clause-conf
-unfolding digits
-returns-clause-conf c = refl
-
-pub returns-clause-toml : goal.returns-clause-toml
-unfolding digits
-returns-clause-toml c = refl
-
 pub returns-clause-hex : goal.returns-clause-hex
 unfolding digits
 returns-clause-hex c = refl

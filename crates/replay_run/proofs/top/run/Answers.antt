@@ -1,7 +1,8 @@
 use Rattle.std.proofs.Common.{sym, ◌∙◌}
-use Rattle.replay_run.specs.declared.words.Form.TheVariants as form
+use Rattle.node_run.specs.declared.words.Form.TheVariants as form
 use Rattle.tool_run.specs.Outside.{Meets, AppendsFront}
-use Rattle.replay_run.proofs.Owed.{told, in_form, no_fault, hop_meets, hop_front, hop_done, hop_reports, headers_meets, headers_front, headers_done, grow_meets, grow_front, usage_meets, usage_front, write_fault}
+use Rattle.replay_run.proofs.Owed.{told, in_form, no_fault, hop_meets, hop_front, hop_done, hop_reports, headers_meets, headers_front, headers_done, grow_meets, grow_front, usage_meets, usage_front}
+use Rattle.node_run.proofs.Told.{write_fault}
 use Rattle.replay_run.proofs.Quiet.{no_fault_of_four, quiet_sink}
 use Rattle.replay_run.proofs.Replays.{replay_done, in_replay}
 use Rattle.replay_run.proofs.RunsDone.{run_done}

@@ -1,0 +1,5 @@
+pub mod Asked
+pub mod WordForms
+pub mod DomainFiles
+pub mod Told
+pub mod Named

@@ -1,0 +1,4 @@
+pub mod Words
+pub mod DomainFile
+pub mod Routers
+pub mod Named

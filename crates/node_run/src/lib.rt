@@ -1,0 +1,16 @@
+//! What the program does before a domain is at work: its words, the domain file that they name, and the command `node`, which runs
+//! one router of that domain.
+//!
+//! It stands on `domain_conf` and `tool_run`, and promises the form of the words, that a domain is the one that the file says and a
+//! refusal the rule that it breaks, and that `node` runs the router of the name.
+#![tactic(auto)]
+
+mod domain_file;
+mod node;
+mod refusals;
+mod words;
+
+pub use domain_file::{NoDomain, domain_in};
+pub use node::node_in;
+pub use refusals::lines_of_refused_files;
+pub use words::{Form, USAGE, form_of, router_word};

@@ -1,9 +1,0 @@
-use Rattle.std.proofs.Common.{ap, ◌∙◌}
-use Rattle.domain_replay.specs.Telling.{first_telling}
-use Rattle.replay_run.proofs.grow.answer.Goals as goal
-
-pub run-requires-clause-start : goal.run-requires-clause-start
-run-requires-clause-start c = c.in_ok-replay.ensures ∙ ap first_telling c.in_ok-domain.ensures
-
-pub run-requires-clause-lines : goal.run-requires-clause-lines
-run-requires-clause-lines c = c.as_slice.ensures ∙ c.in_ok-lines.ensures
