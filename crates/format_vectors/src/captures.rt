@@ -1,179 +1,85 @@
 //! Captures whose records were written down by hand.
 ghost use Rattle.std.specs.Prelude.{◌<◌};
 
-use pcap_frames::{Reader, write_cap_header, write_cap_record};
+use crate::told::Told;
+use pcap_frames::{CapRecord, Reader};
 use std::test::Fail;
-use wire_base::{CaptureFault, M, Memory, Octets};
+use wire_base::CaptureFault;
 
-/// The second, the microsecond, whether the frame is whole, and its octets.
-type Row<'a> = (u32, u32, bool, &'a [u8]);
+/// Captures, their records, and what stands after these. A record has its second and microsecond, whether its frame is whole, and
+/// its octets.
+const CAPTURES: &str = "\
+d4c3b2a1020004000700000008000000ffff00000100000064000000050000000300000003000000010203ffffffff3f420f000000000007000000 -> 100.5 whole 010203, 4294967295.999999 cut -, end
+a1b2c3d40002000400000007000000080000ffff0000000100000064000000050000000300000003010203ffffffff000f423f0000000000000007 -> 100.5 whole 010203, 4294967295.999999 cut -, end
+4d3cb2a1020004000700000008000000ffff000001000000640000006f1700000300000002000000010203ffffffffffffffff010000000100000009 -> 100.5 cut 010203, 4294967295.4294967 whole 09, end
+a1b23c4d0002000400000007000000080000ffff50000001000000640000176f0000000300000002010203ffffffffffffffff000000010000000109 -> 100.5 cut 010203, 4294967295.4294967 whole 09, end
+d4c3b2a1020004000700000008000000ffff000001000000 -> end
+ -> fault 4 CutHeader
+d4c3b2a1020004000700000008000000ffff0000010000 -> fault 4 CutHeader
+000000 -> fault 4 CutHeader
+d4c3b2a2 -> fault 1 Magic
+1f8b0800d4c3b2a1020004000700000008000000ffff00000100000064000000050000000300000003000000010203ffffffff3f420f000000000007000000 -> fault 1 Magic
+d4c3b2a1020003000700000008000000ffff00000500000064000000050000000300000003000000010203ffffffff3f420f000000000007000000 -> fault 2 Version
+d4c3b2a1040002000700000008000000ffff00000100000064000000050000000300000003000000010203ffffffff3f420f000000000007000000 -> fault 2 Version
+a1b2c3d40002000400000007000000080000ffff0001000000000064000000050000000300000003010203ffffffff000f423f0000000000000007 -> fault 3 LinkType
+d4c3b2a1020004000700000008000000ffff00000100000064000000050000000300000003000000010203ffffffff3f420f00000000000700000000 -> 100.5 whole 010203, 4294967295.999999 cut -, fault 5 CutRecord
+d4c3b2a1020004000700000008000000ffff00000100000064000000050000000300000003000000010203ffffffff3f420f0000000000070000000100000002000000020000000200000061 -> 100.5 whole 010203, 4294967295.999999 cut -, fault 5 CutRecord
+d4c3b2a1020004000700000008000000ffff00000100000064000000050000000300000003000000010203ffffffff3f420f00000000000700000001000000020000000100040001000400 -> 100.5 whole 010203, 4294967295.999999 cut -, fault 6 LongRecord
+d4c3b2a1020004000700000008000000ffff00000100000064000000050000000300000003000000010203ffffffff3f420f000000000007000000010000000200000001000400010004 -> 100.5 whole 010203, 4294967295.999999 cut -, fault 5 CutRecord";
 
-const TWO: [Row<'static>; 2] = [
-    (100, 5, true, b"\x01\x02\x03"),
-    (4_294_967_295, 999_999, false, b""),
-];
-
-const TWO_IN_NANOSECONDS: [Row<'static>; 2] = [
-    (100, 5, false, b"\x01\x02\x03"),
-    (4_294_967_295, 4_294_967, true, b"\x09"),
-];
-
-/// Captures, their records, and the fault after these.
-const CAPTURES: [(&[u8], &[Row<'static>], Option<CaptureFault>); 17] = [
-    (
-        b"\xd4\xc3\xb2\xa1\x02\x00\x04\x00\x07\x00\x00\x00\x08\x00\x00\x00\xff\xff\x00\x00\x01\x00\x00\x00\x64\x00\x00\x00\x05\x00\x00\x00\x03\x00\x00\x00\x03\x00\x00\x00\x01\x02\x03\xff\xff\xff\xff\x3f\x42\x0f\x00\x00\x00\x00\x00\x07\x00\x00\x00",
-        &TWO,
-        None,
-    ),
-    (
-        b"\xa1\xb2\xc3\xd4\x00\x02\x00\x04\x00\x00\x00\x07\x00\x00\x00\x08\x00\x00\xff\xff\x00\x00\x00\x01\x00\x00\x00\x64\x00\x00\x00\x05\x00\x00\x00\x03\x00\x00\x00\x03\x01\x02\x03\xff\xff\xff\xff\x00\x0f\x42\x3f\x00\x00\x00\x00\x00\x00\x00\x07",
-        &TWO,
-        None,
-    ),
-    (
-        b"\x4d\x3c\xb2\xa1\x02\x00\x04\x00\x07\x00\x00\x00\x08\x00\x00\x00\xff\xff\x00\x00\x01\x00\x00\x00\x64\x00\x00\x00\x6f\x17\x00\x00\x03\x00\x00\x00\x02\x00\x00\x00\x01\x02\x03\xff\xff\xff\xff\xff\xff\xff\xff\x01\x00\x00\x00\x01\x00\x00\x00\x09",
-        &TWO_IN_NANOSECONDS,
-        None,
-    ),
-    (
-        b"\xa1\xb2\x3c\x4d\x00\x02\x00\x04\x00\x00\x00\x07\x00\x00\x00\x08\x00\x00\xff\xff\x50\x00\x00\x01\x00\x00\x00\x64\x00\x00\x17\x6f\x00\x00\x00\x03\x00\x00\x00\x02\x01\x02\x03\xff\xff\xff\xff\xff\xff\xff\xff\x00\x00\x00\x01\x00\x00\x00\x01\x09",
-        &TWO_IN_NANOSECONDS,
-        None,
-    ),
-    (
-        b"\xd4\xc3\xb2\xa1\x02\x00\x04\x00\x07\x00\x00\x00\x08\x00\x00\x00\xff\xff\x00\x00\x01\x00\x00\x00",
-        &[],
-        None,
-    ),
-    (b"", &[], Some(CaptureFault::CutHeader)),
-    (
-        b"\xd4\xc3\xb2\xa1\x02\x00\x04\x00\x07\x00\x00\x00\x08\x00\x00\x00\xff\xff\x00\x00\x01\x00\x00",
-        &[],
-        Some(CaptureFault::CutHeader),
-    ),
-    (b"\x00\x00\x00", &[], Some(CaptureFault::CutHeader)),
-    (b"\xd4\xc3\xb2\xa2", &[], Some(CaptureFault::Magic)),
-    (
-        b"\x1f\x8b\x08\x00\xd4\xc3\xb2\xa1\x02\x00\x04\x00\x07\x00\x00\x00\x08\x00\x00\x00\xff\xff\x00\x00\x01\x00\x00\x00\x64\x00\x00\x00\x05\x00\x00\x00\x03\x00\x00\x00\x03\x00\x00\x00\x01\x02\x03\xff\xff\xff\xff\x3f\x42\x0f\x00\x00\x00\x00\x00\x07\x00\x00\x00",
-        &[],
-        Some(CaptureFault::Magic),
-    ),
-    (
-        b"\xd4\xc3\xb2\xa1\x02\x00\x03\x00\x07\x00\x00\x00\x08\x00\x00\x00\xff\xff\x00\x00\x05\x00\x00\x00\x64\x00\x00\x00\x05\x00\x00\x00\x03\x00\x00\x00\x03\x00\x00\x00\x01\x02\x03\xff\xff\xff\xff\x3f\x42\x0f\x00\x00\x00\x00\x00\x07\x00\x00\x00",
-        &[],
-        Some(CaptureFault::Version),
-    ),
-    (
-        b"\xd4\xc3\xb2\xa1\x04\x00\x02\x00\x07\x00\x00\x00\x08\x00\x00\x00\xff\xff\x00\x00\x01\x00\x00\x00\x64\x00\x00\x00\x05\x00\x00\x00\x03\x00\x00\x00\x03\x00\x00\x00\x01\x02\x03\xff\xff\xff\xff\x3f\x42\x0f\x00\x00\x00\x00\x00\x07\x00\x00\x00",
-        &[],
-        Some(CaptureFault::Version),
-    ),
-    (
-        b"\xa1\xb2\xc3\xd4\x00\x02\x00\x04\x00\x00\x00\x07\x00\x00\x00\x08\x00\x00\xff\xff\x00\x01\x00\x00\x00\x00\x00\x64\x00\x00\x00\x05\x00\x00\x00\x03\x00\x00\x00\x03\x01\x02\x03\xff\xff\xff\xff\x00\x0f\x42\x3f\x00\x00\x00\x00\x00\x00\x00\x07",
-        &[],
-        Some(CaptureFault::LinkType),
-    ),
-    (
-        b"\xd4\xc3\xb2\xa1\x02\x00\x04\x00\x07\x00\x00\x00\x08\x00\x00\x00\xff\xff\x00\x00\x01\x00\x00\x00\x64\x00\x00\x00\x05\x00\x00\x00\x03\x00\x00\x00\x03\x00\x00\x00\x01\x02\x03\xff\xff\xff\xff\x3f\x42\x0f\x00\x00\x00\x00\x00\x07\x00\x00\x00\x00",
-        &TWO,
-        Some(CaptureFault::CutRecord),
-    ),
-    (
-        b"\xd4\xc3\xb2\xa1\x02\x00\x04\x00\x07\x00\x00\x00\x08\x00\x00\x00\xff\xff\x00\x00\x01\x00\x00\x00\x64\x00\x00\x00\x05\x00\x00\x00\x03\x00\x00\x00\x03\x00\x00\x00\x01\x02\x03\xff\xff\xff\xff\x3f\x42\x0f\x00\x00\x00\x00\x00\x07\x00\x00\x00\x01\x00\x00\x00\x02\x00\x00\x00\x02\x00\x00\x00\x02\x00\x00\x00\x61",
-        &TWO,
-        Some(CaptureFault::CutRecord),
-    ),
-    (
-        b"\xd4\xc3\xb2\xa1\x02\x00\x04\x00\x07\x00\x00\x00\x08\x00\x00\x00\xff\xff\x00\x00\x01\x00\x00\x00\x64\x00\x00\x00\x05\x00\x00\x00\x03\x00\x00\x00\x03\x00\x00\x00\x01\x02\x03\xff\xff\xff\xff\x3f\x42\x0f\x00\x00\x00\x00\x00\x07\x00\x00\x00\x01\x00\x00\x00\x02\x00\x00\x00\x01\x00\x04\x00\x01\x00\x04\x00",
-        &TWO,
-        Some(CaptureFault::LongRecord),
-    ),
-    (
-        b"\xd4\xc3\xb2\xa1\x02\x00\x04\x00\x07\x00\x00\x00\x08\x00\x00\x00\xff\xff\x00\x00\x01\x00\x00\x00\x64\x00\x00\x00\x05\x00\x00\x00\x03\x00\x00\x00\x03\x00\x00\x00\x01\x02\x03\xff\xff\xff\xff\x3f\x42\x0f\x00\x00\x00\x00\x00\x07\x00\x00\x00\x01\x00\x00\x00\x02\x00\x00\x00\x01\x00\x04\x00\x01\x00\x04",
-        &TWO,
-        Some(CaptureFault::CutRecord),
-    ),
-];
-
-/// Appends a row.
-fn log_row(log: &mut Octets, (sec, usec, whole, octets): Row<'_>) -> M<()> {
-    log.append(&sec.to_be_bytes())?;
-    log.append(&usec.to_be_bytes())?;
-    log.push(u8::from(whole))?;
-    log.append_number(octets.len() as u64)?;
-    log.append(octets)
+fn tell_record(told: &mut Told, record: &CapRecord) {
+    told.number("", u64::from(record.sec));
+    told.number(".", u64::from(record.usec));
+    told.word(if record.whole { " whole" } else { " cut" });
+    told.digits(" ", record.octets.as_slice());
+    told.word(", ");
 }
 
-/// Appends the records that a reader gives until it has none, of which there are few, and answers its fault.
-fn log_records(log: &mut Octets, reader: &mut Reader) -> M<Option<CaptureFault>> {
+/// Tells the records that a reader gives until it has none, of which there are few, and answers its fault.
+fn tell_records(told: &mut Told, reader: &mut Reader) -> Result<(), CaptureFault> {
     for _ in 0..9 {
-        match reader.next() {
-            Ok(Some(record)) => {
-                log_row(
-                    log,
-                    (
-                        record.sec,
-                        record.usec,
-                        record.whole,
-                        record.octets.as_slice(),
-                    ),
-                )?;
-            }
-            Ok(None) => return Ok(None),
-            Err(CaptureFault::Memory) => return Err(Memory),
-            Err(fault) => return Ok(Some(fault)),
-        }
-    }
-    Ok(None)
-}
-
-/// Appends the records of a capture that comes in pieces of so many octets, and answers its fault.
-fn log_capture(
-    log: &mut Octets,
-    mut reader: Reader,
-    capture: &[u8],
-    size: usize,
-) -> M<Option<CaptureFault>>
-    requires { 0 < size }
-{
-    for piece in capture.chunks(size) {
-        reader.feed(piece)?;
-        let fault = log_records(log, &mut reader)?;
-        if fault.is_some() {
-            return Ok(fault);
-        }
-    }
-    match reader.next() {
-        Ok(None) => Ok(reader.finish().err()),
-        _ => Err(Memory),
-    }
-}
-
-#[test]
-fn captures_have_their_records(rt: HostRuntime) -> Result<(), Fail> {
-    for (capture, rows, fault) in &CAPTURES {
-        let mut expected = Octets::new(rt.alloc());
-        for row in *rows {
-            log_row(&mut expected, *row)?;
-        }
-        for size in [1usize, 7, 24, 1000] {
-            let mut log = Octets::new(rt.alloc());
-            let met = log_capture(&mut log, Reader::new(rt.alloc()), capture, size);
-            assert_eq!(rt; met, Ok(*fault));
-            assert_eq!(rt; log.as_slice(), expected.as_slice());
+        match reader.next()? {
+            Some(record) => tell_record(told, &record),
+            None => return Ok(()),
         }
     }
     Ok(())
 }
 
+/// Tells the records of a capture that comes in pieces of so many octets, and answers the fault behind them.
+fn read_pieces(
+    told: &mut Told,
+    mut reader: Reader,
+    capture: &[u8],
+    size: usize,
+) -> Result<(), CaptureFault>
+    requires { 0 < size }
+{
+    for piece in capture.chunks(size) {
+        if reader.feed(piece).is_err() {
+            return Err(CaptureFault::Memory);
+        }
+        tell_records(told, &mut reader)?;
+    }
+    match reader.next() {
+        Ok(None) => reader.finish(),
+        _ => Err(CaptureFault::Memory),
+    }
+}
+
 #[test]
-fn a_capture_is_written(rt: HostRuntime) -> Result<(), Fail> {
-    let mut out = Octets::new(rt.alloc());
-    assert!(rt; write_cap_header(&mut out).is_ok());
-    assert!(rt; write_cap_record(&mut out, 100, 5, b"\x01\x02\x03").is_ok());
-    assert_eq!(rt;
-        out.as_slice(),
-        b"\xd4\xc3\xb2\xa1\x02\0\x04\0\0\0\0\0\0\0\0\0\xff\xff\0\0\x01\0\0\0\x64\0\0\0\x05\0\0\0\x03\0\0\0\x03\0\0\0\x01\x02\x03".as_slice()
-    );
+fn captures_have_their_records(rt: HostRuntime) -> Result<(), Fail> {
+    for line in CAPTURES.lines() {
+        let (digits, wanted) = line.split_once(" -> ").ok_or("a line without an arrow")?;
+        let capture = hex::decode(rt.alloc(), digits)?;
+        for size in [1usize, 7, 24, 1000] {
+            let mut told = Told::new(rt.alloc());
+            match read_pieces(&mut told, Reader::new(rt.alloc()), capture.as_slice(), size) {
+                Ok(()) => told.word("end"),
+                Err(fault) => told.fault(fault.number(), fault.name()),
+            }
+            assert_eq!(rt; told.text(), wanted.as_bytes(), "at {digits} by {size}");
+        }
+    }
     Ok(())
 }

@@ -1,16 +1,26 @@
-//! Tables of octets and lines that another implementation read and wrote, or that were written down by hand, compared with what
-//! the readers and writers of TLVs, BIER Info, PDUs, captures and schedules give. There is nothing here but tests.
+//! Tables of octets and of what the readers of bit strings, headers, frames, tunnels, TLVs, PDUs, captures and domain files make
+//! of them, most of it computed elsewhere. There is nothing here but tests.
 #![tactic(auto)]
 
 #[cfg(test)]
+mod bit_strings;
+#[cfg(test)]
 mod captures;
+#[cfg(test)]
+mod domains;
 #[cfg(test)]
 mod entries;
 #[cfg(test)]
-mod infos;
+mod frames;
 #[cfg(test)]
-mod lines;
+mod headers;
+#[cfg(test)]
+mod infos;
 #[cfg(test)]
 mod pdus;
 #[cfg(test)]
-mod texts;
+mod rows;
+#[cfg(test)]
+mod told;
+#[cfg(test)]
+mod tunnels;

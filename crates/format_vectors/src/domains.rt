@@ -1,8 +1,9 @@
 //! Files that break one rule each, and domains whose values are known.
+use crate::told::Told;
 use domain_conf::read_domain;
 use std::alloc::{AllocError, Global};
 use std::test::Fail;
-use wire_base::{Domain, M, Octets, RouterConf};
+use wire_base::{Domain, End, OwnSub, RouterConf};
 
 // Three routers.
 const ROUTERS: &str =
@@ -87,79 +88,6 @@ routers | link = [{a='A',b='B',metric_ab=1,metric_ba=1},{a='B',b='A',metric_ab=1
 routers | link = [{a='A',b='B',metric_ab=1,metric_ba=1,mac_b='02:00:00:02:00:00'},{a='C-d_3',b='A',metric_ab=1,metric_ba=1}] => 3 Duplicate link[1].mac_a
 routers | link = [{a='A',b='B',metric_ab=1,metric_ba=1,mac_a='02:00:00:00:00:0a'},{a='B',b='C-d_3',metric_ab=1,metric_ba=1,mac_b='02:00:00:00:00:0A'}] => 3 Duplicate link[1].mac_b";
 
-// What a report says of a file.
-fn said(alloc: Global, text: &str) -> M<Octets> {
-    let mut out = Octets::new(alloc);
-    match read_domain(alloc, text.as_bytes()) {
-        Ok(domain) => show(&mut out, &domain)?,
-        Err(fault) => {
-            out.append_number(u64::from(fault.number()))?;
-            out.append(b" ")?;
-            out.append(fault.name())?;
-            out.append(b" ")?;
-            out.append(fault.path())?;
-        }
-    }
-    Ok(out)
-}
-
-fn push_numbers(out: &mut Octets, mark: &[u8], numbers: &[u8]) -> M<()> {
-    out.append(mark)?;
-    for n in numbers {
-        out.append(b".")?;
-        out.append_number(u64::from(*n))?;
-    }
-    Ok(())
-}
-
-fn show_router(out: &mut Octets, router: &RouterConf) -> M<()> {
-    out.append(router.name.as_slice())?;
-    push_numbers(out, b" ", &router.system.0)?;
-    push_numbers(out, b" ", &router.prefix.0)?;
-    push_numbers(out, b" area", router.area.as_slice())?;
-    if router.overload {
-        out.append(b" overload")?;
-    }
-    for sub in router.subs.as_slice() {
-        out.append(b" sd ")?;
-        out.append_number(u64::from(sub.sd))?;
-        out.append(b" id ")?;
-        out.append_number(u64::from(sub.id))?;
-        for range in sub.ranges.as_slice() {
-            out.append(b" labels ")?;
-            out.append_number(u64::from(range.bsl.bits()))?;
-            out.append(b"/")?;
-            out.append_number(u64::from(range.max_si))?;
-            out.append(b"/")?;
-            out.append_number(u64::from(range.label))?;
-        }
-    }
-    for end in router.ends.as_slice() {
-        push_numbers(out, b" to", &end.peer.0)?;
-        push_numbers(out, b" at", &end.peer_mac.0)?;
-        push_numbers(out, b" from", &end.own_mac.0)?;
-        out.append(b" metric ")?;
-        out.append_number(u64::from(end.metric))?;
-    }
-    out.append(b"\n")
-}
-
-fn show(out: &mut Octets, domain: &Domain) -> M<()> {
-    for router in domain.routers.as_slice() {
-        show_router(out, router)?;
-    }
-    Ok(())
-}
-
-// A copy of what a copy of the file's domain shows.
-fn shown_by_copies(alloc: Global, text: &str) -> M<Octets> {
-    let mut out = Octets::new(alloc);
-    if let Ok(domain) = read_domain(alloc, text.as_bytes()) {
-        show(&mut out, &domain.copy()?)?;
-    }
-    out.copy()
-}
-
 // What a file begins with, by its name in the table.
 fn head_of(name: &str) -> &'static str {
     match name {
@@ -180,18 +108,77 @@ fn file_of(alloc: Global, head: &str, more: &str) -> Result<String, AllocError> 
     Ok(text)
 }
 
+// Tells a copy of what a file says, or the first rule that it breaks.
+fn tell_file(told: &mut Told, alloc: Global, text: &str) {
+    match read_domain(alloc, text.as_bytes()) {
+        Ok(domain) => match domain.copy() {
+            Ok(copied) => tell_domain(told, &copied),
+            Err(_) => told.word("want of memory"),
+        },
+        Err(fault) => {
+            told.number("", u64::from(fault.number()));
+            told.word(" ");
+            told.octets(fault.name());
+            told.word(" ");
+            told.octets(fault.path());
+        }
+    }
+}
+
+fn tell_domain(told: &mut Told, domain: &Domain) {
+    for router in domain.routers.as_slice() {
+        tell_router(told, router);
+    }
+}
+
+fn tell_router(told: &mut Told, router: &RouterConf) {
+    told.octets(router.name.as_slice());
+    tell_numbers(told, " ", &router.system.0);
+    tell_numbers(told, " ", &router.prefix.0);
+    tell_numbers(told, " area", router.area.as_slice());
+    told.word(if router.overload { " overload" } else { "" });
+    for sub in router.subs.as_slice() {
+        tell_sub(told, sub);
+    }
+    for end in router.ends.as_slice() {
+        tell_end(told, end);
+    }
+    told.word("\n");
+}
+
+fn tell_numbers(told: &mut Told, word: &str, numbers: &[u8]) {
+    told.word(word);
+    for number in numbers {
+        told.number(".", u64::from(*number));
+    }
+}
+
+fn tell_sub(told: &mut Told, sub: &OwnSub) {
+    told.number(" sd ", u64::from(sub.sd));
+    told.number(" id ", u64::from(sub.id));
+    for range in sub.ranges.as_slice() {
+        told.number(" labels ", u64::from(range.bsl.bits()));
+        told.number("/", u64::from(range.max_si));
+        told.number("/", u64::from(range.label));
+    }
+}
+
+fn tell_end(told: &mut Told, end: &End) {
+    tell_numbers(told, " to", &end.peer.0);
+    tell_numbers(told, " at", &end.peer_mac.0);
+    tell_numbers(told, " from", &end.own_mac.0);
+    told.number(" metric ", u64::from(end.metric));
+}
+
 #[test]
 fn says_the_first_broken_rule(rt: HostRuntime) -> Result<(), Fail> {
     for line in BROKEN.lines() {
-        let Some((file, want)) = line.split_once(" => ") else {
-            return Err(Fail::new("a line of the table"));
-        };
-        let Some((head, more)) = file.split_once(" | ") else {
-            return Err(Fail::new("a file of the table"));
-        };
+        let (file, wanted) = line.split_once(" => ").ok_or("a line without an arrow")?;
+        let (head, more) = file.split_once(" | ").ok_or("a line without a file")?;
         let text = file_of(rt.alloc(), head, more)?;
-        let got = said(rt.alloc(), text.as_str())?;
-        assert_eq!(rt; got.as_slice(), want.as_bytes(), "at {more}");
+        let mut told = Told::new(rt.alloc());
+        tell_file(&mut told, rt.alloc(), text.as_str());
+        assert_eq!(rt; told.text(), wanted.as_bytes(), "at {more}");
     }
     Ok(())
 }
@@ -222,12 +209,11 @@ C-d_3 .0.255.0.0.0.3 .223.255.0.3 area.73.171 overload to.0.0.0.0.0.10 at.2.0.0.
 
 #[test]
 fn gives_what_a_file_says(rt: HostRuntime) -> Result<(), Fail> {
-    for (head, more, want) in [("", RING, RING_SHOWN), (FULL, GIVEN, GIVEN_SHOWN)] {
+    for (head, more, wanted) in [("", RING, RING_SHOWN), (FULL, GIVEN, GIVEN_SHOWN)] {
         let text = format!(in rt.alloc(); "{head}\n{more}")?;
-        let got = said(rt.alloc(), text.as_str())?;
-        assert_eq!(rt; got.as_slice(), want.as_bytes(), "at {more}");
-        let copied = shown_by_copies(rt.alloc(), text.as_str())?;
-        assert_eq!(rt; copied.as_slice(), want.as_bytes(), "copied at {more}");
+        let mut told = Told::new(rt.alloc());
+        tell_file(&mut told, rt.alloc(), text.as_str());
+        assert_eq!(rt; told.text(), wanted.as_bytes(), "at {more}");
     }
     Ok(())
 }
@@ -266,20 +252,21 @@ fn member(alloc: Global, subdomains: usize) -> Result<String, AllocError> {
     Ok(text)
 }
 
+fn is_beyond_limit(alloc: Global, text: &str) -> bool {
+    let mut told = Told::new(alloc);
+    tell_file(&mut told, alloc, text);
+    told.text() == b"7 Limit router[0]".as_slice()
+}
+
 #[test]
 fn counts_what_a_router_has(rt: HostRuntime) -> Result<(), Fail> {
-    for (text, want) in [
-        (star(rt.alloc(), 64)?, false),
-        (star(rt.alloc(), 65)?, true),
-        (member(rt.alloc(), 5)?, false),
-        (member(rt.alloc(), 6)?, true),
-    ] {
-        let got = said(rt.alloc(), text.as_str())?;
-        assert_eq!(rt;
-            got.as_slice() == b"7 Limit router[0]".as_slice(),
-            want,
-            "at {text}"
-        );
+    for links in [64, 65] {
+        let text = star(rt.alloc(), links)?;
+        assert_eq!(rt; is_beyond_limit(rt.alloc(), text.as_str()), links > 64);
+    }
+    for subdomains in [5, 6] {
+        let text = member(rt.alloc(), subdomains)?;
+        assert_eq!(rt; is_beyond_limit(rt.alloc(), text.as_str()), subdomains > 5);
     }
     Ok(())
 }
