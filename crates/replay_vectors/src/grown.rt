@@ -1,39 +1,64 @@
-//! Grown domains: the line that says what became of their packets, and words that ask for none.
-use crate::replays::ran;
+//! The links of small grown domains.
+ghost use Rattle.std.specs.Prelude.{◌≤◌};
+
+use grown_domain::grown;
+use std::alloc::Global;
 use std::test::Fail;
+use wire_base::M;
 
-// The number, the status and the report. A number has no sign, no leading zero and no blank, and is neither too small nor too large.
-const NUMBERS: &str = "\
-3 => 0 | grow 3 injected 16 named 48 got 48 dropped 0 flight 0
-12 => 0 | grow 12 injected 16 named 192 got 192 dropped 0 flight 0
-40 => 0 | grow 40 injected 16 named 640 got 640 dropped 0 flight 0
-2 => 2 | usage
-0 => 2 | usage
-251 => 2 | usage
-1000 => 2 | usage
-012 => 2 | usage
-+12 => 2 | usage
-12a => 2 | usage
- => 2 | usage";
+const THREE: &[(u16, u16)] = &[(0, 1), (1, 2), (2, 0)];
 
-const USAGE: &str =
-    "usage: bier_domain replay CONF SCHEDULE FRAMES | node CONF ROUTER CAPTURE FRAMES | hop INPUT | headers CAPTURE | grow N";
+const TEN: &[(u16, u16)] = &[
+    (0, 1),
+    (1, 2),
+    (2, 3),
+    (3, 4),
+    (4, 5),
+    (5, 6),
+    (6, 7),
+    (7, 8),
+    (8, 9),
+    (9, 0),
+    (0, 5),
+];
 
-#[test]
-fn grown_domains_are_summed_up(rt: HostRuntime) -> Result<(), Fail> {
-    let alloc = rt.alloc();
-    for line in NUMBERS.lines() {
-        let Some((number, wanted)) = line.split_once(" => ") else {
-            return Err(Fail::new("a line of the table"));
-        };
-        let grown = ran(alloc, &["grow", number], "", b"", 0, 200)?;
-        let report = str::from_utf8(grown.report.as_slice())
-            .unwrap_or("")
-            .trim_end();
-        let report = if report == USAGE { "usage" } else { report };
-        let said = format!(in alloc; "{} | {report}", grown.status.number())?;
-        assert_eq!(rt; said.as_str(), wanted, "at {line}");
-        assert!(rt; grown.frames.as_slice().is_empty(), "at {line}");
+const TWELVE: &[(u16, u16)] = &[
+    (0, 1),
+    (1, 2),
+    (2, 3),
+    (3, 4),
+    (4, 5),
+    (5, 6),
+    (6, 7),
+    (7, 8),
+    (8, 9),
+    (9, 10),
+    (10, 11),
+    (11, 0),
+    (0, 6),
+    (5, 11),
+    (10, 4),
+];
+
+/// Whether the links of a grown domain join those routers, in order.
+fn joins(alloc: Global, n: u16, wanted: &[(u16, u16)]) -> M<bool>
+    requires some { 3 ≤ n }
+    requires few { n ≤ 250 }
+{
+    let domain = grown(alloc, n)?;
+    let links = domain.links.as_slice();
+    let mut are_same = links.len() == wanted.len();
+    for (link, (a, b)) in links.iter().zip(wanted) {
+        are_same = are_same && link.a == *a && link.b == *b;
     }
+    Ok(are_same)
+}
+
+// In three routers the chord is a link of the ring; in ten the second one is the first turned round.
+#[test]
+fn chords_join_routers_without_a_link(rt: HostRuntime) -> Result<(), Fail> {
+    assert!(rt; joins(rt.alloc(), 3, THREE)?);
+    assert!(rt; joins(rt.alloc(), 10, TEN)?);
+    assert!(rt; joins(rt.alloc(), 12, TWELVE)?);
     Ok(())
 }

@@ -1,9 +1,9 @@
 //! Twelve routers in a ring with three chords, and twenty injections: each reaches each of the twelve.
-use crate::replays::{holds, replay};
+use crate::runs::{FREE, holds, run_row};
 use std::test::Fail;
 
 // Subdomain 0 has labels, and subdomain 1 a written table.
-const DOMAIN: &str = "\
+pub const TWELVE: &str = "\
 subdomain = [{ sd = 0, kind = 'mpls' }, { sd = 1, kind = 'configured' }]
 row = [{ sd = 1, bsl = 64, si = 0, bift = 5000 }]
 router = [
@@ -68,74 +68,283 @@ link = [
 ";
 
 // Ten routers inject for all twelve, in the one subdomain and then in the other.
-const SCHEDULE: &str = "\
-settle 40
-inject r0 0 256 1,2,3,4,5,6,7,8,9,10,11,12 64 0 00
-inject r1 0 256 1,2,3,4,5,6,7,8,9,10,11,12 64 1 00
-inject r2 0 256 1,2,3,4,5,6,7,8,9,10,11,12 64 2 00
-inject r3 0 256 1,2,3,4,5,6,7,8,9,10,11,12 64 3 00
-inject r4 0 256 1,2,3,4,5,6,7,8,9,10,11,12 64 4 00
-inject r5 0 256 1,2,3,4,5,6,7,8,9,10,11,12 64 5 00
-inject r6 0 256 1,2,3,4,5,6,7,8,9,10,11,12 64 6 00
-inject r7 0 256 1,2,3,4,5,6,7,8,9,10,11,12 64 7 00
-inject r8 0 256 1,2,3,4,5,6,7,8,9,10,11,12 64 8 00
-inject r9 0 256 1,2,3,4,5,6,7,8,9,10,11,12 64 9 00
-inject r0 1 64 1,2,3,4,5,6,7,8,9,10,11,12 64 0 00
-inject r1 1 64 1,2,3,4,5,6,7,8,9,10,11,12 64 1 00
-inject r2 1 64 1,2,3,4,5,6,7,8,9,10,11,12 64 2 00
-inject r3 1 64 1,2,3,4,5,6,7,8,9,10,11,12 64 3 00
-inject r4 1 64 1,2,3,4,5,6,7,8,9,10,11,12 64 4 00
-inject r5 1 64 1,2,3,4,5,6,7,8,9,10,11,12 64 5 00
-inject r6 1 64 1,2,3,4,5,6,7,8,9,10,11,12 64 6 00
-inject r7 1 64 1,2,3,4,5,6,7,8,9,10,11,12 64 7 00
-inject r8 1 64 1,2,3,4,5,6,7,8,9,10,11,12 64 8 00
-inject r9 1 64 1,2,3,4,5,6,7,8,9,10,11,12 64 9 00
-settle 40
+const GIVEN: &str = "\
+replay twelve schedule frames | settle 40 / \
+inject r0 0 256 1,2,3,4,5,6,7,8,9,10,11,12 64 0 00 / \
+inject r1 0 256 1,2,3,4,5,6,7,8,9,10,11,12 64 1 00 / \
+inject r2 0 256 1,2,3,4,5,6,7,8,9,10,11,12 64 2 00 / \
+inject r3 0 256 1,2,3,4,5,6,7,8,9,10,11,12 64 3 00 / \
+inject r4 0 256 1,2,3,4,5,6,7,8,9,10,11,12 64 4 00 / \
+inject r5 0 256 1,2,3,4,5,6,7,8,9,10,11,12 64 5 00 / \
+inject r6 0 256 1,2,3,4,5,6,7,8,9,10,11,12 64 6 00 / \
+inject r7 0 256 1,2,3,4,5,6,7,8,9,10,11,12 64 7 00 / \
+inject r8 0 256 1,2,3,4,5,6,7,8,9,10,11,12 64 8 00 / \
+inject r9 0 256 1,2,3,4,5,6,7,8,9,10,11,12 64 9 00 / \
+inject r0 1 64 1,2,3,4,5,6,7,8,9,10,11,12 64 0 00 / \
+inject r1 1 64 1,2,3,4,5,6,7,8,9,10,11,12 64 1 00 / \
+inject r2 1 64 1,2,3,4,5,6,7,8,9,10,11,12 64 2 00 / \
+inject r3 1 64 1,2,3,4,5,6,7,8,9,10,11,12 64 3 00 / \
+inject r4 1 64 1,2,3,4,5,6,7,8,9,10,11,12 64 4 00 / \
+inject r5 1 64 1,2,3,4,5,6,7,8,9,10,11,12 64 5 00 / \
+inject r6 1 64 1,2,3,4,5,6,7,8,9,10,11,12 64 6 00 / \
+inject r7 1 64 1,2,3,4,5,6,7,8,9,10,11,12 64 7 00 / \
+inject r8 1 64 1,2,3,4,5,6,7,8,9,10,11,12 64 8 00 / \
+inject r9 1 64 1,2,3,4,5,6,7,8,9,10,11,12 64 9 00 / \
+settle 40";
+
+// As another implementation tells it.
+const REPORT: &str = "\
+2 got r0 1 1 00
+3 got r1 2 2 00
+4 got r2 3 3 00
+5 got r3 4 4 00
+6 got r4 5 5 00
+7 got r5 6 6 00
+8 got r6 7 7 00
+9 got r7 8 8 00
+10 got r8 9 9 00
+11 got r9 10 10 00
+12 got r0 11 1 00
+13 got r1 12 2 00
+14 got r2 13 3 00
+15 got r3 14 4 00
+16 got r4 15 5 00
+17 got r5 16 6 00
+18 got r6 17 7 00
+19 got r7 18 8 00
+20 got r8 19 9 00
+21 got r9 20 10 00
+22 got r1 1 2 00
+22 got r1 11 2 00
+22 got r11 1 12 00
+22 got r11 11 12 00
+22 got r6 1 7 00
+22 got r6 11 7 00
+22 got r0 2 1 00
+22 got r0 12 1 00
+22 got r2 2 3 00
+22 got r2 12 3 00
+22 got r2 1 3 00
+22 got r2 11 3 00
+22 got r1 3 2 00
+22 got r1 13 2 00
+22 got r3 3 4 00
+22 got r3 13 4 00
+22 got r3 2 4 00
+22 got r3 12 4 00
+22 got r3 1 4 00
+22 got r3 11 4 00
+22 got r2 4 3 00
+22 got r2 14 3 00
+22 got r4 4 5 00
+22 got r4 14 5 00
+22 got r4 3 5 00
+22 got r4 13 5 00
+22 got r4 2 5 00
+22 got r4 12 5 00
+22 got r4 1 5 00
+22 got r4 11 5 00
+22 got r3 5 4 00
+22 got r3 15 4 00
+22 got r5 5 6 00
+22 got r5 15 6 00
+22 got r5 4 6 00
+22 got r5 14 6 00
+22 got r5 3 6 00
+22 got r5 13 6 00
+22 got r5 2 6 00
+22 got r5 12 6 00
+22 got r10 5 11 00
+22 got r10 15 11 00
+22 got r10 4 11 00
+22 got r10 14 11 00
+22 got r4 6 5 00
+22 got r4 16 5 00
+22 got r6 6 7 00
+22 got r6 16 7 00
+22 got r6 5 7 00
+22 got r6 15 7 00
+22 got r6 4 7 00
+22 got r6 14 7 00
+22 got r6 3 7 00
+22 got r6 13 7 00
+22 got r11 6 12 00
+22 got r11 16 12 00
+22 got r11 5 12 00
+22 got r11 15 12 00
+22 got r5 7 6 00
+22 got r5 17 6 00
+22 got r5 1 6 00
+22 got r5 11 6 00
+22 got r7 7 8 00
+22 got r7 17 8 00
+22 got r7 1 8 00
+22 got r7 11 8 00
+22 got r7 6 8 00
+22 got r7 16 8 00
+22 got r7 5 8 00
+22 got r7 15 8 00
+22 got r7 4 8 00
+22 got r7 14 8 00
+22 got r7 3 8 00
+22 got r7 13 8 00
+22 got r0 7 1 00
+22 got r0 17 1 00
+22 got r6 8 7 00
+22 got r6 18 7 00
+22 got r8 8 9 00
+22 got r8 18 9 00
+22 got r8 7 9 00
+22 got r8 17 9 00
+22 got r8 6 9 00
+22 got r8 16 9 00
+22 got r8 5 9 00
+22 got r8 15 9 00
+22 got r8 4 9 00
+22 got r8 14 9 00
+22 got r7 9 8 00
+22 got r7 19 8 00
+22 got r9 9 10 00
+22 got r9 19 10 00
+22 got r9 8 10 00
+22 got r9 18 10 00
+22 got r9 7 10 00
+22 got r9 17 10 00
+22 got r9 6 10 00
+22 got r9 16 10 00
+22 got r8 10 9 00
+22 got r8 20 9 00
+22 got r10 10 11 00
+22 got r10 20 11 00
+22 got r10 9 11 00
+22 got r10 19 11 00
+22 got r10 8 11 00
+22 got r10 18 11 00
+22 got r10 7 11 00
+22 got r10 17 11 00
+22 got r9 5 10 00
+22 got r9 15 10 00
+22 got r9 4 10 00
+22 got r9 14 10 00
+22 got r11 10 12 00
+22 got r11 20 12 00
+22 got r11 9 12 00
+22 got r11 19 12 00
+22 got r11 8 12 00
+22 got r11 18 12 00
+22 got r4 10 5 00
+22 got r4 20 5 00
+22 got r10 1 11 00
+22 got r10 11 11 00
+22 got r10 6 11 00
+22 got r10 16 11 00
+22 got r0 6 1 00
+22 got r0 16 1 00
+22 got r0 10 1 00
+22 got r0 20 1 00
+22 got r0 9 1 00
+22 got r0 19 1 00
+22 got r1 7 2 00
+22 got r1 17 2 00
+22 got r1 10 2 00
+22 got r1 20 2 00
+22 got r1 9 2 00
+22 got r1 19 2 00
+22 got r11 2 12 00
+22 got r11 12 12 00
+22 got r11 7 12 00
+22 got r11 17 12 00
+22 got r6 2 7 00
+22 got r6 12 7 00
+22 got r0 3 1 00
+22 got r0 13 1 00
+22 got r2 10 3 00
+22 got r2 20 3 00
+22 got r1 4 2 00
+22 got r1 14 2 00
+22 got r2 5 3 00
+22 got r2 15 3 00
+22 got r3 6 4 00
+22 got r3 16 4 00
+22 got r3 10 4 00
+22 got r3 20 4 00
+22 got r4 7 5 00
+22 got r4 17 5 00
+22 got r5 8 6 00
+22 got r5 18 6 00
+22 got r7 2 8 00
+22 got r7 12 8 00
+22 got r0 8 1 00
+22 got r0 18 1 00
+22 got r6 9 7 00
+22 got r6 19 7 00
+22 got r7 10 8 00
+22 got r7 20 8 00
+22 got r9 1 10 00
+22 got r9 11 10 00
+22 got r10 2 11 00
+22 got r10 12 11 00
+22 got r1 8 2 00
+22 got r1 18 2 00
+22 got r11 3 12 00
+22 got r11 13 12 00
+22 got r0 4 1 00
+22 got r0 14 1 00
+22 got r1 5 2 00
+22 got r1 15 2 00
+22 got r2 6 3 00
+22 got r2 16 3 00
+22 got r3 7 4 00
+22 got r3 17 4 00
+22 got r4 8 5 00
+22 got r4 18 5 00
+22 got r5 9 6 00
+22 got r5 19 6 00
+22 got r6 10 7 00
+22 got r6 20 7 00
+22 got r8 1 9 00
+22 got r8 11 9 00
+22 got r9 2 10 00
+22 got r9 12 10 00
+22 got r10 3 11 00
+22 got r10 13 11 00
+22 got r11 4 12 00
+22 got r11 14 12 00
+22 got r0 5 1 00
+22 got r0 15 1 00
+22 got r1 6 2 00
+22 got r1 16 2 00
+22 got r2 7 3 00
+22 got r2 17 3 00
+22 got r3 8 4 00
+22 got r3 18 4 00
+22 got r4 9 5 00
+22 got r4 19 5 00
+22 got r5 10 6 00
+22 got r5 20 6 00
+22 got r8 2 9 00
+22 got r8 12 9 00
+22 got r9 3 10 00
+22 got r9 13 10 00
+22 got r2 8 3 00
+22 got r2 18 3 00
+22 got r3 9 4 00
+22 got r3 19 4 00
+22 got r8 3 9 00
+22 got r8 13 9 00
+22 got r2 9 3 00
+22 got r2 19 3 00
+done lines 22 injected 20 named 240 got 240 dropped 0 flight 0
 ";
 
-/// Whether a line stands in a report; it comes with its line end.
-fn says(report: &[u8], line: &[u8]) -> bool {
-    for at in 0..report.len() {
-        if (at == 0 || report[at - 1] == b'\n') && report[at..].starts_with(line) {
-            return true;
-        }
-    }
-    false
-}
-
-fn lines_in(report: &[u8]) -> usize {
-    let mut count = 0;
-    for octet in report {
-        if *octet == b'\n' && count < report.len() {
-            count += 1;
-        }
-    }
-    count
-}
+// The first copy of line 12: the BIFT-id 5000, the bit S, and a TTL of 64.
+const FIRST_COPY: &[u8] =
+    b"\x0c\x00\x00\x00\x00\x00\x00\x00\x23\x00\x00\x00\x23\x00\x00\x00\x02\x00\x00\x01\x00\x00\x02\x00\x00\x00\x00\x01\xab\x37\x01\x38\x81\x40";
 
 #[test]
 fn each_injection_reaches_each_router(rt: HostRuntime) -> Result<(), Fail> {
-    let alloc = rt.alloc();
-    let replayed = replay(alloc, DOMAIN, SCHEDULE, 4_000_000, 10_000)?;
-    let report = replayed.report.as_slice();
-    assert_eq!(rt; replayed.status.number(), 0);
-    assert_eq!(rt; lines_in(report), 241);
-    for injection in 1..21u32 {
-        for id in 1..13u32 {
-            let own = (injection - 1) % 10 + 1 == id;
-            let line = if own { injection + 1 } else { 22 };
-            let router = id - 1;
-            let wanted = format!(in alloc; "{line} got r{router} {injection} {id} 00\n")?;
-            assert!(rt; says(report, wanted.as_bytes()), "{wanted}");
-        }
-    }
-    let last = b"done lines 22 injected 20 named 240 got 240 dropped 0 flight 0\n";
-    assert!(rt; says(report, last.as_slice()));
-    // The first copy of line 12: the BIFT-id 5000, the bit S, and a TTL of 64.
-    let record = hex::decode(
-        alloc,
-        b"0c000000000000002300000023000000020000010000020000000001ab3701388140".as_slice(),
-    )?;
-    assert!(rt; holds(replayed.frames.as_slice(), record.as_slice()));
+    let outcome = run_row(rt.alloc(), GIVEN, FREE)?;
+    assert_eq!(rt; outcome.report.as_slice(), REPORT.as_bytes());
+    assert!(rt; holds(outcome.frames.as_slice(), FIRST_COPY));
     Ok(())
 }

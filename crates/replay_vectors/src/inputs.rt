@@ -1,0 +1,92 @@
+//! The inputs of the tables, as the octets that a run reads.
+use std::alloc::Global;
+use std::test::Fail;
+use wire_base::{M, Octets};
+
+// A's own link state PDU, as it sends it first.
+pub const LSP_OF_A: &str =
+    "09002b0000050200000000010050fefe03831b010014010000004d04b0000000000001000000000001554e030104034900018101cc890141160b0000000000020000000a00871700000000600a0000010d200b0000000001010400100064";
+
+const HEADER: [u8; 24] = [
+    0xd4, 0xc3, 0xb2, 0xa1, 2, 0, 4, 0, 0, 0, 0, 0, 0, 0, 0, 0, 0xff, 0xff, 0, 0, 1, 0, 0, 0,
+];
+
+/// Lines that stand with ` / ` between them. A `$` at the end of one says that no line end is there, and a star and a number that
+/// the character before them stands so often.
+pub fn lines_of(alloc: Global, text: &str) -> M<Octets> {
+    let mut lines = Octets::new(alloc);
+    if text.is_empty() {
+        return Ok(lines);
+    }
+    for line in text.split(" / ") {
+        push_line(&mut lines, line)?;
+    }
+    Ok(lines)
+}
+
+fn push_line(lines: &mut Octets, line: &str) -> M<()> {
+    let (line, end) = match line.strip_suffix("$") {
+        Some(open) => (open, ""),
+        None => (line, "\n"),
+    };
+    match line.split_once("*") {
+        Some((front, count)) => push_often(
+            lines,
+            front.as_bytes(),
+            count.parse::<u32>().unwrap_or(0),
+        )?,
+        None => lines.append(line.as_bytes())?,
+    }
+    lines.append(end.as_bytes())
+}
+
+/// Appends octets, of which the last stands so often.
+fn push_often(lines: &mut Octets, front: &[u8], count: u32) -> M<()> {
+    lines.append(front)?;
+    if let [.., last] = front {
+        for _ in 1..count {
+            lines.push(*last)?;
+        }
+    }
+    Ok(())
+}
+
+/// A capture without records.
+pub fn no_records(alloc: Global) -> M<Octets> {
+    Octets::from_slice(alloc, &HEADER)
+}
+
+/// Appends a record of a frame of fewer than 256 octets.
+pub fn push_record(out: &mut Octets, second: u32, frame: &[u8]) -> M<()> {
+    let len = [(frame.len() % 256) as u8, 0, 0, 0];
+    out.append_two(&second.to_le_bytes(), &[0; 4])?;
+    out.append_two(&len, &len)?;
+    out.append(frame)
+}
+
+/// The capture of records: a second and a frame each, where `A` is A's own link state PDU.
+fn capture_of(alloc: Global, records: &str) -> Result<Octets, Fail> {
+    let mut out = no_records(alloc)?;
+    let mut words = records.split(' ');
+    while let (Some(second), Some(frame)) = (words.next(), words.next()) {
+        let digits = if frame == "A" { LSP_OF_A } else { frame };
+        let frame = hex::decode(alloc, digits)?;
+        push_record(
+            &mut out,
+            second.parse::<u32>().unwrap_or(0),
+            frame.as_slice(),
+        )?;
+    }
+    Ok(out)
+}
+
+/// What a command reads: records for `node`, digits for `headers`, else lines.
+pub fn input_of(alloc: Global, words: &str, text: &str) -> Result<Octets, Fail> {
+    if words.starts_with("node") {
+        return capture_of(alloc, text);
+    }
+    if words.starts_with("headers") {
+        return Ok(Octets::from_vec(hex::decode(alloc, text)?));
+    }
+    Ok(lines_of(alloc, text)?)
+}
