@@ -13,6 +13,3 @@ mod words;
 pub use files::{FileSink, FileSource, StdoutSink};
 pub use objects::Objects;
 pub use words::{after_name, exit_code, is_no_text, texts_of};
-
-#[cfg(test)]
-mod tests;

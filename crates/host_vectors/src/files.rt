@@ -1,12 +1,10 @@
-use crate::files::{FileSink, FileSource};
+//! Files as sources and sinks, over a disk whose calls fail and over a real one, and those that never fail.
+use crate::disk::{Call, Disk};
 use std::fs;
 use std::io::ErrorKind;
 use std::test::Fail;
-use wire_base::{Failed, Sink, Source};
-
-mod disk;
-
-use disk::{Call, Disk};
+use tool_host::{FileSink, FileSource};
+use wire_base::{Failed, Octets, QuietSink, QuietSource, Sink, Source};
 
 /// What a file at that path is read from, or written to.
 const READ: Disk = Disk {
@@ -96,5 +94,20 @@ fn a_file_written_and_read_back(rt: HostRuntime) -> Result<(), Fail> {
     assert_eq!(rt; &into[..7], b"bsl 64\n".as_slice());
     assert_eq!(rt; source.read(&mut into), Ok(0));
     fs::remove_file(&rt, path)?;
+    Ok(())
+}
+
+/// What a source that never fails gives, a sink that never fails takes, as far as it has room.
+#[test]
+fn quiet_objects_pass_octets_on(rt: HostRuntime) -> Result<(), Fail> {
+    let mut source = QuietSource::new(Octets::from_slice(rt.alloc(), b"abcde")?);
+    let mut sink = QuietSink::new(rt.alloc(), 4)?;
+    let mut into = [0; 3];
+    assert_eq!(rt; source.read(&mut into), Ok(3));
+    assert_eq!(rt; sink.write(&into), Ok(3));
+    assert_eq!(rt; source.read(&mut into), Ok(2));
+    assert_eq!(rt; sink.write(&into[..2]), Ok(1));
+    assert_eq!(rt; sink.finish(), Ok(()));
+    assert_eq!(rt; sink.as_slice(), b"abcd".as_slice());
     Ok(())
 }
