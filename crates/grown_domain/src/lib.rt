@@ -10,6 +10,3 @@ mod schedule;
 
 pub use domain::{grown, grown_as_in_a_file};
 pub use schedule::grown_lines;
-
-#[cfg(test)]
-mod tests;
