@@ -86,7 +86,6 @@ replay pair schedule frames | restart A / settle 1 => 0 | done lines 2 injected 
 const NODES: &str = "\
 node pair B capture frames | 100 A 105 A => 0 | done records 2 used 2 passed 0 got 0 dropped 0 sent 3
 node pair B capture frames | 100 A 1000 A => 0 | done records 2 used 2 passed 0 got 0 dropped 0 sent 182
-node pair B capture frames | 100 A 1000 A => 0 | done records 2 used 2 passed 0 got 0 dropped 0 sent 182
 node pair B capture frames | 100 A 70000 A => 8 | refused record 2 7 Gap 100 70000
 node pair Z capture frames | 100 A => 3 | refused conf 6 Reference words[2]
 node pair B capture frames | 100 09002b000005020000000001001efefe03831b010014010000001b04b0000000000002000000000009e01103 105 A => 0 | done records 2 used 2 passed 0 got 0 dropped 0 sent 2
