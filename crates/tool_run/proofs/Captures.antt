@@ -354,22 +354,6 @@ exit_limit left left_old left_now before now old new taken k piece lines status 
           ∙ ap headers_answer (sym (cut_piece so_far.octets piece more k)),
     ))
 
--- where the source fails
-kept : (left left_old left_now : Option (List ℕ)) (octets : List ℕ) → Consumes left left_old octets → Keeps left_old left_now → Consumes left left_now octets
-kept None left_old left_now octets consumed keeps = tt
-kept (Some all) None left_now octets consumed keeps = absurd consumed
-kept (Some all) (Some rest) None octets consumed keeps = absurd keeps
-kept (Some all) (Some rest) (Some same) octets consumed keeps = consumed ∙ ap (λ (l : List ℕ). octets ++ l) (sym keeps)
-
-pub exit_stopped : (left left_old left_now before now : Option (List ℕ)) (progress : Progress) (taken : ℕ) (status : Status) → Sofar left left_old before now progress taken → Keeps left_old left_now
-    → (octets : List ℕ) × Consumes left left_now octets × IsOpen octets × Owes before now (status, progress.lines) (status, lines_of octets)
-exit_stopped left left_old left_now before now progress taken status so_far keeps = (
-  so_far.octets,
-  kept left left_old left_now so_far.octets so_far.consumed keeps,
-  sym (ap (λ (r : Reading). (next_of r).0) so_far.reader) ∙ so_far.is_open,
-  (so_far.flushed, so_far.wrote, ap (λ (l : List ℕ). (status, l)) so_far.lines),
-)
-
 -- ---- the fronts of a report
 
 -- whatever follows octets that aren't too many, a report on all begins with the lines of their records

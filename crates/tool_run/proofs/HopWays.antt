@@ -340,14 +340,7 @@ texts_pushed (Err e) rows built bsl own line ids old new length are is pushed = 
 texts_pushed (Ok u) rows built bsl own line ids old new length are is pushed =
     pushed ∙ ap (λ (l : List ℕ). old ++ l) (texts_are rows built.names (routers_of built.table) own (bits_of bsl) line ids (λ p low high. are.linked p low (omega (arith, high, ap bits_of length))) is)
 
--- ---- the outcomes one after the other
-
-pub texts_step : (line : ℕ) (names : List (List ℕ)) (one : model.Outcome) (left more : List model.Outcome) (out new total : List ℕ) → left ≡ one ∷ more → new ≡ out ++ outcome_text line (seen names one) → out ++ texts line names left ≡ total → new ++ texts line names more ≡ total
-texts_step line names one left more out new total is grown so_far =
-    ap (λ (l : List ℕ). l ++ texts line names more) grown ∙ append_assoc out (outcome_text line (seen names one)) (texts line names more) ∙ ap (λ (os : List model.Outcome). out ++ texts line names os) (sym is) ∙ so_far
-
-pub texts_end : (line : ℕ) (names : List (List ℕ)) (left : List model.Outcome) (out total : List ℕ) → left ≡ [] → out ++ texts line names left ≡ total → out ≡ total
-texts_end line names left out total is so_far = sym (append-nil out) ∙ ap (λ (os : List model.Outcome). out ++ texts line names os) (sym is) ∙ so_far
+-- ---- the outcomes
 
 pub drop_seen : (names : List (List ℕ)) (ids : List ℕ) (why : Why) → seen names (drop_outcome ids why) ≡ Dropped ids
 drop_seen names ids NoRow = refl

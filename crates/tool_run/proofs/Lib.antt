@@ -1,7 +1,6 @@
 pub mod Written
 pub mod Appends
 pub mod LineLaws
-pub mod Below
 pub mod Steps
 pub mod Partition
 pub mod Packets
