@@ -1,7 +1,6 @@
 pub mod CopyLaws
 pub mod DueLaws
 pub mod EnterLaws
-pub mod ExampleLaws
 pub mod HopLaws
 pub mod IdLaws
 pub mod ImageLaws
