@@ -26,7 +26,7 @@ use Rattle.replay_text.specs.Schedule.{router_named, link_named, frame_named, ev
 use Rattle.replay_text.specs.Pieces.{words_of}
 use Rattle.replay_text.specs.Tokens.{number_of}
 use Rattle.domain_replay.specs.Texts.{events_text, capture_text, run_text, report_text, lines_reach, schedule_reaches}
-use Rattle.domain_replay.specs.Captures.{frame_record}
+use Rattle.replay_report.specs.Captures.{frame_record}
 use Rattle.std.specs.Fmt.{digits}
 
 -- the views of control states
