@@ -38,18 +38,12 @@ def build():
         sys.exit(127)
     say("proving and building the program, which the first time takes a while; examples/first-look shows a report before")
     started = time.time()
-    status = subprocess.run([sys.executable, os.path.join(ROOT, "tools", "prove"), "--below", "bier_domain"]).returncode
+    status = subprocess.run([sys.executable, os.path.join(ROOT, "tools", "prove"), "bier_domain"]).returncode
     if status:
         sys.exit(status if status == 130 else 1)
-    say("proving and building the program itself, the last of all")
-    # With no words the program answers its usage line, so its own status says nothing of the build.
-    log = os.path.join(CRATE, "out", "build.log")
-    with open(log, "w", encoding="utf-8") as file:
-        subprocess.run([sys.executable, os.path.join(ROOT, "tools", "rt_once"), "run"], cwd=CRATE, stdout=file, stderr=subprocess.STDOUT, stdin=subprocess.DEVNULL)
-    with open(log, encoding="utf-8", errors="replace") as file:
-        if not any(line.startswith("rt: running") for line in file):
-            say(f"the program wasn't built; {os.path.relpath(log)} says why")
-            sys.exit(1)
+    if not os.access(PROGRAM, os.X_OK):
+        say("the program wasn't built; crates/bier_domain/out/prove.log says why")
+        sys.exit(1)
     with open(STAMP, "w", encoding="utf-8"):
         pass
     # What was changed while this ran is built the next time.
