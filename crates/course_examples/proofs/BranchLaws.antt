@@ -8,7 +8,7 @@ use Rattle.wire_base.specs.declared.entry.Entry.{Entry}
 use Rattle.wire_base.specs.model.Configuration.{IsSound, IsValid, sub_octets}
 use Rattle.wire_base.specs.model.Control.{own_entry_in, IsFlood}
 use Rattle.wire_base.specs.model.OwnLsp.{own_lsp, own_content}
-use Rattle.router_core.specs.State.{IsShort}
+use Rattle.router_laws.specs.State.{IsShort}
 use Rattle.domain_model.specs.Truth.{IsAmong, IsTrueEntry, IsTrueControl, IsTrueItem, IsTruthful}
 use Rattle.domain_model.specs.World.{peer_place}
 use Rattle.domain_model.proofs.FloodTruth.{own_true}

@@ -9,7 +9,7 @@ use Rattle.wire_base.specs.model.Ingress.{edge_fault, inject}
 use Rattle.wire_base.specs.model.Item.{Item, ControlItem, PacketItem, Outer}
 use Rattle.wire_base.specs.model.OnFrame.{Effects, Next, Packet, framed, on_frame}
 use Rattle.wire_base.specs.model.Pdu.{Pdu}
-use Rattle.router_core.specs.State.{RouterState, counted}
+use Rattle.router_laws.specs.State.{RouterState, counted}
 use Rattle.replay_text.specs.declared.event.Event.TheVariants.{Take}
 use Rattle.domain_frames.specs.declared.flight.Flight.{Flight}
 use Rattle.domain_frames.specs.declared.flight.Note.{Note}

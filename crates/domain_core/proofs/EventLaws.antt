@@ -4,7 +4,7 @@ use Rattle.std.proofs.lemmas.List.{length-map}
 use Rattle.wire_base.specs.declared.conf.RouterConf.{RouterConf}
 use Rattle.wire_base.specs.model.Configuration.{DomainConf}
 use Rattle.wire_base.specs.model.Control.{Control}
-use Rattle.router_core.specs.State.{RouterState}
+use Rattle.router_laws.specs.State.{RouterState}
 use Rattle.replay_text.specs.declared.event.Event.{Event}
 use Rattle.replay_text.specs.declared.event.Event.TheVariants.{Inject, Take, Lose, Again, Down, Up, Send, Tick, Restart}
 use Rattle.domain_model.specs.declared.fault.EventFault.{EventFault}

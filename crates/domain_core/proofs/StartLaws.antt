@@ -5,7 +5,7 @@ use Rattle.wire_base.specs.model.Configuration.{DomainConf, IsValid}
 use Rattle.wire_base.specs.model.Control.{Control}
 use Rattle.wire_base.specs.model.Flooding.{first_control}
 use Rattle.wire_base.specs.model.Item.{Item}
-use Rattle.router_core.specs.State.{RouterState}
+use Rattle.router_laws.specs.State.{RouterState}
 use Rattle.domain_frames.specs.declared.flight.Flight.{Flight}
 use Rattle.domain_frames.specs.Flights.{items_seen, no_frames}
 use Rattle.domain_core.specs.Network.{NetworkState, world_of, started_router, IsFrameOver, IsTrueNetwork}

@@ -6,8 +6,8 @@ use Rattle.wire_base.specs.declared.conf.RouterConf.{RouterConf}
 use Rattle.wire_base.specs.model.Configuration.{DomainConf}
 use Rattle.wire_base.specs.model.Flooding.{first_control}
 use Rattle.wire_base.specs.model.Item.{Item}
-use Rattle.router_core.specs.State.{RouterState}
-use Rattle.router_core.specs.State as router
+use Rattle.router_laws.specs.State.{RouterState}
+use Rattle.router_laws.specs.State as router
 use Rattle.replay_text.specs.declared.event.Event.{Event}
 use Rattle.replay_text.specs.declared.event.Event.TheVariants.{Inject, Take, Lose, Again, Down, Up, Send, Tick, Restart}
 use Rattle.domain_frames.specs.declared.flight.Flight.{Flight}

@@ -21,7 +21,7 @@ use Rattle.view_graph.proofs.GraphLaws.{and_both}
 use Rattle.lsp_store.proofs.OrderLaws.{above_differs, same_turned}
 use Rattle.isis_flood.proofs.FloodLaws.{same_from_tie}
 use Rattle.router_core.specs.Keeping.{is_last}
-use Rattle.router_core.proofs.EntryLaws.{same_is, id_self}
+use Rattle.router_laws.proofs.EntryLaws.{same_is, id_self}
 
 -- ---- lists
 

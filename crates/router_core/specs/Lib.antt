@@ -5,4 +5,3 @@ pub mod Keeping
 pub mod Own
 pub mod Received
 pub mod Sending
-pub mod State

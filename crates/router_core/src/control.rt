@@ -1,6 +1,6 @@
 ghost use Rattle.std.specs.Prelude.{◌≡◌, IfOk};
 ghost use Rattle.wire_base.specs.model.View.{control_view};
-ghost use Rattle.router_core.specs.State.{IsRouter, IssuesAlone, is_up};
+ghost use Rattle.router_laws.specs.State.{IsRouter, IssuesAlone, is_up};
 
 use isis_flood::Flood;
 use lsp_store::Store;
@@ -21,7 +21,7 @@ pub(crate) struct Control {
 
 impl Model for Control {
     ghost use Rattle.wire_base.specs.model.Control.{Control as ControlState};
-    ghost use Rattle.router_core.specs.State.{IsWhole, control_of};
+    ghost use Rattle.router_laws.specs.State.{IsWhole, control_of};
 
     ghost Value = { ControlState };
 

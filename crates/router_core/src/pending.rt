@@ -3,7 +3,7 @@ ghost use Rattle.std.specs.Prelude.{◌≡◌, ◌+◌, ◌/◌, ◌<◌, ◌≤
 ghost use Rattle.wire_base.specs.model.Control.{srm_in, ssn_in};
 ghost use Rattle.wire_base.specs.model.Flooding.{send_of, is_known};
 ghost use Rattle.wire_base.specs.declared.conf.RouterConf.{RouterConf};
-ghost use Rattle.router_core.specs.State.{is_up, control_of};
+ghost use Rattle.router_laws.specs.State.{is_up, control_of};
 
 use crate::control::Control;
 use isis_flood::Flood;

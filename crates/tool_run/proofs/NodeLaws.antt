@@ -5,7 +5,7 @@ use Rattle.wire_base.specs.declared.effects.Sent.{Sent}
 use Rattle.wire_base.specs.model.Capture.{CaptureRecord}
 use Rattle.wire_base.specs.model.Flooding.{tick, send}
 use Rattle.wire_base.specs.model.OnFrame.{Effects, Next, on_frame, framed}
-use Rattle.router_core.specs.State.{is_up}
+use Rattle.router_laws.specs.State.{is_up}
 use Rattle.tool_run.specs.NodeRun.{Node, frames_text, goes_out, next_sent, sends_on, sends_all, every_fifth, second_passes, seconds_pass, moved_from, moved_to, effects_text, counts_record, passes, tells, taken_so, given_on, given_to, link_of, record_done, Reached, gap_at, and_further, records_reach, later, HasNoGap}
 use Rattle.tool_run.specs.NodeReached.{past}
 

@@ -5,7 +5,7 @@ use Rattle.std.proofs.lemmas.List.Sums.{fold-append}
 use Rattle.wire_base.specs.declared.effects.Sent.{Sent}
 use Rattle.wire_base.specs.model.Flooding.{send}
 use Rattle.wire_base.specs.model.OnFrame.{Next, framed}
-use Rattle.router_core.specs.State.{is_up}
+use Rattle.router_laws.specs.State.{is_up}
 use Rattle.tool_run.specs.NodeRun.{Node, goes_out, next_sent, sends_on, second_passes, seconds_pass}
 
 -- what is due on a link that is up went out

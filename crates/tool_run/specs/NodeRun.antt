@@ -18,7 +18,7 @@ use Rattle.wire_base.specs.model.OnFrame.{Effects, Drop, Positions, Next, on_fra
 use Rattle.wire_base.specs.model.Place.{id_at}
 use Rattle.replay_text.specs.Ids.{ids_text}
 use Rattle.replay_text.specs.Payload.{payload_text}
-use Rattle.router_core.specs.State.{is_up}
+use Rattle.router_laws.specs.State.{is_up}
 use Rattle.tool_run.specs.Answer.{Verdict}
 use Rattle.tool_run.specs.Captured.{refused_record, refused_by, too_long}
 use Rattle.tool_run.specs.HeadersText.{within_limit, is_within}

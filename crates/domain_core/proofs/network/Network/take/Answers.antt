@@ -5,7 +5,7 @@ use Rattle.wire_base.specs.declared.conf.RouterConf.{RouterConf}
 use Rattle.wire_base.specs.declared.effects.Sent.{Sent}
 use Rattle.wire_base.specs.model.OnFrame.{Effects, on_frame}
 use Rattle.domain_model.specs.Moves.{item_lost}
-use Rattle.router_core.specs.State.{RouterState}
+use Rattle.router_laws.specs.State.{RouterState}
 use Rattle.domain_model.proofs.QueueLaws.{got_within}
 use Rattle.domain_frames.specs.declared.flight.Flight.{Flight}
 use Rattle.domain_frames.specs.Told.{told, told_of}

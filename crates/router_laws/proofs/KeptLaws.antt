@@ -17,21 +17,10 @@ use Rattle.wire_base.specs.model.Control.{same_id, same_system, fragment_0, entr
 use Rattle.wire_base.specs.model.Flooding.{with_row, no_links, send_on, ask_on, set_srm, mark_all, kept, stores, puts_marked, only_says, flags_alone, lsp_aged, is_stray, is_own_ahead, lsp_in, on_lsp, LspAnswer, SnpAnswer, with_flags, wanted, asks, is_live_summary, listed_aged, on_listed, on_list, lacks, send_lacking, on_csnp, on_psnp}
 use Rattle.wire_base.specs.model.Tlv.{rows_of}
 use Rattle.isis_flood.specs.Answers.{csnp_listed}
-use Rattle.router_core.specs.State.{IsShort}
-use Rattle.router_core.proofs.EntryLaws.{HasId, same_is, put_reads, put_has, put_keeps, put_other, rows_named, all_put, all_have}
-use Rattle.router_core.proofs.FlagLaws.{KeepsRow, keeps_send, keeps_ask, keeps_srm, keeps_acknowledged, keeps_mark, keeps_pass, none_flagged, all_rows, rows_ascend}
-
--- the own link state PDU is there, and isn't yet to be issued anew
-abbrev pub OwnStands : SystemId → List Entry → Type 0
-OwnStands own entries = (e : Entry) × ((entry_in entries (fragment_0 own) ≡ Some e) × (300 < e.life))
-
-pub record Kept (own : SystemId) (up : List Bool) (spent : Bool) (f : Flood) (entries : List Entry) : Type 0 where
-  pub own_is : f.own ≡ own
-  pub up_is : f.up ≡ up
-  pub flood : IsFlood f
-  pub flagged : AllByRecursion (HasEntry entries) f.rows
-  pub short : AllByRecursion IsShort entries
-  pub stands : spent ≡ false → OwnStands own entries
+use Rattle.router_laws.specs.State.{IsShort}
+use Rattle.router_laws.specs.Kept.{OwnStands, Kept}
+use Rattle.router_laws.proofs.EntryLaws.{HasId, same_is, put_reads, put_has, put_keeps, put_other, rows_named, all_put, all_have}
+use Rattle.router_laws.proofs.FlagLaws.{KeepsRow, keeps_send, keeps_ask, keeps_srm, keeps_acknowledged, keeps_mark, keeps_pass, none_flagged, all_rows, rows_ascend}
 
 -- ---- one row, one entry
 

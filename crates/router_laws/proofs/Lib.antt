@@ -1,0 +1,4 @@
+pub mod EntryLaws
+pub mod FlagLaws
+pub mod KeptLaws
+pub mod StateLaws
