@@ -3,3 +3,8 @@ pub mod WordForms
 pub mod DomainFiles
 pub mod Told
 pub mod Named
+pub mod NodeDone
+pub mod NodeIds
+pub mod NodeLaws
+pub mod NodeSteps
+pub mod NodeLoop

@@ -13,7 +13,7 @@ use Rattle.wire_base.specs.model.Configuration.{DomainConf}
 use Rattle.node_run.specs.Named.{node_by}
 use Rattle.node_run.specs.Routers.{has_name, router_named, no_router_text}
 use Rattle.tool_run.specs.Answer.{Verdict, IsDecided}
-use Rattle.tool_run.specs.NodeRun.{node_answer}
+use Rattle.node_run.specs.NodeRun.{node_answer}
 use Rattle.tool_run.specs.Outside.{Held, Meets, AppendsFront}
 use Rattle.node_run.proofs.Told.{nothing_more, no_front, held_some, ended_so}
 

@@ -4,7 +4,7 @@ use Rattle.wire_base.specs.declared.status.Status.{Status}
 use Rattle.wire_base.specs.declared.status.Status.TheVariants as status
 use Rattle.wire_base.specs.declared.conf.RouterConf.{RouterConf}
 use Rattle.tool_run.specs.Answer.{Verdict}
-use Rattle.tool_run.specs.NodeRun.{node_answer}
+use Rattle.node_run.specs.NodeRun.{node_answer}
 use Rattle.node_run.specs.Routers.{no_router_text}
 
 -- a status and a report, where no frame is written

@@ -1,12 +1,14 @@
 //! What the program does before a domain is at work: its words, the domain file that they name, and the command `node`, which runs
-//! one router of that domain.
+//! one router of that domain on a capture.
 //!
-//! It stands on `domain_conf` and `tool_run`, and promises the form of the words, that a domain is the one that the file says and a
-//! refusal the rule that it breaks, and that `node` runs the router of the name.
+//! It stands on `domain_conf`, `tool_run` and one router, and promises the form of the words, that a domain is the one that the file
+//! says and a refusal the rule that it breaks, and that the status and the texts of `node` are those of the router of the name on
+//! the input, that each status has its cause, and what a stop leaves.
 #![tactic(auto)]
 
 mod domain_file;
 mod node;
+mod node_command;
 mod refusals;
 mod words;
 

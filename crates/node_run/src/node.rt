@@ -7,11 +7,12 @@ ghost use Rattle.wire_base.specs.declared.conf.RouterConf.{RouterConf};
 ghost use Rattle.wire_base.specs.declared.status.Status.TheVariants as status;
 ghost use Rattle.tool_run.specs.Answer.{IsDecided};
 ghost use Rattle.tool_run.specs.Headers.{IsOpen};
-ghost use Rattle.tool_run.specs.NodeRun.{node_cut, node_reached};
+ghost use Rattle.node_run.specs.NodeRun.{node_cut, node_reached};
 ghost use Rattle.tool_run.specs.Outside.{Held, Meets, AppendsFront};
 ghost use Rattle.node_run.specs.Named.{node_by};
 ghost use Rattle.node_run.specs.Routers.{has_name, router_named};
 
+use crate::node_command::node;
 use std::alloc::Global;
 use tool_run::deliver;
 use wire_base::{Domain, RouterConf, Sink, Source, Status};
@@ -82,7 +83,7 @@ pub fn node_in<S: Source, C: Sink, R: Sink>(
         (λ owed. AppendsFront (R.written report.old) (R.written report.new) owed.report × AppendsFront (C.written frames.old) (C.written frames.new) owed.frames) }
 {
     match place_of(domain, router) {
-        Some(place) => tool_run::node(alloc, domain, place, input, frames, report),
+        Some(place) => node(alloc, domain, place, input, frames, report),
         None => deliver(report, Status::ConfRefused, NO_ROUTER),
     }
 }

@@ -16,9 +16,9 @@ use Rattle.node_run.specs.Routers.{router_named, HasRouter}
 use Rattle.replay_run.specs.Verdict.{verdict, node_on}
 use Rattle.node_run.specs.Named.{node_by}
 use Rattle.tool_run.specs.Answer.{Verdict, IsDecided}
-use Rattle.tool_run.specs.NodeRun.{node_answer, IsReplayable}
+use Rattle.node_run.specs.NodeRun.{node_answer, IsReplayable}
 use Rattle.tool_run.specs.Outside.{Held, Meets, AppendsFront}
-use Rattle.tool_run.proofs.NodeDone.{node_done}
+use Rattle.node_run.proofs.NodeDone.{node_done}
 use Rattle.replay_run.proofs.Owed.{told, in_form}
 use Rattle.node_run.proofs.Told.{nothing_more, no_front, held_some, ended_so}
 use Rattle.replay_run.proofs.Replays.{any_holds}

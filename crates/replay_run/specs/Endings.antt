@@ -10,7 +10,7 @@ use Rattle.wire_base.specs.model.Configuration.{DomainConf}
 use Rattle.tool_run.specs.Answer.{Verdict, IsDecided}
 use Rattle.tool_run.specs.HopText.{hop_cut}
 use Rattle.tool_run.specs.Headers.{IsOpen, lines_of}
-use Rattle.tool_run.specs.NodeRun.{node_cut, node_reached}
+use Rattle.node_run.specs.NodeRun.{node_cut, node_reached}
 use Rattle.tool_run.specs.Outside.{Gave, Meets, AppendsFront}
 use Rattle.node_run.specs.declared.words.Form.{Form}
 use Rattle.node_run.specs.declared.words.Form.TheVariants.{Replay, Node, Hop, Headers, Unknown}

@@ -16,7 +16,7 @@ ghost use Rattle.node_run.specs.Words.{form_in, router_in, IsGrow};
 ghost use Rattle.tool_run.specs.Answer.{IsDecided};
 ghost use Rattle.tool_run.specs.HeadersText.{IsRead};
 ghost use Rattle.tool_run.specs.HopText.{IsAllowed};
-ghost use Rattle.tool_run.specs.NodeRun.{IsReplayable};
+ghost use Rattle.node_run.specs.NodeRun.{IsReplayable};
 ghost use Rattle.tool_run.specs.Outside.{Meets};
 ghost use Rattle.tool_run.specs.Partition.{Reports};
 ghost use Rattle.replay_laws.specs.Moments.{HasLedgerThroughout, DeliversOnce};

@@ -9,9 +9,4 @@ pub mod HopLoop
 pub mod WayLaws
 pub mod HopWays
 pub mod Captures
-pub mod NodeDone
 pub mod RecordLaws
-pub mod NodeIds
-pub mod NodeLaws
-pub mod NodeSteps
-pub mod NodeLoop

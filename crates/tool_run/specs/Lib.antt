@@ -12,5 +12,3 @@ pub mod Captured
 pub mod HeadersText
 pub mod Headers
 pub mod Records
-pub mod NodeRun
-pub mod NodeReached

@@ -1,7 +1,0 @@
-use Rattle.std.proofs.Common.{◌≡◌, ◌++◌, take}
-use Rattle.std.specs.Prelude.{flat_map}
-use Rattle.tool_run.specs.NodeRun.{frame_record}
-use Rattle.tool_run.proofs.node_command.texts.push_frames.Given as goal
-
-abbrev pub invariant-loop-frame : goal.invariant-loop-frame
-invariant-loop-frame l = l.out ≡ l.fn.out ++ flat_map (frame_record l.sec l.usec) (take l.frame-index l.sent)
