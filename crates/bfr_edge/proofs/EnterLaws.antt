@@ -1,5 +1,5 @@
 -- The steps of the loops over ids and over sets.
-use Rattle.std.proofs.Common.{◌≡◌, ℕ, suc, ◌+◌, ◌<◌, ◌==◌, ◌||◌, not, Bool, true, false, List, [], ◌∷◌, ◌++◌, length, take, get_or, filter, map, find, nat_lt, Some, None, refl, ap, sym, ◌∙◌, arith}
+use Rattle.std.proofs.Common.{◌≡◌, ℕ, suc, ◌+◌, ◌<◌, ◌==◌, ◌||◌, not, Bool, true, false, List, [], ◌∷◌, ◌++◌, length, take, get_or, filter, map, nat_lt, Some, None, refl, ap, sym, ◌∙◌, arith}
 use Rattle.std.specs.List.{AllByRecursion, list_any}
 use Rattle.std.specs.Option.{option_map_or}
 use Rattle.std.proofs.lemmas.Bool.{le-ltb}
@@ -8,9 +8,9 @@ use Rattle.std.proofs.lemmas.List.Folds.{list_any_more}
 use Rattle.wire_base.specs.declared.bsl.Bsl.{Bsl}
 use Rattle.wire_base.specs.declared.triple.Triple.{Triple}
 use Rattle.wire_base.specs.model.BitSet.{has_member, with_member}
-use Rattle.wire_base.specs.model.Ingress.{sets_of, ids_of_set, packet_for, packets_for, is_large}
+use Rattle.wire_base.specs.model.Ingress.{sets_of, ids_of_set, packet_for, packets_for}
 use Rattle.wire_base.specs.model.OnFrame.{Positions}
-use Rattle.wire_base.specs.model.Place.{bits_of, bit_position, position_in}
+use Rattle.wire_base.specs.model.Place.{bits_of, bit_position, position_in, set_identifier}
 use Rattle.wire_base.proofs.SetLaws.{has-with}
 use Rattle.bier_bits.specs.Any.{bsl_of, positions_of}
 use Rattle.bfr_edge.specs.declared.packet.Packet.{Packet}
@@ -82,6 +82,6 @@ no-number (x ∷ xs) = rw (le-ltb x 0 (omega arith)) (no-number xs)
 pub packets-none : (sd : ℕ) (bsl : Bsl) (ids : List ℕ) (packets : List Packet) → packets ≡ [] → map positions_in packets ≡ among sd bsl ids 0
 packets-none sd bsl ids packets e = ap (map positions_in) e ∙ sym (ap (λ l. map placed (map (packet_for sd bsl ids) l)) (no-number (sets_of bsl ids)))
 
-pub packets-whole : (sd : ℕ) (bsl : Bsl) (ids : List ℕ) (n : ℕ) (packets : List Packet) → n ≡ 256 → find (is_large bsl) ids ≡ None → map positions_in packets ≡ among sd bsl ids n → map positions_in packets ≡ map placed (packets_for sd bsl ids)
+pub packets-whole : (sd : ℕ) (bsl : Bsl) (ids : List ℕ) (n last : ℕ) (packets : List Packet) → n ≡ suc last → list_any (λ k. nat_lt last (set_identifier (bits_of bsl) k)) ids ≡ false → map positions_in packets ≡ among sd bsl ids n → map positions_in packets ≡ map placed (packets_for sd bsl ids)
 unfolding packets_for
-packets-whole sd bsl ids n packets e small so_far = so_far ∙ ap (λ l. map placed (map (packet_for sd bsl ids) l)) (all-sets bsl ids n e small)
+packets-whole sd bsl ids n last packets e small so_far = so_far ∙ ap (λ l. map placed (map (packet_for sd bsl ids) l)) (all-sets bsl ids n last e small)

@@ -172,7 +172,7 @@ pub any-id_set : (test : ℕ → Bool) (ids : List ℕ) → list_any test (id_se
 any-id_set test [] = refl
 any-id_set test (k ∷ ks) = any-with test k (id_set ks) ∙ ap (λ b. test k || b) (any-id_set test ks)
 
-find-none : (test : ℕ → Bool) (xs : List ℕ) → find test xs ≡ None → list_any test xs ≡ false
+pub find-none : (test : ℕ → Bool) (xs : List ℕ) → find test xs ≡ None → list_any test xs ≡ false
 find-none test [] q = refl
 find-none test (x ∷ xs) q = elim (cases_Bool (test x)) [
   | inl t ↦ absurd (some-none (rw t at q))
@@ -182,13 +182,13 @@ find-none test (x ∷ xs) q = elim (cases_Bool (test x)) [
     some-none : Some x ≡ None → ⊥
     some-none h = cc
 
-all-below : (f : ℕ → ℕ) (ks : List ℕ) → list_any (λ k. nat_lt 255 (f k)) ks ≡ false → (s : ℕ) → has_member s (map f ks) ≡ true → nat_lt s 256 ≡ true
-all-below f [] none s is = cc
-all-below f (k ∷ ks) none s is = elim (cases_lt 255 (f k)) [
-  | inl large ↦ absurd (true≢false (rw (lt-ltb 255 (f k) large) at none))
+all-below : (f : ℕ → ℕ) (last : ℕ) (ks : List ℕ) → list_any (λ k. nat_lt last (f k)) ks ≡ false → (s : ℕ) → has_member s (map f ks) ≡ true → nat_lt s (suc last) ≡ true
+all-below f last [] none s is = cc
+all-below f last (k ∷ ks) none s is = elim (cases_lt last (f k)) [
+  | inl large ↦ absurd (true≢false (rw (lt-ltb last (f k) large) at none))
   | inr small ↦ elim (eqb_tells s (f k)) [
-    | inl same ↦ lt-ltb s 256 (omega (arith, same.1, small))
-    | inr differs ↦ all-below f ks (rw (le-ltb 255 (f k) small) at none) s (rw differs.0 at is)
+    | inl same ↦ lt-ltb s (suc last) (omega (arith, same.1, small))
+    | inr differs ↦ all-below f last ks (rw (le-ltb last (f k) small) at none) s (rw differs.0 at is)
   ]
 ]
 
@@ -196,10 +196,10 @@ filter-all : (q : ℕ → Bool) (xs : List ℕ) → ((s : ℕ) → has_member s 
 filter-all q [] every = refl
 filter-all q (x ∷ xs) every = rw (every x (has_head x xs)) (ap (λ (l : List ℕ). x ∷ l) (filter-all q xs (λ s is. every s (rw is (or-true (s == x))))))
 
-pub all-sets : (bsl : Bsl) (ids : List ℕ) (n : ℕ) → n ≡ 256 → find (is_large bsl) ids ≡ None → filter (λ s. nat_lt s n) (sets_of bsl ids) ≡ sets_of bsl ids
-all-sets bsl ids n e none =
+pub all-sets : (bsl : Bsl) (ids : List ℕ) (n last : ℕ) → n ≡ suc last → list_any (λ k. nat_lt last (set_identifier (bits_of bsl) k)) ids ≡ false → filter (λ s. nat_lt s n) (sets_of bsl ids) ≡ sets_of bsl ids
+all-sets bsl ids n last e none =
     ap (λ (m : ℕ). filter (λ s. nat_lt s m) (sets_of bsl ids)) e
-    ∙ filter-all (λ s. nat_lt s 256) (sets_of bsl ids) (λ s is. all-below (set_identifier (bits_of bsl)) (id_set ids) (any-id_set (is_large bsl) ids ∙ find-none (is_large bsl) ids none) s (sym (has-distinct s (map (set_identifier (bits_of bsl)) (id_set ids))) ∙ is))
+    ∙ filter-all (λ s. nat_lt s (suc last)) (sets_of bsl ids) (λ s is. all-below (set_identifier (bits_of bsl)) last (id_set ids) (any-id_set (λ k. nat_lt last (set_identifier (bits_of bsl) k)) ids ∙ none) s (sym (has-distinct s (map (set_identifier (bits_of bsl)) (id_set ids))) ∙ is))
 
 -- ---- the bits of one set
 

@@ -1,7 +1,7 @@
-ghost use Rattle.std.specs.Prelude.{◌≡◌, ℕ, ◌≤◌, ◌<◌, ◌==◌, Some, None, true, false, is_some, map, find, length, IfOk, IfSome, MatchResult};
+ghost use Rattle.std.specs.Prelude.{◌≡◌, ℕ, ◌≤◌, ◌<◌, ◌==◌, Some, None, true, false, is_some, map, find, length, nat_lt, IfOk, IfSome, MatchResult};
 ghost use Rattle.std.specs.List.{AllByRecursion, list_any};
 ghost use Rattle.wire_base.specs.declared.faults.EdgeFault.TheVariants.{BslUnknown};
-ghost use Rattle.wire_base.specs.model.Place.{bits_of, bit_position, position_in, own_bift};
+ghost use Rattle.wire_base.specs.model.Place.{bits_of, bit_position, position_in, own_bift, set_identifier};
 ghost use Rattle.wire_base.specs.model.Ingress.{edge_fault, is_large, ids_of_set, packets_for};
 ghost use Rattle.wire_base.specs.model.BitSet.{has_member};
 ghost use Rattle.wire_base.specs.model.Hop.{one_if, tally};
@@ -51,7 +51,8 @@ fn packets_of(alloc: Global, sd: u8, bsl: Bsl, ids: &[u16]) -> M<Rows<Packet>>
     ensures lengths { IfOk result (λ ps. AllByRecursion (λ p. bsl_of p.bits ≡ p.triple.bsl) ps) }
 {
     let mut packets = Rows::new(alloc);
-    for si in 0..256u16 {
+    let last = last_set(bsl, ids);
+    for si in 0..u16::from(last) + 1 {
         let triple = Triple {
             sd,
             bsl,
@@ -63,6 +64,41 @@ fn packets_of(alloc: Global, sd: u8, bsl: Bsl, ids: &[u16]) -> M<Rows<Packet>>
         }
     }
     Ok(packets)
+}
+
+// A set identifier above which no id is: 0, 15 or 255, so that few sets are tried where ids are low.
+fn last_set(bsl: Bsl, ids: &[u16]) -> u8
+    requires { find (is_large bsl) ids.now ≡ None }
+    ensures { list_any (λ k. nat_lt result (set_identifier (bits_of bsl) k)) ids.now ≡ false }
+{
+    if !any_above(bsl, ids, 0) {
+        0
+    } else if !any_above(bsl, ids, 15) {
+        15
+    } else {
+        255
+    }
+}
+
+// Whether the set identifier of an id is above that one.
+fn any_above(bsl: Bsl, ids: &[u16], last: u8) -> bool
+    ensures { result ≡ list_any (λ k. nat_lt last (set_identifier (bits_of bsl) k)) ids.now }
+{
+    for id in ids {
+        if is_above(bsl, *id, last) {
+            return true;
+        }
+    }
+    false
+}
+
+fn is_above(bsl: Bsl, id: u16, last: u8) -> bool
+    ensures { result ≡ nat_lt last (set_identifier (bits_of bsl) id) }
+{
+    match bsl.place(id) {
+        Some((si, _)) => si > u16::from(last),
+        None => false,
+    }
 }
 
 // The bit positions of the ids of a triple's set.

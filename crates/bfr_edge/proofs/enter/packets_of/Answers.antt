@@ -34,7 +34,7 @@ loop-si-preserved c =
     ]
 
 pub returns-clause-packets : goal.returns-clause-packets
-returns-clause-packets c = packets-whole c.args.sd c.args.bsl c.args.ids.now c.loop-si.si c.loop-si.packets (omega (arith, c.loop-si-test.false, c.loop-si.auto.si-end)) c.requires.large c.loop-si.invariant.packets
+returns-clause-packets c = packets-whole c.args.sd c.args.bsl c.args.ids.now c.loop-si.si c.last_set-last.result c.loop-si.packets (omega (arith, c.loop-si-test.false, c.loop-si.auto.si-end)) c.last_set-last.ensures c.loop-si.invariant.packets
 
 pub returns-clause-once : goal.returns-clause-once
 returns-clause-once c k = each-once c.args.sd c.args.bsl c.args.ids.now k c.requires.zero
