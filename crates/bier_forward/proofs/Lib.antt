@@ -8,6 +8,7 @@ pub mod JoinLaws
 pub mod KeptLaws
 pub mod OnwardLaws
 pub mod OwnEdges
+pub mod PeriodLaws
 pub mod ReadLaws
 pub mod TableLaws
 pub mod WayLaws

@@ -1,5 +1,5 @@
 -- What a router keeps of a view beside it: each kept thing is the one of that view.
-use Rattle.std.specs.Prelude.{◌≡◌, ℕ, ◌-◌, ◌≤◌, List, [], length, slice_index_or, Option}
+use Rattle.std.specs.Prelude.{◌≡◌, ℕ, ◌-◌, ◌%◌, ◌<◌, ◌≤◌, List, [], length, slice_index_or, Option}
 use Rattle.std.specs.List.{AllByRecursion}
 use Rattle.wire_base.specs.declared.conf.RouterConf.{RouterConf}
 use Rattle.wire_base.specs.declared.triple.Triple.{Triple}
@@ -8,8 +8,10 @@ use Rattle.wire_base.specs.declared.view.ViewNode.{ViewNode}
 use Rattle.wire_base.specs.model.Place.{bits_of}
 use Rattle.bift_table.specs.declared.any.AnyTable.{AnyTable}
 use Rattle.bift_table.specs.Any as any
-use Rattle.bift_table.specs.Bift.{member_at, router_at}
+use Rattle.bift_table.specs.Bift.{member_at, router_at, table_of}
 use Rattle.bier_forward.specs.declared.routes.ClassTable.{ClassTable}
+use Rattle.bier_forward.specs.declared.routes.Period.{Period}
+use Rattle.bier_forward.specs.declared.routes.Period.TheVariants.{One, Two, Four, Eight, Sixteen}
 use Rattle.bier_forward.specs.declared.routes.Routes.{Routes}
 use Rattle.bier_forward.specs.declared.routes.TripleRows.{TripleRows}
 use Rattle.bier_forward.specs.Hops.{AreRows}
@@ -38,8 +40,25 @@ pub record HasTable (r : RouterConf) (g : List ViewNode) (t : Triple) (class : �
 abbrev pub IsKeptRows : RouterConf → List ViewNode → TripleRows → Type 0
 IsKeptRows r g k = HasRows r g k.triple k.rows.bits
 
+-- how many classes a period has
+abbrev pub number_of : Period → ℕ
+number_of One = 1
+number_of Two = 2
+number_of Four = 4
+number_of Eight = 8
+number_of Sixteen = 16
+
+-- The class modulo the period picks the router that the class picks, of a list of that size.
+abbrev pub FitsSize : Period → ℕ → Type 0
+FitsSize period size = (class : ℕ) → class < 16 → 0 < size → class % number_of period % size ≡ class % size
+
+-- Classes that are the same modulo the period have the same table.
+abbrev pub IsPeriod : Period → List (List First) → Type 0
+IsPeriod period rows = (class : ℕ) → class < 16 → table_of rows (class % number_of period) ≡ table_of rows class
+
+-- A kept table is that of its triple for packets of all classes that are its own modulo its period.
 abbrev pub IsKeptTable : RouterConf → List ViewNode → ClassTable → Type 0
-IsKeptTable r g k = HasTable r g k.triple k.class k.table
+IsKeptTable r g k = (class : ℕ) → class < 16 → class % number_of k.period ≡ k.class → HasTable r g k.triple class k.table
 
 -- all that is kept is of that view
 pub record AreRoutes (r : RouterConf) (g : List ViewNode) (k : Routes) : Type 0 where

@@ -1,22 +1,22 @@
 //! What a router keeps of the view that it forwards by: rows, tables and the ways of tunnels, each made at first use.
-ghost use Rattle.std.specs.Prelude.{◌≡◌, ◌<◌, ◌≤◌, Some, IfOk, IfSome, OnOk, List, length, slice_get};
+ghost use Rattle.std.specs.Prelude.{◌≡◌, ◌<◌, ◌≤◌, ◌%◌, Some, IfOk, IfSome, OnOk, List, length, slice_get};
 ghost use Rattle.std.specs.List.{AllByRecursion};
 ghost use Rattle.wire_base.specs.declared.conf.RouterConf.{RouterConf as Conf};
 ghost use Rattle.wire_base.specs.declared.view.ViewNode.{ViewNode as Node};
 ghost use Rattle.wire_base.specs.model.Place.{same_triple};
-ghost use Rattle.bier_forward.specs.Kept.{AreRoutes, HasRows, HasTable, IsKeptRows, IsKeptTable};
+ghost use Rattle.bier_forward.specs.Kept.{AreRoutes, FitsSize, HasRows, HasTable, IsKeptRows, IsKeptTable, IsPeriod, number_of};
 ghost use Rattle.bier_forward.specs.Tunnels.{IsBuilt};
 
 use crate::table_rows::table_rows;
 use bier_tunnel::Fib;
 use bift_table::AnyTable;
 use std::alloc::Global;
-use wire_base::{M, RouterConf, RowSet, Triple, View};
+use wire_base::{First, M, RouterConf, RowSet, Rows, Triple, View};
 
 /// So many triples have their rows kept.
 const MOST_ROWS: usize = 4;
 
-/// So many tables are kept: of one triple those of all classes.
+/// So many tables are kept: of one triple at most those of all classes.
 const MOST_TABLES: usize = 16;
 
 /// The rows of a triple.
@@ -26,22 +26,84 @@ pub struct TripleRows {
     rows: RowSet,
 }
 
-/// The table of a triple for packets of a class.
+/// The number of classes after which the tables of a triple come again.
+#[derive(Clone, Copy)]
+pub enum Period {
+    One,
+    Two,
+    Four,
+    Eight,
+    Sixteen,
+}
+
+/// The table of a triple for packets of all classes that are `class` modulo the period.
 #[derive(Drop)]
 pub struct ClassTable {
     triple: Triple,
+    period: Period,
     class: u8,
     pub(crate) table: AnyTable,
 }
 
-/// What a router keeps of the view that it forwards by: the rows of the last few triples, the tables of the last few triples
-/// and classes, the newest first, and the ways of tunnels. All are made at first use, and all are of one view: another one
-/// begins with new ones.
+/// What a router keeps of the view that it forwards by: the rows of the last few triples, their tables, each for all classes
+/// that pick the same routers, the newest first, and the ways of tunnels. All are made at first use, and all are of one view:
+/// another one begins with new ones.
 #[derive(Drop)]
 pub struct Routes {
     rows: Vec<TripleRows>,
     pub(crate) tables: Vec<ClassTable>,
     pub(crate) fib: Option<Fib>,
+}
+
+impl Period {
+    /// How many classes these are.
+    fn number(self) -> u8
+        ensures value { result ≡ number_of self }
+        ensures low { 1 ≤ result }
+    {
+        match self {
+            Period::One => 1,
+            Period::Two => 2,
+            Period::Four => 4,
+            Period::Eight => 8,
+            Period::Sixteen => 16,
+        }
+    }
+
+    /// The least that a list of that size divides, and sixteen where none is: there are no more classes.
+    fn of_size(size: usize) -> Period
+        ensures { FitsSize result size }
+    {
+        match size {
+            0 | 1 => Period::One,
+            2 => Period::Two,
+            4 => Period::Four,
+            8 => Period::Eight,
+            _ => Period::Sixteen,
+        }
+    }
+
+    /// The larger of two, which the other divides.
+    fn larger(self, other: Period) -> Period
+        ensures one { number_of result % number_of self ≡ 0 }
+        ensures other { number_of result % number_of other ≡ 0 }
+    {
+        if self.number() < other.number() {
+            return other;
+        }
+        self
+    }
+}
+
+/// The least period that fits the lists of all positions.
+fn period_of(lists: &[Rows<First>]) -> Period
+    ensures { IsPeriod result lists.now }
+{
+    let mut period = Period::One;
+    for list in lists {
+        period = period.larger(Period::of_size(list.len()));
+    }
+    period
 }
 
 fn is_same(a: Triple, b: Triple) -> bool
@@ -63,13 +125,15 @@ fn rows_place(rows: &[TripleRows], triple: Triple) -> Option<usize>
     None
 }
 
-/// Where the table of a triple and a class stands.
+/// Where the table of a triple for packets of a class stands.
 fn table_place(tables: &[ClassTable], triple: Triple, class: u8) -> Option<usize>
+    requires class { class < 16 }
     ensures table { (r : Conf) (g : List Node) → AllByRecursion (IsKeptTable r g) tables.now → IfSome result (λ i. IfSome (slice_get tables.now i) (λ k. HasTable r g triple class k.table)) }
     ensures within { IfSome result (λ i. i < length tables.now) }
 {
     for place in 0..tables.len() {
-        if is_same(tables[place].triple, triple) && tables[place].class == class {
+        let kept = &tables[place];
+        if is_same(kept.triple, triple) && class % kept.period.number() == kept.class {
             return Some(place);
         }
     }
@@ -124,14 +188,19 @@ impl Routes {
             return Ok(place);
         }
         let place = keep_rows(&mut self.rows, conf, view, triple)?;
-        let alloc = *self.tables.allocator();
-        let table = AnyTable::build(alloc, triple.bsl, &self.rows[place].rows, class)?;
         self.tables.truncate(MOST_TABLES - 1);
+        self.tables.reserve_exact(1)?;
+        let alloc = *self.tables.allocator();
+        let rows = &self.rows[place].rows;
+        let period = period_of(rows.bits.as_slice());
+        let least = class % period.number();
+        let table = AnyTable::build(alloc, triple.bsl, rows, least)?;
         self.tables.insert(
             0,
             ClassTable {
                 triple,
-                class,
+                period,
+                class: least,
                 table,
             },
         )?;
