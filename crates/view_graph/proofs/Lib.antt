@@ -9,6 +9,7 @@ pub mod GraphLaws
 pub mod ListLaws
 pub mod HeardLaws
 pub mod KeepLaws
+pub mod NumberLaws
 pub mod OwnerLaws
 pub mod PatchLaws
 pub mod RenewalLaws

@@ -1,6 +1,6 @@
 -- A map of the prefixes tells those that several systems have.
 use mathlib.Core.Bool.{false≢true, true≢false}
-use Rattle.std.proofs.Common.{◌≡◌, ℕ, zero, suc, ◌+◌, ◌<◌, ◌≤◌, ◌&&◌, ◌||◌, not, Bool, true, false, if◌then◌else◌, List, [], ◌∷◌, ◌++◌, length, get_or, take, map, filter, Option, Some, None, option_map, slice_get, refl, sym, ap, subst, ◌∙◌, arith, append_assoc, append-nil}
+use Rattle.std.proofs.Common.{◌≡◌, ℕ, zero, suc, ◌+◌, ◌<◌, ◌≤◌, ◌&&◌, ◌||◌, not, Bool, true, false, if◌then◌else◌, List, [], ◌∷◌, ◌++◌, length, get_or, take, map, filter, Option, Some, None, option_map, is_some, slice_get, refl, sym, ap, subst, ◌∙◌, arith, append_assoc, append-nil}
 use Rattle.std.specs.BTreeMap as tree
 use Rattle.std.specs.BTreeMap.{BTreeMap}
 use Rattle.std.specs.Cmp.Lexicographic.{slice_cmp}
@@ -22,7 +22,7 @@ use Rattle.wire_base.specs.declared.view.ViewNode.{ViewNode}
 use Rattle.wire_base.specs.declared.view.ViewSub.{ViewSub}
 use Rattle.wire_base.specs.model.Control.{same_system}
 use Rattle.wire_base.specs.model.View.{Claim, has_prefix, is_shared, own_subs, node_of, nodes_of}
-use Rattle.view_graph.specs.Owners.{Prefix, prefixes_at, prefixes_in, prefixes_of, owner_at, owner_with, is_several, is_there, is_held, is_shared_in, IsOwner, AreOwners}
+use Rattle.view_graph.specs.Owners.{Prefix, prefixes_at, prefixes_in, prefixes_of, owner_at, owner_with, is_several, is_there, is_held, is_shared_in, IsOwner, AreOwners, AreAlone}
 use Rattle.view_graph.proofs.AnewLaws.{same_by_get}
 use Rattle.view_graph.proofs.FragmentLaws.{same_is}
 use Rattle.view_graph.proofs.GraphLaws.{and_both}
@@ -132,8 +132,48 @@ one_more xs q u m n are step = λ p. by p (bytes_eq q.0 p.0) refl
         let to : owner_at n p ≡ owner_at m p = step p ∙ rw e refl in
         subst (λ (o : Option (Option SystemId)). IsOwner (xs ++ record { prefix = q; system = u } ∷ []) p o) (sym to) (apart_step xs q u p (owner_at m p) e (are p))
 
-pub put_owner : (q : Ipv4) (w : Option SystemId) (m n : BTreeMap Ipv4 (Option SystemId)) → tree.Updates (λ (a b : Ipv4). slice_cmp nat_cmp a.0 b.0) m n q (Some w) → (p : Ipv4) → owner_at n p ≡ (if bytes_eq q.0 p.0 then Some w else owner_at m p)
+put_owner : (q : Ipv4) (w : Option SystemId) (m n : BTreeMap Ipv4 (Option SystemId)) → tree.Updates (λ (a b : Ipv4). slice_cmp nat_cmp a.0 b.0) m n q (Some w) → (p : Ipv4) → owner_at n p ≡ (if bytes_eq q.0 p.0 then Some w else owner_at m p)
 put_owner q w m n h p = h.0 p ∙ ap (λ b. if b then Some w else owner_at m p) (is_eq-slice_cmp q.0 p.0)
+
+-- what a map has once a prefix of one more system is put, where no other system has it
+owner_kept : (u : SystemId) (o : Option (Option SystemId)) → is_some (owner_with u o) ≡ true → Some u ≡ owner_with u o
+owner_kept u None h = refl
+owner_kept u (Some None) h = absurd (false≢true h)
+owner_kept u (Some (Some t)) h = by (same_system t u) refl h
+  where
+    by : (b : Bool) → same_system t u ≡ b → is_some (if b then Some t else None) ≡ true → Some u ≡ owner_with u (Some (Some t))
+    by true e k = rw e (ap (λ (x : SystemId). Some x) (sym (same_is t u e)))
+    by false e k = absurd (false≢true k)
+
+owner_lost : (w : Option SystemId) → is_some w ≡ false → None ≡ w
+owner_lost None h = refl
+owner_lost (Some t) h = absurd (true≢false h)
+
+pub put_first : (q : Ipv4) (u : SystemId) (o : Option (Option SystemId)) (m n : BTreeMap Ipv4 (Option SystemId)) → tree.Updates (λ (a b : Ipv4). slice_cmp nat_cmp a.0 b.0) m n q (Some (Some u)) → o ≡ owner_at m q → is_some (owner_with u o) ≡ true
+    → (p : Ipv4) → owner_at n p ≡ (if bytes_eq q.0 p.0 then Some (owner_with u (owner_at m q)) else owner_at m p)
+put_first q u o m n h e kept p = put_owner q (Some u) m n h p ∙ ap (λ w. if bytes_eq q.0 p.0 then Some w else owner_at m p) (owner_kept u o kept ∙ ap (owner_with u) e)
+
+-- and where another one has it
+pub put_none : (q : Ipv4) (u : SystemId) (o : Option (Option SystemId)) (m k n : BTreeMap Ipv4 (Option SystemId)) → tree.Updates (λ (a b : Ipv4). slice_cmp nat_cmp a.0 b.0) m k q (Some (Some u)) → tree.Updates (λ (a b : Ipv4). slice_cmp nat_cmp a.0 b.0) k n q (Some None)
+    → o ≡ owner_at m q → is_some (owner_with u o) ≡ false → (p : Ipv4) → owner_at n p ≡ (if bytes_eq q.0 p.0 then Some (owner_with u (owner_at m q)) else owner_at m p)
+put_none q u o m k n h g e lost p =
+    put_owner q None k n g p ∙ ap (λ w. if bytes_eq q.0 p.0 then Some None else w) (put_owner q (Some u) m k h p) ∙ twice (bytes_eq q.0 p.0)
+    ∙ ap (λ w. if bytes_eq q.0 p.0 then Some w else owner_at m p) (owner_lost (owner_with u o) lost ∙ ap (owner_with u) e)
+  where
+    twice : (b : Bool) → (if b then Some None else (if b then Some (Some u) else owner_at m p)) ≡ (if b then Some None else owner_at m p)
+    twice true = refl
+    twice false = refl
+
+pub alone_put : (q : Ipv4) (u : SystemId) (m n : BTreeMap Ipv4 (Option SystemId)) → tree.Updates (λ (a b : Ipv4). slice_cmp nat_cmp a.0 b.0) m n q (Some (Some u)) → AreAlone m → AreAlone n
+alone_put q u m n h alone p = ap is_several (put_owner q (Some u) m n h p) ∙ by (bytes_eq q.0 p.0)
+  where
+    by : (b : Bool) → is_several (if b then Some (Some u) else owner_at m p) ≡ false
+    by true = refl
+    by false = alone p
+
+-- none of the steps so far, nor the next one, has made a prefix one of several systems
+pub alone_step : (A B C : Type 0) (a b c : Bool) → c ≡ (a || b) → (a ≡ false → A → B) → (b ≡ false → B → C) → c ≡ false → A → C
+alone_step A B C a b c e f g h x = let parts = or_parts a b (sym e ∙ h) in g parts.1 (f parts.0 x)
 
 pub subs_step : (xs : List Prefix) (t : SystemId) (subs : List ViewSub) (i : ℕ) (z : ViewSub) (m n : BTreeMap Ipv4 (Option SystemId)) → i < length subs → z ≡ get_or subs i z → AreOwners (xs ++ prefixes_at t (take i subs)) m
     → ((p : Ipv4) → owner_at n p ≡ (if bytes_eq z.prefix.0 p.0 then Some (owner_with t (owner_at m z.prefix)) else owner_at m p)) → AreOwners (xs ++ prefixes_at t (take (i + 1) subs)) n
@@ -225,6 +265,14 @@ none_several p (s ∷ ss) none = by (p s) refl none (none_several p ss)
     by true e h more = absurd (true≢false h)
     by false e h more = rw e (ap (λ (xs : List ViewSub). s ∷ xs) (more h))
 
+pub alone_subs_none : (owners : BTreeMap Ipv4 (Option SystemId)) (subs : List ViewSub) → AreAlone owners → list_any (λ (s : ViewSub). is_several (owner_at owners s.prefix)) subs ≡ false
+alone_subs_none owners [] alone = refl
+alone_subs_none owners (s ∷ ss) alone = rw (alone s.prefix) (alone_subs_none owners ss alone)
+
+alone_claims_none : (owners : BTreeMap Ipv4 (Option SystemId)) (claims : List Claim) → AreAlone owners → list_any (λ (c : Claim). list_any (λ (s : ViewSub). is_several (owner_at owners s.prefix)) c.subs) claims ≡ false
+alone_claims_none owners [] alone = refl
+alone_claims_none owners (c ∷ cs) alone = rw (alone_subs_none owners c.subs alone) (alone_claims_none owners cs alone)
+
 none_at : {X : Type 0} (q : X → Bool) (xs : List X) (i : ℕ) (x : X) → list_any q xs ≡ false → slice_get xs i ≡ Some x → q x ≡ false
 none_at q [] i x none at = absurd cc
 none_at q (y ∷ ys) zero x none at = ap q (sym (some_is y x at)) ∙ by (q y) none
@@ -238,7 +286,7 @@ none_at q (y ∷ ys) (suc i) x none at = none_at q ys i x (by (q y) none) at
     by true h = absurd (true≢false h)
     by false h = h
 
-pub whole_is : (claims : List Claim) (owners : BTreeMap Ipv4 (Option SystemId)) → AreOwners (prefixes_of claims) owners → list_any (λ (c : Claim). list_any (λ (s : ViewSub). is_several (owner_at owners s.prefix)) c.subs) claims ≡ false → map (λ (n : ViewNode). n.subs) (nodes_of claims) ≡ map (λ (c : Claim). c.subs) claims
+whole_is : (claims : List Claim) (owners : BTreeMap Ipv4 (Option SystemId)) → AreOwners (prefixes_of claims) owners → list_any (λ (c : Claim). list_any (λ (s : ViewSub). is_several (owner_at owners s.prefix)) c.subs) claims ≡ false → map (λ (n : ViewNode). n.subs) (nodes_of claims) ≡ map (λ (c : Claim). c.subs) claims
 whole_is claims owners are none =
     same_by_get (map (λ (n : ViewNode). n.subs) (nodes_of claims)) (map (λ (c : Claim). c.subs) claims) (λ i. slice_get-map (λ (n : ViewNode). n.subs) (nodes_of claims) i ∙ ap (option_map (λ (n : ViewNode). n.subs)) (slice_get-map (node_of claims) claims i) ∙ by i (slice_get claims i) refl ∙ sym (slice_get-map (λ (c : Claim). c.subs) claims i))
   where
@@ -247,3 +295,6 @@ whole_is claims owners are none =
     by i (Some c) e =
         let p = λ (s : ViewSub). is_several (owner_at owners s.prefix) in
         ap (λ (o : Option Claim). option_map (λ (n : ViewNode). n.subs) (option_map (node_of claims) o)) e ∙ ap (λ (ss : List ViewSub). Some ss) (sym (none_several p c.subs (none_at (λ (d : Claim). list_any p d.subs) claims i c none e) ∙ alone_is claims i c owners e are)) ∙ sym (ap (option_map (λ (c : Claim). c.subs)) e)
+
+pub whole_alone : (claims : List Claim) (owners : BTreeMap Ipv4 (Option SystemId)) → AreOwners (prefixes_of claims) owners → AreAlone owners → map (λ (n : ViewNode). n.subs) (nodes_of claims) ≡ map (λ (c : Claim). c.subs) claims
+whole_alone claims owners are alone = whole_is claims owners are (alone_claims_none owners claims alone)

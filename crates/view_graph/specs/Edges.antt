@@ -6,6 +6,7 @@ use Rattle.wire_base.specs.declared.addresses.SystemId.{SystemId}
 use Rattle.wire_base.specs.declared.view.ViewEdge.{ViewEdge}
 use Rattle.wire_base.specs.model.Control.{same_system, system_order}
 use Rattle.wire_base.specs.model.View.{Claim, Link, least_of, metric_to}
+use Rattle.lsp_store.specs.Keys.{AreOctets, octets_from}
 
 abbrev pub is_before : SystemId → SystemId → Bool
 is_before a b = is_lt (system_order a b)
@@ -19,6 +20,18 @@ AreInOrder (c ∷ cs) = AllByRecursion (λ d. is_before c.system d.system ≡ tr
 abbrev pub place_in : SystemId → List Claim → ℕ
 place_in s [] = 0
 place_in s (c ∷ cs) = match_ordering (system_order s c.system) 0 0 (suc (place_in s cs))
+
+-- the octets of a system's identifier as one number
+pub record IsKey (key : ℕ) (s : SystemId) : Type 0 where
+  pub number : key ≡ octets_from 0 s.0
+  pub octets : AreOctets s.0
+
+-- one for the system of each claim
+abbrev pub AreKeys : List ℕ → List Claim → Type 0
+AreKeys [] [] = Unit {0}
+AreKeys [] (c ∷ cs) = ⊥
+AreKeys (k ∷ ks) [] = ⊥
+AreKeys (k ∷ ks) (c ∷ cs) = IsKey k c.system × AreKeys ks cs
 
 -- whether the claim at a place is of that system
 abbrev pub stands_at : List Claim → ℕ → SystemId → Bool

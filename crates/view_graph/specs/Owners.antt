@@ -57,3 +57,7 @@ IsOwner xs p (Some None) = (s : SystemId) → is_shared_in xs s p ≡ true
 
 abbrev pub AreOwners : List Prefix → BTreeMap Ipv4 (Option SystemId) → Type 0
 AreOwners xs owners = (p : Ipv4) → IsOwner xs p (owner_at owners p)
+
+-- no prefix is one of several systems
+abbrev pub AreAlone : BTreeMap Ipv4 (Option SystemId) → Type 0
+AreAlone owners = (p : Ipv4) → is_several (owner_at owners p) ≡ false

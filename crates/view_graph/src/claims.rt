@@ -222,7 +222,7 @@ fn other_claims(alloc: Global, conf: &RouterConf, entries: &[Entry]) -> M<Vec<Cl
     requires { AreAscending (ids_of entries.now) }
     ensures { IfOk result (λ claims. claims.items ≡ map (with_known conf.now.kinds) (map (claim_of entries.now) (filter (is_other conf.now.system) entries.now))) }
 {
-    let mut claims = Vec::new(alloc);
+    let mut claims = Vec::with_capacity(alloc, entries.len())?;
     'systems: for place in 0..entries.len() {
         let entry = &entries[place];
         if is_other(&conf.system, entry) {

@@ -3,7 +3,8 @@ ghost use Rattle.std.specs.Prelude.{◌≡◌, ◌≤◌, ◌<◌, List, [], ◌
 ghost use Rattle.std.specs.Ordering.{is_gt};
 ghost use Rattle.wire_base.specs.model.Control.{system_order};
 ghost use Rattle.wire_base.specs.model.View.{Link as LinkItem};
-ghost use Rattle.view_graph.specs.Edges.{AreInOrder, place_in, stands_at, metrics_to, edge_place, leads_at, put_edge, half_edges, half_edges_of, leads_to, whole_edges};
+ghost use Rattle.lsp_store.specs.Keys.{AreOctets, octets_from};
+ghost use Rattle.view_graph.specs.Edges.{AreInOrder, AreKeys, place_in, stands_at, metrics_to, edge_place, leads_at, put_edge, half_edges, half_edges_of, leads_to, whole_edges};
 
 use crate::claims::Claim;
 use crate::links::Link;
@@ -17,17 +18,40 @@ pub(crate) fn is_above(a: &SystemId, b: &SystemId) -> bool
     is_system_above(*a, *b)
 }
 
+/// The six octets of a system's identifier, as one number, so that two are compared at once.
+fn system_key(system: &SystemId) -> u64
+    ensures key { result ≡ octets_from 0 system.now.0 }
+    ensures octets { AreOctets system.now.0 }
+{
+    let [a, b, c, d, e, f] = system.0;
+    let high = (u64::from(a) * 256 + u64::from(b)) * 256 + u64::from(c);
+    ((high * 256 + u64::from(d)) * 256 + u64::from(e)) * 256 + u64::from(f)
+}
+
+/// The same of the system of each claim.
+fn keys_of(alloc: Global, claims: &[Claim]) -> M<Vec<u64>>
+    ensures { IfOk result (λ keys. AreKeys keys.items claims.now) }
+{
+    let mut keys = Vec::with_capacity(alloc, claims.len())?;
+    'claims: for claim in claims {
+        keys.push(system_key(&claim.system))?;
+    }
+    Ok(keys)
+}
+
 /// How many claims are of systems below this one, by halving.
-fn place_in(claims: &[Claim], system: &SystemId) -> usize
-    requires { AreInOrder claims.now }
+fn place_in(claims: &[Claim], keys: &[u64], system: &SystemId) -> usize
+    requires order { AreInOrder claims.now }
+    requires keys { AreKeys keys.now claims.now }
     ensures { result ≡ place_in system.now claims.now }
 {
+    let key = system_key(system);
     let mut low = 0;
     let mut high = claims.len();
     'halves: while low < high {
         let middle = low + (high - low) / 2;
-        let claim = &claims[middle];
-        if is_above(system, &claim.system) {
+        let found = keys[middle];
+        if key > found {
             low = middle + 1;
         } else {
             high = middle;
@@ -85,12 +109,13 @@ pub(crate) fn put_edge(edges: &mut Vec<ViewEdge>, to: u16, metric: u32) -> M<()>
 }
 
 /// Adds the edge of one link more, where the system that it leads to is known.
-fn count(claims: &[Claim], edges: &mut Vec<ViewEdge>, link: &Link) -> M<()>
+fn count(claims: &[Claim], keys: &[u64], edges: &mut Vec<ViewEdge>, link: &Link) -> M<()>
     requires order { AreInOrder claims.now }
+    requires keys { AreKeys keys.now claims.now }
     requires few { length claims.now ≤ 65536 }
     ensures { OnOk result ((links : List LinkItem) → edges.old.items ≡ half_edges 0 (metrics_to links claims.now) → edges.new.items ≡ half_edges 0 (metrics_to (links ++ link.now ∷ []) claims.now)) }
 {
-    let place = place_in(claims, &link.neighbour);
+    let place = place_in(claims, keys, &link.neighbour);
     if !stands_at(claims, place, &link.neighbour) {
         return Ok(());
     }
@@ -99,14 +124,15 @@ fn count(claims: &[Claim], edges: &mut Vec<ViewEdge>, link: &Link) -> M<()>
 }
 
 /// The edges that a system lists itself, in the order of the systems that they lead to.
-pub(crate) fn half_edges(alloc: Global, claims: &[Claim], links: &[Link]) -> M<Rows<ViewEdge>>
+fn half_edges(alloc: Global, claims: &[Claim], keys: &[u64], links: &[Link]) -> M<Rows<ViewEdge>>
     requires order { AreInOrder claims.now }
+    requires keys { AreKeys keys.now claims.now }
     requires few { length claims.now ≤ 65536 }
     ensures { IfOk result (λ edges. edges ≡ half_edges 0 (metrics_to links.now claims.now)) }
 {
     let mut edges: Vec<ViewEdge> = Vec::with_capacity(alloc, links.len())?;
     'links: for link in links {
-        count(claims, &mut edges, link)?;
+        count(claims, keys, &mut edges, link)?;
     }
     Ok(Rows::from_vec(edges))
 }
@@ -117,9 +143,20 @@ pub(crate) fn all_half_edges(alloc: Global, claims: &[Claim]) -> M<Vec<Rows<View
     requires few { length claims.now ≤ 65536 }
     ensures { IfOk result (λ halves. halves.items ≡ map (half_edges_of claims.now) claims.now) }
 {
-    let mut halves = Vec::new(alloc);
+    let keys = keys_of(alloc, claims)?;
+    half_edges_by(alloc, claims, keys.as_slice())
+}
+
+/// The same by the numbers of the systems.
+fn half_edges_by(alloc: Global, claims: &[Claim], keys: &[u64]) -> M<Vec<Rows<ViewEdge>>>
+    requires order { AreInOrder claims.now }
+    requires keys { AreKeys keys.now claims.now }
+    requires few { length claims.now ≤ 65536 }
+    ensures { IfOk result (λ halves. halves.items ≡ map (half_edges_of claims.now) claims.now) }
+{
+    let mut halves = Vec::with_capacity(alloc, claims.len())?;
     'systems: for claim in claims {
-        halves.push(half_edges(alloc, claims, claim.links.as_slice())?)?;
+        halves.push(half_edges(alloc, claims, keys, claim.links.as_slice())?)?;
     }
     Ok(halves)
 }

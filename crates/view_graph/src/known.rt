@@ -1,12 +1,12 @@
 //! Which places in subdomains count.
-ghost use Rattle.std.specs.Prelude.{◌≡◌, ◌&&◌, ◌++◌, ◌∷◌, [], true, not, is_some, filter, IfOk, OnOk, if◌then◌else◌};
+ghost use Rattle.std.specs.Prelude.{◌≡◌, ◌&&◌, ◌++◌, ◌∷◌, [], true, false, not, is_some, filter, IfOk, OnOk, if◌then◌else◌};
 ghost use Rattle.std.specs.List.{list_any};
 ghost use Rattle.std.specs.Str.{bytes_eq};
 ghost use Rattle.wire_base.specs.model.Control.{same_system};
 ghost use Rattle.wire_base.specs.model.Place.{kind_of};
 ghost use Rattle.wire_base.specs.model.BierInfo.{any_overlap};
 ghost use Rattle.wire_base.specs.model.View.{all_ranges, first_each, known_subs};
-ghost use Rattle.view_graph.specs.Owners.{owner_at, is_several};
+ghost use Rattle.view_graph.specs.Owners.{AreAlone, owner_at, is_several};
 ghost use Rattle.view_graph.specs.Places.{has_sd};
 
 use crate::owners::is_several;
@@ -122,22 +122,32 @@ pub(crate) fn known_subs(kinds: &[SubKind], subs: Rows<ViewSub>) -> M<Rows<ViewS
     first_known(alloc, kinds, subs.as_slice())
 }
 
-/// The places of a system whose prefix is no other system's, by the systems that have the prefixes.
+/// The places of a system whose prefix is no other system's, by the systems that have the prefixes and by whether several
+/// have one.
 pub(crate) fn alone_subs(
     owners: &BTreeMap<Ipv4, Option<SystemId>>,
+    is_any: bool,
     subs: Rows<ViewSub>,
 ) -> M<Rows<ViewSub>>
+    requires { is_any ≡ false → AreAlone owners.now }
     ensures { IfOk result (λ kept. kept ≡ filter (λ s. not (is_several (owner_at owners.now s.prefix))) subs) }
 {
-    if any_several(owners, subs.as_slice()) {
+    if any_several(owners, is_any, subs.as_slice()) {
         alone_copies(subs.allocator(), owners, subs.as_slice())
     } else {
         Ok(subs)
     }
 }
 
-/// Whether one of those prefixes is one of several systems.
-pub(crate) fn any_several(owners: &BTreeMap<Ipv4, Option<SystemId>>, subs: &[ViewSub]) -> bool
+/// Whether one of those prefixes is one of several systems. Where none is, no prefix is looked up.
+fn any_several(owners: &BTreeMap<Ipv4, Option<SystemId>>, is_any: bool, subs: &[ViewSub]) -> bool
+    requires { is_any ≡ false → AreAlone owners.now }
+    ensures { result ≡ list_any (λ s. is_several (owner_at owners.now s.prefix)) subs.now }
+{
+    is_any && one_of_several(owners, subs)
+}
+
+fn one_of_several(owners: &BTreeMap<Ipv4, Option<SystemId>>, subs: &[ViewSub]) -> bool
     ensures { result ≡ list_any (λ s. is_several (owner_at owners.now s.prefix)) subs.now }
 {
     subs.iter().any(|sub| is_several(owners, &sub.prefix))

@@ -1,16 +1,15 @@
 //! The view: a node for each system.
-ghost use Rattle.std.specs.Prelude.{◌≡◌, ◌≤◌, ◌<◌, List, map, length, slice_get, Some, true, IfOk};
-ghost use Rattle.std.specs.List.{list_any};
+ghost use Rattle.std.specs.Prelude.{◌≡◌, ◌≤◌, ◌<◌, List, map, length, slice_get, Some, true, false, IfOk};
 ghost use Rattle.wire_base.specs.model.View.{Claim as ClaimItem, node_of, nodes_of, view_of};
 ghost use Rattle.wire_base.specs.model.Configuration.{IsSound};
 ghost use Rattle.wire_base.specs.model.Control.{IsDatabase};
 ghost use Rattle.wire_base.specs.model.Graph.{IsGraph, covers};
 ghost use Rattle.view_graph.specs.Edges.{AreInOrder, half_edges_of};
-ghost use Rattle.view_graph.specs.Owners.{AreOwners, is_several, owner_at, prefixes_of};
+ghost use Rattle.view_graph.specs.Owners.{AreAlone, AreOwners, prefixes_of};
 
 use crate::claims::{Claim, claims_of};
 use crate::edges::{all_half_edges, whole_edges};
-use crate::known::{alone_subs, any_several};
+use crate::known::alone_subs;
 use crate::owners::owners_of;
 use lsp_store::Store;
 use std::alloc::Global;
@@ -22,10 +21,12 @@ fn node_of(
     alloc: Global,
     halves: &[Rows<ViewEdge>],
     owners: &BTreeMap<Ipv4, Option<SystemId>>,
+    is_any: bool,
     place: usize,
     claim: Claim,
 ) -> M<ViewNode>
     requires few { place < 65536 }
+    requires alone { is_any ≡ false → AreAlone owners.now }
     ensures { IfOk result (λ n. (claims : List ClaimItem) → halves.now ≡ map (half_edges_of claims) claims → AreOwners (prefixes_of claims) owners.now → slice_get claims place ≡ Some claim → n ≡ node_of claims claim) }
 {
     let edges = whole_edges(alloc, halves, place as u16)?;
@@ -39,17 +40,31 @@ fn node_of(
         system,
         overload,
         edges,
-        subs: alone_subs(owners, subs)?,
+        subs: alone_subs(owners, is_any, subs)?,
     })
 }
 
-/// Whether one of their prefixes is one of several systems.
-fn any_shared(owners: &BTreeMap<Ipv4, Option<SystemId>>, claims: &[Claim]) -> bool
-    ensures { result ≡ list_any (λ c. list_any (λ s. is_several (owner_at owners.now s.prefix)) c.subs) claims.now }
+/// The nodes, by the edges that each system lists itself, by the systems that have the prefixes and by whether several have
+/// one.
+fn all_nodes(
+    alloc: Global,
+    halves: &[Rows<ViewEdge>],
+    owners: &BTreeMap<Ipv4, Option<SystemId>>,
+    is_any: bool,
+    claims: Vec<Claim>,
+) -> M<Rows<ViewNode>>
+    requires few { length claims.items ≤ 65536 }
+    requires halves { halves.now ≡ map (half_edges_of claims.items) claims.items }
+    requires owners { AreOwners (prefixes_of claims.items) owners.now }
+    requires alone { is_any ≡ false → AreAlone owners.now }
+    ensures { IfOk result (λ nodes. nodes ≡ nodes_of claims.items) }
 {
-    claims
-        .iter()
-        .any(|claim| any_several(owners, claim.subs.as_slice()))
+    let mut nodes = Vec::with_capacity(alloc, claims.len())?;
+    'systems: for claim in claims {
+        let place = nodes.len();
+        nodes.push(node_of(alloc, halves, owners, is_any, place, claim)?)?;
+    }
+    Ok(Rows::from_vec(nodes))
 }
 
 /// The nodes, and whether each has all places in subdomains that its system tells.
@@ -60,14 +75,9 @@ pub(crate) fn nodes_of(alloc: Global, claims: Vec<Claim>) -> M<(Rows<ViewNode>, 
     ensures whole { IfOk result (λ made. made.1 ≡ true → map (λ n. n.subs) (nodes_of claims.items) ≡ map (λ c. c.subs) claims.items) }
 {
     let halves = all_half_edges(alloc, claims.as_slice())?;
-    let owners = owners_of(alloc, claims.as_slice())?;
-    let is_whole = !any_shared(&owners, claims.as_slice());
-    let mut nodes = Vec::with_capacity(alloc, claims.len())?;
-    'systems: for claim in claims {
-        let place = nodes.len();
-        nodes.push(node_of(alloc, halves.as_slice(), &owners, place, claim)?)?;
-    }
-    Ok((Rows::from_vec(nodes), is_whole))
+    let (owners, is_any) = owners_of(alloc, claims.as_slice())?;
+    let nodes = all_nodes(alloc, halves.as_slice(), &owners, is_any, claims)?;
+    Ok((nodes, !is_any))
 }
 
 #[tactic(auto, unfolding(wire_base::specs::model::View::view_of), using(crate::proofs::GraphLaws::claims_in_order, crate::proofs::GraphLaws::few_claims))]

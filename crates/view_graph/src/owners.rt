@@ -1,8 +1,8 @@
 //! Which system has a prefix, where one alone has it: so that prefixes of two systems are found in one pass.
-ghost use Rattle.std.specs.Prelude.{◌≡◌, List, ◌++◌, Some, IfOk, OnOk, if◌then◌else◌};
+ghost use Rattle.std.specs.Prelude.{◌≡◌, List, ◌++◌, Some, false, IfOk, OnOk, if◌then◌else◌};
 ghost use Rattle.std.specs.Str.{bytes_eq};
 ghost use Rattle.wire_base.specs.declared.addresses.Ipv4.{Ipv4};
-ghost use Rattle.view_graph.specs.Owners.{AreOwners, Prefix, owner_at, owner_with, is_several, prefixes_at, prefixes_of};
+ghost use Rattle.view_graph.specs.Owners.{AreAlone, AreOwners, Prefix, owner_at, owner_with, is_several, prefixes_at, prefixes_of};
 
 use crate::claims::Claim;
 use std::alloc::Global;
@@ -26,40 +26,54 @@ fn owner_with(system: SystemId, owner: Option<Option<SystemId>>) -> Option<Syste
     if other == system { Some(other) } else { None }
 }
 
+/// Adds a prefix of a system. Whether several systems have it now.
 fn add_prefix(
     owners: &mut BTreeMap<Ipv4, Option<SystemId>>,
     prefix: Ipv4,
     system: SystemId,
-) -> M<()>
-    ensures { OnOk result ((p : Ipv4) → owner_at owners.new p ≡ (if bytes_eq prefix.0 p.0 then Some (owner_with system (owner_at owners.old prefix)) else owner_at owners.old p)) }
+) -> M<bool>
+    ensures owner { OnOk result ((p : Ipv4) → owner_at owners.new p ≡ (if bytes_eq prefix.0 p.0 then Some (owner_with system (owner_at owners.old prefix)) else owner_at owners.old p)) }
+    ensures alone { IfOk result (λ b. b ≡ false → AreAlone owners.old → AreAlone owners.new) }
 {
-    let owner = owner_with(system, owner_at(owners, &prefix));
-    owners.insert(prefix, owner)?;
-    Ok(())
+    let before = owners.insert(prefix, Some(system))?;
+    let owner = owner_with(system, before);
+    if owner.is_some() {
+        return Ok(false);
+    }
+    owners.insert(prefix, None)?;
+    Ok(true)
 }
 
+/// Adds the prefixes of a system. False where several systems have one only if that was so before.
 fn add_prefixes(
     owners: &mut BTreeMap<Ipv4, Option<SystemId>>,
     system: SystemId,
     subs: &[ViewSub],
-) -> M<()>
-    ensures { OnOk result ((xs : List Prefix) → AreOwners xs owners.old → AreOwners (xs ++ prefixes_at system subs.now) owners.new) }
+) -> M<bool>
+    ensures owners { OnOk result ((xs : List Prefix) → AreOwners xs owners.old → AreOwners (xs ++ prefixes_at system subs.now) owners.new) }
+    ensures alone { IfOk result (λ b. b ≡ false → AreAlone owners.old → AreAlone owners.new) }
 {
+    let mut is_any = false;
     'subs: for sub in subs {
-        add_prefix(owners, sub.prefix, system)?;
+        is_any = is_any | add_prefix(owners, sub.prefix, system)?;
     }
-    Ok(())
+    Ok(is_any)
 }
 
-/// For each prefix the system that has it, None where several have it.
-pub(crate) fn owners_of(alloc: Global, claims: &[Claim]) -> M<BTreeMap<Ipv4, Option<SystemId>>>
-    ensures { IfOk result (λ owners. AreOwners (prefixes_of claims.now) owners) }
+/// For each prefix the system that has it, None where several have it; and whether several have one.
+pub(crate) fn owners_of(
+    alloc: Global,
+    claims: &[Claim],
+) -> M<(BTreeMap<Ipv4, Option<SystemId>>, bool)>
+    ensures owners { IfOk result (λ o. AreOwners (prefixes_of claims.now) o.0) }
+    ensures alone { IfOk result (λ o. o.1 ≡ false → AreAlone o.0) }
 {
     let mut owners = BTreeMap::new(alloc);
+    let mut is_any = false;
     'claims: for claim in claims {
-        add_prefixes(&mut owners, claim.system, claim.subs.as_slice())?;
+        is_any = is_any | add_prefixes(&mut owners, claim.system, claim.subs.as_slice())?;
     }
-    Ok(owners)
+    Ok((owners, is_any))
 }
 
 /// Whether several systems have a prefix.

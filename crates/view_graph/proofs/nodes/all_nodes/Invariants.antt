@@ -1,6 +1,6 @@
 use Rattle.std.proofs.Common.{◌≡◌, ◌++◌, map, length, drop}
 use Rattle.wire_base.specs.model.View.{node_of, nodes_of}
-use Rattle.view_graph.proofs.nodes.nodes_of.Given as goal
+use Rattle.view_graph.proofs.nodes.all_nodes.Given as goal
 
 -- the nodes so far and those of the claims that are left
 abbrev pub invariant-systems : goal.invariant-systems
