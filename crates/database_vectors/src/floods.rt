@@ -1,12 +1,11 @@
 //! The rules of flooding, case by case, at a router with two links that are up and one that is down. It has its own
 //! link state PDU and one of another system, which is to be sent on link 1 and acknowledged on link 0.
-ghost use Rattle.std.specs.Prelude.{◌≡◌, ◌<◌, length, IfOk};
+ghost use Rattle.std.specs.Prelude.{◌≡◌, ◌≤◌, length, IfOk};
 
 use isis_flood::{Flood, FloodOut, SnpOut};
 use isis_pdu::LspHead;
 use lsp_store::{Store, purge};
 use std::alloc::Global;
-use std::test::Fail;
 use wire_base::{Entry, LspId, M, Memory, Octets, Summary, SystemId};
 
 /// System, fragment, sequence number, lifetime and checksum of what comes.
@@ -156,122 +155,249 @@ const LISTED: [(u16, Said, bool, Option<u32>, Flags, Left); 13] = [
     (1, (3, 0, 5, 900, 0), false, None, NONE, None),
     (1, (3, 0, 0, 900, 7), false, None, NONE, None),
 ];
-
-#[test]
-fn link_state_pdus(rt: HostRuntime) -> Result<(), Fail> {
+/// The first row after which the router tells something else.
+fn wrong_lsp(alloc: Global) -> M<Option<Said>> {
     for (said, spent, answer, flags, left) in LSPS {
-        let (mut flood, mut store) = start(rt.alloc())?;
-        let head = head(said);
-        let got = flood.on_lsp(&mut store, 1, &head, &[], spent)?;
-        assert_eq!(rt; got, answer, "{said:?}");
-        assert_eq!(rt; flags_of(&flood, head.id), flags, "{said:?}");
-        assert_eq!(rt; left_of(&store, head.id), left, "{said:?}");
+        if after_lsp(alloc, said, spent)? != (answer, flags, left) {
+            return Ok(Some(said));
+        }
     }
-    Ok(())
+    Ok(None)
 }
 
 #[test]
-fn listed_entries(rt: HostRuntime) -> Result<(), Fail> {
+fn link_state_pdus(rt: HostRuntime) {
+    assert_eq!(rt; wrong_lsp(rt.alloc()), Ok(None));
+}
+
+/// The same of the rows that are listed.
+fn wrong_listed(alloc: Global) -> M<Option<Said>> {
     for (link, said, spent, reissue, flags, left) in LISTED {
-        let (mut flood, mut store) = start(rt.alloc())?;
-        let tlvs = entries_tlv(said);
-        let got = flood.on_psnp(&mut store, link % 2, &tlvs, spent)?;
-        assert_eq!(rt; got, SnpOut { reissue, full: 0 }, "{said:?}");
-        assert_eq!(rt; flags_of(&flood, head(said).id), flags, "{said:?}");
-        assert_eq!(rt; left_of(&store, head(said).id), left, "{said:?}");
+        let wanted = (SnpOut { reissue, full: 0 }, flags, left);
+        if after_listed(alloc, link, said, spent)? != wanted {
+            return Ok(Some(said));
+        }
     }
-    Ok(())
+    Ok(None)
+}
+
+#[test]
+fn listed_entries(rt: HostRuntime) {
+    assert_eq!(rt; wrong_listed(rt.alloc()), Ok(None));
 }
 
 /// What a CSNP from the other system's identifier on doesn't list is to be sent, and nothing that is below it.
 #[test]
-fn what_a_list_lacks(rt: HostRuntime) -> Result<(), Fail> {
+fn what_a_list_lacks(rt: HostRuntime) {
+    let listed = entries_tlv((2, 0, 5, 900, 7));
+    assert_eq!(rt;
+        after_csnp(rt.alloc(), &[]),
+        Ok([[true, true, true, false], NONE])
+    );
+    assert_eq!(rt;
+        after_csnp(rt.alloc(), &listed),
+        Ok([[false, true, true, false], NONE])
+    );
+}
+
+/// Where the database is full, what is new is dropped, and no flag is set for it.
+#[test]
+fn a_full_database(rt: HostRuntime) {
+    let dropped = SnpOut {
+        reissue: None,
+        full: 1,
+    };
+    assert_eq!(rt;
+        when_full(rt.alloc()),
+        Ok((4096, [FloodOut::Full; 2], dropped, [NONE; 2]))
+    );
+}
+
+/// Sending ends no SRM, a link that comes up is to be sent all that is known, and one that goes down has no flag.
+#[test]
+fn links(rt: HostRuntime) {
+    assert_eq!(rt; on_links(rt.alloc()), Ok(LINKS));
+}
+
+/// What is answered to a link state PDU that comes on link 1, and what is left.
+fn after_lsp(alloc: Global, said: Said, spent: bool) -> M<(FloodOut, Flags, Left)> {
+    let mut flood = no_flags(alloc)?;
+    let mut store = Store::new(alloc);
+    lsp_told(&mut flood, &mut store, said, spent)
+}
+
+fn lsp_told(
+    flood: &mut Flood,
+    store: &mut Store,
+    said: Said,
+    spent: bool,
+) -> M<(FloodOut, Flags, Left)>
+    requires { length flood.old.flood.up ≡ 3 }
+{
+    start(flood, store)?;
+    let head = head(said);
+    let answer = flood.on_lsp(store, 1, &head, &[], spent)?;
+    Ok((answer, flags_of(flood, head.id), left_of(store, head.id)))
+}
+
+/// What is answered to a PSNP that lists an entry, and what is left.
+fn after_listed(alloc: Global, link: u16, said: Said, spent: bool) -> M<(SnpOut, Flags, Left)> {
+    let mut flood = no_flags(alloc)?;
+    let mut store = Store::new(alloc);
+    listed_told(&mut flood, &mut store, link, said, spent)
+}
+
+fn listed_told(
+    flood: &mut Flood,
+    store: &mut Store,
+    link: u16,
+    said: Said,
+    spent: bool,
+) -> M<(SnpOut, Flags, Left)>
+    requires { length flood.old.flood.up ≡ 3 }
+{
+    start(flood, store)?;
+    let tlvs = entries_tlv(said);
+    let answer = flood.on_psnp(store, link % 2, &tlvs, spent)?;
+    let id = head(said).id;
+    Ok((answer, flags_of(flood, id), left_of(store, id)))
+}
+
+/// The flags of the other system and of the own one after a CSNP on link 0.
+fn after_csnp(alloc: Global, tlvs: &[u8]) -> M<[Flags; 2]>
+    requires { length tlvs.now ≤ 18 }
+{
+    let mut flood = no_flags(alloc)?;
+    let mut store = Store::new(alloc);
+    csnp_told(&mut flood, &mut store, tlvs)
+}
+
+fn csnp_told(flood: &mut Flood, store: &mut Store, tlvs: &[u8]) -> M<[Flags; 2]>
+    requires links { length flood.old.flood.up ≡ 3 }
+    requires tlvs { length tlvs.now ≤ 18 }
+{
+    start(flood, store)?;
     let last = LspId {
         system: SystemId([255; 6]),
         pseudonode: 255,
         fragment: 255,
     };
-    let listed = entries_tlv((2, 0, 5, 900, 7));
-    let cases: [(&[u8], Flags); 2] = [
-        (&[], [true, true, true, false]),
-        (&listed, [false, true, true, false]),
-    ];
-    for (tlvs, flags) in cases {
-        let (mut flood, mut store) = start(rt.alloc())?;
-        flood.on_csnp(&mut store, 0, id(2, 0), last, tlvs, false)?;
-        assert_eq!(rt; flags_of(&flood, id(2, 0)), flags);
-        assert_eq!(rt; flags_of(&flood, id(1, 0)), NONE);
-    }
-    Ok(())
+    flood.on_csnp(store, 0, id(2, 0), last, tlvs, false)?;
+    Ok([flags_of(flood, id(2, 0)), flags_of(flood, id(1, 0))])
 }
 
-/// Where the database is full, what is new is dropped, and no flag is set for it.
-#[test]
-fn a_full_database(rt: HostRuntime) -> Result<(), Fail> {
-    let (mut flood, mut store) = start(rt.alloc())?;
+/// How many entries there are; what is answered to two that are new, one of them of the own system, and to a list of a
+/// new one; and the flags of both systems' new ones.
+type Full = (usize, [FloodOut; 2], SnpOut, [Flags; 2]);
+
+fn when_full(alloc: Global) -> M<Full> {
+    let mut flood = no_flags(alloc)?;
+    let mut store = Store::new(alloc);
+    full_told(&mut flood, &mut store)
+}
+
+fn full_told(flood: &mut Flood, store: &mut Store) -> M<Full>
+    requires { length flood.old.flood.up ≡ 3 }
+{
+    start(flood, store)?;
+    fill(store)?;
+    let len = store.len();
+    let others = flood.on_lsp(store, 1, &head((3, 0, 5, 900, 7)), &[], false)?;
+    let own = flood.on_lsp(store, 1, &head((1, 1, 1, 900, 5)), &[], false)?;
+    let own_flags = flags_of(flood, id(1, 1));
+    let listed = flood.on_psnp(store, 1, &entries_tlv((3, 0, 5, 900, 7)), false)?;
+    let flags = [own_flags, flags_of(flood, id(3, 0))];
+    Ok((len, [others, own], listed, flags))
+}
+
+/// Puts purges of another system, 4,094 of them.
+fn fill(store: &mut Store) -> M<()> {
     for number in 2..4096u16 {
         let other = LspId {
             pseudonode: (number / 256) as u8,
             ..id(9, (number % 256) as u8)
         };
-        assert!(rt; store.put(purge(rt.alloc(), other, 1)).is_ok());
+        put(store, purge(store.allocator(), other, 1))?;
     }
-    assert_eq!(rt; store.len(), 4096);
-    let got = flood.on_lsp(&mut store, 1, &head((3, 0, 5, 900, 7)), &[], false)?;
-    assert_eq!(rt; got, FloodOut::Full);
-    let got = flood.on_lsp(&mut store, 1, &head((1, 1, 1, 900, 5)), &[], false)?;
-    assert_eq!(rt; got, FloodOut::Full);
-    assert_eq!(rt; flags_of(&flood, id(1, 1)), NONE);
-    let got = flood.on_psnp(&mut store, 1, &entries_tlv((3, 0, 5, 900, 7)), false)?;
-    assert_eq!(rt;
-        got,
-        SnpOut {
-            reissue: None,
-            full: 1
-        }
-    );
-    assert_eq!(rt; flags_of(&flood, id(3, 0)), NONE);
     Ok(())
 }
 
-/// Sending ends no SRM, a link that comes up is to be sent all that is known, and one that goes down has no flag.
-#[test]
-fn links(rt: HostRuntime) -> Result<(), Fail> {
-    let (mut flood, store) = start(rt.alloc())?;
-    assert_eq!(rt;
-        [flood.due(0), flood.due(1), flood.due(2)],
-        [true, true, false]
-    );
-    assert_eq!(rt;
-        [flood.may_send(0), flood.may_send(1), flood.may_send(2)],
-        [true, true, false]
-    );
-    assert_eq!(rt; [flood.may_ask(0), flood.may_ask(1)], [true, false]);
+/// On each link, whether a CSNP is due, whether something may be to be sent, and whether something may be to be acknowledged
+/// or asked for.
+type Links = ([bool; 3], [bool; 3], [bool; 3]);
+
+/// The links at the start and once all was sent on the two that are up, and the other system's flags then. Of link 2, once
+/// it is up: whether it is, whether a CSNP is due, and whether the own system's and the other one's are to be sent. Of
+/// link 1, once it is down: whether it is up, and whether something may be to be sent, and to be acknowledged or asked
+/// for. Of link 2, once the other system's flags went: whether something may be to be sent, and whether that system's is.
+type Told = (Links, Links, Flags, [bool; 4], [bool; 3], [bool; 2]);
+
+const LINKS: Told = (
+    (
+        [true, true, false],
+        [true, true, false],
+        [true, false, false],
+    ),
+    ([false; 3], [false, true, false], [false; 3]),
+    [false, true, false, false],
+    [true; 4],
+    [false; 3],
+    [true, false],
+);
+
+fn on_links(alloc: Global) -> M<Told> {
+    let mut flood = no_flags(alloc)?;
+    let mut store = Store::new(alloc);
+    links_told(&mut flood, &mut store)
+}
+
+fn links_told(flood: &mut Flood, store: &mut Store) -> M<Told>
+    requires { length flood.old.flood.up ≡ 3 }
+{
+    start(flood, store)?;
+    let first = links_of(flood);
     flood.sent(0);
     flood.sent(1);
-    assert_eq!(rt; [flood.due(0), flood.due(1)], [false, false]);
-    assert_eq!(rt; flags_of(&flood, id(2, 0)), [false, true, false, false]);
-    assert_eq!(rt; [flood.may_send(0), flood.may_send(1)], [false, true]);
-    assert_eq!(rt; [flood.may_ask(0), flood.may_ask(1)], [false, false]);
-    flood.link_up(&store, 2)?;
-    assert!(rt; flood.is_up(2) && flood.due(2) && flood.srm(id(1, 0), 2) && flood.srm(id(2, 0), 2));
+    let after = links_of(flood);
+    let flags = flags_of(flood, id(2, 0));
+    flood.link_up(store, 2)?;
+    let up = [
+        flood.is_up(2),
+        flood.due(2),
+        flood.srm(id(1, 0), 2),
+        flood.srm(id(2, 0), 2),
+    ];
     flood.link_down(1);
-    assert!(rt; !flood.is_up(1) && !flood.may_send(1) && !flood.may_ask(1));
+    let down = [flood.is_up(1), flood.may_send(1), flood.may_ask(1)];
     flood.forget(id(2, 0));
-    assert!(rt; flood.may_send(2) && !flood.srm(id(2, 0), 2));
-    Ok(())
+    let forgotten = [flood.may_send(2), flood.srm(id(2, 0), 2)];
+    Ok((first, after, flags, up, down, forgotten))
 }
 
-fn start(alloc: Global) -> M<(Flood, Store)>
-    ensures { IfOk result (λ p. length p.0.flood.up ≡ 3) }
+fn links_of(flood: &Flood) -> Links {
+    (
+        [flood.due(0), flood.due(1), flood.due(2)],
+        [flood.may_send(0), flood.may_send(1), flood.may_send(2)],
+        [flood.may_ask(0), flood.may_ask(1), flood.may_ask(2)],
+    )
+}
+
+fn no_flags(alloc: Global) -> M<Flood>
+    ensures { IfOk result (λ f. length f.flood.up ≡ 3) }
 {
-    let mut store = Store::new(alloc);
-    put(&mut store, entry(alloc, id(1, 0), 3, 9))?;
-    put(&mut store, entry(alloc, id(2, 0), 5, 7))?;
-    let mut flood = Flood::new(alloc, SystemId([0, 0, 0, 0, 0, 1]), 3, &[true, true, false])?;
+    Flood::new(alloc, SystemId([0, 0, 0, 0, 0, 1]), 3, &[true, true, false])
+}
+
+/// Puts both systems' link state PDUs, and sets the flags of the other one's.
+fn start(flood: &mut Flood, store: &mut Store) -> M<()>
+    requires { length flood.old.flood.up ≡ 3 }
+    ensures { length flood.new.flood.up ≡ 3 }
+{
+    put(store, entry(store.allocator(), id(1, 0), 3, 9))?;
+    put(store, entry(store.allocator(), id(2, 0), 5, 7))?;
     flood.mark_all(id(2, 0))?;
-    flood.on_lsp(&mut store, 0, &head((2, 0, 5, 900, 7)), &[], false)?;
-    Ok((flood, store))
+    flood.on_lsp(store, 0, &head((2, 0, 5, 900, 7)), &[], false)?;
+    Ok(())
 }
 
 fn put(store: &mut Store, e: Entry) -> M<()> {

@@ -1,13 +1,28 @@
-ghost use Rattle.std.specs.Prelude.{◌≡◌, IfOk};
+ghost use Rattle.std.specs.Prelude.{◌≡◌, length, IfOk};
+ghost use Rattle.wire_base.specs.model.Configuration.{IsSound};
 ghost use Rattle.model_examples.specs.Domains.{pair_a};
 
 use crate::routers::{end, router};
 use lsp_origin::{originate, purge};
 use std::alloc::Global;
-use std::test::Fail;
-use wire_base::{LspId, M, Octets, RouterConf, Rows, SystemId};
+use wire_base::{Entry, LspId, M, RouterConf, Rows, SystemId};
 
-const FIRST: SystemId = SystemId([0, 0, 0, 0, 0, 1]);
+/// The area, IPv4, the name, the link, the prefix and its BIER Info.
+const CONTENT: &[u8] =
+    b"\x01\x04\x03\x49\0\x01\x81\x01\xcc\x89\x01\x41\x16\x0b\0\0\0\0\0\x02\0\0\0\x0a\0\x87\x17\0\0\0\0\x60\x0a\0\0\x01\x0d\x20\x0b\0\0\0\0\x01\x01\x04\0\x10\0\x64";
+
+/// Whether the content is that; sequence number, life and hold; checksum and flags.
+type Told = (bool, (u32, u16, u16), (u16, u8));
+
+/// The first link state PDU of a router with one link and one label range, octet by octet, and its purge.
+#[test]
+fn issues_its_first_pdu(rt: HostRuntime) {
+    assert_eq!(rt;
+        first_pdu(rt.alloc()),
+        Ok((true, (1, 1200, 0), (0x554e, 3)))
+    );
+    assert_eq!(rt; its_purge(rt.alloc()), (7, 0, 60));
+}
 
 /// A router with one link and one label range.
 fn pair_a(alloc: Global) -> M<RouterConf>
@@ -16,27 +31,30 @@ fn pair_a(alloc: Global) -> M<RouterConf>
     router(alloc, Rows::from_slice(alloc, &[end(2)])?)
 }
 
-/// The first link state PDU of that router, octet by octet, and its purge.
-#[test]
-fn issues_its_first_pdu(rt: HostRuntime) -> Result<(), Fail> {
-    let conf = pair_a(rt.alloc())?;
-    let entry = originate(rt.alloc(), &conf, &[true], 1)?;
-    let area_and_protocols = [1, 4, 3, 0x49, 0, 1, 0x81, 1, 0xcc, 0x89, 1, 0x41];
-    let link = [0x16, 11, 0, 0, 0, 0, 0, 2, 0, 0, 0, 10, 0];
-    let prefix = [0x87, 0x17, 0, 0, 0, 0, 0x60, 10, 0, 0, 1, 0x0d];
-    let info = [0x20, 0x0b, 0, 0, 0, 0, 1, 1, 4, 0, 0x10, 0, 0x64];
-    let mut wanted = Octets::new(rt.alloc());
-    wanted.append_two(&area_and_protocols, &link)?;
-    wanted.append_two(&prefix, &info)?;
-    assert_eq!(rt; entry.content.as_slice(), wanted.as_slice());
-    assert_eq!(rt; (entry.seq, entry.life, entry.hold), (1, 1200, 0));
-    assert_eq!(rt; (entry.sum, entry.flags), (0x554e, 3));
-    let id = LspId {
-        system: FIRST,
-        pseudonode: 0,
-        fragment: 0,
-    };
-    let gone = purge(rt.alloc(), id, 7);
-    assert_eq!(rt; (gone.seq, gone.life, gone.hold), (7, 0, 60));
-    Ok(())
+fn first_pdu(alloc: Global) -> M<Told> {
+    let conf = pair_a(alloc)?;
+    pdu_of(alloc, &conf)
+}
+
+fn pdu_of(alloc: Global, conf: &RouterConf) -> M<Told>
+    requires sound { IsSound conf.now }
+    requires ends { length conf.now.ends ≡ 1 }
+{
+    let entry = originate(alloc, conf, &[true], 1)?;
+    Ok(told(&entry))
+}
+
+fn told(entry: &Entry) -> Told {
+    (
+        entry.content.as_slice() == CONTENT,
+        (entry.seq, entry.life, entry.hold),
+        (entry.sum, entry.flags),
+    )
+}
+
+/// Sequence number, life and hold of the purge of its identifier.
+fn its_purge(alloc: Global) -> (u32, u16, u16) {
+    let id = LspId::fragment_0(SystemId([0, 0, 0, 0, 0, 1]));
+    let gone = purge(alloc, id, 7);
+    (gone.seq, gone.life, gone.hold)
 }

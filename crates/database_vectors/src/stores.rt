@@ -1,7 +1,49 @@
 use lsp_store::{Age, Aged, Entry, PutFault, Store, purge};
 use std::alloc::Global;
-use std::test::Fail;
 use wire_base::{LspId, Octets, Summary, SystemId};
+
+/// The answer to a put.
+type Put = Result<(), PutFault>;
+
+/// Identifier, life and hold of the entry at a place.
+type At = Option<(LspId, u16, u16)>;
+
+/// Sequence number, lifetime and checksum of what is compared with an entry.
+type Said = (u32, u16, u16);
+
+/// How new summaries are beside a live entry.
+const AGES: [(Said, Age); 5] = [
+    ((6, 0, 0), Age::Newer),
+    ((4, 9, 7), Age::Older),
+    ((5, 9, 7), Age::Equal),
+    ((5, 9, 8), Age::Confused),
+    ((5, 0, 7), Age::Newer),
+];
+
+/// A database that is full takes each identifier that it has, and no other.
+#[test]
+fn takes_no_new_identifier_when_full(rt: HostRuntime) {
+    let wanted: Full = (
+        [Ok(()), Err(PutFault::Full(4096)), Ok(())],
+        [4096; 2],
+        [Some((id_of(17), 0, 60)), Some((id_of(4095), 9, 0))],
+        [true; 2],
+    );
+    assert_eq!(rt; when_full(rt.alloc()), wanted);
+}
+
+/// How new those summaries are, and what the live entry's last two seconds and its purge's last sixty are.
+#[test]
+fn tells_age_and_passes_seconds(rt: HostRuntime) {
+    let seconds = [
+        Some(Aged::Live),
+        Some(Aged::Expired),
+        Some(Aged::Held),
+        Some(Aged::Removed),
+    ];
+    let purged = Some((id_of(0), 0, 60));
+    assert_eq!(rt; with_time(rt.alloc()), (Ok(()), None, seconds, purged, 0));
+}
 
 fn id_of(number: u16) -> LspId {
     LspId {
@@ -11,72 +53,114 @@ fn id_of(number: u16) -> LspId {
     }
 }
 
-fn live(alloc: Global, id: LspId, life: u16) -> Entry {
-    Entry {
-        id,
+fn put_live(store: &mut Store, number: u16, life: u16) -> Put {
+    store.put(Entry {
+        id: id_of(number),
         seq: 5,
         life,
         hold: 0,
         sum: 7,
         flags: 3,
-        content: Octets::new(alloc),
-    }
+        content: Octets::new(store.allocator()),
+    })
 }
 
-/// A database that is full takes each identifier that it has, and no other.
-#[test]
-fn takes_no_new_identifier_when_full(rt: HostRuntime) -> Result<(), Fail> {
-    let mut store = Store::new(rt.alloc());
+fn put_purge(store: &mut Store, number: u16) -> Put {
+    store.put(purge(store.allocator(), id_of(number), 1))
+}
+
+fn at(store: &Store, place: usize) -> At {
+    if place >= store.len() {
+        return None;
+    }
+    let entry = store.at(place);
+    Some((entry.id, entry.life, entry.hold))
+}
+
+/// The answers to 4,096 identifiers, to one more and to one that is there; how many entries there are before and after
+/// those two; one that was there and the one that was put; and whether there was none of the new identifier, and nothing
+/// against one entry more.
+type Full = ([Put; 3], [usize; 2], [At; 2], [bool; 2]);
+
+fn when_full(alloc: Global) -> Full {
+    let mut store = Store::new(alloc);
+    full_told(&mut store)
+}
+
+fn full_told(store: &mut Store) -> Full {
+    let filled = fill(store);
+    let before = store.len();
+    let there = at(store, 17);
+    let refused = put_purge(store, 4096);
+    let is_none = store.get(&id_of(4096)).is_none();
+    let taken = put_live(store, 4095, 9);
+    (
+        [filled, refused, taken],
+        [before, store.len()],
+        [there, at(store, 4095)],
+        [is_none, store.reserve(1).is_ok()],
+    )
+}
+
+/// Takes 4,096 identifiers from both ends in turn.
+fn fill(store: &mut Store) -> Put {
     for number in 0..4096u16 {
-        // from both ends in turn
         let place = if number % 2 == 0 {
             number / 2
         } else {
             4095 - number / 2
         };
-        assert!(rt; store.put(purge(rt.alloc(), id_of(place), 1)).is_ok());
+        put_purge(store, place)?;
     }
-    assert_eq!(rt; store.len(), 4096);
-    assert!(rt; store.at(17).id == id_of(17));
-    assert_eq!(rt;
-        store.put(purge(rt.alloc(), id_of(4096), 1)),
-        Err(PutFault::Full(4096))
-    );
-    assert!(rt; store.get(&id_of(4096)).is_none());
-    assert_eq!(rt; store.put(live(rt.alloc(), id_of(4095), 9)), Ok(()));
-    assert_eq!(rt; store.len(), 4096);
-    assert_eq!(rt; store.at(4095).life, 9);
-    assert!(rt; store.reserve(1).is_ok());
     Ok(())
 }
 
-/// How new summaries are beside a live entry, and what its last two seconds and its purge's last one are.
-#[test]
-fn tells_age_and_passes_seconds(rt: HostRuntime) -> Result<(), Fail> {
-    let mut store = Store::new(rt.alloc());
-    assert_eq!(rt; store.put(live(rt.alloc(), id_of(0), 2)), Ok(()));
-    let cases = [
-        (6, 0, 0, Age::Newer),
-        (4, 9, 7, Age::Older),
-        (5, 9, 7, Age::Equal),
-        (5, 9, 8, Age::Confused),
-        (5, 0, 7, Age::Newer),
-    ];
-    for (seq, life, sum, age) in cases {
+/// The answer to an entry of two seconds; the first of the rows above whose age is another; the first second, the second
+/// one, the 59 after it and the last one; the entry after two seconds; and how many entries there are at the end.
+type Time = (Put, Option<Said>, [Option<Aged>; 4], At, usize);
+
+fn with_time(alloc: Global) -> Time {
+    let mut store = Store::new(alloc);
+    time_told(&mut store)
+}
+
+fn time_told(store: &mut Store) -> Time {
+    let taken = put_live(store, 0, 2);
+    let wrong = wrong_age(store);
+    let first = second(store);
+    let next = second(store);
+    let purged = at(store, 0);
+    let held = held(store);
+    let last = second(store);
+    (taken, wrong, [first, next, held, last], purged, store.len())
+}
+
+fn wrong_age(store: &Store) -> Option<Said> {
+    for ((seq, life, sum), age) in AGES {
         let id = id_of(0);
-        assert_eq!(rt; store.compare(&Summary { life, id, seq, sum }), age);
-    }
-    assert_eq!(rt; store.age_at(0), Aged::Live);
-    assert_eq!(rt; store.age_at(0), Aged::Expired);
-    assert_eq!(rt; store.at(0).hold, 60);
-    for _ in 0..59u8 {
-        if store.len() > 0 {
-            assert_eq!(rt; store.age_at(0), Aged::Held);
+        if store.compare(&Summary { life, id, seq, sum }) != age {
+            return Some((seq, life, sum));
         }
     }
+    None
+}
+
+/// A second of the first entry.
+fn second(store: &mut Store) -> Option<Aged> {
     if store.len() > 0 {
-        assert_eq!(rt; store.age_at(0), Aged::Removed);
+        Some(store.age_at(0))
+    } else {
+        None
     }
-    assert_eq!(rt; store.len(), 0);
-    Ok(())
+}
+
+/// What 59 seconds are: held, or the first that is something else.
+fn held(store: &mut Store) -> Option<Aged> {
+    for _ in 0..59u8 {
+        let answer = second(store);
+        if answer != Some(Aged::Held) {
+            return answer;
+        }
+    }
+    Some(Aged::Held)
 }
