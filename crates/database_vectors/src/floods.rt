@@ -43,7 +43,7 @@ const DEAD: Summary = Summary {
 };
 
 /// What comes on link 1, whether the router is spent, and what is answered and left.
-const LSPS: [(Said, bool, FloodOut, Flags, Left); 15] = [
+static LSPS: [(Said, bool, FloodOut, Flags, Left); 15] = [
     ((2, 0, 0, 900, 7), false, FloodOut::Zero, AT_START, OTHERS),
     ((1, 0, 4, 900, 9), false, FloodOut::Reissue(4), NONE, OURS),
     ((1, 0, 4, 0, 0), false, FloodOut::Reissue(4), NONE, OURS),
@@ -115,7 +115,7 @@ const LSPS: [(Said, bool, FloodOut, Flags, Left); 15] = [
 
 /// What is listed on a link, whether the router is spent, the sequence number past which the own one must be issued, and
 /// what is left.
-const LISTED: [(u16, Said, bool, Option<u32>, Flags, Left); 13] = [
+static LISTED: [(u16, Said, bool, Option<u32>, Flags, Left); 13] = [
     // of sequence number 0: what is asked for, what is unknown
     (0, (2, 0, 0, 900, 0), false, None, MARKED, OTHERS),
     (0, (3, 0, 0, 900, 7), false, None, NONE, None),
@@ -155,9 +155,11 @@ const LISTED: [(u16, Said, bool, Option<u32>, Flags, Left); 13] = [
     (1, (3, 0, 5, 900, 0), false, None, NONE, None),
     (1, (3, 0, 0, 900, 7), false, None, NONE, None),
 ];
+
 /// The first row after which the router tells something else.
 fn wrong_lsp(alloc: Global) -> M<Option<Said>> {
-    for (said, spent, answer, flags, left) in LSPS {
+    for place in 0..LSPS.len() {
+        let (said, spent, answer, flags, left) = LSPS[place];
         if after_lsp(alloc, said, spent)? != (answer, flags, left) {
             return Ok(Some(said));
         }
@@ -172,7 +174,8 @@ fn link_state_pdus(rt: HostRuntime) {
 
 /// The same of the rows that are listed.
 fn wrong_listed(alloc: Global) -> M<Option<Said>> {
-    for (link, said, spent, reissue, flags, left) in LISTED {
+    for place in 0..LISTED.len() {
+        let (link, said, spent, reissue, flags, left) = LISTED[place];
         let wanted = (SnpOut { reissue, full: 0 }, flags, left);
         if after_listed(alloc, link, said, spent)? != wanted {
             return Ok(Some(said));

@@ -47,7 +47,7 @@ const NEXT_TO_B: &[ViewEdge] = &[
 ];
 
 /// Which ends of A are up, and the edges of A, B, C and D.
-const RING: [([bool; 2], [&[ViewEdge]; 4]); 2] = [
+static RING: [([bool; 2], [&[ViewEdge]; 4]); 2] = [
     ([true, true], [BOTH, NEXT_TO_B, BOTH, NEXT_TO_B]),
     (
         [true, false],
@@ -61,7 +61,7 @@ const RING: [([bool; 2], [&[ViewEdge]; 4]); 2] = [
 ];
 
 /// What B alone says, its edges, and how many places it and A have.
-const ALONE: [(&[u8], &[ViewEdge], usize, usize); 10] = [
+static ALONE: [(&[u8], &[ViewEdge], usize, usize); 10] = [
     // no link of B: none from A to it either
     (b"", &[], 0, 1),
     // a metric of 0; of 9 and 4; of 16,777,215; to a pseudonode; a cut entry after a whole one
@@ -113,7 +113,7 @@ const ALONE: [(&[u8], &[ViewEdge], usize, usize); 10] = [
 ];
 
 /// What B said before and says now, whether A's end to B is up, whether the view changes, and the edges of A then.
-const RENEWALS: [(Option<&[u8]>, Option<&[u8]>, bool, bool, &[ViewEdge]); 9] = [
+static RENEWALS: [(Option<&[u8]>, Option<&[u8]>, bool, bool, &[ViewEdge]); 9] = [
     // a refresh; a lost link, as B says it and as A knows it; both
     (Some(B_SAYS), Some(B_SAYS), true, false, BOTH),
     (
