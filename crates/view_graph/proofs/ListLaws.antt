@@ -187,3 +187,19 @@ left_step cs rest now nodes new c n head pushed is made left =
       made = ap (λ (ns : List ViewNode). ns ++ map (node_of cs) now) pushed ∙ append_assoc nodes (n ∷ []) (map (node_of cs) now) ∙ ap (λ (m : ViewNode). nodes ++ m ∷ map (node_of cs) now) is ∙ ap (λ (l : List Claim). nodes ++ map (node_of cs) l) (sym head) ∙ made;
       left = later_left (length nodes) cs now c (sym head ∙ left) ∙ ap (λ k. drop k cs) (sym long);
     }
+
+-- ---- a step of a loop over a list
+
+pub take_one : {X : Type 0} (xs : List X) (i : ℕ) (x : X) → i < length xs → x ≡ get_or xs i x → take i xs ++ x ∷ [] ≡ take (i + 1) xs
+take_one {X} xs i x lt at = let one : suc i ≡ i + 1 = omega arith in ap (λ (y : X). take i xs ++ y ∷ []) at ∙ sym (take-suc xs i x lt) ∙ ap (λ k. take k xs) one
+
+-- one that passes, and one that doesn't
+pub passes_one : {X : Type 0} (p : X → Bool) (xs : List X) (i : ℕ) (x : X) (kept next : List X) → i < length xs → x ≡ get_or xs i x → kept ≡ filter p (take i xs) → next ≡ kept ++ x ∷ [] → p x ≡ true → next ≡ filter p (take (i + 1) xs)
+passes_one {X} p xs i x kept next lt at before step h =
+    let one : filter p (x ∷ []) ≡ x ∷ [] = rw h refl in
+    step ∙ ap (λ (ys : List X). ys ++ x ∷ []) before ∙ ap (λ (ys : List X). filter p (take i xs) ++ ys) (sym one) ∙ sym (filter-append p (take i xs) (x ∷ [])) ∙ ap (filter p) (take_one xs i x lt at)
+
+pub fails_one : {X : Type 0} (p : X → Bool) (xs : List X) (i : ℕ) (x : X) (kept : List X) → i < length xs → x ≡ get_or xs i x → kept ≡ filter p (take i xs) → p x ≡ false → kept ≡ filter p (take (i + 1) xs)
+fails_one {X} p xs i x kept lt at before h =
+    let none : filter p (x ∷ []) ≡ [] = rw h refl in
+    before ∙ sym (append-nil (filter p (take i xs))) ∙ ap (λ (ys : List X). filter p (take i xs) ++ ys) (sym none) ∙ sym (filter-append p (take i xs) (x ∷ [])) ∙ ap (filter p) (take_one xs i x lt at)

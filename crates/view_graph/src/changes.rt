@@ -1,6 +1,7 @@
 //! The places of the nodes that may be other ones, where systems say something else.
-ghost use Rattle.std.specs.Prelude.{◌≡◌, ◌≤◌, ◌∷◌, ℕ, true, false, length, IfOk, IfSome, OnOk};
+ghost use Rattle.std.specs.Prelude.{◌≡◌, ◌≤◌, ◌∷◌, ℕ, true, false, length, Option, Some, IfOk, IfSome, OnOk};
 ghost use Rattle.wire_base.specs.model.Control.{AreAscending, ids_of};
+ghost use Rattle.wire_base.specs.model.View.{Claim as ClaimItem};
 ghost use Rattle.view_graph.specs.Edges.{AreInOrder, leads_to};
 ghost use Rattle.view_graph.specs.Renewal.{AreNoted, IsAdded, IsAsListed, IsNoted, Stays, halves_now, has, said_now, seats};
 
@@ -65,11 +66,26 @@ fn add_all(
     ensures own { OnOk result (has places.new.items place ≡ false → IsAsListed nodes.now node.now claim.now) }
 {
     let halves = half_edges(*places.allocator(), nodes, claim.links.as_slice())?;
-    if is_as_listed(node, claim, halves.as_slice()) {
+    add_unlike(places, place, node, claim, halves.as_slice())
+}
+
+/// The same by the edges that the system lists.
+fn add_unlike(
+    places: &mut Vec<usize>,
+    place: usize,
+    node: &ViewNode,
+    claim: &Claim,
+    halves: &[ViewEdge],
+) -> M<()>
+    ensures stays { OnOk result (Stays places.old.items places.new.items) }
+    ensures ends { OnOk result ((i : ℕ) → has places.new.items i ≡ false → leads_to i node.now.edges ≡ leads_to i halves.now) }
+    ensures own { OnOk result (has places.new.items place ≡ false → (node.now.overload ≡ claim.now.overload) × (node.now.edges ≡ halves.now)) }
+{
+    if is_as_listed(node, claim, halves) {
         return Ok(());
     }
-    add_ends(places, node.edges.as_slice(), halves.as_slice())?;
-    add_ends(places, halves.as_slice(), node.edges.as_slice())?;
+    add_ends(places, node.edges.as_slice(), halves)?;
+    add_ends(places, halves, node.edges.as_slice())?;
     add_place(places, place)
 }
 
@@ -93,6 +109,21 @@ fn add_changed(
     let Some(claim) = said_now(conf, up, entries, system)? else {
         return Ok(false);
     };
+    add_said(places, nodes, system, &claim)
+}
+
+/// The same by what the system says.
+fn add_said(
+    places: &mut Vec<usize>,
+    nodes: &[ViewNode],
+    system: &SystemId,
+    claim: &Claim,
+) -> M<bool>
+    requires order { AreInOrder (seats nodes.now) }
+    requires few { length nodes.now ≤ 65536 }
+    ensures stays { OnOk result (Stays places.old.items places.new.items) }
+    ensures noted { IfOk result (λ told. told ≡ true → (said : SystemId → Option ClaimItem) → said system.now ≡ Some claim.now → IsNoted said nodes.now places.new.items system.now) }
+{
     let place = seat_of(nodes, system);
     if !sits_at(nodes, place, system) {
         return Ok(false);
@@ -101,7 +132,7 @@ fn add_changed(
     if !are_same_subs(node.subs.as_slice(), claim.subs.as_slice()) {
         return Ok(false);
     }
-    add_all(places, nodes, place, node, &claim)?;
+    add_all(places, nodes, place, node, claim)?;
     Ok(true)
 }
 

@@ -181,18 +181,25 @@ fn own_ranges(kinds: &[SubKind], sub: &OwnSub) -> M<Rows<LabelRange>>
     }
 }
 
+/// One of the router's own places in subdomains.
+fn own_sub(conf: &RouterConf, sub: &OwnSub) -> M<ViewSub>
+    ensures { IfOk result (λ s. s ≡ sub_of conf.now.prefix.0 (info_of conf.now.kinds sub.now)) }
+{
+    Ok(ViewSub {
+        sd: sub.sd,
+        id: sub.id,
+        prefix: conf.prefix,
+        ranges: own_ranges(conf.kinds.as_slice(), sub)?,
+    })
+}
+
 /// The router's own places in subdomains.
 fn own_subs(alloc: Global, conf: &RouterConf) -> M<Rows<ViewSub>>
     ensures { IfOk result (λ subs. subs ≡ map (λ s. sub_of conf.now.prefix.0 (info_of conf.now.kinds s)) conf.now.subs) }
 {
     let mut subs = Rows::new(alloc);
     'subs: for sub in conf.subs.as_slice() {
-        subs.push(ViewSub {
-            sd: sub.sd,
-            id: sub.id,
-            prefix: conf.prefix,
-            ranges: own_ranges(conf.kinds.as_slice(), sub)?,
-        })?;
+        subs.push(own_sub(conf, sub)?)?;
     }
     Ok(subs)
 }
@@ -217,6 +224,15 @@ fn is_other(own: &SystemId, entry: &Entry) -> bool
     entry.id.system != *own && entry.id.pseudonode == 0 && entry.id.fragment == 0 && entry.life > 0
 }
 
+/// What the system of a fragment 0 claims, with the places alone that count by what the router knows of subdomains.
+fn known_claim(alloc: Global, conf: &RouterConf, entries: &[Entry], entry: &Entry) -> M<Claim>
+    requires { AreAscending (ids_of entries.now) }
+    ensures { IfOk result (λ c. c ≡ with_known conf.now.kinds (claim_of entries.now entry.now)) }
+{
+    let claim = claim_of(alloc, entries, entry)?;
+    with_known(conf.kinds.as_slice(), claim)
+}
+
 /// What all other systems claim, in the order of their entries. A system's fragments stand from its fragment 0 on.
 fn other_claims(alloc: Global, conf: &RouterConf, entries: &[Entry]) -> M<Vec<Claim>>
     requires { AreAscending (ids_of entries.now) }
@@ -226,8 +242,7 @@ fn other_claims(alloc: Global, conf: &RouterConf, entries: &[Entry]) -> M<Vec<Cl
     'systems: for place in 0..entries.len() {
         let entry = &entries[place];
         if is_other(&conf.system, entry) {
-            let claim = claim_of(alloc, &entries[place..], entry)?;
-            claims.push(with_known(conf.kinds.as_slice(), claim)?)?;
+            claims.push(known_claim(alloc, conf, &entries[place..], entry)?)?;
         }
     }
     Ok(claims)

@@ -55,13 +55,20 @@ fn copy_of(sub: &ViewSub) -> M<ViewSub>
     })
 }
 
+fn push_copy(copied: &mut Vec<ViewSub>, sub: &ViewSub) -> M<()>
+    ensures { OnOk result (copied.new.items ≡ copied.old.items ++ sub.now ∷ []) }
+{
+    copied.push(copy_of(sub)?)?;
+    Ok(())
+}
+
 /// Equal ones.
 pub(crate) fn copy_subs(alloc: Global, subs: &[ViewSub]) -> M<Rows<ViewSub>>
     ensures { IfOk result (λ copied. copied ≡ subs.now) }
 {
     let mut copied = Vec::with_capacity(alloc, subs.len())?;
     'subs: for sub in subs {
-        copied.push(copy_of(sub)?)?;
+        push_copy(&mut copied, sub)?;
     }
     Ok(Rows::from_vec(copied))
 }
@@ -163,7 +170,7 @@ fn alone_copies(
     let mut kept = Vec::with_capacity(alloc, subs.len())?;
     'subs: for sub in subs {
         if !is_several(owners, &sub.prefix) {
-            kept.push(copy_of(sub)?)?;
+            push_copy(&mut kept, sub)?;
         }
     }
     kept.shrink_to_fit();

@@ -1,10 +1,10 @@
 //! Nodes made anew, by what systems say now.
-ghost use Rattle.std.specs.Prelude.{◌≡◌, ◌≤◌, length, map, IfOk, IfSome};
+ghost use Rattle.std.specs.Prelude.{◌≡◌, ◌≤◌, length, map, filter, IfOk, IfSome};
 ghost use Rattle.std.specs.List.{AllByRecursion, list_any};
 ghost use Rattle.wire_base.specs.model.Control.{AreAscending, ids_of, same_system};
 ghost use Rattle.wire_base.specs.model.View.{lists};
 ghost use Rattle.view_graph.specs.Edges.{AreInOrder};
-ghost use Rattle.view_graph.specs.Renewal.{IsMade, edges_now, lists_at, said_now, seats};
+ghost use Rattle.view_graph.specs.Renewal.{IsMade, edges_now, is_listed_by, lists_at, said_now, seats};
 
 use crate::claims::Claim;
 use crate::edges::fitted;
@@ -28,6 +28,16 @@ fn lists(claim: &Claim, system: &SystemId) -> bool
     leads(claim.links.as_slice(), system)
 }
 
+/// The same of what a system says, if anything.
+fn is_listed_by(said: &Option<Claim>, system: &SystemId) -> bool
+    ensures { result ≡ is_listed_by said.now system.now }
+{
+    match said {
+        Some(claim) => lists(claim, system),
+        None => false,
+    }
+}
+
 /// The same of the system of the node at a place.
 fn lists_at(
     nodes: &[ViewNode],
@@ -45,10 +55,7 @@ fn lists_at(
         return Ok(false);
     };
     let said = said_now(conf, up, entries, &node.system)?;
-    Ok(match &said {
-        Some(claim) => lists(claim, system),
-        None => false,
-    })
+    Ok(is_listed_by(&said, system))
 }
 
 /// The edges of a system with those links.
@@ -66,15 +73,55 @@ fn edges_now(
     requires ascending { AreAscending (ids_of entries.now) }
     ensures { IfOk result (λ edges. edges ≡ edges_now (said_now conf.now up.now entries.now) nodes.now system.now links.now) }
 {
-    let alloc = conf.kinds.allocator();
-    let halves = half_edges(alloc, nodes, links)?;
-    let mut edges = Vec::with_capacity(alloc, halves.len())?;
-    'edges: for edge in halves.as_slice() {
+    let halves = half_edges(conf.kinds.allocator(), nodes, links)?;
+    both_ways(nodes, conf, up, entries, system, halves.as_slice())
+}
+
+/// Those of its edges that the systems at their other ends list too.
+fn both_ways(
+    nodes: &[ViewNode],
+    conf: &RouterConf,
+    up: &[bool],
+    entries: &[Entry],
+    system: &SystemId,
+    halves: &[ViewEdge],
+) -> M<Rows<ViewEdge>>
+    requires one_each { length up.now ≡ length conf.now.ends }
+    requires ascending { AreAscending (ids_of entries.now) }
+    ensures { IfOk result (λ edges. edges ≡ filter (λ e. lists_at (said_now conf.now up.now entries.now) nodes.now e.to system.now) halves.now) }
+{
+    let mut edges = Vec::with_capacity(conf.kinds.allocator(), halves.len())?;
+    'edges: for edge in halves {
         if lists_at(nodes, conf, up, entries, edge.to as usize, system)? {
             edges.push(*edge)?;
         }
     }
     Ok(fitted(edges))
+}
+
+/// A node made anew by what its system says, with the places in subdomains as before.
+fn made_of(
+    nodes: &[ViewNode],
+    conf: &RouterConf,
+    up: &[bool],
+    entries: &[Entry],
+    before: &ViewNode,
+    claim: &Claim,
+) -> M<ViewNode>
+    requires order { AreInOrder (seats nodes.now) }
+    requires few { length nodes.now ≤ 65536 }
+    requires one_each { length up.now ≡ length conf.now.ends }
+    requires ascending { AreAscending (ids_of entries.now) }
+    ensures { IfOk result (λ node. node ≡ record { system = before.now.system; overload = claim.now.overload; edges = edges_now (said_now conf.now up.now entries.now) nodes.now before.now.system claim.now.links; subs = before.now.subs }) }
+{
+    let subs = copy_subs(conf.kinds.allocator(), before.subs.as_slice())?;
+    let links = claim.links.as_slice();
+    Ok(ViewNode {
+        system: before.system,
+        overload: claim.overload,
+        edges: edges_now(nodes, conf, up, entries, &before.system, links)?,
+        subs,
+    })
 }
 
 /// The node at a place made anew. None where there is none, or its system says nothing.
@@ -98,13 +145,7 @@ fn node_now(
     let Some(claim) = said_now(conf, up, entries, &before.system)? else {
         return Ok(None);
     };
-    let links = claim.links.as_slice();
-    let node = ViewNode {
-        system: before.system,
-        overload: claim.overload,
-        edges: edges_now(nodes, conf, up, entries, &before.system, links)?,
-        subs: copy_subs(conf.kinds.allocator(), before.subs.as_slice())?,
-    };
+    let node = made_of(nodes, conf, up, entries, before, &claim)?;
     Ok(Some(NewNode { place, node }))
 }
 
