@@ -2,10 +2,11 @@
 use Rattle.std.proofs.Common.{◌≡◌, ℕ, zero, suc, ◌+◌, ◌<◌, ◌==◌, ◌&&◌, ◌||◌, Bool, true, false, not, if◌then◌else◌, List, [], ◌∷◌, ◌++◌, length, get_or, take, drop, map, filter, is_some, slice_get, Option, Some, None, refl, sym, ap, ◌∙◌, arith, append-nil, length-append}
 use Rattle.std.proofs.Math.Seq.{take-suc}
 use Rattle.std.specs.Prelude.{option_to_list}
-use Rattle.std.specs.List.{insert, filter_map}
+use Rattle.std.specs.List.{AllByRecursion, insert, filter_map, flat_map}
 use Rattle.std.specs.Ordering.{is_lt}
-use Rattle.std.proofs.lemmas.List.{append_assoc, length-take-le, map-append}
+use Rattle.std.proofs.lemmas.List.{append_assoc, get_or_default, length-take-le, map-append}
 use Rattle.std.proofs.lemmas.Bool.{eqb-true, eq-eqb}
+use Rattle.std.proofs.lemmas.List.Concat.{flat_map-cons, flat_map-append}
 use Rattle.std.proofs.lemmas.List.Elements.{filter-append}
 use Rattle.wire_base.specs.declared.conf.SubKind.{SubKind}
 use Rattle.wire_base.specs.declared.conf.End.{End}
@@ -203,3 +204,27 @@ pub fails_one : {X : Type 0} (p : X → Bool) (xs : List X) (i : ℕ) (x : X) (k
 fails_one {X} p xs i x kept lt at before h =
     let none : filter p (x ∷ []) ≡ [] = rw h refl in
     before ∙ sym (append-nil (filter p (take i xs))) ∙ ap (λ (ys : List X). filter p (take i xs) ++ ys) (sym none) ∙ sym (filter-append p (take i xs) (x ∷ [])) ∙ ap (filter p) (take_one xs i x lt at)
+
+-- the same where the element is read by its place
+pub passes_at : {X : Type 0} (p : X → Bool) (xs : List X) (i : ℕ) (d : X) (kept next : List X) → i < length xs → kept ≡ filter p (take i xs) → next ≡ kept ++ get_or xs i d ∷ [] → p (get_or xs i d) ≡ true → next ≡ filter p (take (i + 1) xs)
+passes_at p xs i d kept next lt before step h = passes_one p xs i (get_or xs i d) kept next lt (get_or_default xs i d (get_or xs i d) lt) before step h
+
+pub fails_at : {X : Type 0} (p : X → Bool) (xs : List X) (i : ℕ) (d : X) (kept : List X) → i < length xs → kept ≡ filter p (take i xs) → p (get_or xs i d) ≡ false → kept ≡ filter p (take (i + 1) xs)
+fails_at p xs i d kept lt before h = fails_one p xs i (get_or xs i d) kept lt (get_or_default xs i d (get_or xs i d) lt) before h
+
+pub map_one : {X Y : Type 0} (f : X → Y) (xs : List X) (i : ℕ) (x : X) (y : Y) (old next : List Y) → i < length xs → x ≡ get_or xs i x → old ≡ map f (take i xs) → next ≡ old ++ y ∷ [] → y ≡ f x → next ≡ map f (take (i + 1) xs)
+map_one {X} {Y} f xs i x y old next lt at before step is =
+    step ∙ ap (λ (ys : List Y). ys ++ y ∷ []) before ∙ ap (λ (z : Y). map f (take i xs) ++ z ∷ []) is ∙ sym (map-append f (take i xs) (x ∷ [])) ∙ ap (map f) (take_one xs i x lt at)
+
+pub flat_one : {X Y : Type 0} (f : X → List Y) (xs : List X) (i : ℕ) (x : X) (old next : List Y) → i < length xs → x ≡ get_or xs i x → old ≡ flat_map f (take i xs) → next ≡ old ++ f x → next ≡ flat_map f (take (i + 1) xs)
+flat_one {X} {Y} f xs i x old next lt at before step =
+    let last : flat_map f (x ∷ []) ≡ f x = flat_map-cons f x [] ∙ append-nil (f x) in
+    step ∙ ap (λ (ys : List Y). ys ++ f x) before ∙ ap (λ (ys : List Y). flat_map f (take i xs) ++ ys) (sym last) ∙ sym (flat_map-append f (take i xs) (x ∷ [])) ∙ ap (flat_map f) (take_one xs i x lt at)
+
+pub all_push : {X : Type 0} (P : X → Type 0) (xs : List X) (x : X) → AllByRecursion P xs → P x → AllByRecursion P (xs ++ x ∷ [])
+all_push P [] x all is = (is, tt)
+all_push P (y ∷ ys) x all is = (all.0, all_push P ys x all.1 is)
+
+pub map_at : {X Y : Type 0} (f : X → Y) (ys : List Y) (i : ℕ) (d : Y) (x : X) (old next : List X) → i < length ys → map f old ≡ take i ys → next ≡ old ++ x ∷ [] → f x ≡ get_or ys i d → map f next ≡ take (i + 1) ys
+map_at {X} {Y} f ys i d x old next lt before step is =
+    ap (map f) step ∙ map-append f old (x ∷ []) ∙ ap (λ (zs : List Y). zs ++ f x ∷ []) before ∙ ap (λ (z : Y). take i ys ++ z ∷ []) is ∙ take_one ys i (get_or ys i d) lt (get_or_default ys i d (get_or ys i d) lt)

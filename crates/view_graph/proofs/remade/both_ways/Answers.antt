@@ -1,0 +1,17 @@
+use Rattle.std.proofs.Common.{List, Vec, Global, Bool, sym, ap, ◌∙◌}
+use Rattle.wire_base.specs.declared.view.ViewEdge.{ViewEdge}
+use Rattle.view_graph.specs.Renewal.{lists_at, said_now}
+use Rattle.view_graph.proofs.ListLaws.{passes_at, fails_at}
+use Rattle.view_graph.proofs.remade.both_ways.Goals as goal
+use Rattle.view_graph.proofs.remade.both_ways.Goals.{then-branch+in_ok-push, else-branch}
+
+pub edges-preserved : goal.edges-preserved
+edges-preserved c =
+    let p : ViewEdge → Bool = λ e. lists_at (said_now c.args.conf.now c.args.up.now c.args.entries.now) c.args.nodes.now e.to c.args.system.now in
+    elim c.if-branch.branch [
+      | then-branch+in_ok-push w ↦ passes_at p c.args.halves.now c.edges.edge-index _ c.edges.edges.items c.if-branch.edges.items c.edges-test.true c.edges.invariant (ap items_of w.edges-is ∙ w.in_ok-push.ensures.items) (sym c.in_ok-lists_at.ensures ∙ w.if-branch.true)
+      | else-branch w ↦ ap items_of w.edges-is ∙ fails_at p c.args.halves.now c.edges.edge-index _ c.edges.edges.items c.edges-test.true c.edges.invariant (sym c.in_ok-lists_at.ensures ∙ w.if-branch.false)
+    ]
+  where
+    items_of : Vec ViewEdge Global → List ViewEdge
+    items_of v = v.items
