@@ -1,4 +1,5 @@
-use Rattle.std.proofs.Common.{List, take, ap, ◌∙◌}
+use Rattle.std.proofs.Common.{List, take, ap, ◌∙◌, arith}
+use Rattle.std.proofs.lemmas.List.{take_all}
 use Rattle.wire_base.specs.model.View.{Link}
 use Rattle.view_graph.specs.Edges.{half_edges, metrics_to}
 use Rattle.view_graph.proofs.EdgeLaws.{none_listed}
@@ -10,3 +11,6 @@ links-init c = c.in_ok-edges.ensures.items ∙ none_listed 0 c.args.claims.now
 
 pub links-preserved : goal.links-preserved
 links-preserved c = c.in_ok-count.ensures (take c.links.link-index c.args.links.now) c.links.invariant ∙ ap (λ (ls : List Link). half_edges 0 (metrics_to ls c.args.claims.now)) (take_one c.args.links.now c.links.link-index c.link-item.result c.links-test.true c.link-item.is)
+
+pub returns : goal.returns
+returns c = c.from_vec.ensures ∙ c.links.invariant ∙ ap (λ (ls : List Link). half_edges 0 (metrics_to ls c.args.claims.now)) (take_all c.links.link-index c.args.links.now (omega (arith, c.links-test.false)))

@@ -1,4 +1,5 @@
-use Rattle.std.proofs.Common.{List, [], Vec, Global, Bool, slice_index_or, sym, ap, ◌∙◌}
+use Rattle.std.proofs.Common.{List, [], Vec, Global, Bool, slice_index_or, sym, ap, ◌∙◌, arith, filter}
+use Rattle.std.proofs.lemmas.List.{take_all}
 use Rattle.wire_base.specs.declared.view.ViewEdge.{ViewEdge}
 use Rattle.view_graph.specs.Edges.{leads_to}
 use Rattle.view_graph.proofs.ListLaws.{passes_at, fails_at}
@@ -16,3 +17,7 @@ edges-preserved c =
   where
     items_of : Vec ViewEdge Global → List ViewEdge
     items_of v = v.items
+
+pub returns : goal.returns
+returns c =
+    c.fitted.ensures ∙ c.edges.invariant ∙ ap (filter (λ (e : ViewEdge). leads_to c.args.place (slice_index_or c.args.halves.now e.to []))) (take_all c.edges.edge-index c.halves_at-own.result.now (omega (arith, c.edges-test.false)) ∙ c.halves_at-own.ensures)

@@ -1,4 +1,5 @@
-use Rattle.std.proofs.Common.{List, Vec, Global, Bool, sym, ap, ◌∙◌}
+use Rattle.std.proofs.Common.{List, Vec, Global, Bool, sym, ap, ◌∙◌, arith, filter}
+use Rattle.std.proofs.lemmas.List.{take_all}
 use Rattle.wire_base.specs.declared.view.ViewEdge.{ViewEdge}
 use Rattle.view_graph.specs.Renewal.{lists_at, said_now}
 use Rattle.view_graph.proofs.ListLaws.{passes_at, fails_at}
@@ -15,3 +16,6 @@ edges-preserved c =
   where
     items_of : Vec ViewEdge Global → List ViewEdge
     items_of v = v.items
+
+pub returns : goal.returns
+returns c = c.fitted.ensures ∙ c.edges.invariant ∙ ap (filter (λ (e : ViewEdge). lists_at (said_now c.args.conf.now c.args.up.now c.args.entries.now) c.args.nodes.now e.to c.args.system.now)) (take_all c.edges.edge-index c.args.halves.now (omega (arith, c.edges-test.false)))
