@@ -1,7 +1,6 @@
 //! A failure at each call of a source or a sink in turn, and what stands after it.
 use crate::runs::{FREE, Limits, Object, Outcome, run_row};
 use std::alloc::Global;
-use std::test::Fail;
 use wire_base::Status;
 
 // One packet on written rows.
@@ -63,54 +62,84 @@ fn same(one: &Outcome, other: &Outcome) -> bool {
         && one.frames.as_slice() == other.frames.as_slice()
 }
 
-/// Whether the call that is to fail is past the last one, so that all is as without a failure; where it isn't and the run doesn't
-/// stand as promised, that is the test's failure.
-fn is_past(alloc: Global, work: &str, limits: Limits, whole: &Outcome) -> Result<bool, Fail> {
+/// Whether the call that is to fail is past the last one, so that all is as without a failure; none where it isn't and the run
+/// doesn't stand as promised.
+fn is_past(alloc: Global, work: &str, limits: Limits, whole: &Outcome) -> Option<bool> {
     let stopped = run_row(alloc, work, limits)?;
     let is_past = same(&stopped, whole);
     if is_past || stands(work, limits, &stopped, whole) {
-        return Ok(is_past);
+        Some(is_past)
+    } else {
+        None
     }
-    Err(Fail::new("a run that failed doesn't stand as promised"))
+}
+
+/// Whether each of an object's calls fails as promised, and the fourth is past the last one.
+fn fails_in_turn(alloc: Global, work: &str, broken: Object, whole: &Outcome) -> bool {
+    let mut last = None;
+    for call in 1..5 {
+        let limits = Limits {
+            broken,
+            call,
+            ..FREE
+        };
+        last = is_past(alloc, work, limits, whole);
+        if last.is_none() {
+            return false;
+        }
+    }
+    last == Some(true)
+}
+
+/// The same of the objects of a run, of which there are four.
+fn each_fails_in_turn(alloc: Global, work: &str) -> Option<[bool; 4]> {
+    let whole = run_row(alloc, work, FREE)?;
+    Some([
+        fails_in_turn(alloc, work, Object::Conf, &whole),
+        fails_in_turn(alloc, work, Object::Input, &whole),
+        fails_in_turn(alloc, work, Object::Frames, &whole),
+        fails_in_turn(alloc, work, Object::Report, &whole),
+    ])
 }
 
 #[test]
-fn each_call_fails_in_turn(rt: HostRuntime) -> Result<(), Fail> {
-    let alloc = rt.alloc();
+fn each_call_fails_in_turn(rt: HostRuntime) {
     for work in [HOP, HEADERS, REPLAY, NODE] {
-        let whole = run_row(alloc, work, FREE)?;
-        for broken in [Object::Conf, Object::Input, Object::Frames, Object::Report] {
-            let mut is_last = false;
-            for call in 1..5 {
-                let limits = Limits {
-                    broken,
-                    call,
-                    ..FREE
-                };
-                is_last = is_past(alloc, work, limits, &whole)?;
-            }
-            assert!(rt; is_last, "there are more calls in {work}");
-        }
+        assert!(rt;
+            each_fails_in_turn(rt.alloc(), work) == Some([true; 4]),
+            "at {work}"
+        );
     }
-    Ok(())
+}
+
+/// Whether a report's sink that takes nothing has failed, behind a capture that is whole.
+fn no_report(alloc: Global, whole: &[u8]) -> Option<bool> {
+    let run = run_row(alloc, REPLAY, Limits { report: 0, ..FREE })?;
+    Some(
+        run.status == Status::WriteFault
+            && run.report.as_slice().is_empty()
+            && run.frames.as_slice() == whole,
+    )
+}
+
+/// Whether a capture's sink that takes nothing has failed with its header.
+fn no_frames(alloc: Global) -> Option<bool> {
+    let run = run_row(alloc, REPLAY, Limits { frames: 0, ..FREE })?;
+    Some(
+        run.status == Status::WriteFault
+            && run.report.as_slice().is_empty()
+            && run.frames.as_slice().is_empty(),
+    )
+}
+
+fn no_report_of_whole(alloc: Global) -> Option<bool> {
+    let whole = run_row(alloc, REPLAY, FREE)?;
+    no_report(alloc, whole.frames.as_slice())
 }
 
 /// A sink that takes none of a piece has failed: the report's, behind a capture that is whole, and the capture's, with its header.
 #[test]
-fn sinks_that_take_nothing(rt: HostRuntime) -> Result<(), Fail> {
-    let alloc = rt.alloc();
-    let whole = run_row(alloc, REPLAY, FREE)?;
-    let no_report = run_row(alloc, REPLAY, Limits { report: 0, ..FREE })?;
-    let no_frames = run_row(alloc, REPLAY, Limits { frames: 0, ..FREE })?;
-    assert!(rt;
-        no_report.status == Status::WriteFault
-            && no_report.report.as_slice().is_empty()
-            && no_report.frames.as_slice() == whole.frames.as_slice()
-    );
-    assert!(rt;
-        no_frames.status == Status::WriteFault
-            && no_frames.report.as_slice().is_empty()
-            && no_frames.frames.as_slice().is_empty()
-    );
-    Ok(())
+fn sinks_that_take_nothing(rt: HostRuntime) {
+    assert!(rt; no_report_of_whole(rt.alloc()) == Some(true));
+    assert!(rt; no_frames(rt.alloc()) == Some(true));
 }

@@ -1,6 +1,5 @@
 //! The inputs of the tables, as the octets that a run reads.
 use std::alloc::Global;
-use std::test::Fail;
 use wire_base::{M, Octets};
 
 // A's own link state PDU, as it sends it first.
@@ -64,29 +63,43 @@ pub fn push_record(out: &mut Octets, second: u32, frame: &[u8]) -> M<()> {
     out.append(frame)
 }
 
-/// The capture of records: a second and a frame each, where `A` is A's own link state PDU.
-fn capture_of(alloc: Global, records: &str) -> Result<Octets, Fail> {
-    let mut out = no_records(alloc)?;
-    let mut words = records.split(' ');
-    while let (Some(second), Some(frame)) = (words.next(), words.next()) {
-        let digits = if frame == "A" { LSP_OF_A } else { frame };
-        let frame = hex::decode(alloc, digits)?;
-        push_record(
-            &mut out,
-            second.parse::<u32>().unwrap_or(0),
-            frame.as_slice(),
-        )?;
-    }
-    Ok(out)
+/// Octets by their digits; none where those are no digits, or for want of memory.
+pub fn octets_of(alloc: Global, digits: &str) -> Option<Octets> {
+    let octets = hex::decode(alloc, digits).ok()?;
+    Some(Octets::from_vec(octets))
 }
 
-/// What a command reads: records for `node`, digits for `headers`, else lines.
-pub fn input_of(alloc: Global, words: &str, text: &str) -> Result<Octets, Fail> {
+/// Appends a record of a frame by its digits, where `A` is A's own link state PDU.
+fn push_digits(out: &mut Octets, alloc: Global, second: &str, frame: &str) -> Option<()> {
+    let digits = if frame == "A" { LSP_OF_A } else { frame };
+    let frame = octets_of(alloc, digits)?;
+    let second = second.parse::<u32>().unwrap_or(0);
+    push_record(out, second, frame.as_slice()).ok()
+}
+
+/// Appends records: a second and a frame each.
+fn push_records(out: &mut Octets, alloc: Global, records: &str) -> Option<()> {
+    let mut words = records.split(' ');
+    while let (Some(second), Some(frame)) = (words.next(), words.next()) {
+        push_digits(out, alloc, second, frame)?;
+    }
+    Some(())
+}
+
+/// The capture of records.
+fn capture_of(alloc: Global, records: &str) -> Option<Octets> {
+    let mut out = no_records(alloc).ok()?;
+    push_records(&mut out, alloc, records)?;
+    Some(out)
+}
+
+/// What a command reads: records for `node`, digits for `headers`, else lines. None where it isn't that, or for want of memory.
+pub fn input_of(alloc: Global, words: &str, text: &str) -> Option<Octets> {
     if words.starts_with("node") {
-        return capture_of(alloc, text);
+        capture_of(alloc, text)
+    } else if words.starts_with("headers") {
+        octets_of(alloc, text)
+    } else {
+        lines_of(alloc, text).ok()
     }
-    if words.starts_with("headers") {
-        return Ok(Octets::from_vec(hex::decode(alloc, text)?));
-    }
-    Ok(lines_of(alloc, text)?)
 }

@@ -1,10 +1,11 @@
 //! The one place where the program is run.
+ghost use Rattle.std.specs.Prelude.{◌≡◌, IfOk};
+
 use crate::domains::domain_of;
 use crate::inputs::input_of;
 use replay_run::run;
 use std::alloc::{AllocError, Global};
-use std::test::Fail;
-use wire_base::{BytesSink, BytesSource, M, Octets, Rows, Status};
+use wire_base::{BytesSink, BytesSource, M, Octets, Rows, Sink, Source, Status};
 
 /// The objects that a run is handed.
 #[derive(Clone, Copy, PartialEq, Eq)]
@@ -49,32 +50,59 @@ fn fails(alloc: Global, limits: Limits, object: Object) -> M<Rows<u32>> {
     Ok(Rows::new(alloc))
 }
 
-/// The run of those words on an input, and on the domain file that the second word names.
-pub fn run_on(alloc: Global, words: &[&str], input: Octets, limits: Limits) -> M<Outcome> {
-    let name = match words {
-        [_, name, ..] => *name,
-        _ => "",
-    };
-    let conf = Octets::from_slice(alloc, domain_of(name).as_bytes())?;
-    let mut conf = BytesSource::new(conf, fails(alloc, limits, Object::Conf)?);
-    let mut input = BytesSource::new(input, fails(alloc, limits, Object::Input)?);
-    let frames_fail = fails(alloc, limits, Object::Frames)?;
-    let mut frames = BytesSink::new(alloc, limits.frames, frames_fail)?;
-    let report_fails = fails(alloc, limits, Object::Report)?;
-    let mut report = BytesSink::new(alloc, limits.report, report_fails)?;
-    let status = run(
-        alloc,
-        words,
-        &mut conf,
-        &mut input,
-        &mut frames,
-        &mut report,
-    );
+/// A source of those octets that fails as the limits say of that object.
+fn source(alloc: Global, limits: Limits, object: Object, octets: Octets) -> M<BytesSource>
+    ensures { IfOk result (λ s. ⟦<BytesSource as Source>⟧.faults s ≡ 0) }
+{
+    let fails = fails(alloc, limits, object)?;
+    Ok(BytesSource::new(octets, fails))
+}
+
+/// A sink with so much room that fails as the limits say of that object.
+fn sink(alloc: Global, limits: Limits, object: Object, room: usize) -> M<BytesSink>
+    ensures faults { IfOk result (λ s. ⟦<BytesSink as Sink>⟧.faults s ≡ 0) }
+    ensures zeros { IfOk result (λ s. ⟦<BytesSink as Sink>⟧.zeros s ≡ 0) }
+{
+    let fails = fails(alloc, limits, object)?;
+    BytesSink::new(alloc, room, fails)
+}
+
+/// The run of those words on a domain file and an input.
+fn run_between(
+    alloc: Global,
+    words: &[&str],
+    conf: &mut BytesSource,
+    input: &mut BytesSource,
+    limits: Limits,
+) -> M<Outcome>
+    requires conf { ⟦<BytesSource as Source>⟧.faults conf.old ≡ 0 }
+    requires input { ⟦<BytesSource as Source>⟧.faults input.old ≡ 0 }
+{
+    let mut frames = sink(alloc, limits, Object::Frames, limits.frames)?;
+    let mut report = sink(alloc, limits, Object::Report, limits.report)?;
+    let status = run(alloc, words, conf, input, &mut frames, &mut report);
     Ok(Outcome {
         status,
         report,
         frames,
     })
+}
+
+/// The domain file that the second word names.
+fn conf_of(alloc: Global, words: &[&str]) -> M<Octets> {
+    let name = match words {
+        [_, name, ..] => *name,
+        _ => "",
+    };
+    Octets::from_slice(alloc, domain_of(name).as_bytes())
+}
+
+/// The run of those words on an input, and on the domain file that the second word names.
+pub fn run_on(alloc: Global, words: &[&str], input: Octets, limits: Limits) -> M<Outcome> {
+    let mut input = source(alloc, limits, Object::Input, input)?;
+    let conf = conf_of(alloc, words)?;
+    let mut conf = source(alloc, limits, Object::Conf, conf)?;
+    run_between(alloc, words, &mut conf, &mut input, limits)
 }
 
 fn words_of<'a>(alloc: Global, text: &'a str) -> Result<Vec<&'a str>, AllocError> {
@@ -85,12 +113,26 @@ fn words_of<'a>(alloc: Global, text: &'a str) -> Result<Vec<&'a str>, AllocError
     Ok(words)
 }
 
-/// The run of a row of a table: words and an input, with ` | ` between them.
-pub fn run_row(alloc: Global, given: &str, limits: Limits) -> Result<Outcome, Fail> {
-    let (words, text) = given.split_once(" | ").ok_or("a row without an input")?;
-    let input = input_of(alloc, words, text)?;
-    let words = words_of(alloc, words)?;
-    Ok(run_on(alloc, words.as_slice(), input, limits)?)
+/// The run of those words, with blanks between them, on an input as the tables have it; none where that isn't one, or for want of
+/// memory.
+fn run_words(alloc: Global, words: &str, input: &str, limits: Limits) -> Option<Outcome> {
+    let list = words_of(alloc, words).ok()?;
+    let input = input_of(alloc, words, input)?;
+    run_on(alloc, list.as_slice(), input, limits).ok()
+}
+
+/// The run of a row of a table: words and an input, with ` | ` between them. None where the row has another form, or for want of
+/// memory.
+pub fn run_row(alloc: Global, given: &str, limits: Limits) -> Option<Outcome> {
+    let (words, input) = given.split_once(" | ")?;
+    run_words(alloc, words, input, limits)
+}
+
+/// The three parts of a row of a table: words and an input, and behind an arrow two things that are wanted of their run.
+pub fn parts_of(line: &str) -> Option<(&str, &str, &str)> {
+    let (given, wanted) = line.split_once(" => ")?;
+    let (first, second) = wanted.split_once(" | ")?;
+    Some((given, first, second))
 }
 
 /// Whether octets stand somewhere in others.

@@ -1,6 +1,6 @@
 //! Twelve routers in a ring with three chords, and twenty injections: each reaches each of the twelve.
 use crate::runs::{FREE, holds, run_row};
-use std::test::Fail;
+use std::alloc::Global;
 
 // Subdomain 0 has labels, and subdomain 1 a written table.
 pub const TWELVE: &str = "\
@@ -341,10 +341,16 @@ done lines 22 injected 20 named 240 got 240 dropped 0 flight 0
 const FIRST_COPY: &[u8] =
     b"\x0c\x00\x00\x00\x00\x00\x00\x00\x23\x00\x00\x00\x23\x00\x00\x00\x02\x00\x00\x01\x00\x00\x02\x00\x00\x00\x00\x01\xab\x37\x01\x38\x81\x40";
 
+/// Whether the run reports that, and sends the copy.
+fn reaches_all(alloc: Global) -> Option<(bool, bool)> {
+    let outcome = run_row(alloc, GIVEN, FREE)?;
+    Some((
+        outcome.report.as_slice() == REPORT.as_bytes(),
+        holds(outcome.frames.as_slice(), FIRST_COPY),
+    ))
+}
+
 #[test]
-fn each_injection_reaches_each_router(rt: HostRuntime) -> Result<(), Fail> {
-    let outcome = run_row(rt.alloc(), GIVEN, FREE)?;
-    assert_eq!(rt; outcome.report.as_slice(), REPORT.as_bytes());
-    assert!(rt; holds(outcome.frames.as_slice(), FIRST_COPY));
-    Ok(())
+fn each_injection_reaches_each_router(rt: HostRuntime) {
+    assert!(rt; reaches_all(rt.alloc()) == Some((true, true)));
 }

@@ -4,13 +4,12 @@ ghost use Rattle.std.specs.List.{AllByRecursion};
 ghost use Rattle.wire_base.specs.model.Configuration.{IsSound};
 
 use crate::domains::{PAIR, RING};
-use crate::inputs::LSP_OF_A;
+use crate::inputs::{LSP_OF_A, octets_of};
 use domain_conf::read_domain;
 use path_tree::{distances_to, tight_steps};
 use router_core::Router;
 use std::alloc::Global;
-use std::test::Fail;
-use wire_base::{Domain, M, Octets, RouterConf, Rows, View, ViewEdge};
+use wire_base::{Domain, M, RouterConf, View, ViewEdge};
 
 // What the second, the third and the fourth router of the ring say of themselves first, as another implementation writes it.
 const OTHERS_OF_THE_RING: [&str; 3] = [
@@ -40,14 +39,29 @@ fn is_pair(alloc: Global, view: &View) -> M<bool> {
     )
 }
 
-/// Whether a router sees the pair once it took a frame on its first link.
-fn sees_pair(alloc: Global, router: &mut Router, frame: &[u8]) -> M<bool> {
-    if router.conf().ends.len() == 0 || frame.len() > 65_000 {
-        return Ok(false);
-    }
-    router.frame(0, frame)?;
+/// Whether a router sees the pair.
+fn sees_pair(alloc: Global, router: &Router) -> M<bool> {
     let view = router.current_view()?;
     is_pair(alloc, &view)
+}
+
+/// How many routers one sees.
+fn nodes_seen(router: &Router) -> Option<usize> {
+    let view = router.current_view().ok()?;
+    Some(view.as_slice().len())
+}
+
+/// Whether a router took a frame on its first link.
+fn takes(router: &mut Router, frame: &[u8]) -> bool {
+    router.conf().ends.len() > 0 && frame.len() <= 65_000 && router.frame(0, frame).is_ok()
+}
+
+/// Whether a router took a frame, by its digits, on its first link.
+fn takes_digits(alloc: Global, router: &mut Router, digits: &str) -> bool {
+    match octets_of(alloc, digits) {
+        Some(frame) => takes(router, frame.as_slice()),
+        None => false,
+    }
 }
 
 /// The configurations of a domain's routers, each of which is sound.
@@ -58,90 +72,77 @@ fn confs(domain: &Domain) -> &[RouterConf]
 }
 
 /// The second router of a domain, which has two.
-fn second(alloc: Global, domain: &Domain) -> M<Option<Router>> {
+fn second(alloc: Global, domain: &Domain) -> Option<Router> {
     match confs(domain) {
-        [_, conf] => Ok(Some(Router::new(alloc, conf.copy()?)?)),
-        _ => Ok(None),
+        [_, conf] => Router::new(alloc, conf.copy().ok()?).ok(),
+        _ => None,
     }
 }
 
-fn second_sees_pair(alloc: Global, domain: &Domain, frame: &[u8]) -> M<bool> {
-    match second(alloc, domain)? {
-        Some(mut router) => sees_pair(alloc, &mut router, frame),
-        None => Ok(false),
+/// Whether the second router of a domain takes what the first says of itself, and then sees the pair.
+fn second_sees_pair(alloc: Global, domain: &Domain) -> bool {
+    match second(alloc, domain) {
+        Some(mut router) => takes_digits(alloc, &mut router, LSP_OF_A)
+            && sees_pair(alloc, &router) == Ok(true),
+        None => false,
     }
 }
 
-fn pair_sees_itself(alloc: Global, frame: &[u8]) -> M<bool> {
+fn pair_sees_itself(alloc: Global) -> bool {
     match read_domain(alloc, PAIR.as_bytes()) {
-        Ok(domain) => second_sees_pair(alloc, &domain, frame),
-        Err(_) => Ok(false),
+        Ok(domain) => second_sees_pair(alloc, &domain),
+        Err(_) => false,
     }
 }
 
 #[test]
-fn the_pair_sees_itself(rt: HostRuntime) -> Result<(), Fail> {
-    let frame = hex::decode(rt.alloc(), LSP_OF_A)?;
-    assert!(rt; pair_sees_itself(rt.alloc(), frame.as_slice())?);
-    Ok(())
-}
-
-/// How many routers one sees.
-fn nodes_seen(router: &Router) -> M<usize> {
-    let view = router.current_view()?;
-    Ok(view.as_slice().len())
+fn the_pair_sees_itself(rt: HostRuntime) {
+    assert!(rt; pair_sees_itself(rt.alloc()));
 }
 
 /// How many routers one sees once it took a frame on its first link.
-fn nodes_then(router: &mut Router, frame: &[u8]) -> M<usize> {
-    if router.conf().ends.len() > 0 && frame.len() <= 65_000 {
-        router.frame(0, frame)?;
+fn nodes_then(alloc: Global, router: &mut Router, digits: &str) -> Option<usize> {
+    if takes_digits(alloc, router, digits) {
+        nodes_seen(router)
+    } else {
+        None
     }
-    nodes_seen(router)
 }
 
-/// Whether a router sees four once three others have told it of themselves one after the other, and before that one fewer each.
-fn sees_four(router: &mut Router, frames: &[Octets]) -> M<bool> {
-    match frames {
-        [second, third, fourth] => Ok(
-            nodes_seen(router)? == 1
-                && nodes_then(router, second.as_slice())? == 2
-                && nodes_then(router, third.as_slice())? == 3
-                && nodes_then(router, fourth.as_slice())? == 4,
-        ),
-        _ => Ok(false),
-    }
+/// How many routers one sees before three others tell it of themselves one after the other, and once each has.
+fn seen_in_turn(alloc: Global, router: &mut Router) -> [Option<usize>; 4] {
+    let [second, third, fourth] = OTHERS_OF_THE_RING;
+    [
+        nodes_seen(router),
+        nodes_then(alloc, router, second),
+        nodes_then(alloc, router, third),
+        nodes_then(alloc, router, fourth),
+    ]
 }
 
 /// The first router of a domain.
-fn first(alloc: Global, domain: &Domain) -> M<Option<Router>> {
+fn first(alloc: Global, domain: &Domain) -> Option<Router> {
     match confs(domain) {
-        [conf, ..] => Ok(Some(Router::new(alloc, conf.copy()?)?)),
-        [] => Ok(None),
+        [conf, ..] => Router::new(alloc, conf.copy().ok()?).ok(),
+        [] => None,
     }
 }
 
-fn first_sees_four(alloc: Global, domain: &Domain, frames: &[Octets]) -> M<bool> {
-    match first(alloc, domain)? {
-        Some(mut router) => sees_four(&mut router, frames),
-        None => Ok(false),
+fn first_sees(alloc: Global, domain: &Domain) -> [Option<usize>; 4] {
+    match first(alloc, domain) {
+        Some(mut router) => seen_in_turn(alloc, &mut router),
+        None => [None; 4],
     }
 }
 
-fn ring_sees_itself(alloc: Global, frames: &[Octets]) -> M<bool> {
+fn ring_sees(alloc: Global) -> [Option<usize>; 4] {
     match read_domain(alloc, RING.as_bytes()) {
-        Ok(domain) => first_sees_four(alloc, &domain, frames),
-        Err(_) => Ok(false),
+        Ok(domain) => first_sees(alloc, &domain),
+        Err(_) => [None; 4],
     }
 }
 
 #[test]
-fn the_ring_sees_itself(rt: HostRuntime) -> Result<(), Fail> {
-    let mut frames = Rows::new(rt.alloc());
-    for digits in OTHERS_OF_THE_RING {
-        let frame = hex::decode(rt.alloc(), digits)?;
-        frames.push(Octets::from_vec(frame))?;
-    }
-    assert!(rt; ring_sees_itself(rt.alloc(), frames.as_slice())?);
-    Ok(())
+fn the_ring_sees_itself(rt: HostRuntime) {
+    assert!(rt; ring_sees(rt.alloc()) == [Some(1), Some(2), Some(3), Some(4)]);
 }
