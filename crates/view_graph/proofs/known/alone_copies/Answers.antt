@@ -1,4 +1,5 @@
-use Rattle.std.proofs.Common.{List, Vec, Global, Bool, not, sym, ap, ◌∙◌}
+use Rattle.std.proofs.Common.{List, Vec, Global, Bool, not, filter, sym, ap, arith, ◌∙◌}
+use Rattle.std.proofs.lemmas.List.{take_all}
 use Rattle.wire_base.specs.declared.view.ViewSub.{ViewSub}
 use Rattle.view_graph.specs.Owners.{owner_at, is_several}
 use Rattle.view_graph.proofs.ListLaws.{passes_one, fails_one}
@@ -15,3 +16,7 @@ subs-preserved c =
   where
     items_of : Vec ViewSub Global → List ViewSub
     items_of v = v.items
+
+pub returns : goal.returns
+returns c =
+    c.from_vec.ensures ∙ c.shrink_to_fit.ensures.items ∙ c.subs.invariant ∙ ap (filter (λ (s : ViewSub). not (is_several (owner_at c.args.owners.now s.prefix)))) (take_all c.subs.sub-index c.args.subs.now (omega (arith, c.subs-test.false)))

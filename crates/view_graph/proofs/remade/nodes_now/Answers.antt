@@ -1,6 +1,5 @@
 use Rattle.std.proofs.Common.{List, IfSome, get_or, sym, subst, ◌≡◌, arith, ◌∙◌}
 use Rattle.std.specs.List.{AllByRecursion}
-use Rattle.std.proofs.lemmas.List.{get_or_default}
 use Rattle.std.proofs.lemmas.List.{take_all}
 use Rattle.view_graph.specs.declared.patch.NewNode.{NewNode}
 use Rattle.view_graph.specs.Renewal.{IsMade, said_now}
