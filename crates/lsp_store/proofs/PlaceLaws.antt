@@ -19,7 +19,7 @@ use Rattle.wire_base.specs.declared.faults.PutFault.{PutFault}
 use Rattle.wire_base.specs.declared.faults.PutFault.TheVariants.{Full, Memory}
 use Rattle.wire_base.specs.model.Control.{same_id, id_order, is_below, AreAscending, IsDatabase, ids_of, entry_in, put_entry, aged, aged_to}
 use Rattle.lsp_store.specs.Places.{place_in, stands_at, IsPlace, is_new, PutAnswers, IsSecondAt, is_removed}
-use Rattle.lsp_store.proofs.OrderLaws.{id_total, tie_is_same, below_from_above, below_trans, above_trans, below_differs, above_differs, same_turned}
+use Rattle.lsp_store.proofs.OrderLaws.{id_total, tie_is_same, below_from_above, below_trans, above_trans, above_from_below, below_differs, above_differs, same_turned}
 
 -- ---- each element
 
@@ -88,6 +88,33 @@ pub stands_within : (ids : List LspId) (i : ℕ) (id : LspId) → stands_at ids 
 stands_within [] i id h = absurd (false≢true h)
 stands_within (x ∷ xs) zero id h = omega arith
 stands_within (x ∷ xs) (suc i) id h = omega (arith, stands_within xs i id h)
+
+-- what is above one identifier, and stands behind it
+stands_above : (x : LspId) (xs : List LspId) (n : ℕ) (id : LspId) → AllByRecursion (λ y. is_below x y ≡ true) xs → stands_at xs n id ≡ true → is_gt (id_order id x) ≡ true
+stands_above x [] n id all h = absurd (false≢true h)
+stands_above x (y ∷ ys) zero id all h = ap is_gt (id_total.congr id y x (tied (id_order id y) (tie_is_same id y ∙ same_turned id y ∙ h))) ∙ above_from_below y x all.0
+  where
+    tied : (o : Ordering) → is_eq o ≡ true → o ≡ Equal
+    tied Less k = absurd (false≢true k)
+    tied Equal k = refl
+    tied Greater k = absurd (false≢true k)
+stands_above x (y ∷ ys) (suc n) id all h = stands_above x ys n id all.1 h
+
+-- an identifier stands at its place alone
+stands_placed : (ids : List LspId) (n : ℕ) (id : LspId) → AreAscending ids → stands_at ids n id ≡ true → n ≡ place_in ids id
+stands_placed [] n id asc h = absurd (false≢true h)
+stands_placed (x ∷ xs) zero id asc h = first (id_order id x) (tie_is_same id x ∙ same_turned id x ∙ h)
+  where
+    first : (o : Ordering) → is_eq o ≡ true → 0 ≡ match_ordering o 0 0 (suc (place_in xs id))
+    first Less k = absurd (false≢true k)
+    first Equal k = refl
+    first Greater k = absurd (false≢true k)
+stands_placed (x ∷ xs) (suc n) id asc h = later (id_order id x) (stands_above x xs n id asc.0 h) (stands_placed xs n id asc.1 h)
+  where
+    later : (o : Ordering) → is_gt o ≡ true → n ≡ place_in xs id → suc n ≡ match_ordering o 0 0 (suc (place_in xs id))
+    later Less k is = absurd (false≢true k)
+    later Equal k is = absurd (false≢true k)
+    later Greater k is = ap (λ m. suc m) is
 
 -- ---- lookups
 
@@ -232,6 +259,17 @@ set_within es now p id same at =
 pub read_there : (es now : List Entry) (p : ℕ) (id : LspId) (x : Entry) → es ≡ now → IsPlace now id true p → x ≡ get_or es p x → Some x ≡ entry_in now id
 read_there es now p id x same at is =
     sym (slice_get_read es (length es) p x refl (set_within es now p id same at) is) ∙ ap (λ (xs : List Entry). slice_get xs p) same ∙ ap (λ n. slice_get now n) at.place ∙ entry_there now id (stands_there at)
+
+-- what stands at a place that was guessed
+pub read_near : (es now : List Entry) (p : ℕ) (id : LspId) (x : Entry) → es ≡ now → IsDatabase es → stands_at (ids_of es) p id ≡ true → x ≡ get_or es p x → Some x ≡ entry_in now id
+read_near es now p id x same db h is =
+    read_there es now p id x same (subst (λ (xs : List Entry). IsPlace xs id true p) same (record { place = stands_placed (ids_of es) p id db.in_order h; stands = h })) is
+
+pub near_within : (es : List Entry) (p : ℕ) (id : LspId) → stands_at (ids_of es) p id ≡ true → p < length es
+near_within es p id h =
+    let w = stands_within (ids_of es) p id h in
+    let l = length-map es (λ (x : Entry). x.id) in
+    omega (arith, w, l)
 
 pub none_there : (es now : List Entry) (p : ℕ) (id : LspId) → es ≡ now → IsDatabase es → IsPlace now id false p → None ≡ entry_in now id
 none_there es now p id same db at =

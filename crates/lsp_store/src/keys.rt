@@ -8,7 +8,7 @@ ghost use Rattle.lsp_store.specs.Keys.{AreOctets, IsOctets, id_key, octets_from}
 use wire_base::{LspId, SystemId};
 
 /// The six octets of a system's identifier, as one number.
-fn system_key(system: SystemId) -> u64
+pub fn system_key(system: SystemId) -> u64
     ensures key { result ≡ octets_from 0 system.0 }
     ensures octets { AreOctets system.0 }
     ensures small { result < 2 ^ 48 }

@@ -11,7 +11,7 @@ mod purges;
 mod seconds;
 mod store;
 
-pub use keys::{is_same_id, is_system_above};
+pub use keys::{is_same_id, is_system_above, system_key};
 pub use places::{Keyed, place_of, stands_at};
 pub use purges::purge;
 pub use store::Store;

@@ -25,6 +25,14 @@ impl Keyed for Entry {
     }
 }
 
+impl Keyed for LspId {
+    ghost key = { λ id. id };
+
+    fn key(&self) -> LspId {
+        *self
+    }
+}
+
 fn is_above<T: Keyed>(id: &LspId, item: &T) -> bool
     ensures { result ≡ is_gt (id_order id.now (T.key item.now)) }
 {

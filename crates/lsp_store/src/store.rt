@@ -79,6 +79,16 @@ impl Store {
         }
     }
 
+    /// The entry of an identifier, as `get` gives it. Where it stands at that place, nothing is searched.
+    pub fn get_near(&self, id: &LspId, place: usize) -> Option<&Entry>
+        ensures { option_map (λ e. e.now) result ≡ entry_in self.now.entries id.now }
+    {
+        if stands_at(self.items.as_slice(), place, id) {
+            return Some(&self.items[place]);
+        }
+        self.get(id)
+    }
+
     /// Where an identifier stands, or would stand.
     fn find(&self, id: &LspId) -> Result<usize, usize>
         ensures there { IfOk result (λ place. IsPlace self.now.entries id.now true place) }
