@@ -78,12 +78,12 @@ fn all_rows(
     ensures bits { IfOk result (λ bits. length bits ≡ bits_of t.bsl) }
     ensures rows { IfOk result (λ bits. (k : ℕ) → k < bits_of t.bsl → slice_index_or bits k [] ≡ row_of_owner entries.now covers.now u (owner_among (slice_index_or owners.now k Nobody) (id_at t (k + 1)))) }
 {
-    let mut bits: Rows<Rows<First>> = Rows::new(alloc);
+    let mut bits = Vec::with_capacity(alloc, usize::from(t.bsl.bits()))?;
     for place in 0..t.bsl.bits() {
         let owner = owner_among(owners[place as usize], id_at(t, place));
         bits.push(row_of_owner(alloc, entries, covers, u, owner)?)?;
     }
-    Ok(bits)
+    Ok(Rows::from_vec(bits))
 }
 
 /// The BFR-id of the bit position after so many others.
@@ -125,17 +125,19 @@ fn covers_at(covers: &[bool], node: u16) -> bool
     }
 }
 
-/// The entries over which shortest walks lead to a node.
+/// The entries over which shortest walks lead to a node, with no more room than they take: a row of one or two stands for each
+/// bit position, and is kept.
 fn row_toward(alloc: Global, entries: &[Entry], d: u16) -> M<Rows<First>>
     ensures { IfOk result (λ row. row ≡ map (λ e. e.first) (filter (beyond d) entries.now)) }
 {
-    let mut row: Rows<First> = Rows::new(alloc);
+    let count = entries.iter().filter(|e| is_beyond(e, d)).count();
+    let mut row = Vec::with_capacity(alloc, count)?;
     for entry in entries {
         if is_beyond(entry, d) {
             row.push(entry.first)?;
         }
     }
-    Ok(row)
+    Ok(Rows::from_vec(row))
 }
 
 fn is_beyond(entry: &Entry, d: u16) -> bool
