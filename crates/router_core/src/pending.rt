@@ -1,8 +1,9 @@
 //! How much is to be sent on a link (ISO/IEC 10589, 7.3.15.4 and 7.3.17).
-ghost use Rattle.std.specs.Prelude.{◌≡◌, ◌+◌, ◌/◌, ◌<◌, ◌≤◌, Bool, true, false, length, max, filter, slice_index_or, if◌then◌else◌};
+ghost use Rattle.std.specs.Prelude.{◌≡◌, [], ◌+◌, ◌/◌, ◌<◌, ◌≤◌, Bool, true, false, length, max, filter, slice_index_or, if◌then◌else◌};
 ghost use Rattle.wire_base.specs.model.Control.{srm_in, ssn_in};
-ghost use Rattle.wire_base.specs.model.Flooding.{send_of, is_known};
+ghost use Rattle.wire_base.specs.model.Flooding.{send, send_of, is_known};
 ghost use Rattle.wire_base.specs.declared.conf.RouterConf.{RouterConf};
+ghost use Rattle.isis_flood.specs.Flags.{has_srm, has_ssn};
 ghost use Rattle.router_laws.specs.State.{is_up, control_of};
 
 use crate::control::Control;
@@ -83,7 +84,24 @@ pub(crate) fn pending(store: &Store, flood: &Flood, link: u16) -> usize
         + lists(asked(entries, flood, link))
 }
 
+/// Whether anything may be due on a link.
+fn may_owe(flood: &Flood, link: u16) -> bool
+    ensures due { result ≡ false → slice_index_or flood.now.flood.due link false ≡ false }
+    ensures sends { result ≡ false → has_srm flood.now.flood.rows link ≡ false }
+    ensures asks { result ≡ false → has_ssn flood.now.flood.rows link ≡ false }
+{
+    flood.due(link) || flood.may_send(link) || flood.may_ask(link)
+}
+
 impl Control {
+    /// Whether anything may be due on a link: false only where nothing is.
+    #[tactic(auto, using(crate::proofs::IdleLaws::idle_send))]
+    pub(crate) fn may_owe(&self, link: u16) -> bool
+        ensures { result ≡ false → send self.now link ≡ record { control = self.now; sent = []; drops = [] } }
+    {
+        may_owe(&self.flood, link)
+    }
+
     /// How many frames are due on a link that is up.
     pub(crate) fn pending(&self, link: u16) -> usize
         requires { is_up self.now link ≡ true }

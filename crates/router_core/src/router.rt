@@ -1,4 +1,4 @@
-ghost use Rattle.std.specs.Prelude.{◌≡◌, ◌<◌, ◌≤◌, ◌^◌, length, true, false, None, IfOk, OnOk, OnErr, MatchResult};
+ghost use Rattle.std.specs.Prelude.{◌≡◌, [], ◌<◌, ◌≤◌, ◌^◌, length, true, false, None, IfOk, OnOk, OnErr, MatchResult};
 ghost use Rattle.std.specs.List.{list_any};
 ghost use Rattle.wire_base.specs.model.Configuration.{IsSound};
 ghost use Rattle.wire_base.specs.model.Flooding.{first_control, tick, send, send_of, end_up, end_down, restart};
@@ -145,6 +145,15 @@ impl Router {
         ensures heard { self.new.heard ≡ self.old.heard }
     {
         self.control.send(link)
+    }
+
+    /// Whether [`Router::send`] may have anything to send on a link. False only where it would send nothing, and leave the
+    /// router as it is. It reads no entry of the database and no row of flags, so that a router that owes nothing, as most do
+    /// most of the time, is passed over at once.
+    pub fn may_owe(&self, link: u16) -> bool
+        ensures { result ≡ false → send self.now.control link ≡ record { control = self.now.control; sent = []; drops = [] } }
+    {
+        self.control.may_owe(link)
     }
 
     /// What [`Router::send`] would send now on a link that is up. Nothing changes: who has found room for it says by
