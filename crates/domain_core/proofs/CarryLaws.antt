@@ -20,7 +20,7 @@ use Rattle.domain_frames.specs.Framed.{frame_over, IsFramed, IsFlooded}
 use Rattle.domain_frames.specs.Read.{pdu_in, copy_read, copy_in, outer_in, packet_in, item_in, item_ids}
 use Rattle.domain_model.specs.Moves.{Made, replied, packet_taken, inject_made}
 use Rattle.domain_core.specs.Network.{NetworkState, world_of, heard_after, IsFrameOver, AreFramesOver, IsTrueNetwork}
-use Rattle.domain_model.specs.Step.{Happened, makes, push_all, with_router, sends, injects, taken_off, arrives, takes_over}
+use Rattle.domain_model.specs.Step.{Happened, makes, same_world, push_all, with_router, sends, injects, taken_off, arrives, takes_over}
 use Rattle.domain_model.specs.Truth.{IsTrueControl, IsTruePdu, IsTrueCopy, IsTrueItem, InjectFits}
 use Rattle.domain_model.specs.World.{WorldState, is_up, link_between, queue_over}
 use Rattle.domain_model.proofs.ControlTruth.{IsTrueReply, on_pdu_true}
@@ -68,6 +68,13 @@ same_next link r next e p q = ap (λ (c : Control). record { control = c; effect
 module _ (n : NetworkState) (t : IsTrueNetwork n) (a b link : ℕ) (r : RouterState) (at : slice_get n.routers a ≡ Some r) where
   pub send_is : link_between n.domain.routers a b ≡ Some link → sends (world_of n) a (slice_get (world_of n).routers a) (link_between n.domain.routers a b) ≡ makes (with_router (world_of n) a (send r.control link).control) (replied n.domain.routers a link (send r.control link))
   send_is joined = ap (λ (o : Option ℕ). sends (world_of n) a (slice_get (world_of n).routers a) o) joined ∙ ap (λ (o : Option Control). sends (world_of n) a o (Some link)) (control_at n a r at)
+
+  -- nothing is due, so nothing happens
+  pub send_idle : link_between n.domain.routers a b ≡ Some link → send r.control link ≡ record { control = r.control; sent = []; drops = [] } → sends (world_of n) a (slice_get (world_of n).routers a) (link_between n.domain.routers a b) ≡ same_world (world_of n)
+  send_idle joined idle =
+      send_is joined
+      ∙ ap (λ (reply : Reply). makes (with_router (world_of n) a reply.control) (replied n.domain.routers a link reply)) idle
+      ∙ ap (λ (cs : List Control). same_world (record (world_of n) { routers = cs })) (set_same (world_of n).routers a r.control (control_at n a r at))
 
   send_flooded : link < length r.control.conf.ends → (next : Control) (e : Effects) → ◌≡◌ {A = Next} (record { control = next; effects = e }) (framed link (send r.control link)) → IsFlooded n.domain.routers a link r.control (send r.control link) next e
   send_flooded within next e done =

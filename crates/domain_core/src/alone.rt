@@ -83,6 +83,7 @@ impl Network {
     }
 
     /// A router sends what is due toward another, over an end that is up. It has sent that only once it is told and on its way.
+    /// One that owes nothing there, as most do most of the time, is passed over.
     pub(crate) fn send(&mut self, from: u16, to: u16) -> M<StepOut>
         requires truth { IsTrueNetwork (state_of self.old) }
         requires place { from < length self.old.routers.items }
@@ -96,6 +97,9 @@ impl Network {
         let Some(link) = self.link(from, to) else {
             return Ok(StepOut::nothing(alloc));
         };
+        if !self.routers[usize::from(from)].may_owe(link) {
+            return Ok(StepOut::nothing(alloc));
+        }
         let confs = confs_of(&self.domain);
         let router = &mut self.routers[usize::from(from)];
         let effects = router.due(link)?;
