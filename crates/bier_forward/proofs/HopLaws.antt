@@ -1,8 +1,6 @@
 -- The hop of a packet is that over its table.
-use Rattle.std.proofs.Common.{◌≡◌, ℕ, ◌-◌, ◌≤◌, List, [], ◌∷◌, length, map, get_or, Option, option_map, refl, ap, subst, ◌∙◌, sym}
-use Rattle.wire_base.specs.declared.conf.Kind.{Kind}
+use Rattle.std.proofs.Common.{◌≡◌, ℕ, ◌-◌, ◌≤◌, List, [], ◌∷◌, map, get_or, Option, option_map, refl, ap, subst, ◌∙◌, sym}
 use Rattle.wire_base.specs.declared.conf.RouterConf.{RouterConf}
-use Rattle.wire_base.specs.declared.triple.Triple.{Triple}
 use Rattle.wire_base.specs.declared.view.First.{First}
 use Rattle.wire_base.specs.declared.view.ViewNode.{ViewNode}
 use Rattle.wire_base.specs.model.BitSet.{IsWithin}
@@ -10,10 +8,6 @@ use Rattle.wire_base.specs.model.Graph.{IsGraph}
 use Rattle.wire_base.specs.model.Hop.{Outcome, hop}
 use Rattle.wire_base.specs.model.OnFrame.{Effects, Packet, choice_of, class_of, hop_at, joined, node_place, nothing, outcome_done}
 use Rattle.wire_base.specs.model.Place.{bits_of, id_at, own_id}
-use Rattle.bier_bits.specs.declared.any.AnyBits.{AnyBits}
-use Rattle.bier_bits.specs.Any.{bsl_of, positions_of}
-use Rattle.bier_head.specs.declared.header.Header.{Header}
-use Rattle.bier_head.specs.Views.{header_of}
 use Rattle.bift_table.specs.Bift.{member_at, router_at}
 use Rattle.bier_forward.specs.Hops.{AreRows, after, given, over_ids, own_position, place_of}
 use Rattle.bier_forward.specs.Packets.{LeadsToEnds, hopped}
@@ -50,17 +44,3 @@ over-is r g p ttl class rows table ps size graph ends is bits are at set within 
 pub after-nothing-hopped : (r : RouterConf) (g : List ViewNode) (p : Packet) (ttl : ℕ) → after nothing (hopped r g p ttl) ≡ hopped r g p ttl
 unfolding hop_at
 after-nothing-hopped r g p ttl = refl
-
--- ---- the width
-
--- a BitString of a packet's header has its triple's length and its positions
-pub record IsSet (p : Packet) (size : ℕ) (set : List ℕ) : Type 0 where
-  pub size_is : bits_of p.triple.bsl ≡ size
-  pub set_is : set ≡ p.header.positions
-
-pub set-of : (p : Packet) (t : Triple) (kind : Kind) (h : Header) (payload : List ℕ) (any : AnyBits)
-    → (let q : Packet = record { triple = t; kind = kind; header = header_of h; payload = payload } in q ≡ p)
-    → bsl_of h.bits ≡ t.bsl → h.bits ≡ any → IsSet p (bits_of (bsl_of any)) (positions_of any)
-set-of p t kind h payload any view length is =
-    subst (λ (q : Packet). IsSet q (bits_of (bsl_of any)) (positions_of any)) view
-    (record { size_is = ap bits_of (sym length ∙ ap bsl_of is); set_is = sym (ap positions_of is) })

@@ -99,7 +99,3 @@ own-within t (Some k) o e = subst (IsOwn (bits_of t.bsl)) (sym e) (by (position_
     by : (o : Option ℕ) → position_in t k ≡ o → IsOwn (bits_of t.bsl) o
     by None q = tt
     by (Some p) q = let is = position-is t k p q in (is.low, is.high)
-
--- the id at the own position is the own one
-pub own-id : (t : Triple) (k : ℕ) (o : Option ℕ) → o ≡ position_in t k → (p : ℕ) → o ≡ Some p → id_at t p ≡ k
-own-id t k o e p q = (position-is t k p (sym e ∙ q)).id

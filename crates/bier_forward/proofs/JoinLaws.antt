@@ -26,10 +26,6 @@ after-first e x es = rw (append_assoc e.sent x.sent, append_assoc e.got x.got, a
 pub after-none : (e : Effects) → after e (joined []) ≡ e
 after-none e = rw (append-nil e.sent, append-nil e.got, append-nil e.drops) refl
 
--- after nothing
-pub after-nothing : (es : List Effects) → after nothing (joined es) ≡ joined es
-after-nothing es = refl
-
 -- one more of those that are left
 pub step-joined : {X : Type 0} (f : X → Effects) (e x whole : Effects) (o : X) (os more : List X) → more ≡ o ∷ os → x ≡ after e (f o) → after e (joined (map f more)) ≡ whole → after x (joined (map f os)) ≡ whole
 step-joined {X} f e x whole o os more next is kept = ap (λ (y : Effects). after y (joined (map f os))) is ∙ after-first e (f o) (map f os) ∙ sym (ap (λ (l : List X). after e (joined (map f l))) next) ∙ kept

@@ -95,7 +95,7 @@ impl Period {
     }
 }
 
-/// The least period that fits the lists of all positions.
+/// A period that fits the lists of all positions: the largest of theirs.
 fn period_of(lists: &[Rows<First>]) -> Period
     ensures { IsPeriod result lists.now }
 {

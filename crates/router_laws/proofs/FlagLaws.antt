@@ -6,7 +6,7 @@ use Rattle.std.specs.Ordering.{is_lt, is_gt, match_ordering}
 use Rattle.std.specs.List.{AllByRecursion}
 use Rattle.wire_base.specs.declared.addresses.LspId.{LspId}
 use Rattle.wire_base.specs.model.Control.{id_order, is_below, same_id, AreAscending, FlagRow, no_flags, at_row, without_row, IsWithinLinks, IsFlagRow}
-use Rattle.wire_base.specs.model.Flooding.{send_on, ask_on, set_srm, clear_ssn}
+use Rattle.wire_base.specs.model.Flooding.{send_on, ask_on, set_srm}
 use Rattle.lsp_store.proofs.OrderLaws.{below_from_above, below_trans}
 
 -- ---- links
@@ -89,9 +89,6 @@ keeps_srm up link h = record { id = λ row. refl; within = λ row w. record { sr
 
 pub keeps_acknowledged : (up : List Bool) (link : ℕ) → KeepsRow up (set_srm link false)
 keeps_acknowledged up link = record { id = λ row. refl; within = λ row w. record { srm_up = flag_cleared row.srm up link w.srm_up; ssn_up = w.ssn_up } }
-
-pub keeps_sent : (up : List Bool) (link : ℕ) → KeepsRow up (clear_ssn link)
-keeps_sent up link = record { id = λ row. refl; within = λ row w. record { srm_up = w.srm_up; ssn_up = flag_cleared row.ssn up link w.ssn_up } }
 
 -- to be sent on all links that are up
 pub keeps_mark : (up : List Bool) → KeepsRow up (λ row. record row { srm = up; ssn = replicate (length up) false })

@@ -13,7 +13,7 @@ use Rattle.wire_base.specs.declared.flood_out.FloodOut.{FloodOut}
 use Rattle.wire_base.specs.declared.flood_out.FloodOut.TheVariants as out
 use Rattle.wire_base.specs.declared.triple.Summary.{Summary}
 use Rattle.wire_base.specs.model.Pdu.{Head, head_summary}
-use Rattle.wire_base.specs.model.Control.{same_id, same_system, fragment_0, entry_in, put_entry, purge, seq_of, age_of, age_by_life, is_unknown, is_newer_or_confused, is_full, FlagRow, no_flags, Flood, IsFlood, IsFlagRow, HasEntry}
+use Rattle.wire_base.specs.model.Control.{same_id, same_system, fragment_0, entry_in, put_entry, purge, seq_of, age_of, age_by_life, is_unknown, is_newer_or_confused, is_full, FlagRow, no_flags, Flood, IsFlagRow, HasEntry}
 use Rattle.wire_base.specs.model.Flooding.{with_row, no_links, send_on, ask_on, set_srm, mark_all, kept, stores, puts_marked, only_says, flags_alone, lsp_aged, is_stray, is_own_ahead, lsp_in, on_lsp, LspAnswer, SnpAnswer, with_flags, wanted, asks, is_live_summary, listed_aged, on_listed, on_list, lacks, send_lacking, on_csnp, on_psnp}
 use Rattle.wire_base.specs.model.Tlv.{rows_of}
 use Rattle.isis_flood.specs.Answers.{csnp_listed}

@@ -11,8 +11,8 @@ ghost use Rattle.wire_base.specs.model.Pdu.{Head};
 ghost use Rattle.router_laws.specs.State.{IsShort};
 ghost use Rattle.router_laws.specs.Kept.{Kept};
 
-/// An empty database keeps what every event keeps: a link that comes up or goes down, what is sent, a link state PDU that the
-/// router issues, and a second. A second may spend the router's own.
+/// What is kept of a database holds of an empty one, and stays true when a link comes up or goes down, when what is due is sent,
+/// when the router issues its link state PDU, and when a second passes, which may spend the router's own.
 pub fn a_database_is_kept()
     ensures new { (own : SystemId) (up : List Bool) → length up ≤ 64 → Kept own up true (new_flood own up) [] }
     ensures up { (own : SystemId) (up : List Bool) (spent : Bool) (f : Flood) (es : List Entry) (link : ℕ) → Kept own up spent f es → link < length up → Kept own (set up link true) spent (link_up f es link) es }
@@ -22,7 +22,7 @@ pub fn a_database_is_kept()
     ensures second { (own : SystemId) (up : List Bool) (spent : Bool) (f : Flood) (es : List Entry) → Kept own up spent f es → Kept own up true (fold flood_aged f es) (filter_map after_second es) }
 {}
 
-/// So does a PDU that is taken at a link that is up (ISO/IEC 10589, 7.3.15).
+/// It stays true when a PDU is taken at a link that is up (ISO/IEC 10589, 7.3.15).
 pub fn a_database_keeps_what_it_takes()
     ensures lsp { (own : SystemId) (up : List Bool) (spent : Bool) (f : Flood) (es : List Entry) → Kept own up spent f es → (link : ℕ) → slice_index_or up link false ≡ true → (h : Head) (tlvs : List ℕ) → length tlvs ≤ MOST_CONTENT → Kept own up spent (on_lsp f es link h tlvs spent).flood (on_lsp f es link h tlvs spent).entries }
     ensures csnp { (own : SystemId) (up : List Bool) (spent : Bool) (link : ℕ) → slice_index_or up link false ≡ true → (f : Flood) (es : List Entry) (start last : LspId) (tlvs : List ℕ) → Kept own up spent f es → Kept own up spent (on_csnp f es link start last tlvs spent).flood (on_csnp f es link start last tlvs spent).entries }
