@@ -1,5 +1,6 @@
 mod Walks
 pub mod AnewLaws
+pub mod AscentLaws
 pub mod ChangeLaws
 pub mod ClaimLaws
 pub mod EdgeLaws

@@ -21,8 +21,8 @@ use Rattle.wire_base.specs.declared.addresses.SystemId.{SystemId}
 use Rattle.wire_base.specs.declared.view.ViewNode.{ViewNode}
 use Rattle.wire_base.specs.declared.view.ViewSub.{ViewSub}
 use Rattle.wire_base.specs.model.Control.{same_system}
-use Rattle.wire_base.specs.model.View.{Claim, has_prefix, is_shared, own_subs, node_of, nodes_of}
-use Rattle.view_graph.specs.Owners.{Prefix, prefixes_at, prefixes_in, prefixes_of, owner_at, owner_with, is_several, is_there, is_held, is_shared_in, IsOwner, AreOwners, AreAlone}
+use Rattle.wire_base.specs.model.View.{Claim, has_prefix, is_shared, node_of, nodes_of}
+use Rattle.view_graph.specs.Owners.{Prefix, prefixes_at, prefixes_in, prefixes_of, owner_at, owner_with, is_several, is_there, is_held, is_shared_in, IsOwner, AreOwners, AreAlone, AreTold}
 use Rattle.view_graph.proofs.AnewLaws.{same_by_get}
 use Rattle.view_graph.proofs.FragmentLaws.{same_is}
 use Rattle.view_graph.proofs.GraphLaws.{and_both}
@@ -30,7 +30,7 @@ use Rattle.view_graph.proofs.SystemLaws.{same_turned}
 
 -- ---- one prefix more
 
-and_false : (a : Bool) → (a && false) ≡ false
+pub and_false : (a : Bool) → (a && false) ≡ false
 and_false true = refl
 and_false false = refl
 
@@ -236,8 +236,8 @@ several_is claims i c p (Some (Some t)) at has is = by (same_system c.system t) 
     by false e = absurd (true≢false (sym (claim_shares claims i c t p at e has) ∙ alone))
 
 -- the places that are kept by the map are those whose prefix is no other system's
-pub alone_is : (claims : List Claim) (i : ℕ) (c : Claim) (owners : BTreeMap Ipv4 (Option SystemId)) → slice_get claims i ≡ Some c → AreOwners (prefixes_of claims) owners → filter (λ s. not (is_several (owner_at owners s.prefix))) c.subs ≡ own_subs claims c
-alone_is claims i c owners at are = go c.subs (λ p h. h)
+pub owners_told : (claims : List Claim) (owners : BTreeMap Ipv4 (Option SystemId)) → AreOwners (prefixes_of claims) owners → AreTold claims owners
+owners_told claims owners are i c at = go c.subs (λ p h. h)
   where
     go : (subs : List ViewSub) → ((p : Ipv4) → has_prefix p subs ≡ true → has_prefix p c.subs ≡ true) → filter (λ s. not (is_several (owner_at owners s.prefix))) subs ≡ filter (λ s. not (is_shared claims c.system s.prefix)) subs
     go [] within = refl
@@ -286,15 +286,15 @@ none_at q (y ∷ ys) (suc i) x none at = none_at q ys i x (by (q y) none) at
     by true h = absurd (true≢false h)
     by false h = h
 
-whole_is : (claims : List Claim) (owners : BTreeMap Ipv4 (Option SystemId)) → AreOwners (prefixes_of claims) owners → list_any (λ (c : Claim). list_any (λ (s : ViewSub). is_several (owner_at owners s.prefix)) c.subs) claims ≡ false → map (λ (n : ViewNode). n.subs) (nodes_of claims) ≡ map (λ (c : Claim). c.subs) claims
-whole_is claims owners are none =
+whole_is : (claims : List Claim) (owners : BTreeMap Ipv4 (Option SystemId)) → AreTold claims owners → list_any (λ (c : Claim). list_any (λ (s : ViewSub). is_several (owner_at owners s.prefix)) c.subs) claims ≡ false → map (λ (n : ViewNode). n.subs) (nodes_of claims) ≡ map (λ (c : Claim). c.subs) claims
+whole_is claims owners told none =
     same_by_get (map (λ (n : ViewNode). n.subs) (nodes_of claims)) (map (λ (c : Claim). c.subs) claims) (λ i. slice_get-map (λ (n : ViewNode). n.subs) (nodes_of claims) i ∙ ap (option_map (λ (n : ViewNode). n.subs)) (slice_get-map (node_of claims) claims i) ∙ by i (slice_get claims i) refl ∙ sym (slice_get-map (λ (c : Claim). c.subs) claims i))
   where
     by : (i : ℕ) (o : Option Claim) → slice_get claims i ≡ o → option_map (λ (n : ViewNode). n.subs) (option_map (node_of claims) (slice_get claims i)) ≡ option_map (λ (c : Claim). c.subs) (slice_get claims i)
     by i None e = ap (λ (o : Option Claim). option_map (λ (n : ViewNode). n.subs) (option_map (node_of claims) o)) e ∙ sym (ap (option_map (λ (c : Claim). c.subs)) e)
     by i (Some c) e =
         let p = λ (s : ViewSub). is_several (owner_at owners s.prefix) in
-        ap (λ (o : Option Claim). option_map (λ (n : ViewNode). n.subs) (option_map (node_of claims) o)) e ∙ ap (λ (ss : List ViewSub). Some ss) (sym (none_several p c.subs (none_at (λ (d : Claim). list_any p d.subs) claims i c none e) ∙ alone_is claims i c owners e are)) ∙ sym (ap (option_map (λ (c : Claim). c.subs)) e)
+        ap (λ (o : Option Claim). option_map (λ (n : ViewNode). n.subs) (option_map (node_of claims) o)) e ∙ ap (λ (ss : List ViewSub). Some ss) (sym (none_several p c.subs (none_at (λ (d : Claim). list_any p d.subs) claims i c none e) ∙ told i c e)) ∙ sym (ap (option_map (λ (c : Claim). c.subs)) e)
 
-pub whole_alone : (claims : List Claim) (owners : BTreeMap Ipv4 (Option SystemId)) → AreOwners (prefixes_of claims) owners → AreAlone owners → map (λ (n : ViewNode). n.subs) (nodes_of claims) ≡ map (λ (c : Claim). c.subs) claims
-whole_alone claims owners are alone = whole_is claims owners are (alone_claims_none owners claims alone)
+pub whole_alone : (claims : List Claim) (owners : BTreeMap Ipv4 (Option SystemId)) → AreTold claims owners → AreAlone owners → map (λ (n : ViewNode). n.subs) (nodes_of claims) ≡ map (λ (c : Claim). c.subs) claims
+whole_alone claims owners told alone = whole_is claims owners told (alone_claims_none owners claims alone)

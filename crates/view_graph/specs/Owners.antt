@@ -1,15 +1,16 @@
 -- Which system has a prefix, where one alone has it.
-use Rattle.std.specs.Prelude.{◌≡◌, ◌&&◌, not, Bool, true, false, List, map, Option, Some, None, if◌then◌else◌}
+use Rattle.std.specs.Prelude.{◌≡◌, ℕ, ◌+◌, ◌&&◌, nat_lt, max, not, Bool, true, false, List, [], ◌∷◌, map, filter, slice_get, Option, Some, None, if◌then◌else◌}
 use Rattle.std.specs.Ordering.{nat_cmp}
 use Rattle.std.specs.BTreeMap.{BTreeMap, get_by}
 use Rattle.std.specs.Cmp.Lexicographic.{slice_cmp}
-use Rattle.std.specs.List.{flat_map, list_any}
+use Rattle.std.specs.Int.{from_be_bytes, w32}
+use Rattle.std.specs.List.{flat_map, list_all, list_any}
 use Rattle.std.specs.Str.{bytes_eq}
 use Rattle.wire_base.specs.declared.addresses.Ipv4.{Ipv4}
 use Rattle.wire_base.specs.declared.addresses.SystemId.{SystemId}
 use Rattle.wire_base.specs.declared.view.ViewSub.{ViewSub}
 use Rattle.wire_base.specs.model.Control.{same_system}
-use Rattle.wire_base.specs.model.View.{Claim}
+use Rattle.wire_base.specs.model.View.{Claim, own_subs}
 
 -- a prefix of a place in a subdomain, and the system whose place it is
 pub record Prefix : Type 0 where
@@ -61,3 +62,27 @@ AreOwners xs owners = (p : Ipv4) → IsOwner xs p (owner_at owners p)
 -- no prefix is one of several systems
 abbrev pub AreAlone : BTreeMap Ipv4 (Option SystemId) → Type 0
 AreAlone owners = (p : Ipv4) → is_several (owner_at owners p) ≡ false
+
+-- the places whose prefix isn't one of several systems there are those of which no other system has the prefix
+abbrev pub AreTold : List Claim → BTreeMap Ipv4 (Option SystemId) → Type 0
+AreTold claims owners = (i : ℕ) (c : Claim) → slice_get claims i ≡ Some c → filter (λ s. not (is_several (owner_at owners s.prefix))) c.subs ≡ own_subs claims c
+
+-- ---- prefixes that ascend from system to system
+
+-- the four octets of a prefix, as one number
+unfoldable pub prefix_number : Ipv4 → ℕ
+prefix_number p = from_be_bytes w32 p.0
+
+-- whether no prefix is below that number
+abbrev pub are_above : ℕ → List ViewSub → Bool
+are_above low subs = list_all (λ s. not (nat_lt (prefix_number s.prefix) low)) subs
+
+-- that number, or a greater one that is above all of the prefixes
+abbrev pub top_of : ℕ → List ViewSub → ℕ
+top_of low [] = low
+top_of low (s ∷ subs) = top_of (max low (prefix_number s.prefix + 1)) subs
+
+-- whether the prefixes of each system are above those of all before it, and none is below that number
+abbrev pub do_ascend : ℕ → List Claim → Bool
+do_ascend low [] = true
+do_ascend low (c ∷ cs) = are_above low c.subs && do_ascend (top_of low c.subs) cs

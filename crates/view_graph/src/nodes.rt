@@ -5,7 +5,7 @@ ghost use Rattle.wire_base.specs.model.Configuration.{IsSound};
 ghost use Rattle.wire_base.specs.model.Control.{IsDatabase};
 ghost use Rattle.wire_base.specs.model.Graph.{IsGraph, covers};
 ghost use Rattle.view_graph.specs.Edges.{AreInOrder, half_edges_of};
-ghost use Rattle.view_graph.specs.Owners.{AreAlone, AreOwners, prefixes_of};
+ghost use Rattle.view_graph.specs.Owners.{AreAlone, AreTold};
 
 use crate::claims::{Claim, claims_of};
 use crate::edges::{all_half_edges, whole_edges};
@@ -27,7 +27,7 @@ fn node_of(
 ) -> M<ViewNode>
     requires few { place < 65536 }
     requires alone { is_any ≡ false → AreAlone owners.now }
-    ensures { IfOk result (λ n. (claims : List ClaimItem) → halves.now ≡ map (half_edges_of claims) claims → AreOwners (prefixes_of claims) owners.now → slice_get claims place ≡ Some claim → n ≡ node_of claims claim) }
+    ensures { IfOk result (λ n. (claims : List ClaimItem) → halves.now ≡ map (half_edges_of claims) claims → AreTold claims owners.now → slice_get claims place ≡ Some claim → n ≡ node_of claims claim) }
 {
     let edges = whole_edges(alloc, halves, place as u16)?;
     let Claim {
@@ -55,7 +55,7 @@ fn all_nodes(
 ) -> M<Rows<ViewNode>>
     requires few { length claims.items ≤ 65536 }
     requires halves { halves.now ≡ map (half_edges_of claims.items) claims.items }
-    requires owners { AreOwners (prefixes_of claims.items) owners.now }
+    requires told { AreTold claims.items owners.now }
     requires alone { is_any ≡ false → AreAlone owners.now }
     ensures { IfOk result (λ nodes. nodes ≡ nodes_of claims.items) }
 {

@@ -2,7 +2,7 @@
 ghost use Rattle.std.specs.Prelude.{◌≡◌, List, ◌++◌, Some, false, IfOk, OnOk, if◌then◌else◌};
 ghost use Rattle.std.specs.Str.{bytes_eq};
 ghost use Rattle.wire_base.specs.declared.addresses.Ipv4.{Ipv4};
-ghost use Rattle.view_graph.specs.Owners.{AreAlone, AreOwners, Prefix, owner_at, owner_with, is_several, prefixes_at, prefixes_of};
+ghost use Rattle.view_graph.specs.Owners.{AreAlone, AreOwners, AreTold, Prefix, are_above, do_ascend, owner_at, owner_with, is_several, prefix_number, prefixes_at, prefixes_of, top_of};
 
 use crate::claims::Claim;
 use std::alloc::Global;
@@ -61,10 +61,7 @@ fn add_prefixes(
 }
 
 /// For each prefix the system that has it, None where several have it; and whether several have one.
-pub(crate) fn owners_of(
-    alloc: Global,
-    claims: &[Claim],
-) -> M<(BTreeMap<Ipv4, Option<SystemId>>, bool)>
+fn all_owners(alloc: Global, claims: &[Claim]) -> M<(BTreeMap<Ipv4, Option<SystemId>>, bool)>
     ensures owners { IfOk result (λ o. AreOwners (prefixes_of claims.now) o.0) }
     ensures alone { IfOk result (λ o. o.1 ≡ false → AreAlone o.0) }
 {
@@ -74,6 +71,64 @@ pub(crate) fn owners_of(
         is_any = is_any | add_prefixes(&mut owners, claim.system, claim.subs.as_slice())?;
     }
     Ok((owners, is_any))
+}
+
+/// The four octets of a prefix, as one number.
+#[tactic(auto, unfolding(crate::specs::Owners::prefix_number))]
+fn prefix_number(prefix: Ipv4) -> u32
+    ensures { result ≡ prefix_number prefix }
+{
+    u32::from_be_bytes(prefix.0)
+}
+
+/// Whether no prefix is below that number.
+fn are_above(low: u64, subs: &[ViewSub]) -> bool
+    ensures { result ≡ are_above low subs.now }
+{
+    subs.iter()
+        .all(|sub| u64::from(prefix_number(sub.prefix)) >= low)
+}
+
+/// That number, or a greater one that is above all of the prefixes.
+fn top_of(low: u64, subs: &[ViewSub]) -> u64
+    ensures { result ≡ top_of low subs.now }
+{
+    let mut top = low;
+    'subs: for sub in subs {
+        top = top.max(u64::from(prefix_number(sub.prefix)) + 1);
+    }
+    top
+}
+
+/// Whether the prefixes of each system are above those of all systems before it.
+fn do_ascend(claims: &[Claim]) -> bool
+    ensures { result ≡ do_ascend 0 claims.now }
+{
+    let mut low = 0;
+    'claims: for claim in claims {
+        let subs = claim.subs.as_slice();
+        if !are_above(low, subs) {
+            return false;
+        }
+        low = top_of(low, subs);
+    }
+    true
+}
+
+/// What tells the prefixes that several systems have, and whether there is one. Most systems are named after their prefixes,
+/// so that these ascend too: then no two systems have one, and nothing is kept of them.
+#[tactic(auto, using(crate::proofs::AscentLaws::ascent_told, crate::proofs::OwnerLaws::owners_told))]
+pub(crate) fn owners_of(
+    alloc: Global,
+    claims: &[Claim],
+) -> M<(BTreeMap<Ipv4, Option<SystemId>>, bool)>
+    ensures told { IfOk result (λ o. AreTold claims.now o.0) }
+    ensures alone { IfOk result (λ o. o.1 ≡ false → AreAlone o.0) }
+{
+    if do_ascend(claims) {
+        return Ok((BTreeMap::new(alloc), false));
+    }
+    all_owners(alloc, claims)
 }
 
 /// Whether several systems have a prefix.

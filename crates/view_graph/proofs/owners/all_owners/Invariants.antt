@@ -1,6 +1,6 @@
 use Rattle.std.proofs.Common.{◌≡◌, false, take}
 use Rattle.view_graph.specs.Owners.{AreAlone, AreOwners, prefixes_of}
-use Rattle.view_graph.proofs.owners.owners_of.Given as goal
+use Rattle.view_graph.proofs.owners.all_owners.Given as goal
 
 abbrev pub invariant-claims : goal.invariant-claims
 invariant-claims l = record {

@@ -2,7 +2,7 @@ use Rattle.std.proofs.Common.{◌++◌, ap, subst, refl, ◌∙◌}
 use Rattle.wire_base.specs.model.View.{Claim}
 use Rattle.view_graph.specs.Owners.{AreAlone, AreOwners, prefixes_at, prefixes_in}
 use Rattle.view_graph.proofs.OwnerLaws.{claims_step, alone_step}
-use Rattle.view_graph.proofs.owners.owners_of.Goals as goal
+use Rattle.view_graph.proofs.owners.all_owners.Goals as goal
 
 pub claims-preserved : goal.claims-preserved
 claims-preserved c = record {
