@@ -1,17 +1,19 @@
 -- Where a system stands among the claims, what a link adds to the metrics, and which edges count.
 use mathlib.Core.Bool.{false≢true, true≢false}
-use Rattle.std.proofs.Common.{◌≡◌, ℕ, zero, suc, ◌+◌, ◌<◌, ◌≤◌, ◌==◌, nat_lt, min, Bool, true, false, if◌then◌else◌, List, [], ◌∷◌, ◌++◌, length, get_or, set, drop, map, filter, Option, Some, None, is_some, slice_get, refl, sym, ap, subst, ◌∙◌, arith}
+use Rattle.std.proofs.Common.{◌≡◌, ℕ, zero, suc, ◌+◌, ◌<◌, ◌≤◌, ◌==◌, nat_lt, min, Bool, true, false, if◌then◌else◌, List, [], ◌∷◌, ◌++◌, length, get_or, set, drop, map, filter, Option, Some, None, is_some, slice_get, inl, inr, refl, sym, ap, subst, ◌∙◌, arith}
 use Rattle.std.specs.declared.cmp.Ordering.{Ordering}
 use Rattle.std.specs.declared.cmp.Ordering.TheVariants.{Less, Equal, Greater}
 use Rattle.std.specs.Ordering.{is_eq, is_lt, is_gt, match_ordering}
-use Rattle.std.specs.List.{AllByRecursion, insert}
-use Rattle.std.proofs.lemmas.Bool.{eqb-true, eq-eqb, ltb-true, lt-ltb}
-use Rattle.std.proofs.lemmas.List.{length-map}
+use Rattle.std.specs.List.{AllByRecursion, insert, list_all}
+use Rattle.std.proofs.lemmas.Bool.{cases_lt, eqb-true, eq-eqb, ltb-true, lt-ltb}
+use Rattle.std.proofs.lemmas.List.{get_or-set_other, get_or_default, length-map}
+use Rattle.std.proofs.lemmas.Option.{slice_get_within}
 use Rattle.wire_base.specs.declared.addresses.SystemId.{SystemId}
 use Rattle.wire_base.specs.declared.view.ViewEdge.{ViewEdge}
 use Rattle.wire_base.specs.model.Control.{same_system, system_order}
 use Rattle.wire_base.specs.model.View.{Claim, Link, least_of, metric_to, lists, edges_from}
-use Rattle.view_graph.specs.Edges.{is_before, AreInOrder, place_in, stands_at, metrics_to, counted, edge_place, leads_at, put_edge, half_edges, half_edges_of, leads_to, whole_edges}
+use Rattle.view_graph.specs.Edges.{is_before, AreInOrder, AreWhole, place_in, stands_at, metrics_to, counted, edge_place, leads_at, put_edge, half_edges, half_edges_of, leads_to, whole_edges}
+use Rattle.view_graph.proofs.GraphLaws.{and_both}
 use Rattle.view_graph.proofs.SystemLaws.{tie_is_same, before_trans, above_trans, before_differs, above_differs, same_before}
 
 -- ---- each element
@@ -255,6 +257,32 @@ edges_are claims i c at =
     let own : get_or halves i [] ≡ half_edges_of claims c = get_map (half_edges_of claims) claims i c [] at in
     ap (λ es. filter (λ e. leads_to i (get_or halves e.to [])) es) own
     ∙ sym (edges_whole (λ k. leads_to i (get_or halves k [])) c claims 0 (λ k d there. let e : 0 + k ≡ k = omega arith in ap (λ q. leads_to i (get_or halves q [])) e ∙ ap (λ es. leads_to i es) (get_map (half_edges_of claims) claims k d [] there) ∙ from_start i (metrics_to d.links claims) ∙ ap is_some (get_map (λ (x : Claim). metric_to d.links x.system) claims i c None at)))
+
+-- ---- where all of them count
+
+all_pass : {X : Type 0} (p : X → Bool) (xs : List X) → list_all p xs ≡ true → xs ≡ filter p xs
+all_pass p [] h = refl
+all_pass {X} p (x ∷ xs) h =
+    let both = and_both (p x) (list_all p xs) h in
+    ap (λ (ys : List X). x ∷ ys) (all_pass p xs both.1) ∙ sym (ap (λ b. if b then x ∷ filter p xs else filter p xs) both.0)
+
+pub back_step : (halves : List (List ViewEdge)) (place : ℕ) → ((i : ℕ) → i < place → get_or halves i [] ≡ whole_edges halves i) → list_all (λ e. leads_to place (get_or halves e.to [])) (get_or halves place []) ≡ true → (i : ℕ) → i < place + 1 → get_or halves i [] ≡ whole_edges halves i
+back_step halves place before back i lt = elim (cases_lt i place) [
+  | inl less ↦ before i less
+  | inr more ↦
+      let same : place ≡ i = omega (arith, lt, more) in
+      subst (λ k. get_or halves k [] ≡ whole_edges halves k) same (all_pass (λ (e : ViewEdge). leads_to place (get_or halves e.to [])) (get_or halves place []) back)
+]
+
+-- the edges of the first claim that is left, where those of the claims before it are taken
+pub taken_own : (claims : List Claim) (edges left : List (List ViewEdge)) (place k : ℕ) (c : Claim) (own : List ViewEdge)
+    → slice_get claims place ≡ Some c → AreWhole (map (half_edges_of claims) claims) edges → length left ≡ length claims → ((i : ℕ) → place ≤ i → get_or left i [] ≡ get_or edges i []) → k ≡ place → own ≡ get_or left k own → own ≡ edges_from c 0 claims
+taken_own claims edges left place k c own at whole long stay same is =
+    let within : k < length left = omega (arith, long, same, slice_get_within claims place c at) in
+    is ∙ get_or_default left k own [] within ∙ ap (λ n. get_or left n []) same ∙ stay place (omega arith) ∙ whole.each place ∙ edges_are claims place c at
+
+pub taken_rest : (edges left : List (List ViewEdge)) (place next k : ℕ) (own : List ViewEdge) → ((i : ℕ) → place ≤ i → get_or left i [] ≡ get_or edges i []) → k ≡ place → next ≡ place + 1 → (i : ℕ) → next ≤ i → get_or (set left k own) i [] ≡ get_or edges i []
+taken_rest edges left place next k own stay same one i h = get_or-set_other left k i own [] (λ e. omega (arith, h, one, same, e)) ∙ stay i (omega (arith, h, one))
 
 pub put_at : (es : List ViewEdge) (place to m : ℕ) (e : ViewEdge) → place ≡ edge_place to es → leads_at to (drop place es) ≡ true → e ≡ get_or es place e → set es place (record { to = to; metric = min m e.metric }) ≡ put_edge to m es
 put_at es place to m e p leads at =

@@ -1,5 +1,5 @@
 -- Words of the code on links that count.
-use Rattle.std.specs.Prelude.{◌≡◌, ℕ, zero, suc, ◌+◌, ◌==◌, nat_lt, min, Bool, true, false, List, [], ◌∷◌, ◌++◌, map, filter, slice_index_or, option_map, option_to_list, Option, Some, if◌then◌else◌}
+use Rattle.std.specs.Prelude.{◌≡◌, ℕ, zero, suc, ◌+◌, ◌==◌, nat_lt, min, Bool, true, false, List, [], ◌∷◌, ◌++◌, length, map, filter, slice_index_or, option_map, option_to_list, Option, Some, if◌then◌else◌}
 use Rattle.std.specs.List.{list_any, AllByRecursion}
 use Rattle.std.specs.Ordering.{is_lt, match_ordering}
 use Rattle.wire_base.specs.declared.addresses.SystemId.{SystemId}
@@ -81,3 +81,8 @@ leads_to place edges = list_any (λ e. e.to == place) edges
 -- those of a place whose other end lists it too
 abbrev pub whole_edges : List (List ViewEdge) → ℕ → List ViewEdge
 whole_edges halves place = filter (λ e. leads_to place (slice_index_or halves e.to [])) (slice_index_or halves place [])
+
+-- for each place those of its edges
+pub record AreWhole (halves edges : List (List ViewEdge)) : Type 0 where
+  pub long : length edges ≡ length halves
+  pub each : (place : ℕ) → slice_index_or edges place [] ≡ whole_edges halves place

@@ -1,10 +1,11 @@
 //! Which links count: those that both systems list.
-ghost use Rattle.std.specs.Prelude.{◌≡◌, ◌≤◌, ◌<◌, List, [], ◌∷◌, length, drop, map, IfOk, OnOk, slice_index_or, ◌++◌};
+ghost use Rattle.std.specs.Prelude.{◌≡◌, ◌≤◌, ◌<◌, List, [], ◌∷◌, true, length, drop, map, IfOk, OnOk, slice_index_or, ◌++◌};
+ghost use Rattle.std.specs.List.{list_all};
 ghost use Rattle.std.specs.Ordering.{is_gt};
 ghost use Rattle.wire_base.specs.model.Control.{system_order};
 ghost use Rattle.wire_base.specs.model.View.{Link as LinkItem};
 ghost use Rattle.lsp_store.specs.Keys.{AreOctets, octets_from};
-ghost use Rattle.view_graph.specs.Edges.{AreInOrder, AreKeys, place_in, stands_at, metrics_to, edge_place, leads_at, put_edge, half_edges, half_edges_of, leads_to, whole_edges};
+ghost use Rattle.view_graph.specs.Edges.{AreInOrder, AreKeys, AreWhole, place_in, stands_at, metrics_to, edge_place, leads_at, put_edge, half_edges, half_edges_of, leads_to, whole_edges};
 
 use crate::claims::Claim;
 use crate::links::Link;
@@ -134,7 +135,7 @@ fn half_edges(alloc: Global, claims: &[Claim], keys: &[u64], links: &[Link]) -> 
     'links: for link in links {
         count(claims, keys, &mut edges, link)?;
     }
-    Ok(Rows::from_vec(edges))
+    Ok(fitted(edges))
 }
 
 /// For each system the edges that it lists itself, in the order of the systems that they lead to.
@@ -167,8 +168,54 @@ pub(crate) fn leads_to(place: u16, edges: &[ViewEdge]) -> bool
     edges.iter().any(|edge| edge.to == place)
 }
 
+/// Whether the systems at the other ends of the edges that a system lists list them too.
+fn lead_back(halves: &[Rows<ViewEdge>], place: u16) -> bool
+    ensures { result ≡ list_all (λ e. leads_to place (slice_index_or halves.now e.to [])) (slice_index_or halves.now place []) }
+{
+    halves_at(halves, place)
+        .iter()
+        .all(|edge| leads_to(place, halves_at(halves, edge.to)))
+}
+
+/// Whether that is so of all systems.
+fn all_lead_back(halves: &[Rows<ViewEdge>]) -> bool
+    requires few { length halves.now ≤ 65536 }
+    ensures { result ≡ true → AreWhole halves.now halves.now }
+{
+    'systems: for place in 0..halves.len() {
+        if !lead_back(halves, place as u16) {
+            return false;
+        }
+    }
+    true
+}
+
+/// For each system the edges that the systems at their other ends list too. Once a database is settled these are all that it
+/// lists, and its list is taken as it is.
+pub(crate) fn all_whole_edges(alloc: Global, halves: Vec<Rows<ViewEdge>>) -> M<Vec<Rows<ViewEdge>>>
+    requires few { length halves.items ≤ 65536 }
+    ensures { IfOk result (λ edges. AreWhole halves.items edges.items) }
+{
+    if all_lead_back(halves.as_slice()) {
+        return Ok(halves);
+    }
+    whole_copies(alloc, halves.as_slice())
+}
+
+/// The same in lists of their own.
+fn whole_copies(alloc: Global, halves: &[Rows<ViewEdge>]) -> M<Vec<Rows<ViewEdge>>>
+    requires few { length halves.now ≤ 65536 }
+    ensures { IfOk result (λ edges. AreWhole halves.now edges.items) }
+{
+    let mut edges = Vec::with_capacity(alloc, halves.len())?;
+    'systems: for place in 0..halves.len() {
+        edges.push(whole_edges(alloc, halves, place as u16)?)?;
+    }
+    Ok(edges)
+}
+
 /// The edges of a system that the systems at their other ends list too.
-pub(crate) fn whole_edges(alloc: Global, halves: &[Rows<ViewEdge>], place: u16) -> M<Rows<ViewEdge>>
+fn whole_edges(alloc: Global, halves: &[Rows<ViewEdge>], place: u16) -> M<Rows<ViewEdge>>
     ensures { IfOk result (λ edges. edges ≡ whole_edges halves.now place) }
 {
     let own = halves_at(halves, place);

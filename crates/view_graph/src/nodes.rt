@@ -1,35 +1,32 @@
 //! The view: a node for each system.
-ghost use Rattle.std.specs.Prelude.{◌≡◌, ◌≤◌, ◌<◌, List, map, length, slice_get, Some, true, false, IfOk};
-ghost use Rattle.wire_base.specs.model.View.{Claim as ClaimItem, node_of, nodes_of, view_of};
+ghost use Rattle.std.specs.Prelude.{◌≡◌, ◌≤◌, ℕ, List, map, length, slice_get, Some, true, false, IfOk};
+ghost use Rattle.wire_base.specs.model.View.{Claim as ClaimItem, edges_from, node_of, nodes_of, view_of};
 ghost use Rattle.wire_base.specs.model.Configuration.{IsSound};
 ghost use Rattle.wire_base.specs.model.Control.{IsDatabase};
 ghost use Rattle.wire_base.specs.model.Graph.{IsGraph, covers};
-ghost use Rattle.view_graph.specs.Edges.{AreInOrder, half_edges_of};
+ghost use Rattle.view_graph.specs.Edges.{AreInOrder, AreWhole, half_edges_of};
 ghost use Rattle.view_graph.specs.Owners.{AreAlone, AreTold};
 
 use crate::claims::{Claim, claims_of};
-use crate::edges::{all_half_edges, whole_edges};
+use crate::edges::{all_half_edges, all_whole_edges};
 use crate::known::alone_subs;
 use crate::owners::owners_of;
 use lsp_store::Store;
 use std::alloc::Global;
 use std::collections::BTreeMap;
+use std::mem;
 use wire_base::{Entry, Ipv4, M, RouterConf, Rows, SystemId, Triple, View, ViewEdge, ViewNode};
 
-/// The node of a system, by its claim and its place.
+/// The node of a system, by its edges and its claim.
 fn node_of(
-    alloc: Global,
-    halves: &[Rows<ViewEdge>],
+    edges: Rows<ViewEdge>,
     owners: &BTreeMap<Ipv4, Option<SystemId>>,
     is_any: bool,
-    place: usize,
     claim: Claim,
 ) -> M<ViewNode>
-    requires few { place < 65536 }
     requires alone { is_any ≡ false → AreAlone owners.now }
-    ensures { IfOk result (λ n. (claims : List ClaimItem) → halves.now ≡ map (half_edges_of claims) claims → AreTold claims owners.now → slice_get claims place ≡ Some claim → n ≡ node_of claims claim) }
+    ensures { IfOk result (λ n. (claims : List ClaimItem) (place : ℕ) → AreTold claims owners.now → slice_get claims place ≡ Some claim → edges ≡ edges_from claim 0 claims → n ≡ node_of claims claim) }
 {
-    let edges = whole_edges(alloc, halves, place as u16)?;
     let Claim {
         system,
         overload,
@@ -44,25 +41,23 @@ fn node_of(
     })
 }
 
-/// The nodes, by the edges that each system lists itself, by the systems that have the prefixes and by whether several have
-/// one.
+/// The nodes, by the edges of each system, by the systems that have the prefixes and by whether several have one.
 fn all_nodes(
     alloc: Global,
-    halves: &[Rows<ViewEdge>],
+    mut edges: Vec<Rows<ViewEdge>>,
     owners: &BTreeMap<Ipv4, Option<SystemId>>,
     is_any: bool,
     claims: Vec<Claim>,
 ) -> M<Rows<ViewNode>>
-    requires few { length claims.items ≤ 65536 }
-    requires halves { halves.now ≡ map (half_edges_of claims.items) claims.items }
+    requires edges { AreWhole (map (half_edges_of claims.items) claims.items) edges.items }
     requires told { AreTold claims.items owners.now }
     requires alone { is_any ≡ false → AreAlone owners.now }
     ensures { IfOk result (λ nodes. nodes ≡ nodes_of claims.items) }
 {
     let mut nodes = Vec::with_capacity(alloc, claims.len())?;
     'systems: for claim in claims {
-        let place = nodes.len();
-        nodes.push(node_of(alloc, halves, owners, is_any, place, claim)?)?;
+        let own = mem::replace(&mut edges[nodes.len()], Rows::new(alloc));
+        nodes.push(node_of(own, owners, is_any, claim)?)?;
     }
     Ok(Rows::from_vec(nodes))
 }
@@ -76,7 +71,8 @@ pub(crate) fn nodes_of(alloc: Global, claims: Vec<Claim>) -> M<(Rows<ViewNode>, 
 {
     let halves = all_half_edges(alloc, claims.as_slice())?;
     let (owners, is_any) = owners_of(alloc, claims.as_slice())?;
-    let nodes = all_nodes(alloc, halves.as_slice(), &owners, is_any, claims)?;
+    let edges = all_whole_edges(alloc, halves)?;
+    let nodes = all_nodes(alloc, edges, &owners, is_any, claims)?;
     Ok((nodes, !is_any))
 }
 

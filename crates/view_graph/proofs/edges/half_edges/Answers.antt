@@ -13,4 +13,4 @@ pub links-preserved : goal.links-preserved
 links-preserved c = c.in_ok-count.ensures (take c.links.link-index c.args.links.now) c.links.invariant ∙ ap (λ (ls : List Link). half_edges 0 (metrics_to ls c.args.claims.now)) (take_one c.args.links.now c.links.link-index c.link-item.result c.links-test.true c.link-item.is)
 
 pub returns : goal.returns
-returns c = c.from_vec.ensures ∙ c.links.invariant ∙ ap (λ (ls : List Link). half_edges 0 (metrics_to ls c.args.claims.now)) (take_all c.links.link-index c.args.links.now (omega (arith, c.links-test.false)))
+returns c = c.fitted.ensures ∙ c.links.invariant ∙ ap (λ (ls : List Link). half_edges 0 (metrics_to ls c.args.claims.now)) (take_all c.links.link-index c.args.links.now (omega (arith, c.links-test.false)))
