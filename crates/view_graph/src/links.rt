@@ -47,10 +47,22 @@ fn append_link(links: &mut Rows<Link>, reach: &Reach<'_>) -> M<()>
     }
 }
 
-/// Appends the links of a TLV 22; an entry that can't be read ends them.
+/// Room for the links of a first TLV, so that its list doesn't grow step by step.
+fn make_room(links: &mut Rows<Link>, count: usize) -> M<()>
+    ensures { OnOk result (links.new ≡ links.old) }
+{
+    if links.len() > 0 {
+        return Ok(());
+    }
+    *links = Rows::from_vec(Vec::with_capacity(links.allocator(), count)?);
+    Ok(())
+}
+
+/// Appends the links of a TLV 22, whose entries have 11 octets at least; an entry that can't be read ends them.
 pub(crate) fn append_links(links: &mut Rows<Link>, value: &[u8]) -> M<()>
     ensures { OnOk result (links.new ≡ links.old ++ filter_map link_of (entries_of reach_at value.now)) }
 {
+    make_room(links, value.len() / 11)?;
     for entry in ReachWalk::new(value) {
         if let Ok(reach) = entry {
             append_link(links, &reach)?;
