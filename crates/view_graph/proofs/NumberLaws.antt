@@ -2,6 +2,7 @@
 use Rattle.std.proofs.Common.{◌≡◌, ℕ, zero, suc, ◌+◌, ◌<◌, ◌≤◌, nat_lt, List, [], ◌∷◌, ◌++◌, length, get_or, take, sym, ap, subst, ◌∙◌, arith, lt-ltb, refl}
 use Rattle.std.specs.Ordering.{is_gt}
 use Rattle.std.proofs.lemmas.Bool.{le-ltb}
+use Rattle.std.proofs.lemmas.List.{get_or_default}
 use Rattle.std.proofs.Math.Seq.{take-suc}
 use Rattle.wire_base.specs.declared.addresses.SystemId.{SystemId}
 use Rattle.wire_base.specs.model.Control.{system_order}
@@ -15,11 +16,6 @@ key_above : (q k : ℕ) (s t : SystemId) → IsKey q s → IsKey k t → is_gt (
 key_above q k s t h g =
     ap is_gt (system_key_order s t h.octets g.octets) ∙ sym (above_by_number (octets_from 0 s.0) (octets_from 0 t.0))
     ∙ sym (ap (λ z. nat_lt k z) h.number ∙ ap (λ z. nat_lt z (octets_from 0 s.0)) g.number)
-
-get_same : {X : Type 0} (xs : List X) (i : ℕ) (d e : X) → i < length xs → get_or xs i d ≡ get_or xs i e
-get_same [] i d e lt = absurd (omega (arith, lt))
-get_same (x ∷ xs) zero d e lt = refl
-get_same (x ∷ xs) (suc i) d e lt = get_same xs i d e (omega (arith, lt))
 
 key_at : (ks : List ℕ) (cs : List Claim) (i k : ℕ) (d : Claim) → AreKeys ks cs → i < length cs → IsKey (get_or ks i k) (get_or cs i d).system
 key_at ks [] i k d h lt = absurd (omega (arith, lt))
@@ -38,14 +34,14 @@ pub above_key : (ks : List ℕ) (cs : List Claim) (i q : ℕ) (s : SystemId) →
 above_key ks [] i q s keys asc lt is gt = absurd (omega (arith, lt))
 above_key ks (d ∷ ds) i q s keys asc lt is gt =
     let c : Claim = get_or (d ∷ ds) i d in
-    above_place (d ∷ ds) i c s asc lt (get_same (d ∷ ds) i d c lt) (key_above q (get_or ks i 0) s c.system is (key_at ks (d ∷ ds) i 0 d keys lt) ∙ lt-ltb (get_or ks i 0) q gt)
+    above_place (d ∷ ds) i c s asc lt (get_or_default (d ∷ ds) i d c lt) (key_above q (get_or ks i 0) s c.system is (key_at ks (d ∷ ds) i 0 d keys lt) ∙ lt-ltb (get_or ks i 0) q gt)
 
 -- where it isn't, its own place is at most that one
 pub not_above_key : (ks : List ℕ) (cs : List Claim) (i q : ℕ) (s : SystemId) → AreKeys ks cs → i < length cs → IsKey q s → q ≤ get_or ks i 0 → place_in s cs ≤ i
 not_above_key ks [] i q s keys lt is gt = absurd (omega (arith, lt))
 not_above_key ks (d ∷ ds) i q s keys lt is gt =
     let c : Claim = get_or (d ∷ ds) i d in
-    not_above_place (d ∷ ds) i c s lt (get_same (d ∷ ds) i d c lt) (key_above q (get_or ks i 0) s c.system is (key_at ks (d ∷ ds) i 0 d keys lt) ∙ le-ltb (get_or ks i 0) q gt)
+    not_above_place (d ∷ ds) i c s lt (get_or_default (d ∷ ds) i d c lt) (key_above q (get_or ks i 0) s c.system is (key_at ks (d ∷ ds) i 0 d keys lt) ∙ le-ltb (get_or ks i 0) q gt)
 
 key_push : (ks : List ℕ) (cs : List Claim) (k : ℕ) (c : Claim) → AreKeys ks cs → IsKey k c.system → AreKeys (ks ++ k ∷ []) (cs ++ c ∷ [])
 key_push [] [] k c h is = (is, tt)

@@ -4,12 +4,11 @@ ghost use Rattle.std.specs.List.{list_all};
 ghost use Rattle.std.specs.Ordering.{is_gt};
 ghost use Rattle.wire_base.specs.model.Control.{system_order};
 ghost use Rattle.wire_base.specs.model.View.{Link as LinkItem};
-ghost use Rattle.lsp_store.specs.Keys.{AreOctets, octets_from};
 ghost use Rattle.view_graph.specs.Edges.{AreInOrder, AreKeys, AreWhole, place_in, stands_at, metrics_to, edge_place, leads_at, put_edge, half_edges, half_edges_of, leads_to, whole_edges};
 
 use crate::claims::Claim;
 use crate::links::Link;
-use lsp_store::is_system_above;
+use lsp_store::{is_system_above, system_key};
 use std::alloc::Global;
 use wire_base::{M, Rows, SystemId, ViewEdge};
 
@@ -19,23 +18,13 @@ pub(crate) fn is_above(a: &SystemId, b: &SystemId) -> bool
     is_system_above(*a, *b)
 }
 
-/// The six octets of a system's identifier, as one number, so that two are compared at once.
-fn system_key(system: &SystemId) -> u64
-    ensures key { result ≡ octets_from 0 system.now.0 }
-    ensures octets { AreOctets system.now.0 }
-{
-    let [a, b, c, d, e, f] = system.0;
-    let high = (u64::from(a) * 256 + u64::from(b)) * 256 + u64::from(c);
-    ((high * 256 + u64::from(d)) * 256 + u64::from(e)) * 256 + u64::from(f)
-}
-
-/// The same of the system of each claim.
+/// The number of the system of each claim, so that two systems are compared at once.
 fn keys_of(alloc: Global, claims: &[Claim]) -> M<Vec<u64>>
     ensures { IfOk result (λ keys. AreKeys keys.items claims.now) }
 {
     let mut keys = Vec::with_capacity(alloc, claims.len())?;
     'claims: for claim in claims {
-        keys.push(system_key(&claim.system))?;
+        keys.push(system_key(claim.system))?;
     }
     Ok(keys)
 }
@@ -46,7 +35,7 @@ fn place_in(claims: &[Claim], keys: &[u64], system: &SystemId) -> usize
     requires keys { AreKeys keys.now claims.now }
     ensures { result ≡ place_in system.now claims.now }
 {
-    let key = system_key(system);
+    let key = system_key(*system);
     let mut low = 0;
     let mut high = claims.len();
     'halves: while low < high {
