@@ -13,6 +13,6 @@ mod transit;
 mod world;
 
 pub use domain_frames::{confs_of, peer_place};
-pub use domain_model::{DropLine, EventFault, GotLine, StepOut, WireFrame};
+pub use domain_model::{DropLine, EventFault, GotLine, StepOut, WireFrame, WireFrames};
 pub use frame_laws::{frames_do_what_items_do, sent_frames_are_items};
 pub use world::World;

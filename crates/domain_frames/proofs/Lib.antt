@@ -1,1 +1,2 @@
 pub mod FlightLaws
+pub mod ToldLaws

@@ -1,5 +1,5 @@
 //! What is told of what a router does.
-ghost use Rattle.std.specs.Prelude.{◌≡◌, ◌≤◌, ◌++◌, ◌∷◌, [], ℕ, length, map, filter, Option, option_map, IfOk, IfSome, OnOk, OnErr};
+ghost use Rattle.std.specs.Prelude.{◌≡◌, ◌≤◌, ◌++◌, ◌∷◌, [], ℕ, length, map, filter, true, Option, option_map, sum_by, IfOk, IfSome, OnOk, OnErr};
 ghost use Rattle.std.specs.List.{AllByRecursion};
 ghost use Rattle.wire_base.specs.model.BitSet.{has_member};
 ghost use Rattle.wire_base.specs.model.Configuration.{IsSound};
@@ -15,19 +15,21 @@ ghost use Rattle.domain_frames.specs.Read.{copy_read, packet_in};
 ghost use Rattle.domain_model.specs.Moves.{item_lost, listed};
 ghost use Rattle.domain_model.specs.World.{peer_place};
 
+use crate::carried::sum;
 use crate::flight::Flight;
 use crate::inside::packet_in;
 use crate::places::peer_place;
 use bfr_edge::Packet;
 use bier_bits::AnyBits;
 use bier_forward::{DropNote, Effects};
-use domain_model::{DropLine, GotLine, StepOut, WireFrame};
+use domain_model::{DropLine, GotLine, StepOut, WireFrames};
 use std::alloc::Global;
 use wire_base::limits::MOST_ROUTERS;
 use wire_base::{Cause, Got, M, RouterConf, Rows, Sent, Triple};
 
 /// What is told of what the router at a place did, for that injection or for none, having taken that frame or none. Where it
 /// did nothing, no memory is taken. Where one of its ends leads may be known.
+#[tactic(auto, using(crate::proofs::ToldLaws::silent_told))]
 pub fn told_of(
     alloc: Global,
     confs: &[RouterConf],
@@ -43,11 +45,22 @@ pub fn told_of(
     ensures out { IfOk result (λ out. out ≡ told_of confs.now at number (ids_taken confs.now (option_map (λ f. f.now) taken.entry)) effects.now) }
     ensures memory { OnErr result (IsSilent effects.now → ⊥) }
 {
+    if is_silent(effects) {
+        // Of most events nothing is told.
+        return Ok(StepOut::nothing(alloc));
+    }
     Ok(StepOut {
         sent: wire_frames(alloc, confs, at, known, effects.sent.as_slice())?,
         got: got_lines(alloc, at, number, effects.got.as_slice())?,
         drops: drop_lines(alloc, confs, at, number, taken, effects.drops.as_slice())?,
     })
+}
+
+/// Whether a router sent, delivered and dropped nothing.
+fn is_silent(effects: &Effects) -> bool
+    ensures { result ≡ true → IsSilent effects.now }
+{
+    effects.sent.len() == 0 && effects.got.len() == 0 && effects.drops.len() == 0
 }
 
 /// The injection that a frame comes of.
@@ -72,6 +85,17 @@ fn peer_again(confs: &[RouterConf], at: u16, link: u16, known: Option<(u16, u16)
     }
 }
 
+/// How many octets are sent in all.
+fn octets_in(sent: &[Sent]) -> M<usize>
+    ensures { IfOk result (λ count. count ≡ sum_by (λ s. length s.octets) sent.now) }
+{
+    let mut total = 0;
+    for frame in sent {
+        total = sum(total, frame.octets.len() as u64)?;
+    }
+    Ok(total as usize)
+}
+
 /// What is sent, as frames. Those that go out together mostly share their link, so the place that was found last is at hand.
 fn wire_frames(
     alloc: Global,
@@ -79,22 +103,22 @@ fn wire_frames(
     at: u16,
     known: Option<(u16, u16)>,
     sent: &[Sent],
-) -> M<Rows<WireFrame>>
+) -> M<WireFrames>
     requires few { length confs.now ≤ MOST_ROUTERS }
     requires known { IfSome known (λ k. k.1 ≡ peer_place confs.now at k.0) }
     ensures frames { IfOk result (λ frames. frames ≡ map (wire_from confs.now at) sent.now) }
     ensures memory { OnErr result (sent.now ≡ [] → ⊥) }
 {
-    let mut frames = Rows::new(alloc);
+    let mut frames = WireFrames::new(alloc);
+    if sent.is_empty() {
+        return Ok(frames);
+    }
+    frames.reserve(sent.len(), octets_in(sent)?)?;
     let mut last = known;
     for frame in sent {
         let to = peer_again(confs, at, frame.link, last);
         last = Some((frame.link, to));
-        frames.push(WireFrame {
-            from: at,
-            to,
-            octets: frame.octets.copy()?,
-        })?;
+        frames.push(at, to, frame.octets.as_slice())?;
     }
     Ok(frames)
 }

@@ -2,6 +2,7 @@
 pub mod Faults
 pub mod Moves
 pub mod Run
+pub mod Spans
 pub mod Step
 pub mod Truth
 pub mod World

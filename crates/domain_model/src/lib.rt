@@ -7,8 +7,10 @@ mod fault;
 mod laws;
 mod lines;
 mod step_out;
+mod wire_frames;
 
 pub use fault::EventFault;
 pub use laws::{a_start_is_truthful, events_keep_the_truth};
 pub use lines::{DropLine, GotLine};
 pub use step_out::{StepOut, WireFrame};
+pub use wire_frames::WireFrames;

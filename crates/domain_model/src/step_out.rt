@@ -2,6 +2,7 @@
 ghost use Rattle.std.specs.Prelude.{◌≡◌, []};
 
 use crate::lines::{DropLine, GotLine};
+use crate::wire_frames::WireFrames;
 use std::alloc::Global;
 use wire_base::{Octets, Rows};
 
@@ -16,7 +17,7 @@ pub struct WireFrame {
 /// What one event sends, delivers and drops, each in order.
 #[derive(Drop)]
 pub struct StepOut {
-    pub sent: Rows<WireFrame>,
+    pub sent: WireFrames,
     pub got: Rows<GotLine>,
     pub drops: Rows<DropLine>,
 }
@@ -27,7 +28,7 @@ impl StepOut {
         ensures { result ≡ record { sent = []; got = []; drops = [] } }
     {
         StepOut {
-            sent: Rows::new(alloc),
+            sent: WireFrames::new(alloc),
             got: Rows::new(alloc),
             drops: Rows::new(alloc),
         }

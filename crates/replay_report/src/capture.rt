@@ -1,37 +1,37 @@
 //! What routers send, as records of a capture.
 ghost use Rattle.std.specs.Prelude.{◌≡◌, ◌<◌, ◌++◌, length, take, OnOk, OnErr, flat_map};
-ghost use Rattle.replay_report.specs.Captures.{wire_record, AreShort};
+ghost use Rattle.replay_report.specs.Captures.{frame_record, wire_record, AreShort};
 
-use domain_model::WireFrame;
+use domain_model::WireFrames;
 use pcap_frames::write_cap_record;
 use wire_base::{M, Octets};
 
-/// Appends the record of a frame.
+/// Appends the record of a frame of those octets.
 #[tactic(auto, unfolding(crate::specs::Captures::frame_record))]
-fn push_frame(out: &mut Octets, line: u32, frame: &WireFrame) -> M<()>
-    requires { length frame.now.octets < 65536 }
-    ensures ok { OnOk result (out.new ≡ out.old ++ wire_record line frame.now) }
+fn push_frame(out: &mut Octets, line: u32, octets: &[u8]) -> M<()>
+    requires { length octets.now < 65536 }
+    ensures ok { OnOk result (out.new ≡ out.old ++ frame_record line octets.now) }
     ensures err { OnErr result (out.new ≡ out.old) }
 {
-    write_cap_record(out, line, 0, frame.octets.as_slice())
+    write_cap_record(out, line, 0, octets)
 }
 
 /// The same as `push_frames`, but for what stands behind the old end where memory is refused.
-#[tactic(auto, using(replay_text::proofs::Appended::front, replay_text::proofs::Appended::front_of_front))]
-fn push_each(out: &mut Octets, line: u32, frames: &[WireFrame]) -> M<()>
+#[tactic(auto, using(replay_text::proofs::Appended::front, replay_text::proofs::Appended::front_of_front, crate::proofs::RecordLaws::is_short))]
+fn push_each(out: &mut Octets, line: u32, frames: &WireFrames) -> M<()>
     requires { AreShort frames.now }
     ensures ok { OnOk result (out.new ≡ out.old ++ flat_map (wire_record line) frames.now) }
     ensures err { OnErr result (take (length out.old) out.new ≡ out.old) }
 {
-    for frame in frames {
-        push_frame(out, line, frame)?;
+    for i in 0..frames.len() {
+        push_frame(out, line, frames.octets_at(i))?;
     }
     Ok(())
 }
 
 /// Appends a record of each frame, in order, with the line of the event that sent it as the second. Where memory is refused,
 /// nothing is appended.
-pub fn push_frames(out: &mut Octets, line: u32, frames: &[WireFrame]) -> M<()>
+pub fn push_frames(out: &mut Octets, line: u32, frames: &WireFrames) -> M<()>
     requires { AreShort frames.now }
     ensures ok { OnOk result (out.new ≡ out.old ++ flat_map (wire_record line) frames.now) }
     ensures err { OnErr result (out.new ≡ out.old) }

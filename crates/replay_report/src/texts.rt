@@ -57,7 +57,7 @@ impl Texts {
     {
         let counts = self.counts.with(event, made)?;
         let len = self.frames.len();
-        push_frames(&mut self.frames, line, made.sent.as_slice())?;
+        push_frames(&mut self.frames, line, &made.sent)?;
         let pushed = push_event(alloc, &mut self.report, routers, line, made);
         if pushed.is_err() {
             // The capture tells no more events than the report.
