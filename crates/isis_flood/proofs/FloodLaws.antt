@@ -1,11 +1,11 @@
 -- A table of masks as the rows of a flood state.
-use Rattle.std.proofs.Common.{◌≡◌, ℕ, zero, suc, ◌<◌, ◌≤◌, Bool, true, false, if◌then◌else◌, List, [], ◌∷◌, ◌++◌, length, get_or, slice_get, Option, Some, None, IfSome, set, take, drop, map, replicate, refl, sym, ap, subst, ◌∙◌, arith}
+use Rattle.std.proofs.Common.{◌≡◌, ℕ, zero, suc, ◌+◌, ◌<◌, ◌≤◌, Bool, true, false, if◌then◌else◌, List, [], ◌∷◌, length, get_or, slice_get, IfSome, set, drop, map, replicate, refl, sym, ap, subst, ◌∙◌, arith}
 use mathlib.Core.Bool.{false≢true}
 use Rattle.std.specs.declared.cmp.Ordering.{Ordering}
 use Rattle.std.specs.declared.cmp.Ordering.TheVariants.{Less, Equal, Greater}
 use Rattle.std.specs.Ordering.{is_eq, is_lt, is_gt, match_ordering, ordering_then, nat_cmp}
-use Rattle.std.specs.List.{AllByRecursion}
-use Rattle.std.proofs.lemmas.List.{get_or-map, map-set, length-map, set_past, take_all, drop_all, append-nil}
+use Rattle.std.specs.List.{AllByRecursion, position_or_len}
+use Rattle.std.proofs.lemmas.List.{set_past}
 use Rattle.std.proofs.lemmas.Map.Lookups.{exact_bytes, exact_unsigned}
 use Rattle.wire_base.specs.declared.addresses.SystemId.{SystemId}
 use Rattle.wire_base.specs.declared.addresses.LspId.{LspId}
@@ -13,11 +13,12 @@ use Rattle.wire_base.specs.model.Control.{same_id, system_order, id_order, is_be
 use Rattle.wire_base.specs.model.Flooding.{mark_all, forget, with_row, no_links, new_flood, link_down, sent_on}
 use Rattle.lsp_store.proofs.OrderLaws.{tie_is_same, below_trans, below_differs, above_differs, same_turned}
 use Rattle.isis_flood.specs.declared.table.Bits.{Bits}
-use Rattle.isis_flood.specs.Masks.{links_in, row_of, rows_of, row_ids, row_in, no_bits, bits_in, put_bits, without_bits, flood_of, Flooding, clears, turned, turned_flag}
+use Rattle.isis_flood.specs.Masks.{at_bit, links_in, row_of, rows_of, row_ids, row_in, no_bits, bits_in, put_bits, without_bits, flood_of, Flooding, clears, turned, turned_flag}
 use Rattle.isis_flood.specs.declared.masks.Turn.{Turn}
 use Rattle.isis_flood.specs.Flags.{has_srm, has_ssn}
 use Rattle.isis_flood.proofs.BusyLaws.{past_srm, past_ssn, rows_same}
-use Rattle.isis_flood.proofs.MaskLaws.{links_none, links_long}
+use Rattle.isis_flood.proofs.ColumnLaws.{next_mapped, next_same}
+use Rattle.isis_flood.proofs.MaskLaws.{links_none, links_long, links_get}
 
 none_is : (n : ℕ) (id : LspId) → row_of n (no_bits id) ≡ no_flags n id
 none_is n id = ap (λ (l : List Bool). record { id = id; srm = l; ssn = l }) (links_none n)
@@ -144,25 +145,23 @@ module _ (own : SystemId) (n up due spare : ℕ) (rows : List Bits) (now : Flood
       long [] = refl
       long (b ∷ bs) = ap (λ m. suc m) (long bs)
 
-  row_at : (P : FlagRow → Type 0) (bs : List Bits) (place : ℕ) (d : Bits) → bs ≡ rows → place < length now.flood.rows → P (row_of n (get_or bs place d)) → IfSome (slice_get now.flood.rows place) P
-  row_at P bs place d same lt h =
-      subst (λ (f : Flood). IfSome (slice_get f.rows place) P) flood_seen
-      (subst (λ (l : List Bits). IfSome (slice_get (rows_of n l) place) P) same (at bs place (omega (arith, lt, rows_long, ap length same)) h))
+  pub id_seen : (place : ℕ) (id : LspId) → place < length now.flood.rows → id ≡ get_or (row_ids rows) place id → IfSome (slice_get now.flood.rows place) (λ row. id ≡ row.id)
+  id_seen place id lt is = subst (λ (f : Flood). IfSome (slice_get f.rows place) (λ row. id ≡ row.id)) flood_seen (at rows place (omega (arith, lt, rows_long)) is)
     where
-      at : (bs : List Bits) (i : ℕ) → i < length bs → P (row_of n (get_or bs i d)) → IfSome (slice_get (rows_of n bs) i) P
+      at : (bs : List Bits) (i : ℕ) → i < length bs → id ≡ get_or (row_ids bs) i id → IfSome (slice_get (rows_of n bs) i) (λ row. id ≡ row.id)
       at [] i lt h = absurd (omega (arith, lt))
       at (x ∷ xs) zero lt h = h
       at (x ∷ xs) (suc i) lt h = at xs i (omega (arith, lt)) h
 
-  pub sent_row : (bs : List Bits) (place link : ℕ) (d : Bits) (flag : Bool) (answer : Option LspId) → bs ≡ rows → place < length now.flood.rows → flag ≡ get_or (links_in n (get_or bs place d).srm) link false → answer ≡ (if flag then Some (get_or bs place d).id else None)
-      → IfSome (slice_get now.flood.rows place) (λ row. answer ≡ (if get_or row.srm link false then Some row.id else None))
-  sent_row bs place link d flag answer same lt seen made =
-      row_at (λ row. answer ≡ (if get_or row.srm link false then Some row.id else None)) bs place d same lt (made ∙ ap (λ (x : Bool). if x then Some (get_or bs place d).id else None) seen)
+  pub next_sent_seen : (link from place : ℕ) → link < n → place ≡ from + position_or_len (λ b. at_bit b.srm link) (drop from rows) → place ≡ from + position_or_len (λ row. get_or row.srm link false) (drop from now.flood.rows)
+  next_sent_seen link from place lt is =
+      is ∙ ap (λ m. from + m) (next_same (λ (b : Bits). at_bit b.srm link) (λ b. get_or (links_in n b.srm) link false) (drop from rows) (λ b. sym (links_get b.srm link n lt)) ∙ next_mapped (row_of n) (λ row. get_or row.srm link false) rows from)
+      ∙ ap (λ (f : Flood). from + position_or_len (λ row. get_or row.srm link false) (drop from f.rows)) flood_seen
 
-  pub asked_row : (bs : List Bits) (place link : ℕ) (d : Bits) (flag : Bool) (answer : Option LspId) → bs ≡ rows → place < length now.flood.rows → flag ≡ get_or (links_in n (get_or bs place d).ssn) link false → answer ≡ (if flag then Some (get_or bs place d).id else None)
-      → IfSome (slice_get now.flood.rows place) (λ row. answer ≡ (if get_or row.ssn link false then Some row.id else None))
-  asked_row bs place link d flag answer same lt seen made =
-      row_at (λ row. answer ≡ (if get_or row.ssn link false then Some row.id else None)) bs place d same lt (made ∙ ap (λ (x : Bool). if x then Some (get_or bs place d).id else None) seen)
+  pub next_asked_seen : (link from place : ℕ) → link < n → place ≡ from + position_or_len (λ b. at_bit b.ssn link) (drop from rows) → place ≡ from + position_or_len (λ row. get_or row.ssn link false) (drop from now.flood.rows)
+  next_asked_seen link from place lt is =
+      is ∙ ap (λ m. from + m) (next_same (λ (b : Bits). at_bit b.ssn link) (λ b. get_or (links_in n b.ssn) link false) (drop from rows) (λ b. sym (links_get b.ssn link n lt)) ∙ next_mapped (row_of n) (λ row. get_or row.ssn link false) rows from)
+      ∙ ap (λ (f : Flood). from + position_or_len (λ row. get_or row.ssn link false) (drop from f.rows)) flood_seen
 
   pub ssn_is : (link : ℕ) (id : LspId) (b : Bits) (answer : Bool) → b ≡ bits_in rows id → AreAscending (row_ids rows) → answer ≡ get_or (links_in n b.ssn) link false → answer ≡ ssn_in now.flood.rows id link
   ssn_is link id b answer row asc is =
@@ -282,28 +281,3 @@ unfolding new_flood
 starts own n mask ups rows long is none =
     let all : links_in n mask ≡ ups = ap (λ m. links_in m mask) (sym long) ∙ is in
     ap (λ (l : List Bool). record { own = own; up = l; due = l; rows = rows_of n rows }) all ∙ ap (λ (rs : List Bits). record { own = own; up = ups; due = ups; rows = rows_of n rs }) none
-
--- ---- every row
-
-pub set_step : (f : FlagRow → FlagRow) (rs : List FlagRow) (i : ℕ) (y d : FlagRow) → i < length rs → y ≡ f (get_or (map f (take i rs) ++ drop i rs) i d) → set (map f (take i rs) ++ drop i rs) i y ≡ map f (take (suc i) rs) ++ drop (suc i) rs
-set_step f [] i y d lt h = absurd (omega (arith, lt))
-set_step f (r ∷ rs) zero y d lt h = ap (λ (x : FlagRow). x ∷ rs) h
-set_step f (r ∷ rs) (suc i) y d lt h = ap (λ (xs : List FlagRow). f r ∷ xs) (set_step f rs i y d (omega (arith, lt)) h)
-
-pub rows_step : (n : ℕ) (f : FlagRow → FlagRow) (rs now : List Bits) (i next : ℕ) (b x : Bits) → next ≡ suc i → i < length rs → length now ≡ length rs → rows_of n now ≡ map f (take i (rows_of n rs)) ++ drop i (rows_of n rs) → x ≡ get_or now i x → row_of n b ≡ f (row_of n x) → rows_of n (set now i b) ≡ map f (take next (rows_of n rs)) ++ drop next (rows_of n rs)
-rows_step n f rs now i next b x step lt long so at changed =
-    let there : get_or (rows_of n now) i (row_of n x) ≡ row_of n x = get_or-map (row_of n) now i x (row_of n x) (omega (arith, lt, long)) ∙ ap (row_of n) (sym at) in
-    rw step (
-    map-set (row_of n) now i b ∙ ap (λ (xs : List FlagRow). set xs i (row_of n b)) so
-    ∙ set_step f (rows_of n rs) i (row_of n b) (row_of n x) (let l = length-map rs (row_of n) in omega (arith, lt, l)) (changed ∙ ap f (sym there ∙ ap (λ (xs : List FlagRow). get_or xs i (row_of n x)) so))
-    )
-
-pub rows_end : (n : ℕ) (f : FlagRow → FlagRow) (rs now : List Bits) (i : ℕ) → length rs ≤ i → rows_of n now ≡ map f (take i (rows_of n rs)) ++ drop i (rows_of n rs) → rows_of n now ≡ map f (rows_of n rs)
-rows_end n f rs now i past so =
-    let l = length-map rs (row_of n) in
-    so ∙ ap (λ (xs : List FlagRow). map f xs ++ drop i (rows_of n rs)) (take_all i (rows_of n rs) (omega (arith, l, past))) ∙ ap (λ (xs : List FlagRow). map f (rows_of n rs) ++ xs) (drop_all i (rows_of n rs) (omega (arith, l, past))) ∙ append-nil (map f (rows_of n rs))
-
-pub ids_kept : (rs : List Bits) (i : ℕ) (b x : Bits) → x ≡ get_or rs i x → b.id ≡ x.id → row_ids (set rs i b) ≡ row_ids rs
-ids_kept [] i b x at h = refl
-ids_kept (r ∷ rs) zero b x at h = ap (λ (id : LspId). id ∷ row_ids rs) (h ∙ ap (λ (y : Bits). y.id) at)
-ids_kept (r ∷ rs) (suc i) b x at h = ap (λ (ids : List LspId). r.id ∷ ids) (ids_kept rs i b x at h)

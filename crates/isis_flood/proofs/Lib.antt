@@ -1,5 +1,6 @@
 pub mod AgeLaws
 pub mod BusyLaws
+pub mod ColumnLaws
 pub mod FloodLaws
 pub mod KeptLaws
 pub mod ListLaws

@@ -1,7 +1,8 @@
 -- Masks of 64 bits as lists of truth values.
-use Rattle.std.proofs.Common.{◌≡◌, ℕ, zero, suc, ◌+◌, ◌*◌, ◌%◌, ◌^◌, ◌<◌, ◌≤◌, ◌≢◌, eqb, eq-eqb, Bool, true, false, List, [], ◌∷◌, length, get_or, set, take, replicate, bit_and, bit_or, w64, refl, sym, ap, ◌∙◌, arith, inl, inr}
+use Rattle.std.proofs.Common.{◌≡◌, ℕ, zero, suc, ◌+◌, ◌*◌, ◌%◌, ◌^◌, ◌<◌, ◌≤◌, ◌≢◌, eqb, eq-eqb, Bool, true, false, List, [], ◌∷◌, ◌++◌, length, get_or, set, map, take, drop, replicate, bit_and, bit_or, w64, refl, sym, ap, ◌∙◌, arith, inl, inr}
 use Rattle.std.specs.Int.{bit_not}
 use Rattle.std.proofs.lemmas.Bool.{cases_eq}
+use Rattle.std.proofs.lemmas.List.{get_or-map, map-set, length-map}
 use Rattle.std.proofs.lemmas.Nat.Bits.{bit_at-zero, bit_at_set_same, bit_at_set_other, bit_at_clear_same, bit_at_clear_other}
 use Rattle.isis_flood.specs.Masks.{spread, at_bit, links_in}
 
@@ -102,3 +103,18 @@ one_more mask new values i next b step so value here others j low = rw step (eli
 
 pub none_more : (mask : ℕ) (values : List Bool) (i : ℕ) → i < 64 → ((j : ℕ) → j < 64 → at_bit mask j ≡ get_or (take i values) j false) → at_bit mask i ≡ false
 none_more mask values i low so = so i low ∙ taken_past values i
+
+-- ---- a list of masks, one more of which is changed
+
+set_step : {Y : Type 0} (f : Y → Y) (ys : List Y) (i : ℕ) (y d : Y) → i < length ys → y ≡ f (get_or (map f (take i ys) ++ drop i ys) i d) → set (map f (take i ys) ++ drop i ys) i y ≡ map f (take (suc i) ys) ++ drop (suc i) ys
+set_step f [] i y d lt h = absurd (omega (arith, lt))
+set_step f (r ∷ rs) zero y d lt h = ap (λ x. x ∷ rs) h
+set_step f (r ∷ rs) (suc i) y d lt h = ap (λ xs. f r ∷ xs) (set_step f rs i y d (omega (arith, lt)) h)
+
+pub mapped_step : {X Y : Type 0} (g : X → Y) (f : Y → Y) (xs now : List X) (i next : ℕ) (b x : X) → next ≡ suc i → i < length xs → length now ≡ length xs → map g now ≡ map f (take i (map g xs)) ++ drop i (map g xs) → x ≡ get_or now i x → g b ≡ f (g x) → map g (set now i b) ≡ map f (take next (map g xs)) ++ drop next (map g xs)
+mapped_step g f xs now i next b x step lt long so at changed =
+    let there : get_or (map g now) i (g x) ≡ g x = get_or-map g now i x (g x) (omega (arith, lt, long)) ∙ ap g (sym at) in
+    rw step (
+    map-set g now i b ∙ ap (λ ys. set ys i (g b)) so
+    ∙ set_step f (map g xs) i (g b) (g x) (let l = length-map xs g in omega (arith, lt, l)) (changed ∙ ap f (sym there ∙ ap (λ ys. get_or ys i (g x)) so))
+    )

@@ -1,5 +1,5 @@
 -- A table of rows: what stands at the place of an identifier, and what the table becomes there.
-use Rattle.std.proofs.Common.{◌≡◌, ℕ, zero, suc, ◌<◌, ◌≤◌, Bool, true, false, if◌then◌else◌, List, [], ◌∷◌, length, get_or, set, refl, sym, ap, subst, ◌∙◌, arith}
+use Rattle.std.proofs.Common.{◌≡◌, ℕ, zero, suc, ◌<◌, ◌≤◌, Bool, true, false, List, [], ◌∷◌, length, get_or, set, refl, sym, ap, subst, ◌∙◌, arith}
 use mathlib.Core.Bool.{false≢true, true≢false}
 use Rattle.std.specs.declared.cmp.Ordering.{Ordering}
 use Rattle.std.specs.declared.cmp.Ordering.TheVariants.{Less, Equal, Greater}
@@ -152,18 +152,14 @@ add_is_put rs p b at = ap (λ n. insert rs n b) at.place ∙ put_new rs b (stand
 pub add_puts : (rs now new : List Bits) (p : ℕ) (b : Bits) → rs ≡ now → IsPlace now b.id false p → new ≡ insert rs p b → new ≡ put_bits b now
 add_puts rs now new p b same at is = is ∙ ap (λ (xs : List Bits). insert xs p b) same ∙ add_is_put now p b at
 
-pub add_ascends : (rs now new : List Bits) (p : ℕ) (b : Bits) (ok : Bool) → rs ≡ now → AreAscending (row_ids rs) → IsPlace now b.id false p → new ≡ (if ok then insert rs p b else rs) → AreAscending (row_ids new)
-add_ascends rs now new p b ok same asc at is = rw is (cases ok)
-  where
-    cases : (ok : Bool) → AreAscending (row_ids (if ok then insert rs p b else rs))
-    cases true = subst (λ (xs : List Bits). AreAscending (row_ids xs)) (sym (add_is_put rs p b (moved same at))) (put_ascends rs b asc)
-    cases false = asc
+pub add_ascends : (rs now new : List Bits) (p : ℕ) (b : Bits) → rs ≡ now → AreAscending (row_ids rs) → IsPlace now b.id false p → new ≡ insert rs p b → AreAscending (row_ids new)
+add_ascends rs now new p b same asc at is = subst (λ (xs : List Bits). AreAscending (row_ids xs)) (sym (is ∙ add_is_put rs p b (moved same at))) (put_ascends rs b asc)
 
-pub set_puts : (rs now : List Bits) (p : ℕ) (b : Bits) → rs ≡ now → IsPlace now b.id true p → set rs p b ≡ put_bits b now
-set_puts rs now p b same at = ap (λ (xs : List Bits). set xs p b) same ∙ ap (λ n. set now n b) at.place ∙ put_there now b (stands_there at)
+pub set_puts : (rs now new : List Bits) (p : ℕ) (b : Bits) → rs ≡ now → IsPlace now b.id true p → new ≡ set rs p b → new ≡ put_bits b now
+set_puts rs now new p b same at is = is ∙ ap (λ (xs : List Bits). set xs p b) same ∙ ap (λ n. set now n b) at.place ∙ put_there now b (stands_there at)
 
-pub set_ascends : (rs now : List Bits) (p : ℕ) (b : Bits) → rs ≡ now → AreAscending (row_ids rs) → IsPlace now b.id true p → AreAscending (row_ids (set rs p b))
-set_ascends rs now p b same asc at = subst (λ (xs : List Bits). AreAscending (row_ids xs)) (sym (set_puts rs rs p b refl (moved same at))) (put_ascends rs b asc)
+pub set_ascends : (rs now new : List Bits) (p : ℕ) (b : Bits) → rs ≡ now → AreAscending (row_ids rs) → IsPlace now b.id true p → new ≡ set rs p b → AreAscending (row_ids new)
+set_ascends rs now new p b same asc at is = subst (λ (xs : List Bits). AreAscending (row_ids xs)) (sym (set_puts rs rs new p b refl (moved same at) is)) (put_ascends rs b asc)
 
 pub remove_goes : (rs now new : List Bits) (p : ℕ) (id : LspId) → rs ≡ now → IsPlace now id true p → new ≡ remove rs p → new ≡ without_bits id now
 remove_goes rs now new p id same at is = is ∙ ap (λ (xs : List Bits). remove xs p) same ∙ ap (λ n. remove now n) at.place ∙ without_there now id (stands_there at)

@@ -1,5 +1,5 @@
 -- Masks over links: the truth values that a number of 64 bits stands for, and rows of flags kept as such numbers.
-use Rattle.std.specs.Prelude.{◌≡◌, ◌<◌, ℕ, zero, suc, ◌==◌, Bool, true, false, List, [], ◌∷◌, map, slice_set, if◌then◌else◌}
+use Rattle.std.specs.Prelude.{◌≡◌, ◌<◌, ℕ, zero, suc, ◌==◌, Bool, true, false, List, [], ◌∷◌, length, map, slice_set, if◌then◌else◌}
 use Rattle.std.specs.Int.{bit_at}
 use Rattle.std.specs.Ordering.{match_ordering}
 use Rattle.wire_base.specs.declared.addresses.SystemId.{SystemId}
@@ -41,6 +41,18 @@ row_in n (row ∷ rows) id = match_ordering (id_order id row.id) (no_flags n id)
 
 abbrev pub flood_of : SystemId → ℕ → ℕ → ℕ → List Bits → Flood
 flood_of own n up due rows = record { own = own; up = links_in n up; due = links_in n due; rows = rows_of n rows }
+
+-- the rows of three lists of one length
+abbrev pub joined_rows : List LspId → List ℕ → List ℕ → List Bits
+joined_rows [] srm ssn = []
+joined_rows (id ∷ ids) [] ssn = []
+joined_rows (id ∷ ids) (a ∷ srm) [] = []
+joined_rows (id ∷ ids) (a ∷ srm) (b ∷ ssn) = record { id = id; srm = a; ssn = b } ∷ joined_rows ids srm ssn
+
+-- three lists are of one length
+pub record AreEven (ids : List LspId) (srm ssn : List ℕ) : Type 0 where
+  pub sent : length srm ≡ length ids
+  pub asked : length ssn ≡ length ids
 
 -- What contracts see of a table of rows: the rows, and how many more it has the memory for.
 pub record Held : Type 0 where

@@ -1,4 +1,5 @@
-ghost use Rattle.std.specs.Prelude.{◌≡◌, ◌<◌, ◌≤◌, ◌+◌, length, slice_get, slice_index_or, slice_set, Some, None, IfSome, if◌then◌else◌, true, false, IsOk, IfOk, OnOk, OnErr};
+ghost use Rattle.std.specs.Prelude.{◌≡◌, ◌<◌, ◌≤◌, ◌+◌, drop, length, slice_get, slice_index_or, slice_set, IfSome, true, false, IsOk, IfOk, OnOk, OnErr};
+ghost use Rattle.std.specs.List.{position_or_len};
 ghost use Rattle.wire_base.specs.model.Control.{FlagRow, srm_in, ssn_in, without_row};
 ghost use Rattle.wire_base.specs.model.Flooding.{with_row, send_on, ask_on, set_srm, pass_on, mark_all, forget, link_down, sent_on, new_flood};
 ghost use Rattle.isis_flood.specs.Flags.{has_srm, has_ssn};
@@ -31,12 +32,6 @@ impl Model for Flood {
     ghost view = { λ f. record { flood = flood_of f.own f.links f.up f.due f.table.rows; spare = f.table.spare } };
 
     ghost invariant = { λ f. f.links ≤ 64 };
-}
-
-fn id_if(flag: bool, id: LspId) -> Option<LspId>
-    ensures { result ≡ (if flag then Some id else None) }
-{
-    if flag { Some(id) } else { None }
 }
 
 impl Flood {
@@ -111,25 +106,32 @@ impl Flood {
     pub fn rows(&self) -> usize
         ensures { result ≡ length self.now.flood.rows }
     {
-        self.table.as_slice().len()
+        self.table.len()
     }
 
-    /// The identifier of the row at a place, where its link state PDU is to be sent on a link.
-    pub fn sent_at(&self, place: usize, link: u16) -> Option<LspId>
+    /// The identifier of the row at a place.
+    pub fn id_at(&self, place: usize) -> LspId
         requires { place < length self.now.flood.rows }
-        ensures { IfSome (slice_get self.now.flood.rows place) (λ row. result ≡ (if slice_index_or row.srm link false then Some row.id else None)) }
+        ensures { IfSome (slice_get self.now.flood.rows place) (λ row. result ≡ row.id) }
     {
-        let row = self.table.as_slice()[place];
-        id_if(has_of(row.srm, self.links, link), row.id)
+        self.table.id_at(place)
     }
 
-    /// The identifier of the row at a place, where its link state PDU is to be acknowledged or asked for on a link.
-    pub fn asked_at(&self, place: usize, link: u16) -> Option<LspId>
-        requires { place < length self.now.flood.rows }
-        ensures { IfSome (slice_get self.now.flood.rows place) (λ row. result ≡ (if slice_index_or row.ssn link false then Some row.id else None)) }
+    /// The place of the first row from a place on whose link state PDU is to be sent on a link, or the number of rows.
+    pub fn next_sent(&self, from: usize, link: u16) -> usize
+        requires { link < length self.now.flood.up }
+        ensures { result ≡ from + position_or_len (λ row. slice_index_or row.srm link false) (drop from self.now.flood.rows) }
     {
-        let row = self.table.as_slice()[place];
-        id_if(has_of(row.ssn, self.links, link), row.id)
+        self.table.next_sent(from, link)
+    }
+
+    /// The place of the first row from a place on whose link state PDU is to be acknowledged or asked for on a link, or the
+    /// number of rows.
+    pub fn next_asked(&self, from: usize, link: u16) -> usize
+        requires { link < length self.now.flood.up }
+        ensures { result ≡ from + position_or_len (λ row. slice_index_or row.ssn link false) (drop from self.now.flood.rows) }
+    {
+        self.table.next_asked(from, link)
     }
 
     /// Makes room for that many rows more.

@@ -4,6 +4,7 @@
 //! It stands on `lsp_store` and `isis_pdu`, and promises the rules of received PDUs on flags and database, row by row.
 #![tactic(auto)]
 
+mod columns;
 mod entries;
 mod flood;
 mod lacking;

@@ -1,5 +1,6 @@
 //! Masks over links, of which there are at most 64: bit i of a mask is the link at place i.
-ghost use Rattle.std.specs.Prelude.{◌≡◌, ◌≢◌, ◌<◌, ◌≤◌, ℕ, true, false, length, slice_set, slice_index_or};
+ghost use Rattle.std.specs.Prelude.{◌≡◌, ◌≢◌, ◌<◌, ◌≤◌, ◌+◌, ℕ, true, false, length, map, drop, slice_set, slice_index_or};
+ghost use Rattle.std.specs.List.{list_any, position_or_len};
 ghost use Rattle.isis_flood.specs.Masks.{links_in, at_bit, turned_flag};
 
 /// With a link.
@@ -102,4 +103,37 @@ pub(crate) fn mask_of(values: &[bool]) -> u64
         }
     }
     mask
+}
+
+/// All masks without a link.
+pub(crate) fn clear_all(masks: &mut [u64], link: u16)
+    requires { link < 64 }
+    ensures { (n : ℕ) → link < n → n ≤ 64 → map (links_in n) masks.new ≡ map (λ flags. slice_set flags link false) (map (links_in n) masks.old) }
+{
+    'masks: for i in 0..masks.len() {
+        masks[i] = without(masks[i], link);
+    }
+}
+
+/// Whether some mask has a link.
+pub(crate) fn any_with(masks: &[u64], link: u16) -> bool
+    requires { link < 64 }
+    ensures { result ≡ list_any (λ mask. at_bit mask link) masks.now }
+{
+    masks.iter().any(|mask| has_bit(*mask, link))
+}
+
+/// The place of the first mask from a place on that has a link, or the number of masks.
+pub(crate) fn next_with(masks: &[u64], from: usize, link: u16) -> usize
+    requires { link < 64 }
+    ensures { result ≡ from + position_or_len (λ mask. at_bit mask link) (drop from masks.now) }
+{
+    let mut place = from;
+    'masks: while place < masks.len() {
+        if has_bit(masks[place], link) {
+            return place;
+        }
+        place += 1;
+    }
+    place
 }

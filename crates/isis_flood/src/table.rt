@@ -1,11 +1,12 @@
-ghost use Rattle.std.specs.Prelude.{◌≡◌, ◌≢◌, ◌<◌, ◌≤◌, ◌+◌, ◌||◌, ◌&&◌, [], map, ℕ, true, false, length, vec_len, vec_capacity, IsOk, OnOk, OnErr};
-ghost use Rattle.std.specs.List.{list_any};
+ghost use Rattle.std.specs.Prelude.{◌≡◌, ◌≢◌, ◌<◌, ◌≤◌, ◌+◌, ◌||◌, ◌&&◌, [], map, drop, ℕ, true, false, length, slice_index_or, IsOk, OnOk, OnErr};
+ghost use Rattle.std.specs.List.{position_or_len};
 ghost use Rattle.wire_base.specs.model.Control.{AreAscending};
 ghost use Rattle.isis_flood.specs.Flags.{has_srm, has_ssn};
-ghost use Rattle.isis_flood.specs.Masks.{at_bit, row_of, rows_of, row_ids, bits_in, put_bits, without_bits, clears, IsPlace};
+ghost use Rattle.isis_flood.specs.Masks.{at_bit, rows_of, row_ids, bits_in, put_bits, without_bits, clears, IsPlace};
 
-use crate::masks::{has_bit, joined, without, without_bit};
-use lsp_store::{Keyed, place_of, stands_at};
+use crate::columns::Columns;
+use crate::masks::{has_bit, joined, without_bit};
+use lsp_store::{place_of, stands_at};
 use std::alloc::Global;
 use std::marker::Model;
 use wire_base::{LspId, M};
@@ -30,74 +31,19 @@ pub(crate) struct Found {
 /// and none is to be acknowledged or asked for on one that isn't in `asking`: so no row is read for such a link.
 #[derive(Drop)]
 pub(crate) struct Table {
-    items: Vec<Bits>,
+    items: Columns,
     sending: u64,
     asking: u64,
 }
 
 impl Model for Table {
-    ghost use Rattle.std.specs.Prelude.{◌-◌, vec_len, vec_capacity};
     ghost use Rattle.isis_flood.specs.Masks.{Held, IsTable};
 
     ghost Value = { Held };
 
-    ghost view = { λ t. record { rows = t.items.items; spare = vec_capacity t.items - vec_len t.items } };
+    ghost view = { λ t. record { rows = t.items.rows; spare = t.items.spare } };
 
-    ghost invariant = { λ t. IsTable t.sending t.asking t.items.items };
-}
-
-impl Keyed for Bits {
-    ghost key = { λ b. b.id };
-
-    fn key(&self) -> LspId {
-        self.id
-    }
-}
-
-/// No row is to be acknowledged or asked for on a link; where `both`, none is to be sent there either.
-fn clear_at(rows: &mut [Bits], link: u16, both: bool)
-    requires { link < 64 }
-    ensures ids { row_ids rows.new ≡ row_ids rows.old }
-    ensures rows { (n : ℕ) → link < n → n ≤ 64 → rows_of n rows.new ≡ map (clears both link) (rows_of n rows.old) }
-{
-    'rows: for i in 0..rows.len() {
-        rows[i] = cleared(&rows[i], link, both);
-    }
-}
-
-fn cleared(row: &Bits, link: u16, both: bool) -> Bits
-    requires { link < 64 }
-    ensures id { result.id ≡ row.now.id }
-    ensures row { (n : ℕ) → link < n → n ≤ 64 → row_of n result ≡ clears both link (row_of n row.now) }
-{
-    Bits {
-        id: row.id,
-        srm: if both {
-            without(row.srm, link)
-        } else {
-            row.srm
-        },
-        ssn: without(row.ssn, link),
-    }
-}
-
-/// The same in place, of all rows.
-fn clear_rows(rows: &mut Vec<Bits>, link: u16, both: bool)
-    requires { link < 64 }
-    ensures ids { row_ids rows.new.items ≡ row_ids rows.old.items }
-    ensures rows { (n : ℕ) → link < n → n ≤ 64 → rows_of n rows.new.items ≡ map (clears both link) (rows_of n rows.old.items) }
-    ensures len { vec_len rows.new ≡ vec_len rows.old }
-    ensures capacity { vec_capacity rows.new ≡ vec_capacity rows.old }
-{
-    clear_at(rows.as_mut_slice(), link, both);
-}
-
-/// Whether some row is to be sent on a link.
-fn any_sent(rows: &[Bits], link: u16) -> bool
-    requires { link < 64 }
-    ensures { result ≡ list_any (λ b. at_bit b.srm link) rows.now }
-{
-    rows.iter().any(|row| has_bit(row.srm, link))
+    ghost invariant = { λ t. IsTable t.sending t.asking t.items.rows };
 }
 
 /// Whether a link has what is to be cleared, by the masks.
@@ -126,16 +72,41 @@ impl Table {
         ensures { result.rows ≡ [] }
     {
         Table {
-            items: Vec::new(alloc),
+            items: Columns::new(alloc),
             sending: 0,
             asking: 0,
         }
     }
 
-    pub(crate) fn as_slice(&self) -> &[Bits]
-        ensures { result.now ≡ self.now.rows }
+    /// How many rows there are.
+    pub(crate) fn len(&self) -> usize
+        ensures { result ≡ length self.now.rows }
     {
-        self.items.as_slice()
+        self.items.len()
+    }
+
+    /// The identifier of the row at a place.
+    pub(crate) fn id_at(&self, place: usize) -> LspId
+        requires { place < length self.now.rows }
+        ensures { result ≡ slice_index_or (row_ids self.now.rows) place result }
+    {
+        self.items.ids()[place]
+    }
+
+    /// The place of the first row from a place on that is to be sent on a link, or the number of rows.
+    pub(crate) fn next_sent(&self, from: usize, link: u16) -> usize
+        requires { link < 64 }
+        ensures { result ≡ from + position_or_len (λ b. at_bit b.srm link) (drop from self.now.rows) }
+    {
+        self.items.next_sent(from, link)
+    }
+
+    /// The place of the first row from a place on that is to be acknowledged or asked for on a link, or the number of rows.
+    pub(crate) fn next_asked(&self, from: usize, link: u16) -> usize
+        requires { link < 64 }
+        ensures { result ≡ from + position_or_len (λ b. at_bit b.ssn link) (drop from self.now.rows) }
+    {
+        self.items.next_asked(from, link)
     }
 
     /// Where an identifier stands, or would stand.
@@ -143,11 +114,11 @@ impl Table {
         ensures place { IsPlace self.now.rows id.now result.is_there result.place }
         ensures ascends { AreAscending (row_ids self.now.rows) }
     {
-        let rows = self.items.as_slice();
-        let place = place_of(rows, id);
+        let ids = self.items.ids();
+        let place = place_of(ids, id);
         Found {
             place,
-            is_there: stands_at(rows, place, id),
+            is_there: stands_at(ids, place, id),
         }
     }
 
@@ -157,7 +128,7 @@ impl Table {
         ensures { result ≡ bits_in self.now.rows id }
     {
         if found.is_there {
-            return self.items[found.place];
+            return self.items.at(found.place);
         }
         Bits { id, srm: 0, ssn: 0 }
     }
@@ -181,7 +152,7 @@ impl Table {
         if found.is_there {
             self.sending = joined(self.sending, row.srm);
             self.asking = joined(self.asking, row.ssn);
-            self.items[found.place] = row;
+            self.items.set(found.place, row);
             return Ok(());
         }
         self.items.insert(found.place, row)?;
@@ -249,7 +220,7 @@ impl Table {
         if !may_clear(self.sending, self.asking, link, both) {
             return;
         }
-        clear_rows(&mut self.items, link, both);
+        self.items.clear(link, both);
         self.sending = without_if(self.sending, link, both);
         self.asking = without_bit(self.asking, link);
     }
@@ -260,7 +231,7 @@ impl Table {
         ensures rows { self.new.rows ≡ self.old.rows }
         ensures spare { self.new.spare ≡ self.old.spare }
     {
-        if has_bit(self.sending, link) && !any_sent(self.items.as_slice(), link) {
+        if has_bit(self.sending, link) && !self.items.any_sent(link) {
             self.sending = without_bit(self.sending, link);
         }
     }

@@ -1,7 +1,7 @@
 -- What the rows of flags find in a database, in their order, is what its entries find among the rows.
-use Rattle.std.proofs.Common.{◌≡◌, ◌∙◌, ℕ, zero, suc, ◌+◌, ◌<◌, Bool, true, false, List, [], ◌∷◌, ◌++◌, length, drop, slice_get, ◌≤◌, get_or, map, filter, Option, Some, None, IfSome, option_map, if◌then◌else◌, refl, sym, ap, subst, append_assoc, arith}
+use Rattle.std.proofs.Common.{◌≡◌, ◌∙◌, ℕ, zero, suc, ◌+◌, ◌<◌, Bool, true, false, not, List, [], ◌∷◌, ◌++◌, length, drop, slice_get, ◌≤◌, get_or, map, filter, Option, Some, None, IfSome, option_map, if◌then◌else◌, refl, sym, ap, subst, append_assoc, arith}
 use Rattle.std.proofs.lemmas.List.{append-nil, drop_all}
-use Rattle.std.specs.List.{AllByRecursion, flat_map}
+use Rattle.std.specs.List.{AllByRecursion, flat_map, position_or_len}
 use Rattle.wire_base.specs.declared.addresses.LspId.{LspId}
 use Rattle.wire_base.specs.declared.entry.Entry.{Entry}
 use Rattle.wire_base.specs.model.Control.{AreAscending, ids_of, is_below, same_id, entry_in, FlagRow, HasEntry, srm_in, ssn_in}
@@ -10,7 +10,7 @@ use Rattle.wire_base.specs.declared.conf.RouterConf.{RouterConf}
 use Rattle.wire_base.specs.declared.effects.Sent.{Sent}
 use Rattle.wire_base.specs.declared.triple.Summary.{Summary}
 use Rattle.wire_base.specs.model.Control.{summary_of}
-use Rattle.router_core.specs.Sending.{entry_frames, entry_summary, found, found_at, found_of, lsp_frames, row_asked, row_frames, row_ids}
+use Rattle.router_core.specs.Sending.{entry_frames, entry_summary, found, found_at, lsp_frames, row_asked, row_frames, row_ids}
 use Rattle.router_laws.proofs.EntryLaws.{HasId, same_is}
 
 -- ---- one row after the other
@@ -22,6 +22,38 @@ next_row f (x ∷ xs) zero (suc k) out new total lt next one so =
     let none : k ≡ 0 = omega (arith, next) in
     ap (λ m. new ++ flat_map f (drop m xs)) none ∙ ap (λ l. l ++ flat_map f xs) one ∙ append_assoc out (f x) (flat_map f xs) ∙ so
 next_row f (x ∷ xs) (suc i) (suc k) out new total lt next one so = next_row f xs i k out new total (omega (arith, lt)) (omega (arith, next)) one so
+
+-- ---- rows that are passed over
+
+-- what is found from a place on passes
+pub landed : {X : Type 0} → (test : X → Bool) (xs : List X) (i j : ℕ) → j ≡ i + position_or_len test (drop i xs) → IfSome (slice_get xs j) (λ x. test x ≡ true)
+landed test [] i zero is = tt
+landed test [] i (suc j) is = tt
+landed test (x ∷ xs) (suc i) zero is = absurd (omega (arith, is))
+landed test (x ∷ xs) (suc i) (suc j) is = landed test xs i j (omega (arith, is))
+landed test (x ∷ xs) zero j is = here (λ k at. landed test xs zero k at) (test x) refl j is
+  where
+    here : ((k : ℕ) → k ≡ 0 + position_or_len test xs → IfSome (slice_get xs k) (λ y. test y ≡ true)) → (b : Bool) → test x ≡ b → (j : ℕ) → j ≡ 0 + (if not b then 1 + position_or_len test xs else 0) → IfSome (slice_get (x ∷ xs) j) (λ y. test y ≡ true)
+    here later true e zero at = e
+    here later true e (suc j) at = absurd (omega (arith, at))
+    here later false e zero at = absurd (omega (arith, at))
+    here later false e (suc j) at = later j (omega (arith, at))
+
+-- and those before add nothing
+skipped : {X Y : Type 0} → (test : X → Bool) (f : X → List Y) → ((x : X) → test x ≡ false → f x ≡ []) → (xs : List X) (i j : ℕ) → j ≡ i + position_or_len test (drop i xs) → flat_map f (drop j xs) ≡ flat_map f (drop i xs)
+skipped test f none [] zero zero is = refl
+skipped test f none [] zero (suc j) is = refl
+skipped test f none [] (suc i) zero is = refl
+skipped test f none [] (suc i) (suc j) is = refl
+skipped test f none (x ∷ xs) (suc i) zero is = absurd (omega (arith, is))
+skipped test f none (x ∷ xs) (suc i) (suc j) is = skipped test f none xs i j (omega (arith, is))
+skipped test f none (x ∷ xs) zero j is = here (λ k at. skipped test f none xs zero k at) (test x) refl j is
+  where
+    here : ((k : ℕ) → k ≡ 0 + position_or_len test xs → flat_map f (drop k xs) ≡ flat_map f xs) → (b : Bool) → test x ≡ b → (j : ℕ) → j ≡ 0 + (if not b then 1 + position_or_len test xs else 0) → flat_map f (drop j (x ∷ xs)) ≡ f x ++ flat_map f xs
+    here later true e zero at = refl
+    here later true e (suc j) at = absurd (omega (arith, at))
+    here later false e zero at = absurd (omega (arith, at))
+    here later false e (suc j) at = later j (omega (arith, at)) ∙ ap (λ l. l ++ flat_map f xs) (sym (none x e))
 
 -- ---- the merge
 
@@ -148,24 +180,38 @@ pub mapped_some : {B : Type 0} → (f : B → Entry) (P : Entry → Type 0) (o :
 mapped_some f P None m q h = tt
 mapped_some f P (Some b) m q h = subst (λ (x : Option Entry). IfSome x P) (sym q) h
 
-found_is : {X : Type 0} → (f : Entry → List X) (es : List Entry) (id : LspId) (flag : Bool) → found_of f es (if flag then Some id else None) ≡ found_at f es id flag
-found_is f es id true = refl
-found_is f es id false = refl
-
-found_row : {X : Type 0} → (f : Entry → List X) (es : List Entry) (flag : FlagRow → Bool) (answer : Option LspId) (out new : List X) (o : Option FlagRow) → IfSome o (λ row. answer ≡ (if flag row then Some row.id else None)) → new ≡ out ++ found_of f es answer → IfSome o (λ row. new ≡ out ++ found_at f es row.id (flag row))
-found_row f es flag answer out new None says is = tt
-found_row f es flag answer out new (Some row) says is = is ∙ ap (λ (a : Option LspId). out ++ found_of f es a) says ∙ ap (λ l. out ++ l) (found_is f es row.id (flag row))
+found_row : {X : Type 0} → (f : Entry → List X) (es : List Entry) (flag : FlagRow → Bool) (id : LspId) (out new : List X) (o : Option FlagRow) → IfSome o (λ row. flag row ≡ true) → IfSome o (λ row. id ≡ row.id) → new ≡ out ++ found f (entry_in es id) → IfSome o (λ row. new ≡ out ++ found_at f es row.id (flag row))
+found_row f es flag id out new None has says is = tt
+found_row f es flag id out new (Some row) has says is = is ∙ ap (λ (i : LspId). out ++ found f (entry_in es i)) says ∙ ap (λ (b : Bool). out ++ found_at f es row.id b) (sym has)
 
 module _ (es : List Entry) (rows : List FlagRow) (link : ℕ) where
-  pub sent_step : (r : RouterConf) (answer : Option LspId) (i j : ℕ) (out new total : List Sent) → i < length rows → j ≡ i + 1 → IfSome (slice_get rows i) (λ row. answer ≡ (if get_or row.srm link false then Some row.id else None)) → new ≡ out ++ found_of (entry_frames r link) es answer
-      → out ++ flat_map (row_frames r es link) (drop i rows) ≡ total → new ++ flat_map (row_frames r es link) (drop j rows) ≡ total
-  sent_step r answer i j out new total lt next says is so =
-      next_row (row_frames r es link) rows i j out new total lt next (found_row (entry_frames r link) es (λ row. get_or row.srm link false) answer out new (slice_get rows i) says is) so
+  abbrev pub to_send : FlagRow → Bool
+  to_send row = get_or row.srm link false
 
-  pub asked_step : (answer : Option LspId) (i j : ℕ) (out new total : List Summary) → i < length rows → j ≡ i + 1 → IfSome (slice_get rows i) (λ row. answer ≡ (if get_or row.ssn link false then Some row.id else None)) → new ≡ out ++ found_of entry_summary es answer
+  abbrev pub to_ask : FlagRow → Bool
+  to_ask row = get_or row.ssn link false
+
+  sent_skipped : (r : RouterConf) (i j : ℕ) (out : List Sent) → j ≡ i + position_or_len to_send (drop i rows) → out ++ flat_map (row_frames r es link) (drop j rows) ≡ out ++ flat_map (row_frames r es link) (drop i rows)
+  sent_skipped r i j out is = ap (λ (l : List Sent). out ++ l) (skipped to_send (row_frames r es link) (λ row none. ap (λ (b : Bool). found_at (entry_frames r link) es row.id b) none) rows i j is)
+
+  pub sent_first : (r : RouterConf) (j : ℕ) (out : List Sent) → j ≡ 0 + position_or_len to_send (drop 0 rows) → out ++ flat_map (row_frames r es link) (drop j rows) ≡ out ++ flat_map (row_frames r es link) rows
+  sent_first r j out is = sent_skipped r 0 j out is
+
+  pub sent_step : (r : RouterConf) (id : LspId) (i j : ℕ) (out new total : List Sent) → i < length rows → IfSome (slice_get rows i) (λ row. to_send row ≡ true) → IfSome (slice_get rows i) (λ row. id ≡ row.id) → new ≡ out ++ found (entry_frames r link) (entry_in es id) → j ≡ (i + 1) + position_or_len to_send (drop (i + 1) rows)
+      → out ++ flat_map (row_frames r es link) (drop i rows) ≡ total → new ++ flat_map (row_frames r es link) (drop j rows) ≡ total
+  sent_step r id i j out new total lt has says is next so =
+      sent_skipped r (i + 1) j new next ∙ next_row (row_frames r es link) rows i (i + 1) out new total lt refl (found_row (entry_frames r link) es to_send id out new (slice_get rows i) has says is) so
+
+  asked_skipped : (i j : ℕ) (out : List Summary) → j ≡ i + position_or_len to_ask (drop i rows) → out ++ flat_map (row_asked es link) (drop j rows) ≡ out ++ flat_map (row_asked es link) (drop i rows)
+  asked_skipped i j out is = ap (λ (l : List Summary). out ++ l) (skipped to_ask (row_asked es link) (λ row none. ap (λ (b : Bool). found_at entry_summary es row.id b) none) rows i j is)
+
+  pub asked_first : (j : ℕ) (out : List Summary) → j ≡ 0 + position_or_len to_ask (drop 0 rows) → out ++ flat_map (row_asked es link) (drop j rows) ≡ out ++ flat_map (row_asked es link) rows
+  asked_first j out is = asked_skipped 0 j out is
+
+  pub asked_step : (id : LspId) (i j : ℕ) (out new total : List Summary) → i < length rows → IfSome (slice_get rows i) (λ row. to_ask row ≡ true) → IfSome (slice_get rows i) (λ row. id ≡ row.id) → new ≡ out ++ found entry_summary (entry_in es id) → j ≡ (i + 1) + position_or_len to_ask (drop (i + 1) rows)
       → out ++ flat_map (row_asked es link) (drop i rows) ≡ total → new ++ flat_map (row_asked es link) (drop j rows) ≡ total
-  asked_step answer i j out new total lt next says is so =
-      next_row (row_asked es link) rows i j out new total lt next (found_row entry_summary es (λ row. get_or row.ssn link false) answer out new (slice_get rows i) says is) so
+  asked_step id i j out new total lt has says is next so =
+      asked_skipped (i + 1) j new next ∙ next_row (row_asked es link) rows i (i + 1) out new total lt refl (found_row entry_summary es to_ask id out new (slice_get rows i) has says is) so
 
   module _ (asc : AreAscending (ids_of es)) (order : AreAscending (row_ids rows)) (all : AllByRecursion (HasEntry es) rows) where
     pub sent_end : (r : RouterConf) (i : ℕ) (start out : List Sent) → length rows ≤ i → out ++ flat_map (row_frames r es link) (drop i rows) ≡ start ++ flat_map (row_frames r es link) rows → out ≡ start ++ flat_map (lsp_frames r rows link) es

@@ -21,11 +21,6 @@ abbrev pub found : {X : Type 0} → (Entry → List X) → Option Entry → List
 found f None = []
 found f (Some e) = f e
 
--- for the entry of an identifier, where one is named
-abbrev pub found_of : {X : Type 0} → (Entry → List X) → List Entry → Option LspId → List X
-found_of f es None = []
-found_of f es (Some id) = found f (entry_in es id)
-
 -- for the entry of a row's identifier, where the row has the flag
 abbrev pub found_at : {X : Type 0} → (Entry → List X) → List Entry → LspId → Bool → List X
 found_at f es id flag = if flag then found f (entry_in es id) else []

@@ -1,11 +1,11 @@
 //! Sending on a link: the CSNPs that are due, link state PDUs, and PSNPs (ISO/IEC 10589, 7.3.15.4 and 7.3.17).
 ghost use Rattle.std.specs.Prelude.{◌≡◌, ◌<◌, ◌≤◌, ◌++◌, Bool, true, false, length, map, filter, slice_index_or, option_map, IfOk, IfSome, OnOk, OnErr};
 ghost use Rattle.std.specs.List.{AllByRecursion, flat_map};
-ghost use Rattle.wire_base.specs.model.Control.{AreAscending, HasEntry, ssn_in, summary_of};
+ghost use Rattle.wire_base.specs.model.Control.{AreAscending, HasEntry, entry_in, ssn_in, summary_of};
 ghost use Rattle.wire_base.specs.model.Flooding.{csnps, psnp_of, id_after, zero_id, last_id, is_known, due_csnps, send_of, send};
 ghost use Rattle.wire_base.specs.model.Lists.{blocks};
 ghost use Rattle.wire_base.specs.model.OnFrame.{frames_of, framed};
-ghost use Rattle.router_core.specs.Sending.{conf_alone, entry_frames, entry_summary, found, found_of, lsp_frames, row_ids};
+ghost use Rattle.router_core.specs.Sending.{conf_alone, entry_frames, entry_summary, found, lsp_frames, row_ids};
 ghost use Rattle.router_laws.specs.State.{IsShort, is_up, control_of};
 
 use crate::control::Control;
@@ -58,14 +58,11 @@ fn known_rows(alloc: Global, entries: &[Entry]) -> M<Vec<Summary>>
     )
 }
 
-/// Appends what a sequence numbers PDU says of an identifier's entry, where one is named.
-fn push_summary(rows: &mut Vec<Summary>, store: &Store, id: Option<LspId>) -> M<()>
-    ensures { OnOk result (rows.new.items ≡ rows.old.items ++ found_of entry_summary store.now.entries id) }
+/// Appends what a sequence numbers PDU says of an identifier's entry, which mostly stands at that place.
+fn push_summary(rows: &mut Vec<Summary>, store: &Store, id: LspId, place: usize) -> M<()>
+    ensures { OnOk result (rows.new.items ≡ rows.old.items ++ found entry_summary (entry_in store.now.entries id)) }
 {
-    match id {
-        None => Ok(()),
-        Some(id) => push_known(rows, store.get(&id)),
-    }
+    push_known(rows, store.get_near(&id, place))
 }
 
 fn push_known(rows: &mut Vec<Summary>, entry: Option<&Entry>) -> M<()>
@@ -92,9 +89,11 @@ fn asked_rows(store: &Store, flood: &Flood, link: u16) -> M<Vec<Summary>>
     if !flood.may_ask(link) {
         return Ok(rows);
     }
-    'rows: for place in 0..flood.rows() {
-        let id = flood.asked_at(place, link);
-        push_summary(&mut rows, store, id)?;
+    let count = flood.rows();
+    let mut place = flood.next_asked(0, link);
+    'rows: while place < count {
+        push_summary(&mut rows, store, flood.id_at(place), place)?;
+        place = flood.next_asked(place + 1, link);
     }
     Ok(rows)
 }
@@ -145,22 +144,20 @@ fn push_entry(out: &mut Rows<Sent>, conf: &RouterConf, link: u16, entry: Option<
     }
 }
 
-/// Appends the frame of an identifier's entry, where one is named.
+/// Appends the frame of an identifier's entry, which mostly stands at that place.
 fn push_found(
     out: &mut Rows<Sent>,
     conf: &RouterConf,
     link: u16,
     store: &Store,
-    id: Option<LspId>,
+    id: LspId,
+    place: usize,
 ) -> M<()>
     requires end { link < length conf.now.ends }
     requires short { AllByRecursion IsShort store.now.entries }
-    ensures { OnOk result (out.new ≡ out.old ++ found_of (entry_frames conf.now link) store.now.entries id) }
+    ensures { OnOk result (out.new ≡ out.old ++ found (entry_frames conf.now link) (entry_in store.now.entries id)) }
 {
-    match id {
-        None => Ok(()),
-        Some(id) => push_entry(out, conf, link, store.get(&id)),
-    }
+    push_entry(out, conf, link, store.get_near(&id, place))
 }
 
 /// Appends the frames of the entries that are to be sent on a link. Where there is none, mostly no row of flags is looked
@@ -183,9 +180,11 @@ fn push_lsps(
     if !flood.may_send(link) {
         return Ok(());
     }
-    'rows: for place in 0..flood.rows() {
-        let id = flood.sent_at(place, link);
-        push_found(out, conf, link, store, id)?;
+    let count = flood.rows();
+    let mut place = flood.next_sent(0, link);
+    'rows: while place < count {
+        push_found(out, conf, link, store, flood.id_at(place), place)?;
+        place = flood.next_sent(place + 1, link);
     }
     Ok(())
 }

@@ -7,4 +7,4 @@ use Rattle.isis_flood.proofs.table.Table.may_send.Goals as goal
 pub returns : goal.returns
 returns c = λ n lt few none.
     ap (λ (t : Held). has_srm (rows_of n t.rows) c.args.link) (sym c.self.view_is)
-    ∙ unsent_rows c.self.inside.sending c.self.inside.asking c.self.inside.items.items c.args.link n c.self.invariant (sym c.has_bit.ensures ∙ none) lt few
+    ∙ unsent_rows c.self.inside.sending c.self.inside.asking c.self.inside.items.rows c.args.link n c.self.invariant (sym c.has_bit.ensures ∙ none) lt few

@@ -1,27 +1,27 @@
-use Rattle.std.proofs.Common.{true, false, sym, ap, subst, ◌∙◌, arith}
+use Rattle.std.proofs.Common.{false, sym, ap, subst, ◌∙◌}
 use Rattle.isis_flood.specs.Masks.{Held, IsPlace, put_bits}
 use Rattle.isis_flood.proofs.BusyLaws.{put_table}
 use Rattle.isis_flood.proofs.TableLaws.{set_within, set_puts, set_ascends, add_within, add_puts, add_ascends}
 use Rattle.isis_flood.proofs.table.Table.put_at.Goals as goal
 
-pub index_mut-requires : goal.index_mut-requires
-index_mut-requires c = omega (arith, set_within c.self.inside.items.items c.args.self.now.rows c.args.found.place c.args.row.id (ap (λ (t : Held). t.rows) c.self.view_is) (subst (λ b. IsPlace c.args.self.now.rows c.args.row.id b c.args.found.place) c.if-found.true c.requires), c.self.inside.items.ok.0)
+pub set-requires : goal.set-requires
+set-requires c = set_within c.self.inside.items.rows c.args.self.now.rows c.args.found.place c.args.row.id (ap (λ (t : Held). t.rows) c.self.view_is) (subst (λ b. IsPlace c.args.self.now.rows c.args.row.id b c.args.found.place) c.if-found.true c.requires)
 
 pub insert-requires : goal.insert-requires
-insert-requires c = omega (arith, add_within c.self.inside.items.items c.args.self.now.rows c.args.found.place c.args.row.id false (ap (λ (t : Held). t.rows) c.self.view_is) (subst (λ b. IsPlace c.args.self.now.rows c.args.row.id b c.args.found.place) c.if-found.false c.requires), c.self.inside.items.ok.0)
+insert-requires c = add_within c.self.inside.items.rows c.args.self.now.rows c.args.found.place c.args.row.id false (ap (λ (t : Held). t.rows) c.self.view_is) (subst (λ b. IsPlace c.args.self.now.rows c.args.row.id b c.args.found.place) c.if-found.false c.requires)
 
 pub invariant_of-self : goal.invariant_of-self
 invariant_of-self c =
-    put_table c.self.inside.sending c.self.inside.asking c.joined-self-inside.result c.joined-self-inside-then-found.result c.self.inside.items.items _ c.args.row c.self.invariant (set_ascends c.self.inside.items.items c.args.self.now.rows c.args.found.place c.args.row (ap (λ (t : Held). t.rows) c.self.view_is) c.self.invariant.ascends (subst (λ b. IsPlace c.args.self.now.rows c.args.row.id b c.args.found.place) c.if-found.true c.requires))
-    (set_puts c.self.inside.items.items c.args.self.now.rows c.args.found.place c.args.row (ap (λ (t : Held). t.rows) c.self.view_is) (subst (λ b. IsPlace c.args.self.now.rows c.args.row.id b c.args.found.place) c.if-found.true c.requires) ∙ ap (put_bits c.args.row) (sym (ap (λ (t : Held). t.rows) c.self.view_is))) c.joined-self-inside.ensures c.joined-self-inside-then-found.ensures
+    put_table c.self.inside.sending c.self.inside.asking c.joined-self-inside.result c.joined-self-inside-then-found.result c.self.inside.items.rows c.set.new.self.rows c.args.row c.self.invariant (set_ascends c.self.inside.items.rows c.args.self.now.rows c.set.new.self.rows c.args.found.place c.args.row (ap (λ (t : Held). t.rows) c.self.view_is) c.self.invariant.ascends (subst (λ b. IsPlace c.args.self.now.rows c.args.row.id b c.args.found.place) c.if-found.true c.requires) c.set.ensures.rows)
+    (set_puts c.self.inside.items.rows c.args.self.now.rows c.set.new.self.rows c.args.found.place c.args.row (ap (λ (t : Held). t.rows) c.self.view_is) (subst (λ b. IsPlace c.args.self.now.rows c.args.row.id b c.args.found.place) c.if-found.true c.requires) c.set.ensures.rows ∙ ap (put_bits c.args.row) (sym (ap (λ (t : Held). t.rows) c.self.view_is))) c.joined-self-inside.ensures c.joined-self-inside-then-found.ensures
 
 pub returns-then-found-clause-ok : goal.returns-then-found-clause-ok
-returns-then-found-clause-ok c = set_puts c.self.inside.items.items c.args.self.now.rows c.args.found.place c.args.row (ap (λ (t : Held). t.rows) c.self.view_is) (subst (λ b. IsPlace c.args.self.now.rows c.args.row.id b c.args.found.place) c.if-found.true c.requires)
+returns-then-found-clause-ok c = set_puts c.self.inside.items.rows c.args.self.now.rows c.set.new.self.rows c.args.found.place c.args.row (ap (λ (t : Held). t.rows) c.self.view_is) (subst (λ b. IsPlace c.args.self.now.rows c.args.row.id b c.args.found.place) c.if-found.true c.requires) c.set.ensures.rows
 
 pub invariant_of-self-2 : goal.invariant_of-self-2
 invariant_of-self-2 c =
-    put_table c.self.inside.sending c.self.inside.asking c.joined-self-inside-2.result c.joined-self-inside-3.result c.self.inside.items.items c.insert.new.self.items c.args.row c.self.invariant (add_ascends c.self.inside.items.items c.args.self.now.rows c.insert.new.self.items c.args.found.place c.args.row true (ap (λ (t : Held). t.rows) c.self.view_is) c.self.invariant.ascends (subst (λ b. IsPlace c.args.self.now.rows c.args.row.id b c.args.found.place) c.if-found.false c.requires) c.in_ok-insert.ensures.items)
-    (add_puts c.self.inside.items.items c.args.self.now.rows c.insert.new.self.items c.args.found.place c.args.row (ap (λ (t : Held). t.rows) c.self.view_is) (subst (λ b. IsPlace c.args.self.now.rows c.args.row.id b c.args.found.place) c.if-found.false c.requires) c.in_ok-insert.ensures.items ∙ ap (put_bits c.args.row) (sym (ap (λ (t : Held). t.rows) c.self.view_is))) c.joined-self-inside-2.ensures c.joined-self-inside-3.ensures
+    put_table c.self.inside.sending c.self.inside.asking c.joined-self-inside-2.result c.joined-self-inside-3.result c.self.inside.items.rows c.insert.new.self.rows c.args.row c.self.invariant (add_ascends c.self.inside.items.rows c.args.self.now.rows c.insert.new.self.rows c.args.found.place c.args.row (ap (λ (t : Held). t.rows) c.self.view_is) c.self.invariant.ascends (subst (λ b. IsPlace c.args.self.now.rows c.args.row.id b c.args.found.place) c.if-found.false c.requires) c.in_ok-insert.ensures.ok)
+    (add_puts c.self.inside.items.rows c.args.self.now.rows c.insert.new.self.rows c.args.found.place c.args.row (ap (λ (t : Held). t.rows) c.self.view_is) (subst (λ b. IsPlace c.args.self.now.rows c.args.row.id b c.args.found.place) c.if-found.false c.requires) c.in_ok-insert.ensures.ok ∙ ap (put_bits c.args.row) (sym (ap (λ (t : Held). t.rows) c.self.view_is))) c.joined-self-inside-2.ensures c.joined-self-inside-3.ensures
 
 pub returns-clause-ok : goal.returns-clause-ok
-returns-clause-ok c = add_puts c.self.inside.items.items c.args.self.now.rows c.insert.new.self.items c.args.found.place c.args.row (ap (λ (t : Held). t.rows) c.self.view_is) (subst (λ b. IsPlace c.args.self.now.rows c.args.row.id b c.args.found.place) c.if-found.false c.requires) c.in_ok-insert.ensures.items
+returns-clause-ok c = add_puts c.self.inside.items.rows c.args.self.now.rows c.insert.new.self.rows c.args.found.place c.args.row (ap (λ (t : Held). t.rows) c.self.view_is) (subst (λ b. IsPlace c.args.self.now.rows c.args.row.id b c.args.found.place) c.if-found.false c.requires) c.in_ok-insert.ensures.ok

@@ -1,0 +1,7 @@
+use Rattle.std.proofs.Common.{ap, ◌∙◌}
+use Rattle.isis_flood.specs.Masks.{Held}
+use Rattle.isis_flood.proofs.ColumnLaws.{ids_seen}
+use Rattle.isis_flood.proofs.columns.Columns.ids.Goals as goal
+
+pub returns : goal.returns
+returns c = c.as_slice.ensures.value ∙ ids_seen c.self.inside.ids.items c.self.inside.srm.items c.self.inside.ssn.items c.args.self.now.rows c.self.invariant (ap (λ (t : Held). t.rows) c.self.view_is)
