@@ -6,7 +6,7 @@ use crate::wire_frames::WireFrames;
 use std::alloc::Global;
 use wire_base::{Octets, Rows};
 
-/// A frame that a router sends to another.
+/// A frame that a router sends to another, as contracts see it; `WireFrames` has the octets of several.
 #[derive(Drop)]
 pub struct WireFrame {
     pub from: u16,
