@@ -34,7 +34,3 @@ not_refused entries s age is h = ap (λ (b : Bool). b && is_full entries) (sym (
 
 pub known_not_refused : (entries : List Entry) (s : Summary) (age : Age) → age ≡ age_of (entry_in entries s.id) s → is_unknown age ≡ false → is_refused entries s.id ≡ false
 known_not_refused entries s age is known = not_refused entries s age is (ap (λ (b : Bool). b && is_full entries) known)
-
-pub room_not_refused : (new full : Bool) → full ≡ false → (new && full) ≡ false
-room_not_refused true full h = h
-room_not_refused false full h = refl

@@ -153,7 +153,8 @@ impl Flood {
         ensures links { length self.new.flood.up ≡ length self.old.flood.up }
     {
         let srm = self.up;
-        self.table.put(Bits { id, srm, ssn: 0 })
+        let end = self.table.len();
+        self.table.put(Bits { id, srm, ssn: 0 }, end)
     }
 
     /// All flags of an identifier go.
@@ -165,26 +166,32 @@ impl Flood {
         self.table.remove(&id);
     }
 
-    /// Changes the row of an identifier to this one.
-    fn set_row(&mut self, row: Bits) -> M<()>
+    /// Where the row of an identifier stands, or would stand. Its entry mostly stands at the same place of the database.
+    pub(crate) fn place_of(&self, id: &LspId) -> usize {
+        self.table.find(id).place
+    }
+
+    /// Changes the row of an identifier to this one. Where it stands may be guessed.
+    fn set_row(&mut self, row: Bits, guess: usize) -> M<()>
         ensures ok { (change : FlagRow → FlagRow) → row_of (length self.old.flood.up) row ≡ change (row_in (length self.old.flood.up) self.old.flood.rows row.id)
             → OnOk result (self.new.flood ≡ with_row self.old.flood row.id change) }
         ensures err { OnErr result (self.new.flood ≡ self.old.flood) }
         ensures room { 0 < self.old.spare → IsOk result }
         ensures spare { self.old.spare ≤ self.new.spare + 1 }
     {
-        self.table.put(row)
+        self.table.put(row, guess)
     }
 
-    /// Turns the flags of an identifier on a link, to be sent there and to be acknowledged or asked for.
-    fn turn(&mut self, id: LspId, link: u16, srm: Turn, ssn: Turn) -> M<()>
+    /// Turns the flags of an identifier on a link, to be sent there and to be acknowledged or asked for. Where its row stands may
+    /// be guessed.
+    fn turn(&mut self, id: LspId, link: u16, guess: usize, srm: Turn, ssn: Turn) -> M<()>
         requires { link < length self.old.flood.up }
         ensures ok { OnOk result (self.new.flood ≡ with_row self.old.flood id (turned link srm ssn)) }
         ensures err { OnErr result (self.new.flood ≡ self.old.flood) }
         ensures room { 0 < self.old.spare → IsOk result }
         ensures spare { self.old.spare ≤ self.new.spare + 1 }
     {
-        let found = self.table.find(&id);
+        let found = self.table.find_near(&id, guess);
         let row = self.table.row_at(found, id);
         let changed = Bits {
             id,
@@ -195,47 +202,47 @@ impl Flood {
     }
 
     /// To be acknowledged or asked for on a link, and not sent there.
-    pub(crate) fn ask(&mut self, id: LspId, link: u16) -> M<()>
+    pub(crate) fn ask(&mut self, id: LspId, link: u16, guess: usize) -> M<()>
         requires { link < length self.old.flood.up }
         ensures ok { OnOk result (self.new.flood ≡ with_row self.old.flood id (ask_on link)) }
         ensures err { OnErr result (self.new.flood ≡ self.old.flood) }
         ensures room { 0 < self.old.spare → IsOk result }
         ensures spare { self.old.spare ≤ self.new.spare + 1 }
     {
-        self.turn(id, link, Turn::Off, Turn::On)
+        self.turn(id, link, guess, Turn::Off, Turn::On)
     }
 
     /// To be sent on a link, and not acknowledged there.
-    pub(crate) fn resend(&mut self, id: LspId, link: u16) -> M<()>
+    pub(crate) fn resend(&mut self, id: LspId, link: u16, guess: usize) -> M<()>
         requires { link < length self.old.flood.up }
         ensures ok { OnOk result (self.new.flood ≡ with_row self.old.flood id (send_on link)) }
         ensures err { OnErr result (self.new.flood ≡ self.old.flood) }
         ensures room { 0 < self.old.spare → IsOk result }
         ensures spare { self.old.spare ≤ self.new.spare + 1 }
     {
-        self.turn(id, link, Turn::On, Turn::Off)
+        self.turn(id, link, guess, Turn::On, Turn::Off)
     }
 
     /// Not to be sent on a link.
-    pub(crate) fn acknowledge(&mut self, id: LspId, link: u16) -> M<()>
+    pub(crate) fn acknowledge(&mut self, id: LspId, link: u16, guess: usize) -> M<()>
         requires { link < length self.old.flood.up }
         ensures ok { OnOk result (self.new.flood ≡ with_row self.old.flood id (set_srm link false)) }
         ensures err { OnErr result (self.new.flood ≡ self.old.flood) }
         ensures room { 0 < self.old.spare → IsOk result }
         ensures spare { self.old.spare ≤ self.new.spare + 1 }
     {
-        self.turn(id, link, Turn::Off, Turn::Same)
+        self.turn(id, link, guess, Turn::Off, Turn::Same)
     }
 
     /// To be sent on a link.
-    pub(crate) fn want(&mut self, id: LspId, link: u16) -> M<()>
+    pub(crate) fn want(&mut self, id: LspId, link: u16, guess: usize) -> M<()>
         requires { link < length self.old.flood.up }
         ensures ok { OnOk result (self.new.flood ≡ with_row self.old.flood id (set_srm link true)) }
         ensures err { OnErr result (self.new.flood ≡ self.old.flood) }
         ensures room { 0 < self.old.spare → IsOk result }
         ensures spare { self.old.spare ≤ self.new.spare + 1 }
     {
-        self.turn(id, link, Turn::On, Turn::Same)
+        self.turn(id, link, guess, Turn::On, Turn::Same)
     }
 
     /// The links that are up, as a mask.
@@ -247,7 +254,7 @@ impl Flood {
     }
 
     /// Came on a link: to be acknowledged there, and to be sent on all other links that are up.
-    pub(crate) fn pass(&mut self, id: LspId, link: u16) -> M<()>
+    pub(crate) fn pass(&mut self, id: LspId, link: u16, guess: usize) -> M<()>
         requires { link < length self.old.flood.up }
         ensures ok { OnOk result (self.new.flood ≡ pass_on self.old.flood id link) }
         ensures err { OnErr result (self.new.flood ≡ self.old.flood) }
@@ -255,11 +262,12 @@ impl Flood {
         ensures spare { self.old.spare ≤ self.new.spare + 1 }
     {
         let up = self.up_mask();
-        self.set_row(Bits {
+        let row = Bits {
             id,
             srm: without(up, link),
             ssn: with(0, link),
-        })
+        };
+        self.set_row(row, guess)
     }
 
     /// The own system.

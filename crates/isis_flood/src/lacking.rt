@@ -62,7 +62,9 @@ impl Flood {
                 [] => return Ok(()),
                 [e, after @ ..] => {
                     if lacks(start, last, rows, e) {
-                        self.want(e.id, link)?;
+                        // Its row mostly stands where the entry does.
+                        let guess = store.len().saturating_sub(rest.len());
+                        self.want(e.id, link, guess)?;
                     }
                     rest = after;
                 }
@@ -157,7 +159,9 @@ impl Flood {
                 [] => return Ok(()),
                 [e, after @ ..] => {
                     if e.seq > 0 {
-                        self.want(e.id, link)?;
+                        // Its row mostly stands where the entry does.
+                        let guess = store.len().saturating_sub(rest.len());
+                        self.want(e.id, link, guess)?;
                     }
                     rest = after;
                 }

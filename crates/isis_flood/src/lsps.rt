@@ -48,13 +48,13 @@ fn kept(alloc: Global, head: &LspHead, tlvs: &[u8]) -> M<Entry>
     })
 }
 
-/// Puts an entry that isn't refused.
-fn put_into(store: &mut Store, e: Entry) -> M<()>
+/// Puts an entry that isn't refused. Where it stands may be guessed.
+fn put_into(store: &mut Store, e: Entry, guess: usize) -> M<()>
     requires { is_refused store.old.entries e.id ≡ false }
     ensures ok { OnOk result (store.new.entries ≡ put_entry e store.old.entries) }
     ensures err { OnErr result (store.new.entries ≡ store.old.entries) }
 {
-    match store.put(e) {
+    match store.put_near(e, guess) {
         Ok(()) => Ok(()),
         Err(_) => Err(Memory),
     }
@@ -96,12 +96,13 @@ impl Flood {
     {
         let id = e.id;
         self.reserve(1)?;
-        put_into(store, e)?;
+        let guess = self.place_of(&id);
+        put_into(store, e, guess)?;
         self.mark_all(id)
     }
 
     /// Puts an entry that came on a link, and passes it on.
-    fn put_passed(&mut self, store: &mut Store, link: u16, e: Entry) -> M<()>
+    fn put_passed(&mut self, store: &mut Store, link: u16, e: Entry, guess: usize) -> M<()>
         requires link { link < length self.old.flood.up }
         requires room { is_refused store.old.entries e.id ≡ false }
         ensures ok { OnOk result ((self.new.flood ≡ pass_on self.old.flood e.id link) × (store.new.entries ≡ put_entry e store.old.entries)) }
@@ -110,8 +111,8 @@ impl Flood {
     {
         let id = e.id;
         self.reserve(1)?;
-        put_into(store, e)?;
-        self.pass(id, link)
+        put_into(store, e, guess)?;
+        self.pass(id, link, guess)
     }
 
     /// The own fragment 0, ahead of the one that the router issued.
@@ -146,14 +147,21 @@ impl Flood {
     }
 
     /// Stores one and passes it on.
-    fn keep(&mut self, store: &mut Store, link: u16, head: &LspHead, tlvs: &[u8]) -> M<FloodOut>
+    fn keep(
+        &mut self,
+        store: &mut Store,
+        link: u16,
+        head: &LspHead,
+        tlvs: &[u8],
+        guess: usize,
+    ) -> M<FloodOut>
         requires link { link < length self.old.flood.up }
         requires room { is_refused store.old.entries head.now.id ≡ false }
         ensures done { LspDone result self.old.flood store.old.entries self.new.flood store.new.entries (stores self.old.flood store.old.entries link (kept (head_of head.now) tlvs.now)) }
         ensures spare { self.old.spare ≤ self.new.spare + 1 }
     {
         let entry = kept(store.allocator(), head, tlvs)?;
-        self.put_passed(store, link, entry)?;
+        self.put_passed(store, link, entry, guess)?;
         Ok(FloodOut::Kept)
     }
 
@@ -164,6 +172,7 @@ impl Flood {
         link: u16,
         head: &LspHead,
         tlvs: &[u8],
+        guess: usize,
     ) -> M<FloodOut>
         requires link { link < length self.old.flood.up }
         ensures done { LspDone result self.old.flood store.old.entries self.new.flood store.new.entries (lsp_aged self.old.flood store.old.entries link (head_of head.now) tlvs.now Unknown) }
@@ -175,10 +184,10 @@ impl Flood {
         if is_full(store) {
             return Ok(FloodOut::Full);
         }
-        self.keep(store, link, head, tlvs)
+        self.keep(store, link, head, tlvs, guess)
     }
 
-    /// By how new it is, where it isn't a matter of the own link state PDUs.
+    /// By how new it is, where it isn't a matter of the own link state PDUs. Where its row and its entry stand may be guessed.
     fn on_aged(
         &mut self,
         store: &mut Store,
@@ -186,6 +195,7 @@ impl Flood {
         head: &LspHead,
         tlvs: &[u8],
         age: Age,
+        guess: usize,
     ) -> M<FloodOut>
         requires link { link < length self.old.flood.up }
         requires age { age ≡ age_of (entry_in store.old.entries head.now.id) (head_summary (head_of head.now)) }
@@ -193,19 +203,19 @@ impl Flood {
         ensures spare { self.old.spare ≤ self.new.spare + 1 }
     {
         match age {
-            Age::Unknown => self.on_unknown(store, link, head, tlvs),
-            Age::Newer => self.keep(store, link, head, tlvs),
+            Age::Unknown => self.on_unknown(store, link, head, tlvs, guess),
+            Age::Newer => self.keep(store, link, head, tlvs, guess),
             Age::Confused => {
                 let gone = purge(store.allocator(), head.id, head.seq);
                 self.put_marked(store, gone)?;
                 Ok(FloodOut::Kept)
             }
             Age::Equal => {
-                self.ask(head.id, link)?;
+                self.ask(head.id, link, guess)?;
                 Ok(FloodOut::Kept)
             }
             Age::Older => {
-                self.resend(head.id, link)?;
+                self.resend(head.id, link, guess)?;
                 Ok(FloodOut::Kept)
             }
         }
@@ -249,13 +259,15 @@ impl Flood {
         if head.seq == 0 {
             return Ok(FloodOut::Zero);
         }
-        let age = store.compare(&summary_of(head));
+        // Rows and entries mostly stand side by side, so one search finds both.
+        let guess = self.place_of(&head.id);
+        let age = store.compare_near(&summary_of(head), guess);
         if self.is_own_ahead(&head.id, spent, age) {
             return Ok(FloodOut::Reissue(head.seq));
         }
         if self.is_stray(head, age) {
             return self.on_stray(store, head, age);
         }
-        self.on_aged(store, link, head, tlvs, age)
+        self.on_aged(store, link, head, tlvs, age, guess)
     }
 }

@@ -33,7 +33,14 @@ fn wanted(alloc: Global, s: &Summary) -> Entry
 
 impl Flood {
     /// Asks for an unknown one, where the database has room.
-    fn want_it(&mut self, store: &mut Store, link: u16, s: &Summary, answer: &mut SnpOut) -> M<()>
+    fn want_it(
+        &mut self,
+        store: &mut Store,
+        link: u16,
+        s: &Summary,
+        guess: usize,
+        answer: &mut SnpOut,
+    ) -> M<()>
         requires link { link < length self.old.flood.up }
         requires few { answer.old.full < 4294967295 }
         ensures next { Becomes result (state_of self.new.flood store.new.entries answer.new) (asks (state_of self.old.flood store.old.entries answer.old) link s.now) }
@@ -48,10 +55,10 @@ impl Flood {
             return Ok(());
         }
         let alloc = store.allocator();
-        if store.put(wanted(alloc, s)).is_err() {
+        if store.put_near(wanted(alloc, s), guess).is_err() {
             return Err(Memory);
         }
-        self.ask(s.id, link)
+        self.ask(s.id, link, guess)
     }
 
     /// Purges one that is at odds with the entry, or asks that the own one be issued anew.
@@ -84,7 +91,7 @@ impl Flood {
         self.mark_all(s.id)
     }
 
-    /// By how new the listed one is; its sequence number is above 0.
+    /// By how new the listed one is; its sequence number is above 0. Where its row and its entry stand may be guessed.
     fn on_listed_aged(
         &mut self,
         store: &mut Store,
@@ -92,6 +99,7 @@ impl Flood {
         s: &Summary,
         spent: bool,
         age: Age,
+        guess: usize,
         answer: &mut SnpOut,
     ) -> M<()>
         requires age { age ≡ age_of (entry_in store.old.entries s.now.id) s.now }
@@ -107,14 +115,14 @@ impl Flood {
         match age {
             Age::Unknown => {
                 if s.is_live() {
-                    self.want_it(store, link, s, answer)
+                    self.want_it(store, link, s, guess, answer)
                 } else {
                     Ok(())
                 }
             }
-            Age::Newer => self.ask(s.id, link),
-            Age::Equal => self.acknowledge(s.id, link),
-            Age::Older => self.resend(s.id, link),
+            Age::Newer => self.ask(s.id, link, guess),
+            Age::Equal => self.acknowledge(s.id, link, guess),
+            Age::Older => self.resend(s.id, link, guess),
             Age::Confused => self.on_confused(store, link, s, spent, answer),
         }
     }
@@ -138,14 +146,16 @@ impl Flood {
         ensures full { answer.new.full ≤ answer.old.full + 1 }
         ensures links { OnOk result (length self.new.flood.up ≡ length self.old.flood.up) }
     {
+        // Rows and entries mostly stand side by side, so one search finds both.
+        let guess = self.place_of(&s.id);
         if s.seq == 0 {
             if store.seq_of(&s.id) > 0 {
-                return self.resend(s.id, link);
+                return self.resend(s.id, link, guess);
             }
             return Ok(());
         }
-        let age = store.compare(s);
-        self.on_listed_aged(store, link, s, spent, age, answer)
+        let age = store.compare_near(s, guess);
+        self.on_listed_aged(store, link, s, spent, age, guess, answer)
     }
 
     /// The entries of a sequence numbers PDU, in order, for which there is the memory already.

@@ -6,7 +6,7 @@ ghost use Rattle.isis_flood.specs.Masks.{at_bit, rows_of, row_ids, bits_in, put_
 
 use crate::columns::Columns;
 use crate::masks::{has_bit, joined, without_bit};
-use lsp_store::{place_of, stands_at};
+use lsp_store::{place_near, place_of, stands_at};
 use std::alloc::Global;
 use std::marker::Model;
 use wire_base::{LspId, M};
@@ -23,7 +23,7 @@ pub(crate) struct Bits {
 /// Where the row of an identifier stands in a table, or would stand.
 #[derive(Clone, Copy)]
 pub(crate) struct Found {
-    place: usize,
+    pub(crate) place: usize,
     is_there: bool,
 }
 
@@ -122,6 +122,19 @@ impl Table {
         }
     }
 
+    /// The same, where a guess is at hand: where that is right, nothing is searched.
+    pub(crate) fn find_near(&self, id: &LspId, guess: usize) -> Found
+        ensures place { IsPlace self.now.rows id.now result.is_there result.place }
+        ensures ascends { AreAscending (row_ids self.now.rows) }
+    {
+        let ids = self.items.ids();
+        let place = place_near(ids, id, guess);
+        Found {
+            place,
+            is_there: stands_at(ids, place, id),
+        }
+    }
+
     /// The row of an identifier that was found, without flags where it isn't there.
     pub(crate) fn row_at(&self, found: Found, id: LspId) -> Bits
         requires { IsPlace self.now.rows id found.is_there found.place }
@@ -161,14 +174,14 @@ impl Table {
         Ok(())
     }
 
-    /// Puts a row at its place, or in place of the one of its identifier.
-    pub(crate) fn put(&mut self, row: Bits) -> M<()>
+    /// Puts a row at its place, which may be the one that is guessed, or in place of the one of its identifier.
+    pub(crate) fn put(&mut self, row: Bits, guess: usize) -> M<()>
         ensures ok { OnOk result (self.new.rows ≡ put_bits row self.old.rows) }
         ensures err { OnErr result (self.new.rows ≡ self.old.rows) }
         ensures room { 0 < self.old.spare → IsOk result }
         ensures spare { self.old.spare ≤ self.new.spare + 1 }
     {
-        let found = self.find(&row.id);
+        let found = self.find_near(&row.id, guess);
         self.put_at(found, row)
     }
 

@@ -101,7 +101,7 @@ stands_above x (y ∷ ys) zero id all h = ap is_gt (id_total.congr id y x (tied 
 stands_above x (y ∷ ys) (suc n) id all h = stands_above x ys n id all.1 h
 
 -- an identifier stands at its place alone
-stands_placed : (ids : List LspId) (n : ℕ) (id : LspId) → AreAscending ids → stands_at ids n id ≡ true → n ≡ place_in ids id
+pub stands_placed : (ids : List LspId) (n : ℕ) (id : LspId) → AreAscending ids → stands_at ids n id ≡ true → n ≡ place_in ids id
 stands_placed [] n id asc h = absurd (false≢true h)
 stands_placed (x ∷ xs) zero id asc h = first (id_order id x) (tie_is_same id x ∙ same_turned id x ∙ h)
   where
@@ -259,17 +259,6 @@ set_within es now p id same at =
 pub read_there : (es now : List Entry) (p : ℕ) (id : LspId) (x : Entry) → es ≡ now → IsPlace now id true p → x ≡ get_or es p x → Some x ≡ entry_in now id
 read_there es now p id x same at is =
     sym (slice_get_read es (length es) p x refl (set_within es now p id same at) is) ∙ ap (λ (xs : List Entry). slice_get xs p) same ∙ ap (λ n. slice_get now n) at.place ∙ entry_there now id (stands_there at)
-
--- what stands at a place that was guessed
-pub read_near : (es now : List Entry) (p : ℕ) (id : LspId) (x : Entry) → es ≡ now → IsDatabase es → stands_at (ids_of es) p id ≡ true → x ≡ get_or es p x → Some x ≡ entry_in now id
-read_near es now p id x same db h is =
-    read_there es now p id x same (subst (λ (xs : List Entry). IsPlace xs id true p) same (record { place = stands_placed (ids_of es) p id db.in_order h; stands = h })) is
-
-pub near_within : (es : List Entry) (p : ℕ) (id : LspId) → stands_at (ids_of es) p id ≡ true → p < length es
-near_within es p id h =
-    let w = stands_within (ids_of es) p id h in
-    let l = length-map es (λ (x : Entry). x.id) in
-    omega (arith, w, l)
 
 pub none_there : (es now : List Entry) (p : ℕ) (id : LspId) → es ≡ now → IsDatabase es → IsPlace now id false p → None ≡ entry_in now id
 none_there es now p id same db at =

@@ -12,7 +12,7 @@ mod seconds;
 mod store;
 
 pub use keys::{is_same_id, is_system_above, system_key};
-pub use places::{Keyed, place_of, stands_at};
+pub use places::{Keyed, place_near, place_of, stands_at};
 pub use purges::purge;
 pub use store::Store;
 pub use wire_base::{Age, Aged, Entry, PutFault};

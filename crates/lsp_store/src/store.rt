@@ -1,10 +1,10 @@
 ghost use Rattle.std.specs.Prelude.{◌≡◌, ◌≤◌, ◌<◌, ◌+◌, ◌-◌, [], length, map, vec_len, vec_capacity, slice_get, option_map, Some, true, false, OnOk, OnErr, IfOk, IfErr, IfSome};
 ghost use Rattle.wire_base.specs.model.Control.{IsDatabase, ids_of, entry_in, put_entry, age_of, seq_of};
 ghost use Rattle.wire_base.specs.declared.faults.PutFault.TheVariants.{Memory};
-ghost use Rattle.lsp_store.specs.Places.{IsPlace, is_new, PutAnswers, IsSecondAt};
+ghost use Rattle.lsp_store.specs.Places.{IsPlace, is_new, place_in, PutAnswers, IsSecondAt};
 
 use crate::ages::age_beside;
-use crate::places::{place_of, stands_at};
+use crate::places::{place_near, place_of, stands_at};
 use crate::seconds::{is_removed, pass_second};
 use std::alloc::Global;
 use std::marker::Model;
@@ -28,6 +28,29 @@ impl Model for Store {
     ghost view = { λ s. record { entries = s.items.items; spare = vec_capacity s.items - vec_len s.items } };
 
     ghost invariant = { λ s. IsDatabase s.items.items };
+}
+
+/// Whether an identifier stands at its place.
+fn found_at(entries: &[Entry], place: usize, id: &LspId) -> Result<usize, usize>
+    requires { place ≡ place_in (ids_of entries.now) id.now }
+    ensures there { IfOk result (λ place. IsPlace entries.now id.now true place) }
+    ensures gone { IfErr result (λ place. IsPlace entries.now id.now false place) }
+{
+    if stands_at(entries, place, id) {
+        Ok(place)
+    } else {
+        Err(place)
+    }
+}
+
+/// How new something is beside an entry, where there is one.
+fn age_of(entry: Option<&Entry>, s: &Summary) -> Age
+    ensures { result ≡ age_of (option_map (λ e. e.now) entry.entry) s.now }
+{
+    match entry {
+        None => Age::Unknown,
+        Some(entry) => age_beside(entry, s),
+    }
 }
 
 impl Store {
@@ -79,14 +102,14 @@ impl Store {
         }
     }
 
-    /// The entry of an identifier, as `get` gives it. Where it stands at that place, nothing is searched.
-    pub fn get_near(&self, id: &LspId, place: usize) -> Option<&Entry>
+    /// The entry of an identifier, as `get` gives it. Where it stands at the place that is guessed, nothing is searched.
+    pub fn get_near(&self, id: &LspId, guess: usize) -> Option<&Entry>
         ensures { option_map (λ e. e.now) result ≡ entry_in self.now.entries id.now }
     {
-        if stands_at(self.items.as_slice(), place, id) {
-            return Some(&self.items[place]);
+        match self.find_near(id, guess) {
+            Ok(place) => Some(&self.items[place]),
+            Err(_) => None,
         }
-        self.get(id)
     }
 
     /// Where an identifier stands, or would stand.
@@ -95,12 +118,16 @@ impl Store {
         ensures gone { IfErr result (λ place. IsPlace self.now.entries id.now false place) }
     {
         let entries = self.items.as_slice();
-        let place = place_of(entries, id);
-        if stands_at(entries, place, id) {
-            Ok(place)
-        } else {
-            Err(place)
-        }
+        found_at(entries, place_of(entries, id), id)
+    }
+
+    /// The same, where a guess is at hand.
+    fn find_near(&self, id: &LspId, guess: usize) -> Result<usize, usize>
+        ensures there { IfOk result (λ place. IsPlace self.now.entries id.now true place) }
+        ensures gone { IfErr result (λ place. IsPlace self.now.entries id.now false place) }
+    {
+        let entries = self.items.as_slice();
+        found_at(entries, place_near(entries, id, guess), id)
     }
 
     /// The sequence number of the entry of an identifier; 0 where there is none.
@@ -117,10 +144,14 @@ impl Store {
     pub fn compare(&self, s: &Summary) -> Age
         ensures { result ≡ age_of (entry_in self.now.entries s.now.id) s.now }
     {
-        match self.get(&s.id) {
-            None => Age::Unknown,
-            Some(entry) => age_beside(entry, s),
-        }
+        age_of(self.get(&s.id), s)
+    }
+
+    /// The same. Where the entry stands at the place that is guessed, nothing is searched.
+    pub fn compare_near(&self, s: &Summary, guess: usize) -> Age
+        ensures { result ≡ age_of (entry_in self.now.entries s.now.id) s.now }
+    {
+        age_of(self.get_near(&s.id, guess), s)
     }
 
     /// Adds an entry, or puts it in place of the one of its identifier. Full where the identifier is new and 4,096
@@ -134,7 +165,21 @@ impl Store {
         ensures kept { is_new self.old.entries e.id ≡ false → self.old.spare ≤ self.new.spare }
         ensures database { IsDatabase self.new.entries }
     {
-        match self.find(&e.id) {
+        // What comes in order goes to the end.
+        let end = self.items.len();
+        self.put_near(e, end)
+    }
+
+    /// The same. Where its place is the one that is guessed, nothing is searched.
+    pub fn put_near(&mut self, e: Entry, guess: usize) -> Result<(), PutFault>
+        ensures ok { OnOk result (self.new.entries ≡ put_entry e self.old.entries) }
+        ensures err { OnErr result (self.new.entries ≡ self.old.entries) }
+        ensures answers { PutAnswers self.old.entries self.old.spare e.id result }
+        ensures spare { self.old.spare ≤ self.new.spare + 1 }
+        ensures kept { is_new self.old.entries e.id ≡ false → self.old.spare ≤ self.new.spare }
+        ensures database { IsDatabase self.new.entries }
+    {
+        match self.find_near(&e.id, guess) {
             Ok(place) => {
                 self.items[place] = e;
                 Ok(())

@@ -1,7 +1,7 @@
 use Rattle.std.proofs.Common.{ap, arith}
 use Rattle.lsp_store.specs.Views.{Stored}
 use Rattle.lsp_store.proofs.PlaceLaws.{set_within, set_kept, set_puts, answers_there}
-use Rattle.lsp_store.proofs.store.Store.put.Goals as goal
+use Rattle.lsp_store.proofs.store.Store.put_near.Goals as goal
 
 pub index_mut-requires : goal.index_mut-requires
 index_mut-requires c = omega (arith, set_within c.self.inside.items.items c.args.self.now.entries c.in-Ok.place c.args.e.id (ap (λ (s : Stored). s.entries) c.self.view_is) c.in-Ok.ensures.there, c.self.inside.items.ok.0)
