@@ -101,6 +101,10 @@ pub fn push_event(
     ensures ok { OnOk result (out.new ≡ out.old ++ spec.event_text routers.now line made.now.got made.now.drops) }
     ensures err { OnErr result (out.new ≡ out.old) }
 {
+    if made.got.len() == 0 && made.drops.len() == 0 {
+        // So it is of most events.
+        return Ok(());
+    }
     let text = lines_of(alloc, routers, line, made)?;
     out.append(text.as_slice())
 }
