@@ -1,0 +1,84 @@
+-- Frames whose octets stand in one list stay what they are when more octets are put behind them.
+use Rattle.std.proofs.Common.{◌≡◌, ◌∙◌, ◌≤◌, ◌-◌, ℕ, zero, suc, List, [], ◌∷◌, ◌++◌, map, length, take, drop, slice_get, option_map, Option, Some, None, refl, ap, arith}
+use Rattle.std.specs.List.{AllByRecursion, remove}
+use Rattle.std.proofs.lemmas.List.{take-append-le, drop-append-le, length-append, length-drop, map-append}
+use Rattle.std.proofs.Math.Seq.{take-length, drop-append_seam}
+use Rattle.std.proofs.lemmas.Option.{none-some, same_Some}
+use Rattle.frame_list.specs.declared.list.Span.{Span}
+use Rattle.frame_list.specs.Spans.{Noted, cut_out, frames_in, IsWithin, AreWithin}
+
+cut_kept : (a b : ℕ) (o more : List ℕ) → a ≤ b → b ≤ length o → take (b - a) (drop a (o ++ more)) ≡ take (b - a) (drop a o)
+cut_kept a b o more ordered there =
+    ap (take (b - a)) (drop-append-le a o more (omega (arith, ordered, there)))
+    ∙ take-append-le (b - a) (drop a o) more (omega (arith, ordered, there, length-drop a o))
+
+cut_added : (o more : List ℕ) → take (length (o ++ more) - length o) (drop (length o) (o ++ more)) ≡ more
+cut_added o more =
+    ap (take (length (o ++ more) - length o)) (drop-append_seam o more)
+    ∙ ap (λ (n : ℕ). take n more) (omega (arith, length-append o more))
+    ∙ take-length more
+
+abbrev pub noted : {N : Type 0} → N → List ℕ → Noted N
+noted note octets = record { note = note; octets = octets }
+
+pub frames_kept : {N : Type 0} (o more : List ℕ) (spans : List (Span N)) → AreWithin o spans → frames_in (o ++ more) spans ≡ frames_in o spans
+frames_kept o more [] within = refl
+frames_kept o more (s ∷ spans) within =
+    ap (λ (octets : List ℕ). noted s.note octets ∷ frames_in (o ++ more) spans) (cut_kept s.start s.end o more within.0.ordered within.0.there)
+    ∙ ap (λ (l : List (Noted _)). cut_out o s ∷ l) (frames_kept o more spans within.1)
+
+pub within_kept : {N : Type 0} (o more : List ℕ) (spans : List (Span N)) → AreWithin o spans → AreWithin (o ++ more) spans
+within_kept o more [] within = tt
+within_kept o more (s ∷ spans) within =
+    (record { ordered = within.0.ordered; there = omega (arith, within.0.there, length-append o more) }, within_kept o more spans within.1)
+
+-- the span of what is put behind those octets
+abbrev pub behind : {N : Type 0} → N → List ℕ → List ℕ → Span N
+behind note o more = record { note = note; start = length o; end = length (o ++ more) }
+
+pub frames_added : {N : Type 0} (note : N) (o more : List ℕ) (spans : List (Span N)) → AreWithin o spans → frames_in (o ++ more) (spans ++ behind note o more ∷ []) ≡ frames_in o spans ++ noted note more ∷ []
+frames_added note o more spans within =
+    map-append (cut_out (o ++ more)) spans (behind note o more ∷ [])
+    ∙ ap (λ (l : List (Noted _)). l ++ cut_out (o ++ more) (behind note o more) ∷ []) (frames_kept o more spans within)
+    ∙ ap (λ (octets : List ℕ). frames_in o spans ++ noted note octets ∷ []) (cut_added o more)
+
+within_one : {N : Type 0} (o more : List ℕ) (spans : List (Span N)) (s : Span N) → AreWithin o spans → IsWithin (o ++ more) s → AreWithin (o ++ more) (spans ++ s ∷ [])
+within_one o more [] s within one = (one, tt)
+within_one o more (x ∷ spans) s within one =
+    (record { ordered = within.0.ordered; there = omega (arith, within.0.there, length-append o more) }, within_one o more spans s within.1 one)
+
+pub within_added : {N : Type 0} (note : N) (o more : List ℕ) (spans : List (Span N)) → AreWithin o spans → AreWithin (o ++ more) (spans ++ behind note o more ∷ [])
+within_added note o more spans within =
+    within_one o more spans (behind note o more) within (record { ordered = omega (arith, length-append o more); there = omega arith })
+
+each_taken : {X : Type 0} (P : X → Type 0) (n : ℕ) (xs : List X) → AllByRecursion P xs → AllByRecursion P (take n xs)
+each_taken P zero xs all = tt
+each_taken P (suc n) [] all = tt
+each_taken P (suc n) (x ∷ xs) all = (all.0, each_taken P n xs all.1)
+
+each_dropped : {X : Type 0} (P : X → Type 0) (n : ℕ) (xs : List X) → AllByRecursion P xs → AllByRecursion P (drop n xs)
+each_dropped P zero xs all = all
+each_dropped P (suc n) [] all = tt
+each_dropped P (suc n) (x ∷ xs) all = each_dropped P n xs all.1
+
+each_joined : {X : Type 0} (P : X → Type 0) (xs ys : List X) → AllByRecursion P xs → AllByRecursion P ys → AllByRecursion P (xs ++ ys)
+each_joined P [] ys all more = more
+each_joined P (x ∷ xs) ys all more = (all.0, each_joined P xs ys all.1 more)
+
+pub within_removed : {N : Type 0} (o : List ℕ) (spans : List (Span N)) (i : ℕ) → AreWithin o spans → AreWithin o (remove spans i)
+within_removed o spans i all = each_joined (IsWithin o) (take i spans) (drop (suc i) spans) (each_taken (IsWithin o) i spans all) (each_dropped (IsWithin o) (suc i) spans all)
+
+map_removed : {X Y : Type 0} (f : X → Y) (xs : List X) (i : ℕ) → map f (remove xs i) ≡ remove (map f xs) i
+map_removed f [] zero = refl
+map_removed f [] (suc i) = refl
+map_removed f (x ∷ xs) zero = refl
+map_removed f (x ∷ xs) (suc i) = ap (λ (l : List _). f x ∷ l) (map_removed f xs i)
+
+pub frames_removed : {N : Type 0} (o : List ℕ) (spans : List (Span N)) (i : ℕ) → frames_in o (remove spans i) ≡ remove (frames_in o spans) i
+frames_removed o spans i = map_removed (cut_out o) spans i
+
+-- the first frames, with one more
+pub taken_more : {N : Type 0} (xs : List (Noted N)) (i : ℕ) (note : N) (octets : List ℕ) → option_map (λ f. f.note) (slice_get xs i) ≡ Some note → option_map (λ f. f.octets) (slice_get xs i) ≡ Some octets → take (suc i) xs ≡ take i xs ++ noted note octets ∷ []
+taken_more [] i note octets n o = absurd (none-some note n)
+taken_more (x ∷ xs) zero note octets n o = ap (λ m. noted m x.octets ∷ []) (same_Some x.note note n) ∙ ap (λ (l : List ℕ). noted note l ∷ []) (same_Some x.octets octets o)
+taken_more (x ∷ xs) (suc i) note octets n o = ap (λ (l : List (Noted _)). x ∷ l) (taken_more xs i note octets n o)

@@ -1,0 +1,24 @@
+-- Frames whose octets stand in one list.
+use Rattle.std.specs.Prelude.{ℕ, ◌≤◌, ◌-◌, List, length, take, drop, map}
+use Rattle.std.specs.List.{AllByRecursion}
+use Rattle.frame_list.specs.declared.list.Span.{Span}
+
+-- a frame, and what is noted of it
+pub record Noted (N : Type 0) : Type 0 where
+  pub note : N
+  pub octets : List ℕ
+
+-- the frame that a span cuts out
+abbrev pub cut_out : {N : Type 0} → List ℕ → Span N → Noted N
+cut_out octets s = record { note = s.note; octets = take (s.end - s.start) (drop s.start octets) }
+
+abbrev pub frames_in : {N : Type 0} → List ℕ → List (Span N) → List (Noted N)
+frames_in octets spans = map (cut_out octets) spans
+
+-- a span's octets are there
+pub record IsWithin {N : Type 0} (octets : List ℕ) (s : Span N) : Type 0 where
+  pub ordered : s.start ≤ s.end
+  pub there : s.end ≤ length octets
+
+abbrev pub AreWithin : {N : Type 0} → List ℕ → List (Span N) → Type 0
+AreWithin octets spans = AllByRecursion (IsWithin octets) spans

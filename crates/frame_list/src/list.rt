@@ -1,0 +1,169 @@
+ghost use Rattle.std.specs.Prelude.{◌≡◌, ◌<◌, ◌++◌, ◌∷◌, [], nat_lt, length, slice_get, option_map, Some, true, OnOk, OnErr, IfOk};
+ghost use Rattle.std.specs.List.{remove};
+ghost use Rattle.frame_list.specs.Spans.{Noted, cut_out, IsWithin};
+
+use std::alloc::Global;
+use std::collections::VecDeque;
+use std::marker::Model;
+use wire_base::M;
+
+/// How many octets a list without frames keeps room for.
+const KEPT: usize = 4096;
+
+/// Where the octets of a frame begin and end among those of all, and what is noted of it.
+#[derive(Clone, Copy)]
+struct Span<N> {
+    note: N,
+    start: usize,
+    end: usize,
+}
+
+/// Frames in order, each with a note; contracts see the list of both. Their octets stand in one list, so that a frame takes no
+/// memory of its own.
+#[derive(Drop)]
+pub struct FrameList<N> {
+    octets: Vec<u8>,
+    spans: VecDeque<Span<N>>,
+    gone: usize,
+}
+
+impl<N> Model for FrameList<N> {
+    ghost use Rattle.std.specs.Prelude.{List};
+    ghost use Rattle.frame_list.specs.Spans.{Noted, frames_in, AreWithin};
+
+    ghost Value = { List (Noted N) };
+
+    ghost view = { λ f. frames_in f.octets.items f.spans.items };
+
+    ghost invariant = { λ f. AreWithin f.octets.items f.spans.items };
+}
+
+impl<N: Copy + Drop> FrameList<N> {
+    /// No frames. Takes no memory.
+    pub fn new(alloc: Global) -> Self
+        ensures { result ≡ [] }
+    {
+        FrameList {
+            octets: Vec::new(alloc),
+            spans: VecDeque::new(alloc),
+            gone: 0,
+        }
+    }
+
+    /// The allocator that the list keeps.
+    pub fn allocator(&self) -> Global {
+        *self.octets.allocator()
+    }
+
+    /// How many frames there are.
+    pub fn len(&self) -> usize
+        ensures { result ≡ length self.now }
+    {
+        self.spans.len()
+    }
+
+    /// The octets of the frame at a place.
+    pub fn octets_at(&self, i: usize) -> &[u8]
+        requires { i < length self.now }
+        ensures { option_map (λ f. f.octets) (slice_get self.now i) ≡ Some result.now }
+    {
+        let span = &self.spans[i];
+        &self.octets[span.start..span.end]
+    }
+
+    /// What is noted of the frame at a place.
+    pub fn note_at(&self, i: usize) -> N
+        requires { i < length self.now }
+        ensures { option_map (λ f. f.note) (slice_get self.now i) ≡ Some result }
+    {
+        self.spans[i].note
+    }
+
+    /// Makes room for that many frames more, of that many octets in all.
+    pub fn reserve(&mut self, frames: usize, octets: usize) -> M<()>
+        ensures { self.new ≡ self.old }
+    {
+        self.spans.reserve(frames)?;
+        self.octets.reserve(octets)?;
+        Ok(())
+    }
+
+    /// Appends a frame.
+    pub fn push(&mut self, note: N, octets: &[u8]) -> M<()>
+        ensures ok { OnOk result (self.new ≡ self.old ++ record { note = note; octets = octets.now } ∷ []) }
+        ensures err { OnErr result (self.new ≡ self.old) }
+    {
+        if self.is_mostly_gone() {
+            self.gather()?;
+        }
+        // Room first: what is refused there leaves all as it was.
+        self.spans.reserve(1)?;
+        self.octets.reserve(octets.len())?;
+        self.append(note, octets)
+    }
+
+    /// The same, where there is room.
+    #[tactic(auto, using(crate::proofs::SpanLaws::frames_added, crate::proofs::SpanLaws::within_added, crate::proofs::SpanLaws::frames_kept, crate::proofs::SpanLaws::within_kept))]
+    fn append(&mut self, note: N, octets: &[u8]) -> M<()>
+        ensures ok { OnOk result (self.new ≡ self.old ++ record { note = note; octets = octets.now } ∷ []) }
+        ensures err { OnErr result (self.new ≡ self.old) }
+    {
+        let start = self.octets.len();
+        self.octets.extend_from_slice(octets)?;
+        self.spans.push_back(Span {
+            note,
+            start,
+            end: self.octets.len(),
+        })?;
+        Ok(())
+    }
+
+    /// Whether there was a frame at that place, which is gone then.
+    #[tactic(auto, using(crate::proofs::SpanLaws::frames_removed, crate::proofs::SpanLaws::within_removed))]
+    pub fn remove(&mut self, i: usize) -> bool
+        ensures rest { self.new ≡ remove self.old i }
+        ensures gone { result ≡ nat_lt i (length self.old) }
+    {
+        if i >= self.spans.len() {
+            return false;
+        }
+        if let Some(span) = self.spans.remove(i) {
+            self.gone = self.gone.saturating_add(span.end - span.start);
+        }
+        self.let_go();
+        true
+    }
+
+    /// Where no frame is left their octets go, and room that is large.
+    fn let_go(&mut self)
+        ensures { self.new ≡ self.old }
+    {
+        if !self.spans.is_empty() {
+            return;
+        }
+        self.gone = 0;
+        if self.octets.capacity() > KEPT {
+            self.octets = Vec::new(self.allocator());
+        } else {
+            self.octets.truncate(0);
+        }
+    }
+
+    /// Whether most octets are those of frames that are gone.
+    fn is_mostly_gone(&self) -> bool {
+        self.gone > KEPT && self.gone > self.octets.len() / 2
+    }
+
+    /// The octets of frames that are gone go.
+    #[tactic(auto, using(crate::proofs::SpanLaws::taken_more))]
+    fn gather(&mut self) -> M<()>
+        ensures { self.new ≡ self.old }
+    {
+        let mut left = FrameList::new(self.allocator());
+        'frames: for i in 0..self.len() {
+            left.append(self.note_at(i), self.octets_at(i))?;
+        }
+        *self = left;
+        Ok(())
+    }
+}
