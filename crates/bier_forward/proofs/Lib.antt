@@ -10,5 +10,6 @@ pub mod OnwardLaws
 pub mod OwnEdges
 pub mod PeriodLaws
 pub mod ReadLaws
+pub mod SentLaws
 pub mod TableLaws
 pub mod WayLaws

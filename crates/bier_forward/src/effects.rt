@@ -1,11 +1,13 @@
 //! What a router does to the outside.
 ghost use Rattle.std.specs.Prelude.{◌≡◌, [], ◌∷◌, ◌++◌, OnOk, OnErr, IfOk};
 ghost use Rattle.wire_base.specs.model.OnFrame as on_frame;
+ghost use Rattle.bier_forward.specs.SentFrames.{sent_as};
 
+use crate::sent_frames::SentFrames;
 use bfr_edge::Packet;
 use std::alloc::Global;
 use std::marker::Model;
-use wire_base::{Cause, Got, M, Rows, Sent};
+use wire_base::{Cause, Got, M, Rows};
 
 /// A drop of a frame, or of some of the bit positions of a packet, which are then there.
 #[derive(Drop)]
@@ -28,7 +30,7 @@ impl Model for DropNote {
 /// What a router sends, delivers and drops, in order, and whether it passed a frame over.
 #[derive(Drop)]
 pub struct Effects {
-    pub sent: Rows<Sent>,
+    pub sent: SentFrames,
     pub got: Rows<Got>,
     pub drops: Rows<DropNote>,
     pub passed: bool,
@@ -48,7 +50,7 @@ impl Effects {
         ensures { result ≡ on_frame.nothing }
     {
         Effects {
-            sent: Rows::new(alloc),
+            sent: SentFrames::new(alloc),
             got: Rows::new(alloc),
             drops: Rows::new(alloc),
             passed: false,
@@ -60,7 +62,7 @@ impl Effects {
         ensures { result ≡ on_frame.passed_over }
     {
         Effects {
-            sent: Rows::new(alloc),
+            sent: SentFrames::new(alloc),
             got: Rows::new(alloc),
             drops: Rows::new(alloc),
             passed: true,
@@ -82,11 +84,11 @@ impl Effects {
     }
 
     /// Then a frame is sent on a link; nothing changes where memory is refused.
-    pub fn send(&mut self, sent: Sent) -> M<()>
-        ensures ok { OnOk result (self.new ≡ record self.old { sent = self.old.sent ++ sent ∷ [] }) }
+    pub fn send(&mut self, link: u16, octets: &[u8]) -> M<()>
+        ensures ok { OnOk result (self.new ≡ record self.old { sent = self.old.sent ++ sent_as link octets.now ∷ [] }) }
         ensures err { OnErr result (self.new ≡ self.old) }
     {
-        self.sent.push(sent)
+        self.sent.push(link, octets)
     }
 
     /// Then a packet is delivered; nothing changes where memory is refused.

@@ -21,7 +21,7 @@ use bfr_edge::Packet;
 use bier_bits::{AnyBits, BitString};
 use bier_hop::{Out, Why};
 use bier_tunnel::Fib;
-use wire_base::{Cause, First, Got, M, Octets, RouterConf, Sent, Triple, View};
+use wire_base::{Cause, First, Got, M, Octets, RouterConf, Triple, View};
 
 /// Delivers, sends a copy or drops, as the outcome says.
 pub(crate) fn give<const W: usize>(
@@ -102,10 +102,7 @@ fn send_copy<const W: usize>(
         None => drop_set(packet.triple, set, Cause::NoRow, effects),
         Some(way) => {
             let octets = frame_of(alloc, conf, packet, way, set, ttl)?;
-            effects.send(Sent {
-                link: way.link,
-                octets,
-            })
+            effects.send(way.link, octets.as_slice())
         }
     }
 }

@@ -17,7 +17,7 @@ use bier_tunnel::{Fib, Next};
 use gre_ip::{Tunnel, write_onward};
 use std::alloc::Global;
 use wire_base::ethernet::FRAME_HEAD;
-use wire_base::{Cause, End, M, Octets, RouterConf, Sent, View};
+use wire_base::{Cause, End, M, Octets, RouterConf, View};
 
 /// What a router does with a tunnel packet for another router, by a view of its domain: it sends it on toward the router
 /// with that prefix, with a lower time to live and the checksum for it. Octets past the packet's total length stay behind.
@@ -96,10 +96,7 @@ fn send_on(
         Some(end) => {
             let frame = onward_frame(alloc, end, octets, tunnel)?;
             let mut effects = Effects::nothing(alloc);
-            effects.send(Sent {
-                link,
-                octets: frame,
-            })?;
+            effects.send(link, frame.as_slice())?;
             Ok(effects)
         }
     }
