@@ -5,13 +5,14 @@ ghost use Rattle.wire_base.specs.model.Item as item;
 ghost use Rattle.wire_base.specs.model.OnFrame.{frames_of};
 ghost use Rattle.router_core.specs.Sending.{conf_alone, octets_on};
 
+use bier_forward::SentFrames;
 use isis_pdu::{
     CSNP_FRONT, LSP_FRONT, LspHead, PSNP_FRONT, append_csnp, append_lsp, append_psnp, write_rows,
 };
 use link_frame::write_eth;
 use std::alloc::Global;
 use wire_base::limits::{MOST_CONTENT, MOST_LISTED};
-use wire_base::{Entry, LspId, M, Mac, Octets, RouterConf, Rows, Sent, Summary};
+use wire_base::{Entry, LspId, M, Mac, Octets, RouterConf, Summary};
 
 /// All intermediate systems of a link (ISO/IEC 10589, 8.4.8).
 const ALL_ROUTERS: Mac = Mac([0x09, 0x00, 0x2b, 0x00, 0x00, 0x05]);
@@ -41,7 +42,7 @@ fn front_on(alloc: Global, conf: &RouterConf, link: u16, size: usize) -> M<Octet
 }
 
 /// Appends the frame of an entry's link state PDU.
-pub(crate) fn push_lsp(out: &mut Rows<Sent>, conf: &RouterConf, link: u16, e: &Entry) -> M<()>
+pub(crate) fn push_lsp(out: &mut SentFrames, conf: &RouterConf, link: u16, e: &Entry) -> M<()>
     requires link { link < length conf.now.ends }
     requires short { length e.now.content ≤ MOST_CONTENT }
     ensures { OnOk result (out.new ≡ out.old ++ frames_of conf.now link (lsp_of e.now ∷ [])) }
@@ -56,12 +57,12 @@ pub(crate) fn push_lsp(out: &mut Rows<Sent>, conf: &RouterConf, link: u16, e: &E
     let tlvs = e.content.as_slice();
     let mut octets = front_on(out.allocator(), conf, link, LSP_FRONT + tlvs.len())?;
     append_lsp(&mut octets, conf.level, &head, tlvs)?;
-    out.push(Sent { link, octets })
+    out.push(link, octets.as_slice())
 }
 
 /// Appends the frame of a CSNP.
 pub(crate) fn push_csnp(
-    out: &mut Rows<Sent>,
+    out: &mut SentFrames,
     conf: &RouterConf,
     link: u16,
     start: LspId,
@@ -82,12 +83,12 @@ pub(crate) fn push_csnp(
         last,
         tlvs.as_slice(),
     )?;
-    out.push(Sent { link, octets })
+    out.push(link, octets.as_slice())
 }
 
 /// Appends the frame of a PSNP.
 pub(crate) fn push_psnp(
-    out: &mut Rows<Sent>,
+    out: &mut SentFrames,
     conf: &RouterConf,
     link: u16,
     rows: &[Summary],
@@ -99,5 +100,5 @@ pub(crate) fn push_psnp(
     let tlvs = write_rows(out.allocator(), rows)?;
     let mut octets = front_on(out.allocator(), conf, link, PSNP_FRONT + tlvs.len())?;
     append_psnp(&mut octets, conf.level, conf.system, tlvs.as_slice())?;
-    out.push(Sent { link, octets })
+    out.push(link, octets.as_slice())
 }

@@ -21,6 +21,6 @@ mod seconds;
 mod sending;
 
 pub use bfr_edge::{EdgeFault, Packet};
-pub use bier_forward::{DropNote, Effects};
+pub use bier_forward::{DropNote, Effects, SentFrames};
 pub use router::Router;
-pub use wire_base::{Cause, Got, Sent};
+pub use wire_base::{Cause, Got};

@@ -15,7 +15,7 @@ use crate::control::Control;
 use crate::forecast::issue_ready;
 use crate::framing::push_psnp;
 use crate::kept::Kept;
-use bier_forward::{DropNote, Effects};
+use bier_forward::{DropNote, Effects, SentFrames};
 use isis_flood::{Flood, listed};
 use isis_pdu::{LspHead, Pdu, read_pdu};
 use lsp_store::Store;
@@ -28,7 +28,7 @@ fn dropped_each(drops: Rows<DropNote>) -> Effects
 {
     let alloc = drops.allocator();
     Effects {
-        sent: Rows::new(alloc),
+        sent: SentFrames::new(alloc),
         got: Rows::new(alloc),
         drops,
         passed: false,
@@ -73,7 +73,7 @@ impl Control {
         ensures { IfOk result (λ e. e ≡ record nothing { sent = frames_of self.now.conf link (psnp_of self.now (entry ∷ []) ∷ []) }) }
     {
         let alloc = self.allocator();
-        let mut sent = Rows::new(alloc);
+        let mut sent = SentFrames::new(alloc);
         push_psnp(&mut sent, &self.conf, link, &[entry])?;
         Ok(Effects {
             sent,
