@@ -14,6 +14,6 @@ pub mod QueueLaws
 pub mod ReadBack
 pub mod RouterTruth
 pub mod SendTruth
-pub mod SpanLaws
 pub mod ViewTruth
+pub mod WireLaws
 pub mod WorldTruth

@@ -2,7 +2,7 @@
 pub mod Faults
 pub mod Moves
 pub mod Run
-pub mod Spans
 pub mod Step
 pub mod Truth
+pub mod Wires
 pub mod World
