@@ -1,2 +1,3 @@
 pub mod FlightLaws
+pub mod QueueLaws
 pub mod ToldLaws

@@ -6,7 +6,9 @@ use Rattle.wire_base.specs.declared.conf.RouterConf.{RouterConf}
 use Rattle.wire_base.specs.declared.effects.Sent.{Sent}
 use Rattle.wire_base.specs.model.Item.{Item}
 use Rattle.domain_model.specs.World.{carried}
+use Rattle.frame_list.specs.Spans.{Noted}
 use Rattle.domain_frames.specs.declared.flight.Flight.{Flight}
+use Rattle.domain_frames.specs.declared.flight.Note.{Note}
 use Rattle.domain_frames.specs.Framed.{note_over}
 use Rattle.domain_frames.specs.Read.{item_in, item_ids}
 
@@ -30,6 +32,16 @@ ids_seen confs f = item_ids (item_seen confs f)
 abbrev pub ids_taken : List RouterConf → Option Flight → List ℕ
 ids_taken confs None = []
 ids_taken confs (Some f) = ids_seen confs f
+
+-- ---- how it is kept
+
+-- a frame with that note
+abbrev pub flight_with : List ℕ → Option Note → Flight
+flight_with octets note = record { octets = octets; note = note }
+
+-- frames that are kept as a list of frames, each with a note
+abbrev pub flights_in : List (Noted (Option Note)) → List Flight
+flights_in frames = map (λ f. flight_with f.octets f.note) frames
 
 -- ---- what is on the way
 

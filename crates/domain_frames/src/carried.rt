@@ -7,7 +7,7 @@ ghost use Rattle.domain_frames.specs.Flights.{item_seen};
 ghost use Rattle.domain_frames.specs.Read.{copy_read, packet_in};
 ghost use Rattle.domain_model.specs.World.{carried};
 
-use crate::flight::Flight;
+use crate::flight::FlightSeen;
 use crate::inside::packet_in;
 use wire_base::limits::MOST_ROUTERS;
 use wire_base::{M, Memory, RouterConf};
@@ -36,13 +36,13 @@ fn count_in(confs: &[RouterConf], to: u16, octets: &[u8]) -> u16
 
 /// How many BFR-ids a frame has; a PDU has none.
 #[tactic(auto, unfolding(crate::specs::Read::item_in))]
-pub(crate) fn count_of(confs: &[RouterConf], flight: &Flight) -> u64
+pub(crate) fn count_of(confs: &[RouterConf], flight: &FlightSeen<'_>) -> u64
     requires few { length confs.now ≤ MOST_ROUTERS }
     requires sound { AllByRecursion IsSound confs.now }
     ensures { result ≡ carried (item_seen confs.now flight.now) }
 {
     match flight.note {
         None => 0,
-        Some(note) => u64::from(count_in(confs, note.to, flight.octets.as_slice())),
+        Some(note) => u64::from(count_in(confs, note.to, flight.octets)),
     }
 }

@@ -1,15 +1,15 @@
 //! Frames on their way: a queue for each end of each router.
-ghost use Rattle.std.specs.Prelude.{◌≡◌, ◌+◌, ◌≤◌, ◌∷◌, ◌++◌, [], nat_lt, List, length, map, slice_get, slice_index_or, slice_set, option_map, sum_by, OnOk, OnErr, IfOk};
+ghost use Rattle.std.specs.Prelude.{◌≡◌, ◌+◌, ◌≤◌, ◌∷◌, ◌++◌, ◌<◌, Some, [], nat_lt, List, length, map, slice_get, slice_index_or, slice_set, sum_by, OnOk, OnErr, IfOk};
 ghost use Rattle.std.specs.List.{AllByRecursion, remove};
 ghost use Rattle.wire_base.specs.model.Configuration.{IsSound};
 ghost use Rattle.domain_frames.specs.declared.flight.Flight.{Flight};
-ghost use Rattle.domain_frames.specs.Flights.{item_seen, frames_at, push_frame, without_frame, frame_count, ids_carried_by, no_frames};
+ghost use Rattle.domain_frames.specs.Flights.{item_seen, flight_with, frames_at, push_frame, without_frame, frame_count, ids_carried_by, no_frames};
 ghost use Rattle.domain_model.specs.World.{carried};
 
 use crate::carried::{count_of, sum};
-use crate::flight::Flight;
+use crate::flight::{FlightSeen, Note};
+use frame_list::FrameList;
 use std::alloc::Global;
-use std::collections::VecDeque;
 use std::marker::Model;
 use wire_base::limits::MOST_ROUTERS;
 use wire_base::{End, M, Memory, RouterConf};
@@ -17,16 +17,17 @@ use wire_base::{End, M, Memory, RouterConf};
 /// The frames on their way over one end, the oldest first.
 #[derive(Drop)]
 struct Queue {
-    frames: VecDeque<Flight>,
+    frames: FrameList<Option<Note>>,
 }
 
 impl Model for Queue {
     ghost use Rattle.std.specs.Prelude.{List};
     ghost use Rattle.domain_frames.specs.declared.flight.Flight.{Flight};
+    ghost use Rattle.domain_frames.specs.Flights.{flights_in};
 
     ghost Value = { List Flight };
 
-    ghost view = { λ q. q.frames.items };
+    ghost view = { λ q. flights_in q.frames };
 }
 
 impl Queue {
@@ -34,7 +35,7 @@ impl Queue {
         ensures { result ≡ [] }
     {
         Queue {
-            frames: VecDeque::new(alloc),
+            frames: FrameList::new(alloc),
         }
     }
 
@@ -44,10 +45,27 @@ impl Queue {
         self.frames.len()
     }
 
-    fn get(&self, i: usize) -> Option<&Flight>
-        ensures { option_map (λ f. f.now) result ≡ slice_get self.now i }
+    /// The frame at a place.
+    #[tactic(auto, using(crate::proofs::QueueLaws::flight_is))]
+    fn at(&self, i: usize) -> FlightSeen<'_>
+        requires { i < length self.now }
+        ensures { slice_get self.now i ≡ Some result }
     {
-        self.frames.get(i)
+        FlightSeen {
+            octets: self.frames.octets_at(i),
+            note: self.frames.note_at(i),
+        }
+    }
+
+    #[tactic(auto, using(crate::proofs::QueueLaws::past_end))]
+    fn get(&self, i: usize) -> Option<FlightSeen<'_>>
+        ensures { result ≡ slice_get self.now i }
+    {
+        if i < self.len() {
+            Some(self.at(i))
+        } else {
+            None
+        }
     }
 
     /// How many BFR-ids its frames have.
@@ -57,26 +75,27 @@ impl Queue {
         ensures { IfOk result (λ count. count ≡ sum_by (λ f. carried (item_seen confs.now f)) self.now) }
     {
         let mut total = 0;
-        for flight in self.frames.iter() {
-            total = sum(total, count_of(confs, flight))?;
+        'frames: for i in 0..self.len() {
+            total = sum(total, count_of(confs, &self.at(i)))?;
         }
         Ok(total)
     }
 
-    fn push(&mut self, flight: Flight) -> M<()>
-        ensures ok { OnOk result (self.new ≡ self.old ++ flight ∷ []) }
+    #[tactic(auto, using(crate::proofs::QueueLaws::flight_more))]
+    fn push(&mut self, octets: &[u8], note: Option<Note>) -> M<()>
+        ensures ok { OnOk result (self.new ≡ self.old ++ flight_with octets.now note ∷ []) }
         ensures err { OnErr result (self.new ≡ self.old) }
     {
-        self.frames.push_back(flight)?;
-        Ok(())
+        self.frames.push(note, octets)
     }
 
     /// Whether there was a frame at that place, which is gone then.
+    #[tactic(auto, using(crate::proofs::QueueLaws::flight_gone))]
     fn remove(&mut self, i: usize) -> bool
         ensures rest { self.new ≡ remove self.old i }
         ensures gone { result ≡ nat_lt i (length self.old) }
     {
-        self.frames.remove(i).is_some()
+        self.frames.remove(i)
     }
 }
 
@@ -131,8 +150,8 @@ impl Queues {
         Ok(total)
     }
 
-    fn get(&self, link: usize, i: usize) -> Option<&Flight>
-        ensures { option_map (λ f. f.now) result ≡ slice_get (slice_index_or self.now link []) i }
+    fn get(&self, link: usize, i: usize) -> Option<FlightSeen<'_>>
+        ensures { result ≡ slice_get (slice_index_or self.now link []) i }
     {
         if link < self.ends.len() {
             let queue = &self.ends[link];
@@ -143,14 +162,14 @@ impl Queues {
     }
 
     /// Puts a frame behind those on their way over an end, and says whether there is such an end.
-    fn push(&mut self, link: usize, flight: Flight) -> M<bool>
-        ensures ok { OnOk result (self.new ≡ slice_set self.old link (slice_index_or self.old link [] ++ flight ∷ [])) }
+    fn push(&mut self, link: usize, octets: &[u8], note: Option<Note>) -> M<bool>
+        ensures ok { OnOk result (self.new ≡ slice_set self.old link (slice_index_or self.old link [] ++ flight_with octets.now note ∷ [])) }
         ensures added { IfOk result (λ added. added ≡ nat_lt link (length self.old)) }
         ensures err { OnErr result (self.new ≡ self.old) }
     {
         if link < self.ends.len() {
             let queue = &mut self.ends[link];
-            queue.push(flight)?;
+            queue.push(octets, note)?;
             return Ok(true);
         }
         Ok(false)
@@ -231,8 +250,8 @@ impl Flights {
     }
 
     /// The frame at a place of those in a direction, from 0.
-    pub fn get(&self, place: u16, link: u16, i: u32) -> Option<&Flight>
-        ensures { option_map (λ f. f.now) result ≡ slice_get (frames_at self.now place link) i }
+    pub fn get(&self, place: u16, link: u16, i: u32) -> Option<FlightSeen<'_>>
+        ensures { result ≡ slice_get (frames_at self.now place link) i }
     {
         if usize::from(place) < self.routers.len() {
             let queues = &self.routers[usize::from(place)];
@@ -242,15 +261,15 @@ impl Flights {
         }
     }
 
-    /// Puts a frame at the end of a direction. Where there is no such direction nothing changes.
-    pub fn push(&mut self, place: u16, link: u16, flight: Flight) -> M<()>
-        ensures ok { OnOk result (self.new ≡ push_frame self.old place link flight) }
+    /// Puts a frame with those octets at the end of a direction. Where there is no such direction nothing changes.
+    pub fn push(&mut self, place: u16, link: u16, octets: &[u8], note: Option<Note>) -> M<()>
+        ensures ok { OnOk result (self.new ≡ push_frame self.old place link (flight_with octets.now note)) }
         ensures err { OnErr result (self.new ≡ self.old) }
     {
         if usize::from(place) < self.routers.len() {
             let count = one_more(self.count)?;
             let queues = &mut self.routers[usize::from(place)];
-            let added = queues.push(usize::from(link), flight)?;
+            let added = queues.push(usize::from(link), octets, note)?;
             if added {
                 self.count = count;
             }

@@ -12,7 +12,7 @@ mod places;
 mod sent;
 mod told;
 
-pub use flight::{Flight, Note};
+pub use flight::{Flight, FlightSeen, Note};
 pub use flights::Flights;
 pub use places::{confs_of, link_between, peer_place};
 pub use sent::{carry, send_all};

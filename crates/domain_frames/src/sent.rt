@@ -1,22 +1,20 @@
 //! What a router sends is put on its way.
-ghost use Rattle.std.specs.Prelude.{◌≡◌, ◌≤◌, [], length, OnOk, OnErr, IfOk, IfSome};
+ghost use Rattle.std.specs.Prelude.{◌≡◌, ◌≤◌, [], length, drop, OnOk, OnErr, IfOk, IfSome};
 ghost use Rattle.std.specs.List.{AllByRecursion};
-ghost use Rattle.std.specs.Vec.Iter.{into_iter_items};
 ghost use Rattle.wire_base.specs.model.Configuration.{IsSound};
 ghost use Rattle.domain_frames.specs.Told.{told_of};
-ghost use Rattle.domain_frames.specs.Flights.{flight_of, push_all_sent};
+ghost use Rattle.domain_frames.specs.Flights.{push_all_sent};
 ghost use Rattle.domain_frames.specs.Framed.{note_over};
 ghost use Rattle.domain_model.specs.World.{peer_place};
 
-use crate::flight::{Flight, Note};
+use crate::flight::Note;
 use crate::flights::Flights;
 use crate::places::peer_place;
 use crate::told::told_of;
-use bier_forward::Effects;
+use bier_forward::{Effects, SentFrames};
 use domain_model::StepOut;
-use std::vec::IntoIter;
 use wire_base::limits::MOST_ROUTERS;
-use wire_base::{M, RouterConf, Rows, Sent};
+use wire_base::{M, RouterConf};
 
 /// What the router at a place did by itself, for that injection or for none, is told, and what it sent is put on its way; or
 /// all is as it was. Where one of its ends leads may be known.
@@ -44,7 +42,7 @@ pub fn carry(
         None,
         &effects,
     )?;
-    send_all(flights, confs, at, number, effects.sent)?;
+    send_all(flights, confs, at, number, &effects.sent)?;
     Ok(out)
 }
 
@@ -55,51 +53,42 @@ pub fn send_all(
     confs: &[RouterConf],
     at: u16,
     number: Option<u32>,
-    sent: Rows<Sent>,
+    sent: &SentFrames,
 ) -> M<()>
     requires { length confs.now ≤ MOST_ROUTERS }
-    ensures ok { OnOk result (flights.new ≡ push_all_sent confs.now at number flights.old sent) }
+    ensures ok { OnOk result (flights.new ≡ push_all_sent confs.now at number flights.old sent.now) }
     ensures err { OnErr result (flights.new ≡ flights.old) }
-    ensures memory { OnErr result (sent ≡ [] → ⊥) }
+    ensures memory { OnErr result (sent.now ≡ [] → ⊥) }
 {
-    let mut left = sent.into_vec().into_iter();
-    send_left(flights, confs, at, number, &mut left)
+    send_from(flights, confs, at, number, sent, 0)
 }
 
-/// The same for what is left.
-fn send_left(
+/// The same for the frames from a place on.
+#[tactic(auto, using(crate::proofs::QueueLaws::sent_from, crate::proofs::QueueLaws::sent_none))]
+fn send_from(
     flights: &mut Flights,
     confs: &[RouterConf],
     at: u16,
     number: Option<u32>,
-    left: &mut IntoIter<Sent>,
+    sent: &SentFrames,
+    place: usize,
 ) -> M<()>
-    requires { length confs.now ≤ MOST_ROUTERS }
-    ensures ok { OnOk result (flights.new ≡ push_all_sent confs.now at number flights.old (into_iter_items left.old)) }
+    requires few { length confs.now ≤ MOST_ROUTERS }
+    ensures ok { OnOk result (flights.new ≡ push_all_sent confs.now at number flights.old (drop place sent.now)) }
     ensures err { OnErr result (flights.new ≡ flights.old) }
-    ensures memory { OnErr result (into_iter_items left.old ≡ [] → ⊥) }
+    ensures memory { OnErr result (drop place sent.now ≡ [] → ⊥) }
 {
-    let Some(frame) = left.next() else {
+    if place >= sent.len() {
         return Ok(());
-    };
-    let link = frame.link;
-    flights.push(at, link, flight_of(confs, at, number, frame))?;
-    let done = send_left(flights, confs, at, number, left);
+    }
+    let link = sent.link_at(place);
+    let note = note_over(confs, at, number, link);
+    flights.push(at, link, sent.octets_at(place), note)?;
+    let done = send_from(flights, confs, at, number, sent, place + 1);
     if done.is_err() {
         flights.pop(at, link);
     }
     done
-}
-
-/// The octets of what is sent go on in the frame that is on its way.
-fn flight_of(confs: &[RouterConf], at: u16, number: Option<u32>, frame: Sent) -> Flight
-    requires { length confs.now ≤ MOST_ROUTERS }
-    ensures { result ≡ flight_of confs.now at number frame }
-{
-    Flight {
-        note: note_over(confs, at, number, frame.link),
-        octets: frame.octets,
-    }
 }
 
 /// What is noted of a frame that the router at a place sends over an end.

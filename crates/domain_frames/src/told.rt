@@ -1,5 +1,5 @@
 //! What is told of what a router does.
-ghost use Rattle.std.specs.Prelude.{◌≡◌, ◌≤◌, ◌++◌, ◌∷◌, [], ℕ, length, map, filter, true, Option, option_map, sum_by, IfOk, IfSome, OnOk, OnErr};
+ghost use Rattle.std.specs.Prelude.{◌≡◌, ◌≤◌, ◌++◌, ◌∷◌, [], ℕ, length, map, filter, true, Option, option_map, IfOk, IfSome, OnOk, OnErr};
 ghost use Rattle.std.specs.List.{AllByRecursion};
 ghost use Rattle.wire_base.specs.model.BitSet.{has_member};
 ghost use Rattle.wire_base.specs.model.Configuration.{IsSound};
@@ -15,17 +15,16 @@ ghost use Rattle.domain_frames.specs.Read.{copy_read, packet_in};
 ghost use Rattle.domain_model.specs.Moves.{item_lost, listed};
 ghost use Rattle.domain_model.specs.World.{peer_place};
 
-use crate::carried::sum;
-use crate::flight::Flight;
+use crate::flight::FlightSeen;
 use crate::inside::packet_in;
 use crate::places::peer_place;
 use bfr_edge::Packet;
 use bier_bits::AnyBits;
-use bier_forward::{DropNote, Effects};
+use bier_forward::{DropNote, Effects, SentFrames};
 use domain_model::{DropLine, GotLine, StepOut, WireFrames};
 use std::alloc::Global;
 use wire_base::limits::MOST_ROUTERS;
-use wire_base::{Cause, Got, M, RouterConf, Rows, Sent, Triple};
+use wire_base::{Cause, Got, M, RouterConf, Rows, Triple};
 
 /// What is told of what the router at a place did, for that injection or for none, having taken that frame or none. Where it
 /// did nothing, no memory is taken. Where one of its ends leads may be known.
@@ -36,7 +35,7 @@ pub fn told_of(
     at: u16,
     number: Option<u32>,
     known: Option<(u16, u16)>,
-    taken: Option<&Flight>,
+    taken: Option<&FlightSeen<'_>>,
     effects: &Effects,
 ) -> M<StepOut>
     requires few { length confs.now ≤ MOST_ROUTERS }
@@ -50,7 +49,7 @@ pub fn told_of(
         return Ok(StepOut::nothing(alloc));
     }
     Ok(StepOut {
-        sent: wire_frames(alloc, confs, at, known, effects.sent.as_slice())?,
+        sent: wire_frames(alloc, confs, at, known, &effects.sent)?,
         got: got_lines(alloc, at, number, effects.got.as_slice())?,
         drops: drop_lines(alloc, confs, at, number, taken, effects.drops.as_slice())?,
     })
@@ -64,7 +63,7 @@ fn is_silent(effects: &Effects) -> bool
 }
 
 /// The injection that a frame comes of.
-pub fn number_of(flight: &Flight) -> Option<u32>
+pub fn number_of(flight: &FlightSeen<'_>) -> Option<u32>
     ensures { result ≡ number_of flight.now }
 {
     match flight.note {
@@ -85,24 +84,13 @@ fn peer_again(confs: &[RouterConf], at: u16, link: u16, known: Option<(u16, u16)
     }
 }
 
-/// How many octets are sent in all.
-fn octets_in(sent: &[Sent]) -> M<usize>
-    ensures { IfOk result (λ count. count ≡ sum_by (λ s. length s.octets) sent.now) }
-{
-    let mut total = 0;
-    for frame in sent {
-        total = sum(total, frame.octets.len() as u64)?;
-    }
-    Ok(total as usize)
-}
-
 /// What is sent, as frames. Those that go out together mostly share their link, so the place that was found last is at hand.
 fn wire_frames(
     alloc: Global,
     confs: &[RouterConf],
     at: u16,
     known: Option<(u16, u16)>,
-    sent: &[Sent],
+    sent: &SentFrames,
 ) -> M<WireFrames>
     requires few { length confs.now ≤ MOST_ROUTERS }
     requires known { IfSome known (λ k. k.1 ≡ peer_place confs.now at k.0) }
@@ -110,15 +98,16 @@ fn wire_frames(
     ensures memory { OnErr result (sent.now ≡ [] → ⊥) }
 {
     let mut frames = WireFrames::new(alloc);
-    if sent.is_empty() {
+    if sent.len() == 0 {
         return Ok(frames);
     }
-    frames.reserve(sent.len(), octets_in(sent)?)?;
+    frames.reserve(sent.len(), sent.size())?;
     let mut last = known;
-    for frame in sent {
-        let to = peer_again(confs, at, frame.link, last);
-        last = Some((frame.link, to));
-        frames.push(at, to, frame.octets.as_slice())?;
+    'frames: for place in 0..sent.len() {
+        let link = sent.link_at(place);
+        let to = peer_again(confs, at, link, last);
+        last = Some((link, to));
+        frames.push(at, to, sent.octets_at(place))?;
     }
     Ok(frames)
 }
@@ -144,7 +133,7 @@ fn drop_lines(
     confs: &[RouterConf],
     at: u16,
     number: Option<u32>,
-    taken: Option<&Flight>,
+    taken: Option<&FlightSeen<'_>>,
     drops: &[DropNote],
 ) -> M<Rows<DropLine>>
     requires few { length confs.now ≤ MOST_ROUTERS }
@@ -168,7 +157,7 @@ fn drop_lines(
 fn ids_dropped(
     alloc: Global,
     confs: &[RouterConf],
-    taken: Option<&Flight>,
+    taken: Option<&FlightSeen<'_>>,
     sets: &Option<Packet>,
 ) -> M<Rows<u16>>
     requires few { length confs.now ≤ MOST_ROUTERS }
@@ -182,7 +171,7 @@ fn ids_dropped(
     }
 }
 
-fn ids_taken(alloc: Global, confs: &[RouterConf], taken: Option<&Flight>) -> M<Rows<u16>>
+fn ids_taken(alloc: Global, confs: &[RouterConf], taken: Option<&FlightSeen<'_>>) -> M<Rows<u16>>
     requires few { length confs.now ≤ MOST_ROUTERS }
     requires sound { AllByRecursion IsSound confs.now }
     ensures { IfOk result (λ ids. ids ≡ listed (ids_taken confs.now (option_map (λ f. f.now) taken.entry))) }
@@ -195,14 +184,14 @@ fn ids_taken(alloc: Global, confs: &[RouterConf], taken: Option<&Flight>) -> M<R
 
 /// The BFR-ids of a frame; a PDU has none.
 #[tactic(auto, unfolding(crate::specs::Read::item_in))]
-fn ids_of(alloc: Global, confs: &[RouterConf], flight: &Flight) -> M<Rows<u16>>
+fn ids_of(alloc: Global, confs: &[RouterConf], flight: &FlightSeen<'_>) -> M<Rows<u16>>
     requires few { length confs.now ≤ MOST_ROUTERS }
     requires sound { AllByRecursion IsSound confs.now }
     ensures { IfOk result (λ ids. ids ≡ listed (ids_seen confs.now flight.now)) }
 {
     match flight.note {
         None => Ok(Rows::new(alloc)),
-        Some(note) => ids_in(alloc, confs, note.to, flight.octets.as_slice()),
+        Some(note) => ids_in(alloc, confs, note.to, flight.octets),
     }
 }
 
@@ -250,7 +239,7 @@ pub fn lost(
     confs: &[RouterConf],
     at: u16,
     cause: Cause,
-    flight: &Flight,
+    flight: &FlightSeen<'_>,
 ) -> M<StepOut>
     requires few { length confs.now ≤ MOST_ROUTERS }
     requires sound { AllByRecursion IsSound confs.now }

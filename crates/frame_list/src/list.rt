@@ -62,6 +62,11 @@ impl<N: Copy + Drop> FrameList<N> {
         self.spans.len()
     }
 
+    /// How many octets the frames take, with those of frames that went.
+    pub fn size(&self) -> usize {
+        self.octets.len()
+    }
+
     /// The octets of the frame at a place.
     pub fn octets_at(&self, i: usize) -> &[u8]
         requires { i < length self.now }
