@@ -10,7 +10,7 @@ ghost use Rattle.domain_model.specs.Truth.{EventFits};
 ghost use Rattle.domain_model.specs.World.{queue_at, in_flight};
 
 use crate::network::Network;
-use domain_frames::Flight;
+use domain_frames::FlightSeen;
 use domain_model::EventFault;
 use replay_text::Event;
 use wire_base::limits::{MOST_EVENTS, MOST_IN_FLIGHT};
@@ -77,7 +77,7 @@ impl Network {
     {
         match self.flights.get(from, link, i) {
             None => Some(EventFault::NoFrame(i, self.flights.len(from, link))),
-            Some(flight) => packet_fault(flight),
+            Some(flight) => packet_fault(&flight),
         }
     }
 
@@ -167,7 +167,7 @@ impl Network {
 
 /// What carries a packet doesn't come again.
 #[tactic(auto, unfolding(domain_frames::specs::Read::item_in))]
-fn packet_fault(flight: &Flight) -> Option<EventFault>
+fn packet_fault(flight: &FlightSeen<'_>) -> Option<EventFault>
     ensures { (confs : List RouterConf) (i n : ℕ) → result ≡ repeat_fault (Some (item_seen confs flight.now)) i n }
 {
     match flight.note {

@@ -6,9 +6,9 @@ ghost use Rattle.domain_core.specs.Network.{IsAsBefore, IsTrueNetwork, heard_aft
 ghost use Rattle.domain_model.specs.Step.{doing};
 
 use crate::network::Network;
-use domain_frames::{Flight, confs_of, lost, number_of, send_all, told_of};
+use domain_frames::{confs_of, lost, number_of, send_all, told_of};
 use domain_model::StepOut;
-use wire_base::{Cause, M};
+use wire_base::{Cause, M, Octets};
 
 impl Network {
     /// A frame is lost: the router that it was for drops it.
@@ -26,7 +26,7 @@ impl Network {
         let Some(flight) = self.flights.get(from, link, i) else {
             return Ok(StepOut::nothing(alloc));
         };
-        let out = lost(alloc, confs_of(&self.domain), to, Cause::Lost, flight)?;
+        let out = lost(alloc, confs_of(&self.domain), to, Cause::Lost, &flight)?;
         self.flights.remove(from, link, i as usize);
         Ok(out)
     }
@@ -49,9 +49,9 @@ impl Network {
         let None = flight.note else {
             return Ok(StepOut::nothing(alloc));
         };
-        let octets = flight.octets.copy()?;
-        self.flights
-            .push(from, link, Flight { octets, note: None })?;
+        // Its octets stand among those of the frames that it is put behind.
+        let octets = Octets::from_slice(alloc, flight.octets)?;
+        self.flights.push(from, link, octets.as_slice(), None)?;
         Ok(StepOut::nothing(alloc))
     }
 
@@ -81,15 +81,15 @@ impl Network {
         let confs = confs_of(&self.domain);
         let router = &mut self.routers[usize::from(to)];
         if !router.is_up(back) {
-            let out = lost(alloc, confs, to, Cause::Link, flight)?;
+            let out = lost(alloc, confs, to, Cause::Link, &flight)?;
             self.flights.remove(from, link, i as usize);
             return Ok(out);
         }
-        let number = number_of(flight);
-        let effects = router.frame(back, flight.octets.as_slice())?;
+        let number = number_of(&flight);
+        let effects = router.frame(back, flight.octets)?;
         let known = Some((back, from));
-        let out = told_of(alloc, confs, to, number, known, Some(flight), &effects)?;
-        send_all(&mut self.flights, confs, to, number, effects.sent)?;
+        let out = told_of(alloc, confs, to, number, known, Some(&flight), &effects)?;
+        send_all(&mut self.flights, confs, to, number, &effects.sent)?;
         self.flights.remove(from, link, i as usize);
         Ok(out)
     }

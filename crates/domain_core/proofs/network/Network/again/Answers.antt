@@ -27,9 +27,9 @@ pub returns-in_default-note-clause-done : goal.returns-in_default-note-clause-do
 unfolding item_in
 returns-in_default-note-clause-done c =
     let n = state_of c.args.self.now in
-    let f = c.in-Some-get.flight.now in
+    let f = c.in-Some-get.flight in
     let x = copy_in n.domain.routers c.in_default-note.field-0 f.octets in
-    let there = some_seen_at n.domain.routers n.flights c.args.from c.in-Some.link c.args.i f c.in-Some-get.ensures ∙ ap (λ (o : Option Note). Some (item_in n.domain.routers o f.octets)) c.in_default-note.is in
+    let there = some_seen_at n.domain.routers n.flights c.args.from c.in-Some.link c.args.i f c.in-Some-get.ensures ∙ ap (λ (o : Option Note). Some (item_in n.domain.routers o f.octets)) (sym (ap (λ (x : Flight). x.note) c.flight.view_is) ∙ c.in_default-note.is) in
     let happened = packet_again (world_in c.args.self.now) c.args.from c.args.to c.args.i c.in-Some.link (sym c.in-Some.ensures) x there in
     record {
       world = sym (ap (λ (h : Happened). h.world) happened);
@@ -41,11 +41,12 @@ pub returns-clause-done : goal.returns-clause-done
 unfolding item_in
 returns-clause-done c =
     let n = state_of c.args.self.now in
-    let f = c.in-Some-get.flight.now in
-    let copied : Flight = record { octets = c.in_ok-octets.octets; note = None } in
-    let same : copied ≡ f = same_flight copied f c.in_ok-octets.ensures (sym c.in-None.is) in
+    let f = c.in-Some-get.flight in
+    let none : f.note ≡ None = sym (ap (λ (x : Flight). x.note) c.flight.view_is) ∙ c.in-None.is in
+    let copied : Flight = record { octets = c.as_slice.result.now; note = None } in
+    let same : copied ≡ f = same_flight copied f (c.as_slice.ensures ∙ c.in_ok-octets.ensures ∙ ap (λ (x : Flight). x.octets) c.flight.view_is) (sym none) in
     let pushed : c.push.new.self ≡ push_frame n.flights c.args.from c.in-Some.link f = c.in_ok-push.ensures.ok ∙ ap (push_frame n.flights c.args.from c.in-Some.link) same in
-    let is : item_seen n.domain.routers f ≡ ControlItem (pdu_in n.domain.routers f.octets) = ap (λ (o : Option Note). item_in n.domain.routers o f.octets) c.in-None.is in
+    let is : item_seen n.domain.routers f ≡ ControlItem (pdu_in n.domain.routers f.octets) = ap (λ (o : Option Note). item_in n.domain.routers o f.octets) none in
     let happened = pdu_again (world_in c.args.self.now) c.args.from c.args.to c.args.i c.in-Some.link (sym c.in-Some.ensures) (item_seen n.domain.routers f) (pdu_in n.domain.routers f.octets) is (some_seen_at n.domain.routers n.flights c.args.from c.in-Some.link c.args.i f c.in-Some-get.ensures) in
     record {
       world = more_world n c.push.new.self c.args.from c.in-Some.link f pushed ∙ sym (ap (λ (h : Happened). h.world) happened);

@@ -13,4 +13,4 @@ returns-in-None c =
     ∙ ap (λ (n : ℕ). Some (faults.NoFrame c.args.i n)) (seen_length c.args.self.now.domain.routers c.args.self.now.flights c.args.from c.args.link ∙ sym c.len.ensures))
 
 pub returns-in-Some : goal.returns-in-Some
-returns-in-Some c = sym (ap (λ (o : Option Item). frame_fault o c.args.i (length (queue_at (items_seen c.args.self.now.domain.routers c.args.self.now.flights) c.args.from c.args.link))) (some_seen_at c.args.self.now.domain.routers c.args.self.now.flights c.args.from c.args.link c.args.i c.in-Some.field-0.now c.in-Some.ensures))
+returns-in-Some c = sym (ap (λ (o : Option Item). frame_fault o c.args.i (length (queue_at (items_seen c.args.self.now.domain.routers c.args.self.now.flights) c.args.from c.args.link))) (some_seen_at c.args.self.now.domain.routers c.args.self.now.flights c.args.from c.args.link c.args.i c.in-Some.field-0 c.in-Some.ensures))

@@ -26,12 +26,12 @@ pub returns-clause-done : goal.returns-clause-done
 returns-clause-done c =
     let n = state_of c.args.self.now in
     let w = world_in c.args.self.now in
-    let x = item_seen n.domain.routers c.in-Some-get.flight.now in
-    let happened = some_lost w c.args.from c.args.to c.args.i c.in-Some.link (sym c.in-Some.ensures) x (some_seen_at n.domain.routers n.flights c.args.from c.in-Some.link c.args.i c.in-Some-get.flight.now c.in-Some-get.ensures) in
+    let x = item_seen n.domain.routers c.in-Some-get.flight in
+    let happened = some_lost w c.args.from c.args.to c.args.i c.in-Some.link (sym c.in-Some.ensures) x (some_seen_at n.domain.routers n.flights c.args.from c.in-Some.link c.args.i c.in-Some-get.flight c.in-Some-get.ensures) in
     record {
       world = gone_world n c.remove.new.self c.args.from c.in-Some.link c.args.i c.remove.ensures
           ∙ sym (ap (λ (h : Happened). h.world) happened ∙ lost_world (taken_off w c.args.from c.in-Some.link c.args.i) c.args.to cause.Lost x);
       frames = same_frames n.domain.routers c.remove.new.self _ c.remove.ensures (frames_left (IsFrameOver n.domain.routers) n.flights c.args.from c.in-Some.link c.args.i c.requires.frames);
-      answer = lost_told n.domain.routers c.args.to cause.Lost x c.in_ok-out.out c.in_ok-out.ensures.0 c.in_ok-out.ensures.1 (c.in_ok-out.ensures.2 ∙ ap (λ (cs : List RouterConf). (item_lost c.args.to cause.Lost (item_seen cs c.in-Some-get.flight.now)).drops) c.confs_of.ensures.confs)
+      answer = lost_told n.domain.routers c.args.to cause.Lost x c.in_ok-out.out c.in_ok-out.ensures.0 c.in_ok-out.ensures.1 (c.in_ok-out.ensures.2 ∙ ap (λ (cs : List RouterConf). (item_lost c.args.to cause.Lost (item_seen cs c.in-Some-get.flight)).drops) c.confs_of.ensures.confs)
           ∙ sym (ap (λ (h : Happened). told n.domain.routers h.made) happened);
     }

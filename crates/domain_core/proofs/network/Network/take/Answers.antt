@@ -42,7 +42,7 @@ pub returns-then-not-is_up-clause-done : goal.returns-then-not-is_up-clause-done
 returns-then-not-is_up-clause-done c =
     let n = state_of c.args.self.now in
     let r = c.index_mut-router.result.now in
-    let f = c.in-Some-get.flight.now in
+    let f = c.in-Some-get.flight in
     let there = router_there n.routers c.from.result c.args.to r c.from.ensures c.requires.place c.index_mut-router.ensures.value in
     let w = world_in c.args.self.now in
     let x = item_seen n.domain.routers f in
@@ -61,7 +61,7 @@ pub returns-then-not-is_up-clause-heard : goal.returns-then-not-is_up-clause-hea
 returns-then-not-is_up-clause-heard c =
     let n = state_of c.args.self.now in
     let r = c.index_mut-router.result.now in
-    let f = c.in-Some-get.flight.now in
+    let f = c.in-Some-get.flight in
     let there = router_there n.routers c.from.result c.args.to r c.from.ensures c.requires.place c.index_mut-router.ensures.value in
     let down : is_up r.control c.in-Some-link.back ≡ false = sym c.if-not-is_up.ensures in
     same_heard n c.args.to r there c.from.result r c.from.ensures refl
@@ -79,10 +79,10 @@ pub frame-requires-clause-short : goal.frame-requires-clause-short
 frame-requires-clause-short c =
     let n = state_of c.args.self.now in
     let r = c.index_mut-router.result.now in
-    let f = c.in-Some-get.flight.now in
+    let f = c.in-Some-get.flight in
     let there = router_there n.routers c.from.result c.args.to r c.from.ensures c.requires.place c.index_mut-router.ensures.value in
     let up : is_up r.control c.in-Some-link.back ≡ true = sym c.if-not-is_up.ensures in
-    subst (λ (octets : List ℕ). length octets ≤ MOST_FRAME) (sym c.as_slice.ensures) (is_short n c.requires.truth c.args.from c.args.to c.in-Some.link c.in-Some-link.back c.args.i r there (sym c.in-Some.ensures) up f c.in-Some-get.ensures)
+    subst (λ (octets : List ℕ). length octets ≤ MOST_FRAME) (sym (ap (λ (x : Flight). x.octets) c.flight.view_is)) (is_short n c.requires.truth c.args.from c.args.to c.in-Some.link c.in-Some-link.back c.args.i r there (sym c.in-Some.ensures) up f c.in-Some-get.ensures)
 
 pub told_of-requires-clause-known : goal.told_of-requires-clause-known
 told_of-requires-clause-known c = leads_to (world_in c.args.self.now) c.args.to c.args.from c.in-Some-link.back c.requires.truth.truth (sym c.in-Some-link.ensures) c.confs_of-confs.result.now c.confs_of-confs.ensures.confs
@@ -91,10 +91,10 @@ pub returns-in_err-out-2-clause-err : goal.returns-in_err-out-2-clause-err
 returns-in_err-out-2-clause-err c =
     let n = state_of c.args.self.now in
     let r = c.index_mut-router.result.now in
-    let f = c.in-Some-get.flight.now in
+    let f = c.in-Some-get.flight in
     let there = router_there n.routers c.from.result c.args.to r c.from.ensures c.requires.place c.index_mut-router.ensures.value in
     let up : is_up r.control c.in-Some-link.back ≡ true = sym c.if-not-is_up.ensures in
-    let done = c.in_ok-effects.ensures.next ∙ ap (λ (octets : List ℕ). on_frame r.control c.in-Some-link.back octets) c.as_slice.ensures in
+    let done = c.in_ok-effects.ensures.next ∙ ap (λ (octets : List ℕ). on_frame r.control c.in-Some-link.back octets) (ap (λ (x : Flight). x.octets) c.flight.view_is) in
     let same = unmoved n c.requires.truth c.args.from c.args.to c.in-Some.link c.in-Some-link.back c.args.i r there (sym c.in-Some.ensures) up f c.in-Some-get.ensures c.frame.new.self.control c.in_ok-effects.effects done c.in_err-out-2.ensures.memory in
     on_err c.from_residual-in_err-out-2.result _
     (record {
@@ -106,10 +106,10 @@ pub returns-in_err-send_all-clause-err : goal.returns-in_err-send_all-clause-err
 returns-in_err-send_all-clause-err c =
     let n = state_of c.args.self.now in
     let r = c.index_mut-router.result.now in
-    let f = c.in-Some-get.flight.now in
+    let f = c.in-Some-get.flight in
     let there = router_there n.routers c.from.result c.args.to r c.from.ensures c.requires.place c.index_mut-router.ensures.value in
     let up : is_up r.control c.in-Some-link.back ≡ true = sym c.if-not-is_up.ensures in
-    let done = c.in_ok-effects.ensures.next ∙ ap (λ (octets : List ℕ). on_frame r.control c.in-Some-link.back octets) c.as_slice.ensures in
+    let done = c.in_ok-effects.ensures.next ∙ ap (λ (octets : List ℕ). on_frame r.control c.in-Some-link.back octets) (ap (λ (x : Flight). x.octets) c.flight.view_is) in
     let sent = ap (λ (e : Effects). e.sent) c.effects.view_is in
     let same = unmoved n c.requires.truth c.args.from c.args.to c.in-Some.link c.in-Some-link.back c.args.i r there (sym c.in-Some.ensures) up f c.in-Some-get.ensures c.frame.new.self.control c.in_ok-effects.effects done (λ silent. c.in_err-send_all.ensures.memory (sent ∙ silent.sent)) in
     on_err c.from_residual-in_err-send_all.result _
@@ -123,10 +123,10 @@ pub returns-clause-done : goal.returns-clause-done
 returns-clause-done c =
     let n = state_of c.args.self.now in
     let r = c.index_mut-router.result.now in
-    let f = c.in-Some-get.flight.now in
+    let f = c.in-Some-get.flight in
     let there = router_there n.routers c.from.result c.args.to r c.from.ensures c.requires.place c.index_mut-router.ensures.value in
     let up : is_up r.control c.in-Some-link.back ≡ true = sym c.if-not-is_up.ensures in
-    let done = c.in_ok-effects.ensures.next ∙ ap (λ (octets : List ℕ). on_frame r.control c.in-Some-link.back octets) c.as_slice.ensures in
+    let done = c.in_ok-effects.ensures.next ∙ ap (λ (octets : List ℕ). on_frame r.control c.in-Some-link.back octets) (ap (λ (x : Flight). x.octets) c.flight.view_is) in
     let confs = c.confs_of-confs.ensures.confs in
     let effects = c.in_ok-effects.effects in
     let sent : c.send_all.new.flights ≡ push_all_sent n.domain.routers c.args.to (number_of f) n.flights effects.sent =
@@ -149,7 +149,7 @@ pub returns-clause-heard : goal.returns-clause-heard
 returns-clause-heard c =
     let n = state_of c.args.self.now in
     let r = c.index_mut-router.result.now in
-    let f = c.in-Some-get.flight.now in
+    let f = c.in-Some-get.flight in
     let there = router_there n.routers c.from.result c.args.to r c.from.ensures c.requires.place c.index_mut-router.ensures.value in
     let up : is_up r.control c.in-Some-link.back ≡ true = sym c.if-not-is_up.ensures in
     heard_there n c.requires.truth c.args.from c.args.to c.in-Some.link c.in-Some-link.back c.args.i r there (sym c.in-Some.ensures) up f c.in-Some-get.ensures (sym c.in-Some-link.ensures) c.from.result c.from.ensures c.frame.new.self c.in_ok-effects.ensures.heard
