@@ -1,6 +1,7 @@
 pub mod AgeLaws
 pub mod BusyLaws
 pub mod ColumnLaws
+pub mod EightLaws
 pub mod FloodLaws
 pub mod KeptLaws
 pub mod ListLaws

@@ -1,7 +1,10 @@
 //! Masks over links, of which there are at most 64: bit i of a mask is the link at place i.
 ghost use Rattle.std.specs.Prelude.{◌≡◌, ◌≢◌, ◌<◌, ◌≤◌, ◌+◌, ℕ, true, false, length, map, drop, slice_set, slice_index_or};
 ghost use Rattle.std.specs.List.{list_any, position_or_len};
+ghost use Rattle.std.specs.Simd.Lanes.{chunk};
 ghost use Rattle.isis_flood.specs.Masks.{links_in, at_bit, turned_flag};
+
+use std::simd::prelude::*;
 
 /// With a link.
 pub(crate) fn with_bit(mask: u64, link: u16) -> u64
@@ -115,12 +118,38 @@ pub(crate) fn clear_all(masks: &mut [u64], link: u16)
     }
 }
 
+/// Whether one of the eight masks from a place on has a link.
+fn has_eight(masks: &[u64], at: usize, link: u16) -> bool
+    requires within { at + 8 ≤ length masks.now }
+    requires link { link < 64 }
+    ensures { result ≡ list_any (λ mask. at_bit mask link) (chunk at 8 masks.now) }
+{
+    has_bit(u64x8::from_slice(&masks[at..]).reduce_or(), link)
+}
+
+/// The place of the first mask from a place on that has a link, or the number of masks: eight masks at once, as long as
+/// they haven't, and then one by one.
+fn first_with(masks: &[u64], from: usize, link: u16) -> usize
+    requires within { from ≤ length masks.now }
+    requires link { link < 64 }
+    ensures { result ≡ from + position_or_len (λ mask. at_bit mask link) (drop from masks.now) }
+{
+    let mut place = from;
+    'eights: while place + 8 <= masks.len() && !has_eight(masks, place, link) {
+        place += 8;
+    }
+    'masks: while place < masks.len() && !has_bit(masks[place], link) {
+        place += 1;
+    }
+    place
+}
+
 /// Whether some mask has a link.
 pub(crate) fn any_with(masks: &[u64], link: u16) -> bool
     requires { link < 64 }
     ensures { result ≡ list_any (λ mask. at_bit mask link) masks.now }
 {
-    masks.iter().any(|mask| has_bit(*mask, link))
+    first_with(masks, 0, link) < masks.len()
 }
 
 /// The place of the first mask from a place on that has a link, or the number of masks.
@@ -128,12 +157,8 @@ pub(crate) fn next_with(masks: &[u64], from: usize, link: u16) -> usize
     requires { link < 64 }
     ensures { result ≡ from + position_or_len (λ mask. at_bit mask link) (drop from masks.now) }
 {
-    let mut place = from;
-    'masks: while place < masks.len() {
-        if has_bit(masks[place], link) {
-            return place;
-        }
-        place += 1;
+    if from > masks.len() {
+        return from;
     }
-    place
+    first_with(masks, from, link)
 }
