@@ -1,2 +1,3 @@
 pub mod ReadLemmas
+pub mod SumLemmas
 pub mod WriteLemmas
