@@ -1,15 +1,14 @@
 -- What the searches are to find.
-use Rattle.std.proofs.Common.{◌≡◌, ℕ, ◌+◌, ◌-◌, ◌<◌, ◌≤◌, ◌^◌, ◌⊎◌, inl, inr, true, false, List, length, Contains, Option, Some, IfSome, refl, arith, sym, ◌∙◌, subst}
+use Rattle.std.proofs.Common.{◌≡◌, ℕ, ◌+◌, ◌-◌, ◌<◌, ◌≤◌, ◌^◌, ◌⊎◌, inl, inr, true, false, not, ◌||◌, ◌==◌, List, length, Contains, Option, Some, IfSome, refl, ap, arith, sym, ◌∙◌, subst}
 use Rattle.std.proofs.lemmas.Option.{same_Some}
-use Rattle.wire_base.specs.declared.view.ViewEdge.{ViewEdge}
 use Rattle.wire_base.specs.declared.view.ViewNode.{ViewNode}
 use Rattle.wire_base.specs.model.Graph.{edges_of, is_overloaded, IsGraph}
 use Rattle.wire_base.specs.model.Walk.{AreDists, IsDist, dist, may_enter}
 use Rattle.route_laws.proofs.WalkLemmas.{at-most-of, best-IsDist, best-small, edges-node, enter-cases, may-enter-end, may-enter-free}
 use Rattle.route_laws.proofs.DescentLemmas.{dist-end, dist-over, dist-edge, edge-within}
 use Rattle.route_laws.proofs.LastLemmas.{dist-last-over, dist-last}
-use Rattle.path_tree.specs.Search.{IsReach, lengths, ways_of}
-use Rattle.path_tree.specs.Ways.{AreIncoming, AreOutgoing, AreDistsFrom}
+use Rattle.path_tree.specs.Search.{IsReach, lengths}
+use Rattle.path_tree.specs.Ways.{IsTurned, AreDistsFrom}
 
 module _ (g : List ViewNode) (good : IsGraph g) where
   dist-small : (u d : ℕ) → IfSome (dist g u d) (λ n. n ≤ 2 ^ 48)
@@ -20,49 +19,51 @@ module _ (g : List ViewNode) (good : IsGraph g) where
   entered d x (inl h) = may-enter-end g d x h
   entered d x (inr h) = may-enter-free g d x h
 
-  -- a search from d over the edges that lead into each node
-  pub reach-to : (ways : List (List ViewEdge)) → AreIncoming g ways → (d : ℕ) → d < length g → IsReach (length g) (ways_of ways) (may_enter g d) d (λ x. dist g x d)
-  reach-to ways i d node =
+  -- a search from d over the edges turned round
+  pub reach-to : (t : List ViewNode) → IsTurned g t → (d : ℕ) → d < length g → IsReach (length g) (edges_of t) (may_enter t d) d (λ x. dist g x d)
+  reach-to t i d node =
       record {
         starts = dist-end g d;
         over =
             λ x e r within enters there q.
             (let was = (i.each x e within).0 there in
-            let o = dist-over g good e.to d r (record { to = x; metric = e.metric }) (edges-node g e.to (record { to = x; metric = e.metric }) was) was (enter-cases g d x enters) q in
+            let o = dist-over g good e.to d r (record { to = x; metric = e.metric }) (edges-node g e.to (record { to = x; metric = e.metric }) was) was (enter-cases g d x (sym (enters-same d x) ∙ enters)) q in
             at-most-of (dist g e.to d) o.0 (r + e.metric) o.1 (omega (arith, o.2)));
         last =
             λ y n within apart q.
             (let s = dist-edge g good y d n within apart q in
-            let t = s.2 in
-            let leaves : Contains (edges_of g y) (record { to = s.0; metric = t.edge.metric }) = subst (λ (v : ℕ). Contains (edges_of g y) (record { to = v; metric = t.edge.metric })) t.enters t.leaves in
-            let sum : t.rest + t.edge.metric ≡ n = same-sum y n t.edge.metric t.rest q t.whole in
+            let k = s.2 in
+            let leaves : Contains (edges_of g y) (record { to = s.0; metric = k.edge.metric }) = subst (λ (v : ℕ). Contains (edges_of g y) (record { to = v; metric = k.edge.metric })) k.enters k.leaves in
+            let sum : k.rest + k.edge.metric ≡ n = same-sum y n k.edge.metric k.rest q k.whole in
             record {
               from = s.0;
               within = s.1;
-              goes_on = entered d s.0 t.passes;
-              edge = record { to = y; metric = t.edge.metric };
-              there = (i.each s.0 (record { to = y; metric = t.edge.metric }) s.1).1 leaves;
+              goes_on = enters-same d s.0 ∙ entered d s.0 k.passes;
+              edge = record { to = y; metric = k.edge.metric };
+              there = (i.each s.0 (record { to = y; metric = k.edge.metric }) s.1).1 leaves;
               leads = refl;
-              rest = t.rest;
-              known = t.from_there;
+              rest = k.rest;
+              known = k.from_there;
               sum = sum;
-              positive = (edge-within g good y t.edge t.leaves).positive;
+              positive = (edge-within g good y k.edge k.leaves).positive;
             });
         small = λ x within. dist-small x d;
       }
     where
+      enters-same : (d x : ℕ) → may_enter t d x ≡ may_enter g d x
+      enters-same d x = ap (λ b. (x == d) || not b) (i.overload x)
+
       same-sum : (y n m r : ℕ) → dist g y d ≡ Some n → dist g y d ≡ Some (m + r) → r + m ≡ n
       same-sum y n m r p q = let e : n ≡ m + r = same_Some n (m + r) (sym p ∙ q) in omega arith
 
   -- a search from u over the edges of each node
-  pub reach-from : (ways : List (List ViewEdge)) → AreOutgoing g ways → (u : ℕ) → u < length g → IsReach (length g) (ways_of ways) (may_enter g u) u (λ x. dist g u x)
-  reach-from ways o u node =
+  pub reach-from : (u : ℕ) → u < length g → IsReach (length g) (edges_of g) (may_enter g u) u (λ x. dist g u x)
+  reach-from u node =
       record {
         starts = dist-end g u;
         over =
             λ x e r within enters there q.
-            (let here : Contains (edges_of g x) e = subst (λ es. Contains es e) (o.each x within) there in
-            let w = dist-last-over g good u x r e node (enter-cases g u x enters) here q in
+            (let w = dist-last-over g good u x r e node (enter-cases g u x enters) there q in
             at-most-of (dist g u e.to) w.0 (r + e.metric) w.1 w.2);
         last =
             λ y n within apart q.
@@ -72,7 +73,7 @@ module _ (g : List ViewNode) (good : IsGraph g) where
               within = t.within;
               goes_on = entered u t.from t.passes;
               edge = t.edge;
-              there = subst (λ es. Contains es t.edge) (sym (o.each t.from t.within)) t.there;
+              there = t.there;
               leads = t.ends;
               rest = t.rest;
               known = t.known;
@@ -82,13 +83,13 @@ module _ (g : List ViewNode) (good : IsGraph g) where
         small = λ x within. dist-small u x;
       }
 
-  pub dists-to : (ways : List (List ViewEdge)) → AreIncoming g ways → (d : ℕ) → d < length g → (xs : List (Option ℕ)) → length xs ≡ length g
-      → ((f : ℕ → Option ℕ) → IsReach (length g) (ways_of ways) (may_enter g d) d f → (x : ℕ) → x < length g → lengths xs x ≡ f x) → AreDists g d xs
-  dists-to ways i d node xs long found = record { rows = long; each = found (λ x. dist g x d) (reach-to ways i d node) }
+  pub dists-to : (t : List ViewNode) → IsTurned g t → (d : ℕ) → d < length g → (xs : List (Option ℕ)) → length xs ≡ length g
+      → ((f : ℕ → Option ℕ) → IsReach (length g) (edges_of t) (may_enter t d) d f → (x : ℕ) → x < length g → lengths xs x ≡ f x) → AreDists g d xs
+  dists-to t i d node xs long found = record { rows = long; each = found (λ x. dist g x d) (reach-to t i d node) }
 
-  pub dists-from : (ways : List (List ViewEdge)) → AreOutgoing g ways → (u : ℕ) → u < length g → (xs : List (Option ℕ)) → length xs ≡ length g
-      → ((f : ℕ → Option ℕ) → IsReach (length g) (ways_of ways) (may_enter g u) u f → (x : ℕ) → x < length g → lengths xs x ≡ f x) → AreDistsFrom g u xs
-  dists-from ways o u node xs long found = record { rows = long; each = found (λ x. dist g u x) (reach-from ways o u node) }
+  pub dists-from : (u : ℕ) → u < length g → (xs : List (Option ℕ)) → length xs ≡ length g
+      → ((f : ℕ → Option ℕ) → IsReach (length g) (edges_of g) (may_enter g u) u f → (x : ℕ) → x < length g → lengths xs x ≡ f x) → AreDistsFrom g u xs
+  dists-from u node xs long found = record { rows = long; each = found (λ x. dist g u x) (reach-from u node) }
 
 dist-is : (g : List ViewNode) (u d : ℕ) → u < length g → IsDist g u d (dist g u d)
 unfolding dist

@@ -1,5 +1,5 @@
 -- The edges that lead into a node.
-use Rattle.std.proofs.Common.{◌≡◌, ℕ, zero, suc, ◌<◌, ◌≤◌, ◌⊎◌, inl, inr, List, [], ◌∷◌, ◌++◌, length, fold, map, replicate, get_or, Contains, All, refl, ap, arith, sym, ◌∙◌, subst}
+use Rattle.std.proofs.Common.{◌≡◌, ℕ, zero, suc, ◌<◌, ◌≤◌, ◌⊎◌, inl, inr, List, [], ◌∷◌, ◌++◌, length, fold, map, replicate, get_or, Contains, All, false, ◌↔◌, refl, ap, arith, sym, ◌∙◌, subst}
 use Rattle.std.proofs.lemmas.Bool.Decides.{eqb_tells}
 use Rattle.std.proofs.lemmas.List.{get_or_default, get_or-set_same, get_or-set_other, get_or-replicate, get_or_past, length-replicate, length-map}
 use Rattle.std.proofs.lemmas.List.Elements.{Contains-append_left, Contains-append_right, Contains-append_cases, All-head, All-tail}
@@ -7,12 +7,11 @@ use Rattle.std.proofs.lemmas.Bool.{cases_lt}
 use Rattle.std.proofs.Math.ListN.{length-set}
 use Rattle.wire_base.specs.declared.view.ViewEdge.{ViewEdge}
 use Rattle.wire_base.specs.declared.view.ViewNode.{ViewNode}
-use Rattle.wire_base.specs.model.Graph.{edges_of, IsEdge, IsGraph}
+use Rattle.wire_base.specs.model.Graph.{edges_of, is_overloaded, IsEdge, IsGraph}
 use Rattle.route_laws.proofs.WalkLemmas.{Contains-cases, edges-good, edges-node}
 use Rattle.route_laws.proofs.DescentLemmas.{edge-within}
 use Rattle.route_laws.proofs.TightLemmas.{Contains-cons}
-use Rattle.path_tree.specs.Search.{ways_of}
-use Rattle.path_tree.specs.Ways.{put, turned, AreIncoming, AreOutgoing}
+use Rattle.path_tree.specs.Ways.{ways_of, put, turned, AreIncoming, IsTurned}
 
 nothing : {X : Type 0} (x : X) → Contains {X = X} [] x → ⊥
 nothing x (k, l, q) = omega arith
@@ -168,11 +167,27 @@ module _ (g : List ViewNode) (good : IsGraph g) where
   map-edges (n ∷ h) zero = refl
   map-edges (n ∷ h) (suc x) = map-edges h x
 
-  pub mapped-outgoing : (ways : List (List ViewEdge)) → ways ≡ map (λ n. n.edges) g → AreOutgoing g ways
-  mapped-outgoing ways same =
-      subst (λ w. AreOutgoing g w) (sym same) (record { rows = length-map g (λ n. n.edges); each = λ x within. map-edges g x })
+  map-overload : (h : List ViewNode) (x : ℕ) → get_or (map (λ n. n.overload) h) x false ≡ is_overloaded h x
+  map-overload [] x = refl
+  map-overload (n ∷ h) zero = refl
+  map-overload (n ∷ h) (suc x) = map-overload h x
 
-  pub outgoing-edges : (ways : List (List ViewEdge)) → AreOutgoing g ways → All (λ es. All (λ e. IsEdge (length g) e) es) ways
-  outgoing-edges ways o x d within =
-      let here : get_or ways x d ≡ edges_of g x = get_or_default ways x d [] within ∙ o.each x (omega (arith, o.rows)) in
-      subst (λ es. All (λ e. IsEdge (length g) e) es) (sym here) (edges-good g good x)
+  module _ (ways : List (List ViewEdge)) (i : AreIncoming g ways) (t : List ViewNode) (edges : map (λ n. n.edges) t ≡ ways) where
+    edges-at : (x : ℕ) → ways_of ways x ≡ edges_of t x
+    edges-at x = ap (λ w. ways_of w x) (sym edges) ∙ map-edges t x
+
+    pub is-turned : map (λ n. n.overload) t ≡ map (λ n. n.overload) g → IsTurned g t
+    is-turned overload =
+        record {
+          rows = sym (length-map t (λ n. n.edges)) ∙ ap length edges ∙ i.rows;
+          overload = λ x. sym (map-overload t x) ∙ ap (λ b. get_or b x false) overload ∙ map-overload g x;
+          each = λ x e within. subst (λ es. Contains es e ↔ Contains (edges_of g e.to) (record { to = x; metric = e.metric })) (edges-at x) (i.each x e within);
+        }
+
+    pub turned-edges : All (λ es. All (λ e. IsEdge (length g) e) es) ways → (x : ℕ) → All (λ e. IsEdge (length g) e) (edges_of t x)
+    turned-edges fit x =
+        subst (λ es. All (λ e. IsEdge (length g) e) es) (edges-at x)
+        (elim (cases_lt x (length ways)) [
+          | inl h ↦ fit x [] h
+          | inr h ↦ subst (λ es. All (λ e. IsEdge (length g) e) es) (sym (get_or_past ways x [] h)) (λ k z less. absurd (omega arith))
+        ])

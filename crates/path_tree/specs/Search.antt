@@ -1,5 +1,5 @@
 -- A search for shortest walks from a node over given ways: what it is to find, and what one turn of it does.
-use Rattle.std.specs.Prelude.{◌≡◌, ℕ, ◌+◌, ◌<◌, ◌≤◌, ◌^◌, ◌⊎◌, Bool, true, false, nat_lt, List, [], length, Contains, slice_index_or, Option, Some, None, IfSome}
+use Rattle.std.specs.Prelude.{◌≡◌, ℕ, ◌+◌, ◌<◌, ◌≤◌, ◌^◌, ◌⊎◌, Bool, true, false, nat_lt, List, length, Contains, slice_index_or, Option, Some, None, IfSome}
 use Rattle.wire_base.specs.declared.view.ViewEdge.{ViewEdge}
 use Rattle.route_laws.specs.Bounds.{IsAtMost}
 
@@ -29,9 +29,6 @@ marks xs x = slice_index_or xs x true
 
 abbrev pub lengths : List (Option ℕ) → ℕ → Option ℕ
 lengths xs x = slice_index_or xs x None
-
-abbrev pub ways_of : List (List ViewEdge) → ℕ → List ViewEdge
-ways_of xs x = slice_index_or xs x []
 
 -- whether n is below a length, or the first
 abbrev pub is_shorter : ℕ → Option ℕ → Bool

@@ -1,10 +1,13 @@
--- The ways of a search: the edges that leave each node, or those that lead into it, turned round.
+-- The edges of a search: those that leave each node, or those that lead into it, turned round.
 use Rattle.std.specs.Prelude.{◌≡◌, ℕ, zero, suc, ◌<◌, List, [], ◌∷◌, ◌++◌, length, fold, replicate, slice_set, slice_index_or, Contains, ◌↔◌, Option, None}
 use Rattle.wire_base.specs.declared.view.ViewEdge.{ViewEdge}
 use Rattle.wire_base.specs.declared.view.ViewNode.{ViewNode}
-use Rattle.wire_base.specs.model.Graph.{edges_of}
+use Rattle.wire_base.specs.model.Graph.{edges_of, is_overloaded}
 use Rattle.wire_base.specs.model.Walk.{dist}
-use Rattle.path_tree.specs.Search.{ways_of}
+
+-- what is past the end has no edges
+abbrev pub ways_of : List (List ViewEdge) → ℕ → List ViewEdge
+ways_of xs x = slice_index_or xs x []
 
 -- an edge from a node, turned round and put to the ways of the node that it leads to
 abbrev pub put : ℕ → List (List ViewEdge) → ViewEdge → List (List ViewEdge)
@@ -20,10 +23,11 @@ pub record AreIncoming (g : List ViewNode) (ways : List (List ViewEdge)) : Type 
   pub rows : length ways ≡ length g
   pub each : (x : ℕ) (e : ViewEdge) → x < length g → (Contains (ways_of ways x) e ↔ Contains (edges_of g e.to) (record { to = x; metric = e.metric }))
 
--- the ways of x are its edges
-pub record AreOutgoing (g : List ViewNode) (ways : List (List ViewEdge)) : Type 0 where
-  pub rows : length ways ≡ length g
-  pub each : (x : ℕ) → x < length g → ways_of ways x ≡ edges_of g x
+-- the nodes of t are those of g, and their edges lead back over each edge that leads into them
+pub record IsTurned (g t : List ViewNode) : Type 0 where
+  pub rows : length t ≡ length g
+  pub overload : (x : ℕ) → is_overloaded t x ≡ is_overloaded g x
+  pub each : (x : ℕ) (e : ViewEdge) → x < length g → (Contains (edges_of t x) e ↔ Contains (edges_of g e.to) (record { to = x; metric = e.metric }))
 
 -- these are the distances from u to the nodes
 pub record AreDistsFrom (g : List ViewNode) (u : ℕ) (xs : List (Option ℕ)) : Type 0 where

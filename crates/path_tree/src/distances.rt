@@ -4,7 +4,7 @@ ghost use Rattle.wire_base.specs.model.Walk.{AreDists, IsDist};
 ghost use Rattle.path_tree.specs.Ways.{AreDistsFrom};
 
 use crate::search::search;
-use crate::ways::{incoming, outgoing};
+use crate::ways::turned_round;
 use std::alloc::Global;
 use wire_base::{M, Rows, View};
 
@@ -16,9 +16,9 @@ pub fn distances_to(alloc: Global, v: &View, d: u16) -> M<Rows<Option<u64>>>
     ensures dists { IfOk result (λ dist. AreDists v.now.nodes d dist) }
 {
     let nodes = v.as_slice();
-    let ways = incoming(alloc, nodes)?;
-    let found = search(alloc, nodes, ways.as_slice(), d)?;
-    Rows::from_slice(alloc, found.as_slice())
+    let turned = turned_round(alloc, nodes)?;
+    let found = search(alloc, turned.as_slice(), d)?;
+    Ok(Rows::from_vec(found))
 }
 
 /// For each node the sum of the metrics of a shortest walk from `u` to it that goes through no overloaded node between its
@@ -28,8 +28,6 @@ pub fn distances_from(alloc: Global, v: &View, u: u16) -> M<Rows<Option<u64>>>
     ensures walks { IfOk result (λ dist. (d : ℕ) → d < length v.now.nodes → IsDist v.now.nodes u d (slice_index_or dist d None)) }
     ensures dists { IfOk result (λ dist. AreDistsFrom v.now.nodes u dist) }
 {
-    let nodes = v.as_slice();
-    let ways = outgoing(alloc, nodes)?;
-    let found = search(alloc, nodes, ways.as_slice(), u)?;
-    Rows::from_slice(alloc, found.as_slice())
+    let found = search(alloc, v.as_slice(), u)?;
+    Ok(Rows::from_vec(found))
 }

@@ -1,29 +1,24 @@
-//! A search for the lengths of shortest walks: the nearest node that waits is settled, and each way on from it is counted.
+//! A search for the lengths of shortest walks: the nearest node that waits is settled, and each edge on from it is counted.
 ghost use Rattle.std.specs.Prelude.{◌≡◌, ◌≤◌, ◌<◌, ◌∷◌, ◌^◌, ◌==◌, ℕ, [], true, List, Option, Some, None, All, Contains, IfOk, IfSome, IfNone, OnOk, MatchBool, length, slice_index_or, slice_set, if◌then◌else◌};
 ghost use Rattle.std.specs.List.Sorted.{IsPermutation};
-ghost use Rattle.wire_base.specs.model.Graph.{IsEdge, is_overloaded};
+ghost use Rattle.wire_base.specs.model.Graph.{IsEdge, edges_of, is_overloaded};
 ghost use Rattle.wire_base.specs.model.Walk.{may_enter};
-ghost use Rattle.path_tree.specs.Search.{IsReach, Relaxed, TakesNext, is_shorter, lengths, marks, ways_of};
+ghost use Rattle.path_tree.specs.Search.{IsReach, Relaxed, TakesNext, is_shorter, lengths, marks};
 
 use crate::queue::Queue;
+use crate::ways::edges_of;
 use std::alloc::Global;
-use wire_base::{M, Rows, ViewEdge, ViewNode};
+use wire_base::{M, ViewEdge, ViewNode};
 
-/// The length of a shortest walk from `start` to each node over the given ways, where a walk goes on from `start` and from
-/// nodes that aren't overloaded.
-pub(crate) fn search(
-    alloc: Global,
-    nodes: &[ViewNode],
-    ways: &[Rows<ViewEdge>],
-    start: u16,
-) -> M<Vec<Option<u64>>>
+/// The length of a shortest walk from `start` to each node, where a walk goes on from `start` and from nodes that aren't
+/// overloaded.
+pub(crate) fn search(alloc: Global, nodes: &[ViewNode], start: u16) -> M<Vec<Option<u64>>>
     requires few { length nodes.now ≤ 65536 }
     requires within { start < length nodes.now }
-    requires rows { length ways.now ≡ length nodes.now }
-    requires edges { All (λ es. All (λ e. IsEdge (length nodes.now) e) es) ways.now }
-    requires reach { (f : ℕ → Option ℕ) × IsReach (length nodes.now) (ways_of ways.now) (may_enter nodes.now start) start f }
+    requires edges { (x : ℕ) → All (λ e. IsEdge (length nodes.now) e) (edges_of nodes.now x) }
+    requires reach { (f : ℕ → Option ℕ) × IsReach (length nodes.now) (edges_of nodes.now) (may_enter nodes.now start) start f }
     ensures rows { IfOk result (λ found. length found.items ≡ length nodes.now) }
-    ensures found { IfOk result (λ found. (f : ℕ → Option ℕ) → IsReach (length nodes.now) (ways_of ways.now) (may_enter nodes.now start) start f → (x : ℕ) → x < length nodes.now → lengths found.items x ≡ f x) }
+    ensures found { IfOk result (λ found. (f : ℕ → Option ℕ) → IsReach (length nodes.now) (edges_of nodes.now) (may_enter nodes.now start) start f → (x : ℕ) → x < length nodes.now → lengths found.items x ≡ f x) }
 {
     let mut found = first_lengths(alloc, nodes.len(), start)?;
     let mut settled: Vec<bool> = vec![in alloc; false; nodes.len()]?;
@@ -31,12 +26,7 @@ pub(crate) fn search(
     queue.push(0, start)?;
     while let Some((length, node)) = next_waiting(&mut queue, settled.as_slice()) {
         settled[node as usize] = true;
-        relax(
-            ways_on(nodes, ways, start, node),
-            length,
-            &mut found,
-            &mut queue,
-        )?;
+        relax(ways_on(nodes, start, node), length, &mut found, &mut queue)?;
     }
     Ok(found)
 }
@@ -46,7 +36,7 @@ fn first_lengths(alloc: Global, count: usize, start: u16) -> M<Vec<Option<u64>>>
     ensures rows { IfOk result (λ r. length r.items ≡ count) }
     ensures each { IfOk result (λ r. (k : ℕ) → k < count → lengths r.items k ≡ (if k == start then Some 0 else None)) }
 {
-    let mut first: Vec<Option<u64>> = Vec::new(alloc);
+    let mut first: Vec<Option<u64>> = Vec::with_capacity(alloc, count)?;
     for node in 0..count {
         first.push(if node == start as usize {
             Some(0)
@@ -72,18 +62,12 @@ fn next_waiting(queue: &mut Queue, settled: &[bool]) -> Option<(u64, u16)>
 }
 
 /// The ways on from a node: none from an overloaded one, unless the search starts there.
-fn ways_on<'a>(
-    nodes: &[ViewNode],
-    ways: &'a [Rows<ViewEdge>],
-    start: u16,
-    node: u16,
-) -> &'a [ViewEdge]
+fn ways_on(nodes: &[ViewNode], start: u16, node: u16) -> &[ViewEdge]
     requires within { node < length nodes.now }
-    requires rows { length ways.now ≡ length nodes.now }
-    ensures { result.now ≡ (if may_enter nodes.now start node then ways_of ways.now node else []) }
+    ensures { result.now ≡ (if may_enter nodes.now start node then edges_of nodes.now node else []) }
 {
     if node == start || !nodes[node as usize].overload {
-        ways[node as usize].as_slice()
+        edges_of(nodes, node)
     } else {
         &[]
     }

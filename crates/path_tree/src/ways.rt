@@ -1,13 +1,42 @@
-//! The ways of a search.
-ghost use Rattle.std.specs.Prelude.{◌≡◌, ◌<◌, ◌≤◌, [], List, All, IfOk, OnOk, length, replicate, fold};
+//! The edges of a search: those of the nodes, or those that lead into them, turned round.
+ghost use Rattle.std.specs.Prelude.{◌≡◌, ◌<◌, ◌≤◌, ℕ, [], List, All, IfOk, OnOk, length, map, replicate, fold};
 ghost use Rattle.wire_base.specs.model.Graph.{IsEdge, IsGraph, edges_of};
-ghost use Rattle.path_tree.specs.Ways.{AreIncoming, AreOutgoing, put, turned};
+ghost use Rattle.path_tree.specs.Ways.{AreIncoming, IsTurned, put, turned};
 
 use std::alloc::Global;
 use wire_base::{M, Rows, ViewEdge, ViewNode};
 
+/// The nodes with each edge turned round, and with no places in subdomains.
+pub(crate) fn turned_round(alloc: Global, nodes: &[ViewNode]) -> M<Vec<ViewNode>>
+    requires graph { IsGraph nodes.now }
+    ensures turned { IfOk result (λ turned. IsTurned nodes.now turned.items) }
+    ensures edges { IfOk result (λ turned. (x : ℕ) → All (λ e. IsEdge (length nodes.now) e) (edges_of turned.items x)) }
+{
+    let ways = incoming(alloc, nodes)?;
+    with_edges(alloc, nodes, ways)
+}
+
+/// The nodes with those edges in place of their own, and with no places in subdomains.
+fn with_edges(alloc: Global, nodes: &[ViewNode], ways: Vec<Rows<ViewEdge>>) -> M<Vec<ViewNode>>
+    requires rows { length ways.items ≡ length nodes.now }
+    ensures edges { IfOk result (λ made. map (λ n. n.edges) made.items ≡ ways.items) }
+    ensures overload { IfOk result (λ made. map (λ n. n.overload) made.items ≡ map (λ n. n.overload) nodes.now) }
+{
+    let mut made = Vec::with_capacity(alloc, nodes.len())?;
+    'ways: for edges in ways {
+        let node = &nodes[made.len()];
+        made.push(ViewNode {
+            system: node.system,
+            overload: node.overload,
+            edges,
+            subs: Rows::new(alloc),
+        })?;
+    }
+    Ok(made)
+}
+
 /// For each node the edges that lead into it, turned round.
-pub(crate) fn incoming(alloc: Global, nodes: &[ViewNode]) -> M<Vec<Rows<ViewEdge>>>
+fn incoming(alloc: Global, nodes: &[ViewNode]) -> M<Vec<Rows<ViewEdge>>>
     requires graph { IsGraph nodes.now }
     ensures ways { IfOk result (λ ways. AreIncoming nodes.now ways.items) }
     ensures edges { IfOk result (λ ways. All (λ es. All (λ e. IsEdge (length nodes.now) e) es) ways.items) }
@@ -23,7 +52,7 @@ pub(crate) fn incoming(alloc: Global, nodes: &[ViewNode]) -> M<Vec<Rows<ViewEdge
 fn no_ways(alloc: Global, count: usize) -> M<Vec<Rows<ViewEdge>>>
     ensures { IfOk result (λ ways. ways.items ≡ replicate count []) }
 {
-    let mut ways: Vec<Rows<ViewEdge>> = Vec::new(alloc);
+    let mut ways: Vec<Rows<ViewEdge>> = Vec::with_capacity(alloc, count)?;
     for _node in 0..count {
         ways.push(Rows::new(alloc))?;
     }
@@ -60,17 +89,4 @@ pub(crate) fn edges_of(nodes: &[ViewNode], u: u16) -> &[ViewEdge]
         Some(node) => node.edges.as_slice(),
         None => &[],
     }
-}
-
-/// For each node the edges that leave it.
-pub(crate) fn outgoing(alloc: Global, nodes: &[ViewNode]) -> M<Vec<Rows<ViewEdge>>>
-    requires graph { IsGraph nodes.now }
-    ensures ways { IfOk result (λ ways. AreOutgoing nodes.now ways.items) }
-    ensures edges { IfOk result (λ ways. All (λ es. All (λ e. IsEdge (length nodes.now) e) es) ways.items) }
-{
-    let mut ways: Vec<Rows<ViewEdge>> = Vec::new(alloc);
-    for node in nodes {
-        ways.push(node.edges.copy()?)?;
-    }
-    Ok(ways)
 }
