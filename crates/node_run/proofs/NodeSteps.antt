@@ -1,12 +1,42 @@
 -- What a node's calls do is what it does.
-use Rattle.std.proofs.Common.{◌≡◌, ℕ, ◌+◌, ◌-◌, ◌<◌, ◌≤◌, zero, suc, Bool, true, if◌then◌else◌, List, [], ◌∷◌, ◌++◌, sym, ap, ◌∙◌, arith}
+use Rattle.std.proofs.Common.{◌≡◌, ℕ, ◌+◌, ◌-◌, ◌<◌, ◌≤◌, zero, suc, Bool, true, if◌then◌else◌, List, [], ◌∷◌, ◌++◌, take, slice_get, Some, option_map, sym, ap, ◌∙◌, append_assoc, arith}
 use Rattle.std.specs.List.{fold, range_with_len}
+use Rattle.std.proofs.lemmas.List.{append-nil}
+use Rattle.std.proofs.lemmas.List.Concat.{flat_map-cons}
 use Rattle.std.proofs.lemmas.List.Sums.{fold-append}
+use Rattle.std.proofs.lemmas.Option.{none-some, same_Some}
 use Rattle.wire_base.specs.declared.effects.Sent.{Sent}
+use Rattle.wire_base.specs.model.Capture.{written_record}
 use Rattle.wire_base.specs.model.Flooding.{send}
 use Rattle.wire_base.specs.model.OnFrame.{Next, framed}
 use Rattle.router_laws.specs.State.{is_up}
-use Rattle.node_run.specs.NodeRun.{Node, goes_out, next_sent, sends_on, second_passes, seconds_pass}
+use Rattle.node_run.specs.NodeRun.{Node, frame_record, frames_text, goes_out, next_sent, sends_on, second_passes, seconds_pass}
+
+-- the records of the first frames, with one more
+records_more : (sec usec : ℕ) (sent : List Sent) (i : ℕ) (octets : List ℕ) → option_map (λ s. s.octets) (slice_get sent i) ≡ Some octets
+    → frames_text sec usec (take (suc i) sent) ≡ frames_text sec usec (take i sent) ++ written_record sec usec octets
+unfolding frame_record
+records_more sec usec [] i octets is = absurd (none-some octets is)
+records_more sec usec (s ∷ sent) zero octets is =
+    flat_map-cons (frame_record sec usec) s []
+    ∙ append-nil (written_record sec usec s.octets)
+    ∙ ap (written_record sec usec) (same_Some s.octets octets is)
+records_more sec usec (s ∷ sent) (suc i) octets is =
+    flat_map-cons (frame_record sec usec) s (take (suc i) sent)
+    ∙ ap (λ (l : List ℕ). frame_record sec usec s ++ l) (records_more sec usec sent i octets is)
+    ∙ sym (append_assoc (frame_record sec usec s) (frames_text sec usec (take i sent)) (written_record sec usec octets))
+    ∙ ap (λ (l : List ℕ). l ++ written_record sec usec octets) (sym (flat_map-cons (frame_record sec usec) s (take i sent)))
+
+-- one frame more
+pub frames_more : (sec usec : ℕ) (sent : List Sent) (i : ℕ) (octets old out new : List ℕ) → option_map (λ s. s.octets) (slice_get sent i) ≡ Some octets
+    → out ≡ old ++ frames_text sec usec (take i sent) → new ≡ out ++ written_record sec usec octets → new ≡ old ++ frames_text sec usec (take (i + 1) sent)
+frames_more sec usec sent i octets old out new is so added =
+    let one : i + 1 ≡ suc i = omega arith in
+    added
+    ∙ ap (λ (l : List ℕ). l ++ written_record sec usec octets) so
+    ∙ append_assoc old (frames_text sec usec (take i sent)) (written_record sec usec octets)
+    ∙ ap (λ (l : List ℕ). old ++ l) (sym (records_more sec usec sent i octets is))
+    ∙ ap (λ (k : ℕ). old ++ frames_text sec usec (take k sent)) (sym one)
 
 -- what is due on a link that is up went out
 pub sent_on : (sec : ℕ) (n : Node) (link : ℕ) (next : Next) (sent : List Sent) → is_up n.control link ≡ true → next ≡ framed link (send n.control link) → sent ≡ next.effects.sent → goes_out sec 0 sent (record n { control = next.control }) ≡ sends_on sec n link

@@ -8,7 +8,7 @@ ghost use Rattle.wire_base.specs.model.Configuration.{IsSound};
 use super::tally::{Tally, sum};
 use super::texts::{push_effects, push_frames};
 use pcap_frames::{CapRecord, write_cap_header};
-use router_core::{Effects, Router, Sent};
+use router_core::{Effects, Router, SentFrames};
 use std::alloc::Global;
 use std::marker::Model;
 use wire_base::limits::MOST_FRAME;
@@ -84,7 +84,7 @@ impl Node {
 
     /// Frames go out at a time.
     #[tactic(auto, unfolding(crate::specs::NodeRun::goes_out))]
-    fn go_out(&mut self, sec: u32, usec: u32, sent: &[Sent]) -> M<()>
+    fn go_out(&mut self, sec: u32, usec: u32, sent: &SentFrames) -> M<()>
         ensures { OnOk result (self.new ≡ run.goes_out sec usec sent.now self.old) }
     {
         push_frames(&mut self.frames, sec, usec, sent)?;
@@ -101,7 +101,7 @@ impl Node {
             return Ok(());
         }
         let effects = self.router.send(link)?;
-        self.go_out(sec, 0, effects.sent.as_slice())?;
+        self.go_out(sec, 0, &effects.sent)?;
         Ok(())
     }
 
@@ -184,7 +184,7 @@ impl Node {
         self.tally.got = sum(self.tally.got, effects.got.len())?;
         self.tally.dropped = sum(self.tally.dropped, effects.drops.len())?;
         push_effects(alloc, &mut self.report, self.tally.records, effects)?;
-        self.go_out(captured.sec, captured.usec, effects.sent.as_slice())
+        self.go_out(captured.sec, captured.usec, &effects.sent)
     }
 
     /// The router is given the frame of a record, which came on a link.

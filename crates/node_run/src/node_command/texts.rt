@@ -4,6 +4,7 @@ ghost use Rattle.std.specs.Fmt.{decimal};
 ghost use Rattle.bier_bits.specs.Any.{bsl_of, positions_of};
 ghost use Rattle.bier_forward.specs.Sets.{set_in, HaveLength};
 ghost use Rattle.wire_base.specs.model.BitSet.{has_member};
+ghost use Rattle.wire_base.specs.model.Capture.{written_record};
 ghost use Rattle.wire_base.specs.model.Place.{bits_of, id_at};
 ghost use Rattle.tool_run.specs.Captured.{refused_record};
 ghost use Rattle.node_run.specs.NodeRun as run;
@@ -12,7 +13,7 @@ use super::tally::Tally;
 use bier_bits::AnyBits;
 use pcap_frames::write_cap_record;
 use replay_text::{push_loss, push_number, push_payload};
-use router_core::{DropNote, Effects, Got, Packet, Sent};
+use router_core::{DropNote, Effects, Got, Packet, SentFrames};
 use std::alloc::Global;
 use tool_run::push_refused;
 use wire_base::{M, Memory, Octets, Rows, Triple};
@@ -22,22 +23,21 @@ const MOST_RECORDED: usize = 65_535;
 
 /// Appends the record of a frame. There is no memory for one that fits no record, and a router sends none: a PDU has at most 1,500
 /// octets, and a packet that came in a frame of at most 65,000 is sent with at most 38 more.
-#[tactic(auto, unfolding(crate::specs::NodeRun::frame_record))]
-fn push_frame(out: &mut Octets, sec: u32, usec: u32, frame: &Sent) -> M<()>
-    ensures { OnOk result (out.new ≡ out.old ++ run.frame_record sec usec frame.now) }
+fn push_frame(out: &mut Octets, sec: u32, usec: u32, octets: &[u8]) -> M<()>
+    ensures { OnOk result (out.new ≡ out.old ++ written_record sec usec octets.now) }
 {
-    if frame.octets.len() > MOST_RECORDED {
+    if octets.len() > MOST_RECORDED {
         return Err(Memory);
     }
-    write_cap_record(out, sec, usec, frame.octets.as_slice())
+    write_cap_record(out, sec, usec, octets)
 }
 
 /// Appends a record of each frame, in order, with that time.
-pub fn push_frames(out: &mut Octets, sec: u32, usec: u32, sent: &[Sent]) -> M<()>
+pub fn push_frames(out: &mut Octets, sec: u32, usec: u32, sent: &SentFrames) -> M<()>
     ensures { OnOk result (out.new ≡ out.old ++ run.frames_text sec usec sent.now) }
 {
-    for frame in sent {
-        push_frame(out, sec, usec, frame)?;
+    'frames: for i in 0..sent.len() {
+        push_frame(out, sec, usec, sent.octets_at(i))?;
     }
     Ok(())
 }

@@ -3,5 +3,5 @@ use Rattle.std.specs.Prelude.{flat_map}
 use Rattle.node_run.specs.NodeRun.{frame_record}
 use Rattle.node_run.proofs.node_command.texts.push_frames.Given as goal
 
-abbrev pub invariant-loop-frame : goal.invariant-loop-frame
-invariant-loop-frame l = l.out ≡ l.fn.out ++ flat_map (frame_record l.sec l.usec) (take l.frame-index l.sent)
+abbrev pub invariant-frames : goal.invariant-frames
+invariant-frames l = l.out ≡ l.fn.out ++ flat_map (frame_record l.sec l.usec) (take l.i l.sent)
