@@ -101,13 +101,10 @@ impl<N: Copy + Drop> FrameList<N> {
         if self.is_mostly_gone() {
             self.gather()?;
         }
-        // Room first: what is refused there leaves all as it was.
-        self.spans.reserve(1)?;
-        self.octets.reserve(octets.len())?;
         self.append(note, octets)
     }
 
-    /// The same, where there is room.
+    /// The same, however many octets are of frames that are gone. Where memory is refused for the span, octets of no frame are left.
     #[tactic(auto, using(crate::proofs::SpanLaws::frames_added, crate::proofs::SpanLaws::within_added, crate::proofs::SpanLaws::frames_kept, crate::proofs::SpanLaws::within_kept))]
     fn append(&mut self, note: N, octets: &[u8]) -> M<()>
         ensures ok { OnOk result (self.new ≡ self.old ++ record { note = note; octets = octets.now } ∷ []) }
