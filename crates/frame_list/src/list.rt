@@ -8,7 +8,10 @@ use std::marker::Model;
 use wire_base::M;
 
 /// How many octets a list without frames keeps room for.
-const KEPT: usize = 4096;
+const KEPT: usize = 256;
+
+/// How many octets of frames that are gone are left where they are.
+const LEFT: usize = 4096;
 
 /// Where the octets of a frame begin and end among those of all, and what is noted of it.
 #[derive(Clone, Copy)]
@@ -146,6 +149,7 @@ impl<N: Copy + Drop> FrameList<N> {
         self.gone = 0;
         if self.octets.capacity() > KEPT {
             self.octets = Vec::new(self.allocator());
+            self.spans = VecDeque::new(self.allocator());
         } else {
             self.octets.truncate(0);
         }
@@ -153,7 +157,7 @@ impl<N: Copy + Drop> FrameList<N> {
 
     /// Whether most octets are those of frames that are gone.
     fn is_mostly_gone(&self) -> bool {
-        self.gone > KEPT && self.gone > self.octets.len() / 2
+        self.gone > LEFT && self.gone > self.octets.len() / 2
     }
 
     /// The octets of frames that are gone go.
