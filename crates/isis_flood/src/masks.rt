@@ -127,8 +127,8 @@ fn has_eight(masks: &[u64], at: usize, link: u16) -> bool
     has_bit(u64x8::from_slice(&masks[at..]).reduce_or(), link)
 }
 
-/// The place of the first mask from a place on that has a link, or the number of masks: eight masks at once, as long as
-/// they haven't, and then one by one.
+/// The place of the first mask from a place on that has a link, or the number of masks: eight masks at once while none of
+/// them has it, and then one by one.
 fn first_with(masks: &[u64], from: usize, link: u16) -> usize
     requires within { from ≤ length masks.now }
     requires link { link < 64 }
