@@ -25,8 +25,11 @@ framed_as r link p None = refl
 framed_as r link p (Some e) = refl
 
 -- the frame of a PDU is appended
-pub pushed : (r : RouterConf) (link : ℕ) (p : Pdu) (out new : List Sent) (octets : List ℕ) → octets ≡ octets_on (slice_get r.ends link) (pdu r.level p) → new ≡ out ++ record { link = link; octets = octets } ∷ [] → new ≡ out ++ frames_of r link (p ∷ [])
-pushed r link p out new octets is added = added ∙ ap (λ (o : List ℕ). out ++ record { link = link; octets = o } ∷ []) (is ∙ framed_as r link p (slice_get r.ends link))
+pub pushed : (r : RouterConf) (link : ℕ) (p : Pdu) (out kept new : List Sent) (octets : List ℕ) → kept ≡ out → octets ≡ octets_on (slice_get r.ends link) (pdu r.level p) → new ≡ kept ++ record { link = link; octets = octets } ∷ [] → new ≡ out ++ frames_of r link (p ∷ [])
+pushed r link p out kept new octets same is added =
+    added
+    ∙ ap (λ (l : List Sent). l ++ record { link = link; octets = octets } ∷ []) same
+    ∙ ap (λ (o : List ℕ). out ++ record { link = link; octets = o } ∷ []) (is ∙ framed_as r link p (slice_get r.ends link))
 
 -- ---- blocks
 

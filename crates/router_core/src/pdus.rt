@@ -13,7 +13,7 @@ ghost use Rattle.router_laws.specs.State.{is_up};
 
 use crate::control::Control;
 use crate::forecast::issue_ready;
-use crate::framing::push_psnp;
+use crate::framing::{FramesOut, push_psnp};
 use crate::kept::Kept;
 use bier_forward::{DropNote, Effects, SentFrames};
 use isis_flood::{Flood, listed};
@@ -73,10 +73,10 @@ impl Control {
         ensures { IfOk result (λ e. e ≡ record nothing { sent = frames_of self.now.conf link (psnp_of self.now (entry ∷ []) ∷ []) }) }
     {
         let alloc = self.allocator();
-        let mut sent = SentFrames::new(alloc);
-        push_psnp(&mut sent, &self.conf, link, &[entry])?;
+        let mut out = FramesOut::new(alloc);
+        push_psnp(&mut out, &self.conf, link, &[entry])?;
         Ok(Effects {
-            sent,
+            sent: out.into_sent(),
             got: Rows::new(alloc),
             drops: Rows::new(alloc),
             passed: false,

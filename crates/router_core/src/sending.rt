@@ -9,7 +9,7 @@ ghost use Rattle.router_core.specs.Sending.{conf_alone, entry_frames, entry_summ
 ghost use Rattle.router_laws.specs.State.{IsShort, is_up, control_of};
 
 use crate::control::Control;
-use crate::framing::{push_csnp, push_lsp, push_psnp};
+use crate::framing::{FramesOut, push_csnp, push_lsp, push_psnp};
 use crate::pending::is_known;
 use bier_forward::{Effects, SentFrames};
 use byteorder::{BigEndian, ByteOrder};
@@ -115,7 +115,7 @@ fn id_after(id: LspId) -> LspId
 
 /// Appends the CSNPs that list those entries, in blocks of 90. Together they cover all identifiers: the first begins at the
 /// least, each other one above the one before, and the last ends at the greatest.
-fn push_csnps(out: &mut SentFrames, conf: &RouterConf, link: u16, rows: &[Summary]) -> M<()>
+fn push_csnps(out: &mut FramesOut, conf: &RouterConf, link: u16, rows: &[Summary]) -> M<()>
     requires { link < length conf.now.ends }
     ensures { OnOk result (out.new ≡ out.old ++ frames_of conf.now link (csnps (conf_alone conf.now) zero_id (blocks MOST_LISTED rows.now))) }
 {
@@ -133,7 +133,7 @@ fn push_csnps(out: &mut SentFrames, conf: &RouterConf, link: u16, rows: &[Summar
 }
 
 /// Appends the frame of an entry, where there is one.
-fn push_entry(out: &mut SentFrames, conf: &RouterConf, link: u16, entry: Option<&Entry>) -> M<()>
+fn push_entry(out: &mut FramesOut, conf: &RouterConf, link: u16, entry: Option<&Entry>) -> M<()>
     requires end { link < length conf.now.ends }
     requires short { IfSome entry (λ e. length e.now.content ≤ MOST_CONTENT) }
     ensures { OnOk result (out.new ≡ out.old ++ found (entry_frames conf.now link) (option_map (λ e. e.now) entry.entry)) }
@@ -146,7 +146,7 @@ fn push_entry(out: &mut SentFrames, conf: &RouterConf, link: u16, entry: Option<
 
 /// Appends the frame of an identifier's entry, which mostly stands at that place.
 fn push_found(
-    out: &mut SentFrames,
+    out: &mut FramesOut,
     conf: &RouterConf,
     link: u16,
     store: &Store,
@@ -163,7 +163,7 @@ fn push_found(
 /// Appends the frames of the entries that are to be sent on a link. Where there is none, mostly no row of flags is looked
 /// at; and never an entry but those that are sent.
 fn push_lsps(
-    out: &mut SentFrames,
+    out: &mut FramesOut,
     conf: &RouterConf,
     link: u16,
     flood: &Flood,
@@ -190,7 +190,7 @@ fn push_lsps(
 }
 
 /// Appends the PSNPs that list those entries, in blocks of 90.
-fn push_psnps(out: &mut SentFrames, conf: &RouterConf, link: u16, rows: &[Summary]) -> M<()>
+fn push_psnps(out: &mut FramesOut, conf: &RouterConf, link: u16, rows: &[Summary]) -> M<()>
     requires { link < length conf.now.ends }
     ensures { OnOk result (out.new ≡ out.old ++ frames_of conf.now link (map (psnp_of (conf_alone conf.now)) (blocks MOST_LISTED rows.now))) }
 {
@@ -205,7 +205,7 @@ fn push_psnps(out: &mut SentFrames, conf: &RouterConf, link: u16, rows: &[Summar
 
 /// Appends the CSNPs, where they are due.
 fn push_due(
-    out: &mut SentFrames,
+    out: &mut FramesOut,
     conf: &RouterConf,
     link: u16,
     flood: &Flood,
@@ -232,12 +232,12 @@ fn due_frames(conf: &RouterConf, store: &Store, flood: &Flood, link: u16) -> M<S
     ensures { (spent : Bool) → IfOk result (λ sent. sent ≡ frames_of conf.now link (send_of (control_of conf.now flood.now.flood store.now.entries spent) link)) }
 {
     let entries = store.as_slice();
-    let mut out = SentFrames::new(store.allocator());
+    let mut out = FramesOut::new(store.allocator());
     push_due(&mut out, conf, link, flood, entries)?;
     push_lsps(&mut out, conf, link, flood, store)?;
     let rows = asked_rows(store, flood, link)?;
     push_psnps(&mut out, conf, link, rows.as_slice())?;
-    Ok(out)
+    Ok(out.into_sent())
 }
 
 impl Control {
