@@ -34,7 +34,7 @@ fn nobody(alloc: Global, count: u16) -> M<Vec<Found>>
     ensures rows { IfOk result (λ found. length found.items ≡ count) }
     ensures each { IfOk result (λ found. (k : ℕ) → slice_index_or found.items k Nobody ≡ Nobody) }
 {
-    let mut found: Vec<Found> = Vec::new(alloc);
+    let mut found: Vec<Found> = Vec::with_capacity(alloc, count as usize)?;
     for _position in 0..count {
         found.push(Found::Nobody)?;
     }

@@ -58,7 +58,7 @@ fn supporting(alloc: Global, nodes: &[ViewNode], conf: &RouterConf, t: Triple) -
     ensures rows { IfOk result (λ covers. length covers.items ≡ length nodes.now) }
     ensures each { IfOk result (λ covers. (x : ℕ) → slice_index_or covers.items x false ≡ covers_at conf.now.kinds conf.now.table t nodes.now x) }
 {
-    let mut covers: Vec<bool> = Vec::new(alloc);
+    let mut covers: Vec<bool> = Vec::with_capacity(alloc, nodes.len())?;
     for node in nodes {
         covers.push(node.covers(&conf.kinds, &conf.table, t))?;
     }
