@@ -1,7 +1,6 @@
 -- Frames that a router sends, read off the list that they are kept in.
-use Rattle.std.proofs.Common.{◌≡◌, ℕ, zero, suc, List, [], ◌∷◌, ◌++◌, length, map, slice_get, option_map, Some, refl, ap}
-use Rattle.std.proofs.lemmas.List.{map-append, length-map}
-use Rattle.wire_base.specs.declared.effects.Sent.{Sent}
+use Rattle.std.proofs.Common.{◌≡◌, ℕ, zero, suc, List, [], ◌∷◌, ◌++◌, slice_get, option_map, refl}
+use Rattle.std.proofs.lemmas.List.{map-append}
 use Rattle.frame_list.specs.Spans.{Noted}
 use Rattle.bier_forward.specs.SentFrames.{sent_as, sent_in}
 
