@@ -1,3 +1,4 @@
+pub mod Links
 pub mod Edges
 pub mod Places
 pub mod Keep

@@ -11,7 +11,7 @@ ghost use Rattle.view_graph.specs.Edges.{is_before};
 ghost use Rattle.view_graph.specs.Places.{place_before};
 
 use crate::known::known_subs;
-use crate::links::{Link, append_links};
+use crate::links::{Link, Links, append_links};
 use crate::places::append_places;
 use isis_tlv::{Tlv, TlvWalk};
 use std::alloc::Global;
@@ -25,7 +25,7 @@ use wire_base::{
 pub(crate) struct Claim {
     pub(crate) system: SystemId,
     pub(crate) overload: bool,
-    pub(crate) links: Rows<Link>,
+    pub(crate) links: Links,
     pub(crate) subs: Rows<ViewSub>,
 }
 
@@ -43,7 +43,7 @@ fn no_claim(alloc: Global, system: SystemId, overload: bool) -> Claim
     Claim {
         system,
         overload,
-        links: Rows::new(alloc),
+        links: Links::new(alloc),
         subs: Rows::new(alloc),
     }
 }
@@ -144,11 +144,11 @@ pub(crate) fn with_known(kinds: &[SubKind], claim: Claim) -> M<Claim>
 }
 
 /// The links over the ends that are up.
-fn own_links(alloc: Global, up: &[bool], ends: &[End]) -> M<Rows<Link>>
+fn own_links(alloc: Global, up: &[bool], ends: &[End]) -> M<Links>
     requires { length up.now ≡ length ends.now }
     ensures { IfOk result (λ links. links ≡ map end_link (picked up.now ends.now)) }
 {
-    let mut links = Rows::new(alloc);
+    let mut links = Links::new(alloc);
     'ends: for place in 0..ends.len() {
         let is_up = up[place];
         let end = &ends[place];
@@ -157,7 +157,7 @@ fn own_links(alloc: Global, up: &[bool], ends: &[End]) -> M<Rows<Link>>
     Ok(links)
 }
 
-fn append_end(links: &mut Rows<Link>, is_up: bool, end: &End) -> M<()>
+fn append_end(links: &mut Links, is_up: bool, end: &End) -> M<()>
     ensures { OnOk result (links.new ≡ links.old ++ (if is_up then end_link end.now ∷ [] else [])) }
 {
     if is_up {
