@@ -46,11 +46,6 @@ impl SentFrames {
         self.list.len()
     }
 
-    /// How many octets the frames have in all.
-    pub fn size(&self) -> usize {
-        self.list.size()
-    }
-
     /// The link that the frame at a place is sent on.
     #[tactic(auto, using(crate::proofs::SentLaws::links_are))]
     pub fn link_at(&self, i: usize) -> u16

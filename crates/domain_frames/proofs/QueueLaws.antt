@@ -1,5 +1,5 @@
 -- Frames on their way, read off the list that they are kept in, and frames that are sent one after the other.
-use Rattle.std.proofs.Common.{◌≡◌, ◌∙◌, ◌<◌, ◌≤◌, ◌+◌, ℕ, zero, suc, List, [], ◌∷◌, ◌++◌, length, map, take, drop, sum_by, slice_get, slice_set, slice_index_or, option_map, Option, Some, None, refl, ap, sym, arith}
+use Rattle.std.proofs.Common.{◌≡◌, ◌∙◌, ◌<◌, ◌≤◌, ◌+◌, ℕ, zero, suc, List, [], ◌∷◌, ◌++◌, length, map, take, drop, sum_by, slice_get, option_map, Option, Some, None, refl, ap, sym, arith}
 use Rattle.std.specs.List.{remove}
 use Rattle.std.proofs.lemmas.List.{map-append}
 use Rattle.std.proofs.lemmas.List.Sums.{sum_by-cons}
@@ -75,9 +75,3 @@ summed_suc g (x ∷ flights) (suc i) f is =
 
 pub summed_more : (g : Flight → ℕ) (flights : List Flight) (i : ℕ) (f : Flight) → slice_get flights i ≡ Some f → sum_by g (take (i + 1) flights) ≡ sum_by g (take i flights) + g f
 summed_more g flights i f is = ap (λ (n : ℕ). sum_by g (take n flights)) (one i) ∙ summed_suc g flights i f is
-
--- a list in which an item is put in its own place
-pub same_queue : {X : Type 0} (xs : List X) (i : ℕ) (d x : X) → i < length xs → x ≡ slice_index_or xs i d → slice_set xs i x ≡ xs
-same_queue [] i d x h e = refl
-same_queue (y ∷ ys) zero d x h e = ap (λ (z : _). z ∷ ys) e
-same_queue (y ∷ ys) (suc i) d x h e = ap (λ (zs : List _). y ∷ zs) (same_queue ys i d x (omega (arith, h)) e)

@@ -81,13 +81,6 @@ impl Queue {
         Ok(total)
     }
 
-    /// Makes room for that many frames more, of that many octets in all.
-    fn reserve(&mut self, frames: usize, octets: usize) -> M<()>
-        ensures { self.new ≡ self.old }
-    {
-        self.frames.reserve(frames, octets)
-    }
-
     #[tactic(auto, using(crate::proofs::QueueLaws::flight_more))]
     fn push(&mut self, octets: &[u8], note: Option<Note>) -> M<()>
         ensures ok { OnOk result (self.new ≡ self.old ++ flight_with octets.now note ∷ []) }
@@ -166,18 +159,6 @@ impl Queues {
         } else {
             None
         }
-    }
-
-    /// Makes room over an end, where there is such an end.
-    #[tactic(auto, using(crate::proofs::QueueLaws::same_queue))]
-    fn reserve(&mut self, link: usize, frames: usize, octets: usize) -> M<()>
-        ensures { self.new ≡ self.old }
-    {
-        if link < self.ends.len() {
-            let queue = &mut self.ends[link];
-            queue.reserve(frames, octets)?;
-        }
-        Ok(())
     }
 
     /// Puts a frame behind those on their way over an end, and says whether there is such an end.
@@ -278,18 +259,6 @@ impl Flights {
         } else {
             None
         }
-    }
-
-    /// Makes room in a direction for that many frames more, of that many octets in all.
-    #[tactic(auto, using(crate::proofs::QueueLaws::same_queue))]
-    pub(crate) fn reserve(&mut self, place: u16, link: u16, frames: usize, octets: usize) -> M<()>
-        ensures { self.new ≡ self.old }
-    {
-        if usize::from(place) < self.routers.len() {
-            let queues = &mut self.routers[usize::from(place)];
-            queues.reserve(usize::from(link), frames, octets)?;
-        }
-        Ok(())
     }
 
     /// Puts a frame with those octets at the end of a direction. Where there is no such direction nothing changes.

@@ -60,10 +60,6 @@ pub fn send_all(
     ensures err { OnErr result (flights.new ≡ flights.old) }
     ensures memory { OnErr result (sent.now ≡ [] → ⊥) }
 {
-    if sent.len() > 1 {
-        // What goes out together mostly shares its link.
-        flights.reserve(at, sent.link_at(0), sent.len(), sent.size())?;
-    }
     send_from(flights, confs, at, number, sent, 0)
 }
 

@@ -98,10 +98,6 @@ fn wire_frames(
     ensures memory { OnErr result (sent.now ≡ [] → ⊥) }
 {
     let mut frames = WireFrames::new(alloc);
-    if sent.len() == 0 {
-        return Ok(frames);
-    }
-    frames.reserve(sent.len(), sent.size())?;
     let mut last = known;
     'frames: for place in 0..sent.len() {
         let link = sent.link_at(place);

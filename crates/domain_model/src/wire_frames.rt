@@ -56,13 +56,6 @@ impl WireFrames {
         self.list.octets_at(i)
     }
 
-    /// Makes room for that many frames more, of that many octets in all.
-    pub fn reserve(&mut self, frames: usize, octets: usize) -> M<()>
-        ensures { self.new ≡ self.old }
-    {
-        self.list.reserve(frames, octets)
-    }
-
     /// Appends a frame with those octets.
     #[tactic(auto, using(crate::proofs::WireLaws::wires_more))]
     pub fn push(&mut self, from: u16, to: u16, octets: &[u8]) -> M<()>

@@ -7,8 +7,13 @@ use std::collections::VecDeque;
 use std::marker::Model;
 use wire_base::M;
 
+/// The room that a first frame takes for itself and those that follow: a few link state PDUs.
+const FIRST_OCTETS: usize = 480;
+
+const FIRST_FRAMES: usize = 8;
+
 /// How many octets a list without frames keeps room for.
-const KEPT: usize = 256;
+const KEPT: usize = 512;
 
 /// How many octets of frames that are gone are left where they are.
 const LEFT: usize = 4096;
@@ -65,11 +70,6 @@ impl<N: Copy + Drop> FrameList<N> {
         self.spans.len()
     }
 
-    /// How many octets the frames take, with those of frames that went.
-    pub fn size(&self) -> usize {
-        self.octets.len()
-    }
-
     /// The octets of the frame at a place.
     pub fn octets_at(&self, i: usize) -> &[u8]
         requires { i < length self.now }
@@ -87,15 +87,6 @@ impl<N: Copy + Drop> FrameList<N> {
         self.spans[i].note
     }
 
-    /// Makes room for that many frames more, of that many octets in all.
-    pub fn reserve(&mut self, frames: usize, octets: usize) -> M<()>
-        ensures { self.new ≡ self.old }
-    {
-        self.spans.reserve(frames)?;
-        self.octets.reserve(octets)?;
-        Ok(())
-    }
-
     /// Appends a frame.
     pub fn push(&mut self, note: N, octets: &[u8]) -> M<()>
         ensures ok { OnOk result (self.new ≡ self.old ++ record { note = note; octets = octets.now } ∷ []) }
@@ -107,12 +98,25 @@ impl<N: Copy + Drop> FrameList<N> {
         self.append(note, octets)
     }
 
+    /// Room for the first frames, of which one has that many octets: so that a list doesn't grow step by step.
+    fn make_room(&mut self, octets: usize) -> M<()>
+        ensures { self.new ≡ self.old }
+    {
+        if self.octets.capacity() > 0 {
+            return Ok(());
+        }
+        self.spans.reserve(FIRST_FRAMES)?;
+        self.octets.reserve(octets.max(FIRST_OCTETS))?;
+        Ok(())
+    }
+
     /// The same, however many octets are of frames that are gone. Where memory is refused for the span, octets of no frame are left.
     #[tactic(auto, using(crate::proofs::SpanLaws::frames_added, crate::proofs::SpanLaws::within_added, crate::proofs::SpanLaws::frames_kept, crate::proofs::SpanLaws::within_kept))]
     fn append(&mut self, note: N, octets: &[u8]) -> M<()>
         ensures ok { OnOk result (self.new ≡ self.old ++ record { note = note; octets = octets.now } ∷ []) }
         ensures err { OnErr result (self.new ≡ self.old) }
     {
+        self.make_room(octets.len())?;
         let start = self.octets.len();
         self.octets.extend_from_slice(octets)?;
         self.spans.push_back(Span {

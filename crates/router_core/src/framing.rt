@@ -18,6 +18,9 @@ use wire_base::{Entry, LspId, M, Mac, Octets, RouterConf, Summary};
 /// All intermediate systems of a link (ISO/IEC 10589, 8.4.8).
 const ALL_ROUTERS: Mac = Mac([0x09, 0x00, 0x2b, 0x00, 0x00, 0x05]);
 
+/// The octets before the PDU: the Ethernet header and that of the logical link control, FE FE 03.
+const HEAD: usize = 17;
+
 /// Frames to be sent. Each is built in the same octets before it is put behind the others, so that a frame takes no memory of
 /// its own.
 #[derive(Drop)]
@@ -49,6 +52,17 @@ impl FramesOut {
     /// The allocator that the frames keep.
     pub(crate) fn allocator(&self) -> Global {
         self.sent.allocator()
+    }
+
+    /// Room for a frame of a PDU of that length, where none was built yet.
+    fn make_room(&mut self, size: usize) -> M<()>
+        requires { size ≤ 1497 }
+        ensures { OnOk result (self.new ≡ self.old) }
+    {
+        if self.next.len() == 0 {
+            self.next = Octets::with_room(self.allocator(), HEAD + size)?;
+        }
+        Ok(())
     }
 
     /// The frames.
@@ -93,6 +107,7 @@ pub(crate) fn push_lsp(out: &mut FramesOut, conf: &RouterConf, link: u16, e: &En
         flags: e.flags,
     };
     let tlvs = e.content.as_slice();
+    out.make_room(LSP_FRONT + tlvs.len())?;
     begin_on(&mut out.next, conf, link, LSP_FRONT + tlvs.len())?;
     append_lsp(&mut out.next, conf.level, &head, tlvs)?;
     out.sent.push(link, out.next.as_slice())
@@ -112,6 +127,7 @@ pub(crate) fn push_csnp(
     ensures { OnOk result (out.new ≡ out.old ++ frames_of conf.now link (csnp_of (conf_alone conf.now) start last rows.now ∷ [])) }
 {
     let tlvs = write_rows(out.allocator(), rows)?;
+    out.make_room(CSNP_FRONT + tlvs.len())?;
     begin_on(&mut out.next, conf, link, CSNP_FRONT + tlvs.len())?;
     append_csnp(
         &mut out.next,
@@ -136,6 +152,7 @@ pub(crate) fn push_psnp(
     ensures { OnOk result (out.new ≡ out.old ++ frames_of conf.now link (psnp_of (conf_alone conf.now) rows.now ∷ [])) }
 {
     let tlvs = write_rows(out.allocator(), rows)?;
+    out.make_room(PSNP_FRONT + tlvs.len())?;
     begin_on(&mut out.next, conf, link, PSNP_FRONT + tlvs.len())?;
     append_psnp(&mut out.next, conf.level, conf.system, tlvs.as_slice())?;
     out.sent.push(link, out.next.as_slice())
