@@ -11,7 +11,7 @@ use crate::table_rows::table_rows;
 use bier_tunnel::Fib;
 use bift_table::AnyTable;
 use std::alloc::Global;
-use wire_base::{First, M, RouterConf, RowSet, Rows, Triple, View};
+use wire_base::{FirstList, M, RouterConf, RowSet, Triple, View};
 
 /// So many triples have their rows kept.
 const MOST_ROWS: usize = 4;
@@ -96,7 +96,7 @@ impl Period {
 }
 
 /// A period that fits the lists of all positions: the largest of theirs.
-fn period_of(lists: &[Rows<First>]) -> Period
+fn period_of(lists: &[FirstList]) -> Period
     ensures { IsPeriod result lists.now }
 {
     let mut period = Period::One;

@@ -6,7 +6,7 @@ ghost use Rattle.bier_forward.specs.Hops.{AreRows};
 
 use birt_rows::rows;
 use std::alloc::Global;
-use wire_base::{M, RouterConf, RowSet, Rows, SystemId, Triple, View, ViewNode};
+use wire_base::{FirstList, M, RouterConf, RowSet, Rows, SystemId, Triple, View, ViewNode};
 
 /// For each bit position of the triple the routers to which its bit may be sent. Where the view has no node of the router,
 /// it reaches none.
@@ -39,7 +39,7 @@ fn no_rows(alloc: Global, count: u16) -> M<RowSet>
 {
     let mut bits = Rows::new(alloc);
     for _position in 0..count {
-        bits.push(Rows::new(alloc))?;
+        bits.push(FirstList::new(alloc))?;
     }
     Ok(RowSet { bits })
 }

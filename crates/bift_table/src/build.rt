@@ -6,7 +6,7 @@ ghost use Rattle.bift_table.specs.Neighbours.{AreMasks, AreNumbers, given_to, nu
 use crate::neighbour::{Neighbour, give};
 use bier_bits::BitString;
 use std::alloc::Global;
-use wire_base::{First, M, Rows};
+use wire_base::{First, FirstList, M};
 
 // The neighbours of the positions so far, each once, for each position the number of its neighbour, and the positions that
 // have one.
@@ -43,7 +43,7 @@ impl<const W: usize> Drawn<W> {
 }
 
 // Where the positions lead, in one pass.
-pub fn draw<const W: usize>(alloc: Global, lists: &[Rows<First>], class: u8) -> M<Drawn<W>>
+pub fn draw<const W: usize>(alloc: Global, lists: &[FirstList], class: u8) -> M<Drawn<W>>
     requires width { IsTrue (is_width W) }
     requires lists { length lists.now ≡ 64 * W }
     ensures masks { IfOk result (λ d. AreMasks (table_of lists.now class) d.neighbours.items) }
@@ -63,7 +63,7 @@ pub fn draw<const W: usize>(alloc: Global, lists: &[Rows<First>], class: u8) -> 
 }
 
 // The router of the position after so many.
-fn router_at(lists: &[Rows<First>], class: u8, place: usize) -> Option<First>
+fn router_at(lists: &[FirstList], class: u8, place: usize) -> Option<First>
     requires { place < length lists.now }
     ensures { result ≡ router_at (table_of lists.now class) (place + 1) }
 {

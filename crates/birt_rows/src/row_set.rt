@@ -12,7 +12,7 @@ use crate::entries::{Entry, all_entries};
 use crate::owner::{Found, owner_among, owners};
 use path_tree::{distances_from, reach};
 use std::alloc::Global;
-use wire_base::{First, M, RouterConf, RowSet, Rows, Triple, View, ViewNode};
+use wire_base::{FirstList, M, RouterConf, RowSet, Rows, Triple, View, ViewNode};
 
 /// For each bit position of the triple the routers to which the node `u` may send its bit, in the order of their systems:
 /// the first supporting routers on shortest walks toward the one owner of the position's BFR-id (RFC 8279, 6.9). A row is
@@ -73,7 +73,7 @@ fn all_rows(
     covers: &[bool],
     u: u16,
     t: Triple,
-) -> M<Rows<Rows<First>>>
+) -> M<Rows<FirstList>>
     requires owners { length owners.now ≡ bits_of t.bsl }
     ensures bits { IfOk result (λ bits. length bits ≡ bits_of t.bsl) }
     ensures rows { IfOk result (λ bits. (k : ℕ) → k < bits_of t.bsl → slice_index_or bits k [] ≡ row_of_owner entries.now covers.now u (owner_among (slice_index_or owners.now k Nobody) (id_at t (k + 1)))) }
@@ -101,18 +101,18 @@ fn row_of_owner(
     covers: &[bool],
     u: u16,
     owner: Option<u16>,
-) -> M<Rows<First>>
+) -> M<FirstList>
     ensures { IfOk result (λ row. row ≡ row_of_owner entries.now covers.now u owner) }
 {
     match owner {
         Some(d) => {
             if u == d || !covers_at(covers, d) {
-                Ok(Rows::new(alloc))
+                Ok(FirstList::new(alloc))
             } else {
                 row_toward(alloc, entries, d)
             }
         }
-        None => Ok(Rows::new(alloc)),
+        None => Ok(FirstList::new(alloc)),
     }
 }
 
@@ -125,19 +125,17 @@ fn covers_at(covers: &[bool], node: u16) -> bool
     }
 }
 
-/// The entries over which shortest walks lead to a node, with no more room than they take: a row of one or two stands for each
-/// bit position, and is kept.
-fn row_toward(alloc: Global, entries: &[Entry], d: u16) -> M<Rows<First>>
+/// The entries over which shortest walks lead to a node.
+fn row_toward(alloc: Global, entries: &[Entry], d: u16) -> M<FirstList>
     ensures { IfOk result (λ row. row ≡ map (λ e. e.first) (filter (beyond d) entries.now)) }
 {
-    let count = entries.iter().filter(|e| is_beyond(e, d)).count();
-    let mut row = Vec::with_capacity(alloc, count)?;
+    let mut row = FirstList::new(alloc);
     for entry in entries {
         if is_beyond(entry, d) {
             row.push(entry.first)?;
         }
     }
-    Ok(Rows::from_vec(row))
+    Ok(row)
 }
 
 fn is_beyond(entry: &Entry, d: u16) -> bool

@@ -2,7 +2,7 @@
 ghost use Rattle.std.specs.Prelude.{◌≡◌, IfOk, length};
 
 use std::alloc::Global;
-use wire_base::{First, M, RowSet, Rows, SystemId};
+use wire_base::{First, FirstList, M, RowSet, Rows, SystemId};
 
 const NEIGHBOURS: u16 = 512;
 
@@ -18,12 +18,12 @@ pub fn rows(alloc: Global) -> M<RowSet>
 }
 
 /// Every sixteenth position has no row; the others lead to all neighbours in turn.
-fn row(alloc: Global, place: u16) -> M<Rows<First>> {
+fn row(alloc: Global, place: u16) -> M<FirstList> {
     if place % 16 == 15 {
-        return Ok(Rows::new(alloc));
+        return Ok(FirstList::new(alloc));
     }
     let neighbour = place % NEIGHBOURS;
-    Rows::from_slice(
+    FirstList::from_slice(
         alloc,
         &[First {
             system: SystemId([2, 0, 0, 0, (neighbour / 256) as u8, (neighbour % 256) as u8]),

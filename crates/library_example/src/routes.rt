@@ -5,7 +5,7 @@ use birt_rows::rows;
 use path_tree::distances_to;
 use std::alloc::Global;
 use std::fmt::Write;
-use wire_base::{Bsl, First, M, RouterConf, Rows, Triple, View};
+use wire_base::{Bsl, FirstList, M, RouterConf, Triple, View};
 
 /// A line for each router: how far each router is from it, `-` where no walk leads to it.
 pub fn show_distances(alloc: Global, text: &mut String, seen: &View) -> M<()> {
@@ -47,7 +47,7 @@ pub fn show_rows(alloc: Global, text: &mut String, seen: &View, conf: &RouterCon
 }
 
 /// The bit position is the place in the set, from 1.
-fn show_row(text: &mut String, place: usize, row: &Rows<First>) -> M<()> {
+fn show_row(text: &mut String, place: usize, row: &FirstList) -> M<()> {
     let position = place.saturating_add(1);
     write!(text, "bit {position}:")?;
     for first in row.as_slice() {

@@ -4,7 +4,7 @@ ghost use Rattle.wire_base.specs.model.Graph.{IsEdge, IsGraph, edges_of};
 ghost use Rattle.path_tree.specs.Ways.{AreIncoming, IsTurned, put, turned};
 
 use std::alloc::Global;
-use wire_base::{M, Rows, ViewEdge, ViewNode};
+use wire_base::{EdgeList, M, SubList, ViewEdge, ViewNode};
 
 /// The nodes with each edge turned round, and with no places in subdomains.
 pub(crate) fn turned_round(alloc: Global, nodes: &[ViewNode]) -> M<Vec<ViewNode>>
@@ -17,7 +17,7 @@ pub(crate) fn turned_round(alloc: Global, nodes: &[ViewNode]) -> M<Vec<ViewNode>
 }
 
 /// The nodes with those edges in place of their own, and with no places in subdomains.
-fn with_edges(alloc: Global, nodes: &[ViewNode], ways: Vec<Rows<ViewEdge>>) -> M<Vec<ViewNode>>
+fn with_edges(alloc: Global, nodes: &[ViewNode], ways: Vec<EdgeList>) -> M<Vec<ViewNode>>
     requires rows { length ways.items ≡ length nodes.now }
     ensures edges { IfOk result (λ made. map (λ n. n.edges) made.items ≡ ways.items) }
     ensures overload { IfOk result (λ made. map (λ n. n.overload) made.items ≡ map (λ n. n.overload) nodes.now) }
@@ -29,14 +29,14 @@ fn with_edges(alloc: Global, nodes: &[ViewNode], ways: Vec<Rows<ViewEdge>>) -> M
             system: node.system,
             overload: node.overload,
             edges,
-            subs: Rows::new(alloc),
+            subs: SubList::new(alloc),
         })?;
     }
     Ok(made)
 }
 
 /// For each node the edges that lead into it, turned round.
-fn incoming(alloc: Global, nodes: &[ViewNode]) -> M<Vec<Rows<ViewEdge>>>
+fn incoming(alloc: Global, nodes: &[ViewNode]) -> M<Vec<EdgeList>>
     requires graph { IsGraph nodes.now }
     ensures ways { IfOk result (λ ways. AreIncoming nodes.now ways.items) }
     ensures edges { IfOk result (λ ways. All (λ es. All (λ e. IsEdge (length nodes.now) e) es) ways.items) }
@@ -49,18 +49,18 @@ fn incoming(alloc: Global, nodes: &[ViewNode]) -> M<Vec<Rows<ViewEdge>>>
 }
 
 /// No way from any node.
-fn no_ways(alloc: Global, count: usize) -> M<Vec<Rows<ViewEdge>>>
+fn no_ways(alloc: Global, count: usize) -> M<Vec<EdgeList>>
     ensures { IfOk result (λ ways. ways.items ≡ replicate count []) }
 {
-    let mut ways: Vec<Rows<ViewEdge>> = Vec::with_capacity(alloc, count)?;
+    let mut ways: Vec<EdgeList> = Vec::with_capacity(alloc, count)?;
     for _node in 0..count {
-        ways.push(Rows::new(alloc))?;
+        ways.push(EdgeList::new(alloc))?;
     }
     Ok(ways)
 }
 
 /// Puts the edges from a node to the ways of the nodes that they lead to.
-fn turn_round(ways: &mut Vec<Rows<ViewEdge>>, from: u16, edges: &[ViewEdge]) -> M<()>
+fn turn_round(ways: &mut Vec<EdgeList>, from: u16, edges: &[ViewEdge]) -> M<()>
     requires edges { All (λ e. IsEdge (length ways.old.items) e) edges.now }
     ensures { OnOk result (ways.new.items ≡ fold (put from) ways.old.items edges.now) }
 {
@@ -70,7 +70,7 @@ fn turn_round(ways: &mut Vec<Rows<ViewEdge>>, from: u16, edges: &[ViewEdge]) -> 
     Ok(())
 }
 
-fn put_back(ways: &mut Vec<Rows<ViewEdge>>, from: u16, edge: ViewEdge) -> M<()>
+fn put_back(ways: &mut Vec<EdgeList>, from: u16, edge: ViewEdge) -> M<()>
     requires within { edge.to < length ways.old.items }
     ensures { OnOk result (ways.new.items ≡ put from ways.old.items edge) }
 {

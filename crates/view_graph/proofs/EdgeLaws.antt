@@ -288,5 +288,11 @@ pub put_at : (es : List ViewEdge) (place to m : ℕ) (e : ViewEdge) → place �
 put_at es place to m e p leads at =
     ap (λ k. set es k (record { to = to; metric = min m e.metric })) p ∙ put_there es to m e (ap (λ k. leads_at to (drop k es)) (sym p) ∙ leads) (at ∙ ap (λ k. get_or es k e) p)
 
+-- what is read where there is nothing is read there again
+pub read_again : (es : List ViewEdge) (i : ℕ) (d : ViewEdge) → get_or es i d ≡ get_or es i (get_or es i d)
+read_again [] i d = refl
+read_again (x ∷ xs) zero d = refl
+read_again (x ∷ xs) (suc i) d = read_again xs i d
+
 pub put_new_at : (es : List ViewEdge) (place to m : ℕ) → place ≡ edge_place to es → leads_at to (drop place es) ≡ false → insert es place (record { to = to; metric = m }) ≡ put_edge to m es
 put_new_at es place to m p leads = ap (λ k. insert es k (record { to = to; metric = m })) p ∙ put_new es to m (ap (λ k. leads_at to (drop k es)) (sym p) ∙ leads)

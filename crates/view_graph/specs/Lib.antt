@@ -1,4 +1,3 @@
-pub mod Links
 pub mod Edges
 pub mod Places
 pub mod Keep

@@ -11,13 +11,14 @@ ghost use Rattle.view_graph.specs.Edges.{is_before};
 ghost use Rattle.view_graph.specs.Places.{place_before};
 
 use crate::known::known_subs;
-use crate::links::{Link, Links, append_links};
+use crate::links::{Link, LinkList, append_links};
 use crate::places::append_places;
 use isis_tlv::{Tlv, TlvWalk};
 use std::alloc::Global;
 use std::marker::Model;
 use wire_base::{
-    End, Entry, Kind, LabelRange, M, OwnSub, RouterConf, Rows, SubKind, SystemId, ViewSub, kind_of,
+    End, Entry, Kind, M, OwnSub, RangeList, RouterConf, SubKind, SubList, SystemId, ViewSub,
+    kind_of,
 };
 
 /// A system: whether it is overloaded, its links, and its places in subdomains, in the order of its LSPs.
@@ -25,8 +26,8 @@ use wire_base::{
 pub(crate) struct Claim {
     pub(crate) system: SystemId,
     pub(crate) overload: bool,
-    pub(crate) links: Links,
-    pub(crate) subs: Rows<ViewSub>,
+    pub(crate) links: LinkList,
+    pub(crate) subs: SubList,
 }
 
 impl Model for Claim {
@@ -43,8 +44,8 @@ fn no_claim(alloc: Global, system: SystemId, overload: bool) -> Claim
     Claim {
         system,
         overload,
-        links: Links::new(alloc),
-        subs: Rows::new(alloc),
+        links: LinkList::new(alloc),
+        subs: SubList::new(alloc),
     }
 }
 
@@ -144,11 +145,11 @@ pub(crate) fn with_known(kinds: &[SubKind], claim: Claim) -> M<Claim>
 }
 
 /// The links over the ends that are up.
-fn own_links(alloc: Global, up: &[bool], ends: &[End]) -> M<Links>
+fn own_links(alloc: Global, up: &[bool], ends: &[End]) -> M<LinkList>
     requires { length up.now ≡ length ends.now }
     ensures { IfOk result (λ links. links ≡ map end_link (picked up.now ends.now)) }
 {
-    let mut links = Links::new(alloc);
+    let mut links = LinkList::new(alloc);
     'ends: for place in 0..ends.len() {
         let is_up = up[place];
         let end = &ends[place];
@@ -157,7 +158,7 @@ fn own_links(alloc: Global, up: &[bool], ends: &[End]) -> M<Links>
     Ok(links)
 }
 
-fn append_end(links: &mut Links, is_up: bool, end: &End) -> M<()>
+fn append_end(links: &mut LinkList, is_up: bool, end: &End) -> M<()>
     ensures { OnOk result (links.new ≡ links.old ++ (if is_up then end_link end.now ∷ [] else [])) }
 {
     if is_up {
@@ -171,13 +172,13 @@ fn append_end(links: &mut Links, is_up: bool, end: &End) -> M<()>
 }
 
 /// The label ranges of a subdomain that gives its BIFT-ids by labels; none of another.
-fn own_ranges(kinds: &[SubKind], sub: &OwnSub) -> M<Rows<LabelRange>>
+fn own_ranges(kinds: &[SubKind], sub: &OwnSub) -> M<RangeList>
     ensures { IfOk result (λ ranges. ranges ≡ (info_of kinds.now sub.now).ranges) }
 {
     if kind_of(kinds, sub.sd) == Some(Kind::Mpls) {
-        sub.ranges.copy()
+        RangeList::from_slice(sub.ranges.allocator(), sub.ranges.as_slice())
     } else {
-        Ok(Rows::new(sub.ranges.allocator()))
+        Ok(RangeList::new(sub.ranges.allocator()))
     }
 }
 
@@ -194,10 +195,10 @@ fn own_sub(conf: &RouterConf, sub: &OwnSub) -> M<ViewSub>
 }
 
 /// The router's own places in subdomains.
-fn own_subs(alloc: Global, conf: &RouterConf) -> M<Rows<ViewSub>>
+fn own_subs(alloc: Global, conf: &RouterConf) -> M<SubList>
     ensures { IfOk result (λ subs. subs ≡ map (λ s. sub_of conf.now.prefix.0 (info_of conf.now.kinds s)) conf.now.subs) }
 {
-    let mut subs = Rows::new(alloc);
+    let mut subs = SubList::new(alloc);
     'subs: for sub in conf.subs.as_slice() {
         subs.push(own_sub(conf, sub)?)?;
     }

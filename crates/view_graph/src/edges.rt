@@ -10,7 +10,7 @@ use crate::claims::Claim;
 use crate::links::Link;
 use lsp_store::{is_system_above, system_key};
 use std::alloc::Global;
-use wire_base::{M, Rows, SystemId, ViewEdge};
+use wire_base::{EdgeList, M, SystemId, ViewEdge};
 
 pub(crate) fn is_above(a: &SystemId, b: &SystemId) -> bool
     ensures { result ≡ is_gt (system_order a.now b.now) }
@@ -82,16 +82,15 @@ fn leads_at(edges: &[ViewEdge], place: usize, to: u16) -> bool
 }
 
 /// Adds an edge at its place; of two to one system the lesser metric stays.
-pub(crate) fn put_edge(edges: &mut Vec<ViewEdge>, to: u16, metric: u32) -> M<()>
-    ensures { OnOk result (edges.new.items ≡ put_edge to metric edges.old.items) }
+pub(crate) fn put_edge(edges: &mut EdgeList, to: u16, metric: u32) -> M<()>
+    ensures { OnOk result (edges.new ≡ put_edge to metric edges.old) }
 {
-    let place = edge_place(edges, to);
-    if leads_at(edges, place, to) {
-        let first = edges[place].metric;
-        edges[place] = ViewEdge {
-            to,
-            metric: metric.min(first),
-        };
+    let present = edges.as_slice();
+    let place = edge_place(present, to);
+    if leads_at(present, place, to) {
+        let edge = &present[place];
+        let least = metric.min(edge.metric);
+        edges.put(place, ViewEdge { to, metric: least });
         return Ok(());
     }
     edges.insert(place, ViewEdge { to, metric })?;
@@ -99,11 +98,11 @@ pub(crate) fn put_edge(edges: &mut Vec<ViewEdge>, to: u16, metric: u32) -> M<()>
 }
 
 /// Adds the edge of one link more, where the system that it leads to is known.
-fn count(claims: &[Claim], keys: &[u64], edges: &mut Vec<ViewEdge>, link: &Link) -> M<()>
+fn count(claims: &[Claim], keys: &[u64], edges: &mut EdgeList, link: &Link) -> M<()>
     requires order { AreInOrder claims.now }
     requires keys { AreKeys keys.now claims.now }
     requires few { length claims.now ≤ 65536 }
-    ensures { OnOk result ((links : List LinkItem) → edges.old.items ≡ half_edges 0 (metrics_to links claims.now) → edges.new.items ≡ half_edges 0 (metrics_to (links ++ link.now ∷ []) claims.now)) }
+    ensures { OnOk result ((links : List LinkItem) → edges.old ≡ half_edges 0 (metrics_to links claims.now) → edges.new ≡ half_edges 0 (metrics_to (links ++ link.now ∷ []) claims.now)) }
 {
     let place = place_in(claims, keys, &link.neighbour);
     if !stands_at(claims, place, &link.neighbour) {
@@ -114,21 +113,21 @@ fn count(claims: &[Claim], keys: &[u64], edges: &mut Vec<ViewEdge>, link: &Link)
 }
 
 /// The edges that a system lists itself, in the order of the systems that they lead to.
-fn half_edges(alloc: Global, claims: &[Claim], keys: &[u64], links: &[Link]) -> M<Rows<ViewEdge>>
+fn half_edges(alloc: Global, claims: &[Claim], keys: &[u64], links: &[Link]) -> M<EdgeList>
     requires order { AreInOrder claims.now }
     requires keys { AreKeys keys.now claims.now }
     requires few { length claims.now ≤ 65536 }
     ensures { IfOk result (λ edges. edges ≡ half_edges 0 (metrics_to links.now claims.now)) }
 {
-    let mut edges: Vec<ViewEdge> = Vec::with_capacity(alloc, links.len())?;
+    let mut edges = EdgeList::new(alloc);
     'links: for link in links {
         count(claims, keys, &mut edges, link)?;
     }
-    Ok(fitted(edges))
+    Ok(edges)
 }
 
 /// For each system the edges that it lists itself, in the order of the systems that they lead to.
-pub(crate) fn all_half_edges(alloc: Global, claims: &[Claim]) -> M<Vec<Rows<ViewEdge>>>
+pub(crate) fn all_half_edges(alloc: Global, claims: &[Claim]) -> M<Vec<EdgeList>>
     requires order { AreInOrder claims.now }
     requires few { length claims.now ≤ 65536 }
     ensures { IfOk result (λ halves. halves.items ≡ map (half_edges_of claims.now) claims.now) }
@@ -138,7 +137,7 @@ pub(crate) fn all_half_edges(alloc: Global, claims: &[Claim]) -> M<Vec<Rows<View
 }
 
 /// The same by the numbers of the systems.
-fn half_edges_by(alloc: Global, claims: &[Claim], keys: &[u64]) -> M<Vec<Rows<ViewEdge>>>
+fn half_edges_by(alloc: Global, claims: &[Claim], keys: &[u64]) -> M<Vec<EdgeList>>
     requires order { AreInOrder claims.now }
     requires keys { AreKeys keys.now claims.now }
     requires few { length claims.now ≤ 65536 }
@@ -158,7 +157,7 @@ pub(crate) fn leads_to(place: u16, edges: &[ViewEdge]) -> bool
 }
 
 /// Whether the systems at the other ends of the edges that a system lists list them too.
-fn lead_back(halves: &[Rows<ViewEdge>], place: u16) -> bool
+fn lead_back(halves: &[EdgeList], place: u16) -> bool
     ensures { result ≡ list_all (λ e. leads_to place (slice_index_or halves.now e.to [])) (slice_index_or halves.now place []) }
 {
     halves_at(halves, place)
@@ -167,7 +166,7 @@ fn lead_back(halves: &[Rows<ViewEdge>], place: u16) -> bool
 }
 
 /// Whether that is so of all systems.
-fn all_lead_back(halves: &[Rows<ViewEdge>]) -> bool
+fn all_lead_back(halves: &[EdgeList]) -> bool
     requires few { length halves.now ≤ 65536 }
     ensures { result ≡ true → AreWhole halves.now halves.now }
 {
@@ -181,7 +180,7 @@ fn all_lead_back(halves: &[Rows<ViewEdge>]) -> bool
 
 /// For each system the edges that the systems at their other ends list too. Once a database is settled these are all that it
 /// lists, and its list is taken as it is.
-pub(crate) fn all_whole_edges(alloc: Global, halves: Vec<Rows<ViewEdge>>) -> M<Vec<Rows<ViewEdge>>>
+pub(crate) fn all_whole_edges(alloc: Global, halves: Vec<EdgeList>) -> M<Vec<EdgeList>>
     requires few { length halves.items ≤ 65536 }
     ensures { IfOk result (λ edges. AreWhole halves.items edges.items) }
 {
@@ -192,7 +191,7 @@ pub(crate) fn all_whole_edges(alloc: Global, halves: Vec<Rows<ViewEdge>>) -> M<V
 }
 
 /// The same in lists of their own.
-fn whole_copies(alloc: Global, halves: &[Rows<ViewEdge>]) -> M<Vec<Rows<ViewEdge>>>
+fn whole_copies(alloc: Global, halves: &[EdgeList]) -> M<Vec<EdgeList>>
     requires few { length halves.now ≤ 65536 }
     ensures { IfOk result (λ edges. AreWhole halves.now edges.items) }
 {
@@ -204,28 +203,20 @@ fn whole_copies(alloc: Global, halves: &[Rows<ViewEdge>]) -> M<Vec<Rows<ViewEdge
 }
 
 /// The edges of a system that the systems at their other ends list too.
-fn whole_edges(alloc: Global, halves: &[Rows<ViewEdge>], place: u16) -> M<Rows<ViewEdge>>
+fn whole_edges(alloc: Global, halves: &[EdgeList], place: u16) -> M<EdgeList>
     ensures { IfOk result (λ edges. edges ≡ whole_edges halves.now place) }
 {
     let own = halves_at(halves, place);
-    let mut edges = Vec::with_capacity(alloc, own.len())?;
+    let mut edges = EdgeList::new(alloc);
     'edges: for edge in own {
         if leads_to(place, halves_at(halves, edge.to)) {
             edges.push(*edge)?;
         }
     }
-    Ok(fitted(edges))
+    Ok(edges)
 }
 
-/// The edges with no more room than they take.
-pub(crate) fn fitted(mut edges: Vec<ViewEdge>) -> Rows<ViewEdge>
-    ensures { result ≡ edges.items }
-{
-    edges.shrink_to_fit();
-    Rows::from_vec(edges)
-}
-
-fn halves_at(halves: &[Rows<ViewEdge>], place: u16) -> &[ViewEdge]
+fn halves_at(halves: &[EdgeList], place: u16) -> &[ViewEdge]
     ensures { result.now ≡ slice_index_or halves.now place [] }
 {
     match halves.get(place as usize) {

@@ -13,7 +13,7 @@ use crate::owners::is_several;
 use bier_subtlv::overlaps;
 use std::alloc::Global;
 use std::collections::BTreeMap;
-use wire_base::{Ipv4, LabelRange, M, Rows, SubKind, SystemId, ViewSub, kind_of};
+use wire_base::{Ipv4, LabelRange, M, SubKind, SubList, SystemId, ViewSub, kind_of};
 
 /// Whether two label ranges of a system share a label.
 fn any_overlap(alloc: Global, subs: &[ViewSub]) -> M<bool>
@@ -55,22 +55,21 @@ fn copy_of(sub: &ViewSub) -> M<ViewSub>
     })
 }
 
-fn push_copy(copied: &mut Vec<ViewSub>, sub: &ViewSub) -> M<()>
-    ensures { OnOk result (copied.new.items ≡ copied.old.items ++ sub.now ∷ []) }
+fn push_copy(copied: &mut SubList, sub: &ViewSub) -> M<()>
+    ensures { OnOk result (copied.new ≡ copied.old ++ sub.now ∷ []) }
 {
-    copied.push(copy_of(sub)?)?;
-    Ok(())
+    copied.push(copy_of(sub)?)
 }
 
 /// Equal ones.
-pub(crate) fn copy_subs(alloc: Global, subs: &[ViewSub]) -> M<Rows<ViewSub>>
+pub(crate) fn copy_subs(alloc: Global, subs: &[ViewSub]) -> M<SubList>
     ensures { IfOk result (λ copied. copied ≡ subs.now) }
 {
-    let mut copied = Vec::with_capacity(alloc, subs.len())?;
+    let mut copied = SubList::new(alloc);
     'subs: for sub in subs {
         push_copy(&mut copied, sub)?;
     }
-    Ok(Rows::from_vec(copied))
+    Ok(copied)
 }
 
 /// Whether the place is in a subdomain that the router knows, and the first there.
@@ -80,7 +79,7 @@ fn is_first_known(kinds: &[SubKind], kept: &[ViewSub], sub: &ViewSub) -> bool
     kind_of(kinds, sub.sd).is_some() && !has_sd(kept, sub.sd)
 }
 
-fn keep_first(kept: &mut Rows<ViewSub>, kinds: &[SubKind], sub: &ViewSub) -> M<()>
+fn keep_first(kept: &mut SubList, kinds: &[SubKind], sub: &ViewSub) -> M<()>
     ensures { OnOk result (kept.new ≡ (if is_some (kind_of kinds.now sub.now.sd) && not (has_sd sub.now.sd kept.old) then kept.old ++ sub.now ∷ [] else kept.old)) }
 {
     if is_first_known(kinds, kept.as_slice(), sub) {
@@ -103,10 +102,10 @@ fn are_first_known(kinds: &[SubKind], subs: &[ViewSub]) -> bool
 }
 
 /// The first place in each subdomain that the router knows.
-fn first_known(alloc: Global, kinds: &[SubKind], subs: &[ViewSub]) -> M<Rows<ViewSub>>
+fn first_known(alloc: Global, kinds: &[SubKind], subs: &[ViewSub]) -> M<SubList>
     ensures { IfOk result (λ kept. kept ≡ first_each (filter (λ s. is_some (kind_of kinds.now s.sd)) subs.now)) }
 {
-    let mut kept = Rows::new(alloc);
+    let mut kept = SubList::new(alloc);
     'subs: for sub in subs {
         keep_first(&mut kept, kinds, sub)?;
     }
@@ -116,12 +115,12 @@ fn first_known(alloc: Global, kinds: &[SubKind], subs: &[ViewSub]) -> M<Rows<Vie
 /// The places that count by what the router knows of subdomains: none where two label ranges of the system share a
 /// label, else the first in each subdomain that is known.
 #[tactic(auto, using(crate::proofs::ListLaws::known_overlap, crate::proofs::ListLaws::known_apart))]
-pub(crate) fn known_subs(kinds: &[SubKind], subs: Rows<ViewSub>) -> M<Rows<ViewSub>>
+pub(crate) fn known_subs(kinds: &[SubKind], subs: SubList) -> M<SubList>
     ensures { IfOk result (λ kept. kept ≡ known_subs kinds.now subs) }
 {
     let alloc = subs.allocator();
     if any_overlap(alloc, subs.as_slice())? {
-        return Ok(Rows::new(alloc));
+        return Ok(SubList::new(alloc));
     }
     if are_first_known(kinds, subs.as_slice()) {
         return Ok(subs);
@@ -134,8 +133,8 @@ pub(crate) fn known_subs(kinds: &[SubKind], subs: Rows<ViewSub>) -> M<Rows<ViewS
 pub(crate) fn alone_subs(
     owners: &BTreeMap<Ipv4, Option<SystemId>>,
     is_any: bool,
-    subs: Rows<ViewSub>,
-) -> M<Rows<ViewSub>>
+    subs: SubList,
+) -> M<SubList>
     requires { is_any ≡ false → AreAlone owners.now }
     ensures { IfOk result (λ kept. kept ≡ filter (λ s. not (is_several (owner_at owners.now s.prefix))) subs) }
 {
@@ -164,15 +163,14 @@ fn alone_copies(
     alloc: Global,
     owners: &BTreeMap<Ipv4, Option<SystemId>>,
     subs: &[ViewSub],
-) -> M<Rows<ViewSub>>
+) -> M<SubList>
     ensures { IfOk result (λ kept. kept ≡ filter (λ s. not (is_several (owner_at owners.now s.prefix))) subs.now) }
 {
-    let mut kept = Vec::with_capacity(alloc, subs.len())?;
+    let mut kept = SubList::new(alloc);
     'subs: for sub in subs {
         if !is_several(owners, &sub.prefix) {
             push_copy(&mut kept, sub)?;
         }
     }
-    kept.shrink_to_fit();
-    Ok(Rows::from_vec(kept))
+    Ok(kept)
 }

@@ -15,11 +15,11 @@ use lsp_store::Store;
 use std::alloc::Global;
 use std::collections::BTreeMap;
 use std::mem;
-use wire_base::{Entry, Ipv4, M, RouterConf, Rows, SystemId, Triple, View, ViewEdge, ViewNode};
+use wire_base::{EdgeList, Entry, Ipv4, M, RouterConf, Rows, SystemId, Triple, View, ViewNode};
 
 /// The node of a system, by its edges and its claim.
 fn node_of(
-    edges: Rows<ViewEdge>,
+    edges: EdgeList,
     owners: &BTreeMap<Ipv4, Option<SystemId>>,
     is_any: bool,
     claim: Claim,
@@ -44,7 +44,7 @@ fn node_of(
 /// The nodes, by the edges of each system, by the systems that have the prefixes and by whether several have one.
 fn all_nodes(
     alloc: Global,
-    mut edges: Vec<Rows<ViewEdge>>,
+    mut edges: Vec<EdgeList>,
     owners: &BTreeMap<Ipv4, Option<SystemId>>,
     is_any: bool,
     claims: Vec<Claim>,
@@ -56,7 +56,7 @@ fn all_nodes(
 {
     let mut nodes = Vec::with_capacity(alloc, claims.len())?;
     'systems: for claim in claims {
-        let own = mem::replace(&mut edges[nodes.len()], Rows::new(alloc));
+        let own = mem::replace(&mut edges[nodes.len()], EdgeList::new(alloc));
         nodes.push(node_of(own, owners, is_any, claim)?)?;
     }
     Ok(Rows::from_vec(nodes))

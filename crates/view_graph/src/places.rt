@@ -9,7 +9,7 @@ ghost use Rattle.bier_subtlv.specs.Views.{info_of};
 use bier_subtlv::{Info, read_info};
 use isis_tlv::{PrefixEntry, PrefixWalk, Tlv, TlvWalk};
 use std::alloc::Global;
-use wire_base::{Ipv4, M, Rows, ViewSub};
+use wire_base::{Ipv4, M, RangeList, SubList, ViewSub};
 
 fn sub_of(alloc: Global, prefix: [u8; 4], info: &Info) -> M<ViewSub>
     ensures { IfOk result (λ s. s ≡ sub_of prefix (info_of info.now)) }
@@ -18,25 +18,12 @@ fn sub_of(alloc: Global, prefix: [u8; 4], info: &Info) -> M<ViewSub>
         sd: info.sd,
         id: info.id,
         prefix: Ipv4(prefix),
-        ranges: Rows::from_slice(alloc, info.ranges.as_slice())?,
+        ranges: RangeList::from_slice(alloc, info.ranges.as_slice())?,
     })
 }
 
-/// Appends a place. The first takes room for itself alone, since most systems tell one.
-fn push_sub(subs: &mut Rows<ViewSub>, sub: ViewSub) -> M<()>
-    ensures { OnOk result (subs.new ≡ subs.old ++ sub ∷ []) }
-{
-    if subs.len() > 0 {
-        return subs.push(sub);
-    }
-    let mut first = Vec::with_capacity(subs.allocator(), 1)?;
-    first.push(sub)?;
-    *subs = Rows::from_vec(first);
-    Ok(())
-}
-
 /// Appends the place that a sub-TLV 32 tells, where its reader takes it.
-fn append_sub(subs: &mut Rows<ViewSub>, prefix: [u8; 4], tlv: Tlv<'_>) -> M<()>
+fn append_sub(subs: &mut SubList, prefix: [u8; 4], tlv: Tlv<'_>) -> M<()>
     ensures { OnOk result (subs.new ≡ subs.old ++ option_to_list (sub_at prefix (item tlv.entry))) }
 {
     if tlv.code != 32 {
@@ -45,14 +32,14 @@ fn append_sub(subs: &mut Rows<ViewSub>, prefix: [u8; 4], tlv: Tlv<'_>) -> M<()>
     match read_info(tlv.value) {
         Ok(info) => {
             let sub = sub_of(subs.allocator(), prefix, &info)?;
-            push_sub(subs, sub)
+            subs.push(sub)
         }
         Err(_) => Ok(()),
     }
 }
 
 /// Appends the places that the sub-TLVs of a prefix tell; an overrun ends them.
-fn append_infos(subs: &mut Rows<ViewSub>, prefix: [u8; 4], octets: &[u8]) -> M<()>
+fn append_infos(subs: &mut SubList, prefix: [u8; 4], octets: &[u8]) -> M<()>
     ensures { OnOk result (subs.new ≡ subs.old ++ filter_map (sub_at prefix) (tlvs_before octets.now)) }
 {
     for part in TlvWalk::new(octets) {
@@ -64,7 +51,7 @@ fn append_infos(subs: &mut Rows<ViewSub>, prefix: [u8; 4], octets: &[u8]) -> M<(
 }
 
 /// Appends the places that an entry of TLV 135 tells: one of a prefix of 32 bits.
-fn append_prefix(subs: &mut Rows<ViewSub>, entry: &PrefixEntry<'_>) -> M<()>
+fn append_prefix(subs: &mut SubList, entry: &PrefixEntry<'_>) -> M<()>
     requires { entry.now.length ≡ prefix_bits entry.now.control }
     ensures { OnOk result (subs.new ≡ subs.old ++ subs_of (prefix_of entry.now)) }
 {
@@ -76,7 +63,7 @@ fn append_prefix(subs: &mut Rows<ViewSub>, entry: &PrefixEntry<'_>) -> M<()>
 }
 
 /// Appends the places of a TLV 135; an entry that can't be read ends them.
-pub(crate) fn append_places(subs: &mut Rows<ViewSub>, value: &[u8]) -> M<()>
+pub(crate) fn append_places(subs: &mut SubList, value: &[u8]) -> M<()>
     ensures { OnOk result (subs.new ≡ subs.old ++ flat_map subs_of (entries_of prefix_at value.now)) }
 {
     for entry in PrefixWalk::new(value) {

@@ -7,13 +7,12 @@ ghost use Rattle.view_graph.specs.Edges.{AreInOrder};
 ghost use Rattle.view_graph.specs.Renewal.{IsMade, edges_now, is_listed_by, lists_at, said_now, seats};
 
 use crate::claims::Claim;
-use crate::edges::fitted;
 use crate::known::copy_subs;
 use crate::links::Link;
 use crate::patch::NewNode;
 use crate::renewal::said_now;
 use crate::seats::half_edges;
-use wire_base::{Entry, M, RouterConf, Rows, SystemId, ViewEdge, ViewNode};
+use wire_base::{EdgeList, Entry, M, RouterConf, SystemId, ViewEdge, ViewNode};
 
 fn leads(links: &[Link], system: &SystemId) -> bool
     ensures { result ≡ list_any (λ l. same_system l.neighbour system.now) links.now }
@@ -66,7 +65,7 @@ fn edges_now(
     entries: &[Entry],
     system: &SystemId,
     links: &[Link],
-) -> M<Rows<ViewEdge>>
+) -> M<EdgeList>
     requires order { AreInOrder (seats nodes.now) }
     requires few { length nodes.now ≤ 65536 }
     requires one_each { length up.now ≡ length conf.now.ends }
@@ -85,18 +84,18 @@ fn both_ways(
     entries: &[Entry],
     system: &SystemId,
     halves: &[ViewEdge],
-) -> M<Rows<ViewEdge>>
+) -> M<EdgeList>
     requires one_each { length up.now ≡ length conf.now.ends }
     requires ascending { AreAscending (ids_of entries.now) }
     ensures { IfOk result (λ edges. edges ≡ filter (λ e. lists_at (said_now conf.now up.now entries.now) nodes.now e.to system.now) halves.now) }
 {
-    let mut edges = Vec::with_capacity(conf.kinds.allocator(), halves.len())?;
+    let mut edges = EdgeList::new(conf.kinds.allocator());
     'edges: for edge in halves {
         if lists_at(nodes, conf, up, entries, edge.to as usize, system)? {
             edges.push(*edge)?;
         }
     }
-    Ok(fitted(edges))
+    Ok(edges)
 }
 
 /// A node made anew by what its system says, with the places in subdomains as before.

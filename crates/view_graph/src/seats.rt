@@ -7,7 +7,7 @@ ghost use Rattle.view_graph.specs.Renewal.{halves_now, seats};
 use crate::edges::{is_above, put_edge};
 use crate::links::Link;
 use std::alloc::Global;
-use wire_base::{M, SystemId, ViewEdge, ViewNode};
+use wire_base::{EdgeList, M, SystemId, ViewNode};
 
 /// How many nodes are of systems below this one, by halving.
 pub(crate) fn seat_of(nodes: &[ViewNode], system: &SystemId) -> usize
@@ -41,10 +41,10 @@ pub(crate) fn sits_at(nodes: &[ViewNode], place: usize, system: &SystemId) -> bo
 }
 
 /// Adds the edge of one link more, where the system that it leads to has a node.
-fn count(nodes: &[ViewNode], edges: &mut Vec<ViewEdge>, link: &Link) -> M<()>
+fn count(nodes: &[ViewNode], edges: &mut EdgeList, link: &Link) -> M<()>
     requires order { AreInOrder (seats nodes.now) }
     requires few { length nodes.now ≤ 65536 }
-    ensures { OnOk result ((links : List LinkItem) → edges.old.items ≡ half_edges 0 (metrics_to links (seats nodes.now)) → edges.new.items ≡ half_edges 0 (metrics_to (links ++ link.now ∷ []) (seats nodes.now))) }
+    ensures { OnOk result ((links : List LinkItem) → edges.old ≡ half_edges 0 (metrics_to links (seats nodes.now)) → edges.new ≡ half_edges 0 (metrics_to (links ++ link.now ∷ []) (seats nodes.now))) }
 {
     let place = seat_of(nodes, &link.neighbour);
     if !sits_at(nodes, place, &link.neighbour) {
@@ -55,12 +55,12 @@ fn count(nodes: &[ViewNode], edges: &mut Vec<ViewEdge>, link: &Link) -> M<()>
 }
 
 /// The edges that a system lists itself, in the order of the systems that they lead to.
-pub(crate) fn half_edges(alloc: Global, nodes: &[ViewNode], links: &[Link]) -> M<Vec<ViewEdge>>
+pub(crate) fn half_edges(alloc: Global, nodes: &[ViewNode], links: &[Link]) -> M<EdgeList>
     requires order { AreInOrder (seats nodes.now) }
     requires few { length nodes.now ≤ 65536 }
-    ensures { IfOk result (λ edges. edges.items ≡ halves_now nodes.now links.now) }
+    ensures { IfOk result (λ edges. edges ≡ halves_now nodes.now links.now) }
 {
-    let mut edges: Vec<ViewEdge> = Vec::with_capacity(alloc, links.len())?;
+    let mut edges = EdgeList::new(alloc);
     'links: for link in links {
         count(nodes, &mut edges, link)?;
     }

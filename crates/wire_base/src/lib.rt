@@ -14,6 +14,7 @@ mod effects;
 mod entry;
 pub mod ethernet;
 mod faults;
+mod few;
 pub mod fields;
 mod flood_out;
 pub mod limits;
@@ -41,6 +42,7 @@ pub use faults::{
     CaptureFault, EdgeFault, FrameFault, HeadFault, InfoFault, IpFault, PduFault, PutFault,
     StackFault, TlvFault,
 };
+pub use few::Few;
 pub use flood_out::{FloodOut, SnpOut};
 pub use lists::{Name, Octets, Rows};
 pub use memory::{M, Memory};
@@ -49,4 +51,6 @@ pub use router_conf::kind_of;
 pub use status::Status;
 pub use steps::Steps;
 pub use triple::{Summary, Triple};
-pub use view::{First, RowSet, View, ViewEdge, ViewNode, ViewSub};
+pub use view::{
+    EdgeList, First, FirstList, RangeList, RowSet, SubList, View, ViewEdge, ViewNode, ViewSub,
+};

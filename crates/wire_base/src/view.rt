@@ -6,17 +6,26 @@ ghost use Rattle.wire_base.specs.model.Graph.{IsGraph, covers, place_in};
 
 use crate::addresses::{Ipv4, SystemId};
 use crate::conf::{Kind, LabelRange, SubKind, TableRow};
+use crate::few::Few;
 use crate::lists::Rows;
 use crate::router_conf::kind_of;
 use crate::triple::Triple;
+use std::alloc::Global;
+use std::default::MadeWith;
 use std::marker::Model;
 
 /// An edge of a view: the place of the node that it leads to, and its metric (RFC 5305, 3).
-#[derive(Clone, Copy, Debug, PartialEq, Eq)]
+#[derive(Clone, Copy, Debug, Default, PartialEq, Eq)]
 pub struct ViewEdge {
     pub to: u16,
     pub metric: u32,
 }
+
+/// The edges of a node; most routers have two or three.
+pub type EdgeList = Few<ViewEdge, 4>;
+
+/// The label ranges of a place in a subdomain; most routers have bit strings of one length.
+pub type RangeList = Few<LabelRange, 1>;
 
 /// What a router says of its place in a subdomain: its BFR-id, 0 for none, its BFR-prefix and its label ranges
 /// (RFC 8401, 6.1 and 6.2).
@@ -25,16 +34,30 @@ pub struct ViewSub {
     pub sd: u8,
     pub id: u16,
     pub prefix: Ipv4,
-    pub ranges: Rows<LabelRange>,
+    pub ranges: RangeList,
 }
+
+impl MadeWith<Global> for ViewSub {
+    fn made_with(alloc: Global) -> ViewSub {
+        ViewSub {
+            sd: 0,
+            id: 0,
+            prefix: Ipv4::default(),
+            ranges: Few::new(alloc),
+        }
+    }
+}
+
+/// The places of a router in subdomains; most domains have one subdomain.
+pub type SubList = Few<ViewSub, 1>;
 
 /// A router of a view.
 #[derive(Drop)]
 pub struct ViewNode {
     pub system: SystemId,
     pub overload: bool,
-    pub edges: Rows<ViewEdge>,
-    pub subs: Rows<ViewSub>,
+    pub edges: EdgeList,
+    pub subs: SubList,
 }
 
 /// The routers that a router knows of, in the order of their systems. Its type keeps that no system comes twice, that the
@@ -68,16 +91,19 @@ impl View {
 
 /// A router to which a bit may be sent: its system, and the place of the end where it is reached directly, or None where
 /// a tunnel leads to it.
-#[derive(Clone, Copy, Debug, PartialEq, Eq)]
+#[derive(Clone, Copy, Debug, Default, PartialEq, Eq)]
 pub struct First {
     pub system: SystemId,
     pub direct: Option<u16>,
 }
 
+/// The routers to which a bit may be sent; mostly one, or two of equal cost.
+pub type FirstList = Few<First, 2>;
+
 /// For each bit position the routers to which its bit may be sent: `bits[i]` belongs to position i + 1.
 #[derive(Drop)]
 pub struct RowSet {
-    pub bits: Rows<Rows<First>>,
+    pub bits: Rows<FirstList>,
 }
 
 impl ViewNode {

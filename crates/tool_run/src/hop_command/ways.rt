@@ -9,7 +9,7 @@ ghost use Rattle.tool_run.specs.Ways as spec;
 use bift_table::Table;
 use replay_text::HopRow;
 use std::alloc::Global;
-use wire_base::{Bsl, First, M, Name, RowSet, Rows, SystemId};
+use wire_base::{Bsl, First, FirstList, M, Name, RowSet, Rows, SystemId};
 
 /// A forwarding table of one of the seven lengths.
 #[derive(Drop)]
@@ -98,17 +98,17 @@ fn neighbour(n: u16) -> First
 }
 
 /// Where a position leads.
-fn list_at(alloc: Global, names: &mut Rows<Name>, rows: &[HopRow], p: u16) -> M<Rows<First>>
+fn list_at(alloc: Global, names: &mut Rows<Name>, rows: &[HopRow], p: u16) -> M<FirstList>
     requires { length names.old ≤ 65535 }
     ensures listed { IfOk result (λ list. spec.IsListed rows.now names.new p list) }
     ensures names { IfOk result (λ _. (more : List (List ℕ)) × (names.new ≡ names.old ++ more)) }
     ensures few { IfOk result (λ _. length names.new ≤ length names.old + 1) }
 {
     match name_of(rows, p) {
-        None => Ok(Rows::new(alloc)),
+        None => Ok(FirstList::new(alloc)),
         Some(name) => {
             let n = number_for(alloc, names, name)?;
-            Ok(Rows::from_slice(alloc, &[neighbour(n)])?)
+            Ok(FirstList::from_slice(alloc, &[neighbour(n)])?)
         }
     }
 }

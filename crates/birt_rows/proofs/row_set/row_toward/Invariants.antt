@@ -3,4 +3,4 @@ use Rattle.birt_rows.specs.Rows.{beyond}
 use Rattle.birt_rows.proofs.row_set.row_toward.Given as goal
 
 abbrev pub invariant-loop-entry : goal.invariant-loop-entry
-invariant-loop-entry l = l.row.items ≡ map (λ e. e.first) (filter (beyond l.d) (take l.entry-index l.entries))
+invariant-loop-entry l = l.row ≡ map (λ e. e.first) (filter (beyond l.d) (take l.entry-index l.entries))

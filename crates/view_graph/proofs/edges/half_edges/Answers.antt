@@ -7,10 +7,10 @@ use Rattle.view_graph.proofs.ListLaws.{take_one}
 use Rattle.view_graph.proofs.edges.half_edges.Goals as goal
 
 pub links-init : goal.links-init
-links-init c = c.in_ok-edges.ensures.items ∙ none_listed 0 c.args.claims.now
+links-init c = c.new-edges.ensures ∙ none_listed 0 c.args.claims.now
 
 pub links-preserved : goal.links-preserved
 links-preserved c = c.in_ok-count.ensures (take c.links.link-index c.args.links.now) c.links.invariant ∙ ap (λ (ls : List Link). half_edges 0 (metrics_to ls c.args.claims.now)) (take_one c.args.links.now c.links.link-index c.link-item.result c.links-test.true c.link-item.is)
 
 pub returns : goal.returns
-returns c = c.fitted.ensures ∙ c.links.invariant ∙ ap (λ (ls : List Link). half_edges 0 (metrics_to ls c.args.claims.now)) (take_all c.links.link-index c.args.links.now (omega (arith, c.links-test.false)))
+returns c = c.links.invariant ∙ ap (λ (ls : List Link). half_edges 0 (metrics_to ls c.args.claims.now)) (take_all c.links.link-index c.args.links.now (omega (arith, c.links-test.false)))

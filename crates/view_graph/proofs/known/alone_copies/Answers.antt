@@ -1,4 +1,4 @@
-use Rattle.std.proofs.Common.{List, Vec, Global, Bool, not, filter, sym, ap, arith, ◌∙◌}
+use Rattle.std.proofs.Common.{Bool, not, filter, sym, ap, arith, ◌∙◌}
 use Rattle.std.proofs.lemmas.List.{take_all}
 use Rattle.wire_base.specs.declared.view.ViewSub.{ViewSub}
 use Rattle.view_graph.specs.Owners.{owner_at, is_several}
@@ -10,13 +10,10 @@ pub subs-preserved : goal.subs-preserved
 subs-preserved c =
     let p : ViewSub → Bool = λ s. not (is_several (owner_at c.args.owners.now s.prefix)) in
     elim c.if-not-is_several.branch [
-      | then-not-is_several+in_ok-push_copy w ↦ passes_one p c.args.subs.now c.subs.sub-index c.sub-item.result c.subs.kept.items c.if-not-is_several.kept.items c.subs-test.true c.sub-item.is c.subs.invariant (ap items_of w.kept-is ∙ w.in_ok-push_copy.ensures) (ap not (sym c.is_several.ensures ∙ w.if-not-is_several.true))
-      | else-not-is_several w ↦ ap items_of w.kept-is ∙ fails_one p c.args.subs.now c.subs.sub-index c.sub-item.result c.subs.kept.items c.subs-test.true c.sub-item.is c.subs.invariant (ap not (sym c.is_several.ensures ∙ w.if-not-is_several.false))
+      | then-not-is_several+in_ok-push_copy w ↦ passes_one p c.args.subs.now c.subs.sub-index c.sub-item.result c.subs.kept c.if-not-is_several.kept c.subs-test.true c.sub-item.is c.subs.invariant (w.kept-is ∙ w.in_ok-push_copy.ensures) (ap not (sym c.is_several.ensures ∙ w.if-not-is_several.true))
+      | else-not-is_several w ↦ w.kept-is ∙ fails_one p c.args.subs.now c.subs.sub-index c.sub-item.result c.subs.kept c.subs-test.true c.sub-item.is c.subs.invariant (ap not (sym c.is_several.ensures ∙ w.if-not-is_several.false))
     ]
-  where
-    items_of : Vec ViewSub Global → List ViewSub
-    items_of v = v.items
 
 pub returns : goal.returns
 returns c =
-    c.from_vec.ensures ∙ c.shrink_to_fit.ensures.items ∙ c.subs.invariant ∙ ap (filter (λ (s : ViewSub). not (is_several (owner_at c.args.owners.now s.prefix)))) (take_all c.subs.sub-index c.args.subs.now (omega (arith, c.subs-test.false)))
+    c.subs.invariant ∙ ap (filter (λ (s : ViewSub). not (is_several (owner_at c.args.owners.now s.prefix)))) (take_all c.subs.sub-index c.args.subs.now (omega (arith, c.subs-test.false)))

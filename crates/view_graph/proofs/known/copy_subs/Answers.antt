@@ -8,4 +8,4 @@ pub subs-preserved : goal.subs-preserved
 subs-preserved c = c.in_ok-push_copy.ensures ∙ ap (λ (l : List ViewSub). l ++ c.sub-item.result ∷ []) c.subs.invariant ∙ take_one c.args.subs.now c.subs.sub-index c.sub-item.result c.subs-test.true c.sub-item.is
 
 pub returns : goal.returns
-returns c = c.from_vec.ensures ∙ c.subs.invariant ∙ take_all c.subs.sub-index c.args.subs.now (omega (arith, c.subs-test.false))
+returns c = c.subs.invariant ∙ take_all c.subs.sub-index c.args.subs.now (omega (arith, c.subs-test.false))

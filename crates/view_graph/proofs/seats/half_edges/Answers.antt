@@ -8,7 +8,7 @@ use Rattle.view_graph.proofs.ListLaws.{take_one}
 use Rattle.view_graph.proofs.seats.half_edges.Goals as goal
 
 pub links-init : goal.links-init
-links-init c = c.in_ok-edges.ensures.items ∙ none_listed 0 (seats c.args.nodes.now)
+links-init c = c.new-edges.ensures ∙ none_listed 0 (seats c.args.nodes.now)
 
 pub links-preserved : goal.links-preserved
 links-preserved c = c.in_ok-count.ensures (take c.links.link-index c.args.links.now) c.links.invariant ∙ ap (λ (ls : List Link). half_edges 0 (metrics_to ls (seats c.args.nodes.now))) (take_one c.args.links.now c.links.link-index c.link-item.result c.links-test.true c.link-item.is)

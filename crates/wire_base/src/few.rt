@@ -1,0 +1,108 @@
+ghost use Rattle.std.specs.Prelude.{◌≡◌, ◌<◌, ◌≤◌, ◌++◌, ◌∷◌, [], insert, length, set, OnOk, OnErr, IfOk};
+
+use crate::memory::M;
+use smallvec::SmallVec;
+use std::alloc::Global;
+use std::default::MadeWith;
+use std::marker::Model;
+
+/// A list of values, which contracts see as one. It takes no memory of its own while it has `N` values at most: a view has
+/// several lists for each router, most of one or two values.
+#[derive(Drop)]
+pub struct Few<T, const N: usize> {
+    items: SmallVec<T, N>,
+}
+
+impl<T, const N: usize> Model for Few<T, N> {
+    ghost use Rattle.std.specs.Prelude.{List};
+
+    ghost Value = { List T };
+
+    ghost view = { λ f. f.items.items };
+}
+
+impl<T, const N: usize> Few<T, N> {
+    /// The values as a slice.
+    pub fn as_slice(&self) -> &[T]
+        ensures { result.now ≡ self.now }
+    {
+        self.items.as_slice()
+    }
+
+    /// How many values there are.
+    pub fn len(&self) -> usize
+        ensures { result ≡ length self.now }
+    {
+        self.items.len()
+    }
+
+    /// The allocator that the list keeps.
+    pub fn allocator(&self) -> Global {
+        *self.items.allocator()
+    }
+}
+
+impl<T: MadeWith<Global> + Drop, const N: usize> Few<T, N> {
+    /// No values. Takes no memory.
+    pub fn new(alloc: Global) -> Self
+        ensures { result ≡ [] }
+    {
+        Few {
+            items: SmallVec::new(alloc),
+        }
+    }
+
+    /// No values, and room for that many.
+    pub fn with_room(alloc: Global, room: usize) -> M<Self>
+        ensures { IfOk result (λ few. few ≡ []) }
+    {
+        Ok(Few {
+            items: SmallVec::with_capacity(alloc, room)?,
+        })
+    }
+
+    /// Appends one value; where memory is refused, the value is dropped.
+    pub fn push(&mut self, item: T) -> M<()>
+        ensures ok { OnOk result (self.new ≡ self.old ++ item ∷ []) }
+        ensures err { OnErr result (self.new ≡ self.old) }
+    {
+        self.items.push(item)?;
+        Ok(())
+    }
+
+    /// Puts a value before the one at a place, or behind the last; where memory is refused, the value is dropped.
+    pub fn insert(&mut self, place: usize, item: T) -> M<()>
+        requires { place ≤ length self.old }
+        ensures ok { OnOk result (self.new ≡ insert self.old place item) }
+        ensures err { OnErr result (self.new ≡ self.old) }
+    {
+        self.items.insert(place, item)?;
+        Ok(())
+    }
+
+    /// Puts a value in the place of the one at a place. Takes no memory.
+    pub fn put(&mut self, place: usize, item: T)
+        requires { place < length self.old }
+        ensures { self.new ≡ set self.old place item }
+    {
+        self.items.as_mut_slice()[place] = item;
+    }
+}
+
+impl<T: MadeWith<Global> + Copy, const N: usize> Few<T, N> {
+    /// The same values.
+    pub fn from_slice(alloc: Global, values: &[T]) -> M<Self>
+        ensures { IfOk result (λ copied. copied ≡ values.now) }
+    {
+        Ok(Few {
+            items: SmallVec::from_slice(alloc, values)?,
+        })
+    }
+
+    /// An equal list.
+    pub fn copy(&self) -> M<Self>
+        ensures { IfOk result (λ copied. copied ≡ self.now) }
+    {
+        Few::from_slice(self.allocator(), self.as_slice())
+    }
+}
