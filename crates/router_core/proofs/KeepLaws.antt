@@ -117,9 +117,9 @@ pub done_keeps : (c c' next : Control) (k : Option Kept) (result : Result (Unit 
 done_keeps c c' next k (Ok u) ok err old new = subst (λ (x : Control). MayKeep x k) (sym ok) new
 done_keeps c c' next k (Err m) ok err old new = subst (λ (x : Control). MayKeep x k) (sym err) old
 
-pub taken_keeps : (c c' : Control) (link : ℕ) (p : Pdu) (k : Option Kept) (result : Result Effects Memory) → IfOk result (λ e. record { control = c'; effects = e } ≡ pdu_taken c link p) → OnErr result (c' ≡ c) → MayKeep c k → ((l : ℕ) → MayKeep (pdu_taken c l p).control k) → MayKeep c' k
-taken_keeps c c' link p k (Ok e) ok err old new = subst (λ (x : Control). MayKeep x k) (sym (ap (λ (n : Next). n.control) ok)) (new link)
-taken_keeps c c' link p k (Err m) ok err old new = subst (λ (x : Control). MayKeep x k) (sym err) old
+pub taken_keeps : (c c' : Control) (link : ℕ) (p : Pdu) (k : Option Kept) (e : Effects) (result : Result (Unit {0}) Memory) → OnOk result (record { control = c'; effects = e } ≡ pdu_taken c link p) → OnErr result (c' ≡ c) → MayKeep c k → ((l : ℕ) → MayKeep (pdu_taken c l p).control k) → MayKeep c' k
+taken_keeps c c' link p k e (Ok u) ok err old new = subst (λ (x : Control). MayKeep x k) (sym (ap (λ (n : Next). n.control) ok)) (new link)
+taken_keeps c c' link p k e (Err m) ok err old new = subst (λ (x : Control). MayKeep x k) (sym err) old
 
 pub up_keeps : (c c' : Control) (link : ℕ) (k k' : Option Kept) (result : Result (Unit {0}) Memory) → OnOk result (c' ≡ (end_up c link).control) → OnErr result (c' ≡ c) → MayKeep c k → StaysOwn k k' → MayKeep c' k'
 up_keeps c c' link k k' result ok err kept stays = done_keeps c c' (end_up c link).control k' result ok err (stays c c kept (says_itself c.conf.system c)) (stays c (end_up c link).control kept (but_says c.conf.system c (end_up c link).control (up_but c link)))

@@ -2,7 +2,7 @@
 ghost use Rattle.std.specs.Prelude.{◌≡◌, ◌≤◌, true, false, length, IfOk, OnOk, OnErr};
 ghost use Rattle.std.specs.Str.{bytes_eq};
 ghost use Rattle.wire_base.specs.model.Ethernet.{IsFrame};
-ghost use Rattle.wire_base.specs.model.OnFrame.{on_packet, tunnel_taken, on_tunnel, carried_taken, on_frame};
+ghost use Rattle.wire_base.specs.model.OnFrame.{nothing, on_packet, tunnel_taken, on_tunnel, carried_taken, on_frame};
 ghost use Rattle.wire_base.specs.model.View.{control_view};
 ghost use Rattle.bier_forward.specs.Packets.{IsShort, hopped};
 ghost use Rattle.bier_forward.specs.Tunnels.{carried_on};
@@ -13,6 +13,7 @@ ghost use Rattle.router_laws.specs.State.{is_up};
 
 use crate::control::Control;
 use crate::kept::{Kept, keep_if};
+use crate::pdus::{drop_frame, pass_over};
 use bier_forward::{Effects, Incoming, carry_on, hop_packet, read_packet};
 use gre_ip::{Tunnel, read_tunnel};
 use link_frame::{Class, classify};
@@ -121,41 +122,58 @@ impl Control {
         link: u16,
         class: Class,
         bytes: &[u8],
-    ) -> M<Effects>
+        effects: &mut Effects,
+    ) -> M<()>
         requires up { is_up self.old link ≡ true }
         requires short { length bytes.now ≤ MOST_FRAME }
         requires places { HasPlaces (length bytes.now) class }
         requires found { IsFrame bytes.now (carried bytes.now class) }
         requires kept { MayKeep self.old kept.old }
-        ensures next { IfOk result (λ e. record { control = self.new; effects = e } ≡ carried_taken self.old link (carried bytes.now class)) }
+        requires empty { effects.old ≡ nothing }
+        ensures next { OnOk result (record { control = self.new; effects = effects.new } ≡ carried_taken self.old link (carried bytes.now class)) }
         ensures err { OnErr result (self.new ≡ self.old) }
         ensures kept { MayKeep self.new kept.new }
     {
         match class {
-            Class::Isis { from, to } => self.on_pdu(kept, link, &bytes[from..to]),
-            Class::Mpls { from } => self.on_packet(kept, Kind::Mpls, &bytes[from..]),
-            Class::Bier { from } => self.on_packet(kept, Kind::Configured, &bytes[from..]),
-            Class::Ip { from } => self.on_tunnel(kept, &bytes[from..]),
-            Class::Other => Ok(Effects::passed_over(self.allocator())),
+            Class::Isis { from, to } => {
+                return self.on_pdu(kept, link, &bytes[from..to], effects);
+            }
+            Class::Mpls { from } => {
+                *effects = self.on_packet(kept, Kind::Mpls, &bytes[from..])?;
+            }
+            Class::Bier { from } => {
+                *effects = self.on_packet(kept, Kind::Configured, &bytes[from..])?;
+            }
+            Class::Ip { from } => *effects = self.on_tunnel(kept, &bytes[from..])?,
+            Class::Other => pass_over(effects),
         }
+        Ok(())
     }
 
-    /// A frame that came on a link; or all is as it was.
+    /// A frame that came on a link; or all is as it was. What it does to the outside is written in place, since to most
+    /// frames it is nothing.
     #[tactic(auto, unfolding(wire_base::specs::model::OnFrame::on_frame))]
-    pub(crate) fn frame(&mut self, kept: &mut Option<Kept>, link: u16, bytes: &[u8]) -> M<Effects>
+    pub(crate) fn frame(
+        &mut self,
+        kept: &mut Option<Kept>,
+        link: u16,
+        bytes: &[u8],
+        effects: &mut Effects,
+    ) -> M<()>
         requires short { length bytes.now ≤ MOST_FRAME }
         requires kept { MayKeep self.old kept.old }
-        ensures next { IfOk result (λ e. record { control = self.new; effects = e } ≡ on_frame self.old link bytes.now) }
+        requires empty { effects.old ≡ nothing }
+        ensures next { OnOk result (record { control = self.new; effects = effects.new } ≡ on_frame self.old link bytes.now) }
         ensures err { OnErr result (self.new ≡ self.old) }
         ensures kept { MayKeep self.new kept.new }
     {
         if !self.is_up(link) {
-            return Effects::dropped(self.allocator(), Cause::Link);
+            return drop_frame(effects, Cause::Link);
         }
         let read = classify(bytes);
         match read {
-            Err(fault) => Effects::dropped(self.allocator(), Cause::Frame(fault)),
-            Ok(class) => self.take_class(kept, link, class, bytes),
+            Err(fault) => drop_frame(effects, Cause::Frame(fault)),
+            Ok(class) => self.take_class(kept, link, class, bytes, effects),
         }
     }
 }

@@ -1,9 +1,9 @@
 //! PDUs of IS-IS that are received (ISO/IEC 10589, 7.3.15 and 7.3.16).
-ghost use Rattle.std.specs.Prelude.{◌≡◌, ◌<◌, ◌≤◌, ◌+◌, ◌^◌, ◌∷◌, [], ℕ, true, false, length, IfOk, OnErr};
+ghost use Rattle.std.specs.Prelude.{◌≡◌, ◌<◌, ◌≤◌, ◌+◌, ◌^◌, ◌∷◌, [], ℕ, true, false, length, OnOk, OnErr};
 ghost use Rattle.wire_base.specs.declared.addresses.SystemId.{SystemId};
 ghost use Rattle.wire_base.specs.declared.flood_out.FloodOut.TheVariants as out;
 ghost use Rattle.wire_base.specs.model.Flooding.{on_pdu, psnp_of, answer_lsp, snp_done};
-ghost use Rattle.wire_base.specs.model.OnFrame.{nothing, framed, frames_of, pdu_taken, pdu_read};
+ghost use Rattle.wire_base.specs.model.OnFrame.{nothing, dropped, passed_over, framed, frames_of, pdu_taken, pdu_read};
 ghost use Rattle.wire_base.specs.model.Pdu.{LspPdu, CsnpPdu, PsnpPdu, pdu_at};
 ghost use Rattle.isis_pdu.specs.Views.{head_of, pdu_of};
 ghost use Rattle.router_core.specs.Keeping.{MayKeep};
@@ -15,24 +15,35 @@ use crate::control::Control;
 use crate::forecast::issue_ready;
 use crate::framing::{FramesOut, push_psnp};
 use crate::kept::Kept;
-use bier_forward::{DropNote, Effects, SentFrames};
+use bier_forward::{DropNote, Effects};
 use isis_flood::{Flood, listed};
 use isis_pdu::{LspHead, Pdu, read_pdu};
 use lsp_store::Store;
 use wire_base::limits::MOST_CONTENT;
 use wire_base::{Cause, FloodOut, LspId, M, Rows, SnpOut, Summary};
 
-/// Nothing is sent or delivered, and those entries are dropped.
-fn dropped_each(drops: Rows<DropNote>) -> Effects
-    ensures { result ≡ record nothing { drops = drops } }
+/// A frame was dropped as a whole, and nothing else came of it.
+pub(crate) fn drop_frame(effects: &mut Effects, cause: Cause) -> M<()>
+    requires { effects.old ≡ nothing }
+    ensures { OnOk result (effects.new ≡ dropped cause) }
 {
-    let alloc = drops.allocator();
-    Effects {
-        sent: SentFrames::new(alloc),
-        got: Rows::new(alloc),
-        drops,
-        passed: false,
-    }
+    effects.note(DropNote { cause, sets: None })
+}
+
+/// A frame was passed over.
+pub(crate) fn pass_over(effects: &mut Effects)
+    requires { effects.old ≡ nothing }
+    ensures { effects.new ≡ passed_over }
+{
+    effects.passed = true;
+}
+
+/// Those entries are dropped, and nothing else comes of a list.
+fn drop_each(effects: &mut Effects, drops: Rows<DropNote>)
+    requires { effects.old ≡ nothing }
+    ensures { effects.new ≡ record nothing { drops = drops } }
+{
+    effects.drops = drops;
 }
 
 /// How many rows of flags a list of entries may need.
@@ -68,55 +79,49 @@ fn apply_list(
 
 impl Control {
     /// The PSNP that acknowledges an entry at once.
-    fn acknowledged(&self, link: u16, entry: Summary) -> M<Effects>
-        requires { link < length self.now.conf.ends }
-        ensures { IfOk result (λ e. e ≡ record nothing { sent = frames_of self.now.conf link (psnp_of self.now (entry ∷ []) ∷ []) }) }
+    fn acknowledge(&self, link: u16, entry: Summary, effects: &mut Effects) -> M<()>
+        requires link { link < length self.now.conf.ends }
+        requires empty { effects.old ≡ nothing }
+        ensures { OnOk result (effects.new ≡ record nothing { sent = frames_of self.now.conf link (psnp_of self.now (entry ∷ []) ∷ []) }) }
     {
-        let alloc = self.allocator();
-        let mut out = FramesOut::new(alloc);
+        let mut out = FramesOut::new(self.allocator());
         push_psnp(&mut out, &self.conf, link, &[entry])?;
-        Ok(Effects {
-            sent: out.into_sent(),
-            got: Rows::new(alloc),
-            drops: Rows::new(alloc),
-            passed: false,
-        })
+        effects.sent = out.into_sent();
+        Ok(())
     }
 
     /// What a link state PDU asks for beside what flooding has done; or all is as it was, and flooding has done nothing.
     #[tactic(auto, unfolding(wire_base::specs::model::OnFrame::framed))]
-    fn answer_lsp(&mut self, link: u16, answer: FloodOut) -> M<Effects>
+    fn answer_lsp(&mut self, link: u16, answer: FloodOut, effects: &mut Effects) -> M<()>
         requires link { link < length self.old.conf.ends }
         requires unspent { (s : ℕ) → answer ≡ out.Reissue s → self.old.spent ≡ false }
-        ensures next { IfOk result (λ e. record { control = self.new; effects = e } ≡ framed link (answer_lsp self.old answer)) }
+        requires empty { effects.old ≡ nothing }
+        ensures next { OnOk result (record { control = self.new; effects = effects.new } ≡ framed link (answer_lsp self.old answer)) }
         ensures err { OnErr result ((is_kept answer ≡ false) × (self.new ≡ self.old)) }
     {
-        let alloc = self.allocator();
         match answer {
-            FloodOut::Kept => Ok(Effects::nothing(alloc)),
-            FloodOut::Reissue(seq) => {
-                self.reissue(seq)?;
-                Ok(Effects::nothing(alloc))
-            }
-            FloodOut::Ack(entry) => self.acknowledged(link, entry),
-            FloodOut::Full => Effects::dropped(alloc, Cause::Full),
-            FloodOut::Zero => Effects::dropped(alloc, Cause::Sequence),
+            FloodOut::Kept => Ok(()),
+            FloodOut::Reissue(seq) => self.reissue(seq),
+            FloodOut::Ack(entry) => self.acknowledge(link, entry, effects),
+            FloodOut::Full => drop_frame(effects, Cause::Full),
+            FloodOut::Zero => drop_frame(effects, Cause::Sequence),
         }
     }
 
     /// A link state PDU; or all is as it was. Where flooding has changed something, nothing is asked for that takes memory.
     #[tactic(auto, unfolding(wire_base::specs::model::Flooding::on_pdu))]
-    fn on_lsp(&mut self, link: u16, head: &LspHead, tlvs: &[u8]) -> M<Effects>
+    fn on_lsp(&mut self, link: u16, head: &LspHead, tlvs: &[u8], effects: &mut Effects) -> M<()>
         requires up { is_up self.old link ≡ true }
         requires short { length tlvs.now ≤ MOST_CONTENT }
-        ensures next { IfOk result (λ e. record { control = self.new; effects = e } ≡ framed link (on_pdu self.old link (LspPdu (head_of head.now) tlvs.now))) }
+        requires empty { effects.old ≡ nothing }
+        ensures next { OnOk result (record { control = self.new; effects = effects.new } ≡ framed link (on_pdu self.old link (LspPdu (head_of head.now) tlvs.now))) }
         ensures err { OnErr result (self.new ≡ self.old) }
     {
         let answer = self
             .flood
             .on_lsp(&mut self.store, link, head, tlvs, self.spent)?;
         let _entries = self.store.len();
-        self.answer_lsp(link, answer)
+        self.answer_lsp(link, answer, effects)
     }
 
     /// The entries that a sequence numbers PDU lists; or all is as it was. What they ask for is made ready before anything
@@ -126,10 +131,12 @@ impl Control {
         link: u16,
         range: Option<(LspId, LspId)>,
         rows: &[Summary],
-    ) -> M<Effects>
+        effects: &mut Effects,
+    ) -> M<()>
         requires up { is_up self.old link ≡ true }
         requires few { length rows.now ≤ 1497 }
-        ensures next { IfOk result (λ e. record { control = self.new; effects = e } ≡ framed link (snp_done self.old (list_taken self.old.flood self.old.entries link range rows.now self.old.spent))) }
+        requires empty { effects.old ≡ nothing }
+        ensures next { OnOk result (record { control = self.new; effects = effects.new } ≡ framed link (snp_done self.old (list_taken self.old.flood self.old.entries link range rows.now self.old.spent))) }
         ensures err { OnErr result (self.new ≡ self.old) }
     {
         let ready = self.ready(rows)?;
@@ -145,80 +152,108 @@ impl Control {
         )?;
         issue_ready(&mut self.store, &mut self.flood, ready.own);
         self.spent = ready.spent;
-        Ok(dropped_each(ready.drops))
+        drop_each(effects, ready.drops);
+        Ok(())
     }
 
     /// A complete sequence numbers PDU; or all is as it was.
     #[tactic(auto, unfolding(wire_base::specs::model::Flooding::on_pdu, wire_base::specs::model::Flooding::on_csnp))]
-    fn on_csnp(&mut self, link: u16, start: LspId, last: LspId, tlvs: &[u8]) -> M<Effects>
+    fn on_csnp(
+        &mut self,
+        link: u16,
+        start: LspId,
+        last: LspId,
+        tlvs: &[u8],
+        effects: &mut Effects,
+    ) -> M<()>
         requires up { is_up self.old link ≡ true }
         requires short { length tlvs.now ≤ 1497 }
-        ensures next { IfOk result (λ e. (source : SystemId) → record { control = self.new; effects = e } ≡ framed link (on_pdu self.old link (CsnpPdu source start last tlvs.now))) }
+        requires empty { effects.old ≡ nothing }
+        ensures next { OnOk result ((source : SystemId) → record { control = self.new; effects = effects.new } ≡ framed link (on_pdu self.old link (CsnpPdu source start last tlvs.now))) }
         ensures err { OnErr result (self.new ≡ self.old) }
     {
         let rows = listed(self.allocator(), tlvs)?;
-        self.take_list(link, Some((start, last)), rows.as_slice())
+        self.take_list(link, Some((start, last)), rows.as_slice(), effects)
     }
 
     /// A partial sequence numbers PDU; or all is as it was.
     #[tactic(auto, unfolding(wire_base::specs::model::Flooding::on_pdu, wire_base::specs::model::Flooding::on_psnp))]
-    fn on_psnp(&mut self, link: u16, tlvs: &[u8]) -> M<Effects>
+    fn on_psnp(&mut self, link: u16, tlvs: &[u8], effects: &mut Effects) -> M<()>
         requires up { is_up self.old link ≡ true }
         requires short { length tlvs.now ≤ 1497 }
-        ensures next { IfOk result (λ e. (source : SystemId) → record { control = self.new; effects = e } ≡ framed link (on_pdu self.old link (PsnpPdu source tlvs.now))) }
+        requires empty { effects.old ≡ nothing }
+        ensures next { OnOk result ((source : SystemId) → record { control = self.new; effects = effects.new } ≡ framed link (on_pdu self.old link (PsnpPdu source tlvs.now))) }
         ensures err { OnErr result (self.new ≡ self.old) }
     {
         let rows = listed(self.allocator(), tlvs)?;
-        self.take_list(link, None, rows.as_slice())
+        self.take_list(link, None, rows.as_slice(), effects)
     }
 
     /// A PDU that floods; hellos and other types are passed over. Or all is as it was.
-    fn flood_pdu(&mut self, link: u16, pdu: Pdu<'_>) -> M<Effects>
+    fn flood_pdu(&mut self, link: u16, pdu: Pdu<'_>, effects: &mut Effects) -> M<()>
         requires up { is_up self.old link ≡ true }
         requires short { HasRoom (pdu_of pdu) }
-        ensures next { IfOk result (λ e. record { control = self.new; effects = e } ≡ pdu_taken self.old link (pdu_of pdu.entry)) }
+        requires empty { effects.old ≡ nothing }
+        ensures next { OnOk result (record { control = self.new; effects = effects.new } ≡ pdu_taken self.old link (pdu_of pdu.entry)) }
         ensures err { OnErr result (self.new ≡ self.old) }
     {
         match pdu {
-            Pdu::Lsp { head, tlvs } => self.on_lsp(link, &head, tlvs),
+            Pdu::Lsp { head, tlvs } => self.on_lsp(link, &head, tlvs, effects),
             Pdu::Csnp {
                 source: _,
                 start,
                 last,
                 tlvs,
-            } => self.on_csnp(link, start, last, tlvs),
-            Pdu::Psnp { source: _, tlvs } => self.on_psnp(link, tlvs),
-            Pdu::Hello | Pdu::Other(_) => Ok(Effects::passed_over(self.allocator())),
+            } => self.on_csnp(link, start, last, tlvs, effects),
+            Pdu::Psnp { source: _, tlvs } => self.on_psnp(link, tlvs, effects),
+            Pdu::Hello | Pdu::Other(_) => {
+                pass_over(effects);
+                Ok(())
+            }
         }
     }
 
     /// A PDU, which may change what systems say: that is noted first. Or all else is as it was.
-    fn take_pdu(&mut self, kept: &mut Option<Kept>, link: u16, pdu: Pdu<'_>) -> M<Effects>
+    fn take_pdu(
+        &mut self,
+        kept: &mut Option<Kept>,
+        link: u16,
+        pdu: Pdu<'_>,
+        effects: &mut Effects,
+    ) -> M<()>
         requires up { is_up self.old link ≡ true }
         requires short { HasRoom (pdu_of pdu) }
         requires kept { MayKeep self.old kept.old }
-        ensures next { IfOk result (λ e. record { control = self.new; effects = e } ≡ pdu_taken self.old link (pdu_of pdu.entry)) }
+        requires empty { effects.old ≡ nothing }
+        ensures next { OnOk result (record { control = self.new; effects = effects.new } ≡ pdu_taken self.old link (pdu_of pdu.entry)) }
         ensures err { OnErr result (self.new ≡ self.old) }
         ensures kept { MayKeep self.new kept.new }
     {
         self.note_pdu(kept, pdu);
-        self.flood_pdu(link, pdu)
+        self.flood_pdu(link, pdu, effects)
     }
 
     /// The octets of a PDU, as a frame of IS-IS carries them; or all is as it was.
-    pub(crate) fn on_pdu(&mut self, kept: &mut Option<Kept>, link: u16, octets: &[u8]) -> M<Effects>
+    pub(crate) fn on_pdu(
+        &mut self,
+        kept: &mut Option<Kept>,
+        link: u16,
+        octets: &[u8],
+        effects: &mut Effects,
+    ) -> M<()>
         requires up { is_up self.old link ≡ true }
         requires short { length octets.now ≤ 1497 }
         requires kept { MayKeep self.old kept.old }
-        ensures next { IfOk result (λ e. record { control = self.new; effects = e } ≡ pdu_read self.old link (pdu_at self.old.conf.level octets.now)) }
+        requires empty { effects.old ≡ nothing }
+        ensures next { OnOk result (record { control = self.new; effects = effects.new } ≡ pdu_read self.old link (pdu_at self.old.conf.level octets.now)) }
         ensures err { OnErr result (self.new ≡ self.old) }
         ensures kept { MayKeep self.new kept.new }
     {
         let level = self.conf().level;
         let read = read_pdu(level, octets);
         match read {
-            Err(fault) => Effects::dropped(self.allocator(), Cause::Pdu(fault)),
-            Ok(pdu) => self.take_pdu(kept, link, pdu),
+            Err(fault) => drop_frame(effects, Cause::Pdu(fault)),
+            Ok(pdu) => self.take_pdu(kept, link, pdu, effects),
         }
     }
 }

@@ -117,7 +117,9 @@ impl Router {
         ensures err { OnErr result (self.new ≡ self.old) }
     {
         let _few = self.control.conf();
-        let effects = self.control.frame(&mut self.kept, link, bytes)?;
+        let mut effects = Effects::nothing(self.control.allocator());
+        self.control
+            .frame(&mut self.kept, link, bytes, &mut effects)?;
         let _still_few = self.control.conf();
         self.heard = self.heard.saturating_add(1);
         Ok(effects)

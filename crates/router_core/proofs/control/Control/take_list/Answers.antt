@@ -30,5 +30,5 @@ pub returns-clause-next : goal.returns-clause-next
 returns-clause-next c =
     ready_framed _ c.args.self.now c.self.invariant.router c.self.view_is _ _
     (list_listed _ c.args.self.now c.self.invariant.router c.self.view_is c.args.link c.requires.up _ c.reserve.ensures.flood _ c.args.range c.args.rows.now c.in_ok-apply_list.ensures.done)
-    c.in_ok-ready.ready c.in_ok-ready.ensures _ _ c.issue_ready.ensures.flood c.issue_ready.ensures.entries c.dropped_each.result c.args.link c.dropped_each.ensures
+    c.in_ok-ready.ready c.in_ok-ready.ensures _ _ c.issue_ready.ensures.flood c.issue_ready.ensures.entries c.drop_each.new.effects c.args.link c.drop_each.ensures
     ∙ list_framed _ c.args.self.now c.self.invariant.router c.self.view_is c.args.link c.requires.up _ c.reserve.ensures.flood _ c.args.range c.args.rows.now c.in_ok-apply_list.ensures.done
