@@ -10,7 +10,7 @@ use Rattle.wire_base.specs.declared.addresses.LspId.{LspId}
 use Rattle.wire_base.specs.declared.triple.Summary.{Summary}
 use Rattle.wire_base.specs.declared.conf.Level.{Level}
 use Rattle.wire_base.specs.model.Tlv.{tlv, lsp_id, SummaryFits, LspIdFits, row}
-use Rattle.wire_base.specs.model.Pdu.{Head, LspPdu, CsnpPdu, PsnpPdu, LspFits, common, lsp_type, lsp, csnp, psnp, pdu_at, row_tlv, row_tlvs, blocks_within}
+use Rattle.wire_base.specs.model.Pdu.{Head, LspPdu, CsnpPdu, PsnpPdu, LspFits, common, lsp_type, psnp_type, lsp, csnp, psnp, pdu_at, row_tlv, row_tlvs, blocks_within}
 use Rattle.format_laws.proofs.TlvListLaws.{row_tlvs_pass, row_tlvs_length, row_tlvs_step, row_tlvs_end, length_rows, fits_take, fits_drop, fits_joined, passes_are}
 use Rattle.format_laws.proofs.PduLaws.{lsp_read, csnp_read, psnp_read}
 
@@ -60,18 +60,40 @@ cut_end out total rest none text =
     let nil : rest ≡ [] = nil_from_length rest none in
     sym (append-nil out) ∙ ap (λ (l : List ℕ). out ++ l) (sym row_tlvs_end) ∙ ap (λ (es : List Summary). out ++ row_tlvs es) (sym nil) ∙ text
 
-listed_within : (m : ℕ) (rows : List Summary) → length rows ≤ m → AllByRecursion SummaryFits rows → length (flat_map (λ block. tlv (row_tlv block)) (blocks_within m rows)) ≤ 16 * length rows + 2 * ((length rows + 14) / 15)
+listed_length : (m : ℕ) (rows : List Summary) → length rows ≤ m → AllByRecursion SummaryFits rows → length (flat_map (λ block. tlv (row_tlv block)) (blocks_within m rows)) ≡ 16 * length rows + 2 * ((length rows + 14) / 15)
 unfolding blocks_within
-listed_within zero [] h all = omega arith
-listed_within zero (s ∷ rows) h all = absurd (omega (arith, h))
-listed_within (suc m) [] h all = omega arith
-listed_within (suc m) (s ∷ rows) h all =
+listed_length zero [] h all = omega arith
+listed_length zero (s ∷ rows) h all = absurd (omega (arith, h))
+listed_length (suc m) [] h all = omega arith
+listed_length (suc m) (s ∷ rows) h all =
     let first = length-append (tlv (row_tlv (take 15 (s ∷ rows)))) (flat_map (λ block. tlv (row_tlv block)) (blocks_within m (drop 15 (s ∷ rows)))) in
-    let more = listed_within m (drop 15 (s ∷ rows)) (omega (arith, h, length-drop 15 (s ∷ rows))) (fits_drop 15 (s ∷ rows) all) in
+    let more = listed_length m (drop 15 (s ∷ rows)) (omega (arith, h, length-drop 15 (s ∷ rows))) (fits_drop 15 (s ∷ rows) all) in
     let one = length_rows (take 15 (s ∷ rows)) (fits_take 15 (s ∷ rows) all) in
     let few = length-take 15 (s ∷ rows) in
     omega (arith, first, more, one, few, length-drop 15 (s ∷ rows))
 
 pub rows_short : (tlvs : List ℕ) (rows : List Summary) → length rows ≤ MOST_LISTED → tlvs ≡ row_tlvs rows → AllByRecursion SummaryFits rows → length tlvs ≤ 1452
 unfolding row_tlvs
-rows_short tlvs rows few e all = omega (arith, ap length e, listed_within (length rows) rows (omega arith) all, few)
+rows_short tlvs rows few e all = omega (arith, ap length e, listed_length (length rows) rows (omega arith) all, few)
+
+-- ---- a partial sequence numbers PDU
+
+pub rows_length : (rows : List Summary) → AllByRecursion SummaryFits rows → length (row_tlvs rows) ≡ 16 * length rows + 2 * ((length rows + 14) / 15)
+unfolding row_tlvs
+rows_length rows all = listed_length (length rows) rows (omega arith) all
+
+-- the octets before the TLVs, and then these
+pub psnp_joined : (level : Level) (source : SystemId) (n : ℕ) (old front before tlvs now : List ℕ) → n ≡ length tlvs → front ≡ common 17 (psnp_type level) ++ (big_bytes 2 (17 + n) ++ (source.0 ++ (0 ∷ [])))
+    → before ≡ old ++ front → now ≡ before ++ tlvs → now ≡ old ++ psnp level source tlvs
+psnp_joined level source n old front before tlvs now long is began ended =
+    ended
+    ∙ ap (λ (l : List ℕ). l ++ tlvs) began
+    ∙ append_assoc old front tlvs
+    ∙ ap (λ (l : List ℕ). old ++ (l ++ tlvs)) is
+    ∙ ap (λ (l : List ℕ). old ++ (common 17 (psnp_type level) ++ (big_bytes 2 (17 + n) ++ l))) (append_assoc source.0 (0 ∷ []) tlvs)
+    ∙ ap (λ (k : ℕ). old ++ (common 17 (psnp_type level) ++ (big_bytes 2 (17 + k) ++ (source.0 ++ (0 ∷ tlvs))))) long
+
+pub psnp_length : (level : Level) (source : SystemId) (rows : List Summary) → length source.0 ≡ 6 → AllByRecursion SummaryFits rows
+    → length (psnp level source (row_tlvs rows)) ≡ 17 + (16 * length rows + 2 * ((length rows + 14) / 15))
+psnp_length level source rows six all =
+    omega (arith, six, length-append source.0 (0 ∷ row_tlvs rows), rows_length rows all)

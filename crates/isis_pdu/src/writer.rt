@@ -1,4 +1,4 @@
-ghost use Rattle.std.specs.Prelude.{◌≡◌, ◌<◌, ◌≤◌, ◌+◌, ◌++◌, ◌∷◌, [], ℕ, List, false, length, Ok, IfOk, OnOk, OnErr};
+ghost use Rattle.std.specs.Prelude.{◌≡◌, ◌<◌, ◌≤◌, ◌+◌, ◌*◌, ◌/◌, ◌++◌, ◌∷◌, [], ℕ, List, false, length, Ok, IfOk, OnOk, OnErr};
 ghost use Rattle.std.specs.List.{AllByRecursion};
 ghost use Rattle.byteorder.specs.Endian.{big_bytes};
 ghost use Rattle.wire_base.specs.model.Tlv.{tlv, lsp_id, LspIdFits, SummaryFits};
@@ -131,6 +131,15 @@ fn append_rows(out: &mut Octets, rows: &[Summary]) -> M<()>
     Ok(())
 }
 
+/// How many octets the TLVs take that list so many entries: 16 for each, and two for each TLV.
+pub fn listed_octets(entries: usize) -> usize
+    requires { entries ≤ MOST_LISTED }
+    ensures long { result ≡ 16 * entries + 2 * ((entries + 14) / 15) }
+    ensures short { result ≤ MOST_LISTED_OCTETS }
+{
+    16 * entries + 2 * ((entries + 14) / 15)
+}
+
 /// The TLVs 9 that list those entries, at most 15 each, full ones first (ISO/IEC 10589, 9.10). At most 90 entries.
 pub fn write_rows(alloc: Global, rows: &[Summary]) -> M<Octets>
     requires { length rows.now ≤ MOST_LISTED }
@@ -138,8 +147,7 @@ pub fn write_rows(alloc: Global, rows: &[Summary]) -> M<Octets>
     ensures short { IfOk result (λ o. length o ≤ MOST_LISTED_OCTETS) }
     ensures fits { OnOk result (AllByRecursion SummaryFits rows.now) }
 {
-    let blocks = (rows.len() + 14) / 15;
-    let mut out = Octets::with_room(alloc, 16 * rows.len() + 2 * blocks)?;
+    let mut out = Octets::with_room(alloc, listed_octets(rows.len()))?;
     append_rows(&mut out, rows)?;
     Ok(out)
 }
@@ -251,6 +259,25 @@ pub fn append_psnp(out: &mut Octets, level: Level, source: SystemId, tlvs: &[u8]
 {
     let front = psnp_front(level, source, (PSNP_FRONT + tlvs.len()) as u16);
     out.append_two(front.as_slice(), tlvs)
+}
+
+/// Appends a partial sequence numbers PDU that lists those entries, in TLVs 9 of at most 15 (ISO/IEC 10589, 9.12 and
+/// 9.13). At most 90 entries. Where memory runs out, a part of it may stand there.
+pub fn append_psnp_listing(
+    out: &mut Octets,
+    level: Level,
+    source: SystemId,
+    rows: &[Summary],
+) -> M<()>
+    requires { length rows.now ≤ MOST_LISTED }
+    ensures ok { OnOk result (out.new ≡ out.old ++ psnp level source (row_tlvs rows.now)) }
+    ensures long { OnOk result (length (psnp level source (row_tlvs rows.now)) ≡ PSNP_FRONT + (16 * length rows.now + 2 * ((length rows.now + 14) / 15))) }
+{
+    let size = PSNP_FRONT + listed_octets(rows.len());
+    let front = psnp_front(level, source, size as u16);
+    out.append(front.as_slice())?;
+    append_rows(out, rows)?;
+    Ok(())
 }
 
 fn psnp_whole(alloc: Global, level: Level, source: SystemId, rows: &[Summary]) -> M<Octets>
