@@ -60,6 +60,10 @@ added_few before now octets is = let l = ap length is in omega (arith, l, length
 pub listed_few : (rows : List Summary) (octets : List ℕ) → rows ≡ rows_of octets → length rows ≤ length octets
 listed_few rows octets is = let l = ap length is in omega (arith, l, rows_few octets)
 
+-- those of TLVs were added
+pub appended_few : (before now : List Summary) (octets : List ℕ) → now ≡ before ++ rows_of octets → length now ≤ length before + length octets
+appended_few before now octets is = let l = ap length is in omega (arith, l, length-append before (rows_of octets), rows_few octets)
+
 -- no more are left
 pub none_left : (rows more total : List Summary) → more ≡ [] → rows ++ more ≡ total → rows ≡ total
 none_left rows more total none so = sym (append-nil rows) ∙ ap (λ xs. rows ++ xs) (sym none) ∙ so

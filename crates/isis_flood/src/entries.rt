@@ -24,7 +24,7 @@ fn append_entries(rows: &mut Rows<Summary>, value: &[u8]) -> M<()>
 }
 
 /// Appends the entries that a TLV lists.
-fn append_listed(rows: &mut Rows<Summary>, tlv: Tlv<'_>) -> M<()>
+fn append_item(rows: &mut Rows<Summary>, tlv: Tlv<'_>) -> M<()>
     ensures { OnOk result (rows.new ≡ rows.old ++ rows_in (item tlv.entry)) }
 {
     if tlv.code == ENTRIES {
@@ -34,16 +34,25 @@ fn append_listed(rows: &mut Rows<Summary>, tlv: Tlv<'_>) -> M<()>
     }
 }
 
-/// The entries that those TLVs list, in order; an overrun ends them.
+/// Appends the entries that those TLVs list, in order; an overrun ends them.
+pub fn append_listed(rows: &mut Rows<Summary>, tlvs: &[u8]) -> M<()>
+    ensures ok { OnOk result (rows.new ≡ rows.old ++ rows_of tlvs.now) }
+    ensures few { OnOk result (length rows.new ≤ length rows.old + length tlvs.now) }
+{
+    for tlv in TlvWalk::new(tlvs) {
+        if let Ok(tlv) = tlv {
+            append_item(rows, tlv)?;
+        }
+    }
+    Ok(())
+}
+
+/// The entries that those TLVs list.
 pub fn listed(alloc: Global, tlvs: &[u8]) -> M<Rows<Summary>>
     ensures rows { IfOk result (λ rows. rows ≡ rows_of tlvs.now) }
     ensures few { IfOk result (λ rows. length rows ≤ length tlvs.now) }
 {
     let mut rows = Rows::new(alloc);
-    for tlv in TlvWalk::new(tlvs) {
-        if let Ok(tlv) = tlv {
-            append_listed(&mut rows, tlv)?;
-        }
-    }
+    append_listed(&mut rows, tlvs)?;
     Ok(rows)
 }

@@ -13,6 +13,6 @@ mod masks;
 mod snps;
 mod table;
 
-pub use entries::listed;
+pub use entries::{append_listed, listed};
 pub use flood::Flood;
 pub use wire_base::{FloodOut, SnpOut};

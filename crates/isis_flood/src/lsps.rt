@@ -12,7 +12,7 @@ ghost use Rattle.isis_flood.specs.Kept.{NotLowered};
 
 use crate::flood::Flood;
 use isis_pdu::LspHead;
-use lsp_store::{Store, purge};
+use lsp_store::{Store, is_same_id, purge};
 use std::alloc::Global;
 use wire_base::limits::MOST_ENTRIES;
 use wire_base::{Age, Entry, FloodOut, LspId, M, Memory, Octets, Summary};
@@ -119,16 +119,21 @@ impl Flood {
     pub(crate) fn is_own_ahead(&self, id: &LspId, spent: bool, age: Age) -> bool
         ensures { result ≡ is_own_ahead self.now.flood id.now spent age }
     {
-        *id == LspId::fragment_0(self.own()) && !spent && is_newer_or_confused(age)
+        // By its age first, since most aren't.
+        if spent || !is_newer_or_confused(age) {
+            return false;
+        }
+        is_same_id(*id, LspId::fragment_0(self.own()))
     }
 
     /// A live link state PDU of the own system that the router doesn't have.
     fn is_stray(&self, head: &LspHead, age: Age) -> bool
         ensures { result ≡ is_stray self.now.flood (head_of head.now) age }
     {
+        if head.life == 0 || !(is_unknown(age) || is_newer_or_confused(age)) {
+            return false;
+        }
         head.id.system == self.own()
-            && head.life > 0
-            && (is_unknown(age) || is_newer_or_confused(age))
     }
 
     /// Purges a stray one everywhere.

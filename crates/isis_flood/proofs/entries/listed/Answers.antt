@@ -1,9 +1,8 @@
-use Rattle.std.proofs.Common.{ap}
-use Rattle.std.specs.List.{filter_map, flat_map}
-use Rattle.std.specs.Result.{result_ok}
-use Rattle.wire_base.specs.model.Tlv.{rows_in}
-use Rattle.isis_flood.proofs.ListLaws.{listed_few, none_left}
+use Rattle.std.proofs.Common.{List, ◌++◌, ap, ◌∙◌}
+use Rattle.wire_base.specs.declared.triple.Summary.{Summary}
+use Rattle.wire_base.specs.model.Tlv.{rows_of}
+use Rattle.isis_flood.proofs.ListLaws.{listed_few}
 use Rattle.isis_flood.proofs.entries.listed.Goals as goal
 
 pub returns-clause-few : goal.returns-clause-few
-returns-clause-few c = listed_few c.loop-tlv.rows c.args.tlvs.now (none_left c.loop-tlv.rows _ _ (ap (λ xs. flat_map rows_in (filter_map result_ok xs)) c.in-None.ensures.steps.0) c.loop-tlv.invariant)
+returns-clause-few c = listed_few c.append_listed.new.rows c.args.tlvs.now (c.in_ok-append_listed.ensures.ok ∙ ap (λ (rows : List Summary). rows ++ rows_of c.args.tlvs.now) c.new-rows.ensures)
