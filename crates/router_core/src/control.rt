@@ -7,7 +7,7 @@ use lsp_store::Store;
 use std::alloc::Global;
 use std::marker::Model;
 use view_graph::view;
-use wire_base::{M, RouterConf, View};
+use wire_base::{M, RouterConf, Summary, View};
 
 /// The control state of a router: its configuration, its database and what flooding keeps beside it, and whether it has
 /// used the last sequence number.
@@ -17,6 +17,8 @@ pub(crate) struct Control {
     pub(crate) store: Store,
     pub(crate) flood: Flood,
     pub(crate) spent: bool,
+    /// Memory for what a partial sequence numbers PDU lists, kept from one to the next.
+    pub(crate) room: Vec<Summary>,
 }
 
 impl Model for Control {

@@ -94,6 +94,7 @@ impl Control {
             store,
             flood,
             spent: false,
+            room: Vec::new(alloc),
         })
     }
 

@@ -13,7 +13,7 @@ use crate::control::Control;
 use crate::own::{issue_within, own_now, spent_past};
 use bier_forward::DropNote;
 use isis_flood::Flood;
-use lsp_store::Store;
+use lsp_store::{Store, is_same_id};
 use std::alloc::Global;
 use wire_base::limits::MOST_ENTRIES;
 use wire_base::{Age, Cause, Entry, LspId, M, Rows, Summary};
@@ -63,7 +63,7 @@ pub(crate) fn any_confusing(store: &Store, rows: &[Summary]) -> bool
 fn is_at_odds(store: &Store, id: &LspId, s: &Summary) -> bool
     ensures { result ≡ is_at_odds store.now.entries id.now s.now }
 {
-    s.id == *id && is_confused(store.compare(s))
+    is_same_id(s.id, *id) && is_confused(store.compare(s))
 }
 
 fn any_at_odds(store: &Store, id: &LspId, rows: &[Summary]) -> bool

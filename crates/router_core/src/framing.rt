@@ -7,7 +7,8 @@ ghost use Rattle.router_core.specs.Sending.{conf_alone, octets_on};
 
 use bier_forward::SentFrames;
 use isis_pdu::{
-    CSNP_FRONT, LSP_FRONT, LspHead, PSNP_FRONT, append_csnp, append_lsp, append_psnp, write_rows,
+    CSNP_FRONT, LSP_FRONT, LspHead, PSNP_FRONT, append_csnp, append_lsp, append_psnp_listing,
+    listed_octets, write_rows,
 };
 use link_frame::write_eth;
 use std::alloc::Global;
@@ -151,9 +152,9 @@ pub(crate) fn push_psnp(
     requires few { length rows.now ≤ MOST_LISTED }
     ensures { OnOk result (out.new ≡ out.old ++ frames_of conf.now link (psnp_of (conf_alone conf.now) rows.now ∷ [])) }
 {
-    let tlvs = write_rows(out.allocator(), rows)?;
-    out.make_room(PSNP_FRONT + tlvs.len())?;
-    begin_on(&mut out.next, conf, link, PSNP_FRONT + tlvs.len())?;
-    append_psnp(&mut out.next, conf.level, conf.system, tlvs.as_slice())?;
+    let size = PSNP_FRONT + listed_octets(rows.len());
+    out.make_room(size)?;
+    begin_on(&mut out.next, conf, link, size)?;
+    append_psnp_listing(&mut out.next, conf.level, conf.system, rows)?;
     out.sent.push(link, out.next.as_slice())
 }

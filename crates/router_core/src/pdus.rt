@@ -1,9 +1,10 @@
 //! PDUs of IS-IS that are received (ISO/IEC 10589, 7.3.15 and 7.3.16).
-ghost use Rattle.std.specs.Prelude.{◌≡◌, ◌<◌, ◌≤◌, ◌+◌, ◌^◌, ◌∷◌, [], ℕ, true, false, length, OnOk, OnErr};
+ghost use Rattle.std.specs.Prelude.{◌≡◌, ◌<◌, ◌≤◌, ◌+◌, ◌^◌, ◌∷◌, [], ℕ, true, false, length, IfOk, OnOk, OnErr};
 ghost use Rattle.wire_base.specs.declared.addresses.SystemId.{SystemId};
 ghost use Rattle.wire_base.specs.declared.flood_out.FloodOut.TheVariants as out;
 ghost use Rattle.wire_base.specs.model.Flooding.{on_pdu, psnp_of, answer_lsp, snp_done};
 ghost use Rattle.wire_base.specs.model.OnFrame.{nothing, dropped, passed_over, framed, frames_of, pdu_taken, pdu_read};
+ghost use Rattle.wire_base.specs.model.Tlv.{rows_of};
 ghost use Rattle.wire_base.specs.model.Pdu.{LspPdu, CsnpPdu, PsnpPdu, pdu_at};
 ghost use Rattle.isis_pdu.specs.Views.{head_of, pdu_of};
 ghost use Rattle.router_core.specs.Keeping.{MayKeep};
@@ -16,9 +17,10 @@ use crate::forecast::issue_ready;
 use crate::framing::{FramesOut, push_psnp};
 use crate::kept::Kept;
 use bier_forward::{DropNote, Effects};
-use isis_flood::{Flood, listed};
+use isis_flood::{Flood, append_listed, listed};
 use isis_pdu::{LspHead, Pdu, read_pdu};
 use lsp_store::Store;
+use std::mem::replace;
 use wire_base::limits::MOST_CONTENT;
 use wire_base::{Cause, FloodOut, LspId, M, Rows, SnpOut, Summary};
 
@@ -176,6 +178,20 @@ impl Control {
         self.take_list(link, Some((start, last)), rows.as_slice(), effects)
     }
 
+    /// The entries that those TLVs list, in the memory that those of the last list had.
+    fn list(&mut self, tlvs: &[u8]) -> M<Rows<Summary>>
+        ensures rows { IfOk result (λ rows. rows ≡ rows_of tlvs.now) }
+        ensures few { IfOk result (λ rows. length rows ≤ length tlvs.now) }
+        ensures control { self.new ≡ self.old }
+    {
+        let alloc = self.allocator();
+        let mut room = replace(&mut self.room, Vec::new(alloc));
+        room.clear();
+        let mut rows = Rows::from_vec(room);
+        append_listed(&mut rows, tlvs)?;
+        Ok(rows)
+    }
+
     /// A partial sequence numbers PDU; or all is as it was.
     #[tactic(auto, unfolding(wire_base::specs::model::Flooding::on_pdu, wire_base::specs::model::Flooding::on_psnp))]
     fn on_psnp(&mut self, link: u16, tlvs: &[u8], effects: &mut Effects) -> M<()>
@@ -185,8 +201,10 @@ impl Control {
         ensures next { OnOk result ((source : SystemId) → record { control = self.new; effects = effects.new } ≡ framed link (on_pdu self.old link (PsnpPdu source tlvs.now))) }
         ensures err { OnErr result (self.new ≡ self.old) }
     {
-        let rows = listed(self.allocator(), tlvs)?;
-        self.take_list(link, None, rows.as_slice(), effects)
+        let rows = self.list(tlvs)?;
+        let done = self.take_list(link, None, rows.as_slice(), effects);
+        self.room = rows.into_vec();
+        done
     }
 
     /// A PDU that floods; hellos and other types are passed over. Or all is as it was.

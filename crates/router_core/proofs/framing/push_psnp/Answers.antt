@@ -1,12 +1,12 @@
-use Rattle.std.proofs.Common.{◌∙◌, ℕ, List, length, slice_get, ap, arith}
+use Rattle.std.proofs.Common.{◌∙◌, arith}
 use Rattle.std.proofs.lemmas.Result.{on_ok_weaker}
-use Rattle.wire_base.specs.model.Pdu.{psnp}
+use Rattle.wire_base.specs.model.Pdu.{psnp, row_tlvs}
 use Rattle.wire_base.specs.model.Flooding.{psnp_of}
-use Rattle.router_core.specs.Sending.{conf_alone, octets_on}
+use Rattle.router_core.specs.Sending.{conf_alone}
 use Rattle.router_core.proofs.SendLaws.{pushed}
 use Rattle.router_core.proofs.framing.push_psnp.Goals as goal
 
 pub returns : goal.returns
 returns c = on_ok_weaker c.push.result (pushed c.args.conf.now c.args.link (psnp_of (conf_alone c.args.conf.now) c.args.rows.now) c.args.out.now c.out.inside.sent c.push.new.self _ (c.out.view_is ∙ c.in_ok-make_room.ensures)
-    (c.as_slice-2.ensures ∙ c.in_ok-append_psnp.ensures.ok ∙ c.in_ok-begin_on.ensures (psnp c.args.conf.now.level c.args.conf.now.system c.as_slice.result.now) (let tlvs = ap length c.as_slice.ensures in omega (arith, c.append_psnp.ensures.long, tlvs, c.len.ensures))
-    ∙ ap (λ (tlvs : List ℕ). octets_on (slice_get c.args.conf.now.ends c.args.link) (psnp c.args.conf.now.level c.args.conf.now.system tlvs)) (c.as_slice.ensures ∙ c.in_ok-tlvs.ensures.ok))) c.push.ensures.ok
+    (c.as_slice.ensures ∙ c.in_ok-append_psnp_listing.ensures.ok
+    ∙ c.in_ok-begin_on.ensures (psnp c.args.conf.now.level c.args.conf.now.system (row_tlvs c.args.rows.now)) (omega (arith, c.in_ok-append_psnp_listing.ensures.long, c.listed_octets-size.ensures.long)))) c.push.ensures.ok
