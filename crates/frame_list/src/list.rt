@@ -8,12 +8,12 @@ use std::marker::Model;
 use wire_base::M;
 
 /// The room that a first frame takes for itself and those that follow: a few link state PDUs.
-const FIRST_OCTETS: usize = 480;
+const FIRST_OCTETS: usize = 1000;
 
 const FIRST_FRAMES: usize = 8;
 
 /// How many octets a list without frames keeps room for.
-const KEPT: usize = 512;
+const KEPT: usize = 1024;
 
 /// How many octets of frames that are gone are left where they are.
 const LEFT: usize = 4096;

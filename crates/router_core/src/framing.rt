@@ -22,6 +22,9 @@ const ALL_ROUTERS: Mac = Mac([0x09, 0x00, 0x2b, 0x00, 0x00, 0x05]);
 /// The octets before the PDU: the Ethernet header and that of the logical link control, FE FE 03.
 const HEAD: usize = 17;
 
+/// The room that a first frame takes at least: that of most link state PDUs.
+const FIRST_ROOM: usize = 256;
+
 /// Frames to be sent. Each is built in the same octets before it is put behind the others, so that a frame takes no memory of
 /// its own.
 #[derive(Drop)]
@@ -55,13 +58,13 @@ impl FramesOut {
         self.sent.allocator()
     }
 
-    /// Room for a frame of a PDU of that length, where none was built yet.
+    /// Room for a frame of a PDU of that length and for those of others that are a little longer, where none was built yet.
     fn make_room(&mut self, size: usize) -> M<()>
         requires { size ≤ 1497 }
         ensures { OnOk result (self.new ≡ self.old) }
     {
         if self.next.len() == 0 {
-            self.next = Octets::with_room(self.allocator(), HEAD + size)?;
+            self.next = Octets::with_room(self.allocator(), (HEAD + size).max(FIRST_ROOM))?;
         }
         Ok(())
     }
