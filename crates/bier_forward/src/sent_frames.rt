@@ -1,6 +1,6 @@
 //! Frames that a router sends.
 ghost use Rattle.std.specs.Prelude.{◌≡◌, ◌<◌, ◌++◌, ◌∷◌, [], length, slice_get, option_map, Some, OnOk, OnErr};
-ghost use Rattle.bier_forward.specs.SentFrames.{sent_as};
+ghost use Rattle.bier_forward.specs.SentFrames.{sent_as, sent_in};
 
 use frame_list::FrameList;
 use std::alloc::Global;
@@ -62,6 +62,20 @@ impl SentFrames {
         ensures { option_map (λ s. s.octets) (slice_get self.now i) ≡ Some result.now }
     {
         self.list.octets_at(i)
+    }
+
+    /// The frames, each with its link as a note.
+    pub fn frames(&self) -> &FrameList<u16>
+        ensures { sent_in result.now ≡ self.now }
+    {
+        &self.list
+    }
+
+    /// The same, which take the octets along.
+    pub fn into_frames(self) -> FrameList<u16>
+        ensures { sent_in result ≡ self }
+    {
+        self.list
     }
 
     /// Then a frame is sent on a link; nothing changes where memory is refused.

@@ -6,7 +6,7 @@ ghost use Rattle.domain_core.specs.Network.{IsAsBefore, IsTrueNetwork, heard_aft
 ghost use Rattle.domain_model.specs.Step.{doing};
 
 use crate::network::Network;
-use domain_frames::{confs_of, lost, number_of, send_all, told_of};
+use domain_frames::{confs_of, is_silent, lines_of, lost, number_of, send_all, with_sent};
 use domain_model::StepOut;
 use wire_base::{Cause, M, Octets};
 
@@ -87,10 +87,15 @@ impl Network {
         }
         let number = number_of(&flight);
         let effects = router.frame(back, flight.octets)?;
-        let known = Some((back, from));
-        let out = told_of(alloc, confs, to, number, known, Some(&flight), &effects)?;
+        if is_silent(&effects) {
+            // Of most frames nothing is told.
+            self.flights.remove(from, link, i as usize);
+            return Ok(StepOut::nothing(alloc));
+        }
+        let lines = lines_of(alloc, confs, to, number, Some(&flight), &effects)?;
         send_all(&mut self.flights, confs, to, number, &effects.sent)?;
         self.flights.remove(from, link, i as usize);
-        Ok(out)
+        let known = Some((back, from));
+        Ok(with_sent(lines, confs, to, known, effects.sent))
     }
 }

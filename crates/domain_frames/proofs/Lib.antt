@@ -1,3 +1,4 @@
 pub mod FlightLaws
 pub mod QueueLaws
+pub mod SentLaws
 pub mod ToldLaws

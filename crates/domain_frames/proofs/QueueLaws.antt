@@ -1,19 +1,22 @@
 -- Frames on their way, read off the list that they are kept in, and frames that are sent one after the other.
-use Rattle.std.proofs.Common.{◌≡◌, ◌∙◌, ◌<◌, ◌≤◌, ◌+◌, ℕ, zero, suc, List, [], ◌∷◌, ◌++◌, length, map, take, drop, sum_by, slice_get, option_map, Option, Some, None, refl, ap, sym, arith}
+use Rattle.std.proofs.Common.{◌≡◌, ◌∙◌, ◌≤◌, ◌+◌, ℕ, zero, suc, List, [], ◌∷◌, ◌++◌, length, map, take, drop, sum_by, slice_get, option_map, Option, Some, None, refl, ap, sym, arith}
 use Rattle.std.specs.List.{remove}
 use Rattle.std.proofs.lemmas.List.{map-append}
 use Rattle.std.proofs.lemmas.List.Sums.{sum_by-cons}
 use Rattle.std.proofs.lemmas.Option.{none-some, same_Some}
-use Rattle.wire_base.specs.declared.conf.RouterConf.{RouterConf}
 use Rattle.wire_base.specs.declared.effects.Sent.{Sent}
-use Rattle.frame_list.specs.Spans.{Noted}
+use Rattle.frame_list.specs.Spans.{Noted, noted_as}
 use Rattle.domain_frames.specs.declared.flight.Flight.{Flight}
 use Rattle.domain_frames.specs.declared.flight.Note.{Note}
-use Rattle.domain_frames.specs.Flights.{flight_with, flights_in, flight_of, push_frame, push_sent, push_all_sent}
-use Rattle.domain_frames.specs.Framed.{note_over}
+use Rattle.domain_frames.specs.Flights.{flight_as, flight_with, flights_in}
 
 pub flight_more : (frames : List (Noted (Option Note))) (f : Noted (Option Note)) → flights_in (frames ++ f ∷ []) ≡ flights_in frames ++ flight_with f.octets f.note ∷ []
 flight_more frames f = map-append (λ (g : Noted (Option Note)). flight_with g.octets g.note) frames (f ∷ [])
+
+pub flights_more : (frames : List (Noted (Option Note))) (mark : Option Note) (others : List (Noted ℕ)) → flights_in (frames ++ map (noted_as mark) others) ≡ flights_in frames ++ map (flight_as mark) others
+flights_more [] mark [] = refl
+flights_more [] mark (f ∷ others) = ap (λ (l : List Flight). flight_as mark f ∷ l) (flights_more [] mark others)
+flights_more (f ∷ frames) mark others = ap (λ (l : List Flight). flight_with f.octets f.note ∷ l) (flights_more frames mark others)
 
 pub flight_gone : (frames : List (Noted (Option Note))) (i : ℕ) → flights_in (remove frames i) ≡ remove (flights_in frames) i
 flight_gone [] zero = refl
@@ -32,7 +35,7 @@ past_end [] i h = refl
 past_end (f ∷ flights) zero h = absurd (omega (arith, h))
 past_end (f ∷ flights) (suc i) h = past_end flights i (omega (arith, h))
 
-one : (i : ℕ) → i + 1 ≡ suc i
+pub one : (i : ℕ) → i + 1 ≡ suc i
 one i = omega arith
 
 -- ---- what a router sends, from a place on
@@ -50,15 +53,6 @@ sent_none [] zero h = refl
 sent_none [] (suc i) h = refl
 sent_none (s ∷ sent) zero h = absurd (omega (arith, h))
 sent_none (s ∷ sent) (suc i) h = sent_none sent i (omega (arith, h))
-
--- what is made of the first ones, with one more
-mapped_suc : {Y : Type 0} (f : Sent → Y) (sent : List Sent) (i link : ℕ) (octets : List ℕ) → option_map (λ s. s.link) (slice_get sent i) ≡ Some link → option_map (λ s. s.octets) (slice_get sent i) ≡ Some octets → map f (take (suc i) sent) ≡ map f (take i sent) ++ f (record { link = link; octets = octets }) ∷ []
-mapped_suc f [] i link octets l o = absurd (none-some link l)
-mapped_suc f (s ∷ sent) zero link octets l o = ap (λ (n : ℕ). f (record { link = n; octets = s.octets }) ∷ []) (same_Some s.link link l) ∙ ap (λ (x : List ℕ). f (record { link = link; octets = x }) ∷ []) (same_Some s.octets octets o)
-mapped_suc f (s ∷ sent) (suc i) link octets l o = ap (λ (ys : List _). f s ∷ ys) (mapped_suc f sent i link octets l o)
-
-pub taken_mapped : {Y : Type 0} (f : Sent → Y) (sent : List Sent) (i link : ℕ) (octets : List ℕ) → option_map (λ s. s.link) (slice_get sent i) ≡ Some link → option_map (λ s. s.octets) (slice_get sent i) ≡ Some octets → map f (take (i + 1) sent) ≡ map f (take i sent) ++ f (record { link = link; octets = octets }) ∷ []
-taken_mapped f sent i link octets l o = ap (λ (n : ℕ). map f (take n sent)) (one i) ∙ mapped_suc f sent i link octets l o
 
 -- a sum over the first ones, with one more
 summed_suc : (g : Flight → ℕ) (flights : List Flight) (i : ℕ) (f : Flight) → slice_get flights i ≡ Some f → sum_by g (take (suc i) flights) ≡ sum_by g (take i flights) + g f

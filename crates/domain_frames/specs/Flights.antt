@@ -1,6 +1,6 @@
 -- Frames on their way: for each router and each of its ends those that go over that end, the oldest first, each with what
 -- its octets don't tell. And the items that they are.
-use Rattle.std.specs.Prelude.{ℕ, List, [], ◌∷◌, ◌++◌, length, map, slice_index_or, slice_set, sum_by, Option, Some, None, option_map}
+use Rattle.std.specs.Prelude.{◌≡◌, ℕ, List, [], ◌∷◌, ◌++◌, length, map, slice_index_or, slice_set, sum_by, Option, Some, None, option_map}
 use Rattle.std.specs.List.{fold, remove}
 use Rattle.wire_base.specs.declared.conf.RouterConf.{RouterConf}
 use Rattle.wire_base.specs.declared.effects.Sent.{Sent}
@@ -39,6 +39,10 @@ ids_taken confs (Some f) = ids_seen confs f
 abbrev pub flight_with : List ℕ → Option Note → Flight
 flight_with octets note = record { octets = octets; note = note }
 
+-- the same of a frame of which something else was noted
+abbrev pub flight_as : Option Note → Noted ℕ → Flight
+flight_as note f = flight_with f.octets note
+
 -- frames that are kept as a list of frames, each with a note
 abbrev pub flights_in : List (Noted (Option Note)) → List Flight
 flights_in frames = map (λ f. flight_with f.octets f.note) frames
@@ -54,6 +58,10 @@ with_frames flights place link queue = slice_set flights place (slice_set (slice
 -- a frame goes to the end of its direction
 abbrev pub push_frame : List (List (List Flight)) → ℕ → ℕ → Flight → List (List (List Flight))
 push_frame flights place link f = with_frames flights place link (frames_at flights place link ++ f ∷ [])
+
+-- the same of several
+abbrev pub push_frames : List (List (List Flight)) → ℕ → ℕ → List Flight → List (List (List Flight))
+push_frames flights place link fs = with_frames flights place link (frames_at flights place link ++ fs)
 
 -- and another is gone from there
 abbrev pub without_frame : List (List (List Flight)) → ℕ → ℕ → ℕ → List (List (List Flight))
@@ -83,3 +91,7 @@ push_sent confs a number flights s = push_frame flights a s.link (flight_of conf
 
 abbrev pub push_all_sent : List RouterConf → ℕ → Option ℕ → List (List (List Flight)) → List Sent → List (List (List Flight))
 push_all_sent confs a number flights sent = fold (push_sent confs a number) flights sent
+
+-- a frame that is sent on that link
+abbrev pub IsOver : ℕ → Sent → Type 0
+IsOver link s = s.link ≡ link

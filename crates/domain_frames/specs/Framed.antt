@@ -15,6 +15,7 @@ use Rattle.wire_base.specs.model.Flooding.{Reply}
 use Rattle.wire_base.specs.model.Item.{Item, DataItem, frame_of}
 use Rattle.wire_base.specs.model.OnFrame.{Positions, Drop, Effects}
 use Rattle.wire_base.specs.model.Place.{id_at}
+use Rattle.frame_list.specs.Spans.{Noted, noted_as}
 use Rattle.domain_model.specs.declared.lines.GotLine.{GotLine}
 use Rattle.domain_model.specs.declared.lines.DropLine.{DropLine}
 use Rattle.domain_model.specs.World.{peer_place}
@@ -48,6 +49,10 @@ wire_of confs s = record { from = s.from; to = s.to; octets = frame_over confs s
 -- a frame that the router at place a sends, as it is told
 abbrev pub wire_from : List RouterConf → ℕ → Sent → WireFrame
 wire_from confs a s = record { from = a; to = peer_place confs a s.link; octets = s.octets }
+
+-- the same frame, of which that router is noted in place of its link
+abbrev pub peer_noted : List RouterConf → ℕ → Noted ℕ → Noted ℕ
+peer_noted confs a f = noted_as (peer_place confs a f.note) f
 
 -- ---- items of frames
 

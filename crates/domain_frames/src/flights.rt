@@ -3,7 +3,7 @@ ghost use Rattle.std.specs.Prelude.{◌≡◌, ◌+◌, ◌≤◌, ◌∷◌, �
 ghost use Rattle.std.specs.List.{AllByRecursion, remove};
 ghost use Rattle.wire_base.specs.model.Configuration.{IsSound};
 ghost use Rattle.domain_frames.specs.declared.flight.Flight.{Flight};
-ghost use Rattle.domain_frames.specs.Flights.{item_seen, flight_with, frames_at, push_frame, without_frame, frame_count, ids_carried_by, no_frames};
+ghost use Rattle.domain_frames.specs.Flights.{item_seen, flight_as, flight_with, frames_at, push_frame, push_frames, without_frame, frame_count, ids_carried_by, no_frames};
 ghost use Rattle.domain_model.specs.World.{carried};
 
 use crate::carried::{count_of, sum};
@@ -89,6 +89,15 @@ impl Queue {
         self.frames.push(note, octets)
     }
 
+    /// Puts frames behind the others, all with that note.
+    #[tactic(auto, using(crate::proofs::QueueLaws::flights_more))]
+    fn push_all(&mut self, frames: &FrameList<u16>, note: Option<Note>) -> M<()>
+        ensures ok { OnOk result (self.new ≡ self.old ++ map (flight_as note) frames.now) }
+        ensures err { OnErr result (self.new ≡ self.old) }
+    {
+        self.frames.append_all(note, frames)
+    }
+
     /// Whether there was a frame at that place, which is gone then.
     #[tactic(auto, using(crate::proofs::QueueLaws::flight_gone))]
     fn remove(&mut self, i: usize) -> bool
@@ -170,6 +179,20 @@ impl Queues {
         if link < self.ends.len() {
             let queue = &mut self.ends[link];
             queue.push(octets, note)?;
+            return Ok(true);
+        }
+        Ok(false)
+    }
+
+    /// Puts frames behind those on their way over an end, all with that note, and says whether there is such an end.
+    fn push_all(&mut self, link: usize, frames: &FrameList<u16>, note: Option<Note>) -> M<bool>
+        ensures ok { OnOk result (self.new ≡ slice_set self.old link (slice_index_or self.old link [] ++ map (flight_as note) frames.now)) }
+        ensures added { IfOk result (λ added. added ≡ nat_lt link (length self.old)) }
+        ensures err { OnErr result (self.new ≡ self.old) }
+    {
+        if link < self.ends.len() {
+            let queue = &mut self.ends[link];
+            queue.push_all(frames, note)?;
             return Ok(true);
         }
         Ok(false)
@@ -267,9 +290,31 @@ impl Flights {
         ensures err { OnErr result (self.new ≡ self.old) }
     {
         if usize::from(place) < self.routers.len() {
-            let count = one_more(self.count)?;
+            let count = more(self.count, 1)?;
             let queues = &mut self.routers[usize::from(place)];
             let added = queues.push(usize::from(link), octets, note)?;
+            if added {
+                self.count = count;
+            }
+        }
+        Ok(())
+    }
+
+    /// Puts frames at the end of a direction, all with that note. Where there is no such direction nothing changes.
+    pub fn push_all(
+        &mut self,
+        place: u16,
+        link: u16,
+        frames: &FrameList<u16>,
+        note: Option<Note>,
+    ) -> M<()>
+        ensures ok { OnOk result (self.new ≡ push_frames self.old place link (map (flight_as note) frames.now)) }
+        ensures err { OnErr result (self.new ≡ self.old) }
+    {
+        if usize::from(place) < self.routers.len() {
+            let count = more(self.count, frames.len())?;
+            let queues = &mut self.routers[usize::from(place)];
+            let added = queues.push_all(usize::from(link), frames, note)?;
             if added {
                 self.count = count;
             }
@@ -301,12 +346,12 @@ impl Flights {
     }
 }
 
-/// One more; there is no memory for more frames than can be counted.
-fn one_more(count: usize) -> M<usize>
-    ensures { IfOk result (λ more. more ≡ count + 1) }
+/// So many more; there is no memory for more frames than can be counted.
+fn more(count: usize, frames: usize) -> M<usize>
+    ensures { IfOk result (λ sum. sum ≡ count + frames) }
 {
-    match count.checked_add(1) {
-        Some(more) => Ok(more),
+    match count.checked_add(frames) {
+        Some(sum) => Ok(sum),
         None => Err(Memory),
     }
 }

@@ -16,4 +16,4 @@ pub use flight::{Flight, FlightSeen, Note};
 pub use flights::Flights;
 pub use places::{confs_of, link_between, peer_place};
 pub use sent::{carry, send_all};
-pub use told::{lost, number_of, told_of};
+pub use told::{is_silent, lines_of, lost, number_of, with_sent};

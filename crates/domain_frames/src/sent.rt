@@ -1,16 +1,16 @@
 //! What a router sends is put on its way.
-ghost use Rattle.std.specs.Prelude.{◌≡◌, ◌≤◌, [], length, drop, OnOk, OnErr, IfOk, IfSome};
+ghost use Rattle.std.specs.Prelude.{◌≡◌, ◌≤◌, [], length, drop, OnOk, OnErr, OnSome, IfOk, IfSome};
 ghost use Rattle.std.specs.List.{AllByRecursion};
 ghost use Rattle.wire_base.specs.model.Configuration.{IsSound};
 ghost use Rattle.domain_frames.specs.Told.{told_of};
-ghost use Rattle.domain_frames.specs.Flights.{push_all_sent};
+ghost use Rattle.domain_frames.specs.Flights.{IsOver, push_all_sent};
 ghost use Rattle.domain_frames.specs.Framed.{note_over};
 ghost use Rattle.domain_model.specs.World.{peer_place};
 
 use crate::flight::Note;
 use crate::flights::Flights;
 use crate::places::peer_place;
-use crate::told::told_of;
+use crate::told::{lines_of, with_sent};
 use bier_forward::{Effects, SentFrames};
 use domain_model::StepOut;
 use wire_base::limits::MOST_ROUTERS;
@@ -33,21 +33,14 @@ pub fn carry(
     ensures ok { OnOk result (flights.new ≡ push_all_sent confs.now at number flights.old effects.sent) }
     ensures err { OnErr result (flights.new ≡ flights.old) }
 {
-    let out = told_of(
-        effects.allocator(),
-        confs,
-        at,
-        number,
-        known,
-        None,
-        &effects,
-    )?;
+    let lines = lines_of(effects.allocator(), confs, at, number, None, &effects)?;
     send_all(flights, confs, at, number, &effects.sent)?;
-    Ok(out)
+    Ok(with_sent(lines, confs, at, known, effects.sent))
 }
 
 /// Puts what the router at a place sends, for that injection or for none, at the ends of its directions, in order; or all is
-/// as it was.
+/// as it was. Frames that share their link, as they mostly do, go there at once.
+#[tactic(auto, using(crate::proofs::SentLaws::all_sent))]
 pub fn send_all(
     flights: &mut Flights,
     confs: &[RouterConf],
@@ -60,7 +53,30 @@ pub fn send_all(
     ensures err { OnErr result (flights.new ≡ flights.old) }
     ensures memory { OnErr result (sent.now ≡ [] → ⊥) }
 {
-    send_from(flights, confs, at, number, sent, 0)
+    match shared_link(sent) {
+        Some(link) => {
+            let note = note_over(confs, at, number, link);
+            flights.push_all(at, link, sent.frames(), note)
+        }
+        None => send_from(flights, confs, at, number, sent, 0),
+    }
+}
+
+/// The link that all frames are sent on, where there are frames and it is one.
+fn shared_link(sent: &SentFrames) -> Option<u16>
+    ensures shared { IfSome result (λ link. AllByRecursion (IsOver link) sent.now) }
+    ensures some { OnSome result (sent.now ≡ [] → ⊥) }
+{
+    if sent.len() == 0 {
+        return None;
+    }
+    let link = sent.link_at(0);
+    'frames: for place in 0..sent.len() {
+        if sent.link_at(place) != link {
+            return None;
+        }
+    }
+    Some(link)
 }
 
 /// The same for the frames from a place on.

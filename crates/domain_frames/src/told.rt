@@ -10,7 +10,7 @@ ghost use Rattle.bier_bits.specs.Any.{bsl_of, positions_of};
 ghost use Rattle.bier_forward.specs.Sets.{set_in, HasLength, HaveLength};
 ghost use Rattle.domain_frames.specs.Told.{IsSilent, told_of};
 ghost use Rattle.domain_frames.specs.Flights.{item_seen, number_of, ids_seen, ids_taken};
-ghost use Rattle.domain_frames.specs.Framed.{wire_from, got_line, drop_line, ids_dropped};
+ghost use Rattle.domain_frames.specs.Framed.{peer_noted, wire_from, got_line, drop_line, ids_dropped};
 ghost use Rattle.domain_frames.specs.Read.{copy_read, packet_in};
 ghost use Rattle.domain_model.specs.Moves.{item_lost, listed};
 ghost use Rattle.domain_model.specs.World.{peer_place};
@@ -22,41 +22,54 @@ use bfr_edge::Packet;
 use bier_bits::AnyBits;
 use bier_forward::{DropNote, Effects, SentFrames};
 use domain_model::{DropLine, GotLine, StepOut, WireFrames};
+use frame_list::FrameList;
 use std::alloc::Global;
 use wire_base::limits::MOST_ROUTERS;
 use wire_base::{Cause, Got, M, RouterConf, Rows, Triple};
 
-/// What is told of what the router at a place did, for that injection or for none, having taken that frame or none. Where it
-/// did nothing, no memory is taken. Where one of its ends leads may be known.
-#[tactic(auto, using(crate::proofs::ToldLaws::silent_told))]
-pub fn told_of(
+/// What is told of what the router at a place delivered and dropped, for that injection or for none, having taken that frame or
+/// none. Where it did neither, no memory is taken.
+pub fn lines_of(
     alloc: Global,
     confs: &[RouterConf],
     at: u16,
     number: Option<u32>,
-    known: Option<(u16, u16)>,
     taken: Option<&FlightSeen<'_>>,
     effects: &Effects,
 ) -> M<StepOut>
     requires few { length confs.now ≤ MOST_ROUTERS }
     requires sound { AllByRecursion IsSound confs.now }
-    requires known { IfSome known (λ k. k.1 ≡ peer_place confs.now at k.0) }
-    ensures out { IfOk result (λ out. out ≡ told_of confs.now at number (ids_taken confs.now (option_map (λ f. f.now) taken.entry)) effects.now) }
+    ensures out { IfOk result (λ out. out ≡ record (told_of confs.now at number (ids_taken confs.now (option_map (λ f. f.now) taken.entry)) effects.now) { sent = [] }) }
     ensures memory { OnErr result (IsSilent effects.now → ⊥) }
 {
-    if is_silent(effects) {
-        // Of most events nothing is told.
-        return Ok(StepOut::nothing(alloc));
-    }
     Ok(StepOut {
-        sent: wire_frames(alloc, confs, at, known, &effects.sent)?,
+        sent: WireFrames::new(alloc),
         got: got_lines(alloc, at, number, effects.got.as_slice())?,
         drops: drop_lines(alloc, confs, at, number, taken, effects.drops.as_slice())?,
     })
 }
 
+/// The same with what the router sent, which takes no memory. Where one of its ends leads may be known.
+pub fn with_sent(
+    lines: StepOut,
+    confs: &[RouterConf],
+    at: u16,
+    known: Option<(u16, u16)>,
+    sent: SentFrames,
+) -> StepOut
+    requires few { length confs.now ≤ MOST_ROUTERS }
+    requires known { IfSome known (λ k. k.1 ≡ peer_place confs.now at k.0) }
+    ensures { result ≡ record lines { sent = map (wire_from confs.now at) sent } }
+{
+    StepOut {
+        sent: wire_frames(confs, at, known, sent),
+        got: lines.got,
+        drops: lines.drops,
+    }
+}
+
 /// Whether a router sent, delivered and dropped nothing.
-fn is_silent(effects: &Effects) -> bool
+pub fn is_silent(effects: &Effects) -> bool
     ensures { result ≡ true → IsSilent effects.now }
 {
     effects.sent.len() == 0 && effects.got.len() == 0 && effects.drops.len() == 0
@@ -84,28 +97,37 @@ fn peer_again(confs: &[RouterConf], at: u16, link: u16, known: Option<(u16, u16)
     }
 }
 
-/// What is sent, as frames. Those that go out together mostly share their link, so the place that was found last is at hand.
+/// What is sent, as frames.
+#[tactic(auto, using(crate::proofs::SentLaws::wires_are))]
 fn wire_frames(
-    alloc: Global,
     confs: &[RouterConf],
     at: u16,
     known: Option<(u16, u16)>,
-    sent: &SentFrames,
-) -> M<WireFrames>
+    sent: SentFrames,
+) -> WireFrames
     requires few { length confs.now ≤ MOST_ROUTERS }
     requires known { IfSome known (λ k. k.1 ≡ peer_place confs.now at k.0) }
-    ensures frames { IfOk result (λ frames. frames ≡ map (wire_from confs.now at) sent.now) }
-    ensures memory { OnErr result (sent.now ≡ [] → ⊥) }
+    ensures { result ≡ map (wire_from confs.now at) sent }
 {
-    let mut frames = WireFrames::new(alloc);
+    let mut frames = sent.into_frames();
+    note_peers(confs, at, known, &mut frames);
+    WireFrames::sent_by(at, frames)
+}
+
+/// Notes of each frame the router at the other end in place of the link. Those that go out together mostly share their link, so
+/// the place that was found last is at hand.
+fn note_peers(confs: &[RouterConf], at: u16, known: Option<(u16, u16)>, frames: &mut FrameList<u16>)
+    requires few { length confs.now ≤ MOST_ROUTERS }
+    requires known { IfSome known (λ k. k.1 ≡ peer_place confs.now at k.0) }
+    ensures { frames.new ≡ map (peer_noted confs.now at) frames.old }
+{
     let mut last = known;
-    'frames: for place in 0..sent.len() {
-        let link = sent.link_at(place);
+    'frames: for place in 0..frames.len() {
+        let link = frames.note_at(place);
         let to = peer_again(confs, at, link, last);
         last = Some((link, to));
-        frames.push(at, to, sent.octets_at(place))?;
+        frames.set_note(place, to);
     }
-    Ok(frames)
 }
 
 fn got_lines(alloc: Global, at: u16, number: Option<u32>, got: &[Got]) -> M<Rows<GotLine>>

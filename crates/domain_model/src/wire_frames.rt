@@ -1,23 +1,17 @@
 //! The frames that an event sends, in one list of octets.
-ghost use Rattle.std.specs.Prelude.{◌≡◌, ◌<◌, ◌++◌, ◌∷◌, [], length, slice_get, Some, option_map, OnOk, OnErr};
+ghost use Rattle.std.specs.Prelude.{◌≡◌, ◌<◌, [], length, slice_get, Some, option_map};
+ghost use Rattle.domain_model.specs.Wires.{wires_in};
 
 use frame_list::FrameList;
 use std::alloc::Global;
 use std::marker::Model;
-use wire_base::M;
 
-/// Who sends a frame to whom.
-#[derive(Clone, Copy, Drop)]
-struct Way {
-    from: u16,
-    to: u16,
-}
-
-/// Frames that routers send to others, which contracts see as a list of them. Their octets stand in one list, so that a frame
-/// takes no memory of its own.
+/// Frames that a router sends to others, which contracts see as a list of them. Their octets stand in one list, so that a frame
+/// takes no memory of its own. What is noted of each is the router that it goes to.
 #[derive(Drop)]
 pub struct WireFrames {
-    list: FrameList<Way>,
+    from: u16,
+    list: FrameList<u16>,
 }
 
 impl Model for WireFrames {
@@ -27,7 +21,7 @@ impl Model for WireFrames {
 
     ghost Value = { List WireFrame };
 
-    ghost view = { λ f. wires_in f.list };
+    ghost view = { λ f. wires_in f.from f.list };
 }
 
 impl WireFrames {
@@ -36,8 +30,16 @@ impl WireFrames {
         ensures { result ≡ [] }
     {
         WireFrames {
+            from: 0,
             list: FrameList::new(alloc),
         }
+    }
+
+    /// The frames that a router sends, each to the router that is noted of it.
+    pub fn sent_by(from: u16, list: FrameList<u16>) -> Self
+        ensures { result ≡ wires_in from list }
+    {
+        WireFrames { from, list }
     }
 
     /// How many frames there are.
@@ -54,14 +56,5 @@ impl WireFrames {
         ensures { option_map (λ f. f.octets) (slice_get self.now i) ≡ Some result.now }
     {
         self.list.octets_at(i)
-    }
-
-    /// Appends a frame with those octets.
-    #[tactic(auto, using(crate::proofs::WireLaws::wires_more))]
-    pub fn push(&mut self, from: u16, to: u16, octets: &[u8]) -> M<()>
-        ensures ok { OnOk result (self.new ≡ self.old ++ record { from = from; to = to; octets = octets.now } ∷ []) }
-        ensures err { OnErr result (self.new ≡ self.old) }
-    {
-        self.list.push(Way { from, to }, octets)
     }
 }

@@ -1,11 +1,11 @@
 -- Frames whose octets stand in one list stay what they are when more octets are put behind them.
-use Rattle.std.proofs.Common.{◌≡◌, ◌∙◌, ◌≤◌, ◌-◌, ℕ, zero, suc, List, [], ◌∷◌, ◌++◌, map, length, take, drop, slice_get, option_map, Some, refl, ap, arith}
+use Rattle.std.proofs.Common.{◌≡◌, ◌∙◌, ◌≤◌, ◌-◌, ◌+◌, ℕ, zero, suc, List, [], ◌∷◌, ◌++◌, map, length, take, drop, slice_get, slice_set, slice_index_or, option_map, Some, refl, ap, arith}
 use Rattle.std.specs.List.{AllByRecursion, remove}
 use Rattle.std.proofs.lemmas.List.{take-append-le, drop-append-le, length-append, length-drop, map-append}
-use Rattle.std.proofs.Math.Seq.{take-length, drop-append_seam}
+use Rattle.std.proofs.Math.Seq.{take-length, drop-append_seam, drop-append-add}
 use Rattle.std.proofs.lemmas.Option.{none-some, same_Some}
 use Rattle.frame_list.specs.declared.list.Span.{Span}
-use Rattle.frame_list.specs.Spans.{Noted, cut_out, frames_in, IsWithin, AreWithin}
+use Rattle.frame_list.specs.Spans.{Noted, cut_out, moved, noted_anew, noted_as, frames_in, IsWithin, AreWithin}
 
 cut_kept : (a b : ℕ) (o more : List ℕ) → a ≤ b → b ≤ length o → take (b - a) (drop a (o ++ more)) ≡ take (b - a) (drop a o)
 cut_kept a b o more ordered there =
@@ -82,3 +82,40 @@ pub taken_more : {N : Type 0} (xs : List (Noted N)) (i : ℕ) (note : N) (octets
 taken_more [] i note octets n o = absurd (none-some note n)
 taken_more (x ∷ xs) zero note octets n o = ap (λ m. noted m x.octets ∷ []) (same_Some x.note note n) ∙ ap (λ (l : List ℕ). noted note l ∷ []) (same_Some x.octets octets o)
 taken_more (x ∷ xs) (suc i) note octets n o = ap (λ (l : List (Noted _)). x ∷ l) (taken_more xs i note octets n o)
+
+-- ---- the frames of another list
+
+cut_moved : (o p : List ℕ) (a b : ℕ) → take ((length o + b) - (length o + a)) (drop (length o + a) (o ++ p)) ≡ take (b - a) (drop a p)
+cut_moved o p a b =
+    let n : (length o + b) - (length o + a) ≡ b - a = omega arith in
+    ap (λ (k : ℕ). take k (drop (length o + a) (o ++ p))) n ∙ ap (take (b - a)) (drop-append-add o p a)
+
+frames_moved : {N O : Type 0} (note : N) (o p : List ℕ) (others : List (Span O)) → frames_in (o ++ p) (map (moved note (length o)) others) ≡ map (noted_as note) (frames_in p others)
+frames_moved note o p [] = refl
+frames_moved note o p (s ∷ others) =
+    ap (λ (octets : List ℕ). noted note octets ∷ frames_in (o ++ p) (map (moved note (length o)) others)) (cut_moved o p s.start s.end)
+    ∙ ap (λ (l : List (Noted _)). noted_as note (cut_out p s) ∷ l) (frames_moved note o p others)
+
+within_moved : {N O : Type 0} (note : N) (o p : List ℕ) (others : List (Span O)) → AreWithin p others → AreWithin (o ++ p) (map (moved note (length o)) others)
+within_moved note o p [] within = tt
+within_moved note o p (s ∷ others) within =
+    (record { ordered = omega (arith, within.0.ordered); there = omega (arith, within.0.there, length-append o p) }, within_moved note o p others within.1)
+
+pub frames_joined : {N O : Type 0} (note : N) (o p : List ℕ) (spans : List (Span N)) (others : List (Span O)) → AreWithin o spans
+    → frames_in (o ++ p) (spans ++ map (moved note (length o)) others) ≡ frames_in o spans ++ map (noted_as note) (frames_in p others)
+frames_joined note o p spans others within =
+    map-append (cut_out (o ++ p)) spans (map (moved note (length o)) others)
+    ∙ ap (λ (l : List (Noted _)). l ++ frames_in (o ++ p) (map (moved note (length o)) others)) (frames_kept o p spans within)
+    ∙ ap (λ (l : List (Noted _)). frames_in o spans ++ l) (frames_moved note o p others)
+
+pub within_joined : {N O : Type 0} (note : N) (o p : List ℕ) (spans : List (Span N)) (others : List (Span O)) → AreWithin o spans → AreWithin p others → AreWithin (o ++ p) (spans ++ map (moved note (length o)) others)
+within_joined note o p spans others within theirs =
+    each_joined (IsWithin (o ++ p)) spans (map (moved note (length o)) others) (within_kept o p spans within) (within_moved note o p others theirs)
+
+-- ---- a frame of which something else is noted
+
+pub frames_noted : {N : Type 0} (note : N) (o : List ℕ) (spans : List (Span N)) (i : ℕ) (s : Span N) → s ≡ slice_index_or spans i s
+    → frames_in o (slice_set spans i (record { note = note; start = s.start; end = s.end })) ≡ noted_anew (frames_in o spans) i note
+frames_noted note o [] i s is = refl
+frames_noted note o (x ∷ spans) zero s is = ap (λ (y : Span _). noted note (take (y.end - y.start) (drop y.start o)) ∷ frames_in o spans) is
+frames_noted note o (x ∷ spans) (suc i) s is = ap (λ (l : List (Noted _)). cut_out o x ∷ l) (frames_noted note o spans i s is)

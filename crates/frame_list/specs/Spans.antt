@@ -1,5 +1,5 @@
 -- Frames whose octets stand in one list.
-use Rattle.std.specs.Prelude.{ℕ, ◌≤◌, ◌-◌, List, length, take, drop, map}
+use Rattle.std.specs.Prelude.{ℕ, zero, suc, ◌≤◌, ◌+◌, ◌-◌, List, [], ◌∷◌, length, take, drop, map}
 use Rattle.std.specs.List.{AllByRecursion}
 use Rattle.frame_list.specs.declared.list.Span.{Span}
 
@@ -7,6 +7,16 @@ use Rattle.frame_list.specs.declared.list.Span.{Span}
 pub record Noted (N : Type 0) : Type 0 where
   pub note : N
   pub octets : List ℕ
+
+-- the same frame, of which something else is noted
+abbrev pub noted_as : {N O : Type 0} → N → Noted O → Noted N
+noted_as note f = record { note = note; octets = f.octets }
+
+-- the same of the frame at a place
+abbrev pub noted_anew : {N : Type 0} → List (Noted N) → ℕ → N → List (Noted N)
+noted_anew [] i note = []
+noted_anew (f ∷ frames) zero note = noted_as note f ∷ frames
+noted_anew (f ∷ frames) (suc i) note = f ∷ noted_anew frames i note
 
 -- the frame that a span cuts out
 abbrev pub cut_out : {N : Type 0} → List ℕ → Span N → Noted N
@@ -22,3 +32,7 @@ pub record IsWithin {N : Type 0} (octets : List ℕ) (s : Span N) : Type 0 where
 
 abbrev pub AreWithin : {N : Type 0} → List ℕ → List (Span N) → Type 0
 AreWithin octets spans = AllByRecursion (IsWithin octets) spans
+
+-- a span of octets that were put behind so many others
+abbrev pub moved : {N O : Type 0} → N → ℕ → Span O → Span N
+moved note start s = record { note = note; start = start + s.start; end = start + s.end }

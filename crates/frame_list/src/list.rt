@@ -1,6 +1,7 @@
-ghost use Rattle.std.specs.Prelude.{◌≡◌, ◌<◌, ◌++◌, ◌∷◌, [], nat_lt, length, slice_get, option_map, Some, true, OnOk, OnErr, IfOk};
+ghost use Rattle.std.specs.Prelude.{◌≡◌, ◌<◌, ◌≤◌, ◌+◌, ◌^◌, ◌++◌, ◌∷◌, [], nat_lt, length, map, slice_get, option_map, Some, true, OnOk, OnErr, IfOk};
 ghost use Rattle.std.specs.List.{remove};
-ghost use Rattle.frame_list.specs.Spans.{Noted, cut_out, IsWithin};
+ghost use Rattle.std.specs.VecDeque.{deque_len, deque_capacity};
+ghost use Rattle.frame_list.specs.Spans.{Noted, cut_out, moved, noted_anew, noted_as, IsWithin, AreWithin};
 
 use std::alloc::Global;
 use std::collections::VecDeque;
@@ -98,6 +99,38 @@ impl<N: Copy + Drop> FrameList<N> {
         self.append(note, octets)
     }
 
+    /// Appends the frames of another list, all with that note, their octets at once; nothing changes where memory is refused.
+    #[tactic(auto, using(crate::proofs::SpanLaws::frames_joined, crate::proofs::SpanLaws::within_joined))]
+    pub fn append_all<O: Copy + Drop>(&mut self, note: N, others: &FrameList<O>) -> M<()>
+        ensures ok { OnOk result (self.new ≡ self.old ++ map (noted_as note) others.now) }
+        ensures err { OnErr result (self.new ≡ self.old) }
+    {
+        if self.is_mostly_gone() {
+            self.gather()?;
+        }
+        self.make_room(others.octets.len())?;
+        self.spans.reserve(others.spans.len())?;
+        let start = self.octets.len();
+        self.octets.extend_from_slice(others.octets.as_slice())?;
+        put_behind(
+            &mut self.spans,
+            note,
+            start,
+            others.octets.as_slice(),
+            &others.spans,
+        );
+        Ok(())
+    }
+
+    /// Something else is noted of the frame at a place.
+    pub fn set_note(&mut self, i: usize, note: N)
+        requires { i < length self.old }
+        ensures { self.new ≡ noted_anew self.old i note }
+    {
+        let span = &mut self.spans[i];
+        span.note = note;
+    }
+
     /// Room for the first frames, of which one has that many octets: so that a list doesn't grow step by step.
     fn make_room(&mut self, octets: usize) -> M<()>
         ensures { self.new ≡ self.old }
@@ -175,5 +208,28 @@ impl<N: Copy + Drop> FrameList<N> {
         }
         *self = left;
         Ok(())
+    }
+}
+
+/// Puts the spans of frames whose octets were put behind others behind the spans of those, all with that note.
+fn put_behind<N: Copy + Drop, O: Copy + Drop>(
+    spans: &mut VecDeque<Span<N>>,
+    note: N,
+    start: usize,
+    octets: &[u8],
+    others: &VecDeque<Span<O>>,
+)
+    requires room { deque_len spans.old + deque_len others.now ≤ deque_capacity spans.old }
+    requires within { AreWithin octets.now others.now.items }
+    requires fits { start + length octets.now < 2 ^ 64 }
+    ensures { spans.new.items ≡ spans.old.items ++ map (moved note start) others.now.items }
+{
+    'spans: for i in 0..others.len() {
+        let span = others[i];
+        spans.push_back_reserved(Span {
+            note,
+            start: start + span.start,
+            end: start + span.end,
+        });
     }
 }

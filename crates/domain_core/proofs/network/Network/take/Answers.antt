@@ -1,4 +1,4 @@
-use Rattle.std.proofs.Common.{◌≡◌, inr, ◌∙◌, ◌≤◌, ℕ, true, false, List, length, slice_get, slice_set, Option, refl, sym, ap, subst}
+use Rattle.std.proofs.Common.{◌≡◌, inr, ◌∙◌, ◌≤◌, ℕ, true, false, List, length, map, slice_get, slice_set, Option, refl, sym, ap, subst}
 use Rattle.wire_base.specs.declared.limits.TheConstants.{MOST_FRAME}
 use Rattle.wire_base.specs.declared.cause.Cause.TheVariants as cause
 use Rattle.wire_base.specs.declared.conf.RouterConf.{RouterConf}
@@ -8,7 +8,9 @@ use Rattle.domain_model.specs.Moves.{item_lost}
 use Rattle.router_laws.specs.State.{RouterState}
 use Rattle.domain_model.proofs.QueueLaws.{got_within}
 use Rattle.domain_frames.specs.declared.flight.Flight.{Flight}
-use Rattle.domain_frames.specs.Told.{told, told_of}
+use Rattle.domain_frames.specs.Told.{IsSilent, told, told_of}
+use Rattle.domain_model.specs.declared.step_out.StepOut.{StepOut}
+use Rattle.domain_frames.specs.Framed.{wire_from}
 use Rattle.domain_frames.specs.Flights.{item_seen, ids_seen, number_of, frames_at, without_frame, push_all_sent}
 use Rattle.domain_core.specs.Held.{state_of, world_in, heard_in}
 use Rattle.domain_core.specs.Network.{world_of, IsFrameOver}
@@ -16,6 +18,7 @@ use Rattle.domain_model.specs.Step.{Happened, taken_off}
 use Rattle.domain_model.specs.World.{is_up, queue_over}
 use Rattle.domain_core.proofs.CarryLaws.{set_same, still_world, is_short, unmoved, heard_there, taken_done}
 use Rattle.domain_frames.proofs.FlightLaws.{goes_after}
+use Rattle.domain_frames.proofs.ToldLaws.{silent_told}
 use Rattle.domain_core.proofs.RefusalLaws.{toward, link_within, leads_to}
 use Rattle.domain_core.proofs.SeenLaws.{none_seen_at, some_seen_at, frames_left}
 use Rattle.domain_core.proofs.TransitLaws.{gone_world, lost_world, lost_told, same_frames, none_taken, down_taken, unheard, none_heard}
@@ -84,19 +87,19 @@ frame-requires-clause-short c =
     let up : is_up r.control c.in-Some-link.back ≡ true = sym c.if-not-is_up.ensures in
     subst (λ (octets : List ℕ). length octets ≤ MOST_FRAME) (sym (ap (λ (x : Flight). x.octets) c.flight.view_is)) (is_short n c.requires.truth c.args.from c.args.to c.in-Some.link c.in-Some-link.back c.args.i r there (sym c.in-Some.ensures) up f c.in-Some-get.ensures)
 
-pub told_of-requires-clause-known : goal.told_of-requires-clause-known
-told_of-requires-clause-known c = leads_to (world_in c.args.self.now) c.args.to c.args.from c.in-Some-link.back c.requires.truth.truth (sym c.in-Some-link.ensures) c.confs_of-confs.result.now c.confs_of-confs.ensures.confs
+pub with_sent-requires-clause-known : goal.with_sent-requires-clause-known
+with_sent-requires-clause-known c = leads_to (world_in c.args.self.now) c.args.to c.args.from c.in-Some-link.back c.requires.truth.truth (sym c.in-Some-link.ensures) c.confs_of-confs.result.now c.confs_of-confs.ensures.confs
 
-pub returns-in_err-out-2-clause-err : goal.returns-in_err-out-2-clause-err
-returns-in_err-out-2-clause-err c =
+pub returns-in_err-lines-clause-err : goal.returns-in_err-lines-clause-err
+returns-in_err-lines-clause-err c =
     let n = state_of c.args.self.now in
     let r = c.index_mut-router.result.now in
     let f = c.in-Some-get.flight in
     let there = router_there n.routers c.from.result c.args.to r c.from.ensures c.requires.place c.index_mut-router.ensures.value in
     let up : is_up r.control c.in-Some-link.back ≡ true = sym c.if-not-is_up.ensures in
     let done = c.in_ok-effects.ensures.next ∙ ap (λ (octets : List ℕ). on_frame r.control c.in-Some-link.back octets) (ap (λ (x : Flight). x.octets) c.flight.view_is) in
-    let same = unmoved n c.requires.truth c.args.from c.args.to c.in-Some.link c.in-Some-link.back c.args.i r there (sym c.in-Some.ensures) up f c.in-Some-get.ensures c.frame.new.self.control c.in_ok-effects.effects done c.in_err-out-2.ensures.memory in
-    on_err c.from_residual-in_err-out-2.result _
+    let same = unmoved n c.requires.truth c.args.from c.args.to c.in-Some.link c.in-Some-link.back c.args.i r there (sym c.in-Some.ensures) up f c.in-Some-get.ensures c.frame.new.self.control c.in_ok-effects.effects done c.in_err-lines.ensures.memory in
+    on_err c.from_residual-in_err-lines.result _
     (record {
       world = still_world n c.args.to r there c.from.result c.from.ensures c.frame.new.self same;
       heard = inr (heard_there n c.requires.truth c.args.from c.args.to c.in-Some.link c.in-Some-link.back c.args.i r there (sym c.in-Some.ensures) up f c.in-Some-get.ensures (sym c.in-Some-link.ensures) c.from.result c.from.ensures c.frame.new.self c.in_ok-effects.ensures.heard);
@@ -119,6 +122,33 @@ returns-in_err-send_all-clause-err c =
       heard = inr (heard_there n c.requires.truth c.args.from c.args.to c.in-Some.link c.in-Some-link.back c.args.i r there (sym c.in-Some.ensures) up f c.in-Some-get.ensures (sym c.in-Some-link.ensures) c.from.result c.from.ensures c.frame.new.self c.in_ok-effects.ensures.heard);
     })
 
+pub returns-then-is_silent-clause-done : goal.returns-then-is_silent-clause-done
+returns-then-is_silent-clause-done c =
+    let n = state_of c.args.self.now in
+    let r = c.index_mut-router.result.now in
+    let f = c.in-Some-get.flight in
+    let there = router_there n.routers c.from.result c.args.to r c.from.ensures c.requires.place c.index_mut-router.ensures.value in
+    let up : is_up r.control c.in-Some-link.back ≡ true = sym c.if-not-is_up.ensures in
+    let done = c.in_ok-effects.ensures.next ∙ ap (λ (octets : List ℕ). on_frame r.control c.in-Some-link.back octets) (ap (λ (x : Flight). x.octets) c.flight.view_is) in
+    let effects = c.in_ok-effects.effects in
+    let silent : IsSilent effects = c.is_silent.ensures c.if-is_silent.true in
+    let left = without_frame n.flights c.args.from c.in-Some.link c.args.i in
+    let gone : c.remove-then-is_silent.new.self ≡ push_all_sent n.domain.routers c.args.to (number_of f) left effects.sent =
+    c.remove-then-is_silent.ensures ∙ ap (push_all_sent n.domain.routers c.args.to (number_of f) left) (sym silent.sent) in
+    let out = c.nothing-then-is_silent.ensures ∙ silent_told n.domain.routers c.args.to (number_of f) (ids_seen n.domain.routers f) effects silent in
+    let k = taken_done n c.requires.truth c.args.from c.args.to c.in-Some.link c.in-Some-link.back c.args.i r there (sym c.in-Some.ensures) up f c.in-Some-get.ensures left refl
+    (sym c.in-Some-link.ensures) c.from.result c.from.ensures c.frame.new.self effects done c.remove-then-is_silent.new.self gone c.nothing-then-is_silent.result out in
+    record { world = k.world; frames = k.frames; answer = k.answer }
+
+pub returns-then-is_silent-clause-heard : goal.returns-then-is_silent-clause-heard
+returns-then-is_silent-clause-heard c =
+    let n = state_of c.args.self.now in
+    let r = c.index_mut-router.result.now in
+    let f = c.in-Some-get.flight in
+    let there = router_there n.routers c.from.result c.args.to r c.from.ensures c.requires.place c.index_mut-router.ensures.value in
+    let up : is_up r.control c.in-Some-link.back ≡ true = sym c.if-not-is_up.ensures in
+    heard_there n c.requires.truth c.args.from c.args.to c.in-Some.link c.in-Some-link.back c.args.i r there (sym c.in-Some.ensures) up f c.in-Some-get.ensures (sym c.in-Some-link.ensures) c.from.result c.from.ensures c.frame.new.self c.in_ok-effects.ensures.heard
+
 pub returns-clause-done : goal.returns-clause-done
 returns-clause-done c =
     let n = state_of c.args.self.now in
@@ -137,12 +167,14 @@ returns-clause-done c =
     let gone : c.remove-2.new.self ≡ push_all_sent n.domain.routers c.args.to (number_of f) (without_frame n.flights c.args.from c.in-Some.link c.args.i) effects.sent =
     c.remove-2.ensures ∙ ap (λ (x : List (List (List Flight))). without_frame x c.args.from c.in-Some.link c.args.i) sent
     ∙ goes_after n.domain.routers c.args.to (number_of f) effects.sent n.flights c.args.from c.in-Some.link c.args.i (got_within (frames_at n.flights c.args.from c.in-Some.link) c.args.i f (sym c.in-Some-get.ensures)) in
-    let out : c.in_ok-out-2.out ≡ told_of n.domain.routers c.args.to (number_of f) (ids_seen n.domain.routers f) effects =
-    c.in_ok-out-2.ensures.out
+    let out : c.with_sent.result ≡ told_of n.domain.routers c.args.to (number_of f) (ids_seen n.domain.routers f) effects =
+    c.with_sent.ensures
+    ∙ ap (λ (ss : List Sent). record c.in_ok-lines.lines { sent = map (wire_from c.confs_of-confs.result.now c.args.to) ss }) (ap (λ (e : Effects). e.sent) c.effects.view_is)
+    ∙ ap (λ (o : StepOut). record o { sent = map (wire_from c.confs_of-confs.result.now c.args.to) effects.sent }) c.in_ok-lines.ensures.out
     ∙ ap (λ (cs : List RouterConf). told_of cs c.args.to c.number_of-number.result (ids_seen cs f) effects) confs
     ∙ ap (λ (o : Option ℕ). told_of n.domain.routers c.args.to o (ids_seen n.domain.routers f) effects) c.number_of-number.ensures in
     let k = taken_done n c.requires.truth c.args.from c.args.to c.in-Some.link c.in-Some-link.back c.args.i r there (sym c.in-Some.ensures) up f c.in-Some-get.ensures (without_frame n.flights c.args.from c.in-Some.link c.args.i) refl
-    (sym c.in-Some-link.ensures) c.from.result c.from.ensures c.frame.new.self effects done c.remove-2.new.self gone c.in_ok-out-2.out out in
+    (sym c.in-Some-link.ensures) c.from.result c.from.ensures c.frame.new.self effects done c.remove-2.new.self gone c.with_sent.result out in
     record { world = k.world; frames = k.frames; answer = k.answer }
 
 pub returns-clause-heard : goal.returns-clause-heard
