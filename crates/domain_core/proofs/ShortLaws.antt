@@ -1,11 +1,11 @@
 -- Each frame that a domain sends fits a record of a capture.
-use Rattle.std.proofs.Common.{◌≡◌, ℕ, List, [], ◌∷◌, length, map, None, Result, Ok, Err, IfOk, MatchResult, sym, subst, arith}
+use Rattle.std.proofs.Common.{◌≡◌, ℕ, List, [], ◌∷◌, length, map, Option, None, Result, Ok, Err, IfOk, MatchResult, sym, subst, arith}
 use Rattle.std.specs.List.{AllByRecursion}
 use Rattle.wire_base.specs.model.Configuration.{DomainConf, IsValid}
 use Rattle.replay_text.specs.declared.event.Event.{Event}
 use Rattle.domain_model.specs.declared.fault.EventFault.{EventFault}
 use Rattle.domain_model.specs.declared.step_out.StepOut.{StepOut}
-use Rattle.domain_core.specs.Answers.{Refuses}
+use Rattle.domain_core.specs.Answers.{outcome, Refuses}
 use Rattle.domain_frames.specs.Told.{IsShortFrame, told}
 use Rattle.domain_model.specs.World.{WorldState, peer_place}
 use Rattle.domain_model.specs.Moves.{Sending}
@@ -34,3 +34,9 @@ pub step_short : (result : Result StepOut EventFault) (w : WorldState) → IsTru
     → IfOk result (λ out. AllByRecursion IsShortFrame out.sent)
 step_short (Ok out) w t e fits allowed is = subst (λ (o : StepOut). AllByRecursion IsShortFrame o.sent) (sym is) (sent_short w t e fits allowed)
 step_short (Err f) w t e fits refused is = tt
+
+pub over_short : (result : Result (Option StepOut) EventFault) (w : WorldState) → IsTruthful w → (e : Event) → EventFits (length w.domain.routers) e
+    → MatchResult result (λ _. event_fault w e ≡ None) (λ f. Refuses (event_fault w e) f) → IfOk result (λ out. outcome out ≡ told w.domain.routers (happens w e).made)
+    → IfOk result (λ out. AllByRecursion IsShortFrame (outcome out).sent)
+over_short (Ok out) w t e fits allowed is = subst (λ (o : StepOut). AllByRecursion IsShortFrame o.sent) (sym is) (sent_short w t e fits allowed)
+over_short (Err f) w t e fits refused is = tt

@@ -1,11 +1,12 @@
 -- Why an event is refused.
-use Rattle.std.specs.Prelude.{◌≡◌, nat_le, Option, Some, None}
+use Rattle.std.specs.Prelude.{◌≡◌, nat_le, [], Option, Some, None}
 use Rattle.wire_base.specs.declared.faults.EdgeFault.{EdgeFault}
 use Rattle.wire_base.specs.declared.faults.EdgeFault.TheVariants as edge
 use Rattle.replay_text.specs.declared.event.Event.{Event}
 use Rattle.replay_text.specs.declared.event.Event.TheVariants.{Inject, Take, Lose, Again, Down, Up, Send, Tick, Restart}
 use Rattle.domain_model.specs.declared.fault.EventFault.{EventFault}
 use Rattle.domain_model.specs.declared.fault.EventFault.TheVariants as faults
+use Rattle.domain_model.specs.declared.step_out.StepOut.{StepOut}
 use Rattle.domain_model.specs.Faults.{most_events, first_fault, unless_room, rule_fault}
 use Rattle.domain_model.specs.World.{WorldState}
 
@@ -54,3 +55,8 @@ entry_refused (edge.SiLarge k) = faults.Edge (edge.SiLarge k)
 entry_refused edge.NotBfr = faults.Edge edge.NotBfr
 entry_refused edge.BslUnknown = faults.Edge edge.BslUnknown
 entry_refused edge.Memory = faults.Memory
+
+-- what an event is answered with; nothing, where nothing is told of it
+abbrev pub outcome : Option StepOut → StepOut
+outcome None = record { sent = []; got = []; drops = [] }
+outcome (Some out) = out

@@ -1,14 +1,16 @@
 //! What a router does by itself: its ends change, it sends, a second passes, it starts again, or a payload enters there.
-ghost use Rattle.std.specs.Prelude.{◌≡◌, ◌<◌, ◌≤◌, ◌^◌, ◌-◌, length, None, IfOk, OnOk, OnErr, MatchResult};
+ghost use Rattle.std.specs.Prelude.{◌≡◌, ◌<◌, ◌≤◌, ◌^◌, ◌-◌, length, Some, None, IfOk, OnOk, OnErr, MatchResult};
 ghost use Rattle.replay_text.specs.declared.event.Event.TheVariants as events;
-ghost use Rattle.domain_core.specs.Answers.{entry_refused, Refuses};
+ghost use Rattle.domain_core.specs.Answers.{entry_refused, outcome, Refuses};
 ghost use Rattle.domain_core.specs.Held.{state_of, world_in, heard_in, inject_fault, IsDone};
 ghost use Rattle.domain_core.specs.Network.{IsTrueNetwork};
 ghost use Rattle.domain_model.specs.Faults.{event_fault};
 ghost use Rattle.domain_model.specs.Step.{doing};
 ghost use Rattle.domain_model.specs.Truth.{InjectFits};
+ghost use Rattle.domain_model.specs.World.{link_between};
 
 use crate::network::Network;
+use crate::over::or_nothing;
 use domain_frames::{carry, confs_of};
 use domain_model::{EventFault, StepOut};
 use wire_base::{Bsl, EdgeFault, M};
@@ -82,8 +84,7 @@ impl Network {
         Ok(StepOut::nothing(alloc))
     }
 
-    /// A router sends what is due toward another, over an end that is up. It has sent that only once it is told and on its way.
-    /// One that owes nothing there, as most do most of the time, is passed over.
+    /// A router sends what is due toward another, over an end that is up.
     pub(crate) fn send(&mut self, from: u16, to: u16) -> M<StepOut>
         requires truth { IsTrueNetwork (state_of self.old) }
         requires place { from < length self.old.routers.items }
@@ -97,8 +98,24 @@ impl Network {
         let Some(link) = self.link(from, to) else {
             return Ok(StepOut::nothing(alloc));
         };
+        let sent = self.send_over(from, link, to)?;
+        Ok(or_nothing(alloc, sent))
+    }
+
+    /// A router sends what is due over the end `link`, which is up and leads there. It has sent that only once it is told and
+    /// on its way. One that owes nothing there, as most do most of the time, is passed over.
+    pub(crate) fn send_over(&mut self, from: u16, link: u16, to: u16) -> M<Option<StepOut>>
+        requires truth { IsTrueNetwork (state_of self.old) }
+        requires place { from < length self.old.routers.items }
+        requires joined { link_between self.old.domain.routers from to ≡ Some link }
+        requires allowed { event_fault (world_in self.old) (events.Send from to) ≡ None }
+        ensures done { IfOk result (λ out. IsDone self.old self.new (doing (world_in self.old) (events.Send from to)) (outcome out)) }
+        ensures heard { OnOk result (heard_in self.new ≡ heard_in self.old) }
+        ensures err { OnErr result (state_of self.new ≡ state_of self.old) }
+        ensures domain { self.new.domain ≡ self.old.domain }
+    {
         if !self.routers[usize::from(from)].may_owe(link) {
-            return Ok(StepOut::nothing(alloc));
+            return Ok(None);
         }
         let confs = confs_of(&self.domain);
         let router = &mut self.routers[usize::from(from)];
@@ -106,7 +123,7 @@ impl Network {
         let known = Some((link, to));
         let out = carry(&mut self.flights, confs, from, None, known, effects)?;
         router.sent(link);
-        Ok(out)
+        Ok(Some(out))
     }
 
     /// A payload enters at a router.

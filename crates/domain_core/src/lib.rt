@@ -8,6 +8,7 @@ mod alone;
 mod events;
 mod frame_laws;
 mod network;
+mod over;
 mod refusal;
 mod transit;
 mod world;

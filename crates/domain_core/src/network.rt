@@ -4,7 +4,7 @@ ghost use Rattle.std.specs.List.{AllByRecursion};
 ghost use Rattle.wire_base.specs.model.Configuration.{IsSound};
 ghost use Rattle.domain_core.specs.Held.{state_of, world_in, heard_in};
 ghost use Rattle.domain_core.specs.Network.{started_router, IsTrueNetwork};
-ghost use Rattle.domain_model.specs.World.{link_between, frames_between, first_world, ids_in_flight};
+ghost use Rattle.domain_model.specs.World.{link_between, frames_between, queue_at, first_world, ids_in_flight};
 
 use domain_frames::{Flights, confs_of, link_between};
 use router_core::Router;
@@ -64,12 +64,19 @@ impl Network {
         link_between(confs_of(&self.domain), from, to)
     }
 
+    /// How many frames are on their way over the end of a router.
+    pub(crate) fn frames_over(&self, from: u16, link: u16) -> usize
+        ensures { result ≡ length (queue_at (world_in self.now).flights from link) }
+    {
+        self.flights.len(from, link)
+    }
+
     /// How many frames are on their way from one router to another.
     pub(crate) fn frames(&self, from: u16, to: u16) -> usize
         ensures { result ≡ length (frames_between (world_in self.now) from to) }
     {
         match self.link(from, to) {
-            Some(link) => self.flights.len(from, link),
+            Some(link) => self.frames_over(from, link),
             None => 0,
         }
     }

@@ -1,9 +1,10 @@
 //! Why an event isn't allowed, but for what a router says of an injection.
-ghost use Rattle.std.specs.Prelude.{◌≡◌, ℕ, ◌<◌, nat_le, List, length, slice_get, Some, None};
+ghost use Rattle.std.specs.Prelude.{◌≡◌, ℕ, ◌<◌, not, nat_le, List, length, slice_get, Some, None};
 ghost use Rattle.wire_base.specs.declared.conf.RouterConf.{RouterConf};
 ghost use Rattle.replay_text.specs.declared.event.Event.TheVariants as events;
 ghost use Rattle.domain_core.specs.Answers.{early_fault, early_rule};
-ghost use Rattle.domain_model.specs.Faults.{most_in_flight, unless_room, up_over, frame_fault, repeat_fault, rule_fault};
+ghost use Rattle.domain_model.specs.declared.fault.EventFault.TheVariants as faults;
+ghost use Rattle.domain_model.specs.Faults.{most_in_flight, first_fault, unless_room, up_over, frame_fault, repeat_fault, rule_fault};
 ghost use Rattle.domain_frames.specs.Flights.{item_seen};
 ghost use Rattle.domain_core.specs.Held.{world_in};
 ghost use Rattle.domain_model.specs.Truth.{EventFits};
@@ -84,9 +85,16 @@ impl Network {
     fn take_fault(&self, from: u16, to: u16, i: u32) -> Option<EventFault>
         ensures { result ≡ rule_fault (world_in self.now) (events.Take from to i) }
     {
-        let Some(link) = self.link(from, to) else {
-            return Some(EventFault::NoLink);
-        };
+        match self.link(from, to) {
+            Some(link) => self.take_fault_over(from, link, i),
+            None => Some(EventFault::NoLink),
+        }
+    }
+
+    /// The same of a frame that left over the end `link`, but for want of a link.
+    pub(crate) fn take_fault_over(&self, from: u16, link: u16, i: u32) -> Option<EventFault>
+        ensures { result ≡ unless_room (world_in self.now) (frame_fault (slice_get (queue_at (world_in self.now).flights from link) i) i (length (queue_at (world_in self.now).flights from link))) }
+    {
         if self.is_full() {
             return Some(EventFault::InFlight);
         }
@@ -146,9 +154,17 @@ impl Network {
         requires { from < length self.now.routers.items }
         ensures { result ≡ rule_fault (world_in self.now) (events.Send from to) }
     {
-        let Some(link) = self.link(from, to) else {
-            return Some(EventFault::NoLink);
-        };
+        match self.link(from, to) {
+            Some(link) => self.send_fault_over(from, link),
+            None => Some(EventFault::NoLink),
+        }
+    }
+
+    /// The same over the end `link`, but for want of a link.
+    pub(crate) fn send_fault_over(&self, from: u16, link: u16) -> Option<EventFault>
+        requires { from < length self.now.routers.items }
+        ensures { result ≡ first_fault (not (up_over (slice_get (world_in self.now).routers from) (Some link))) faults.EndState (unless_room (world_in self.now) None) }
+    {
         if !self.is_end_up(from, link) {
             return Some(EventFault::EndState);
         }

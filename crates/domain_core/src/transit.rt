@@ -1,11 +1,14 @@
 //! What arrives, is lost or comes again.
-ghost use Rattle.std.specs.Prelude.{◌≡◌, ◌<◌, length, IfOk, OnOk, OnErr};
+ghost use Rattle.std.specs.Prelude.{◌≡◌, ◌<◌, length, Some, IfOk, OnOk, OnErr};
 ghost use Rattle.replay_text.specs.declared.event.Event.TheVariants as events;
+ghost use Rattle.domain_core.specs.Answers.{outcome};
 ghost use Rattle.domain_core.specs.Held.{state_of, world_in, heard_in, IsDone};
 ghost use Rattle.domain_core.specs.Network.{IsAsBefore, IsTrueNetwork, heard_after, seen_of};
 ghost use Rattle.domain_model.specs.Step.{doing};
+ghost use Rattle.domain_model.specs.World.{link_between};
 
 use crate::network::Network;
+use crate::over::or_nothing;
 use domain_frames::{confs_of, is_silent, lines_of, lost, number_of, send_all, with_sent};
 use domain_model::StepOut;
 use wire_base::{Cause, M, Octets};
@@ -55,10 +58,7 @@ impl Network {
         Ok(StepOut::nothing(alloc))
     }
 
-    /// A frame arrives. At an end that is up the router takes it, and at one that is down the router drops it.
-    ///
-    /// A router that answers a frame stays as it was, and of one that changes there is nothing to be told. So after the router
-    /// has taken a frame memory may still run out, and the world is as it was; the frame leaves its place only at last.
+    /// A frame arrives.
     pub(crate) fn take(&mut self, from: u16, to: u16, i: u32) -> M<StepOut>
         requires truth { IsTrueNetwork (state_of self.old) }
         requires place { to < length self.old.routers.items }
@@ -75,27 +75,54 @@ impl Network {
         let Some(back) = self.link(to, from) else {
             return Ok(StepOut::nothing(alloc));
         };
+        let taken = self.take_over(from, link, to, back, i)?;
+        Ok(or_nothing(alloc, taken))
+    }
+
+    /// A frame arrives that left over the end `link`, and comes to the end `back`. At an end that is up the router takes it,
+    /// and at one that is down the router drops it. Of most frames nothing is told.
+    ///
+    /// A router that answers a frame stays as it was, and of one that changes there is nothing to be told. So after the router
+    /// has taken a frame memory may still run out, and the world is as it was; the frame leaves its place only at last.
+    pub(crate) fn take_over(
+        &mut self,
+        from: u16,
+        link: u16,
+        to: u16,
+        back: u16,
+        i: u32,
+    ) -> M<Option<StepOut>>
+        requires truth { IsTrueNetwork (state_of self.old) }
+        requires place { to < length self.old.routers.items }
+        requires joined { link_between self.old.domain.routers from to ≡ Some link }
+        requires facing { link_between self.old.domain.routers to from ≡ Some back }
+        ensures done { IfOk result (λ out. IsDone self.old self.new (doing (world_in self.old) (events.Take from to i)) (outcome out)) }
+        ensures heard { OnOk result (heard_in self.new ≡ heard_after (world_in self.old) (heard_in self.old) (events.Take from to i)) }
+        ensures err { OnErr result (IsAsBefore (seen_of (state_of self.old)) (seen_of (state_of self.new)) (events.Take from to i)) }
+        ensures frames { OnErr result (self.new.flights ≡ self.old.flights) }
+        ensures domain { self.new.domain ≡ self.old.domain }
+    {
+        let alloc = self.allocator();
         let Some(flight) = self.flights.get(from, link, i) else {
-            return Ok(StepOut::nothing(alloc));
+            return Ok(None);
         };
         let confs = confs_of(&self.domain);
         let router = &mut self.routers[usize::from(to)];
         if !router.is_up(back) {
             let out = lost(alloc, confs, to, Cause::Link, &flight)?;
             self.flights.remove(from, link, i as usize);
-            return Ok(out);
+            return Ok(Some(out));
         }
         let number = number_of(&flight);
         let effects = router.frame(back, flight.octets)?;
         if is_silent(&effects) {
-            // Of most frames nothing is told.
             self.flights.remove(from, link, i as usize);
-            return Ok(StepOut::nothing(alloc));
+            return Ok(None);
         }
         let lines = lines_of(alloc, confs, to, number, Some(&flight), &effects)?;
         send_all(&mut self.flights, confs, to, number, &effects.sent)?;
         self.flights.remove(from, link, i as usize);
         let known = Some((back, from));
-        Ok(with_sent(lines, confs, to, known, effects.sent))
+        Ok(Some(with_sent(lines, confs, to, known, effects.sent)))
     }
 }

@@ -1,7 +1,8 @@
 //! A domain at work.
 ghost use Rattle.std.specs.Prelude.{◌≡◌, ◌<◌, length, map, slice_get, Option, Some, None, IfOk, OnOk, OnErr, IfErr, MatchResult};
 ghost use Rattle.std.specs.List.{AllByRecursion};
-ghost use Rattle.domain_core.specs.Answers.{Refuses, Stays};
+ghost use Rattle.replay_text.specs.declared.event.Event.TheVariants as events;
+ghost use Rattle.domain_core.specs.Answers.{outcome, Refuses, Stays};
 ghost use Rattle.domain_frames.specs.Told.{IsShortFrame, told};
 ghost use Rattle.domain_model.specs.Faults.{event_fault};
 ghost use Rattle.domain_core.specs.Course.{KeepsCourse};
@@ -9,7 +10,7 @@ ghost use Rattle.domain_core.specs.Ledger.{KeepsLedger};
 ghost use Rattle.domain_core.specs.Network.{IsAsBefore, heard_after};
 ghost use Rattle.domain_model.specs.Step.{happens};
 ghost use Rattle.domain_model.specs.Truth.{IsTruthful, EventFits, AreWorldDrops};
-ghost use Rattle.domain_model.specs.World.{first_world, frames_between, ids_in_flight};
+ghost use Rattle.domain_model.specs.World.{first_world, link_between, queue_at, frames_between, ids_in_flight};
 
 use crate::network::Network;
 use domain_model::{EventFault, StepOut};
@@ -82,6 +83,68 @@ impl World {
             return Err(fault);
         }
         self.network.carry_out(event)
+    }
+
+    /// What a router sends over the end `link`, which leads to the other: the event that it sends there, as `step` does it.
+    /// Where nothing is told of it, as of most sends, there is no answer to be made.
+    pub fn send_over(
+        &mut self,
+        from: u16,
+        link: u16,
+        to: u16,
+    ) -> Result<Option<StepOut>, EventFault>
+        requires places { EventFits (length self.old.world.domain.routers) (events.Send from to) }
+        requires joined { link_between self.old.world.domain.routers from to ≡ Some link }
+        ensures refused { MatchResult result (λ _. event_fault self.old.world (events.Send from to) ≡ None) (λ e. Refuses (event_fault self.old.world (events.Send from to)) e) }
+        ensures world { OnOk result (self.new.world ≡ (happens self.old.world (events.Send from to)).world) }
+        ensures told { IfOk result (λ out. outcome out ≡ told self.old.world.domain.routers (happens self.old.world (events.Send from to)).made) }
+        ensures short { IfOk result (λ out. AllByRecursion IsShortFrame (outcome out).sent) }
+        ensures heard { OnOk result (self.new.heard ≡ self.old.heard) }
+        ensures stays { OnErr result (self.new ≡ self.old) }
+        ensures truth { IsTruthful self.new.world }
+        ensures domain { self.new.world.domain ≡ self.old.world.domain }
+    {
+        self.network.step_send(from, link, to)
+    }
+
+    /// The first frame arrives that left over the end `link` and comes to the end `back`: the event that it is taken, as `step`
+    /// does it. Where nothing is told of it, as of most frames, there is no answer to be made.
+    pub fn take_over(
+        &mut self,
+        from: u16,
+        link: u16,
+        to: u16,
+        back: u16,
+    ) -> Result<Option<StepOut>, EventFault>
+        requires places { EventFits (length self.old.world.domain.routers) (events.Take from to 0) }
+        requires joined { link_between self.old.world.domain.routers from to ≡ Some link }
+        requires facing { link_between self.old.world.domain.routers to from ≡ Some back }
+        ensures refused { MatchResult result (λ _. event_fault self.old.world (events.Take from to 0) ≡ None) (λ e. Refuses (event_fault self.old.world (events.Take from to 0)) e) }
+        ensures world { OnOk result (self.new.world ≡ (happens self.old.world (events.Take from to 0)).world) }
+        ensures told { IfOk result (λ out. outcome out ≡ told self.old.world.domain.routers (happens self.old.world (events.Take from to 0)).made) }
+        ensures short { IfOk result (λ out. AllByRecursion IsShortFrame (outcome out).sent) }
+        ensures heard { OnOk result (self.new.heard ≡ heard_after self.old.world self.old.heard (events.Take from to 0)) }
+        ensures stays { IfErr result (λ e. Stays (self.new ≡ self.old) e) }
+        ensures whole { OnErr result (IsAsBefore self.old self.new (events.Take from to 0)) }
+        ensures truth { IsTruthful self.new.world }
+        ensures domain { self.new.world.domain ≡ self.old.world.domain }
+    {
+        self.network.step_take(from, link, to, back, 0)
+    }
+
+    /// The end of a router that leads to another, each named by its place, where a link joins the two.
+    pub fn link(&self, from: u16, to: u16) -> Option<u16>
+        ensures link { result ≡ link_between self.now.world.domain.routers from to }
+        ensures truth { IsTruthful self.now.world }
+    {
+        self.network.link(from, to)
+    }
+
+    /// How many frames are on their way over the end of a router.
+    pub fn frames_over(&self, from: u16, link: u16) -> usize
+        ensures { result ≡ length (queue_at self.now.world.flights from link) }
+    {
+        self.network.frames_over(from, link)
     }
 
     /// How many frames are on their way from one router to another, each named by its place; 0 where no link joins them.

@@ -1,0 +1,22 @@
+use Rattle.std.proofs.Common.{sym}
+use Rattle.replay_text.specs.declared.event.Event.TheVariants.{Send}
+use Rattle.domain_core.specs.Answers.{outcome}
+use Rattle.domain_core.specs.Held.{world_in}
+use Rattle.domain_model.specs.Faults.{event_fault}
+use Rattle.domain_core.proofs.EventLaws.{IsCounted, counted_done, refuses_first}
+use Rattle.domain_core.proofs.network.Network.step_send.Goals as goal
+
+pub returns-in-Some-clause-refused : goal.returns-in-Some-clause-refused
+returns-in-Some-clause-refused c = refuses_first (event_fault (world_in c.args.self.now) (Send c.args.from c.args.to)) c.in-Some.fault (sym c.in-Some.ensures)
+
+counted : (c : goal.After-self-1) → IsCounted c.args.self.now c.send_over.new.self (Send c.args.from c.args.to) (outcome c.in_ok-out.out)
+counted c = counted_done c.args.self.now c.send_over.new.self (Send c.args.from c.args.to) (outcome c.in_ok-out.out) c.requires.truth c.requires.places (sym c.in_default.ensures) c.in_ok-out.ensures.done
+
+pub returns-clause-world : goal.returns-clause-world
+returns-clause-world c = (counted c).world
+
+pub returns-clause-told : goal.returns-clause-told
+returns-clause-told c = (counted c).answer
+
+pub returns-clause-kept : goal.returns-clause-kept
+returns-clause-kept c = (counted c).kept

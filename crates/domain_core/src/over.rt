@@ -1,0 +1,109 @@
+//! Sends and takes over links whose ends are known.
+ghost use Rattle.std.specs.Prelude.{◌≡◌, ◌<◌, length, Some, None, IfOk, OnOk, OnErr, IfErr, MatchResult};
+ghost use Rattle.replay_text.specs.declared.event.Event.TheVariants as events;
+ghost use Rattle.domain_core.specs.Answers.{outcome, Refuses, Stays};
+ghost use Rattle.domain_core.specs.Held.{state_of, world_in, heard_in};
+ghost use Rattle.domain_core.specs.Network.{IsAsBefore, IsTrueNetwork, heard_after, seen_of};
+ghost use Rattle.domain_frames.specs.Told.{told};
+ghost use Rattle.domain_model.specs.Faults.{event_fault};
+ghost use Rattle.domain_model.specs.Step.{happens};
+ghost use Rattle.domain_model.specs.World.{link_between};
+
+use crate::network::Network;
+use domain_model::{EventFault, StepOut};
+use std::alloc::Global;
+use wire_base::limits::MOST_EVENTS;
+
+/// What an event is answered with, where nothing may be told of it.
+pub(crate) fn or_nothing(alloc: Global, made: Option<StepOut>) -> StepOut
+    ensures { result ≡ outcome made }
+{
+    match made {
+        Some(out) => out,
+        None => StepOut::nothing(alloc),
+    }
+}
+
+impl Network {
+    /// The first reason for which nothing may be sent over an end.
+    #[tactic(auto, unfolding(domain_model::specs::Faults::event_fault))]
+    fn send_fault_at(&self, from: u16, link: u16, to: u16) -> Option<EventFault>
+        requires place { from < length self.now.routers.items }
+        requires joined { link_between self.now.domain.routers from to ≡ Some link }
+        ensures { result ≡ event_fault (world_in self.now) (events.Send from to) }
+    {
+        if self.events >= MOST_EVENTS {
+            return Some(EventFault::Events);
+        }
+        self.send_fault_over(from, link)
+    }
+
+    /// The first reason for which the frame at a place can't be taken that left over an end.
+    #[tactic(auto, unfolding(domain_model::specs::Faults::event_fault))]
+    fn take_fault_at(&self, from: u16, link: u16, to: u16, i: u32) -> Option<EventFault>
+        requires joined { link_between self.now.domain.routers from to ≡ Some link }
+        ensures { result ≡ event_fault (world_in self.now) (events.Take from to i) }
+    {
+        if self.events >= MOST_EVENTS {
+            return Some(EventFault::Events);
+        }
+        self.take_fault_over(from, link, i)
+    }
+
+    /// The event that a router sends over the end `link` toward another, where it is allowed, and counted then.
+    pub(crate) fn step_send(
+        &mut self,
+        from: u16,
+        link: u16,
+        to: u16,
+    ) -> Result<Option<StepOut>, EventFault>
+        requires truth { IsTrueNetwork (state_of self.old) }
+        requires places { (from < length self.old.domain.routers) × (to < length self.old.domain.routers) }
+        requires joined { link_between self.old.domain.routers from to ≡ Some link }
+        ensures refused { MatchResult result (λ _. event_fault (world_in self.old) (events.Send from to) ≡ None) (λ e. Refuses (event_fault (world_in self.old) (events.Send from to)) e) }
+        ensures world { OnOk result (world_in self.new ≡ (happens (world_in self.old) (events.Send from to)).world) }
+        ensures told { IfOk result (λ out. outcome out ≡ told self.old.domain.routers (happens (world_in self.old) (events.Send from to)).made) }
+        ensures heard { OnOk result (heard_in self.new ≡ heard_in self.old) }
+        ensures kept { IsTrueNetwork (state_of self.new) }
+        ensures stays { OnErr result (state_of self.new ≡ state_of self.old) }
+        ensures domain { self.new.domain ≡ self.old.domain }
+    {
+        if let Some(fault) = self.send_fault_at(from, link, to) {
+            return Err(fault);
+        }
+        let out = self.send_over(from, link, to)?;
+        self.events += 1;
+        Ok(out)
+    }
+
+    /// The event that the frame at a place is taken, which left over the end `link` and comes to the end `back`, where it is
+    /// allowed, and counted then.
+    pub(crate) fn step_take(
+        &mut self,
+        from: u16,
+        link: u16,
+        to: u16,
+        back: u16,
+        i: u32,
+    ) -> Result<Option<StepOut>, EventFault>
+        requires truth { IsTrueNetwork (state_of self.old) }
+        requires places { (from < length self.old.domain.routers) × (to < length self.old.domain.routers) }
+        requires joined { link_between self.old.domain.routers from to ≡ Some link }
+        requires facing { link_between self.old.domain.routers to from ≡ Some back }
+        ensures refused { MatchResult result (λ _. event_fault (world_in self.old) (events.Take from to i) ≡ None) (λ e. Refuses (event_fault (world_in self.old) (events.Take from to i)) e) }
+        ensures world { OnOk result (world_in self.new ≡ (happens (world_in self.old) (events.Take from to i)).world) }
+        ensures told { IfOk result (λ out. outcome out ≡ told self.old.domain.routers (happens (world_in self.old) (events.Take from to i)).made) }
+        ensures heard { OnOk result (heard_in self.new ≡ heard_after (world_in self.old) (heard_in self.old) (events.Take from to i)) }
+        ensures kept { IsTrueNetwork (state_of self.new) }
+        ensures stays { IfErr result (λ e. Stays (state_of self.new ≡ state_of self.old) e) }
+        ensures whole { OnErr result (IsAsBefore (seen_of (state_of self.old)) (seen_of (state_of self.new)) (events.Take from to i)) }
+        ensures domain { self.new.domain ≡ self.old.domain }
+    {
+        if let Some(fault) = self.take_fault_at(from, link, to, i) {
+            return Err(fault);
+        }
+        let out = self.take_over(from, link, to, back, i)?;
+        self.events += 1;
+        Ok(out)
+    }
+}
