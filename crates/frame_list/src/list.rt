@@ -1,4 +1,4 @@
-ghost use Rattle.std.specs.Prelude.{◌≡◌, ◌<◌, ◌≤◌, ◌+◌, ◌^◌, ◌++◌, ◌∷◌, [], nat_lt, length, map, slice_get, option_map, Some, true, OnOk, OnErr, IfOk};
+ghost use Rattle.std.specs.Prelude.{◌≡◌, ◌<◌, ◌≤◌, ◌+◌, ◌^◌, ◌++◌, ◌∷◌, [], nat_lt, length, map, slice_get, slice_index_or, option_map, Some, true, OnOk, OnErr, IfOk, IfSome};
 ghost use Rattle.std.specs.List.{remove};
 ghost use Rattle.std.specs.VecDeque.{deque_len, deque_capacity};
 ghost use Rattle.frame_list.specs.Spans.{Noted, cut_out, moved, noted_anew, noted_as, IsWithin, AreWithin};
@@ -9,7 +9,7 @@ use std::marker::Model;
 use wire_base::M;
 
 /// The room that a first frame takes for itself and those that follow: a few link state PDUs.
-const FIRST_OCTETS: usize = 1000;
+const FIRST_OCTETS: usize = 1024;
 
 const FIRST_FRAMES: usize = 8;
 
@@ -169,7 +169,7 @@ impl<N: Copy + Drop> FrameList<N> {
         if i >= self.spans.len() {
             return false;
         }
-        if let Some(span) = self.spans.remove(i) {
+        if let Some(span) = take_span(&mut self.spans, i) {
             self.gone = self.gone.saturating_add(span.end - span.start);
         }
         self.let_go();
@@ -231,5 +231,18 @@ fn put_behind<N: Copy + Drop, O: Copy + Drop>(
             start: start + span.start,
             end: start + span.end,
         });
+    }
+}
+
+/// The span of the frame at a place, which is gone then; it is mostly the first.
+fn take_span<N: Copy + Drop>(spans: &mut VecDeque<Span<N>>, i: usize) -> Option<Span<N>>
+    requires { i < deque_len spans.old }
+    ensures rest { spans.new.items ≡ remove spans.old.items i }
+    ensures span { IfSome result (λ s. s ≡ slice_index_or spans.old.items i s) }
+{
+    if i == 0 {
+        spans.pop_front()
+    } else {
+        spans.remove(i)
     }
 }
