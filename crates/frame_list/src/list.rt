@@ -143,7 +143,8 @@ impl<N: Copy + Drop> FrameList<N> {
         Ok(())
     }
 
-    /// The same, however many octets are of frames that are gone. Where memory is refused for the span, octets of no frame are left.
+    /// Appends a frame, however many octets are of frames that are gone. Where memory is refused for the span, octets of no frame
+    /// are left.
     #[tactic(auto, using(crate::proofs::SpanLaws::frames_added, crate::proofs::SpanLaws::within_added, crate::proofs::SpanLaws::frames_kept, crate::proofs::SpanLaws::within_kept))]
     fn append(&mut self, note: N, octets: &[u8]) -> M<()>
         ensures ok { OnOk result (self.new ≡ self.old ++ record { note = note; octets = octets.now } ∷ []) }
