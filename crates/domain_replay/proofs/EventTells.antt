@@ -1,13 +1,15 @@
 -- One event that a domain does, or refuses, as it is told.
-use Rattle.std.proofs.Common.{◌≡◌, ℕ, List, [], ◌∷◌, ◌++◌, map, Some, None, Err, refl, sym, ap, subst, ◌∙◌}
+use Rattle.std.proofs.Common.{◌≡◌, ℕ, ◌+◌, List, [], ◌∷◌, ◌++◌, map, Some, None, Err, refl, sym, ap, subst, ◌∙◌, append-nil}
+use Rattle.std.proofs.Math.Nat.{add-zero}
 use Rattle.std.specs.Prelude.{flat_map}
 use Rattle.wire_base.specs.declared.conf.RouterConf.{RouterConf}
 use Rattle.replay_text.specs.declared.event.Event.{Event}
+use Rattle.replay_text.specs.declared.event.Event.TheVariants.{Send, Take}
 use Rattle.domain_model.specs.declared.fault.EventFault.{EventFault}
 use Rattle.domain_model.specs.declared.fault.EventFault.TheVariants as faults
 use Rattle.domain_model.specs.declared.step_out.StepOut.{StepOut}
 use Rattle.domain_frames.specs.Told as answer
-use Rattle.domain_core.specs.Answers.{Refuses, Stays}
+use Rattle.domain_core.specs.Answers.{outcome, Refuses, Stays}
 use Rattle.domain_model.specs.Faults.{event_fault}
 use Rattle.domain_frames.specs.Framed.{wire_of}
 use Rattle.domain_model.specs.Moves.{Sending}
@@ -63,3 +65,40 @@ event_refused line t old new c f r e why view refuses stays = subst (λ (u : Tel
     by faults.NotControl r s = because faults.NotControl r s
     by (faults.Edge why) r s = because (faults.Edge why) r s
     by faults.Memory r s = tt
+
+-- the same of an event that is told in other words
+pub refused_so : (line : ℕ) (t : Telling) (old new : Seen) (c : Counts) (f r : List ℕ) (e g : Event) (why : EventFault) → e ≡ g → of c f r old ≡ t → Refuses (event_fault old.world e) why → Stays (new ≡ old) why →
+    Tells (tells_on line (told t) g) (of c f r new) (Err why)
+refused_so line t old new c f r e g why same view refuses stays = subst (λ (x : Event). Tells (tells_on line (told t) x) (of c f r new) (Err why)) same (event_refused line t old new c f r e why view refuses stays)
+
+-- what is as it was is so after any refusal
+pub stays_so : (same : Type 0) (why : EventFault) → same → Stays same why
+stays_so same faults.Events s = s
+stays_so same faults.NoLink s = s
+stays_so same faults.EndState s = s
+stays_so same faults.InFlight s = s
+stays_so same (faults.NoFrame i n) s = s
+stays_so same faults.NotControl s = s
+stays_so same (faults.Edge why) s = s
+stays_so same faults.Memory s = tt
+
+-- it was done, and nothing is told of it
+
+same_counts : (c : Counts) → c ≡ record { injected = c.injected + 0; named = c.named + 0; got = c.got + 0; dropped = c.dropped + 0 }
+same_counts c =
+    ap (λ (n : ℕ). record { injected = n; named = c.named; got = c.got; dropped = c.dropped }) (sym (add-zero c.injected))
+    ∙ ap (λ (n : ℕ). record { injected = c.injected + 0; named = n; got = c.got; dropped = c.dropped }) (sym (add-zero c.named))
+    ∙ ap (λ (n : ℕ). record { injected = c.injected + 0; named = c.named + 0; got = n; dropped = c.dropped }) (sym (add-zero c.got))
+    ∙ ap (λ (n : ℕ). record { injected = c.injected + 0; named = c.named + 0; got = c.got + 0; dropped = n }) (sym (add-zero c.dropped))
+
+-- neither is an injection, and neither names a BFR-id
+
+pub send_untold : (line : ℕ) (t : Telling) (a b : ℕ) (w : WorldState) → event_fault t.world (Send a b) ≡ None → w ≡ (happens t.world (Send a b)).world →
+    outcome None ≡ answer.told t.world.domain.routers (happens t.world (Send a b)).made → tells_on line (told t) (Send a b) ≡ told (record t { world = w })
+send_untold line t a b w allowed world silent =
+    event_told line t (Send a b) w t.counts t.frames t.report (outcome None) allowed world silent (same_counts t.counts) (sym (append-nil t.frames)) t.world.domain.routers refl (sym (append-nil t.report))
+
+pub take_untold : (line : ℕ) (t : Telling) (a b i : ℕ) (w : WorldState) → event_fault t.world (Take a b i) ≡ None → w ≡ (happens t.world (Take a b i)).world →
+    outcome None ≡ answer.told t.world.domain.routers (happens t.world (Take a b i)).made → tells_on line (told t) (Take a b i) ≡ told (record t { world = w })
+take_untold line t a b i w allowed world silent =
+    event_told line t (Take a b i) w t.counts t.frames t.report (outcome None) allowed world silent (same_counts t.counts) (sym (append-nil t.frames)) t.world.domain.routers refl (sym (append-nil t.report))

@@ -78,12 +78,12 @@ sends_in_turn = record { none = λ w. refl; next = λ w d ds. sends_more w d ds 
 
 -- ---- the directions of a valid domain
 
-pub joins_of : (d e : DomainConf) (ds : List Direction) → IsValid d → d ≡ e → ds ≡ directions e.routers → AllByRecursion (IsJoining (length e.routers)) ds
+pub joins_of : (d e : DomainConf) (ds : List Direction) → IsValid d → d ≡ e → ds ≡ directions e.routers → AllByRecursion (IsJoining e.routers) ds
 joins_of d e ds valid same is =
-    subst (λ (l : List Direction). AllByRecursion (IsJoining (length e.routers)) l) (sym is)
-    (subst (λ (x : DomainConf). AllByRecursion (IsJoining (length x.routers)) (directions x.routers)) same (directions_join d valid))
+    subst (λ (l : List Direction). AllByRecursion (IsJoining e.routers) l) (sym is)
+    (subst (λ (x : DomainConf). AllByRecursion (IsJoining x.routers) (directions x.routers)) same (directions_join d valid))
 
 pub joins_ok : {E : Type 0} (d e : DomainConf) (rs : List RouterConf) (r : Result (List Direction) E) → IsValid d → d ≡ e → rs ≡ e.routers → IfOk r (λ all. all ≡ directions rs) →
-    IfOk r (λ all. AllByRecursion (IsJoining (length e.routers)) all)
+    IfOk r (λ all. AllByRecursion (IsJoining e.routers) all)
 joins_ok d e rs (Err why) valid same routers is = tt
 joins_ok d e rs (Ok all) valid same routers is = joins_of d e all valid same (is ∙ ap directions routers)

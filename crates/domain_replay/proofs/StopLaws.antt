@@ -12,7 +12,7 @@ use Rattle.domain_replay.specs.Replaying.{NextUntold, StopsIn}
 use Rattle.domain_replay.proofs.TellsLaws.{all_joined, world_told}
 
 -- a world with what is told so far
-abbrev with_texts : WorldState → Texts → Telling
+abbrev pub with_texts : WorldState → Texts → Telling
 with_texts w texts = record { world = w; counts = texts.counts; frames = texts.frames; report = texts.report }
 
 -- nothing was done

@@ -1,14 +1,15 @@
 -- Events told one after the other.
-use Rattle.std.proofs.Common.{◌≡◌, ℕ, suc, ◌+◌, ◌-◌, ◌<◌, ◌≤◌, replicate, arith, List, [], ◌∷◌, ◌++◌, Option, Some, None, Err, refl, sym, ap, ◌∙◌}
+use Rattle.std.proofs.Common.{◌≡◌, ℕ, suc, ◌+◌, ◌-◌, ◌<◌, ◌≤◌, replicate, length, arith, List, [], ◌∷◌, ◌++◌, Option, Some, None, Err, refl, sym, ap, ◌∙◌}
 use Rattle.std.specs.List.{fold}
 use Rattle.std.proofs.lemmas.Grind.{fold-append}
 use Rattle.replay_text.specs.declared.event.Event.{Event}
+use Rattle.replay_text.specs.declared.event.Event.TheVariants.{Take}
 use Rattle.domain_model.specs.declared.fault.EventFault.{EventFault}
 use Rattle.domain_model.specs.declared.fault.EventFault.TheVariants as faults
-use Rattle.domain_model.specs.World.{WorldState}
+use Rattle.domain_model.specs.World.{WorldState, frames_between}
 use Rattle.domain_model.specs.Step.{happens}
 use Rattle.domain_model.specs.Faults.{event_fault}
-use Rattle.domain_model.specs.Run.{directions, round_sends, round_takes, round_events, settle_events, world_after}
+use Rattle.domain_model.specs.Run.{Direction, taken_now, directions, round_sends, round_takes, round_events, settle_events, world_after}
 use Rattle.domain_replay.specs.Telling.{Telling, Told, told, tells, tells_or, tells_on, tells_all}
 use Rattle.domain_replay.specs.Replaying.{ends_with, Tells}
 
@@ -50,6 +51,15 @@ times_first line t e n i within = let k : n - i ≡ suc (n - (i + 1)) = omega ar
 pub times_none : (line : ℕ) (t : Told) (e : Event) (n i : ℕ) → n ≤ i → tells_all line t (replicate (n - i) e) ≡ t
 unfolding tells_all
 times_none line t e n i past = let k : n - i ≡ 0 = omega arith in ap (λ (m : ℕ). tells_all line t (replicate m e)) k
+
+-- ---- as many frames as are on their way in a direction
+
+pub as_waiting : (w : WorldState) (d : Direction) (n : ℕ) → n ≡ length (frames_between w d.from d.to) → replicate n (Take d.from d.to 0) ≡ taken_now w d
+as_waiting w d n is = ap (λ (m : ℕ). replicate m (Take d.from d.to 0)) is
+
+pub none_waiting : (line : ℕ) (t : Telling) (d : Direction) (n : ℕ) → n ≡ length (frames_between t.world d.from d.to) → n ≡ 0 → tells_all line (told t) (taken_now t.world d) ≡ told t
+unfolding tells_all
+none_waiting line t d n is none = ap (λ (m : ℕ). tells_all line (told t) (replicate m (Take d.from d.to 0))) (sym is ∙ none)
 
 -- what was told to its end leads to the world after it
 

@@ -6,7 +6,7 @@ use Rattle.replay_text.specs.declared.event.Event.{Event}
 use Rattle.domain_model.specs.declared.fault.EventFault.{EventFault}
 use Rattle.domain_model.specs.declared.fault.EventFault.TheVariants as faults
 use Rattle.replay_text.specs.declared.event.Event.TheVariants.{Inject, Take, Lose, Again, Down, Up, Send, Tick, Restart}
-use Rattle.domain_model.specs.World.{WorldState}
+use Rattle.domain_model.specs.World.{WorldState, link_between}
 use Rattle.domain_model.specs.Step.{happens}
 use Rattle.domain_model.specs.Faults.{event_fault}
 use Rattle.domain_model.specs.Run.{Direction, directions, may_send}
@@ -76,10 +76,11 @@ NumbersFit (Send from to) = Unit {0}
 NumbersFit (Tick router) = Unit {0}
 NumbersFit (Restart router) = Unit {0}
 
--- both routers of a direction are there
-pub record IsJoining (count : ℕ) (d : Direction) : Type 0 where
-  pub from : d.from < count
-  pub to : d.to < count
+-- Both routers of a direction are there, and its end is the one that leads from the first to the second.
+pub record IsJoining (routers : List RouterConf) (d : Direction) : Type 0 where
+  pub from : d.from < length routers
+  pub to : d.to < length routers
+  pub link : link_between routers d.from d.to ≡ Some d.link
 
 -- what the end sends over which a direction leaves: nothing where it is down
 abbrev pub sends_of : WorldState → Direction → List Event
@@ -94,4 +95,4 @@ sends_in w ds = map (λ d. Send d.from d.to) (filter (may_send w) ds)
 -- They are all directions of those routers' links, and each joins two of them.
 pub record AreDirections (routers : List RouterConf) (all : List Direction) : Type 0 where
   pub value : all ≡ directions routers
-  pub joins : AllByRecursion (IsJoining (length routers)) all
+  pub joins : AllByRecursion (IsJoining routers) all

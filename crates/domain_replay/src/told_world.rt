@@ -1,7 +1,9 @@
 //! A domain at work, whose events are told as they are done.
-ghost use Rattle.std.specs.Prelude.{◌≡◌, ◌∷◌, length, IfOk, OnOk, OnErr, [], replicate};
+ghost use Rattle.std.specs.Prelude.{◌≡◌, ◌≢◌, ◌∷◌, length, Some, None, IfOk, OnOk, OnErr, [], replicate};
 ghost use Rattle.std.specs.List.{AllByRecursion};
 ghost use Rattle.replay_text.specs.Events.{LineFits};
+ghost use Rattle.replay_text.specs.declared.event.Event.TheVariants as events;
+ghost use Rattle.domain_model.specs.World.{link_between, frames_between};
 ghost use Rattle.domain_model.specs.Run as run;
 ghost use Rattle.domain_model.specs.Run.{taken_now, round_events, line_events};
 ghost use Rattle.domain_replay.specs.Telling.{first_telling, told, tells_on, tells_all, tells_line, LineNamesOnce};
@@ -54,29 +56,10 @@ impl ToldWorld {
         Ok(())
     }
 
-    /// So many events alike, up to one that isn't allowed.
-    fn do_times(
-        &mut self,
-        alloc: Global,
-        line: u32,
-        event: &Event,
-        count: usize,
-    ) -> Result<(), EventFault>
-        requires { IsAsked (length self.old.world.domain.routers) event.now }
-        ensures told { Tells (tells_all line (told self.old) (replicate count event.now)) self.new result }
-        ensures domain { OnOk result (self.new.world.domain ≡ self.old.world.domain) }
-        ensures stops { OnErr result (StopsIn line self.old (replicate count event.now) self.new) }
-    {
-        for _time in 0..count {
-            self.do_event(alloc, line, event)?;
-        }
-        Ok(())
-    }
-
     /// The directions of the domain's links, each of which joins two routers.
     pub(crate) fn directions(&self, alloc: Global) -> M<Rows<Direction>>
         ensures value { IfOk result (λ all. all ≡ run.directions self.now.world.domain.routers) }
-        ensures joins { IfOk result (λ all. AllByRecursion (IsJoining (length self.now.world.domain.routers)) all) }
+        ensures joins { IfOk result (λ all. AllByRecursion (IsJoining self.now.world.domain.routers) all) }
     {
         let domain = self.world.domain();
         // The domain is valid, so the routers are there.
@@ -86,15 +69,33 @@ impl ToldWorld {
 
     /// Whether the end is up over which a direction leaves.
     fn may_send(&self, direction: Direction) -> bool
-        requires { IsJoining (length self.now.world.domain.routers) direction }
+        requires { IsJoining self.now.world.domain.routers direction }
         ensures { result ≡ run.may_send self.now.world direction }
     {
         self.world.router(direction.from).is_up(direction.link)
     }
 
+    /// A send over the end at which a direction leaves. Of most sends nothing is told.
+    fn send_one(&mut self, alloc: Global, line: u32, direction: Direction) -> Result<(), EventFault>
+        requires { IsJoining self.old.world.domain.routers direction }
+        ensures told { Tells (tells_on line (told self.old) (events.Send direction.from direction.to)) self.new result }
+        ensures domain { OnOk result (self.new.world.domain ≡ self.old.world.domain) }
+        ensures stops { OnErr result (StopsIn line self.old (events.Send direction.from direction.to ∷ []) self.new) }
+    {
+        let Direction { from, link, to } = direction;
+        let made = self.world.send_over(from, link, to)?;
+        let Some(made) = made else {
+            return Ok(());
+        };
+        let event = Event::Send { from, to };
+        let routers = self.world.domain().routers.as_slice();
+        self.texts.tell(alloc, routers, line, &event, &made)?;
+        Ok(())
+    }
+
     /// What the end sends over which a direction leaves, where it is up.
     fn send_now(&mut self, alloc: Global, line: u32, direction: Direction) -> Result<(), EventFault>
-        requires { IsJoining (length self.old.world.domain.routers) direction }
+        requires { IsJoining self.old.world.domain.routers direction }
         ensures told { Tells (tells_all line (told self.old) (sends_of self.old.world direction)) self.new result }
         ensures domain { OnOk result (self.new.world.domain ≡ self.old.world.domain) }
         ensures stops { OnErr result (StopsIn line self.old (sends_of self.old.world direction) self.new) }
@@ -102,13 +103,12 @@ impl ToldWorld {
         if !self.may_send(direction) {
             return Ok(());
         }
-        let Direction { from, to, .. } = direction;
-        self.do_event(alloc, line, &Event::Send { from, to })
+        self.send_one(alloc, line, direction)
     }
 
     /// Each end that is up sends, direction by direction. No end comes up or goes down by that.
     fn do_sends(&mut self, alloc: Global, line: u32, all: &[Direction]) -> Result<(), EventFault>
-        requires { AllByRecursion (IsJoining (length self.old.world.domain.routers)) all.now }
+        requires { AllByRecursion (IsJoining self.old.world.domain.routers) all.now }
         ensures told { Tells (tells_all line (told self.old) (sends_in self.old.world all.now)) self.new result }
         ensures domain { OnOk result (self.new.world.domain ≡ self.old.world.domain) }
         ensures stops { OnErr result (StopsIn line self.old (sends_in self.old.world all.now) self.new) }
@@ -119,21 +119,89 @@ impl ToldWorld {
         Ok(())
     }
 
+    /// How many frames are on their way in a direction.
+    fn waiting(&self, direction: Direction) -> usize
+        requires { IsJoining self.now.world.domain.routers direction }
+        ensures { result ≡ length (frames_between self.now.world direction.from direction.to) }
+    {
+        self.world.frames_over(direction.from, direction.link)
+    }
+
+    /// The end at which a direction arrives: a link has two.
+    fn facing(&self, direction: Direction) -> Option<u16>
+        requires { IsJoining self.now.world.domain.routers direction }
+        ensures link { result ≡ link_between self.now.world.domain.routers direction.to direction.from }
+        ensures some { result ≢ None }
+    {
+        self.world.link(direction.to, direction.from)
+    }
+
+    /// The first frame in a direction arrives, at the end `back`. Of most frames nothing is told.
+    fn take_one(
+        &mut self,
+        alloc: Global,
+        line: u32,
+        direction: Direction,
+        back: u16,
+    ) -> Result<(), EventFault>
+        requires joins { IsJoining self.old.world.domain.routers direction }
+        requires facing { link_between self.old.world.domain.routers direction.to direction.from ≡ Some back }
+        ensures told { Tells (tells_on line (told self.old) (events.Take direction.from direction.to 0)) self.new result }
+        ensures domain { OnOk result (self.new.world.domain ≡ self.old.world.domain) }
+        ensures stops { OnErr result (StopsIn line self.old (events.Take direction.from direction.to 0 ∷ []) self.new) }
+    {
+        let Direction { from, link, to } = direction;
+        let made = self.world.take_over(from, link, to, back)?;
+        let Some(made) = made else {
+            return Ok(());
+        };
+        let event = Event::Take { from, to, i: 0 };
+        let routers = self.world.domain().routers.as_slice();
+        self.texts.tell(alloc, routers, line, &event, &made)?;
+        Ok(())
+    }
+
+    /// So many frames in a direction arrive at the end `back`, one after the other.
+    fn take_times(
+        &mut self,
+        alloc: Global,
+        line: u32,
+        direction: Direction,
+        back: u16,
+        count: usize,
+    ) -> Result<(), EventFault>
+        requires joins { IsJoining self.old.world.domain.routers direction }
+        requires facing { link_between self.old.world.domain.routers direction.to direction.from ≡ Some back }
+        ensures told { Tells (tells_all line (told self.old) (replicate count (events.Take direction.from direction.to 0))) self.new result }
+        ensures domain { OnOk result (self.new.world.domain ≡ self.old.world.domain) }
+        ensures stops { OnErr result (StopsIn line self.old (replicate count (events.Take direction.from direction.to 0)) self.new) }
+    {
+        for _time in 0..count {
+            self.take_one(alloc, line, direction, back)?;
+        }
+        Ok(())
+    }
+
     /// As many frames arrive as are on their way in a direction now.
     fn take_now(&mut self, alloc: Global, line: u32, direction: Direction) -> Result<(), EventFault>
-        requires { IsJoining (length self.old.world.domain.routers) direction }
+        requires { IsJoining self.old.world.domain.routers direction }
         ensures told { Tells (tells_all line (told self.old) (taken_now self.old.world direction)) self.new result }
         ensures domain { OnOk result (self.new.world.domain ≡ self.old.world.domain) }
         ensures stops { OnErr result (StopsIn line self.old (taken_now self.old.world direction) self.new) }
     {
-        let Direction { from, to, .. } = direction;
-        let count = self.world.frames(from, to);
-        self.do_times(alloc, line, &Event::Take { from, to, i: 0 }, count)
+        let count = self.waiting(direction);
+        if count == 0 {
+            return Ok(());
+        }
+        let Some(back) = self.facing(direction) else {
+            return Ok(());
+        };
+        self.take_times(alloc, line, direction, back, count)
     }
 
     /// All routers take what is on its way to them, direction by direction.
     fn do_takes(&mut self, alloc: Global, line: u32, all: &[Direction]) -> Result<(), EventFault>
-        requires { AllByRecursion (IsJoining (length self.old.world.domain.routers)) all.now }
+        requires { AllByRecursion (IsJoining self.old.world.domain.routers) all.now }
         ensures told { Tells (tells_all line (told self.old) (run.round_takes self.old.world all.now)) self.new result }
         ensures domain { OnOk result (self.new.world.domain ≡ self.old.world.domain) }
         ensures stops { OnErr result (StopsIn line self.old (run.round_takes self.old.world all.now) self.new) }
@@ -147,7 +215,7 @@ impl ToldWorld {
     /// All routers send what is due, and then all take.
     fn do_round(&mut self, alloc: Global, line: u32, all: &[Direction]) -> Result<(), EventFault>
         requires value { all.now ≡ run.directions self.old.world.domain.routers }
-        requires joins { AllByRecursion (IsJoining (length self.old.world.domain.routers)) all.now }
+        requires joins { AllByRecursion (IsJoining self.old.world.domain.routers) all.now }
         ensures told { Tells (tells_all line (told self.old) (round_events self.old.world)) self.new result }
         ensures domain { OnOk result (self.new.world.domain ≡ self.old.world.domain) }
         ensures stops { OnErr result (StopsIn line self.old (round_events self.old.world) self.new) }
@@ -165,7 +233,7 @@ impl ToldWorld {
         rounds: u32,
     ) -> Result<(), EventFault>
         requires value { all.now ≡ run.directions self.old.world.domain.routers }
-        requires joins { AllByRecursion (IsJoining (length self.old.world.domain.routers)) all.now }
+        requires joins { AllByRecursion (IsJoining self.old.world.domain.routers) all.now }
         ensures told { Tells (tells_all line (told self.old) (run.settle_events self.old.world rounds)) self.new result }
         ensures stops { OnErr result (StopsIn line self.old (run.settle_events self.old.world rounds) self.new) }
     {
@@ -185,7 +253,7 @@ impl ToldWorld {
         said: &Line,
     ) -> Result<(), EventFault>
         requires value { all.now ≡ run.directions self.old.world.domain.routers }
-        requires joins { AllByRecursion (IsJoining (length self.old.world.domain.routers)) all.now }
+        requires joins { AllByRecursion (IsJoining self.old.world.domain.routers) all.now }
         requires fits { LineFits (length self.old.world.domain.routers) said.now }
         requires once { LineNamesOnce said.now }
         ensures told { Tells (tells_line line self.old said.now) self.new result }

@@ -8,6 +8,7 @@ use Rattle.std.proofs.lemmas.Bool.{ltb-true, ltb-false}
 use Rattle.hex.specs.Hex.{decode_of}
 use Rattle.hex.specs.declared.error.FromHexError.{FromHexError}
 use Rattle.wire_base.specs.declared.limits.TheConstants.{MOST_PAYLOAD}
+use Rattle.wire_base.specs.declared.conf.RouterConf.{RouterConf}
 use Rattle.wire_base.specs.model.Configuration.{DomainConf, IsValid}
 use Rattle.wire_base.specs.model.Hop.{distinct}
 use Rattle.replay_text.specs.declared.event.Event.{Event}
@@ -150,18 +151,18 @@ round_domain : (n : ℕ) (es : List Event) (w : WorldState) → AllByRecursion (
 round_domain n [] w all = refl
 round_domain n (e ∷ es) w all = let stays = happens_stays w e (all.0.1 (length w.routers)) in round_domain n es (happens w e).world all.1 ∙ stays.domain
 
-takes_fit : (n : ℕ) (w : WorldState) (ds : List Direction) → AllByRecursion (IsJoining n) ds → AllByRecursion (IsOfRound n) (round_takes w ds)
-takes_fit n w [] joins = tt
-takes_fit n w (d ∷ ds) joins =
+takes_fit : (routers : List RouterConf) (w : WorldState) (ds : List Direction) → AllByRecursion (IsJoining routers) ds → AllByRecursion (IsOfRound (length routers)) (round_takes w ds)
+takes_fit routers w [] joins = tt
+takes_fit routers w (d ∷ ds) joins =
     let joined = joins.0 in
-    each_joined (IsOfRound n) (taken_now w d) (round_takes (world_after w (taken_now w d)) ds)
-    (each_repeated (IsOfRound n) (length (frames_between w d.from d.to)) (event.Take d.from d.to 0) ((joined.from, joined.to), (λ m. tt)))
-    (takes_fit n (world_after w (taken_now w d)) ds joins.1)
+    each_joined (IsOfRound (length routers)) (taken_now w d) (round_takes (world_after w (taken_now w d)) ds)
+    (each_repeated (IsOfRound (length routers)) (length (frames_between w d.from d.to)) (event.Take d.from d.to 0) ((joined.from, joined.to), (λ m. tt)))
+    (takes_fit routers (world_after w (taken_now w d)) ds joins.1)
 
-sends_fit : (n : ℕ) (w : WorldState) (ds : List Direction) → AllByRecursion (IsJoining n) ds → AllByRecursion (IsOfRound n) (map (λ (d : Direction). event.Send d.from d.to) (filter (may_send w) ds))
-sends_fit n w ds joins =
-    each_mapped (IsOfRound n) (λ (d : Direction). event.Send d.from d.to) (filter (may_send w) ds)
-    (each_kept (λ (d : Direction). IsOfRound n (event.Send d.from d.to)) (may_send w) ds (each_weaker (IsJoining n) (λ (d : Direction). IsOfRound n (event.Send d.from d.to)) (λ d j. ((j.from, j.to), (λ m. tt))) ds joins))
+sends_fit : (routers : List RouterConf) (w : WorldState) (ds : List Direction) → AllByRecursion (IsJoining routers) ds → AllByRecursion (IsOfRound (length routers)) (map (λ (d : Direction). event.Send d.from d.to) (filter (may_send w) ds))
+sends_fit routers w ds joins =
+    each_mapped (IsOfRound (length routers)) (λ (d : Direction). event.Send d.from d.to) (filter (may_send w) ds)
+    (each_kept (λ (d : Direction). IsOfRound (length routers) (event.Send d.from d.to)) (may_send w) ds (each_weaker (IsJoining routers) (λ (d : Direction). IsOfRound (length routers) (event.Send d.from d.to)) (λ d j. ((j.from, j.to), (λ m. tt))) ds joins))
 
 module _ (d : DomainConf) (valid : IsValid d) where
   abbrev count : ℕ
@@ -170,10 +171,10 @@ module _ (d : DomainConf) (valid : IsValid d) where
   round_fits : (w : WorldState) → w.domain ≡ d → AllByRecursion (IsOfRound count) (round_events w)
   unfolding round_events
   round_fits w same =
-      let joins : AllByRecursion (IsJoining count) (directions w.domain.routers) = subst (λ (x : DomainConf). AllByRecursion (IsJoining count) (directions x.routers)) (sym same) (directions_join d valid) in
+      let joins : AllByRecursion (IsJoining d.routers) (directions w.domain.routers) = subst (λ (x : DomainConf). AllByRecursion (IsJoining d.routers) (directions x.routers)) (sym same) (directions_join d valid) in
       each_joined (IsOfRound count) (round_sends w) (round_takes (world_after w (round_sends w)) (directions w.domain.routers))
-      (sends_fit count w (directions w.domain.routers) joins)
-      (takes_fit count (world_after w (round_sends w)) (directions w.domain.routers) joins)
+      (sends_fit d.routers w (directions w.domain.routers) joins)
+      (takes_fit d.routers (world_after w (round_sends w)) (directions w.domain.routers) joins)
 
   settle_fits : (rounds : ℕ) (w : WorldState) → w.domain ≡ d → AllByRecursion (IsOfRound count) (settle_events w rounds)
   unfolding settle_events
