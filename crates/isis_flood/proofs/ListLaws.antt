@@ -1,7 +1,8 @@
 -- The entries that TLVs list are no more than their octets, and the rules for a list of entries.
-use Rattle.std.proofs.Common.{◌≡◌, ℕ, zero, suc, ◌+◌, ◌≤◌, ◌==◌, Bool, true, false, List, [], ◌++◌, length, Option, Some, None, Result, Ok, Err, refl, sym, ap, ◌∙◌, arith}
+use Rattle.std.proofs.Common.{◌≡◌, ℕ, zero, suc, ◌+◌, ◌≤◌, ◌==◌, Bool, true, false, List, [], ◌++◌, length, take, drop, Option, Some, None, Result, Ok, Err, OnErr, refl, sym, ap, ◌∙◌, arith}
 use Rattle.std.specs.List.{flat_map}
-use Rattle.std.proofs.lemmas.List.{append-nil, length-append}
+use Rattle.std.proofs.Math.Seq.{take-append_seam}
+use Rattle.std.proofs.lemmas.List.{append-nil, length-append, length-take, take-append-le, take-append-drop}
 use Rattle.std.proofs.lemmas.List.Concat.{flat_map-cons}
 use Rattle.wire_base.specs.model.Control.{Flood}
 use Rattle.wire_base.specs.model.Flooding.{mark_all}
@@ -63,6 +64,22 @@ listed_few rows octets is = let l = ap length is in omega (arith, l, rows_few oc
 -- those of TLVs were added
 pub appended_few : (before now : List Summary) (octets : List ℕ) → now ≡ before ++ rows_of octets → length now ≤ length before + length octets
 appended_few before now octets is = let l = ap length is in omega (arith, l, length-append before (rows_of octets), rows_few octets)
+
+-- ---- where memory runs out
+
+-- what there was stands in front of what is there
+pub front_kept : (before now more total : List Summary) → now ++ more ≡ before ++ total → length before ≤ length now → take (length before) now ≡ before
+front_kept before now more total is le = sym (take-append-le (length before) now more le) ∙ ap (take (length before)) is ∙ take-append_seam before total
+
+pub front_through : (before between now : List Summary) → take (length before) between ≡ before → take (length between) now ≡ between → take (length before) now ≡ before
+front_through before between now first then_now =
+    let le : length before ≤ length between = let l = ap length first in omega (arith, l, length-take (length before) between) in
+    ap (take (length before)) (sym (take-append-drop (length between) now) ∙ ap (λ (rows : List Summary). rows ++ drop (length between) now) then_now) ∙ take-append-le (length before) between (drop (length between) now) le ∙ first
+
+-- what holds at any rate holds after an error
+pub after_error : {T E P : Type 0} (r : Result T E) → P → OnErr r P
+after_error (Ok x) p = tt
+after_error (Err e) p = p
 
 -- no more are left
 pub none_left : (rows more total : List Summary) → more ≡ [] → rows ++ more ≡ total → rows ≡ total

@@ -1,19 +1,20 @@
 //! The entries that a sequence numbers PDU lists (ISO/IEC 10589, 9.10).
-ghost use Rattle.std.specs.Prelude.{◌≡◌, ◌≤◌, ◌+◌, ◌++◌, length, IfOk, OnOk};
+ghost use Rattle.std.specs.Prelude.{◌≡◌, ◌≤◌, ◌+◌, ◌++◌, length, take, IfOk, OnOk, OnErr};
 ghost use Rattle.wire_base.specs.model.Tlv.{row_at, entries_of, rows_in, rows_of};
 ghost use Rattle.isis_tlv.specs.Views.{item};
 
 use isis_tlv::{SummaryWalk, Tlv, TlvWalk};
 use std::alloc::Global;
+use std::mem::replace;
 use wire_base::{M, Rows, Summary};
 
 /// The code of the TLVs that list entries.
 const ENTRIES: u8 = 9;
 
-/// Appends the entries of the value of such a TLV; octets that are none end them.
+/// Appends the entries of the value of such a TLV; octets that are none end them. Where memory runs out, some may be appended.
 fn append_entries(rows: &mut Rows<Summary>, value: &[u8]) -> M<()>
     ensures ok { OnOk result (rows.new ≡ rows.old ++ entries_of row_at value.now) }
-    ensures few { OnOk result (length rows.new ≤ length rows.old + length value.now) }
+    ensures err { OnErr result (take (length rows.old) rows.new ≡ rows.old) }
 {
     for entry in SummaryWalk::new(value) {
         if let Ok(summary) = entry {
@@ -25,7 +26,8 @@ fn append_entries(rows: &mut Rows<Summary>, value: &[u8]) -> M<()>
 
 /// Appends the entries that a TLV lists.
 fn append_item(rows: &mut Rows<Summary>, tlv: Tlv<'_>) -> M<()>
-    ensures { OnOk result (rows.new ≡ rows.old ++ rows_in (item tlv.entry)) }
+    ensures ok { OnOk result (rows.new ≡ rows.old ++ rows_in (item tlv.entry)) }
+    ensures err { OnErr result (take (length rows.old) rows.new ≡ rows.old) }
 {
     if tlv.code == ENTRIES {
         append_entries(rows, tlv.value)
@@ -35,9 +37,9 @@ fn append_item(rows: &mut Rows<Summary>, tlv: Tlv<'_>) -> M<()>
 }
 
 /// Appends the entries that those TLVs list, in order; an overrun ends them.
-pub fn append_listed(rows: &mut Rows<Summary>, tlvs: &[u8]) -> M<()>
+fn append_items(rows: &mut Rows<Summary>, tlvs: &[u8]) -> M<()>
     ensures ok { OnOk result (rows.new ≡ rows.old ++ rows_of tlvs.now) }
-    ensures few { OnOk result (length rows.new ≤ length rows.old + length tlvs.now) }
+    ensures err { OnErr result (take (length rows.old) rows.new ≡ rows.old) }
 {
     for tlv in TlvWalk::new(tlvs) {
         if let Ok(tlv) = tlv {
@@ -45,6 +47,32 @@ pub fn append_listed(rows: &mut Rows<Summary>, tlvs: &[u8]) -> M<()>
         }
     }
     Ok(())
+}
+
+/// Keeps the first rows, and the memory. Takes none.
+fn keep_first(rows: &mut Rows<Summary>, len: usize)
+    ensures { rows.new ≡ take len rows.old }
+{
+    let alloc = rows.allocator();
+    let mut kept = replace(rows, Rows::new(alloc)).into_vec();
+    kept.truncate(len);
+    *rows = Rows::from_vec(kept);
+}
+
+/// Appends the entries that those TLVs list, in order; an overrun ends them. Where memory runs out, none is appended.
+pub fn append_listed(rows: &mut Rows<Summary>, tlvs: &[u8]) -> M<()>
+    ensures ok { OnOk result (rows.new ≡ rows.old ++ rows_of tlvs.now) }
+    ensures few { OnOk result (length rows.new ≤ length rows.old + length tlvs.now) }
+    ensures err { OnErr result (rows.new ≡ rows.old) }
+{
+    let before = rows.len();
+    match append_items(rows, tlvs) {
+        Ok(()) => Ok(()),
+        Err(memory) => {
+            keep_first(rows, before);
+            Err(memory)
+        }
+    }
 }
 
 /// The entries that those TLVs list.
