@@ -12,7 +12,8 @@ use Rattle.std.proofs.lemmas.Nat.Bits.{bit_at-lt, bit_at_or}
 use Rattle.wire_base.specs.model.Control.{id_order, FlagRow, AreAscending}
 use Rattle.isis_flood.specs.declared.table.Bits.{Bits}
 use Rattle.isis_flood.specs.Flags.{has_flag, has_srm, has_ssn}
-use Rattle.isis_flood.specs.Masks.{at_bit, links_in, row_of, rows_of, row_ids, put_bits, clears, IsTable}
+use Rattle.isis_flood.specs.Masks.{at_bit, links_in, row_of, rows_of, row_ids, put_bits, held_mask, held_row, clears, IsTable}
+use Rattle.isis_flood.proofs.HeldLaws.{held_idle}
 use Rattle.isis_flood.proofs.MaskLaws.{links_get, links_long}
 
 -- ---- masks
@@ -119,12 +120,12 @@ rows_same false k (row ∷ rs) a b =
 
 -- ---- the table
 
-pub put_table : (sending asking sent asked : ℕ) (rs made : List Bits) (b : Bits) → IsTable sending asking rs → AreAscending (row_ids made) → made ≡ put_bits b rs
+pub put_table : (sending asking sent asked : ℕ) (rs made : List Bits) (narrow : Bool) (b : Bits) → IsTable sending asking rs → AreAscending (row_ids made) → made ≡ put_bits (held_row narrow b) rs
     → ((i : ℕ) → at_bit sent i ≡ false → (at_bit sending i ≡ false) × (at_bit b.srm i ≡ false)) → ((i : ℕ) → at_bit asked i ≡ false → (at_bit asking i ≡ false) × (at_bit b.ssn i ≡ false)) → IsTable sent asked made
-put_table sending asking sent asked rs made b table asc is s a = record {
+put_table sending asking sent asked rs made narrow b table asc is s a = record {
   ascends = asc;
-  unsent = λ i lt h. ap (λ (l : List Bits). has_srm (rows_of 64 l) i) is ∙ put_idle (λ row. row.srm) rs b i (links_get b.srm i 64 lt ∙ (s i h).1) (table.unsent i lt (s i h).0);
-  unasked = λ i lt h. ap (λ (l : List Bits). has_ssn (rows_of 64 l) i) is ∙ put_idle (λ row. row.ssn) rs b i (links_get b.ssn i 64 lt ∙ (a i h).1) (table.unasked i lt (a i h).0);
+  unsent = λ i lt h. ap (λ (l : List Bits). has_srm (rows_of 64 l) i) is ∙ put_idle (λ row. row.srm) rs (held_row narrow b) i (links_get (held_mask narrow b.srm) i 64 lt ∙ held_idle narrow b.srm i (s i h).1) (table.unsent i lt (s i h).0);
+  unasked = λ i lt h. ap (λ (l : List Bits). has_ssn (rows_of 64 l) i) is ∙ put_idle (λ row. row.ssn) rs (held_row narrow b) i (links_get (held_mask narrow b.ssn) i 64 lt ∙ held_idle narrow b.ssn i (a i h).1) (table.unasked i lt (a i h).0);
 }
 
 pub removed_table : (sending asking : ℕ) (rs made : List Bits) (p : ℕ) → IsTable sending asking rs → AreAscending (row_ids made) → made ≡ remove rs p → IsTable sending asking made

@@ -134,8 +134,10 @@ module _ (ids : List LspId) (srm ssn : List ℕ) (rows : List Bits) (even : AreE
       ap (λ (x : LspId). record { id = x; srm = a; ssn = b }) is ∙ ap (λ (x : ℕ). record { id = get_or ids i id; srm = x; ssn = b }) sent ∙ ap (λ (x : ℕ). record { id = get_or ids i id; srm = get_or srm i a; ssn = x }) asked
       ∙ sym (joined_at ids srm ssn i row even) ∙ ap (λ (rs : List Bits). get_or rs i row) same
 
-  pub set_seen : (i : ℕ) (row : Bits) → joined_rows (set ids i row.id) (set srm i row.srm) (set ssn i row.ssn) ≡ set rows i row
-  set_seen i row = joined_set ids srm ssn i row even ∙ ap (λ (rs : List Bits). set rs i row) same
+  pub set_seen : (i : ℕ) (row : Bits) (sent asked : List ℕ) → sent ≡ set srm i row.srm → asked ≡ set ssn i row.ssn → joined_rows (set ids i row.id) sent asked ≡ set rows i row
+  set_seen i row sent asked s a =
+      ap (λ (l : List ℕ). joined_rows (set ids i row.id) l asked) s ∙ ap (λ (l : List ℕ). joined_rows (set ids i row.id) (set srm i row.srm) l) a
+      ∙ joined_set ids srm ssn i row even ∙ ap (λ (rs : List Bits). set rs i row) same
 
   pub insert_seen : (i : ℕ) (row : Bits) (more : List LspId) (sent asked : List ℕ) → i ≤ length rows → more ≡ insert ids i row.id → sent ≡ insert srm i row.srm → asked ≡ insert ssn i row.ssn → joined_rows more sent asked ≡ insert rows i row
   insert_seen i row more sent asked le is s a =

@@ -13,11 +13,12 @@ use Rattle.wire_base.specs.model.Control.{same_id, system_order, id_order, is_be
 use Rattle.wire_base.specs.model.Flooding.{mark_all, forget, with_row, no_links, new_flood, link_down, sent_on}
 use Rattle.lsp_store.proofs.OrderLaws.{tie_is_same, below_trans, below_differs, above_differs, same_turned}
 use Rattle.isis_flood.specs.declared.table.Bits.{Bits}
-use Rattle.isis_flood.specs.Masks.{at_bit, links_in, row_of, rows_of, row_ids, row_in, no_bits, bits_in, put_bits, without_bits, flood_of, Flooding, clears, turned, turned_flag}
+use Rattle.isis_flood.specs.Masks.{at_bit, links_in, row_of, rows_of, row_ids, row_in, no_bits, bits_in, put_bits, held_row, without_bits, flood_of, AreFew, Flooding, clears, turned, turned_flag}
 use Rattle.isis_flood.specs.declared.masks.Turn.{Turn}
 use Rattle.isis_flood.specs.Flags.{has_srm, has_ssn}
 use Rattle.isis_flood.proofs.BusyLaws.{past_srm, past_ssn, rows_same}
 use Rattle.isis_flood.proofs.ColumnLaws.{next_mapped, next_same}
+use Rattle.isis_flood.proofs.HeldLaws.{row_held}
 use Rattle.isis_flood.proofs.MaskLaws.{links_none, links_long, links_get}
 
 none_is : (n : ℕ) (id : LspId) → row_of n (no_bits id) ≡ no_flags n id
@@ -203,17 +204,17 @@ module _ (own : SystemId) (n up due spare : ℕ) (rows : List Bits) (now : Flood
   forgets id new is = ap (λ (rs : List Bits). flood_of own n up due rs) is ∙ ap (λ (rs : List FlagRow). record { own = own; up = links_in n up; due = links_in n due; rows = rs }) (rows_go n rows id) ∙ ap (λ (f : Flood). forget f id) flood_seen
 
   -- one row changed
-  pub changes : (b : Bits) (change : FlagRow → FlagRow) (new : List Bits) → new ≡ put_bits b rows → row_of n b ≡ change (row_in n (rows_of n rows) b.id) → flood_of own n up due new ≡ with_row now.flood b.id change
-  changes b change new is changed =
+  pub changes : (narrow : Bool) → (narrow ≡ true → n ≤ 8) → (b : Bits) (change : FlagRow → FlagRow) (new : List Bits) → new ≡ put_bits (held_row narrow b) rows → row_of n b ≡ change (row_in n (rows_of n rows) b.id) → flood_of own n up due new ≡ with_row now.flood b.id change
+  changes narrow few b change new is changed =
       ap (λ (rs : List Bits). flood_of own n up due rs) is
-      ∙ ap (λ (rs : List FlagRow). record { own = own; up = links_in n up; due = links_in n due; rows = rs }) (rows_put n rows b change changed)
+      ∙ ap (λ (rs : List FlagRow). record { own = own; up = links_in n up; due = links_in n due; rows = rs }) (rows_put n rows (held_row narrow b) change (row_held narrow n b few ∙ changed))
       ∙ ap (λ m. record { own = own; up = links_in n up; due = links_in n due; rows = at_row m b.id change (rows_of n rows) }) (sym (links_long n up))
       ∙ ap (λ (f : Flood). with_row f b.id change) flood_seen
 
-  pub marks : (id : LspId) (new : List Bits) → new ≡ put_bits (record { id = id; srm = up; ssn = 0 }) rows → flood_of own n up due new ≡ mark_all now.flood id
+  pub marks : (narrow : Bool) → (narrow ≡ true → n ≤ 8) → (id : LspId) (new : List Bits) → new ≡ put_bits (held_row narrow (record { id = id; srm = up; ssn = 0 })) rows → flood_of own n up due new ≡ mark_all now.flood id
   unfolding mark_all
-  marks id new is =
-      changes (record { id = id; srm = up; ssn = 0 }) (λ row. record row { srm = links_in n up; ssn = replicate (length (links_in n up)) false }) new is
+  marks narrow few id new is =
+      changes narrow few (record { id = id; srm = up; ssn = 0 }) (λ row. record row { srm = links_in n up; ssn = replicate (length (links_in n up)) false }) new is
       (ap (λ (l : List Bool). record { id = id; srm = links_in n up; ssn = l }) (links_none n ∙ ap (λ m. replicate m false) (sym (links_long n up))) ∙ ap (λ (i : LspId). record { id = i; srm = links_in n up; ssn = replicate (length (links_in n up)) false }) (sym (row_in_id n (rows_of n rows) id)))
       ∙ ap (λ (f : Flood). with_row now.flood id (λ row. record row { srm = f.up; ssn = no_links f })) flood_seen
 
@@ -221,20 +222,20 @@ module _ (own : SystemId) (n up due spare : ℕ) (rows : List Bits) (now : Flood
   few_links few = omega (arith, few, links_are_n)
 
   -- the flags of an identifier on a link are turned
-  pub turns : (link : ℕ) → n ≤ 64 → link < length now.flood.up → (srm ssn : Turn) (id : LspId) (b : Bits) (x y : ℕ) (new : List Bits) → b ≡ bits_in rows id
+  pub turns : (narrow : Bool) (link : ℕ) → AreFew n narrow → link < length now.flood.up → (srm ssn : Turn) (id : LspId) (b : Bits) (x y : ℕ) (new : List Bits) → b ≡ bits_in rows id
       → ((m : ℕ) → link < m → m ≤ 64 → links_in m x ≡ turned_flag link srm (links_in m b.srm)) → ((m : ℕ) → link < m → m ≤ 64 → links_in m y ≡ turned_flag link ssn (links_in m b.ssn))
-      → new ≡ put_bits (record { id = id; srm = x; ssn = y }) rows → flood_of own n up due new ≡ with_row now.flood id (turned link srm ssn)
-  turns link few there srm ssn id b x y new is s a made =
+      → new ≡ put_bits (held_row narrow (record { id = id; srm = x; ssn = y })) rows → flood_of own n up due new ≡ with_row now.flood id (turned link srm ssn)
+  turns narrow link few there srm ssn id b x y new is s a made =
       let whole : row_of n b ≡ row_in n (rows_of n rows) id = ap (λ (r : Bits). row_of n r) is ∙ row_seen n rows id in
       let same : b.id ≡ id = ap (λ (r : FlagRow). r.id) whole ∙ row_in_id n (rows_of n rows) id in
-      changes (record { id = id; srm = x; ssn = y }) (turned link srm ssn) new made
-      (ap (λ (l : List Bool). record { id = id; srm = l; ssn = links_in n y }) (s n (link_of link there) few) ∙ ap (λ (l : List Bool). record { id = id; srm = turned_flag link srm (links_in n b.srm); ssn = l }) (a n (link_of link there) few)
+      changes narrow few.fewest (record { id = id; srm = x; ssn = y }) (turned link srm ssn) new made
+      (ap (λ (l : List Bool). record { id = id; srm = l; ssn = links_in n y }) (s n (link_of link there) few.most) ∙ ap (λ (l : List Bool). record { id = id; srm = turned_flag link srm (links_in n b.srm); ssn = l }) (a n (link_of link there) few.most)
       ∙ ap (λ (i : LspId). record { id = i; srm = turned_flag link srm (links_in n b.srm); ssn = turned_flag link ssn (links_in n b.ssn) }) (sym same)
       ∙ ap (λ (r : FlagRow). turned link srm ssn r) whole)
 
-  pub row_changes : (b : Bits) (change : FlagRow → FlagRow) (new : List Bits) → new ≡ put_bits b rows → row_of (length now.flood.up) b ≡ change (row_in (length now.flood.up) now.flood.rows b.id) → flood_of own n up due new ≡ with_row now.flood b.id change
-  row_changes b change new is changed =
-      changes b change new is (
+  pub row_changes : (narrow : Bool) → (narrow ≡ true → n ≤ 8) → (b : Bits) (change : FlagRow → FlagRow) (new : List Bits) → new ≡ put_bits (held_row narrow b) rows → row_of (length now.flood.up) b ≡ change (row_in (length now.flood.up) now.flood.rows b.id) → flood_of own n up due new ≡ with_row now.flood b.id change
+  row_changes narrow few b change new is changed =
+      changes narrow few b change new is (
       ap (λ m. row_of m b) (sym links_are_n) ∙ changed ∙ ap (λ m. change (row_in m now.flood.rows b.id)) links_are_n ∙ ap (λ (f : Flood). change (row_in n f.rows b.id)) (sym flood_seen)
       )
 

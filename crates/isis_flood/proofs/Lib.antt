@@ -1,8 +1,9 @@
 pub mod AgeLaws
 pub mod BusyLaws
+pub mod ChunkLaws
 pub mod ColumnLaws
-pub mod EightLaws
 pub mod FloodLaws
+pub mod HeldLaws
 pub mod KeptLaws
 pub mod ListLaws
 pub mod MaskLaws

@@ -1,5 +1,5 @@
 -- Masks over links: the truth values that a number of 64 bits stands for, and rows of flags kept as such numbers.
-use Rattle.std.specs.Prelude.{◌≡◌, ◌<◌, ℕ, zero, suc, ◌==◌, Bool, true, false, List, [], ◌∷◌, length, map, slice_set, if◌then◌else◌}
+use Rattle.std.specs.Prelude.{◌≡◌, ◌<◌, ◌≤◌, ◌%◌, ℕ, zero, suc, ◌==◌, Bool, true, false, List, [], ◌∷◌, length, map, slice_set, if◌then◌else◌}
 use Rattle.std.specs.Int.{bit_at}
 use Rattle.std.specs.Ordering.{match_ordering}
 use Rattle.wire_base.specs.declared.addresses.SystemId.{SystemId}
@@ -54,10 +54,25 @@ pub record AreEven (ids : List LspId) (srm ssn : List ℕ) : Type 0 where
   pub sent : length srm ≡ length ids
   pub asked : length ssn ≡ length ids
 
--- What contracts see of a table of rows: the rows, and how many more it has the memory for.
+-- What contracts see of a table of rows: the rows, how many more it has the memory for, and whether it keeps an octet of each
+-- mask.
 pub record Held : Type 0 where
   pub rows : List Bits
   pub spare : ℕ
+  pub narrow : Bool
+
+-- what is kept of a mask: where it is an octet, the links below 8
+abbrev pub held_mask : Bool → ℕ → ℕ
+held_mask true mask = mask % 256
+held_mask false mask = mask
+
+abbrev pub held_row : Bool → Bits → Bits
+held_row narrow b = record { id = b.id; srm = held_mask narrow b.srm; ssn = held_mask narrow b.ssn }
+
+-- the router's links are few enough for what is kept of a mask
+pub record AreFew (links : ℕ) (narrow : Bool) : Type 0 where
+  pub most : links ≤ 64
+  pub fewest : narrow ≡ true → links ≤ 8
 
 -- What contracts see of flooding's state: the state, and for how many more rows it has the memory.
 pub record Flooding : Type 0 where

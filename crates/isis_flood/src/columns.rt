@@ -1,10 +1,10 @@
 //! Rows of flags as three lists of one length: a search reads identifiers alone, and a pass over the flags of one kind no
 //! other kind.
-ghost use Rattle.std.specs.Prelude.{◌≡◌, ◌<◌, ◌≤◌, ◌+◌, [], map, drop, ℕ, false, length, slice_set, slice_index_or, vec_len, vec_capacity, IsOk, OnOk, OnErr};
+ghost use Rattle.std.specs.Prelude.{◌≡◌, ◌<◌, ◌≤◌, ◌+◌, [], map, drop, ℕ, nat_le, length, slice_set, slice_index_or, IsOk, OnOk, OnErr};
 ghost use Rattle.std.specs.List.{insert, list_any, position_or_len, remove};
-ghost use Rattle.isis_flood.specs.Masks.{at_bit, links_in, rows_of, row_ids, clears};
+ghost use Rattle.isis_flood.specs.Masks.{at_bit, held_row, rows_of, row_ids, clears};
 
-use crate::masks::{any_with, clear_all, next_with};
+use crate::mask_list::{MaskList, insert_within};
 use crate::table::Bits;
 use std::alloc::Global;
 use std::marker::Model;
@@ -14,50 +14,32 @@ use wire_base::{LspId, M};
 #[derive(Drop)]
 pub(crate) struct Columns {
     ids: Vec<LspId>,
-    srm: Vec<u64>,
-    ssn: Vec<u64>,
+    srm: MaskList,
+    ssn: MaskList,
 }
 
 impl Model for Columns {
     ghost use Rattle.std.specs.Prelude.{◌-◌, min, vec_len, vec_capacity};
-    ghost use Rattle.isis_flood.specs.Masks.{Held, AreEven, joined_rows};
+    ghost use Rattle.isis_flood.specs.Masks.{Held, joined_rows};
+    ghost use Rattle.isis_flood.specs.MaskLists.{masks_in, room_in, is_narrow, AreColumns};
 
     ghost Value = { Held };
 
-    ghost view = { λ c. record { rows = joined_rows c.ids.items c.srm.items c.ssn.items; spare = min (vec_capacity c.ids - vec_len c.ids) (min (vec_capacity c.srm - vec_len c.srm) (vec_capacity c.ssn - vec_len c.ssn)) } };
+    ghost view = { λ c. record { rows = joined_rows c.ids.items (masks_in c.srm) (masks_in c.ssn); spare = min (vec_capacity c.ids - vec_len c.ids) (min (room_in c.srm) (room_in c.ssn)); narrow = is_narrow c.srm } };
 
-    ghost invariant = { λ c. AreEven c.ids.items c.srm.items c.ssn.items };
-}
-
-/// Inserts where there is room, so that it can't fail.
-fn insert_within<T: Drop>(list: &mut Vec<T>, place: usize, item: T)
-    requires place { place ≤ vec_len list.old }
-    requires room { vec_len list.old < vec_capacity list.old }
-    ensures items { list.new.items ≡ insert list.old.items place item }
-    ensures len { vec_len list.new ≡ vec_len list.old + 1 }
-    ensures capacity { vec_capacity list.old ≤ vec_capacity list.new }
-{
-    let _done = list.insert(place, item);
-}
-
-/// All masks of a list without a link.
-fn clear_list(masks: &mut Vec<u64>, link: u16)
-    requires { link < 64 }
-    ensures flags { (n : ℕ) → link < n → n ≤ 64 → map (links_in n) masks.new.items ≡ map (λ flags. slice_set flags link false) (map (links_in n) masks.old.items) }
-    ensures len { vec_len masks.new ≡ vec_len masks.old }
-    ensures capacity { vec_capacity masks.new ≡ vec_capacity masks.old }
-{
-    clear_all(masks.as_mut_slice(), link);
+    ghost invariant = { λ c. AreColumns c.ids.items c.srm c.ssn };
 }
 
 impl Columns {
-    pub(crate) fn new(alloc: Global) -> Columns
-        ensures { result.rows ≡ [] }
+    /// No rows, of a router with that many links.
+    pub(crate) fn new(alloc: Global, links: u16) -> Columns
+        ensures rows { result.rows ≡ [] }
+        ensures narrow { result.narrow ≡ nat_le links 8 }
     {
         Columns {
             ids: Vec::new(alloc),
-            srm: Vec::new(alloc),
-            ssn: Vec::new(alloc),
+            srm: MaskList::new(alloc, links),
+            ssn: MaskList::new(alloc, links),
         }
     }
 
@@ -82,35 +64,37 @@ impl Columns {
     {
         Bits {
             id: self.ids[place],
-            srm: self.srm[place],
-            ssn: self.ssn[place],
+            srm: self.srm.at(place),
+            ssn: self.ssn.at(place),
         }
     }
 
     /// Puts a row in place of the one at a place.
     pub(crate) fn set(&mut self, place: usize, row: Bits)
         requires { place < length self.old.rows }
-        ensures rows { self.new.rows ≡ slice_set self.old.rows place row }
+        ensures rows { self.new.rows ≡ slice_set self.old.rows place (held_row self.old.narrow row) }
         ensures spare { self.new.spare ≡ self.old.spare }
+        ensures narrow { self.new.narrow ≡ self.old.narrow }
     {
         self.ids[place] = row.id;
-        self.srm[place] = row.srm;
-        self.ssn[place] = row.ssn;
+        self.srm.set(place, row.srm);
+        self.ssn.set(place, row.ssn);
     }
 
     /// Inserts a row at a place.
     pub(crate) fn insert(&mut self, place: usize, row: Bits) -> M<()>
         requires { place ≤ length self.old.rows }
-        ensures ok { OnOk result (self.new.rows ≡ insert self.old.rows place row) }
+        ensures ok { OnOk result (self.new.rows ≡ insert self.old.rows place (held_row self.old.narrow row)) }
         ensures err { OnErr result (self.new.rows ≡ self.old.rows) }
         ensures room { 0 < self.old.spare → IsOk result }
         ensures spare { self.old.spare ≤ self.new.spare + 1 }
+        ensures narrow { self.new.narrow ≡ self.old.narrow }
     {
         // Room in all three first, so that it can't stop half way.
         self.reserve(1)?;
         insert_within(&mut self.ids, place, row.id);
-        insert_within(&mut self.srm, place, row.srm);
-        insert_within(&mut self.ssn, place, row.ssn);
+        self.srm.insert(place, row.srm);
+        self.ssn.insert(place, row.ssn);
         Ok(())
     }
 
@@ -119,6 +103,7 @@ impl Columns {
         requires { place < length self.old.rows }
         ensures rows { self.new.rows ≡ remove self.old.rows place }
         ensures spare { self.old.spare ≤ self.new.spare }
+        ensures narrow { self.new.narrow ≡ self.old.narrow }
     {
         self.ids.remove(place);
         self.srm.remove(place);
@@ -131,6 +116,7 @@ impl Columns {
         ensures ok { OnOk result (n ≤ self.new.spare) }
         ensures room { n ≤ self.old.spare → IsOk result }
         ensures spare { self.old.spare ≤ self.new.spare }
+        ensures narrow { self.new.narrow ≡ self.old.narrow }
     {
         self.ids.reserve(n)?;
         self.srm.reserve(n)?;
@@ -144,10 +130,11 @@ impl Columns {
         ensures ids { row_ids self.new.rows ≡ row_ids self.old.rows }
         ensures rows { (n : ℕ) → link < n → n ≤ 64 → rows_of n self.new.rows ≡ map (clears both link) (rows_of n self.old.rows) }
         ensures spare { self.new.spare ≡ self.old.spare }
+        ensures narrow { self.new.narrow ≡ self.old.narrow }
     {
-        clear_list(&mut self.ssn, link);
+        self.ssn.clear(link);
         if both {
-            clear_list(&mut self.srm, link);
+            self.srm.clear(link);
         }
     }
 
@@ -156,7 +143,7 @@ impl Columns {
         requires { link < 64 }
         ensures { result ≡ list_any (λ b. at_bit b.srm link) self.now.rows }
     {
-        any_with(self.srm.as_slice(), link)
+        self.srm.any_with(link)
     }
 
     /// The place of the first row from a place on that is to be sent on a link, or the number of rows.
@@ -164,7 +151,7 @@ impl Columns {
         requires { link < 64 }
         ensures { result ≡ from + position_or_len (λ b. at_bit b.srm link) (drop from self.now.rows) }
     {
-        next_with(self.srm.as_slice(), from, link)
+        self.srm.next_with(from, link)
     }
 
     /// The place of the first row from a place on that is to be acknowledged or asked for on a link, or the number of rows.
@@ -172,6 +159,6 @@ impl Columns {
         requires { link < 64 }
         ensures { result ≡ from + position_or_len (λ b. at_bit b.ssn link) (drop from self.now.rows) }
     {
-        next_with(self.ssn.as_slice(), from, link)
+        self.ssn.next_with(from, link)
     }
 }

@@ -24,14 +24,13 @@ pub struct Flood {
 }
 
 impl Model for Flood {
-    ghost use Rattle.std.specs.Prelude.{◌≤◌};
-    ghost use Rattle.isis_flood.specs.Masks.{Flooding, flood_of};
+    ghost use Rattle.isis_flood.specs.Masks.{AreFew, Flooding, flood_of};
 
     ghost Value = { Flooding };
 
     ghost view = { λ f. record { flood = flood_of f.own f.links f.up f.due f.table.rows; spare = f.table.spare } };
 
-    ghost invariant = { λ f. f.links ≤ 64 };
+    ghost invariant = { λ f. AreFew f.links f.table.narrow };
 }
 
 impl Flood {
@@ -48,7 +47,7 @@ impl Flood {
             links,
             up,
             due: up,
-            table: Table::new(alloc),
+            table: Table::new(alloc, links),
         })
     }
 

@@ -9,7 +9,9 @@ mod entries;
 mod flood;
 mod lacking;
 mod lsps;
+mod mask_list;
 mod masks;
+mod octets;
 mod snps;
 mod table;
 

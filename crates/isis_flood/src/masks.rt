@@ -20,6 +20,7 @@ pub(crate) fn without_bit(mask: u64, link: u16) -> u64
     requires { link < 64 }
     ensures here { at_bit result link ≡ false }
     ensures others { (i : ℕ) → i < 64 → i ≢ link → at_bit result i ≡ at_bit mask i }
+    ensures within { result ≤ mask }
 {
     mask & !(1 << link)
 }

@@ -1,8 +1,8 @@
-ghost use Rattle.std.specs.Prelude.{◌≡◌, ◌≢◌, ◌<◌, ◌≤◌, ◌+◌, ◌||◌, ◌&&◌, [], map, drop, ℕ, true, false, length, slice_index_or, IsOk, OnOk, OnErr};
+ghost use Rattle.std.specs.Prelude.{◌≡◌, ◌≢◌, ◌<◌, ◌≤◌, ◌+◌, ◌||◌, ◌&&◌, [], map, drop, ℕ, true, false, nat_le, length, slice_index_or, IsOk, OnOk, OnErr};
 ghost use Rattle.std.specs.List.{position_or_len};
 ghost use Rattle.wire_base.specs.model.Control.{AreAscending};
 ghost use Rattle.isis_flood.specs.Flags.{has_srm, has_ssn};
-ghost use Rattle.isis_flood.specs.Masks.{at_bit, rows_of, row_ids, bits_in, put_bits, without_bits, clears, IsPlace};
+ghost use Rattle.isis_flood.specs.Masks.{at_bit, held_row, rows_of, row_ids, bits_in, put_bits, without_bits, clears, IsPlace};
 
 use crate::columns::Columns;
 use crate::masks::{has_bit, joined, without_bit};
@@ -41,7 +41,7 @@ impl Model for Table {
 
     ghost Value = { Held };
 
-    ghost view = { λ t. record { rows = t.items.rows; spare = t.items.spare } };
+    ghost view = { λ t. record { rows = t.items.rows; spare = t.items.spare; narrow = t.items.narrow } };
 
     ghost invariant = { λ t. IsTable t.sending t.asking t.items.rows };
 }
@@ -68,11 +68,13 @@ fn without_if(mask: u64, link: u16, cleared: bool) -> u64
 }
 
 impl Table {
-    pub(crate) fn new(alloc: Global) -> Table
-        ensures { result.rows ≡ [] }
+    /// No rows, of a router with that many links.
+    pub(crate) fn new(alloc: Global, links: u16) -> Table
+        ensures rows { result.rows ≡ [] }
+        ensures narrow { result.narrow ≡ nat_le links 8 }
     {
         Table {
-            items: Columns::new(alloc),
+            items: Columns::new(alloc, links),
             sending: 0,
             asking: 0,
         }
@@ -157,10 +159,11 @@ impl Table {
     /// Puts a row at the place of its identifier, in place of the row that is there.
     pub(crate) fn put_at(&mut self, found: Found, row: Bits) -> M<()>
         requires { IsPlace self.old.rows row.id found.is_there found.place }
-        ensures ok { OnOk result (self.new.rows ≡ put_bits row self.old.rows) }
+        ensures ok { OnOk result (self.new.rows ≡ put_bits (held_row self.old.narrow row) self.old.rows) }
         ensures err { OnErr result (self.new.rows ≡ self.old.rows) }
         ensures room { 0 < self.old.spare → IsOk result }
         ensures spare { self.old.spare ≤ self.new.spare + 1 }
+        ensures narrow { self.new.narrow ≡ self.old.narrow }
     {
         if found.is_there {
             self.sending = joined(self.sending, row.srm);
@@ -176,10 +179,11 @@ impl Table {
 
     /// Puts a row at its place, which may be the one that is guessed, or in place of the one of its identifier.
     pub(crate) fn put(&mut self, row: Bits, guess: usize) -> M<()>
-        ensures ok { OnOk result (self.new.rows ≡ put_bits row self.old.rows) }
+        ensures ok { OnOk result (self.new.rows ≡ put_bits (held_row self.old.narrow row) self.old.rows) }
         ensures err { OnErr result (self.new.rows ≡ self.old.rows) }
         ensures room { 0 < self.old.spare → IsOk result }
         ensures spare { self.old.spare ≤ self.new.spare + 1 }
+        ensures narrow { self.new.narrow ≡ self.old.narrow }
     {
         let found = self.find_near(&row.id, guess);
         self.put_at(found, row)
@@ -189,6 +193,7 @@ impl Table {
     pub(crate) fn remove(&mut self, id: &LspId)
         ensures rows { self.new.rows ≡ without_bits id.now self.old.rows }
         ensures spare { self.old.spare ≤ self.new.spare }
+        ensures narrow { self.new.narrow ≡ self.old.narrow }
     {
         let found = self.find(id);
         if found.is_there {
@@ -202,6 +207,7 @@ impl Table {
         ensures ok { OnOk result (n ≤ self.new.spare) }
         ensures room { n ≤ self.old.spare → IsOk result }
         ensures spare { self.old.spare ≤ self.new.spare }
+        ensures narrow { self.new.narrow ≡ self.old.narrow }
     {
         self.items.reserve(n)?;
         Ok(())
@@ -229,6 +235,7 @@ impl Table {
         requires { link < 64 }
         ensures rows { (n : ℕ) → link < n → n ≤ 64 → rows_of n self.new.rows ≡ map (clears both link) (rows_of n self.old.rows) }
         ensures spare { self.new.spare ≡ self.old.spare }
+        ensures narrow { self.new.narrow ≡ self.old.narrow }
     {
         if !may_clear(self.sending, self.asking, link, both) {
             return;
@@ -243,6 +250,7 @@ impl Table {
         requires { link < 64 }
         ensures rows { self.new.rows ≡ self.old.rows }
         ensures spare { self.new.spare ≡ self.old.spare }
+        ensures narrow { self.new.narrow ≡ self.old.narrow }
     {
         if has_bit(self.sending, link) && !self.items.any_sent(link) {
             self.sending = without_bit(self.sending, link);

@@ -1,7 +1,7 @@
 use Rattle.std.proofs.Common.{◌≡◌, arith}
 use Rattle.std.specs.List.{position_or_len}
 use Rattle.isis_flood.specs.Masks.{at_bit}
-use Rattle.isis_flood.proofs.EightLaws.{any_before}
+use Rattle.isis_flood.proofs.ChunkLaws.{any_before}
 use Rattle.isis_flood.proofs.masks.any_with.Goals as goal
 
 pub returns : goal.returns

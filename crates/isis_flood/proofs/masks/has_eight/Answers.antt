@@ -1,6 +1,6 @@
 use Rattle.std.specs.Simd.Lanes.{chunk}
 use Rattle.std.proofs.Common.{◌∙◌}
-use Rattle.isis_flood.proofs.EightLaws.{joined_has}
+use Rattle.isis_flood.proofs.ChunkLaws.{joined_has}
 use Rattle.isis_flood.proofs.masks.has_eight.Goals as goal
 
 pub returns : goal.returns

@@ -7,7 +7,7 @@ pub returns-then-link-self-clause-flood : goal.returns-then-link-self-clause-flo
 returns-then-link-self-clause-flood c = past_sent c.self.inside.own c.self.inside.links c.self.inside.up c.self.inside.due c.self.inside.table.spare c.self.inside.table.rows c.args.self.now c.self.view_is c.args.link c.if-link-self.true
 
 pub returns-clause-flood : goal.returns-clause-flood
-returns-clause-flood c = sends c.self.inside.own c.self.inside.links c.self.inside.up c.self.inside.due c.self.inside.table.spare c.self.inside.table.rows c.args.self.now c.self.view_is c.args.link c.self.invariant c.if-link-self.false c.without-self-inside.result c.settle.new.self.rows c.without-self-inside.ensures
+returns-clause-flood c = sends c.self.inside.own c.self.inside.links c.self.inside.up c.self.inside.due c.self.inside.table.spare c.self.inside.table.rows c.args.self.now c.self.view_is c.args.link c.self.invariant.most c.if-link-self.false c.without-self-inside.result c.settle.new.self.rows c.without-self-inside.ensures
     (λ m lt few. ap (rows_of m) c.settle.ensures.rows ∙ c.clear.ensures.rows m lt few)
 
 pub returns-clause-links : goal.returns-clause-links

@@ -1,4 +1,4 @@
--- Masks that are tested for a link eight at once.
+-- Masks that are tested for a link many at once.
 use Rattle.std.proofs.Common.{◌≡◌, ℕ, zero, suc, ◌+◌, ◌<◌, ◌≤◌, ◌==◌, ◌||◌, max, ltb, Bool, true, false, List, [], ◌∷◌, ◌++◌, length, drop, bit_or, refl, sym, ap, ◌∙◌, arith, inl, inr}
 use Rattle.std.specs.Int.{bit_at}
 use Rattle.std.specs.List.{list_any, position_or_len}
@@ -37,12 +37,12 @@ none_first p (x ∷ xs) ys none = by (p x) refl none (none_first p xs ys)
     by true e none rest = absurd (true≢false none)
     by false e none rest = rw e (let r = rest none in omega (arith, r))
 
--- eight of which none passes the test are passed over at once
-pub eight_passed : {X : Type 0} (p : X → Bool) (xs : List X) (at next : ℕ) → next ≡ at + 8 → next ≤ length xs → list_any p (chunk at 8 xs) ≡ false → next + position_or_len p (drop next xs) ≡ at + position_or_len p (drop at xs)
-eight_passed p xs at next step within none = rw step (
-    let rest = position_or_len p (drop (at + 8) xs) in
-    let e = ap (position_or_len p) (chunk-drop at 8 xs) ∙ none_first p (chunk at 8 xs) (drop (at + 8) xs) none in
-    omega (arith, e, length-chunk at 8 xs (omega (arith, step, within))))
+-- those of a chunk of which none passes the test are passed over at once
+pub chunk_passed : {X : Type 0} (p : X → Bool) (xs : List X) (at n next : ℕ) → next ≡ at + n → next ≤ length xs → list_any p (chunk at n xs) ≡ false → next + position_or_len p (drop next xs) ≡ at + position_or_len p (drop at xs)
+chunk_passed p xs at n next step within none = rw step (
+    let rest = position_or_len p (drop (at + n) xs) in
+    let e = ap (position_or_len p) (chunk-drop at n xs) ∙ none_first p (chunk at n xs) (drop (at + n) xs) none in
+    omega (arith, e, length-chunk at n xs (omega (arith, step, within))))
 
 -- one passes the test where the first that does is among them
 pub any_before : {X : Type 0} (p : X → Bool) (xs : List X) → ltb (position_or_len p xs) (length xs) ≡ list_any p xs
