@@ -228,7 +228,7 @@ module _ (own : SystemId) (n up due spare : ℕ) (rows : List Bits) (now : Flood
   turns narrow link few there srm ssn id b x y new is s a made =
       let whole : row_of n b ≡ row_in n (rows_of n rows) id = ap (λ (r : Bits). row_of n r) is ∙ row_seen n rows id in
       let same : b.id ≡ id = ap (λ (r : FlagRow). r.id) whole ∙ row_in_id n (rows_of n rows) id in
-      changes narrow few.fewest (record { id = id; srm = x; ssn = y }) (turned link srm ssn) new made
+      changes narrow few.where_narrow (record { id = id; srm = x; ssn = y }) (turned link srm ssn) new made
       (ap (λ (l : List Bool). record { id = id; srm = l; ssn = links_in n y }) (s n (link_of link there) few.most) ∙ ap (λ (l : List Bool). record { id = id; srm = turned_flag link srm (links_in n b.srm); ssn = l }) (a n (link_of link there) few.most)
       ∙ ap (λ (i : LspId). record { id = i; srm = turned_flag link srm (links_in n b.srm); ssn = turned_flag link ssn (links_in n b.ssn) }) (sym same)
       ∙ ap (λ (r : FlagRow). turned link srm ssn r) whole)

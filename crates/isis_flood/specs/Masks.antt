@@ -72,7 +72,7 @@ held_row narrow b = record { id = b.id; srm = held_mask narrow b.srm; ssn = held
 -- the router's links are few enough for what is kept of a mask
 pub record AreFew (links : ℕ) (narrow : Bool) : Type 0 where
   pub most : links ≤ 64
-  pub fewest : narrow ≡ true → links ≤ 8
+  pub where_narrow : narrow ≡ true → links ≤ 8
 
 -- What contracts see of flooding's state: the state, and for how many more rows it has the memory.
 pub record Flooding : Type 0 where

@@ -54,7 +54,7 @@ impl MaskList {
         }
     }
 
-    /// Puts a mask in place of the one at a place.
+    /// Puts a mask in place of the one at a place. An octet keeps its links below 8, which are all that the router has.
     pub(crate) fn set(&mut self, place: usize, mask: u64)
         requires { place < length (masks_in self.old) }
         ensures masks { masks_in self.new ≡ slice_set (masks_in self.old) place (held_mask (is_narrow self.old) mask) }
@@ -67,7 +67,7 @@ impl MaskList {
         }
     }
 
-    /// Inserts a mask at a place where there is room, so that it can't fail.
+    /// Inserts a mask at a place where there is room, so that it can't fail. An octet keeps its links below 8.
     pub(crate) fn insert(&mut self, place: usize, mask: u64)
         requires place { place ≤ length (masks_in self.old) }
         requires room { 0 < room_in self.old }
