@@ -126,7 +126,7 @@ pub metrics_push : (links : List Link) (l : Link) (cs : List Claim) → counted 
 metrics_push links l [] = refl
 metrics_push links l (c ∷ cs) = rw (metric_push links l c.system, metrics_push links l cs) refl
 
-apart : (a b : ℕ) → (a ≡ b → ⊥) → (a == b) ≡ false
+pub apart : (a b : ℕ) → (a ≡ b → ⊥) → (a == b) ≡ false
 apart a b h = by (a == b) refl
   where
     by : (t : Bool) → (a == b) ≡ t → t ≡ false
@@ -154,6 +154,17 @@ put_new (x ∷ xs) to m leads = by (nat_lt x.to to) refl leads (λ l. put_new xs
         → insert (x ∷ xs) (edge_place to (x ∷ xs)) (record { to = to; metric = m }) ≡ put_edge to m (x ∷ xs)
     by true f l more = rw f (ap (λ (ys : List ViewEdge). x ∷ ys) (more l))
     by false f l more = rw (f, l) refl
+
+pub put_last : (es : List ViewEdge) (place to m : ℕ) → place ≡ edge_place to es → place ≡ length es → es ++ record { to = to; metric = m } ∷ [] ≡ put_edge to m es
+put_last es place to m p l = by es (sym p ∙ l)
+  where
+    more : (x : ViewEdge) (xs : List ViewEdge) (b : Bool) → nat_lt x.to to ≡ b → (if b then suc (edge_place to xs) else 0) ≡ suc (length xs) → (edge_place to xs ≡ length xs → xs ++ record { to = to; metric = m } ∷ [] ≡ put_edge to m xs) → x ∷ xs ++ record { to = to; metric = m } ∷ [] ≡ put_edge to m (x ∷ xs)
+    more x xs true f h again = rw f (ap (λ (ys : List ViewEdge). x ∷ ys) (again (omega (arith, h))))
+    more x xs false f h again = absurd (omega (arith, h))
+
+    by : (es : List ViewEdge) → edge_place to es ≡ length es → es ++ record { to = to; metric = m } ∷ [] ≡ put_edge to m es
+    by [] e = refl
+    by (x ∷ xs) e = more x xs (nat_lt x.to to) refl e (λ k. by xs k)
 
 not_less : (a b : ℕ) → b ≤ a → nat_lt a b ≡ false
 not_less a b h = by (nat_lt a b) refl

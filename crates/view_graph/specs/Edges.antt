@@ -33,6 +33,12 @@ AreKeys [] (c ∷ cs) = ⊥
 AreKeys (k ∷ ks) [] = ⊥
 AreKeys (k ∷ ks) (c ∷ cs) = IsKey k c.system × AreKeys ks cs
 
+-- whether that number stands at a place
+abbrev pub is_number_at : List ℕ → ℕ → ℕ → Bool
+is_number_at [] i key = false
+is_number_at (k ∷ ks) zero key = k == key
+is_number_at (k ∷ ks) (suc i) key = is_number_at ks i key
+
 -- whether the claim at a place is of that system
 abbrev pub stands_at : List Claim → ℕ → SystemId → Bool
 stands_at [] i s = false

@@ -2,9 +2,10 @@
 ghost use Rattle.std.specs.Prelude.{◌≡◌, ◌≤◌, ◌<◌, List, [], ◌∷◌, true, length, drop, map, IfOk, OnOk, slice_index_or, ◌++◌};
 ghost use Rattle.std.specs.List.{list_all};
 ghost use Rattle.std.specs.Ordering.{is_gt};
+ghost use Rattle.wire_base.specs.declared.addresses.SystemId.{SystemId};
 ghost use Rattle.wire_base.specs.model.Control.{system_order};
 ghost use Rattle.wire_base.specs.model.View.{Link as LinkItem};
-ghost use Rattle.view_graph.specs.Edges.{AreInOrder, AreKeys, AreWhole, place_in, stands_at, metrics_to, edge_place, leads_at, put_edge, half_edges, half_edges_of, leads_to, whole_edges};
+ghost use Rattle.view_graph.specs.Edges.{AreInOrder, AreKeys, AreWhole, IsKey, is_number_at, place_in, metrics_to, edge_place, leads_at, put_edge, half_edges, half_edges_of, leads_to, whole_edges};
 
 use crate::claims::Claim;
 use crate::links::Link;
@@ -29,13 +30,12 @@ fn keys_of(alloc: Global, claims: &[Claim]) -> M<Vec<u64>>
     Ok(keys)
 }
 
-/// How many claims are of systems below this one, by halving.
-fn place_in(claims: &[Claim], keys: &[u64], system: &SystemId) -> usize
+/// How many claims are of systems below the one of that number, by halving.
+fn place_in(claims: &[Claim], keys: &[u64], key: u64) -> usize
     requires order { AreInOrder claims.now }
     requires keys { AreKeys keys.now claims.now }
-    ensures { result ≡ place_in system.now claims.now }
+    ensures { (s : SystemId) → IsKey key s → result ≡ place_in s claims.now }
 {
-    let key = system_key(*system);
     let mut low = 0;
     let mut high = claims.len();
     'halves: while low < high {
@@ -50,16 +50,32 @@ fn place_in(claims: &[Claim], keys: &[u64], system: &SystemId) -> usize
     low
 }
 
-/// Whether the claim at a place is of that system.
-fn stands_at(claims: &[Claim], place: usize, system: &SystemId) -> bool
-    ensures { result ≡ stands_at claims.now place system.now }
+/// Whether that number stands at a place.
+fn is_number_at(keys: &[u64], place: usize, key: u64) -> bool
+    ensures { result ≡ is_number_at keys.now place key }
 {
-    if place < claims.len() {
-        let claim = &claims[place];
-        *system == claim.system
-    } else {
-        false
+    place < keys.len() && keys[place] == key
+}
+
+/// Where a number stands if the numbers up to it follow one another, as those of systems often do.
+fn guess_of(keys: &[u64], key: u64) -> usize {
+    match keys.first() {
+        Some(first) => key.saturating_sub(*first) as usize,
+        None => 0,
     }
+}
+
+/// The same as by halving, which a right guess saves.
+fn find(claims: &[Claim], keys: &[u64], key: u64) -> usize
+    requires order { AreInOrder claims.now }
+    requires keys { AreKeys keys.now claims.now }
+    ensures { (s : SystemId) → IsKey key s → result ≡ place_in s claims.now }
+{
+    let guess = guess_of(keys, key);
+    if is_number_at(keys, guess, key) {
+        return guess;
+    }
+    place_in(claims, keys, key)
 }
 
 /// How many edges lead to a place before that one.
@@ -87,6 +103,10 @@ pub(crate) fn put_edge(edges: &mut EdgeList, to: u16, metric: u32) -> M<()>
 {
     let present = edges.as_slice();
     let place = edge_place(present, to);
+    if place == present.len() {
+        edges.push(ViewEdge { to, metric })?;
+        return Ok(());
+    }
     if leads_at(present, place, to) {
         let edge = &present[place];
         let least = metric.min(edge.metric);
@@ -104,8 +124,9 @@ fn count(claims: &[Claim], keys: &[u64], edges: &mut EdgeList, link: &Link) -> M
     requires few { length claims.now ≤ 65536 }
     ensures { OnOk result ((links : List LinkItem) → edges.old ≡ half_edges 0 (metrics_to links claims.now) → edges.new ≡ half_edges 0 (metrics_to (links ++ link.now ∷ []) claims.now)) }
 {
-    let place = place_in(claims, keys, &link.neighbour);
-    if !stands_at(claims, place, &link.neighbour) {
+    let key = system_key(link.neighbour);
+    let place = find(claims, keys, key);
+    if !is_number_at(keys, place, key) {
         return Ok(());
     }
     put_edge(edges, place as u16, link.metric)?;

@@ -1,12 +1,13 @@
 use Rattle.std.proofs.Common.{◌-◌, ◌≤◌, length}
-use Rattle.view_graph.specs.Edges.{place_in}
+use Rattle.wire_base.specs.declared.addresses.SystemId.{SystemId}
+use Rattle.view_graph.specs.Edges.{IsKey, place_in}
 use Rattle.view_graph.proofs.edges.place_in.Given as goal
 
 -- the place lies between both ends
 abbrev pub invariant-halves : goal.invariant-halves
 invariant-halves l = record {
-  low : l.low ≤ place_in l.system l.claims;
-  high : place_in l.system l.claims ≤ l.high;
+  low : (s : SystemId) → IsKey l.key s → l.low ≤ place_in s l.claims;
+  high : (s : SystemId) → IsKey l.key s → place_in s l.claims ≤ l.high;
   within : l.high ≤ length l.claims;
 }
 
