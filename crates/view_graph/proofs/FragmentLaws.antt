@@ -18,6 +18,7 @@ use Rattle.wire_base.specs.model.Control.{same_system, system_order, is_below, A
 use Rattle.wire_base.specs.model.View.{Claim, is_part_of, tlvs_of, claim_of, is_other, with_known}
 use Rattle.view_graph.specs.Edges.{is_before}
 use Rattle.view_graph.specs.Keep.{is_first_of}
+use Rattle.view_graph.specs.Places.{Begins}
 use Rattle.view_graph.proofs.SystemLaws.{tie_is_same, before_trans, before_differs, same_turned}
 use Rattle.view_graph.proofs.GraphLaws.{all_weaker, and_both}
 
@@ -138,3 +139,24 @@ ascending_rest [] zero asc = tt
 ascending_rest [] (suc i) asc = tt
 ascending_rest (x ∷ xs) zero asc = asc
 ascending_rest (x ∷ xs) (suc i) asc = ascending_rest xs i asc.1
+
+-- ---- where the first entry is one of the system
+
+same_self : (a b : SystemId) → a ≡ b → same_system a b ≡ true
+same_self a b e = (bytes_eq-Decides a.0 b.0).1 (ap (λ (s : SystemId). s.0) e)
+
+-- an entry of another system is of a higher one
+pub differs_above : (s : SystemId) (es : List Entry) (i : ℕ) (e : Entry) → AreAscending (ids_of es) → Begins s es → i < length es → e ≡ get_or es i e → same_system e.id.system s ≡ false → is_before s e.id.system ≡ true
+differs_above s [] i e asc begins lt at differs = absurd (omega (arith, lt))
+differs_above s (x ∷ xs) zero e asc begins lt at differs = absurd (false≢true (sym differs ∙ same_self e.id.system s (ap (λ (y : Entry). y.id.system) at ∙ begins)))
+differs_above s (x ∷ xs) (suc i) e asc begins lt at differs = subst (λ t. is_before t e.id.system ≡ true) begins (by (system_order x.id.system e.id.system) refl (all_at (λ (y : LspId). is_below x.id y ≡ true) (λ (y : Entry). y.id) xs i e asc.0 (omega (arith, lt)) at))
+  where
+    by : (o : Ordering) → system_order x.id.system e.id.system ≡ o → is_below x.id e.id ≡ true → is_before x.id.system e.id.system ≡ true
+    by Less o k = ap is_lt o
+    by Equal o k = absurd (false≢true (sym differs ∙ same_self e.id.system s (sym (same_is x.id.system e.id.system (sym (tie_is_same x.id.system e.id.system) ∙ ap is_eq o)) ∙ begins)))
+    by Greater o k = absurd (false≢true (sym (ap (λ o. is_lt (ordering_then o (ordering_then (nat_cmp x.id.pseudonode e.id.pseudonode) (nat_cmp x.id.fragment e.id.fragment)))) o) ∙ k))
+
+pub begins_at : (es : List Entry) (i : ℕ) (e : Entry) → i < length es → e ≡ get_or es i e → Begins e.id.system (drop i es)
+begins_at [] i e lt at = absurd (omega (arith, lt))
+begins_at (x ∷ xs) zero e lt at = sym (ap (λ (y : Entry). y.id.system) at)
+begins_at (x ∷ xs) (suc i) e lt at = begins_at xs i e (omega (arith, lt)) at

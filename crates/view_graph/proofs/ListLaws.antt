@@ -1,5 +1,5 @@
 -- Parts of lists, and what a step of a loop adds.
-use Rattle.std.proofs.Common.{◌≡◌, ℕ, zero, suc, ◌+◌, ◌<◌, ◌==◌, ◌&&◌, ◌||◌, Bool, true, false, not, if◌then◌else◌, List, [], ◌∷◌, ◌++◌, length, get_or, take, drop, map, filter, is_some, slice_get, Option, Some, None, refl, sym, ap, ◌∙◌, arith, append-nil, length-append}
+use Rattle.std.proofs.Common.{◌≡◌, ℕ, zero, suc, ◌+◌, ◌<◌, ◌==◌, ◌&&◌, ◌||◌, Bool, true, false, not, if◌then◌else◌, List, [], ◌∷◌, ◌++◌, length, get_or, set, take, drop, map, filter, is_some, slice_get, Option, Some, None, refl, sym, ap, ◌∙◌, arith, append-nil, length-append}
 use Rattle.std.proofs.Math.Seq.{take-suc}
 use Rattle.std.specs.Prelude.{option_to_list}
 use Rattle.std.specs.List.{AllByRecursion, insert, filter_map, flat_map}
@@ -228,3 +228,19 @@ all_push P (y ∷ ys) x all is = (all.0, all_push P ys x all.1 is)
 pub map_at : {X Y : Type 0} (f : X → Y) (ys : List Y) (i : ℕ) (d : Y) (x : X) (old next : List X) → i < length ys → map f old ≡ take i ys → next ≡ old ++ x ∷ [] → f x ≡ get_or ys i d → map f next ≡ take (i + 1) ys
 map_at {X} {Y} f ys i d x old next lt before step is =
     ap (map f) step ∙ map-append f old (x ∷ []) ∙ ap (λ (zs : List Y). zs ++ f x ∷ []) before ∙ ap (λ (z : Y). take i ys ++ z ∷ []) is ∙ take_one ys i (get_or ys i d) lt (get_or_default ys i d (get_or ys i d) lt)
+
+-- ---- the last of a list
+
+pub set_last : {X : Type 0} (xs now : List X) (i : ℕ) (x y : X) → now ≡ xs ++ x ∷ [] → i ≡ length xs → set now i y ≡ xs ++ y ∷ []
+set_last {X} xs now i x y is at = ap (λ (zs : List X). set zs i y) is ∙ ap (λ k. set (xs ++ x ∷ []) k y) at ∙ by xs
+  where
+    by : (zs : List X) → set (zs ++ x ∷ []) (length zs) y ≡ zs ++ y ∷ []
+    by [] = refl
+    by (z ∷ zs) = ap (λ (ws : List X). z ∷ ws) (by zs)
+
+pub read_last : {X : Type 0} (xs now : List X) (i : ℕ) (x d : X) → now ≡ xs ++ x ∷ [] → i ≡ length xs → d ≡ get_or now i d → d ≡ x
+read_last {X} xs now i x d is at read = read ∙ ap (λ (zs : List X). get_or zs i d) is ∙ ap (λ k. get_or (xs ++ x ∷ []) k d) at ∙ by xs
+  where
+    by : (zs : List X) → get_or (zs ++ x ∷ []) (length zs) d ≡ x
+    by [] = refl
+    by (z ∷ zs) = by zs

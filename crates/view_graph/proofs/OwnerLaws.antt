@@ -22,7 +22,7 @@ use Rattle.wire_base.specs.declared.view.ViewNode.{ViewNode}
 use Rattle.wire_base.specs.declared.view.ViewSub.{ViewSub}
 use Rattle.wire_base.specs.model.Control.{same_system}
 use Rattle.wire_base.specs.model.View.{Claim, has_prefix, is_shared, node_of, nodes_of}
-use Rattle.view_graph.specs.Owners.{Prefix, prefixes_at, prefixes_in, prefixes_of, owner_at, owner_with, is_several, is_there, is_held, is_shared_in, IsOwner, AreOwners, AreAlone, AreTold}
+use Rattle.view_graph.specs.Owners.{Prefix, prefixes_at, prefixes_in, prefixes_of, owner_at, owner_with, is_several, is_there, is_held, is_shared_in, IsOwner, AreOwners, AreAlone, AreTold, alone_node}
 use Rattle.view_graph.proofs.AnewLaws.{same_by_get}
 use Rattle.view_graph.proofs.FragmentLaws.{same_is}
 use Rattle.view_graph.proofs.GraphLaws.{and_both}
@@ -298,3 +298,7 @@ whole_is claims owners told none =
 
 pub whole_alone : (claims : List Claim) (owners : BTreeMap Ipv4 (Option SystemId)) → AreTold claims owners → AreAlone owners → map (λ (n : ViewNode). n.subs) (nodes_of claims) ≡ map (λ (c : Claim). c.subs) claims
 whole_alone claims owners told alone = whole_is claims owners told (alone_claims_none owners claims alone)
+
+-- where no prefix is one of several systems, all places stay
+pub alone_whole : (owners : BTreeMap Ipv4 (Option SystemId)) (n : ViewNode) → AreAlone owners → n ≡ alone_node owners n
+alone_whole owners n alone = ap (λ (ss : List ViewSub). record n { subs = ss }) (none_several (λ (s : ViewSub). is_several (owner_at owners s.prefix)) n.subs (alone_subs_none owners n.subs alone))

@@ -64,3 +64,11 @@ eq_is Greater h = absurd (false≢true h)
 -- what is above a system is above each that is the same
 pub same_before : (a b c : SystemId) → same_system a b ≡ true → is_before b c ≡ true → is_before a c ≡ true
 same_before a b c h k = ap is_lt (system_total.congr a b c (eq_is _ (tie_is_same a b ∙ h))) ∙ k
+
+pub above_turned : (a b : SystemId) → is_gt (system_order b a) ≡ is_before a b
+above_turned a b = sym (ap is_lt (system_total.antisymm a b) ∙ reversed (system_order b a))
+  where
+    reversed : (o : Ordering) → is_lt (ordering_reverse o) ≡ is_gt o
+    reversed Less = refl
+    reversed Equal = refl
+    reversed Greater = refl

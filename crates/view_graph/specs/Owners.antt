@@ -8,6 +8,8 @@ use Rattle.std.specs.List.{flat_map, list_all, list_any}
 use Rattle.std.specs.Str.{bytes_eq}
 use Rattle.wire_base.specs.declared.addresses.Ipv4.{Ipv4}
 use Rattle.wire_base.specs.declared.addresses.SystemId.{SystemId}
+use Rattle.wire_base.specs.declared.view.ViewEdge.{ViewEdge}
+use Rattle.wire_base.specs.declared.view.ViewNode.{ViewNode}
 use Rattle.wire_base.specs.declared.view.ViewSub.{ViewSub}
 use Rattle.wire_base.specs.model.Control.{same_system}
 use Rattle.wire_base.specs.model.View.{Claim, own_subs}
@@ -66,6 +68,14 @@ AreAlone owners = (p : Ipv4) → is_several (owner_at owners p) ≡ false
 -- the places whose prefix isn't one of several systems there are those of which no other system has the prefix
 abbrev pub AreTold : List Claim → BTreeMap Ipv4 (Option SystemId) → Type 0
 AreTold claims owners = (i : ℕ) (c : Claim) → slice_get claims i ≡ Some c → filter (λ s. not (is_several (owner_at owners s.prefix))) c.subs ≡ own_subs claims c
+
+-- the node of a system with all places in subdomains that it tells
+abbrev pub whole_node : List ViewEdge → Claim → ViewNode
+whole_node edges c = record { system = c.system; overload = c.overload; edges = edges; subs = c.subs }
+
+-- a node with the places alone whose prefix isn't one of several systems there
+abbrev pub alone_node : BTreeMap Ipv4 (Option SystemId) → ViewNode → ViewNode
+alone_node owners n = record n { subs = filter (λ s. not (is_several (owner_at owners s.prefix))) n.subs }
 
 -- ---- prefixes that ascend from system to system
 

@@ -3,10 +3,11 @@ use Rattle.std.specs.Prelude.{◌≡◌, ℕ, suc, Bool, List, [], ◌∷◌, �
 use Rattle.std.specs.List.{flat_map, list_any}
 use Rattle.std.specs.Ordering.{is_lt}
 use Rattle.wire_base.specs.declared.addresses.SystemId.{SystemId}
+use Rattle.wire_base.specs.declared.entry.Entry.{Entry}
 use Rattle.wire_base.specs.declared.view.ViewSub.{ViewSub}
 use Rattle.wire_base.specs.model.Control.{system_order}
 use Rattle.wire_base.specs.model.Tlv.{Tlv}
-use Rattle.wire_base.specs.model.View.{Claim, links_in, subs_in}
+use Rattle.wire_base.specs.model.View.{Claim, is_overload_flag, links_in, subs_in}
 
 -- how many claims stand before the first whose system is above this one
 abbrev pub place_before : SystemId → List Claim → ℕ
@@ -30,3 +31,12 @@ pub record IsAdding (rest all : List Tlv) (before now : Claim) : Type 0 where
   pub overload : now.overload ≡ before.overload
   pub links : now.links ++ flat_map links_in rest ≡ before.links ++ flat_map links_in all
   pub subs : now.subs ++ flat_map subs_in rest ≡ before.subs ++ flat_map subs_in all
+
+-- whether a list of entries begins with one of that system
+abbrev pub Begins : SystemId → List Entry → Type 0
+Begins s [] = Unit {0}
+Begins s (e ∷ es) = e.id.system ≡ s
+
+-- a claim of the system of a fragment 0, to which nothing was added
+abbrev pub bare_claim : Entry → Claim
+bare_claim e = record { system = e.id.system; overload = is_overload_flag e.flags; links = []; subs = [] }

@@ -8,12 +8,13 @@ ghost use Rattle.wire_base.specs.model.View.{links_in, subs_in, is_part_of, is_o
 ghost use Rattle.wire_base.specs.model.Place.{kind_of, is_mpls};
 ghost use Rattle.isis_tlv.specs.Views.{item};
 ghost use Rattle.view_graph.specs.Edges.{is_before};
-ghost use Rattle.view_graph.specs.Places.{place_before};
+ghost use Rattle.view_graph.specs.Places.{Begins, bare_claim, place_before};
 
-use crate::known::known_subs;
+use crate::known::keep_known;
 use crate::links::{Link, LinkList, append_links};
 use crate::places::append_places;
 use isis_tlv::{Tlv, TlvWalk};
+use lsp_store::is_system_above;
 use std::alloc::Global;
 use std::marker::Model;
 use wire_base::{
@@ -78,6 +79,12 @@ fn add_content(claim: &mut Claim, content: &[u8]) -> M<()>
     Ok(())
 }
 
+fn is_of(system: &SystemId, entry: &Entry) -> bool
+    ensures { result ≡ same_system entry.now.id.system system.now }
+{
+    entry.id.system == *system
+}
+
 /// A live fragment of a system itself, not of one of its pseudonodes.
 fn is_part_of(system: &SystemId, entry: &Entry) -> bool
     ensures { result ≡ is_part_of system.now entry.now }
@@ -99,16 +106,18 @@ fn add_entry(claim: &mut Claim, entry: &Entry) -> M<()>
     }
 }
 
-/// Adds what the fragments of its system say. Entries ascend, so the first entry of a higher system ends them.
+/// Adds what the fragments of its system say. Entries ascend, and the first is one of them, so the first entry of another
+/// system ends them.
 fn add_fragments(claim: &mut Claim, entries: &[Entry]) -> M<()>
-    requires { AreAscending (ids_of entries.now) }
+    requires ascending { AreAscending (ids_of entries.now) }
+    requires begins { Begins claim.old.system entries.now }
     ensures links { OnOk result (claim.new.links ≡ claim.old.links ++ flat_map links_in (tlvs_of entries.now claim.old.system)) }
     ensures subs { OnOk result (claim.new.subs ≡ claim.old.subs ++ flat_map subs_in (tlvs_of entries.now claim.old.system)) }
     ensures system { claim.new.system ≡ claim.old.system }
     ensures overload { claim.new.overload ≡ claim.old.overload }
 {
     'fragments: for entry in entries {
-        if is_before(&claim.system, &entry.id.system) {
+        if !is_of(&claim.system, entry) {
             return Ok(());
         }
         add_entry(claim, entry)?;
@@ -116,32 +125,30 @@ fn add_fragments(claim: &mut Claim, entries: &[Entry]) -> M<()>
     Ok(())
 }
 
-/// What the system of a fragment 0 claims; it is overloaded where that fragment says so.
+/// A claim of the system of a fragment 0, to which nothing was added; it is overloaded where that fragment says so.
+fn bare_claim(alloc: Global, entry: &Entry) -> Claim
+    ensures { result ≡ bare_claim entry.now }
+{
+    no_claim(alloc, entry.id.system, entry.flags / 4 % 2 == 1)
+}
+
+/// What the system of a fragment 0 claims, by the entries from that one on.
 pub(crate) fn claim_of(alloc: Global, entries: &[Entry], entry: &Entry) -> M<Claim>
-    requires { AreAscending (ids_of entries.now) }
+    requires ascending { AreAscending (ids_of entries.now) }
+    requires begins { Begins entry.now.id.system entries.now }
     ensures { IfOk result (λ c. c ≡ claim_of entries.now entry.now) }
 {
-    let mut claim = no_claim(alloc, entry.id.system, entry.flags / 4 % 2 == 1);
+    let mut claim = bare_claim(alloc, entry);
     add_fragments(&mut claim, entries)?;
     Ok(claim)
 }
 
 /// A claim with the places alone that count by what the router knows of subdomains.
-pub(crate) fn with_known(kinds: &[SubKind], claim: Claim) -> M<Claim>
+pub(crate) fn with_known(kinds: &[SubKind], mut claim: Claim) -> M<Claim>
     ensures { IfOk result (λ c. c ≡ with_known kinds.now claim) }
 {
-    let Claim {
-        system,
-        overload,
-        links,
-        subs,
-    } = claim;
-    Ok(Claim {
-        system,
-        overload,
-        links,
-        subs: known_subs(kinds, subs)?,
-    })
+    keep_known(kinds, &mut claim.subs)?;
+    Ok(claim)
 }
 
 /// The links over the ends that are up.
@@ -225,13 +232,28 @@ fn is_other(own: &SystemId, entry: &Entry) -> bool
     entry.id.system != *own && entry.id.pseudonode == 0 && entry.id.fragment == 0 && entry.life > 0
 }
 
-/// What the system of a fragment 0 claims, with the places alone that count by what the router knows of subdomains.
-fn known_claim(alloc: Global, conf: &RouterConf, entries: &[Entry], entry: &Entry) -> M<Claim>
-    requires { AreAscending (ids_of entries.now) }
-    ensures { IfOk result (λ c. c ≡ with_known conf.now.kinds (claim_of entries.now entry.now)) }
+/// Fills a claim to which nothing was added, with the places alone that count by what the router knows of subdomains.
+fn fill(claim: &mut Claim, kinds: &[SubKind], entries: &[Entry], entry: &Entry) -> M<()>
+    requires ascending { AreAscending (ids_of entries.now) }
+    requires begins { Begins entry.now.id.system entries.now }
+    requires bare { claim.old ≡ bare_claim entry.now }
+    ensures { OnOk result (claim.new ≡ with_known kinds.now (claim_of entries.now entry.now)) }
 {
-    let claim = claim_of(alloc, entries, entry)?;
-    with_known(conf.kinds.as_slice(), claim)
+    add_fragments(claim, entries)?;
+    keep_known(kinds, &mut claim.subs)
+}
+
+/// Appends what the system of a fragment 0 claims, by the entries from that one on. It is filled in its place, since a claim
+/// is large and each view has one for every system.
+fn push_claim(claims: &mut Vec<Claim>, kinds: &[SubKind], entries: &[Entry], entry: &Entry) -> M<()>
+    requires ascending { AreAscending (ids_of entries.now) }
+    requires begins { Begins entry.now.id.system entries.now }
+    ensures { OnOk result (claims.new.items ≡ claims.old.items ++ with_known kinds.now (claim_of entries.now entry.now) ∷ []) }
+{
+    let last = claims.len();
+    claims.push(bare_claim(*claims.allocator(), entry))?;
+    fill(&mut claims[last], kinds, entries, entry)?;
+    Ok(())
 }
 
 /// What all other systems claim, in the order of their entries. A system's fragments stand from its fragment 0 on.
@@ -243,16 +265,17 @@ fn other_claims(alloc: Global, conf: &RouterConf, entries: &[Entry]) -> M<Vec<Cl
     'systems: for place in 0..entries.len() {
         let entry = &entries[place];
         if is_other(&conf.system, entry) {
-            claims.push(known_claim(alloc, conf, &entries[place..], entry)?)?;
+            push_claim(&mut claims, conf.kinds.as_slice(), &entries[place..], entry)?;
         }
     }
     Ok(claims)
 }
 
+#[tactic(auto, using(crate::proofs::SystemLaws::above_turned))]
 fn is_before(a: &SystemId, b: &SystemId) -> bool
     ensures { result ≡ is_before a.now b.now }
 {
-    a.cmp(b).is_lt()
+    is_system_above(*b, *a)
 }
 
 /// How many claims stand before the first whose system is above this one.

@@ -6,14 +6,14 @@ ghost use Rattle.wire_base.specs.model.Control.{same_system};
 ghost use Rattle.wire_base.specs.model.Place.{kind_of};
 ghost use Rattle.wire_base.specs.model.BierInfo.{any_overlap};
 ghost use Rattle.wire_base.specs.model.View.{all_ranges, first_each, known_subs};
-ghost use Rattle.view_graph.specs.Owners.{AreAlone, owner_at, is_several};
+ghost use Rattle.view_graph.specs.Owners.{alone_node, owner_at, is_several};
 ghost use Rattle.view_graph.specs.Places.{has_sd};
 
 use crate::owners::is_several;
 use bier_subtlv::overlaps;
 use std::alloc::Global;
 use std::collections::BTreeMap;
-use wire_base::{Ipv4, LabelRange, M, SubKind, SubList, SystemId, ViewSub, kind_of};
+use wire_base::{Ipv4, LabelRange, M, SubKind, SubList, SystemId, ViewNode, ViewSub, kind_of};
 
 /// Whether two label ranges of a system share a label.
 fn any_overlap(alloc: Global, subs: &[ViewSub]) -> M<bool>
@@ -112,47 +112,34 @@ fn first_known(alloc: Global, kinds: &[SubKind], subs: &[ViewSub]) -> M<SubList>
     Ok(kept)
 }
 
-/// The places that count by what the router knows of subdomains: none where two label ranges of the system share a
+/// Keeps the places that count by what the router knows of subdomains: none where two label ranges of the system share a
 /// label, else the first in each subdomain that is known.
 #[tactic(auto, using(crate::proofs::ListLaws::known_overlap, crate::proofs::ListLaws::known_apart))]
-pub(crate) fn known_subs(kinds: &[SubKind], subs: SubList) -> M<SubList>
-    ensures { IfOk result (λ kept. kept ≡ known_subs kinds.now subs) }
+pub(crate) fn keep_known(kinds: &[SubKind], subs: &mut SubList) -> M<()>
+    ensures { OnOk result (subs.new ≡ known_subs kinds.now subs.old) }
 {
     let alloc = subs.allocator();
     if any_overlap(alloc, subs.as_slice())? {
-        return Ok(SubList::new(alloc));
+        *subs = SubList::new(alloc);
+        return Ok(());
     }
-    if are_first_known(kinds, subs.as_slice()) {
-        return Ok(subs);
+    if !are_first_known(kinds, subs.as_slice()) {
+        *subs = first_known(alloc, kinds, subs.as_slice())?;
     }
-    first_known(alloc, kinds, subs.as_slice())
+    Ok(())
 }
 
-/// The places of a system whose prefix is no other system's, by the systems that have the prefixes and by whether several
-/// have one.
-pub(crate) fn alone_subs(
-    owners: &BTreeMap<Ipv4, Option<SystemId>>,
-    is_any: bool,
-    subs: SubList,
-) -> M<SubList>
-    requires { is_any ≡ false → AreAlone owners.now }
-    ensures { IfOk result (λ kept. kept ≡ filter (λ s. not (is_several (owner_at owners.now s.prefix))) subs) }
+/// Keeps the places of a node whose prefix is no other system's, by the systems that have the prefixes.
+pub(crate) fn keep_alone(owners: &BTreeMap<Ipv4, Option<SystemId>>, node: &mut ViewNode) -> M<()>
+    ensures { OnOk result (node.new ≡ alone_node owners.now node.old) }
 {
-    if any_several(owners, is_any, subs.as_slice()) {
-        alone_copies(subs.allocator(), owners, subs.as_slice())
-    } else {
-        Ok(subs)
+    if one_of_several(owners, node.subs.as_slice()) {
+        node.subs = alone_copies(node.subs.allocator(), owners, node.subs.as_slice())?;
     }
+    Ok(())
 }
 
-/// Whether one of those prefixes is one of several systems. Where none is, no prefix is looked up.
-fn any_several(owners: &BTreeMap<Ipv4, Option<SystemId>>, is_any: bool, subs: &[ViewSub]) -> bool
-    requires { is_any ≡ false → AreAlone owners.now }
-    ensures { result ≡ list_any (λ s. is_several (owner_at owners.now s.prefix)) subs.now }
-{
-    is_any && one_of_several(owners, subs)
-}
-
+/// Whether one of those prefixes is one of several systems.
 fn one_of_several(owners: &BTreeMap<Ipv4, Option<SystemId>>, subs: &[ViewSub]) -> bool
     ensures { result ≡ list_any (λ s. is_several (owner_at owners.now s.prefix)) subs.now }
 {

@@ -1,15 +1,15 @@
 //! The view: a node for each system.
-ghost use Rattle.std.specs.Prelude.{◌≡◌, ◌≤◌, ℕ, List, map, length, slice_get, Some, true, false, IfOk};
-ghost use Rattle.wire_base.specs.model.View.{Claim as ClaimItem, edges_from, node_of, nodes_of, view_of};
+ghost use Rattle.std.specs.Prelude.{◌≡◌, ◌≤◌, ◌++◌, ◌∷◌, [], map, length, true, false, IfOk, OnOk};
+ghost use Rattle.wire_base.specs.model.View.{nodes_of, view_of};
 ghost use Rattle.wire_base.specs.model.Configuration.{IsSound};
 ghost use Rattle.wire_base.specs.model.Control.{IsDatabase};
 ghost use Rattle.wire_base.specs.model.Graph.{IsGraph, covers};
 ghost use Rattle.view_graph.specs.Edges.{AreInOrder, AreWhole, half_edges_of};
-ghost use Rattle.view_graph.specs.Owners.{AreAlone, AreTold};
+ghost use Rattle.view_graph.specs.Owners.{AreAlone, AreTold, alone_node, whole_node};
 
 use crate::claims::{Claim, claims_of};
 use crate::edges::{all_half_edges, all_whole_edges};
-use crate::known::alone_subs;
+use crate::known::keep_alone;
 use crate::owners::owners_of;
 use lsp_store::Store;
 use std::alloc::Global;
@@ -17,28 +17,35 @@ use std::collections::BTreeMap;
 use std::mem;
 use wire_base::{EdgeList, Entry, Ipv4, M, RouterConf, Rows, SystemId, Triple, View, ViewNode};
 
-/// The node of a system, by its edges and its claim.
-fn node_of(
+/// The node of a system with all places in subdomains that it tells.
+fn whole_node(edges: EdgeList, claim: Claim) -> ViewNode
+    ensures { result ≡ whole_node edges claim }
+{
+    ViewNode {
+        system: claim.system,
+        overload: claim.overload,
+        edges,
+        subs: claim.subs,
+    }
+}
+
+/// Appends the node of a system, by its edges and its claim.
+fn push_node(
+    nodes: &mut Vec<ViewNode>,
     edges: EdgeList,
     owners: &BTreeMap<Ipv4, Option<SystemId>>,
     is_any: bool,
     claim: Claim,
-) -> M<ViewNode>
+) -> M<()>
     requires alone { is_any ≡ false → AreAlone owners.now }
-    ensures { IfOk result (λ n. (claims : List ClaimItem) (place : ℕ) → AreTold claims owners.now → slice_get claims place ≡ Some claim → edges ≡ edges_from claim 0 claims → n ≡ node_of claims claim) }
+    ensures { OnOk result (nodes.new.items ≡ nodes.old.items ++ alone_node owners.now (whole_node edges claim) ∷ []) }
 {
-    let Claim {
-        system,
-        overload,
-        links: _links,
-        subs,
-    } = claim;
-    Ok(ViewNode {
-        system,
-        overload,
-        edges,
-        subs: alone_subs(owners, is_any, subs)?,
-    })
+    let last = nodes.len();
+    nodes.push(whole_node(edges, claim))?;
+    if is_any {
+        keep_alone(owners, &mut nodes[last])?;
+    }
+    Ok(())
 }
 
 /// The nodes, by the edges of each system, by the systems that have the prefixes and by whether several have one.
@@ -57,7 +64,7 @@ fn all_nodes(
     let mut nodes = Vec::with_capacity(alloc, claims.len())?;
     'systems: for claim in claims {
         let own = mem::replace(&mut edges[nodes.len()], EdgeList::new(alloc));
-        nodes.push(node_of(own, owners, is_any, claim)?)?;
+        push_node(&mut nodes, own, owners, is_any, claim)?;
     }
     Ok(Rows::from_vec(nodes))
 }
