@@ -18,7 +18,7 @@ use Rattle.wire_base.specs.model.Control.{same_system, system_order, is_below, A
 use Rattle.wire_base.specs.model.View.{Claim, is_part_of, tlvs_of, claim_of, is_other, with_known}
 use Rattle.view_graph.specs.Edges.{is_before}
 use Rattle.view_graph.specs.Keep.{is_first_of}
-use Rattle.view_graph.specs.Places.{Begins}
+use Rattle.view_graph.specs.Places.{Begins, is_live_part}
 use Rattle.view_graph.proofs.SystemLaws.{tie_is_same, before_trans, before_differs, same_turned}
 use Rattle.view_graph.proofs.GraphLaws.{all_weaker, and_both}
 
@@ -139,6 +139,9 @@ ascending_rest [] zero asc = tt
 ascending_rest [] (suc i) asc = tt
 ascending_rest (x ∷ xs) zero asc = asc
 ascending_rest (x ∷ xs) (suc i) asc = ascending_rest xs i asc.1
+
+pub part_is_live : (s : SystemId) (e : Entry) → same_system e.id.system s ≡ true → is_part_of s e ≡ is_live_part e
+part_is_live s e h = rw h refl
 
 -- ---- where the first entry is one of the system
 

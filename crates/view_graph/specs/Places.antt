@@ -1,5 +1,5 @@
 -- Words of the code on claims.
-use Rattle.std.specs.Prelude.{◌≡◌, ℕ, suc, Bool, List, [], ◌∷◌, ◌++◌, ◌==◌, if◌then◌else◌}
+use Rattle.std.specs.Prelude.{◌≡◌, ℕ, suc, Bool, List, [], ◌∷◌, ◌++◌, ◌==◌, ◌&&◌, nat_lt, if◌then◌else◌}
 use Rattle.std.specs.List.{flat_map, list_any}
 use Rattle.std.specs.Ordering.{is_lt}
 use Rattle.wire_base.specs.declared.addresses.SystemId.{SystemId}
@@ -31,6 +31,10 @@ pub record IsAdding (rest all : List Tlv) (before now : Claim) : Type 0 where
   pub overload : now.overload ≡ before.overload
   pub links : now.links ++ flat_map links_in rest ≡ before.links ++ flat_map links_in all
   pub subs : now.subs ++ flat_map subs_in rest ≡ before.subs ++ flat_map subs_in all
+
+-- a live entry, not of a pseudonode
+abbrev pub is_live_part : Entry → Bool
+is_live_part e = (e.id.pseudonode == 0) && nat_lt 0 e.life
 
 -- whether a list of entries begins with one of that system
 abbrev pub Begins : SystemId → List Entry → Type 0

@@ -1,5 +1,5 @@
 //! What each system claims of itself: its links, and its places in subdomains.
-ghost use Rattle.std.specs.Prelude.{◌≡◌, ◌++◌, ◌≤◌, ◌∷◌, [], map, filter, length, IfOk, OnOk, if◌then◌else◌};
+ghost use Rattle.std.specs.Prelude.{◌≡◌, ◌++◌, ◌≤◌, ◌∷◌, [], true, map, filter, length, IfOk, OnOk, if◌then◌else◌};
 ghost use Rattle.std.specs.List.{flat_map};
 ghost use Rattle.wire_base.specs.model.Control.{AreAscending, ids_of, same_system, system_order};
 ghost use Rattle.wire_base.specs.model.Tlv.{tlvs_before};
@@ -8,7 +8,7 @@ ghost use Rattle.wire_base.specs.model.View.{links_in, subs_in, is_part_of, is_o
 ghost use Rattle.wire_base.specs.model.Place.{kind_of, is_mpls};
 ghost use Rattle.isis_tlv.specs.Views.{item};
 ghost use Rattle.view_graph.specs.Edges.{is_before};
-ghost use Rattle.view_graph.specs.Places.{Begins, bare_claim, place_before};
+ghost use Rattle.view_graph.specs.Places.{Begins, bare_claim, is_live_part, place_before};
 
 use crate::known::keep_known;
 use crate::links::{Link, LinkList, append_links};
@@ -86,20 +86,22 @@ fn is_of(system: &SystemId, entry: &Entry) -> bool
 }
 
 /// A live fragment of a system itself, not of one of its pseudonodes.
-fn is_part_of(system: &SystemId, entry: &Entry) -> bool
-    ensures { result ≡ is_part_of system.now entry.now }
+fn is_live_part(entry: &Entry) -> bool
+    ensures { result ≡ is_live_part entry.now }
 {
-    entry.id.system == *system && entry.id.pseudonode == 0 && entry.life > 0
+    entry.id.pseudonode == 0 && entry.life > 0
 }
 
-/// Adds what an entry says, where it is such a fragment.
+/// Adds what an entry of its system says, where it is such a fragment.
+#[tactic(auto, using(crate::proofs::FragmentLaws::part_is_live))]
 fn add_entry(claim: &mut Claim, entry: &Entry) -> M<()>
+    requires { same_system entry.now.id.system claim.old.system ≡ true }
     ensures links { OnOk result (claim.new.links ≡ claim.old.links ++ flat_map links_in (if is_part_of claim.old.system entry.now then tlvs_before entry.now.content else [])) }
     ensures subs { OnOk result (claim.new.subs ≡ claim.old.subs ++ flat_map subs_in (if is_part_of claim.old.system entry.now then tlvs_before entry.now.content else [])) }
     ensures system { claim.new.system ≡ claim.old.system }
     ensures overload { claim.new.overload ≡ claim.old.overload }
 {
-    if is_part_of(&claim.system, entry) {
+    if is_live_part(entry) {
         add_content(claim, entry.content.as_slice())
     } else {
         Ok(())

@@ -133,18 +133,36 @@ fn count(claims: &[Claim], keys: &[u64], edges: &mut EdgeList, link: &Link) -> M
     Ok(())
 }
 
-/// The edges that a system lists itself, in the order of the systems that they lead to.
-fn half_edges(alloc: Global, claims: &[Claim], keys: &[u64], links: &[Link]) -> M<EdgeList>
+/// Fills an empty list with the edges that a system lists itself, in the order of the systems that they lead to.
+fn fill_half_edges(edges: &mut EdgeList, claims: &[Claim], keys: &[u64], links: &[Link]) -> M<()>
     requires order { AreInOrder claims.now }
     requires keys { AreKeys keys.now claims.now }
     requires few { length claims.now ≤ 65536 }
-    ensures { IfOk result (λ edges. edges ≡ half_edges 0 (metrics_to links.now claims.now)) }
+    requires none { edges.old ≡ [] }
+    ensures { OnOk result (edges.new ≡ half_edges 0 (metrics_to links.now claims.now)) }
 {
-    let mut edges = EdgeList::new(alloc);
     'links: for link in links {
-        count(claims, keys, &mut edges, link)?;
+        count(claims, keys, edges, link)?;
     }
-    Ok(edges)
+    Ok(())
+}
+
+/// Appends the list of those edges, which is filled in its place.
+fn push_half_edges(
+    halves: &mut Vec<EdgeList>,
+    claims: &[Claim],
+    keys: &[u64],
+    links: &[Link],
+) -> M<()>
+    requires order { AreInOrder claims.now }
+    requires keys { AreKeys keys.now claims.now }
+    requires few { length claims.now ≤ 65536 }
+    ensures { OnOk result (halves.new.items ≡ halves.old.items ++ half_edges 0 (metrics_to links.now claims.now) ∷ []) }
+{
+    let last = halves.len();
+    halves.push(EdgeList::new(*halves.allocator()))?;
+    fill_half_edges(&mut halves[last], claims, keys, links)?;
+    Ok(())
 }
 
 /// For each system the edges that it lists itself, in the order of the systems that they lead to.
@@ -166,7 +184,7 @@ fn half_edges_by(alloc: Global, claims: &[Claim], keys: &[u64]) -> M<Vec<EdgeLis
 {
     let mut halves = Vec::with_capacity(alloc, claims.len())?;
     'systems: for claim in claims {
-        halves.push(half_edges(alloc, claims, keys, claim.links.as_slice())?)?;
+        push_half_edges(&mut halves, claims, keys, claim.links.as_slice())?;
     }
     Ok(halves)
 }

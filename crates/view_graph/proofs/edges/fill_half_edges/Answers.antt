@@ -4,10 +4,10 @@ use Rattle.wire_base.specs.model.View.{Link}
 use Rattle.view_graph.specs.Edges.{half_edges, metrics_to}
 use Rattle.view_graph.proofs.EdgeLaws.{none_listed}
 use Rattle.view_graph.proofs.ListLaws.{take_one}
-use Rattle.view_graph.proofs.edges.half_edges.Goals as goal
+use Rattle.view_graph.proofs.edges.fill_half_edges.Goals as goal
 
 pub links-init : goal.links-init
-links-init c = c.new-edges.ensures ∙ none_listed 0 c.args.claims.now
+links-init c = c.requires.none ∙ none_listed 0 c.args.claims.now
 
 pub links-preserved : goal.links-preserved
 links-preserved c = c.in_ok-count.ensures (take c.links.link-index c.args.links.now) c.links.invariant ∙ ap (λ (ls : List Link). half_edges 0 (metrics_to ls c.args.claims.now)) (take_one c.args.links.now c.links.link-index c.link-item.result c.links-test.true c.link-item.is)
