@@ -1,5 +1,5 @@
 -- Runs on their way, as they are told.
-use Rattle.std.proofs.Common.{◌≡◌, ℕ, List, [], ◌∷◌, ◌++◌, length, Option, Some, None, refl, sym, ap, subst, ◌∙◌, append_assoc}
+use Rattle.std.proofs.Common.{◌≡◌, ℕ, Bool, true, false, List, [], ◌∷◌, ◌++◌, length, Option, Some, None, refl, sym, ap, subst, ◌∙◌, append_assoc}
 use Rattle.std.specs.List.{fold}
 use Rattle.replay_text.specs.declared.event.Event.{Event}
 use Rattle.replay_text.specs.declared.event.Event.TheVariants as event
@@ -12,6 +12,7 @@ use Rattle.domain_model.specs.Step.{happens}
 use Rattle.domain_model.specs.Run.{Progress, line_done, line_events}
 use Rattle.domain_replay.specs.Courses.{Course, past, IsAt}
 use Rattle.domain_replay.specs.Telling.{Telling, Told, told, sent_records, tells, tells_or, tells_unless, tells_on, tells_all, tells_line, telling_of, at_line, IsEntered, LineEnters, IsToldSo}
+use Rattle.replay_report.specs.Captures.{with_records}
 use Rattle.domain_replay.specs.Texts.{made_text}
 use Rattle.domain_replay.proofs.TellingLaws.{line_told}
 
@@ -20,13 +21,17 @@ use Rattle.domain_replay.proofs.TellingLaws.{line_told}
 abbrev pub past_told : (frames report : List ℕ) → Told → Told
 past_told frames report t = record { telling = past frames report t.telling; refused = t.refused }
 
+records_past : (b : Bool) (f frames records : List ℕ) → with_records b (f ++ frames) records ≡ f ++ with_records b frames records
+records_past true f frames records = append_assoc f frames records
+records_past false f frames records = refl
+
 tells_past : (line : ℕ) (f g : List ℕ) (t : Telling) (e : Event) → tells line (past f g t) e ≡ past f g (tells line t e)
 unfolding tells
 tells_past line f g t e =
     let n = happens t.world e in
-    let frames = append_assoc f t.frames (sent_records t.world.domain.routers line n.made.sent) in
+    let frames = records_past t.captures f t.frames (sent_records t.world.domain.routers line n.made.sent) in
     let report = append_assoc g t.report (made_text t.world.domain.routers line n.made) in
-    λ i. record { world = (tells line t e).world; counts = (tells line t e).counts; frames = frames i; report = report i }
+    λ i. record { world = (tells line t e).world; counts = (tells line t e).counts; frames = frames i; report = report i; captures = t.captures }
 
 or_past : (line : ℕ) (f g : List ℕ) (t : Telling) (e : Event) (o : Option EventFault) → tells_or line (past f g t) e o ≡ past_told f g (tells_or line t e o)
 or_past line f g t e None = ap told (tells_past line f g t e)
@@ -55,7 +60,7 @@ pub past_past : (f r g s : List ℕ) (t : Telling) → past f r (past g s t) ≡
 past_past f r g s t =
     let frames = sym (append_assoc f g t.frames) in
     let report = sym (append_assoc r s t.report) in
-    λ i. record { world = t.world; counts = t.counts; frames = frames i; report = report i }
+    λ i. record { world = t.world; counts = t.counts; frames = frames i; report = report i; captures = t.captures }
 
 -- a replay behind fronts that were written out stands at the run
 pub written_at : (course : Course) (now later : Telling) (frames report : List ℕ) → IsAt course now → now ≡ past frames report later

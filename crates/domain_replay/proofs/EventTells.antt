@@ -1,5 +1,5 @@
 -- One event that a domain does, or refuses, as it is told.
-use Rattle.std.proofs.Common.{◌≡◌, ℕ, ◌+◌, List, [], ◌∷◌, ◌++◌, map, Some, None, Err, refl, sym, ap, subst, ◌∙◌, append-nil}
+use Rattle.std.proofs.Common.{◌≡◌, ℕ, Bool, true, false, ◌+◌, List, [], ◌∷◌, ◌++◌, map, Some, None, Err, refl, sym, ap, subst, ◌∙◌, append-nil}
 use Rattle.std.proofs.Math.Nat.{add-zero}
 use Rattle.std.specs.Prelude.{flat_map}
 use Rattle.wire_base.specs.declared.conf.RouterConf.{RouterConf}
@@ -17,7 +17,7 @@ use Rattle.domain_core.specs.Network.{Seen}
 use Rattle.domain_model.specs.Step.{happens}
 use Rattle.domain_model.specs.World.{WorldState}
 use Rattle.replay_report.specs.declared.counts.Counts.{Counts}
-use Rattle.replay_report.specs.Captures.{wire_record}
+use Rattle.replay_report.specs.Captures.{wire_record, with_records}
 use Rattle.replay_report.specs.Counting.{counted}
 use Rattle.replay_report.specs.Lines.{event_text}
 use Rattle.domain_replay.specs.Telling.{Telling, told, tells, tells_or, tells_on, sent_records}
@@ -31,32 +31,33 @@ records_same routers line (s ∷ sent) = ap (λ (l : List ℕ). wire_record line
 -- it was done
 pub event_told : (line : ℕ) (t : Telling) (e : Event) (w : WorldState) (c : Counts) (f r : List ℕ) (made : StepOut) → event_fault t.world e ≡ None → w ≡ (happens t.world e).world →
     made ≡ answer.told t.world.domain.routers (happens t.world e).made → c ≡ counted t.counts e made.got made.drops →
-    f ≡ t.frames ++ flat_map (wire_record line) made.sent → (routers : List RouterConf) → routers ≡ t.world.domain.routers → r ≡ t.report ++ event_text routers line made.got made.drops →
-    tells_on line (told t) e ≡ told (record { world = w; counts = c; frames = f; report = r })
+    f ≡ with_records t.captures t.frames (flat_map (wire_record line) made.sent) → (routers : List RouterConf) → routers ≡ t.world.domain.routers → r ≡ t.report ++ event_text routers line made.got made.drops →
+    (b : Bool) → b ≡ t.captures → tells_on line (told t) e ≡ told (record { world = w; counts = c; frames = f; report = r; captures = b })
 unfolding tells_on tells
-event_told line t e w c f r made allowed world is counts frames routers same report =
+event_told line t e w c f r made allowed world is counts frames routers same report b captures =
     let n = happens t.world e in
     let out = answer.told t.world.domain.routers n.made in
     ap (tells_or line t e) allowed
-    ∙ ap told (same_telling n.world _ c _ f _ r
+    ∙ ap told (same_telling n.world _ c _ f _ r t.captures b
     (ap (λ (m : StepOut). counted t.counts e m.got m.drops) (sym is) ∙ sym counts)
-    (ap (λ (l : List ℕ). t.frames ++ l) (sym (records_same t.world.domain.routers line n.made.sent) ∙ ap (λ (m : StepOut). flat_map (wire_record line) m.sent) (sym is)) ∙ sym frames)
-    (ap (λ (m : StepOut). t.report ++ event_text t.world.domain.routers line m.got m.drops) (sym is) ∙ ap (λ (rs : List RouterConf). t.report ++ event_text rs line made.got made.drops) (sym same) ∙ sym report))
-    ∙ ap (λ (v : WorldState). told (record { world = v; counts = c; frames = f; report = r })) (sym world)
+    (ap (with_records t.captures t.frames) (sym (records_same t.world.domain.routers line n.made.sent) ∙ ap (λ (m : StepOut). flat_map (wire_record line) m.sent) (sym is)) ∙ sym frames)
+    (ap (λ (m : StepOut). t.report ++ event_text t.world.domain.routers line m.got m.drops) (sym is) ∙ ap (λ (rs : List RouterConf). t.report ++ event_text rs line made.got made.drops) (sym same) ∙ sym report)
+    (sym captures))
+    ∙ ap (λ (v : WorldState). told (record { world = v; counts = c; frames = f; report = r; captures = b })) (sym world)
 
-abbrev of : Counts → List ℕ → List ℕ → Seen → Telling
-of c f r s = record { world = s.world; counts = c; frames = f; report = r }
+abbrev of : Counts → List ℕ → List ℕ → Bool → Seen → Telling
+of c f r b s = record { world = s.world; counts = c; frames = f; report = r; captures = b }
 
 -- it was refused
-pub event_refused : (line : ℕ) (t : Telling) (old new : Seen) (c : Counts) (f r : List ℕ) (e : Event) (why : EventFault) → of c f r old ≡ t → Refuses (event_fault old.world e) why → Stays (new ≡ old) why →
-    Tells (tells_on line (told t) e) (of c f r new) (Err why)
+pub event_refused : (line : ℕ) (t : Telling) (old new : Seen) (c : Counts) (f r : List ℕ) (b : Bool) (e : Event) (why : EventFault) → of c f r b old ≡ t → Refuses (event_fault old.world e) why → Stays (new ≡ old) why →
+    Tells (tells_on line (told t) e) (of c f r b new) (Err why)
 unfolding tells_on
-event_refused line t old new c f r e why view refuses stays = subst (λ (u : Telling). Tells (tells_on line (told u) e) (of c f r new) (Err why)) view (by why refuses stays)
+event_refused line t old new c f r b e why view refuses stays = subst (λ (u : Telling). Tells (tells_on line (told u) e) (of c f r b new) (Err why)) view (by why refuses stays)
   where
-    because : (why : EventFault) → event_fault old.world e ≡ Some why → new ≡ old → tells_on line (told (of c f r old)) e ≡ ends_with (of c f r new) why
-    because why is same = ap (tells_or line (of c f r old) e) is ∙ ap (λ (s : Seen). ends_with (of c f r s) why) (sym same)
+    because : (why : EventFault) → event_fault old.world e ≡ Some why → new ≡ old → tells_on line (told (of c f r b old)) e ≡ ends_with (of c f r b new) why
+    because why is same = ap (tells_or line (of c f r b old) e) is ∙ ap (λ (s : Seen). ends_with (of c f r b s) why) (sym same)
 
-    by : (why : EventFault) → Refuses (event_fault old.world e) why → Stays (new ≡ old) why → Tells (tells_on line (told (of c f r old)) e) (of c f r new) (Err why)
+    by : (why : EventFault) → Refuses (event_fault old.world e) why → Stays (new ≡ old) why → Tells (tells_on line (told (of c f r b old)) e) (of c f r b new) (Err why)
     by faults.Events r s = because faults.Events r s
     by faults.NoLink r s = because faults.NoLink r s
     by faults.EndState r s = because faults.EndState r s
@@ -67,9 +68,9 @@ event_refused line t old new c f r e why view refuses stays = subst (λ (u : Tel
     by faults.Memory r s = tt
 
 -- the same of an event that is told in other words
-pub refused_so : (line : ℕ) (t : Telling) (old new : Seen) (c : Counts) (f r : List ℕ) (e g : Event) (why : EventFault) → e ≡ g → of c f r old ≡ t → Refuses (event_fault old.world e) why → Stays (new ≡ old) why →
-    Tells (tells_on line (told t) g) (of c f r new) (Err why)
-refused_so line t old new c f r e g why same view refuses stays = subst (λ (x : Event). Tells (tells_on line (told t) x) (of c f r new) (Err why)) same (event_refused line t old new c f r e why view refuses stays)
+pub refused_so : (line : ℕ) (t : Telling) (old new : Seen) (c : Counts) (f r : List ℕ) (b : Bool) (e g : Event) (why : EventFault) → e ≡ g → of c f r b old ≡ t → Refuses (event_fault old.world e) why → Stays (new ≡ old) why →
+    Tells (tells_on line (told t) g) (of c f r b new) (Err why)
+refused_so line t old new c f r b e g why same view refuses stays = subst (λ (x : Event). Tells (tells_on line (told t) x) (of c f r b new) (Err why)) same (event_refused line t old new c f r b e why view refuses stays)
 
 -- what is as it was is so after any refusal
 pub stays_so : (same : Type 0) (why : EventFault) → same → Stays same why
@@ -91,14 +92,18 @@ same_counts c =
     ∙ ap (λ (n : ℕ). record { injected = c.injected + 0; named = c.named + 0; got = n; dropped = c.dropped }) (sym (add-zero c.got))
     ∙ ap (λ (n : ℕ). record { injected = c.injected + 0; named = c.named + 0; got = c.got + 0; dropped = n }) (sym (add-zero c.dropped))
 
+no_records : (b : Bool) (frames : List ℕ) → frames ≡ with_records b frames []
+no_records true frames = sym (append-nil frames)
+no_records false frames = refl
+
 -- neither is an injection, and neither names a BFR-id
 
 pub send_untold : (line : ℕ) (t : Telling) (a b : ℕ) (w : WorldState) → event_fault t.world (Send a b) ≡ None → w ≡ (happens t.world (Send a b)).world →
     outcome None ≡ answer.told t.world.domain.routers (happens t.world (Send a b)).made → tells_on line (told t) (Send a b) ≡ told (record t { world = w })
 send_untold line t a b w allowed world silent =
-    event_told line t (Send a b) w t.counts t.frames t.report (outcome None) allowed world silent (same_counts t.counts) (sym (append-nil t.frames)) t.world.domain.routers refl (sym (append-nil t.report))
+    event_told line t (Send a b) w t.counts t.frames t.report (outcome None) allowed world silent (same_counts t.counts) (no_records t.captures t.frames) t.world.domain.routers refl (sym (append-nil t.report)) t.captures refl
 
 pub take_untold : (line : ℕ) (t : Telling) (a b i : ℕ) (w : WorldState) → event_fault t.world (Take a b i) ≡ None → w ≡ (happens t.world (Take a b i)).world →
     outcome None ≡ answer.told t.world.domain.routers (happens t.world (Take a b i)).made → tells_on line (told t) (Take a b i) ≡ told (record t { world = w })
 take_untold line t a b i w allowed world silent =
-    event_told line t (Take a b i) w t.counts t.frames t.report (outcome None) allowed world silent (same_counts t.counts) (sym (append-nil t.frames)) t.world.domain.routers refl (sym (append-nil t.report))
+    event_told line t (Take a b i) w t.counts t.frames t.report (outcome None) allowed world silent (same_counts t.counts) (no_records t.captures t.frames) t.world.domain.routers refl (sym (append-nil t.report)) t.captures refl

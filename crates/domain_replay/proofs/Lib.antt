@@ -9,4 +9,5 @@ pub mod SendLaws
 mod LineTells
 mod SameDomain
 pub mod CourseLaws
+pub mod UncapturedLaws
 pub mod RoundLaws

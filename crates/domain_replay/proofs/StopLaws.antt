@@ -13,7 +13,7 @@ use Rattle.domain_replay.proofs.TellsLaws.{all_joined, world_told}
 
 -- a world with what is told so far
 abbrev pub with_texts : WorldState → Texts → Telling
-with_texts w texts = record { world = w; counts = texts.counts; frames = texts.frames; report = texts.report }
+with_texts w texts = record { world = w; counts = texts.counts; frames = texts.frames; report = texts.report; captures = texts.captures }
 
 -- nothing was done
 pub stops_before : (line : ℕ) (t now : Telling) (es : List Event) → now ≡ t → StopsIn line t es now

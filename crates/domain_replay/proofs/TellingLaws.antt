@@ -1,5 +1,5 @@
 -- What is told of a run is told event by event.
-use Rattle.std.proofs.Common.{◌≡◌, ℕ, zero, suc, ◌+◌, filter, List, [], ◌∷◌, ◌++◌, length, Option, Some, None, refl, sym, ap, subst, ◌∙◌, append_assoc, append-nil, length-append, arith}
+use Rattle.std.proofs.Common.{◌≡◌, ℕ, Bool, zero, suc, ◌+◌, filter, List, [], ◌∷◌, ◌++◌, length, Option, Some, None, refl, sym, ap, subst, ◌∙◌, append_assoc, append-nil, length-append, arith}
 use Rattle.std.proofs.lemmas.List.{length-map}
 use Rattle.std.specs.Prelude.{flat_map, sum_by}
 use Rattle.std.specs.List.{fold, AllByRecursion}
@@ -46,9 +46,9 @@ same_counts : (a b c e m n p q : ℕ) → a ≡ m → b ≡ n → c ≡ p → e 
     ◌≡◌ {A = Counts} (record { injected = a; named = b; got = c; dropped = e }) (record { injected = m; named = n; got = p; dropped = q })
 same_counts a b c e m n p q h i j k = rw (h, i, j, k) refl
 
-pub same_telling : (w : WorldState) (c k : Counts) (f g r s : List ℕ) → c ≡ k → f ≡ g → r ≡ s →
-    ◌≡◌ {A = Telling} (record { world = w; counts = c; frames = f; report = r }) (record { world = w; counts = k; frames = g; report = s })
-same_telling w c k f g r s h i j = rw (h, i, j) refl
+pub same_telling : (w : WorldState) (c k : Counts) (f g r s : List ℕ) (a b : Bool) → c ≡ k → f ≡ g → r ≡ s → a ≡ b →
+    ◌≡◌ {A = Telling} (record { world = w; counts = c; frames = f; report = r; captures = a }) (record { world = w; counts = k; frames = g; report = s; captures = b })
+same_telling w c k f g r s a b h i j e = rw (h, i, j, e) refl
 
 counts_more : (r : Run) (line : ℕ) (e : Event) → (happens r.world e).world.injections ≡ r.world.injections + injected_by e →
     counted (counts_of r) e (happens r.world e).made.got (happens r.world e).made.drops ≡ counts_of (goes_on r (line, e))
@@ -74,13 +74,14 @@ unfolding goes_on tells capture_text run_text
 told_more d r line e is there =
     let s : Stays (injected_by e) r.world (happens r.world e) = happens_stays r.world e (subst (λ (n : ℕ). IsEntered n e) (sym is.routers) there) in
     let same : r.world.domain.routers ≡ d.routers = ap (λ (x : DomainConf). x.routers) is.domain in
-    same_telling (happens r.world e).world _ _ _ _ _ _ (counts_more r line e s.injections)
+    same_telling (happens r.world e).world _ _ _ _ _ _ _ _ (counts_more r line e s.injections)
     (append_assoc written_header (flat_map (sending_record d.routers) r.sent) (sent_records r.world.domain.routers line (happens r.world e).made.sent)
     ∙ ap (λ (l : List ℕ). written_header ++ l)
     (ap (λ (rs : List RouterConf). flat_map (sending_record d.routers) r.sent ++ flat_map (sending_record rs) (on_line line (happens r.world e).made.sent)) same
     ∙ sym (flat_map-append (sending_record d.routers) r.sent (on_line line (happens r.world e).made.sent))))
     (ap (λ (w : WorldState). events_text (first_world d) r.events ++ made_text w.domain.routers line (happens w e).made) is.world
     ∙ sym (text_more (first_world d) r.events (line, e)))
+    refl
 
 goes_further : (d : DomainConf) (r : Run) (line : ℕ) (e : Event) → IsRunOf d r → IsEntered (length d.routers) e → IsRunOf d (goes_on r (line, e))
 unfolding goes_on
@@ -152,4 +153,4 @@ line_told d line r l is there =
 
 pub start_told : (d : DomainConf) → IsRunOf d (first_run d) × (first_telling d ≡ telling_of d (first_run d))
 unfolding first_run first_world capture_text run_text events_text
-start_told d = (record { world = refl; domain = refl; routers = length-map d.routers first_control }, same_telling (first_world d) _ _ _ _ _ _ refl (sym (append-nil written_header)) refl)
+start_told d = (record { world = refl; domain = refl; routers = length-map d.routers first_control }, same_telling (first_world d) _ _ _ _ _ _ _ _ refl (sym (append-nil written_header)) refl refl)

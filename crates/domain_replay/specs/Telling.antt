@@ -1,5 +1,5 @@
 -- A run as it is told: event by event the world goes on, the counts grow, and both texts gain what the event made.
-use Rattle.std.specs.Prelude.{ℕ, ◌≡◌, ◌<◌, ◌++◌, List, [], flat_map, length, Option, Some, None, option_map}
+use Rattle.std.specs.Prelude.{ℕ, Bool, true, false, ◌≡◌, ◌<◌, ◌++◌, List, [], flat_map, length, Option, Some, None, option_map}
 use Rattle.std.specs.List.{fold}
 use Rattle.wire_base.specs.declared.conf.RouterConf.{RouterConf}
 use Rattle.wire_base.specs.model.Capture.{written_header}
@@ -15,20 +15,26 @@ use Rattle.domain_model.specs.Step.{Happened, happens}
 use Rattle.domain_model.specs.Faults.{event_fault}
 use Rattle.domain_model.specs.Run.{Run, Progress, line_events, on_line}
 use Rattle.replay_report.specs.declared.counts.Counts.{Counts}
-use Rattle.replay_report.specs.Captures.{sending_record}
+use Rattle.replay_report.specs.Captures.{sending_record, with_records}
 use Rattle.replay_report.specs.Counting.{no_counts, counted, counts_of, NamesOnce}
 use Rattle.domain_replay.specs.Texts.{world_after_all, made_text, capture_text, run_text}
 
--- The world now, what was counted, the capture so far, and the lines of the report so far.
+-- The world now, what was counted, the capture so far, the lines of the report so far, and whether what is sent goes into the
+-- capture.
 pub record Telling : Type 0 where
   pub world : WorldState
   pub counts : Counts
   pub frames : List ℕ
   pub report : List ℕ
+  pub captures : Bool
 
 -- nothing was done
 abbrev pub first_telling : DomainConf → Telling
-first_telling d = record { world = first_world d; counts = no_counts; frames = written_header; report = [] }
+first_telling d = record { world = first_world d; counts = no_counts; frames = written_header; report = []; captures = true }
+
+-- the same without a capture
+abbrev pub uncaptured : Telling → Telling
+uncaptured t = record { world = t.world; counts = t.counts; frames = []; report = t.report; captures = false }
 
 -- the records of what an event sent
 abbrev pub sent_records : List RouterConf → ℕ → List Sending → List ℕ
@@ -39,8 +45,9 @@ tells_made line t e n =
     record {
       world = n.world;
       counts = counted t.counts e n.made.got n.made.drops;
-      frames = t.frames ++ sent_records t.world.domain.routers line n.made.sent;
+      frames = with_records t.captures t.frames (sent_records t.world.domain.routers line n.made.sent);
       report = t.report ++ made_text t.world.domain.routers line n.made;
+      captures = t.captures;
     }
 
 -- one event more, of a line
@@ -80,7 +87,7 @@ tells_line line t said = tells_all line (told t) (line_events t.world said)
 
 -- what is told of a run: its world, its counts and its texts
 abbrev pub telling_of : DomainConf → Run → Telling
-telling_of d r = record { world = r.world; counts = counts_of r; frames = capture_text d r; report = run_text d r }
+telling_of d r = record { world = r.world; counts = counts_of r; frames = capture_text d r; report = run_text d r; captures = true }
 
 -- What every run of a domain keeps: its events led to its world, and the domain and its routers are there.
 pub record IsRunOf (d : DomainConf) (r : Run) : Type 0 where

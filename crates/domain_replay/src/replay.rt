@@ -7,7 +7,7 @@ ghost use Rattle.domain_model.specs.World.{ids_in_flight};
 ghost use Rattle.domain_model.specs.Run.{line_events};
 ghost use Rattle.replay_report.specs.Lines.{done_text, text_refused_text, event_refused_text, too_long};
 ghost use Rattle.replay_text.specs.Fault.{fault_text};
-ghost use Rattle.domain_replay.specs.Telling.{first_telling, told, tells_line, LineNamesOnce};
+ghost use Rattle.domain_replay.specs.Telling.{first_telling, uncaptured, told, tells_line, LineNamesOnce};
 ghost use Rattle.domain_replay.specs.Replaying.{StopsIn};
 
 use crate::told_world::ToldWorld;
@@ -20,8 +20,8 @@ use std::alloc::Global;
 use std::marker::Model;
 use wire_base::{Domain, M, Rows};
 
-/// A domain at work, and what is told of it: how much was done, its capture, and the lines of its report. Contracts see all that
-/// was told; what was written out already may be let go.
+/// A domain at work, and what is told of it: how much was done, its capture, where one is wanted, and the lines of its report.
+/// Contracts see all that was told; what was written out already may be let go.
 ///
 /// It keeps the directions of the domain's links, which no event changes.
 #[derive(Drop)]
@@ -47,6 +47,15 @@ impl Replay {
         ensures { IfOk result (λ replay. replay ≡ first_telling domain) }
     {
         let told = ToldWorld::new(alloc, domain)?;
+        let directions = told.directions(alloc)?;
+        Ok(Replay { told, directions })
+    }
+
+    /// The same for who wants no capture, since what is sent is many times what is delivered: it is empty and stays so.
+    pub fn uncaptured(alloc: Global, domain: Domain) -> M<Self>
+        ensures { IfOk result (λ replay. replay ≡ uncaptured (first_telling domain)) }
+    {
+        let told = ToldWorld::uncaptured(alloc, domain)?;
         let directions = told.directions(alloc)?;
         Ok(Replay { told, directions })
     }

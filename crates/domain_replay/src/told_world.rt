@@ -6,7 +6,7 @@ ghost use Rattle.replay_text.specs.declared.event.Event.TheVariants as events;
 ghost use Rattle.domain_model.specs.World.{link_between, frames_between};
 ghost use Rattle.domain_model.specs.Run as run;
 ghost use Rattle.domain_model.specs.Run.{taken_now, round_events, line_events};
-ghost use Rattle.domain_replay.specs.Telling.{first_telling, told, tells_on, tells_all, tells_line, LineNamesOnce};
+ghost use Rattle.domain_replay.specs.Telling.{first_telling, uncaptured, told, tells_on, tells_all, tells_line, LineNamesOnce};
 ghost use Rattle.domain_replay.specs.Replaying.{Tells, StopsIn, IsAsked, IsJoining, sends_of, sends_in};
 
 use crate::asked::numbers_fit;
@@ -29,7 +29,7 @@ impl Model for ToldWorld {
 
     ghost Value = { Telling };
 
-    ghost view = { λ t. record { world = t.world.world; counts = t.texts.counts; frames = t.texts.frames; report = t.texts.report } };
+    ghost view = { λ t. record { world = t.world.world; counts = t.texts.counts; frames = t.texts.frames; report = t.texts.report; captures = t.texts.captures } };
 }
 
 impl ToldWorld {
@@ -40,6 +40,16 @@ impl ToldWorld {
         Ok(ToldWorld {
             world: World::new(alloc, domain)?,
             texts: Texts::new(alloc)?,
+        })
+    }
+
+    /// The same without a capture.
+    pub(crate) fn uncaptured(alloc: Global, domain: Domain) -> M<Self>
+        ensures { IfOk result (λ told. told ≡ uncaptured (first_telling domain)) }
+    {
+        Ok(ToldWorld {
+            world: World::new(alloc, domain)?,
+            texts: Texts::uncaptured(alloc),
         })
     }
 

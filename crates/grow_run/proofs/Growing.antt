@@ -28,67 +28,65 @@ use Rattle.replay_report.specs.declared.counts.Counts.{Counts}
 use Rattle.domain_replay.specs.Counting.{counts_of}
 use Rattle.replay_text.specs.Report.{line_of}
 use Rattle.domain_replay.specs.Lines.{done_text, event_refused_text}
-use Rattle.domain_replay.specs.Telling.{Telling, Told, first_telling, told, tells_line, LineEnters, LineNamesOnce}
+use Rattle.domain_replay.specs.Telling.{Telling, Told, first_telling, uncaptured, told, tells_line, LineEnters, LineNamesOnce}
 use Rattle.domain_replay.proofs.TellingLaws.{start_told}
 use Rattle.tool_run.specs.Answer.{IsDecided}
-use Rattle.domain_replay.specs.Courses.{Course, IsAt, past}
+use Rattle.domain_replay.specs.Courses.{Course, IsAtUncaptured, past}
 use Rattle.grow_run.specs.Grow.{summary, ends_by, grown_run, grow_answer, GoesThrough, going, Goes, EndsAs}
-use Rattle.domain_replay.proofs.CourseLaws.{refused_as, at_run, past_past, written_at}
+use Rattle.domain_replay.proofs.CourseLaws.{past_past}
+use Rattle.domain_replay.proofs.UncapturedLaws.{refused_uncaptured, at_uncaptured, thrown_at}
 use Rattle.domain_replay.proofs.RoundLaws.{AreLeft, all_left, one_less, ends_refused, none_left}
 
 -- ---- a line
 
 -- rounds of a line, what was told before them thrown away
 pub record Thrown (line rounds i : ℕ) (start now : Telling) : Type 0 where
-  pub frames : List ℕ
   pub report : List ℕ
-  pub left : AreLeft line rounds (rounds - i) start (past frames report now)
+  pub left : AreLeft line rounds (rounds - i) start (past [] report now)
 
 -- what is thrown away stood in front
-forgotten : (old now : Telling) → now ≡ record old { frames = []; report = [] } → old ≡ past old.frames old.report now
+forgotten : (old now : Telling) → now ≡ record old { report = [] } → old ≡ past [] old.report now
 forgotten old now forgot =
-    let frames = sym (append-nil old.frames) in
     let report = sym (append-nil old.report) in
-    let whole : old ≡ past old.frames old.report (record old { frames = []; report = [] }) = (λ i. record { world = old.world; counts = old.counts; frames = frames i; report = report i }) in
-    whole ∙ ap (past old.frames old.report) (sym forgot)
+    let whole : old ≡ past [] old.report (record old { report = [] }) = (λ i. record old { report = report i }) in
+    whole ∙ ap (past [] old.report) (sym forgot)
 
 pub thrown_first : (line rounds : ℕ) (start : Telling) → Thrown line rounds 0 start start
-thrown_first line rounds start = record { frames = []; report = []; left = all_left line rounds start }
+thrown_first line rounds start = record { report = []; left = all_left line rounds start }
 
-pub thrown_more : (line rounds i : ℕ) (start old mid now : Telling) → i < rounds → Thrown line rounds i start old → tells_line line old (Settle 1) ≡ told mid → now ≡ record mid { frames = []; report = [] } → Thrown line rounds (i + 1) start now
+pub thrown_more : (line rounds i : ℕ) (start old mid now : Telling) → i < rounds → Thrown line rounds i start old → tells_line line old (Settle 1) ≡ told mid → now ≡ record mid { report = [] } → Thrown line rounds (i + 1) start now
 thrown_more line rounds i start old mid now within thrown tells forgot =
-    let left = one_less line rounds i start (past thrown.frames thrown.report old) old mid thrown.frames thrown.report within refl thrown.left tells in
-    let is = ap (past thrown.frames thrown.report) (forgotten mid now forgot) ∙ past_past thrown.frames thrown.report mid.frames mid.report now in
-    record { frames = thrown.frames ++ mid.frames; report = thrown.report ++ mid.report; left = left ∙ ap (λ (t : Telling). tells_line line t (Settle (rounds - (i + 1)))) is }
+    let left = one_less line rounds i start (past [] thrown.report old) old mid [] thrown.report within refl thrown.left tells in
+    let is = ap (past [] thrown.report) (forgotten mid now forgot) ∙ past_past [] thrown.report [] mid.report now in
+    record { report = thrown.report ++ mid.report; left = left ∙ ap (λ (t : Telling). tells_line line t (Settle (rounds - (i + 1)))) is }
 
 pub thrown_refused : (line rounds i : ℕ) (start old now : Telling) (why : EventFault) → i < rounds → Thrown line rounds i start old → tells_line line old (Settle 1) ≡ record { telling = now; refused = Some why } → (tells_line line start (Settle rounds)).refused ≡ Some why
 thrown_refused line rounds i start old now why within thrown tells =
-    ap (λ (t : Told). t.refused) (ends_refused line rounds i start (past thrown.frames thrown.report old) old now thrown.frames thrown.report within refl thrown.left why tells)
+    ap (λ (t : Told). t.refused) (ends_refused line rounds i start (past [] thrown.report old) old now [] thrown.report within refl thrown.left why tells)
 
-pub thrown_all : (line rounds i : ℕ) (start now : Telling) → rounds ≤ i → Thrown line rounds i start now → (frames report : List ℕ) × (tells_line line start (Settle rounds) ≡ told (past frames report now))
-thrown_all line rounds i start now past_all thrown = (thrown.frames, thrown.report, none_left line rounds i start (past thrown.frames thrown.report now) past_all thrown.left)
+pub thrown_all : (line rounds i : ℕ) (start now : Telling) → rounds ≤ i → Thrown line rounds i start now → (report : List ℕ) × (tells_line line start (Settle rounds) ≡ told (past [] report now))
+thrown_all line rounds i start now past_all thrown = (thrown.report, none_left line rounds i start (past [] thrown.report now) past_all thrown.left)
 
 -- what a line tells, thrown away as a whole
-pub line_thrown : (line : ℕ) (said : Line) (old mid now : Telling) → tells_line line old said ≡ told mid → now ≡ record mid { frames = []; report = [] } → (frames report : List ℕ) × (tells_line line old said ≡ told (past frames report now))
-line_thrown line said old mid now tells forgot = (mid.frames, mid.report, tells ∙ ap told (forgotten mid now forgot))
+pub line_thrown : (line : ℕ) (said : Line) (old mid now : Telling) → tells_line line old said ≡ told mid → now ≡ record mid { report = [] } → (report : List ℕ) × (tells_line line old said ≡ told (past [] report now))
+line_thrown line said old mid now tells forgot = (mid.report, tells ∙ ap told (forgotten mid now forgot))
 
-pub line_goes : (course : Course) (line : ℕ) (said : Line) (old now : Telling) → IsAt course old → LineEnters (length course.domain.routers) said → ((frames report : List ℕ) × (tells_line line old said ≡ told (past frames report now)))
+pub line_goes : (course : Course) (line : ℕ) (said : Line) (old now : Telling) → IsAtUncaptured course old → LineEnters (length course.domain.routers) said → ((report : List ℕ) × (tells_line line old said ≡ told (past [] report now)))
     → Goes (line_done line (going course.run) said) course now true
-line_goes course line said old now at enters (frames, report, tells) =
+line_goes course line said old now at enters (report, tells) =
     let p = line_done line (going course.run) said in
-    let all = past frames report now in (
-      refused_as course line said old all None at enters tells,
-      course.frames ++ frames,
+    let all = past [] report now in (
+      refused_uncaptured course line said old all None at enters tells,
       course.report ++ report,
-      written_at (record course { run = p.run }) all now frames report (at_run course line said old all None at enters tells) refl,
+      thrown_at (record course { run = p.run }) all now report (at_uncaptured course line said old all None at enters tells) refl,
     )
 
-pub line_refused : (course : Course) (line : ℕ) (said : Line) (old now : Telling) (why : EventFault) → IsAt course old → LineEnters (length course.domain.routers) said
+pub line_refused : (course : Course) (line : ℕ) (said : Line) (old now : Telling) (why : EventFault) → IsAtUncaptured course old → LineEnters (length course.domain.routers) said
     → (tells_line line old said).refused ≡ Some why → now.report ≡ event_refused_text line why → Goes (line_done line (going course.run) said) course now false
 line_refused course line said old now why at enters is report =
     let all = tells_line line old said in
     let whole : all ≡ record { telling = all.telling; refused = Some why } = (λ i. record { telling = all.telling; refused = is i }) in
-    ((line, why), refused_as course line said old all.telling (Some why) at enters whole, report)
+    ((line, why), refused_uncaptured course line said old all.telling (Some why) at enters whole, report)
 
 -- ---- all lines
 
@@ -96,15 +94,15 @@ line_refused course line said old now why at enters is report =
 pub record Underway (d : DomainConf) (lines : List Line) (k : ℕ) (now : Telling) : Type 0 where
   pub course : Course
   pub domain : course.domain ≡ d
-  pub at : IsAt course now
+  pub at : IsAtUncaptured course now
   pub rest : lines_done (k + 1) (going course.run) (drop k lines) ≡ schedule_done d lines
 
-pub underway_first : (d : DomainConf) (lines : List Line) (now : Telling) → now ≡ first_telling d → Underway d lines 0 now
+pub underway_first : (d : DomainConf) (lines : List Line) (now : Telling) → now ≡ uncaptured (first_telling d) → Underway d lines 0 now
 unfolding schedule_done
 underway_first d lines now fresh = record {
   course = record { domain = d; run = first_run d; frames = []; report = [] };
   domain = refl;
-  at = record { run = (start_told d).0; telling = sym (start_told d).1 ∙ sym fresh };
+  at = record { run = (start_told d).0; telling = ap uncaptured (sym (start_told d).1) ∙ sym fresh };
   rest = refl;
 }
 
@@ -115,11 +113,11 @@ still_going p none = λ i. record { run = p.run; refused = none i }
 pub underway_more : (d : DomainConf) (lines : List Line) (k : ℕ) (said : Line) (old now : Telling) (u : Underway d lines k old) → k < length lines → said ≡ get_or lines k said
     → Goes (line_done (k + 1) (going u.course.run) said) u.course now true → Underway d lines (k + 1) now
 unfolding lines_done
-underway_more d lines k said old now u there is (none, frames, report, at) =
+underway_more d lines k said old now u there is (none, report, at) =
     let p = line_done (k + 1) (going u.course.run) said in
     let split : drop k lines ≡ said ∷ drop (k + 1) lines = drop_more lines k said there ∙ ap (λ (l : Line). l ∷ drop (k + 1) lines) (sym is) in
     record {
-      course = record u.course { run = p.run; frames = frames; report = report };
+      course = record u.course { run = p.run; report = report };
       domain = u.domain;
       at = at;
       rest =
@@ -194,21 +192,21 @@ pub lines_once : (n : ℕ) → AllByRecursion LineNamesOnce (grown_lines n)
 lines_once n = each_line n LineNamesOnce tt (λ e h. range_once 1 n)
 
 -- a replay that has just started
-pub start_is : (d : DomainConf) (now : Telling) → now ≡ first_telling d → (now ≡ first_telling now.world.domain) × (now.world.domain ≡ d)
+pub start_is : (d : DomainConf) (now : Telling) → now ≡ uncaptured (first_telling d) → (now ≡ uncaptured (first_telling now.world.domain)) × (now.world.domain ≡ d)
 unfolding first_world
 start_is d now fresh =
     let same : now.world.domain ≡ d = ap (λ (t : Telling). t.world.domain) fresh in
-    (fresh ∙ ap first_telling (sym same), same)
+    (fresh ∙ ap (λ (c : DomainConf). uncaptured (first_telling c)) (sym same), same)
 
 -- what is asked of the schedule in the domain
-pub lines_asked : (n : ℕ) (now : Telling) (lines : List Line) → 3 ≤ n → n ≤ 250 → now ≡ first_telling (grown_domain n) → lines ≡ grown_lines n → AllByRecursion (LineFits (length now.world.domain.routers)) lines
+pub lines_asked : (n : ℕ) (now : Telling) (lines : List Line) → 3 ≤ n → n ≤ 250 → now ≡ uncaptured (first_telling (grown_domain n)) → lines ≡ grown_lines n → AllByRecursion (LineFits (length now.world.domain.routers)) lines
 lines_asked n now lines some few fresh is =
     let count : length now.world.domain.routers ≡ n = ap (λ (d : DomainConf). length d.routers) (start_is (grown_domain n) now fresh).1 ∙ routers_count n in
     subst (λ (ls : List Line). AllByRecursion (LineFits (length now.world.domain.routers)) ls) (sym is)
     (subst (λ (k : ℕ). AllByRecursion (LineFits k) (grown_lines n)) (sym count) (lines_fit n some few))
 
 -- how the run ended is how that of the domain over the schedule does
-pub ends_grown : (n : ℕ) (now later : Telling) (lines : List Line) (done known : Bool) → now ≡ first_telling (grown_domain n) → lines ≡ grown_lines n → done ≡ known
+pub ends_grown : (n : ℕ) (now later : Telling) (lines : List Line) (done known : Bool) → now ≡ uncaptured (first_telling (grown_domain n)) → lines ≡ grown_lines n → done ≡ known
     → EndsAs (schedule_done now.world.domain lines) later done → EndsAs (grown_run n) later known
 ends_grown n now later lines done known fresh is same ends =
     subst (λ (d : DomainConf). EndsAs (schedule_done d (grown_lines n)) later known) (start_is (grown_domain n) now fresh).1

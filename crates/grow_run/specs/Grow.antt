@@ -1,5 +1,5 @@
--- The command `grow`: a domain that grows with a number, over its schedule. What its routers send, deliver and drop is counted
--- and thrown away.
+-- The command `grow`: a domain that grows with a number, over its schedule. What its routers deliver and drop is counted and
+-- thrown away; of what they send no capture is made.
 use Rattle.std.specs.Prelude.{ℕ, ◌≡◌, Bool, true, false, List, ◌∷◌, [], Option, Some, None, codes}
 use Rattle.std.specs.Fmt.{decimal}
 use Rattle.wire_base.specs.declared.status.Status.{Status}
@@ -14,7 +14,7 @@ use Rattle.domain_replay.specs.Counting.{counts_of}
 use Rattle.replay_text.specs.Report.{line_of}
 use Rattle.domain_replay.specs.Lines.{event_refused_text}
 use Rattle.domain_replay.specs.Telling.{Telling}
-use Rattle.domain_replay.specs.Courses.{Course, IsAt}
+use Rattle.domain_replay.specs.Courses.{Course, IsAtUncaptured}
 
 -- ---- what is owed
 
@@ -50,7 +50,7 @@ going r = record { run = r; refused = None }
 -- A line was done in a run on its way, and the numbers that stand in a replay are those of the run; or the line is refused, and the
 -- report says so.
 abbrev pub Goes : Progress → Course → Telling → Bool → Type 0
-Goes p course now true = (p.refused ≡ None) × (frames report : List ℕ) × IsAt (record course { run = p.run; frames = frames; report = report }) now
+Goes p course now true = (p.refused ≡ None) × (report : List ℕ) × IsAtUncaptured (record course { run = p.run; report = report }) now
 Goes p course now false = (refused : ℕ × EventFault) × (p.refused ≡ Some refused) × (now.report ≡ event_refused_text refused.0 refused.1)
 
 -- the same of all lines

@@ -10,8 +10,8 @@ ghost use Rattle.grown_domain.specs.Domain.{grown_domain};
 ghost use Rattle.grown_domain.specs.Schedule.{grown_lines};
 ghost use Rattle.domain_model.specs.World.{ids_in_flight};
 ghost use Rattle.domain_model.specs.Run.{line_done, schedule_done};
-ghost use Rattle.domain_replay.specs.Telling.{first_telling, told, tells_line, LineNamesOnce};
-ghost use Rattle.domain_replay.specs.Courses.{Course, IsAt, past};
+ghost use Rattle.domain_replay.specs.Telling.{first_telling, uncaptured, told, tells_line, LineNamesOnce};
+ghost use Rattle.domain_replay.specs.Courses.{Course, IsAtUncaptured, past};
 ghost use Rattle.grow_run.specs.Grow as spec;
 ghost use Rattle.tool_run.specs.Answer.{IsDecided};
 ghost use Rattle.tool_run.specs.Outside.{Gave, AppendsFront};
@@ -30,23 +30,14 @@ const LINES: u64 = 18;
 /// What stands before the numbers in the last line of a report on so many lines, `done lines 18`.
 const FRONT: usize = 13;
 
-/// Lets go of both texts.
-fn forget(replay: &mut Replay)
-    ensures { replay.new ≡ record replay.old { frames = []; report = [] } }
-{
-    replay.clear_frames();
-    replay.clear_report();
-}
-
-/// Does so many rounds, up to an event that isn't allowed. A round of a large domain tells much, so what each tells is thrown away
-/// behind it.
+/// Does so many rounds, up to an event that isn't allowed. What each tells is thrown away behind it.
 fn do_rounds(alloc: Global, replay: &mut Replay, number: u32, rounds: u32) -> Result<(), EventFault>
-    ensures done { OnOk result ((frames report : List ℕ) × (tells_line number replay.old (Settle rounds) ≡ told (past frames report replay.new))) }
+    ensures done { OnOk result ((report : List ℕ) × (tells_line number replay.old (Settle rounds) ≡ told (past [] report replay.new))) }
     ensures refused { IfErr result (λ why. why ≢ faults.Memory → (tells_line number replay.old (Settle rounds)).refused ≡ Some why) }
 {
     for _round in 0..rounds {
         replay.line(alloc, number, &Line::Settle(1))?;
-        forget(replay);
+        replay.clear_report();
     }
     Ok(())
 }
@@ -55,14 +46,14 @@ fn do_rounds(alloc: Global, replay: &mut Replay, number: u32, rounds: u32) -> Re
 fn do_events(alloc: Global, replay: &mut Replay, number: u32, said: &Line) -> Result<(), EventFault>
     requires fits { LineFits (length replay.old.world.domain.routers) said.now }
     requires once { LineNamesOnce said.now }
-    ensures done { OnOk result ((frames report : List ℕ) × (tells_line number replay.old said.now ≡ told (past frames report replay.new))) }
+    ensures done { OnOk result ((report : List ℕ) × (tells_line number replay.old said.now ≡ told (past [] report replay.new))) }
     ensures refused { IfErr result (λ why. why ≢ faults.Memory → (tells_line number replay.old said.now).refused ≡ Some why) }
 {
     match said {
         Line::Settle(rounds) => do_rounds(alloc, replay, number, *rounds),
         _ => {
             replay.line(alloc, number, said)?;
-            forget(replay);
+            replay.clear_report();
             Ok(())
         }
     }
@@ -73,7 +64,7 @@ fn do_events(alloc: Global, replay: &mut Replay, number: u32, said: &Line) -> Re
 fn do_line(alloc: Global, replay: &mut Replay, number: u32, said: &Line) -> M<bool>
     requires fits { LineFits (length replay.old.world.domain.routers) said.now }
     requires once { LineNamesOnce said.now }
-    ensures { IfOk result (λ done. (course : Course) → IsAt course replay.old → spec.Goes (line_done number (spec.going course.run) said.now) course replay.new done) }
+    ensures { IfOk result (λ done. (course : Course) → IsAtUncaptured course replay.old → spec.Goes (line_done number (spec.going course.run) said.now) course replay.new done) }
 {
     match do_events(alloc, replay, number, said) {
         Ok(()) => Ok(true),
@@ -87,7 +78,7 @@ fn do_line(alloc: Global, replay: &mut Replay, number: u32, said: &Line) -> M<bo
 
 /// Does the lines of a schedule, from the first state of a domain on, up to one that is refused, and answers whether none was.
 fn do_lines(alloc: Global, replay: &mut Replay, lines: &[Line]) -> M<bool>
-    requires start { replay.old ≡ first_telling replay.old.world.domain }
+    requires start { replay.old ≡ uncaptured (first_telling replay.old.world.domain) }
     requires few { length lines.now < 2 ^ 16 }
     requires fits { AllByRecursion (LineFits (length replay.old.world.domain.routers)) lines.now }
     requires once { AllByRecursion LineNamesOnce lines.now }
@@ -119,7 +110,7 @@ fn summary(alloc: Global, n: u16, replay: &mut Replay) -> M<Octets>
 fn run(alloc: Global, n: u16, replay: &mut Replay, lines: &[Line]) -> M<(Status, Octets)>
     requires some { 3 ≤ n }
     requires few { n ≤ 250 }
-    requires start { replay.old ≡ first_telling (grown_domain n) }
+    requires start { replay.old ≡ uncaptured (first_telling (grown_domain n)) }
     requires lines { lines.now ≡ grown_lines n }
     ensures { IfOk result (λ a. (a.0, a.1) ≡ spec.grow_answer n) }
 {
@@ -139,7 +130,8 @@ fn answer(alloc: Global, n: u16) -> M<(Status, Octets)>
 {
     let lines = grown_lines(alloc, n)?;
     let domain = grown(alloc, n)?;
-    let mut replay = Replay::new(alloc, domain)?;
+    // Of all that is told the numbers alone are wanted.
+    let mut replay = Replay::uncaptured(alloc, domain)?;
     run(alloc, n, &mut replay, lines.as_slice())
 }
 

@@ -1,5 +1,5 @@
 -- The capture of a run: a header, and a record for each frame that a router sent, in order.
-use Rattle.std.specs.Prelude.{ℕ, List, ◌++◌, ◌<◌, flat_map, length}
+use Rattle.std.specs.Prelude.{ℕ, Bool, true, false, List, ◌++◌, ◌<◌, flat_map, length}
 use Rattle.std.specs.List.{AllByRecursion}
 use Rattle.wire_base.specs.declared.conf.RouterConf.{RouterConf}
 use Rattle.wire_base.specs.model.Capture.{written_header, written_record}
@@ -22,6 +22,11 @@ sending_record routers sent = frame_record sent.0 (frame_over routers sent.1.fro
 -- a capture that holds what was sent
 abbrev pub capture_of : List RouterConf → List (ℕ × Sending) → List ℕ
 capture_of routers sent = written_header ++ flat_map (sending_record routers) sent
+
+-- a capture that gained records, where what is sent goes into it
+abbrev pub with_records : (captures : Bool) → (frames records : List ℕ) → List ℕ
+with_records true frames records = frames ++ records
+with_records false frames records = frames
 
 -- each frame fits a record
 abbrev pub AreShort : List WireFrame → Type 0

@@ -1,5 +1,5 @@
 -- A line of rounds, done round by round.
-use Rattle.std.proofs.Common.{◌≡◌, ℕ, ◌+◌, ◌-◌, ◌<◌, ◌≤◌, List, [], ◌∷◌, ◌++◌, Option, Some, None, refl, sym, ap, subst, ◌∙◌, append_assoc}
+use Rattle.std.proofs.Common.{◌≡◌, ℕ, Bool, true, false, append-nil, ◌+◌, ◌-◌, ◌<◌, ◌≤◌, List, [], ◌∷◌, ◌++◌, Option, Some, None, refl, sym, ap, subst, ◌∙◌, append_assoc}
 use Rattle.std.specs.Prelude.{◌≢◌, Result, Ok, Err, IfErr, OnOk}
 use Rattle.std.specs.List.{fold}
 use Rattle.replay_text.specs.declared.event.Event.{Event}
@@ -11,6 +11,7 @@ use Rattle.domain_model.specs.Step.{happens}
 use Rattle.domain_model.specs.Faults.{event_fault}
 use Rattle.domain_model.specs.Run.{line_events}
 use Rattle.domain_replay.specs.Telling.{Telling, Told, told, sent_records, tells, tells_or, tells_unless, tells_on, tells_all, tells_line}
+use Rattle.domain_replay.specs.Captures.{with_records}
 use Rattle.domain_replay.specs.Texts.{made_text}
 use Rattle.schedule_run.specs.Scheduling.{Wrote, Fronted, Did}
 use Rattle.domain_replay.specs.Courses.{past}
@@ -25,11 +26,15 @@ longer a b c first second = (first.0 ++ second.0, second.1 ∙ ap (λ l. l ++ se
 joined : (t u v : Telling) → Grows t u → Grows u v → Grows t v
 joined t u v first second = record { report = longer t.report u.report v.report first.report second.report; frames = longer t.frames u.frames v.frames first.frames second.frames }
 
+records_grow : (b : Bool) (frames records : List ℕ) → (rest : List ℕ) × (with_records b frames records ≡ frames ++ rest)
+records_grow true frames records = (records, refl)
+records_grow false frames records = ([], sym (append-nil frames))
+
 or_grows : (line : ℕ) (t : Telling) (e : Event) (o : Option EventFault) → Grows t (tells_or line t e o).telling
 unfolding tells
 or_grows line t e None =
     let n = happens t.world e in
-    record { report = (made_text t.world.domain.routers line n.made, refl); frames = (sent_records t.world.domain.routers line n.made.sent, refl) }
+    record { report = (made_text t.world.domain.routers line n.made, refl); frames = records_grow t.captures t.frames (sent_records t.world.domain.routers line n.made.sent) }
 or_grows line t e (Some why) = as_is t
 
 on_grows : (line : ℕ) (t : Told) (e : Event) → Grows t.telling (tells_on line t e).telling

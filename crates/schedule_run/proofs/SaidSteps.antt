@@ -52,7 +52,7 @@ wrote_more : {all mid now : Telling} {rb rn fb fn : Option (List ℕ)} (text : L
 wrote_more {mid = mid} {now = now} text wrote grown =
     let report = append_assoc wrote.report mid.report text in
     let moved : ◌≡◌ {A = Telling} (record mid { frames = wrote.frames ++ mid.frames; report = (wrote.report ++ mid.report) ++ text }) (record mid { frames = wrote.frames ++ mid.frames; report = wrote.report ++ (mid.report ++ text) }) =
-    (λ i. record { world = mid.world; counts = mid.counts; frames = wrote.frames ++ mid.frames; report = report i }) in
+    (λ i. record { world = mid.world; counts = mid.counts; frames = wrote.frames ++ mid.frames; report = report i; captures = mid.captures }) in
     record {
       report = wrote.report;
       frames = wrote.frames;

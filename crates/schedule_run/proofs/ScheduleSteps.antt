@@ -6,7 +6,6 @@ use Rattle.wire_base.specs.declared.limits.TheConstants.{LINE_LIMIT}
 use Rattle.wire_base.specs.declared.status.Status.{Status}
 use Rattle.wire_base.specs.declared.status.Status.TheVariants.{InputRefused}
 use Rattle.replay_text.specs.declared.event.Line.{Line}
-use Rattle.replay_text.specs.declared.event.Line.TheVariants as line
 use Rattle.replay_text.specs.declared.fault.TextFault.{TextFault}
 use Rattle.replay_text.specs.declared.fault.TextFault.TheVariants as fault
 use Rattle.replay_text.specs.Reading.{Fails}

@@ -10,4 +10,4 @@ returns-in_err-line-in_default c =
     rw (p.1, p.2) (record { done = tt; refused = λ known. ap (λ (t : Told). t.refused) (c.in_err-line-in_default.ensures.refused known) })
 
 pub returns-in_ok-line-in_default : goal.returns-in_ok-line-in_default
-returns-in_ok-line-in_default c = record { done = line_thrown c.args.number c.args.said.now c.args.replay.now c.line.new.self c.forget.new.replay c.in_ok-line-in_default.ensures.ok c.forget.ensures; refused = tt }
+returns-in_ok-line-in_default c = record { done = line_thrown c.args.number c.args.said.now c.args.replay.now c.line.new.self c.clear_report.new.self c.in_ok-line-in_default.ensures.ok c.clear_report.ensures; refused = tt }

@@ -12,7 +12,7 @@ returns-in_err-line-clause-refused c =
 
 pub loop-round-preserved : goal.loop-round-preserved
 loop-round-preserved c =
-    thrown_more c.args.number c.args.rounds c.loop-round._round c.args.replay.now c.loop-round.replay c.line.new.self c.forget.new.replay c.loop-round-test.true c.loop-round.invariant c.in_ok-line.ensures.ok c.forget.ensures
+    thrown_more c.args.number c.args.rounds c.loop-round._round c.args.replay.now c.loop-round.replay c.line.new.self c.clear_report.new.self c.loop-round-test.true c.loop-round.invariant c.in_ok-line.ensures.ok c.clear_report.ensures
 
 pub returns-clause-done : goal.returns-clause-done
 returns-clause-done c = thrown_all c.args.number c.args.rounds c.loop-round._round c.args.replay.now c.loop-round.replay c.loop-round-test.false c.loop-round.invariant

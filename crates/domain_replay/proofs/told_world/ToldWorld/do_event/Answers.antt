@@ -11,13 +11,13 @@ use Rattle.domain_replay.proofs.told_world.ToldWorld.do_event.Goals as goal
 pub returns-in_err-made-clause-told : goal.returns-in_err-made-clause-told
 returns-in_err-made-clause-told c =
     let p = err_from_is_err_and c.from_residual.result c.from_residual.ensures.1 in
-    rw (p.1, p.2) (event_refused c.args.line c.args.self.now c.self.inside.world c.step.new.self _ _ _ c.args.event.now _ c.self.view_is c.in_err-made.ensures.refused c.in_err-made.ensures.stays)
+    rw (p.1, p.2) (event_refused c.args.line c.args.self.now c.self.inside.world c.step.new.self _ _ _ _ c.args.event.now _ c.self.view_is c.in_err-made.ensures.refused c.in_err-made.ensures.stays)
 
 pub returns-clause-told : goal.returns-clause-told
 returns-clause-told c =
     ap (λ (t : Telling). tells_on c.args.line (told t) c.args.event.now) (sym c.self.view_is)
     ∙ event_told c.args.line _ c.args.event.now _ _ _ _ c.in_ok-made.made c.in_ok-made.ensures.refused c.in_ok-made.ensures.world c.in_ok-made.ensures.told c.in_ok-tell.ensures.counts c.in_ok-tell.ensures.frames _
-    (c.as_slice-routers.ensures ∙ ap (λ (d : DomainConf). d.routers) (c.behind-self.view_is ∙ c.domain.ensures.domain ∙ ap (λ (w : WorldState). w.domain) c.in_ok-made.ensures.world ∙ happens_domain c.self.inside.world.world c.args.event.now)) c.in_ok-tell.ensures.report
+    (c.as_slice-routers.ensures ∙ ap (λ (d : DomainConf). d.routers) (c.behind-self.view_is ∙ c.domain.ensures.domain ∙ ap (λ (w : WorldState). w.domain) c.in_ok-made.ensures.world ∙ happens_domain c.self.inside.world.world c.args.event.now)) c.in_ok-tell.ensures.report _ (c.tell.ensures.captures)
 
 pub returns-in_err-made-clause-stops : goal.returns-in_err-made-clause-stops
 returns-in_err-made-clause-stops c =

@@ -1,4 +1,4 @@
-use Rattle.std.proofs.Common.{◌≡◌, ap, sym, subst, ◌∙◌, List, [], ◌∷◌, Option}
+use Rattle.std.proofs.Common.{◌≡◌, ap, sym, subst, ◌∙◌, [], ◌∷◌, Option}
 use Rattle.std.specs.List.{AllByRecursion}
 use Rattle.std.proofs.lemmas.Result.{err_from_is_err_and}
 use Rattle.wire_base.specs.model.Configuration.{DomainConf}
@@ -20,7 +20,7 @@ use Rattle.domain_replay.proofs.told_world.ToldWorld.send_one.Goals as goal
 pub returns-in_err-made-clause-told : goal.returns-in_err-made-clause-told
 returns-in_err-made-clause-told c =
     let p = err_from_is_err_and c.from_residual.result c.from_residual.ensures.1 in
-    rw (p.1, p.2) (refused_so c.args.line c.args.self.now c.self.inside.world c.send_over.new.self _ _ _ _ _ _ (ap (λ (d : Direction). Send d.from d.to) c.direction.view_is) c.self.view_is c.in_err-made.ensures.refused (stays_so _ _ c.in_err-made.ensures.stays))
+    rw (p.1, p.2) (refused_so c.args.line c.args.self.now c.self.inside.world c.send_over.new.self _ _ _ _ _ _ _ (ap (λ (d : Direction). Send d.from d.to) c.direction.view_is) c.self.view_is c.in_err-made.ensures.refused (stays_so _ _ c.in_err-made.ensures.stays))
 
 pub returns-in_err-made-clause-stops : goal.returns-in_err-made-clause-stops
 returns-in_err-made-clause-stops c =
@@ -52,4 +52,4 @@ returns-clause-told c =
     ap (tells_on c.args.line (told c.args.self.now)) (sym (ap (λ (d : Direction). Send d.from d.to) c.direction.view_is))
     ∙ ap (λ (t : Telling). tells_on c.args.line (told t) (Send c.direction.inside.from c.direction.inside.to)) (sym c.self.view_is)
     ∙ event_told c.args.line _ (Send c.direction.inside.from c.direction.inside.to) _ _ _ _ c.in-Some.made c.in_ok-made.ensures.refused c.in_ok-made.ensures.world (ap outcome (sym c.in-Some.is) ∙ c.in_ok-made.ensures.told) c.in_ok-tell.ensures.counts c.in_ok-tell.ensures.frames _
-    (c.as_slice-routers.ensures ∙ ap (λ (d : DomainConf). d.routers) (c.behind-self.view_is ∙ c.domain.ensures.domain ∙ ap (λ (w : WorldState). w.domain) c.in_ok-made.ensures.world ∙ happens_domain c.self.inside.world.world (Send c.direction.inside.from c.direction.inside.to))) c.in_ok-tell.ensures.report
+    (c.as_slice-routers.ensures ∙ ap (λ (d : DomainConf). d.routers) (c.behind-self.view_is ∙ c.domain.ensures.domain ∙ ap (λ (w : WorldState). w.domain) c.in_ok-made.ensures.world ∙ happens_domain c.self.inside.world.world (Send c.direction.inside.from c.direction.inside.to))) c.in_ok-tell.ensures.report _ (c.tell.ensures.captures)
