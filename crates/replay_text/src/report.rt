@@ -1,5 +1,5 @@
 //! What the reports of all commands share: numbers, the causes of drops, and the end of a drop's line.
-ghost use Rattle.std.specs.Prelude.{◌≡◌, ◌++◌, ◌∷◌, [], OnOk, OnErr};
+ghost use Rattle.std.specs.Prelude.{◌≡◌, ◌++◌, ◌∷◌, [], length, take, OnOk, OnErr};
 ghost use Rattle.std.specs.Fmt.{decimal};
 ghost use Rattle.replay_text.specs.Ids.{ids_text};
 ghost use Rattle.replay_text.specs.Report.{cause_text};
@@ -40,20 +40,36 @@ pub fn push_cause(out: &mut Octets, cause: &Cause) -> M<()>
     }
 }
 
-/// Appends a number, with a blank behind.
+/// Appends a number, with a blank behind; or nothing, where memory is refused.
 pub fn push_number(out: &mut Octets, number: u32) -> M<()>
-    ensures { OnOk result (out.new ≡ out.old ++ (decimal number ++ 32 ∷ [])) }
+    ensures ok { OnOk result (out.new ≡ out.old ++ (decimal number ++ 32 ∷ [])) }
+    ensures err { OnErr result (out.new ≡ out.old) }
 {
-    out.append_number(u64::from(number))?;
-    out.push(b' ')
+    let mut digits = Buffer::new();
+    out.append_two(digits.format(number).as_bytes(), b" ")
 }
 
-/// Appends a cause and BFR-ids, which end a line.
-pub fn push_loss(out: &mut Octets, cause: &Cause, ids: &[u16]) -> M<()>
-    ensures { OnOk result (out.new ≡ out.old ++ (cause_text cause.now ++ 32 ∷ (ids_text ids.now ++ 10 ∷ []))) }
+/// The same as `push_loss`, but for what stands behind the old end where memory is refused.
+#[tactic(auto, using(crate::proofs::Appended::front, crate::proofs::Appended::front_of_front))]
+fn push_parts(out: &mut Octets, cause: &Cause, ids: &[u16]) -> M<()>
+    ensures ok { OnOk result (out.new ≡ out.old ++ (cause_text cause.now ++ 32 ∷ (ids_text ids.now ++ 10 ∷ []))) }
+    ensures err { OnErr result (take (length out.old) out.new ≡ out.old) }
 {
     push_cause(out, cause)?;
     out.push(b' ')?;
     push_ids(out, ids)?;
     out.push(b'\n')
+}
+
+/// Appends a cause and BFR-ids, which end a line; or nothing, where memory is refused.
+pub fn push_loss(out: &mut Octets, cause: &Cause, ids: &[u16]) -> M<()>
+    ensures ok { OnOk result (out.new ≡ out.old ++ (cause_text cause.now ++ 32 ∷ (ids_text ids.now ++ 10 ∷ []))) }
+    ensures err { OnErr result (out.new ≡ out.old) }
+{
+    let len = out.len();
+    let pushed = push_parts(out, cause, ids);
+    if pushed.is_err() {
+        out.truncate(len);
+    }
+    pushed
 }
