@@ -140,6 +140,7 @@ ascending_rest [] (suc i) asc = tt
 ascending_rest (x ∷ xs) zero asc = asc
 ascending_rest (x ∷ xs) (suc i) asc = ascending_rest xs i asc.1
 
+-- of an entry of the system it is left to ask whether it is live and of no pseudonode
 pub part_is_live : (s : SystemId) (e : Entry) → same_system e.id.system s ≡ true → is_part_of s e ≡ is_live_part e
 part_is_live s e h = rw h refl
 

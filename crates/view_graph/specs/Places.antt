@@ -36,7 +36,7 @@ pub record IsAdding (rest all : List Tlv) (before now : Claim) : Type 0 where
 abbrev pub is_live_part : Entry → Bool
 is_live_part e = (e.id.pseudonode == 0) && nat_lt 0 e.life
 
--- whether a list of entries begins with one of that system
+-- the first entry, where there is one, is of that system
 abbrev pub Begins : SystemId → List Entry → Type 0
 Begins s [] = Unit {0}
 Begins s (e ∷ es) = e.id.system ≡ s

@@ -79,13 +79,14 @@ fn add_content(claim: &mut Claim, content: &[u8]) -> M<()>
     Ok(())
 }
 
+/// Whether an entry is one of that system, or of one of its pseudonodes.
 fn is_of(system: &SystemId, entry: &Entry) -> bool
     ensures { result ≡ same_system entry.now.id.system system.now }
 {
     entry.id.system == *system
 }
 
-/// A live fragment of a system itself, not of one of its pseudonodes.
+/// Whether an entry is a live fragment of a system itself, not of one of its pseudonodes.
 fn is_live_part(entry: &Entry) -> bool
     ensures { result ≡ is_live_part entry.now }
 {
