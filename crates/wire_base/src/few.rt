@@ -52,15 +52,6 @@ impl<T: MadeWith<Global> + Drop, const N: usize> Few<T, N> {
         }
     }
 
-    /// No values, and room for that many.
-    pub fn with_room(alloc: Global, room: usize) -> M<Self>
-        ensures { IfOk result (λ few. few ≡ []) }
-    {
-        Ok(Few {
-            items: SmallVec::with_capacity(alloc, room)?,
-        })
-    }
-
     /// Appends one value; where memory is refused, the value is dropped.
     pub fn push(&mut self, item: T) -> M<()>
         ensures ok { OnOk result (self.new ≡ self.old ++ item ∷ []) }
