@@ -1,5 +1,5 @@
 -- What a step answers keeps copies on their course.
-use Rattle.std.proofs.Common.{◌≡◌, ◌≤◌, ℕ, length, None, slice_get, Some, Result, Ok, Err, IfOk, OnOk, MatchResult, sym, subst, arith}
+use Rattle.std.proofs.Common.{◌≡◌, ◌≤◌, ℕ, length, Option, None, slice_get, Some, Result, Ok, Err, IfOk, OnOk, MatchResult, sym, subst, arith}
 use Rattle.wire_base.specs.model.Control.{Control}
 use Rattle.wire_base.specs.model.View.{control_view}
 use Rattle.replay_text.specs.declared.event.Event.{Event}
@@ -15,7 +15,7 @@ use Rattle.course_laws.proofs.KnownLaws.{few_nodes}
 use Rattle.course_laws.proofs.LawLaws.{begun, gone_on}
 use Rattle.course_laws.proofs.OnceLaws.{all_fit, small_fit}
 use Rattle.course_laws.proofs.WayLaws.{copy_sent}
-use Rattle.domain_core.specs.Answers.{Refuses}
+use Rattle.domain_core.specs.Answers.{outcome, Refuses}
 use Rattle.domain_frames.specs.Told.{told}
 use Rattle.domain_core.specs.Course.{Enters, StaysOut, KeepsCourse}
 
@@ -64,3 +64,10 @@ pub step_course : (result : Result StepOut EventFault) (w v : WorldState) → Is
 step_course (Ok out) w v t e fits allowed next is =
     subst (λ (z : WorldState). KeepsCourse w z e out) (sym next) (subst (λ (o : StepOut). KeepsCourse w (happens w e).world e o) (sym is) (event_course w t e fits allowed))
 step_course (Err f) w v t e fits refused next is = tt
+
+-- the same of an answer that isn't made where nothing is told
+pub over_course : (result : Result (Option StepOut) EventFault) (w v : WorldState) → IsTruthful w → (e : Event) → EventFits (length w.domain.routers) e
+    → MatchResult result (λ _. event_fault w e ≡ None) (λ f. Refuses (event_fault w e) f) → OnOk result (v ≡ (happens w e).world) → IfOk result (λ out. outcome out ≡ told w.domain.routers (happens w e).made)
+    → IfOk result (λ out. KeepsCourse w v e (outcome out))
+over_course (Ok out) w v t e fits allowed next is = step_course (Ok (outcome out)) w v t e fits allowed next is
+over_course (Err f) w v t e fits refused next is = tt

@@ -1,5 +1,5 @@
 -- What a step answers keeps the ledger.
-use Rattle.std.proofs.Common.{◌≡◌, length, None, Result, Ok, Err, IfOk, OnOk, MatchResult, sym, subst}
+use Rattle.std.proofs.Common.{◌≡◌, length, Option, None, Result, Ok, Err, IfOk, OnOk, MatchResult, sym, subst}
 use Rattle.replay_text.specs.declared.event.Event.{Event}
 use Rattle.domain_model.specs.declared.fault.EventFault.{EventFault}
 use Rattle.domain_model.specs.declared.step_out.StepOut.{StepOut}
@@ -11,7 +11,7 @@ use Rattle.ledger_laws.proofs.DeliveryLaws.{later_of, first_of_it}
 use Rattle.ledger_laws.proofs.FallLaws.{event_weight, first_is, take_weight}
 use Rattle.ledger_laws.proofs.LedgerLaws.{event_balances}
 use Rattle.ledger_laws.proofs.TotalLaws.{event_total}
-use Rattle.domain_core.specs.Answers.{Refuses}
+use Rattle.domain_core.specs.Answers.{outcome, Refuses}
 use Rattle.domain_frames.specs.Told.{told}
 use Rattle.domain_core.specs.Ledger.{KeepsLedger}
 
@@ -34,3 +34,10 @@ pub step_keeps : (result : Result StepOut EventFault) (w v : WorldState) → IsT
 step_keeps (Ok out) w v t e fits allowed next is =
     subst (λ (z : WorldState). KeepsLedger w z e out) (sym next) (subst (λ (o : StepOut). KeepsLedger w (happens w e).world e o) (sym is) (event_keeps w t e fits allowed))
 step_keeps (Err f) w v t e fits refused next is = tt
+
+-- the same of an answer that isn't made where nothing is told
+pub over_keeps : (result : Result (Option StepOut) EventFault) (w v : WorldState) → IsTruthful w → (e : Event) → EventFits (length w.domain.routers) e
+    → MatchResult result (λ _. event_fault w e ≡ None) (λ f. Refuses (event_fault w e) f) → OnOk result (v ≡ (happens w e).world) → IfOk result (λ out. outcome out ≡ told w.domain.routers (happens w e).made)
+    → IfOk result (λ out. KeepsLedger w v e (outcome out))
+over_keeps (Ok out) w v t e fits allowed next is = step_keeps (Ok (outcome out)) w v t e fits allowed next is
+over_keeps (Err f) w v t e fits refused next is = tt

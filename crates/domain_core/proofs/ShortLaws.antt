@@ -11,7 +11,7 @@ use Rattle.domain_model.specs.World.{WorldState, peer_place}
 use Rattle.domain_model.specs.Moves.{Sending}
 use Rattle.domain_model.specs.Faults.{event_fault}
 use Rattle.domain_model.specs.Step.{happens}
-use Rattle.domain_model.specs.Truth.{IsTruthful, EventFits}
+use Rattle.domain_model.specs.Truth.{IsTruthful, EventFits, AreWorldDrops}
 use Rattle.domain_frames.specs.Framed.{wire_of}
 use Rattle.domain_model.proofs.CopyTruth.{IsTrueSending}
 use Rattle.domain_core.proofs.FramedWorld.{frame_short}
@@ -28,7 +28,7 @@ sent_short w t e fits ok =
     let keeps = happens_true w e t fits ok in
     wires_short w.domain t.valid (happens w e).world.injections (happens w e).made.sent keeps.made.sent
 
--- what a step answers
+-- ---- what a step answers
 pub step_short : (result : Result StepOut EventFault) (w : WorldState) → IsTruthful w → (e : Event) → EventFits (length w.domain.routers) e
     → MatchResult result (λ _. event_fault w e ≡ None) (λ f. Refuses (event_fault w e) f) → IfOk result (λ out. out ≡ told w.domain.routers (happens w e).made)
     → IfOk result (λ out. AllByRecursion IsShortFrame out.sent)
@@ -40,3 +40,11 @@ pub over_short : (result : Result (Option StepOut) EventFault) (w : WorldState) 
     → IfOk result (λ out. AllByRecursion IsShortFrame (outcome out).sent)
 over_short (Ok out) w t e fits allowed is = subst (λ (o : StepOut). AllByRecursion IsShortFrame o.sent) (sym is) (sent_short w t e fits allowed)
 over_short (Err f) w t e fits refused is = tt
+
+pub over_drops : (result : Result (Option StepOut) EventFault) (w : WorldState) → IsTruthful w → (e : Event) → EventFits (length w.domain.routers) e
+    → MatchResult result (λ _. event_fault w e ≡ None) (λ f. Refuses (event_fault w e) f) → IfOk result (λ out. outcome out ≡ told w.domain.routers (happens w e).made)
+    → IfOk result (λ out. AreWorldDrops (outcome out).drops)
+over_drops (Ok out) w t e fits allowed is =
+    let keeps = happens_true w e t fits allowed in
+    subst (λ (o : StepOut). AreWorldDrops o.drops) (sym is) keeps.made.drops
+over_drops (Err f) w t e fits refused is = tt

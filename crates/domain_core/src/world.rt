@@ -98,7 +98,10 @@ impl World {
         ensures refused { MatchResult result (λ _. event_fault self.old.world (events.Send from to) ≡ None) (λ e. Refuses (event_fault self.old.world (events.Send from to)) e) }
         ensures world { OnOk result (self.new.world ≡ (happens self.old.world (events.Send from to)).world) }
         ensures told { IfOk result (λ out. outcome out ≡ told self.old.world.domain.routers (happens self.old.world (events.Send from to)).made) }
+        ensures drops { IfOk result (λ out. AreWorldDrops (outcome out).drops) }
         ensures short { IfOk result (λ out. AllByRecursion IsShortFrame (outcome out).sent) }
+        ensures ledger { IfOk result (λ out. KeepsLedger self.old.world self.new.world (events.Send from to) (outcome out)) }
+        ensures course { IfOk result (λ out. KeepsCourse self.old.world self.new.world (events.Send from to) (outcome out)) }
         ensures heard { OnOk result (self.new.heard ≡ self.old.heard) }
         ensures stays { OnErr result (self.new ≡ self.old) }
         ensures truth { IsTruthful self.new.world }
@@ -122,7 +125,10 @@ impl World {
         ensures refused { MatchResult result (λ _. event_fault self.old.world (events.Take from to 0) ≡ None) (λ e. Refuses (event_fault self.old.world (events.Take from to 0)) e) }
         ensures world { OnOk result (self.new.world ≡ (happens self.old.world (events.Take from to 0)).world) }
         ensures told { IfOk result (λ out. outcome out ≡ told self.old.world.domain.routers (happens self.old.world (events.Take from to 0)).made) }
+        ensures drops { IfOk result (λ out. AreWorldDrops (outcome out).drops) }
         ensures short { IfOk result (λ out. AllByRecursion IsShortFrame (outcome out).sent) }
+        ensures ledger { IfOk result (λ out. KeepsLedger self.old.world self.new.world (events.Take from to 0) (outcome out)) }
+        ensures course { IfOk result (λ out. KeepsCourse self.old.world self.new.world (events.Take from to 0) (outcome out)) }
         ensures heard { OnOk result (self.new.heard ≡ heard_after self.old.world self.old.heard (events.Take from to 0)) }
         ensures stays { IfErr result (λ e. Stays (self.new ≡ self.old) e) }
         ensures whole { OnErr result (IsAsBefore self.old self.new (events.Take from to 0)) }
