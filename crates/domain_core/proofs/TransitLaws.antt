@@ -1,5 +1,5 @@
 -- What arrives, is lost or comes again, of the frames that are held.
-use Rattle.std.proofs.Common.{◌≡◌, ℕ, Bool, true, false, if◌then◌else◌, List, [], slice_get, Option, Some, None, refl, sym, ap, subst, ◌∙◌}
+use Rattle.std.proofs.Common.{◌≡◌, ℕ, Bool, true, false, if◌then◌else◌, List, slice_get, Option, Some, None, refl, sym, ap, subst, ◌∙◌}
 use Rattle.wire_base.specs.declared.cause.Cause.{Cause}
 use Rattle.wire_base.specs.declared.cause.Cause.TheVariants as cause
 use Rattle.wire_base.specs.declared.conf.RouterConf.{RouterConf}
@@ -9,11 +9,6 @@ use Rattle.wire_base.specs.model.Pdu.{Pdu}
 use Rattle.replay_text.specs.declared.event.Event.TheVariants.{Take}
 use Rattle.domain_frames.specs.declared.flight.Flight.{Flight}
 use Rattle.domain_frames.specs.declared.flight.Note.{Note}
-use Rattle.domain_model.specs.declared.lines.DropLine.{DropLine}
-use Rattle.domain_model.specs.declared.lines.GotLine.{GotLine}
-use Rattle.domain_model.specs.declared.step_out.StepOut.{StepOut}
-use Rattle.domain_model.specs.declared.step_out.WireFrame.{WireFrame}
-use Rattle.domain_frames.specs.Told.{told}
 use Rattle.domain_model.specs.Faults.{is_up_toward}
 use Rattle.domain_frames.specs.Flights.{item_seen, items_seen, push_frame, without_frame}
 use Rattle.domain_model.specs.Moves.{item_lost}
@@ -35,20 +30,6 @@ more_world n flights a link f e = ap (λ (xs : List (List (List Item))). record 
 pub lost_world : (w : WorldState) (b : ℕ) (why : Cause) (x : Item) → (makes w (item_lost b why x)).world ≡ w
 lost_world w b why (ControlItem p) = refl
 lost_world w b why (PacketItem x) = refl
-
-pub lost_told : (confs : List RouterConf) (b : ℕ) (why : Cause) (x : Item) (out : StepOut) → out.sent ≡ [] → out.got ≡ [] → out.drops ≡ (item_lost b why x).drops → out ≡ told confs (item_lost b why x)
-lost_told confs b why x out sent got drops = same out.sent out.got out.drops sent got drops x refl
-  where
-    told_lost : (y : Item) → record { sent = []; got = []; drops = (item_lost b why y).drops } ≡ told confs (item_lost b why y)
-    told_lost (ControlItem p) = refl
-    told_lost (PacketItem d) = refl
-
-    same : (s : List WireFrame) (g : List GotLine) (d : List DropLine) → s ≡ [] → g ≡ [] → d ≡ (item_lost b why x).drops → (y : Item) → x ≡ y → ◌≡◌ {A = StepOut} (record { sent = s; got = g; drops = d }) (told confs (item_lost b why x))
-    same s g d p q r y e =
-        ap (λ (l : List WireFrame). record { sent = l; got = g; drops = d }) p
-        ∙ ap (λ (l : List GotLine). record { sent = []; got = l; drops = d }) q
-        ∙ ap (λ (l : List DropLine). record { sent = []; got = []; drops = l }) r
-        ∙ told_lost x
 
 -- ---- what is lost
 

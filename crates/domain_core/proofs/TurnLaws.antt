@@ -1,5 +1,5 @@
 -- A router of a domain at work turns into another state.
-use Rattle.std.proofs.Common.{◌≡◌, ℕ, ◌<◌, List, [], length, map, slice_get, slice_set, slice_index_or, Option, Some, Result, Ok, Err, OnErr, refl, sym, ap, ◌∙◌}
+use Rattle.std.proofs.Common.{◌≡◌, ℕ, ◌<◌, List, [], length, map, slice_get, slice_set, slice_index_or, Option, Some, Result, Ok, Err, OnOk, OnErr, IfOk, refl, sym, ap, ◌∙◌}
 use Rattle.std.proofs.lemmas.List.{map-set}
 use Rattle.std.proofs.lemmas.Option.{slice_get_read, get_or_from_slice_get}
 use Rattle.wire_base.specs.declared.conf.RouterConf.{RouterConf}
@@ -13,10 +13,20 @@ use Rattle.domain_core.specs.Network.{NetworkState, world_of, heard_at}
 use Rattle.domain_model.specs.Step.{Happened, with_router, turns, changes, changes_end}
 use Rattle.domain_model.proofs.QueueLaws.{get_mapped, map_set}
 
--- what holds anyway holds after a failure
-pub on_err : {T E : Type 0} (r : Result T E) (P : Type 0) → P → OnErr r P
-on_err (Ok x) P p = tt
-on_err (Err e) P p = p
+-- what holds anyway holds after a success
+pub on_ok : {T E : Type 0} (r : Result T E) (P : Type 0) → P → OnOk r P
+on_ok (Ok x) P p = p
+on_ok (Err e) P p = tt
+
+-- what is said of a success, and what holds after it, taken together
+pub with_ok : {T E : Type 0} (r : Result T E) (P Q : T → Type 0) (A : Type 0) → IfOk r P → OnOk r A → ((x : T) → P x → A → Q x) → IfOk r Q
+with_ok (Ok x) P Q A p a f = f x p a
+with_ok (Err e) P Q A p a f = tt
+
+-- and of a failure
+pub with_err : {T E : Type 0} (r : Result T E) (A B Q : Type 0) → OnErr r A → OnErr r B → (A → B → Q) → OnErr r Q
+with_err (Ok x) A B Q a b f = tt
+with_err (Err e) A B Q a b f = f a b
 
 -- the router at a place, as it is read
 pub router_there : (routers : List RouterState) (i a : ℕ) (r : RouterState) → i ≡ a → a < length routers → r ≡ slice_index_or routers i r → slice_get routers a ≡ Some r

@@ -1,5 +1,5 @@
 //! What a router does by itself: its ends change, it sends, a second passes, it starts again, or a payload enters there.
-ghost use Rattle.std.specs.Prelude.{◌≡◌, ◌<◌, ◌≤◌, ◌^◌, ◌-◌, length, Some, None, IfOk, OnOk, OnErr, MatchResult};
+ghost use Rattle.std.specs.Prelude.{◌≡◌, ◌<◌, ◌≤◌, ◌^◌, ◌-◌, ℕ, true, length, Some, None, IfOk, OnOk, OnErr, MatchResult};
 ghost use Rattle.replay_text.specs.declared.event.Event.TheVariants as events;
 ghost use Rattle.domain_core.specs.Answers.{entry_refused, outcome, Refuses};
 ghost use Rattle.domain_core.specs.Held.{state_of, world_in, heard_in, inject_fault, IsDone};
@@ -10,7 +10,6 @@ ghost use Rattle.domain_model.specs.Truth.{InjectFits};
 ghost use Rattle.domain_model.specs.World.{link_between};
 
 use crate::network::Network;
-use crate::over::or_nothing;
 use domain_frames::{carry, confs_of};
 use domain_model::{EventFault, StepOut};
 use wire_base::{Bsl, EdgeFault, M};
@@ -98,32 +97,40 @@ impl Network {
         let Some(link) = self.link(from, to) else {
             return Ok(StepOut::nothing(alloc));
         };
-        let sent = self.send_over(from, link, to)?;
-        Ok(or_nothing(alloc, sent))
+        if self.owes_nothing(from, link) {
+            return Ok(StepOut::nothing(alloc));
+        }
+        self.send_over(from, link, to)
+    }
+
+    /// Whether a router owes nothing over an end, as most do most of the time: then nothing happens where it sends there.
+    pub(crate) fn owes_nothing(&self, from: u16, link: u16) -> bool
+        requires truth { IsTrueNetwork (state_of self.now) }
+        requires place { from < length self.now.routers.items }
+        ensures { (to : ℕ) → result ≡ true → link_between self.now.domain.routers from to ≡ Some link → IsDone self.now self.now (doing (world_in self.now) (events.Send from to)) (outcome None) }
+    {
+        !self.routers[usize::from(from)].may_owe(link)
     }
 
     /// A router sends what is due over the end `link`, which is up and leads there. It has sent that only once it is told and
-    /// on its way. One that owes nothing there, as most do most of the time, is passed over.
-    pub(crate) fn send_over(&mut self, from: u16, link: u16, to: u16) -> M<Option<StepOut>>
+    /// on its way.
+    pub(crate) fn send_over(&mut self, from: u16, link: u16, to: u16) -> M<StepOut>
         requires truth { IsTrueNetwork (state_of self.old) }
         requires place { from < length self.old.routers.items }
         requires joined { link_between self.old.domain.routers from to ≡ Some link }
         requires allowed { event_fault (world_in self.old) (events.Send from to) ≡ None }
-        ensures done { IfOk result (λ out. IsDone self.old self.new (doing (world_in self.old) (events.Send from to)) (outcome out)) }
+        ensures done { IfOk result (λ out. IsDone self.old self.new (doing (world_in self.old) (events.Send from to)) out) }
         ensures heard { OnOk result (heard_in self.new ≡ heard_in self.old) }
         ensures err { OnErr result (state_of self.new ≡ state_of self.old) }
         ensures domain { self.new.domain ≡ self.old.domain }
     {
-        if !self.routers[usize::from(from)].may_owe(link) {
-            return Ok(None);
-        }
         let confs = confs_of(&self.domain);
         let router = &mut self.routers[usize::from(from)];
         let effects = router.due(link)?;
         let known = Some((link, to));
         let out = carry(&mut self.flights, confs, from, None, known, effects)?;
         router.sent(link);
-        Ok(Some(out))
+        Ok(out)
     }
 
     /// A payload enters at a router.

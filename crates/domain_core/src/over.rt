@@ -71,9 +71,13 @@ impl Network {
         if let Some(fault) = self.send_fault_at(from, link, to) {
             return Err(fault);
         }
+        if self.owes_nothing(from, link) {
+            self.events += 1;
+            return Ok(None);
+        }
         let out = self.send_over(from, link, to)?;
         self.events += 1;
-        Ok(out)
+        Ok(Some(out))
     }
 
     /// The event that the frame at a place is taken, which left over the end `link` and comes to the end `back`, where it is
@@ -102,8 +106,17 @@ impl Network {
         if let Some(fault) = self.take_fault_at(from, link, to, i) {
             return Err(fault);
         }
-        let out = self.take_over(from, link, to, back, i)?;
-        self.events += 1;
-        Ok(out)
+        // An answer is large: where there is none, nothing of it is moved.
+        match self.take_over(from, link, to, back, i) {
+            Ok(None) => {
+                self.events += 1;
+                Ok(None)
+            }
+            Ok(Some(out)) => {
+                self.events += 1;
+                Ok(Some(out))
+            }
+            Err(refused) => Err(refused.into()),
+        }
     }
 }

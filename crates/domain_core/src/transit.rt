@@ -9,7 +9,7 @@ ghost use Rattle.domain_model.specs.World.{link_between};
 
 use crate::network::Network;
 use crate::over::or_nothing;
-use domain_frames::{confs_of, is_silent, lines_of, lost, number_of, send_all, with_sent};
+use domain_frames::{carry_taken, confs_of, drop_flight, is_silent};
 use domain_model::StepOut;
 use wire_base::{Cause, M, Octets};
 
@@ -26,12 +26,10 @@ impl Network {
         let Some(link) = self.link(from, to) else {
             return Ok(StepOut::nothing(alloc));
         };
-        let Some(flight) = self.flights.get(from, link, i) else {
-            return Ok(StepOut::nothing(alloc));
-        };
-        let out = lost(alloc, confs_of(&self.domain), to, Cause::Lost, &flight)?;
-        self.flights.remove(from, link, i as usize);
-        Ok(out)
+        let confs = confs_of(&self.domain);
+        let flights = &mut self.flights;
+        let out = drop_flight(alloc, flights, confs, from, link, i, to, Cause::Lost)?;
+        Ok(or_nothing(alloc, out))
     }
 
     /// A frame that carries a PDU comes again: a copy of it goes to the end of its direction.
@@ -106,23 +104,18 @@ impl Network {
         let Some(flight) = self.flights.get(from, link, i) else {
             return Ok(None);
         };
-        let confs = confs_of(&self.domain);
         let router = &mut self.routers[usize::from(to)];
+        let confs = confs_of(&self.domain);
         if !router.is_up(back) {
-            let out = lost(alloc, confs, to, Cause::Link, &flight)?;
-            self.flights.remove(from, link, i as usize);
-            return Ok(Some(out));
+            let flights = &mut self.flights;
+            return drop_flight(alloc, flights, confs, from, link, i, to, Cause::Link);
         }
-        let number = number_of(&flight);
         let effects = router.frame(back, flight.octets)?;
         if is_silent(&effects) {
             self.flights.remove(from, link, i as usize);
             return Ok(None);
         }
-        let lines = lines_of(alloc, confs, to, number, Some(&flight), &effects)?;
-        send_all(&mut self.flights, confs, to, number, &effects.sent)?;
-        self.flights.remove(from, link, i as usize);
         let known = Some((back, from));
-        Ok(Some(with_sent(lines, confs, to, known, effects.sent)))
+        carry_taken(&mut self.flights, confs, from, link, i, to, known, effects)
     }
 }

@@ -1,5 +1,5 @@
 -- A frame that was last put on its way, and is taken back.
-use Rattle.std.proofs.Common.{◌≡◌, ℕ, zero, suc, ◌+◌, ◌-◌, ◌<◌, ◌≤◌, List, [], ◌∷◌, ◌++◌, length, map, take, sum_by, slice_set, slice_index_or, Option, refl, sym, ap, subst, ◌∙◌, arith, length-append}
+use Rattle.std.proofs.Common.{◌≡◌, ℕ, zero, suc, ◌+◌, ◌-◌, ◌<◌, ◌≤◌, List, [], ◌∷◌, ◌++◌, length, map, take, sum_by, slice_get, slice_set, slice_index_or, Option, None, refl, sym, ap, subst, ◌∙◌, arith, length-append}
 use Rattle.std.specs.List.{remove}
 use Rattle.std.proofs.lemmas.List.{append-nil}
 use Rattle.std.proofs.lemmas.List.Sums.{sum_by-cons}
@@ -94,6 +94,24 @@ goes_after confs b number (s ∷ ss) flights a link i h =
     let f = flight_of confs b number s in
     goes_after confs b number ss (push_sent confs b number flights s) a link i (omega (arith, h, longer flights a link b s.link f))
     ∙ ap (λ (x : List (List (List Flight))). push_all_sent confs b number x ss) (turned flights a link i b s.link f h)
+
+-- ---- no frame goes where there is none
+
+queue_kept : (q : List Flight) (i : ℕ) → slice_get q i ≡ None → remove q i ≡ q
+queue_kept [] zero none = refl
+queue_kept [] (suc i) none = refl
+queue_kept (f ∷ fs) zero none = cc
+queue_kept (f ∷ fs) (suc i) none = ap (λ (gs : List Flight). f ∷ gs) (queue_kept fs i none)
+
+row_kept : (row : List (List Flight)) (link i : ℕ) → slice_get (slice_index_or row link []) i ≡ None → row_left row link i ≡ row
+row_kept [] link i none = refl
+row_kept (q ∷ qs) zero i none = ap (λ (p : List Flight). p ∷ qs) (queue_kept q i none)
+row_kept (q ∷ qs) (suc link) i none = ap (λ (ps : List (List Flight)). q ∷ ps) (row_kept qs link i none)
+
+pub none_gone : (flights : List (List (List Flight))) (a link i : ℕ) → slice_get (frames_at flights a link) i ≡ None → without_frame flights a link i ≡ flights
+none_gone [] a link i none = refl
+none_gone (row ∷ rows) zero link i none = ap (λ (r : List (List Flight)). r ∷ rows) (row_kept row link i none)
+none_gone (row ∷ rows) (suc a) link i none = ap (λ (rs : List (List (List Flight))). row ∷ rs) (none_gone rows a link i none)
 
 -- ---- the beginning
 

@@ -92,6 +92,11 @@ push_sent confs a number flights s = push_frame flights a s.link (flight_of conf
 abbrev pub push_all_sent : List RouterConf → ℕ → Option ℕ → List (List (List Flight)) → List Sent → List (List (List Flight))
 push_all_sent confs a number flights sent = fold (push_sent confs a number) flights sent
 
+-- the same once the frame that it took, of a direction, is gone; nothing where there is no such frame
+abbrev pub push_after : List RouterConf → ℕ → List Sent → List (List (List Flight)) → ℕ → ℕ → ℕ → Option Flight → List (List (List Flight))
+push_after confs a sent flights place link i None = flights
+push_after confs a sent flights place link i (Some f) = push_all_sent confs a (number_of f) (without_frame flights place link i) sent
+
 -- a frame that is sent on that link
 abbrev pub IsOver : ℕ → Sent → Type 0
 IsOver link s = s.link ≡ link

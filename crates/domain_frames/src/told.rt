@@ -1,5 +1,5 @@
 //! What is told of what a router does.
-ghost use Rattle.std.specs.Prelude.{◌≡◌, ◌≤◌, ◌++◌, ◌∷◌, [], ℕ, length, map, filter, true, Option, option_map, IfOk, IfSome, OnOk, OnErr};
+ghost use Rattle.std.specs.Prelude.{◌≡◌, ◌↔◌, ◌≤◌, IsTrue, ◌++◌, ◌∷◌, [], ℕ, length, map, filter, Option, option_map, IfOk, IfSome, OnOk, OnErr};
 ghost use Rattle.std.specs.List.{AllByRecursion};
 ghost use Rattle.wire_base.specs.model.BitSet.{has_member};
 ghost use Rattle.wire_base.specs.model.Configuration.{IsSound};
@@ -40,7 +40,7 @@ pub fn lines_of(
     requires few { length confs.now ≤ MOST_ROUTERS }
     requires sound { AllByRecursion IsSound confs.now }
     ensures out { IfOk result (λ out. out ≡ record (told_of confs.now at number (ids_taken confs.now (option_map (λ f. f.now) taken.entry)) effects.now) { sent = [] }) }
-    ensures memory { OnErr result (IsSilent effects.now → ⊥) }
+    ensures memory { OnErr result (effects.now.got ≡ [] → effects.now.drops ≡ [] → ⊥) }
 {
     Ok(StepOut {
         sent: WireFrames::new(alloc),
@@ -70,7 +70,7 @@ pub fn with_sent(
 
 /// Whether a router sent, delivered and dropped nothing.
 pub fn is_silent(effects: &Effects) -> bool
-    ensures { result ≡ true → IsSilent effects.now }
+    ensures { IsTrue result ↔ IsSilent effects.now }
 {
     effects.sent.len() == 0 && effects.got.len() == 0 && effects.drops.len() == 0
 }

@@ -93,9 +93,10 @@ impl ToldWorld {
         ensures stops { OnErr result (StopsIn line self.old (events.Send direction.from direction.to ∷ []) self.new) }
     {
         let Direction { from, link, to } = direction;
-        let made = self.world.send_over(from, link, to)?;
-        let Some(made) = made else {
-            return Ok(());
+        let made = match self.world.send_over(from, link, to) {
+            Ok(None) => return Ok(()),
+            Ok(Some(made)) => made,
+            Err(fault) => return Err(fault),
         };
         let event = Event::Send { from, to };
         let routers = self.world.domain().routers.as_slice();
@@ -161,9 +162,10 @@ impl ToldWorld {
         ensures stops { OnErr result (StopsIn line self.old (events.Take direction.from direction.to 0 ∷ []) self.new) }
     {
         let Direction { from, link, to } = direction;
-        let made = self.world.take_over(from, link, to, back)?;
-        let Some(made) = made else {
-            return Ok(());
+        let made = match self.world.take_over(from, link, to, back) {
+            Ok(None) => return Ok(()),
+            Ok(Some(made)) => made,
+            Err(fault) => return Err(fault),
         };
         let event = Event::Take { from, to, i: 0 };
         let routers = self.world.domain().routers.as_slice();

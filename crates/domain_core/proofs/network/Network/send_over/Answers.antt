@@ -1,35 +1,22 @@
-use Rattle.std.proofs.Common.{◌≡◌, ◌∙◌, List, [], None, refl, sym, ap}
+use Rattle.std.proofs.Common.{◌≡◌, ◌∙◌, List, [], None, sym, ap}
 use Rattle.wire_base.specs.declared.conf.RouterConf.{RouterConf}
 use Rattle.wire_base.specs.model.Flooding.{send}
 use Rattle.domain_frames.specs.Told.{told, told_of}
 use Rattle.domain_frames.specs.Flights.{items_seen, push_all_sent}
-use Rattle.domain_core.specs.Answers.{outcome}
 use Rattle.domain_core.specs.Held.{state_of, world_in}
 use Rattle.domain_model.specs.Moves.{replied}
 use Rattle.domain_model.specs.Step.{Happened}
-use Rattle.domain_core.proofs.CarryLaws.{carried_world, same_next, send_is, send_idle, send_control, send_carried}
+use Rattle.domain_core.proofs.CarryLaws.{carried_world, same_next, send_is, send_control, send_carried}
 use Rattle.domain_core.proofs.RefusalLaws.{up_at_send, link_within, leads_to}
 use Rattle.domain_core.proofs.TransitLaws.{same_frames}
-use Rattle.domain_core.proofs.TurnLaws.{router_there, nothing_told, control_at, same_heard}
+use Rattle.domain_core.proofs.TurnLaws.{router_there, control_at, same_heard}
 use Rattle.domain_core.proofs.network.Network.send_over.Goals as goal
-
-pub returns-then-not-may_owe-clause-done : goal.returns-then-not-may_owe-clause-done
-returns-then-not-may_owe-clause-done c =
-    let n = state_of c.args.self.now in
-    let r = c.index.result.now in
-    let there = router_there n.routers c.from.result c.args.from r c.from.ensures c.requires.place c.index.ensures in
-    let happened = send_idle n c.requires.truth c.args.from c.args.to c.args.link r there c.requires.joined (c.may_owe.ensures c.if-not-may_owe.true) in
-    record {
-      world = sym (ap (λ (h : Happened). h.world) happened);
-      frames = c.requires.truth.frames;
-      answer = nothing_told n.domain.routers (outcome None) _ refl (ap (λ (h : Happened). h.made) happened);
-    }
 
 pub due-requires : goal.due-requires
 due-requires c =
     let n = state_of c.args.self.now in
     let r = c.index_mut-router.result.now in
-    let there = router_there n.routers c.from-2.result c.args.from r c.from-2.ensures c.requires.place c.index_mut-router.ensures.value in
+    let there = router_there n.routers c.from.result c.args.from r c.from.ensures c.requires.place c.index_mut-router.ensures.value in
     up_at_send (world_in c.args.self.now) c.args.from c.args.to c.args.link r.control (control_at n c.args.from r there) c.requires.joined c.requires.allowed
 
 pub carry-requires-clause-known : goal.carry-requires-clause-known
@@ -39,14 +26,14 @@ pub sent-requires : goal.sent-requires
 sent-requires c =
     let n = state_of c.args.self.now in
     let r = c.index_mut-router.result.now in
-    let there = router_there n.routers c.from-2.result c.args.from r c.from-2.ensures c.requires.place c.index_mut-router.ensures.value in
+    let there = router_there n.routers c.from.result c.args.from r c.from.ensures c.requires.place c.index_mut-router.ensures.value in
     up_at_send (world_in c.args.self.now) c.args.from c.args.to c.args.link r.control (control_at n c.args.from r there) c.requires.joined c.requires.allowed
 
 pub returns-clause-done : goal.returns-clause-done
 returns-clause-done c =
     let n = state_of c.args.self.now in
     let r = c.index_mut-router.result.now in
-    let there = router_there n.routers c.from-2.result c.args.from r c.from-2.ensures c.requires.place c.index_mut-router.ensures.value in
+    let there = router_there n.routers c.from.result c.args.from r c.from.ensures c.requires.place c.index_mut-router.ensures.value in
     let within = link_within (world_in c.args.self.now) c.args.from c.args.to c.args.link r.control (control_at n c.args.from r there) c.requires.joined c.requires.truth.truth in
     let next = same_next c.args.link (send r.control c.args.link) c.sent.new.self.control c.in_ok-effects.effects c.sent.ensures.control c.in_ok-effects.ensures in
     let k = send_carried n c.requires.truth c.args.from c.args.to c.args.link r there within c.sent.new.self.control c.in_ok-effects.effects next in
@@ -55,7 +42,7 @@ returns-clause-done c =
     let sent : c.carry.new.flights ≡ push_all_sent n.domain.routers c.args.from None n.flights c.in_ok-effects.effects.sent =
     c.in_ok-out.ensures.ok ∙ ap (λ (cs : List RouterConf). push_all_sent cs c.args.from None n.flights c.in_ok-effects.effects.sent) c.confs_of-confs.ensures.confs in
     record {
-      world = carried_world n c.args.from r there c.from-2.result c.from-2.ensures c.sent.new.self c.carry.new.flights (send r.control c.args.link).control (replied n.domain.routers c.args.from c.args.link (send r.control c.args.link)) _ turned (ap (items_seen n.domain.routers) sent ∙ k.seen) happened;
+      world = carried_world n c.args.from r there c.from.result c.from.ensures c.sent.new.self c.carry.new.flights (send r.control c.args.link).control (replied n.domain.routers c.args.from c.args.link (send r.control c.args.link)) _ turned (ap (items_seen n.domain.routers) sent ∙ k.seen) happened;
       frames = same_frames n.domain.routers c.carry.new.flights _ sent k.frames;
       answer = c.in_ok-out.ensures.out ∙ ap (λ (cs : List RouterConf). told_of cs c.args.from None [] c.in_ok-effects.effects) c.confs_of-confs.ensures.confs
           ∙ k.out ∙ sym (ap (λ (h : Happened). told n.domain.routers h.made) happened);
@@ -65,4 +52,4 @@ pub returns-clause-heard : goal.returns-clause-heard
 returns-clause-heard c =
     let n = state_of c.args.self.now in
     let r = c.index_mut-router.result.now in
-    same_heard n c.args.from r (router_there n.routers c.from-2.result c.args.from r c.from-2.ensures c.requires.place c.index_mut-router.ensures.value) c.from-2.result c.sent.new.self c.from-2.ensures c.sent.ensures.heard
+    same_heard n c.args.from r (router_there n.routers c.from.result c.args.from r c.from.ensures c.requires.place c.index_mut-router.ensures.value) c.from.result c.sent.new.self c.from.ensures c.sent.ensures.heard
