@@ -115,6 +115,35 @@ impl Control {
         }
     }
 
+    /// What a BIER packet does to the outside takes the place of what was done before. It has a function of its own, and so have
+    /// IPv4 packets, so that the way of an IS-IS PDU, which most frames carry, has no room to make for it.
+    fn take_packet(
+        &self,
+        kept: &mut Option<Kept>,
+        kind: Kind,
+        octets: &[u8],
+        effects: &mut Effects,
+    ) -> M<()>
+        requires short { length octets.now ≤ MOST_FRAME }
+        requires kept { MayKeep self.now kept.old }
+        ensures effects { OnOk result (effects.new ≡ on_packet self.now kind octets.now) }
+        ensures kept { MayKeep self.now kept.new }
+    {
+        *effects = self.on_packet(kept, kind, octets)?;
+        Ok(())
+    }
+
+    /// The same of an IPv4 packet.
+    fn take_ip(&self, kept: &mut Option<Kept>, octets: &[u8], effects: &mut Effects) -> M<()>
+        requires short { length octets.now ≤ MOST_FRAME }
+        requires kept { MayKeep self.now kept.old }
+        ensures effects { OnOk result (effects.new ≡ on_tunnel self.now octets.now) }
+        ensures kept { MayKeep self.now kept.new }
+    {
+        *effects = self.on_tunnel(kept, octets)?;
+        Ok(())
+    }
+
     /// What a frame carries, by its class; or all is as it was.
     fn take_class(
         &mut self,
@@ -135,19 +164,17 @@ impl Control {
         ensures kept { MayKeep self.new kept.new }
     {
         match class {
-            Class::Isis { from, to } => {
-                return self.on_pdu(kept, link, &bytes[from..to], effects);
-            }
-            Class::Mpls { from } => {
-                *effects = self.on_packet(kept, Kind::Mpls, &bytes[from..])?;
-            }
+            Class::Isis { from, to } => self.on_pdu(kept, link, &bytes[from..to], effects),
+            Class::Mpls { from } => self.take_packet(kept, Kind::Mpls, &bytes[from..], effects),
             Class::Bier { from } => {
-                *effects = self.on_packet(kept, Kind::Configured, &bytes[from..])?;
+                self.take_packet(kept, Kind::Configured, &bytes[from..], effects)
             }
-            Class::Ip { from } => *effects = self.on_tunnel(kept, &bytes[from..])?,
-            Class::Other => pass_over(effects),
+            Class::Ip { from } => self.take_ip(kept, &bytes[from..], effects),
+            Class::Other => {
+                pass_over(effects);
+                Ok(())
+            }
         }
-        Ok(())
     }
 
     /// A frame that came on a link; or all is as it was. What it does to the outside is written in place, since to most
