@@ -2,7 +2,7 @@
 use Rattle.std.proofs.Common.{◌≡◌, ℕ, zero, suc, ◌+◌, ◌*◌, ◌/◌, ◌<◌, ◌≤◌, min, List, [], ◌∷◌, ◌++◌, length, take, drop, true, Result, Ok, Err, sym, subst, ap, ◌∙◌, append_assoc, length-append, length-take, length-drop, arith}
 use Rattle.std.specs.List.{flat_map, AllByRecursion}
 use Rattle.std.specs.Prelude.{IfOk, OnOk}
-use Rattle.std.proofs.lemmas.List.{append-nil, take_all, take-append-drop, nil_from_length}
+use Rattle.std.proofs.lemmas.List.{append-nil, take_all, take-append-drop, take-append-le, nil_from_length}
 use Rattle.byteorder.specs.Endian.{big_bytes}
 use Rattle.wire_base.specs.declared.limits.TheConstants.{MOST_LISTED}
 use Rattle.wire_base.specs.declared.addresses.SystemId.{SystemId}
@@ -35,6 +35,24 @@ pub psnp_read_again : {E : Type 0} (level : Level) (source : SystemId) (rows : L
     → IfOk r (λ o. (rest : List ℕ) → pdu_at level (o ++ rest) ≡ Ok (PsnpPdu source (row_tlvs rows)))
 psnp_read_again level source rows (Ok o) few spelled long all = λ rest. ap (λ (l : List ℕ). pdu_at level (l ++ rest)) spelled ∙ psnp_read level source (row_tlvs rows) rest (record { source_long = long; size = let n = row_tlvs_length rows all in omega (arith, n); tlvs_are = passes_are true (row_tlvs rows) (row_tlvs_pass rows all) })
 psnp_read_again level source rows (Err e) few spelled long all = tt
+
+-- ---- what holds after a call
+
+pub on_ok_both : {T E : Type 0} (r : Result T E) (P Q S : Type 0) → OnOk r P → OnOk r Q → (P → Q → S) → OnOk r S
+on_ok_both (Ok x) P Q S p q f = f p q
+on_ok_both (Err e) P Q S p q f = tt
+
+-- ---- what stood there stands in front
+
+pub front_more : (old out more : List ℕ) → take (length old) out ≡ old → take (length old) (out ++ more) ≡ old
+front_more old out more front =
+    let within : length old ≤ length out = omega (arith, ap (λ (l : List ℕ). length l) front, length-take (length old) out) in
+    take-append-le (length old) out more within ∙ front
+
+pub front_further : (old out new : List ℕ) → take (length old) out ≡ old → take (length out) new ≡ out → take (length old) new ≡ old
+front_further old out new front further =
+    ap (take (length old)) (sym (take-append-drop (length out) new) ∙ ap (λ (l : List ℕ). l ++ drop (length out) new) further)
+    ∙ front_more old out (drop (length out) new) front
 
 -- ---- entries in TLVs 9
 

@@ -1,4 +1,4 @@
-ghost use Rattle.std.specs.Prelude.{◌≡◌, ◌<◌, ◌≤◌, ◌+◌, ◌*◌, ◌/◌, ◌++◌, ◌∷◌, [], ℕ, List, false, length, Ok, IfOk, OnOk, OnErr};
+ghost use Rattle.std.specs.Prelude.{◌≡◌, ◌<◌, ◌≤◌, ◌+◌, ◌*◌, ◌/◌, ◌++◌, ◌∷◌, [], ℕ, List, false, length, take, Ok, IfOk, OnOk, OnErr};
 ghost use Rattle.std.specs.List.{AllByRecursion};
 ghost use Rattle.byteorder.specs.Endian.{big_bytes};
 ghost use Rattle.wire_base.specs.model.Tlv.{tlv, lsp_id, LspIdFits, SummaryFits};
@@ -104,10 +104,11 @@ pub fn write_lsp(alloc: Global, level: Level, head: &LspHead, tlvs: &[u8]) -> M<
     lsp_octets(alloc, level, head, tlvs)
 }
 
-/// A TLV 9 of at most 15 entries.
+/// A TLV 9 of at most 15 entries; where memory runs out, what stood there stands in front of a part of it.
 fn append_block(out: &mut Octets, entries: &[Summary]) -> M<()>
     requires { length entries.now ≤ 15 }
     ensures ok { OnOk result (out.new ≡ out.old ++ tlv (row_tlv entries.now)) }
+    ensures err { OnErr result (take (length out.old) out.new ≡ out.old) }
     ensures fits { OnOk result (AllByRecursion SummaryFits entries.now) }
 {
     out.append(&[9, 16 * entries.len() as u8])?;
@@ -117,9 +118,11 @@ fn append_block(out: &mut Octets, entries: &[Summary]) -> M<()>
     Ok(())
 }
 
-/// The entries in TLVs 9 of at most 15, full ones first.
+/// The entries in TLVs 9 of at most 15, full ones first; where memory runs out, what stood there stands in front of a part of
+/// them.
 fn append_rows(out: &mut Octets, rows: &[Summary]) -> M<()>
     ensures ok { OnOk result (out.new ≡ out.old ++ row_tlvs rows.now) }
+    ensures err { OnErr result (take (length out.old) out.new ≡ out.old) }
     ensures fits { OnOk result (AllByRecursion SummaryFits rows.now) }
 {
     let mut rest = rows;
@@ -262,7 +265,7 @@ pub fn append_psnp(out: &mut Octets, level: Level, source: SystemId, tlvs: &[u8]
 }
 
 /// Appends a partial sequence numbers PDU that lists those entries, in TLVs 9 of at most 15 (ISO/IEC 10589, 9.12 and
-/// 9.13). At most 90 entries. Where memory runs out, a part of it may stand there.
+/// 9.13). At most 90 entries. Where memory runs out, what stood there stands there still, and nothing more.
 pub fn append_psnp_listing(
     out: &mut Octets,
     level: Level,
@@ -271,13 +274,18 @@ pub fn append_psnp_listing(
 ) -> M<()>
     requires { length rows.now ≤ MOST_LISTED }
     ensures ok { OnOk result (out.new ≡ out.old ++ psnp level source (row_tlvs rows.now)) }
+    ensures err { OnErr result (out.new ≡ out.old) }
     ensures long { OnOk result (length (psnp level source (row_tlvs rows.now)) ≡ PSNP_FRONT + (16 * length rows.now + 2 * ((length rows.now + 14) / 15))) }
 {
     let size = PSNP_FRONT + listed_octets(rows.len());
     let front = psnp_front(level, source, size as u16);
+    let before = out.len();
     out.append(front.as_slice())?;
-    append_rows(out, rows)?;
-    Ok(())
+    let done = append_rows(out, rows);
+    if done.is_err() {
+        out.truncate(before);
+    }
+    done
 }
 
 fn psnp_whole(alloc: Global, level: Level, source: SystemId, rows: &[Summary]) -> M<Octets>
