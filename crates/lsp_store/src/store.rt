@@ -121,12 +121,16 @@ impl Store {
         found_at(entries, place_of(entries, id), id)
     }
 
-    /// The same, where a guess is at hand.
+    /// The same, where a guess is at hand: one that is right is tested once, and nothing is searched.
+    #[tactic(auto, using(crate::proofs::PlaceLaws::stands_placed))]
     fn find_near(&self, id: &LspId, guess: usize) -> Result<usize, usize>
         ensures there { IfOk result (λ place. IsPlace self.now.entries id.now true place) }
         ensures gone { IfErr result (λ place. IsPlace self.now.entries id.now false place) }
     {
         let entries = self.items.as_slice();
+        if stands_at(entries, guess, id) {
+            return Ok(guess);
+        }
         found_at(entries, place_near(entries, id, guess), id)
     }
 
