@@ -124,12 +124,18 @@ impl Table {
         }
     }
 
-    /// The same, where a guess is at hand: where that is right, nothing is searched.
+    /// The same, where a guess is at hand: one that is right is tested once, and nothing is searched.
     pub(crate) fn find_near(&self, id: &LspId, guess: usize) -> Found
         ensures place { IsPlace self.now.rows id.now result.is_there result.place }
         ensures ascends { AreAscending (row_ids self.now.rows) }
     {
         let ids = self.items.ids();
+        if stands_at(ids, guess, id) {
+            return Found {
+                place: guess,
+                is_there: true,
+            };
+        }
         let place = place_near(ids, id, guess);
         Found {
             place,
