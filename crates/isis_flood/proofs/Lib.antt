@@ -7,4 +7,5 @@ pub mod HeldLaws
 pub mod KeptLaws
 pub mod ListLaws
 pub mod MaskLaws
+pub mod OctetLaws
 pub mod TableLaws

@@ -32,25 +32,44 @@ pub(crate) fn clear_octets(octets: &mut [u8], link: u16)
     }
 }
 
-/// Whether one of the 32 masks from a place on has a link.
-fn has_in_chunk(octets: &[u8], at: usize, link: u16) -> bool
-    requires within { at + 32 ≤ length octets.now }
+/// How many of the N masks from a place on come before the first that has a link, or all N. Of the bit of a link from 8 on
+/// an octet keeps nothing, and none of them has it.
+fn ahead_in_chunk<const N: usize>(octets: &[u8], at: usize, link: u16) -> usize
+    requires few { N ≤ 64 }
+    requires within { at + N ≤ length octets.now }
     requires link { link < 64 }
-    ensures { result ≡ list_any (λ mask. at_bit mask link) (chunk at 32 octets.now) }
+    ensures { result ≡ position_or_len (λ mask. at_bit mask link) (chunk at N octets.now) }
 {
-    has_bit(u8x32::from_slice(&octets[at..]).reduce_or() as u64, link)
+    let flags = Simd::<u8, N>::from_slice(&octets[at..]) & Simd::splat(octet_of(1 << link));
+    let found = flags.simd_ne(Simd::splat(0)).to_bitmask();
+    if found == 0 {
+        N
+    } else {
+        found.trailing_zeros() as usize
+    }
 }
 
-/// The place of the first mask from a place on that has a link, or the number of masks: 32 masks at once while none of them has
-/// it, and then one by one.
+/// The place of the first mask from a place on that has a link, or the number of masks: 32 masks at once while so many are
+/// left, then eight at once, and the last ones one by one.
 fn first_octet_with(octets: &[u8], from: usize, link: u16) -> usize
     requires within { from ≤ length octets.now }
     requires link { link < 64 }
     ensures { result ≡ from + position_or_len (λ mask. at_bit mask link) (drop from octets.now) }
 {
     let mut place = from;
-    'chunks: while place + 32 <= octets.len() && !has_in_chunk(octets, place, link) {
+    'chunks: while octets.len() - place >= 32 {
+        let ahead = ahead_in_chunk::<32>(octets, place, link);
+        if ahead < 32 {
+            return place + ahead;
+        }
         place += 32;
+    }
+    'eights: while octets.len() - place >= 8 {
+        let ahead = ahead_in_chunk::<8>(octets, place, link);
+        if ahead < 8 {
+            return place + ahead;
+        }
+        place += 8;
     }
     'masks: while place < octets.len() && !has_bit(octets[place] as u64, link) {
         place += 1;

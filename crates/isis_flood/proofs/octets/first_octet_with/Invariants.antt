@@ -13,6 +13,15 @@ invariant-chunks l = record {
 abbrev pub decreases-chunks : goal.decreases-chunks
 decreases-chunks l = length l.octets - l.place
 
+abbrev pub invariant-eights : goal.invariant-eights
+invariant-eights l = record {
+  within : l.place ≤ length l.octets;
+  passed : l.place + position_or_len (λ mask. at_bit mask l.link) (drop l.place l.octets) ≡ l.from + position_or_len (λ mask. at_bit mask l.link) (drop l.from l.octets);
+}
+
+abbrev pub decreases-eights : goal.decreases-eights
+decreases-eights l = length l.octets - l.place
+
 abbrev pub invariant-masks : goal.invariant-masks
 invariant-masks l = record {
   within : l.place ≤ length l.octets;
