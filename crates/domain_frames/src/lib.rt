@@ -16,6 +16,6 @@ mod told;
 pub use flight::{Flight, FlightSeen, Note};
 pub use flights::Flights;
 pub use places::{confs_of, link_between, peer_place};
-pub use sent::{carry, send_all};
+pub use sent::carry;
 pub use taken::{carry_taken, drop_flight};
-pub use told::{is_silent, lines_of, lost, number_of, with_sent};
+pub use told::is_silent;
