@@ -10,7 +10,7 @@ from support import EXAMPLES, needs, places
 
 CRATES = os.path.join(places.ROOT, "crates")
 PROGRAM = os.environ.get("ISIS_DUMP") or os.path.join(CRATES, "isis_dump", "out", "isis_dump")
-CAPTURES = sorted(glob.glob(os.path.join(EXAMPLES, "*", "frames"))) + [os.path.join(CRATES, "capture_sample", "stdout")]
+CAPTURES = sorted(glob.glob(os.path.join(EXAMPLES, "*", "frames"))) + [os.path.join(CRATES, "show_capture", "stdout")]
 
 KINDS = {18: "lsp 1", 20: "lsp 2", 24: "csnp 1", 25: "csnp 2", 26: "psnp 1", 27: "psnp 2"}
 FIELDS = {

@@ -30,7 +30,7 @@ class LibraryPage(unittest.TestCase):
                     self.assertIn("\n" + part + "\n", source)
 
     def test_its_outputs_are_the_stored_ones(self):
-        stored = [read("crates", name, "stdout") for name in ("library_example", "isis_dump")]
+        stored = [read("crates", name, "stdout") for name in ("show_library", "isis_dump")]
         for text in OUTPUT.findall(read(PAGE)):
             lines = [line for line in text.splitlines() if line != "..." and not line.startswith("$ ")]
             self.assertTrue(any("\n".join(lines) + "\n" in out for out in stored), text)

@@ -1,9 +1,9 @@
 //! The top call over the files that the words of the program name.
 ghost use Rattle.std.specs.Prelude.{◌≡◌, ◌≢◌, ◌⊎◌};
 ghost use Rattle.wire_base.specs.declared.status.Status.TheVariants as status;
-ghost use Rattle.node_run.specs.declared.words.Form.TheVariants as form;
-ghost use Rattle.node_run.specs.Words.{form_in};
-ghost use Rattle.node_run.specs.Words as forms;
+ghost use Rattle.command_node.specs.declared.words.Form.TheVariants as form;
+ghost use Rattle.command_node.specs.Words.{form_in};
+ghost use Rattle.command_node.specs.Words as forms;
 ghost use Rattle.tool_host.specs.Fresh.{AreFresh, IsFresh};
 
 use replay_run::run;

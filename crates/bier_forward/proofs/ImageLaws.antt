@@ -1,7 +1,7 @@
 -- A hop over BFR-ids is the hop over their bit positions.
 use Rattle.std.proofs.Common.{◌≡◌, ℕ, zero, suc, ◌==◌, ◌&&◌, ◌≤◌, not, Bool, true, false, List, [], ◌∷◌, ◌++◌, filter, map, Option, Some, None, is_some, option_and_then, cond, refl, sym, ap, ◌∙◌, arith}
 use Rattle.std.specs.List.{AllByRecursion, filter_map}
-use Rattle.route_laws.proofs.TightLemmas.{map_append}
+use Rattle.laws_route.proofs.TightLemmas.{map_append}
 use Rattle.wire_base.specs.declared.triple.Triple.{Triple}
 use Rattle.wire_base.specs.model.BitSet.{IsWithin}
 use Rattle.wire_base.specs.model.Hop.{Outcome, Local, Copy, Expired, NoRow, distinct, forward, has, hop, is_this, local, unless_empty}

@@ -4,7 +4,7 @@ use Rattle.std.specs.Prelude.{IfOk}
 use Rattle.wire_base.specs.declared.faults.InfoFault.{InfoFault}
 use Rattle.wire_base.specs.model.Fields.{Gives, AreOctets}
 use Rattle.wire_base.specs.model.BierInfo.{InfoFits, IsInfo, info_at}
-use Rattle.format_laws.proofs.InfoLaws.{info_found, info_fits}
+use Rattle.laws_format.proofs.InfoLaws.{info_found, info_fits}
 use Rattle.bier_subtlv.specs.declared.reader.Info.{Info}
 use Rattle.bier_subtlv.specs.Views.{info_of}
 

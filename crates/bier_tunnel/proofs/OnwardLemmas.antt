@@ -20,9 +20,9 @@ use Rattle.wire_base.specs.model.OnFrame.{dropped, forwarded, link_to, next_link
 use Rattle.wire_base.specs.model.Tight.{IsTight, next_step}
 use Rattle.wire_base.specs.model.Tunnel.{TunnelPacket, tunnel_on}
 use Rattle.wire_base.specs.model.Walk.{dist}
-use Rattle.route_laws.proofs.DescentLemmas.{IsTight-nearer, dist-end, edge-within}
-use Rattle.route_laws.proofs.RouteLemmas.{next_step-some, next_step-tight, tunnel_links-some}
-use Rattle.route_laws.proofs.WalkLemmas.{Contains-cases}
+use Rattle.laws_route.proofs.DescentLemmas.{IsTight-nearer, dist-end, edge-within}
+use Rattle.laws_route.proofs.RouteLemmas.{next_step-some, next_step-tight, tunnel_links-some}
+use Rattle.laws_route.proofs.WalkLemmas.{Contains-cases}
 use Rattle.gre_ip.specs.declared.tunnel.Tunnel.{Tunnel}
 use Rattle.bier_tunnel.specs.declared.next.Next.{Next}
 use Rattle.bier_tunnel.specs.declared.next.Next.TheVariants.{Leave, Outer, Route}

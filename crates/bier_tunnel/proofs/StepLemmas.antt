@@ -10,10 +10,10 @@ use Rattle.wire_base.specs.model.Choice.{is_length}
 use Rattle.wire_base.specs.model.Graph.{edges_of, is_overloaded, IsGraph}
 use Rattle.wire_base.specs.model.Tight.{IsTight, head, is_tight, makes_up, next_step, tight_from, tight_list}
 use Rattle.wire_base.specs.model.Walk.{dist, may_enter}
-use Rattle.route_laws.specs.OnWay.{IsOnWay}
-use Rattle.route_laws.proofs.WalkLemmas.{enter-cases, may-enter-end, may-enter-free}
-use Rattle.route_laws.proofs.DescentLemmas.{dist-end, edge-within}
-use Rattle.route_laws.proofs.TightLemmas.{Contains-pick, Contains-picked, both, both-true, made-up, makes-up, tight_list-more}
+use Rattle.laws_route.specs.OnWay.{IsOnWay}
+use Rattle.laws_route.proofs.WalkLemmas.{enter-cases, may-enter-end, may-enter-free}
+use Rattle.laws_route.proofs.DescentLemmas.{dist-end, edge-within}
+use Rattle.laws_route.proofs.TightLemmas.{Contains-pick, Contains-picked, both, both-true, made-up, makes-up, tight_list-more}
 use Rattle.path_tree.specs.Forward.{ForwardWay, nowhere}
 use Rattle.path_tree.proofs.ForwardLemmas.{forward-from-tight, forward-within, on-way, way-on, way-same}
 use Rattle.bier_tunnel.specs.Steps.{IsLedOn, LeadsOn, filled, has_step}

@@ -14,9 +14,9 @@ use Rattle.wire_base.specs.model.OnFrame.{next_link, node_place, node_with, pref
 use Rattle.wire_base.specs.model.Tight.{next_step}
 use Rattle.wire_base.specs.model.View as view
 use Rattle.wire_base.specs.model.Walk.{dist}
-use Rattle.route_laws.proofs.LastLemmas.{leads-within}
-use Rattle.route_laws.proofs.RouteLemmas.{next_step-tight}
-use Rattle.route_laws.proofs.WalkLemmas.{best-route}
+use Rattle.laws_route.proofs.LastLemmas.{leads-within}
+use Rattle.laws_route.proofs.RouteLemmas.{next_step-tight}
+use Rattle.laws_route.proofs.WalkLemmas.{best-route}
 use Rattle.bier_tunnel.specs.declared.ways.Way.{Way}
 use Rattle.bier_tunnel.specs.Ways.{AreWays, end_of, has_prefix, link_to, link_with, own_prefix, prefix_in, prefix_to, way_to, ways, ways_from}
 

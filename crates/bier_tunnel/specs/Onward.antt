@@ -11,7 +11,7 @@ use Rattle.wire_base.specs.model.OnFrame.{Effects, dropped, link_to, nothing, or
 use Rattle.wire_base.specs.model.Tight.{IsTight}
 use Rattle.wire_base.specs.model.Tunnel.{tunnel_on}
 use Rattle.wire_base.specs.model.Walk.{dist}
-use Rattle.route_laws.specs.Nearer.{Nearer}
+use Rattle.laws_route.specs.Nearer.{Nearer}
 use Rattle.bier_tunnel.specs.declared.next.Next.{Next}
 use Rattle.bier_tunnel.specs.declared.next.Next.TheVariants.{Leave, On, Outer, Route}
 

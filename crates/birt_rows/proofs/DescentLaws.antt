@@ -11,11 +11,11 @@ use Rattle.wire_base.specs.declared.view.ViewNode.{ViewNode}
 use Rattle.wire_base.specs.model.Choice.{candidates, end_toward, first_at, is_direct, row, toward}
 use Rattle.wire_base.specs.model.Graph.{IsGraph, covers_at, has_id_at, owner}
 use Rattle.wire_base.specs.model.Place.{id_at}
-use Rattle.route_laws.proofs.ChoiceLemmas.{candidate-nearer, candidate-within, candidates-are, candidates-some, choice-follows}
-use Rattle.route_laws.proofs.HopCountLemmas.{hops-at}
-use Rattle.route_laws.proofs.OwnerLemmas.{owner-is}
-use Rattle.route_laws.proofs.TightLemmas.{Contains-cons}
-use Rattle.route_laws.proofs.WalkLemmas.{Contains-cases}
+use Rattle.laws_route.proofs.ChoiceLemmas.{candidate-nearer, candidate-within, candidates-are, candidates-some, choice-follows}
+use Rattle.laws_route.proofs.HopCountLemmas.{hops-at}
+use Rattle.laws_route.proofs.OwnerLemmas.{owner-is}
+use Rattle.laws_route.proofs.TightLemmas.{Contains-cons}
+use Rattle.laws_route.proofs.WalkLemmas.{Contains-cases}
 use Rattle.birt_rows.specs.Descent.{ComesNearer}
 
 all-mapped : {X Y : Type 0} (P : Y → Type 0) (h : X → Option Y) (xs : List X) → ((x : X) (y : Y) → Contains xs x → h x ≡ Some y → P y) → AllByRecursion P (filter_map h xs)

@@ -5,8 +5,8 @@ use Rattle.wire_base.specs.declared.view.ViewNode.{ViewNode}
 use Rattle.wire_base.specs.model.Graph.{is_overloaded, IsGraph}
 use Rattle.wire_base.specs.model.Walk.{dist}
 use Rattle.wire_base.specs.model.Supporting.{IsFirst}
-use Rattle.route_laws.specs.OnWay.{IsOnWay}
-use Rattle.route_laws.proofs.DescentLemmas.{dist-end, TightWay-nearer, TightWay-within}
+use Rattle.laws_route.specs.OnWay.{IsOnWay}
+use Rattle.laws_route.proofs.DescentLemmas.{dist-end, TightWay-nearer, TightWay-within}
 use Rattle.path_tree.specs.Forward.{ForwardWay, nowhere}
 use Rattle.path_tree.proofs.ForwardLemmas.{forward-way, way-on, on-way, tight-way, ends-apart, way-last}
 

@@ -15,7 +15,7 @@ use Rattle.wire_base.specs.declared.view.ViewSub.{ViewSub}
 use Rattle.wire_base.specs.model.Graph.{IsNode, has_id, has_id_at, only, owner, place_in}
 use Rattle.wire_base.specs.model.Hop.{is_this}
 use Rattle.wire_base.specs.model.Place.{bits_of, bit_position, id_at, position_in, set_identifier}
-use Rattle.route_laws.proofs.TightLemmas.{Contains-cons}
+use Rattle.laws_route.proofs.TightLemmas.{Contains-cons}
 use Rattle.birt_rows.specs.declared.owner.Found.{Found}
 use Rattle.birt_rows.specs.declared.owner.Found.TheVariants.{Nobody}
 use Rattle.birt_rows.specs.Owner.{counted, found_in, node_position, one_more, only_one, owner_among}

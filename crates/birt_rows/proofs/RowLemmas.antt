@@ -12,8 +12,8 @@ use Rattle.wire_base.specs.declared.view.ViewNode.{ViewNode}
 use Rattle.wire_base.specs.model.Graph.{covers, covers_at, IsGraph}
 use Rattle.wire_base.specs.model.Supporting.{IsFirst, meets, firsts}
 use Rattle.wire_base.specs.model.Choice.{candidates, first_at, toward}
-use Rattle.route_laws.proofs.TightLemmas.{both, both-true, Contains-cons}
-use Rattle.route_laws.proofs.ChoiceLemmas.{filter-from, range-within, meets-first, way-meets, TightWay-short}
+use Rattle.laws_route.proofs.TightLemmas.{both, both-true, Contains-cons}
+use Rattle.laws_route.proofs.ChoiceLemmas.{filter-from, range-within, meets-first, way-meets, TightWay-short}
 use Rattle.birt_rows.specs.declared.entries.Entry.{Entry}
 use Rattle.path_tree.specs.Forward.{ForwardWay, nowhere}
 use Rattle.birt_rows.specs.Entries.{IsEntry, AreEntries}

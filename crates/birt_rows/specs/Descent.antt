@@ -10,7 +10,7 @@ use Rattle.wire_base.specs.model.Choice.{first_at, row}
 use Rattle.wire_base.specs.model.Graph as graph
 use Rattle.wire_base.specs.model.HopCount as hop_count
 use Rattle.wire_base.specs.model.Place.{id_at}
-use Rattle.route_laws.specs.Nearer.{Nearer}
+use Rattle.laws_route.specs.Nearer.{Nearer}
 
 -- The row of the bit position p at the node u has the router f. It is the node x, which is nearer to the owner of the
 -- position's BFR-id than u is; and at x, whatever its links are, the row is empty only where x is the owner. So whichever

@@ -3,9 +3,9 @@ use Rattle.std.proofs.Common.{◌≡◌, ℕ, ◌+◌, List, [], ◌∷◌, map,
 use Rattle.std.proofs.lemmas.List.Sums.{sum_by-cons}
 use Rattle.wire_base.specs.declared.conf.RouterConf.{RouterConf}
 use Rattle.wire_base.specs.model.Item.{Item}
-use Rattle.domain_frames.specs.declared.flight.Flight.{Flight}
+use Rattle.frames_in_flight.specs.declared.flight.Flight.{Flight}
 use Rattle.domain_model.specs.World.{carried, ids_in_flight}
-use Rattle.domain_frames.specs.Flights.{item_seen, items_seen, ids_carried_by}
+use Rattle.frames_in_flight.specs.Flights.{item_seen, items_seen, ids_carried_by}
 
 mapped_sum : {X Y : Type 0} (f : Y → ℕ) (g : X → Y) (xs : List X) → sum_by f (map g xs) ≡ sum_by (λ x. f (g x)) xs
 mapped_sum f g [] = refl

@@ -9,15 +9,15 @@ use Rattle.wire_base.specs.model.Ingress.{edge_fault, inject}
 use Rattle.wire_base.specs.model.Item.{Item, ControlItem, PacketItem, Outer}
 use Rattle.wire_base.specs.model.OnFrame.{Effects, Next, Packet, framed, on_frame}
 use Rattle.wire_base.specs.model.Pdu.{Pdu}
-use Rattle.router_laws.specs.State.{RouterState, counted}
+use Rattle.laws_router.specs.State.{RouterState, counted}
 use Rattle.replay_text.specs.declared.event.Event.TheVariants.{Take}
-use Rattle.domain_frames.specs.declared.flight.Flight.{Flight}
-use Rattle.domain_frames.specs.declared.flight.Note.{Note}
+use Rattle.frames_in_flight.specs.declared.flight.Flight.{Flight}
+use Rattle.frames_in_flight.specs.declared.flight.Note.{Note}
 use Rattle.domain_model.specs.declared.step_out.StepOut.{StepOut}
-use Rattle.domain_frames.specs.Told.{IsSilent, told, told_of}
-use Rattle.domain_frames.specs.Flights.{item_seen, items_seen, ids_seen, number_of, frames_at, without_frame, push_all_sent}
-use Rattle.domain_frames.specs.Framed.{frame_over, IsFramed, IsFlooded}
-use Rattle.domain_frames.specs.Read.{pdu_in, copy_read, copy_in, outer_in, packet_in, item_in, item_ids}
+use Rattle.frames_in_flight.specs.Told.{IsSilent, told, told_of}
+use Rattle.frames_in_flight.specs.Flights.{item_seen, items_seen, ids_seen, number_of, frames_at, without_frame, push_all_sent}
+use Rattle.frames_in_flight.specs.Framed.{frame_over, IsFramed, IsFlooded}
+use Rattle.frames_in_flight.specs.Read.{pdu_in, copy_read, copy_in, outer_in, packet_in, item_in, item_ids}
 use Rattle.domain_model.specs.Moves.{Made, replied, packet_taken, inject_made}
 use Rattle.domain_core.specs.Network.{NetworkState, world_of, heard_after, IsFrameOver, AreFramesOver, IsTrueNetwork}
 use Rattle.domain_model.specs.Step.{Happened, makes, same_world, push_all, with_router, sends, injects, taken_off, arrives, takes_over}

@@ -9,14 +9,14 @@ use Rattle.domain_model.specs.Faults.{event_fault}
 use Rattle.domain_model.specs.Step.{happens}
 use Rattle.domain_model.specs.Truth.{IsTruthful, EventFits}
 use Rattle.domain_model.specs.World.{WorldState}
-use Rattle.ledger_laws.specs.Ledger.{Injection, triple_for}
-use Rattle.course_laws.specs.Course.{Begins, GoesOn, own_node, next_for}
-use Rattle.course_laws.proofs.KnownLaws.{few_nodes}
-use Rattle.course_laws.proofs.LawLaws.{begun, gone_on}
-use Rattle.course_laws.proofs.OnceLaws.{all_fit, small_fit}
-use Rattle.course_laws.proofs.WayLaws.{copy_sent}
+use Rattle.laws_ledger.specs.Ledger.{Injection, triple_for}
+use Rattle.laws_course.specs.Course.{Begins, GoesOn, own_node, next_for}
+use Rattle.laws_course.proofs.KnownLaws.{few_nodes}
+use Rattle.laws_course.proofs.LawLaws.{begun, gone_on}
+use Rattle.laws_course.proofs.OnceLaws.{all_fit, small_fit}
+use Rattle.laws_course.proofs.WayLaws.{copy_sent}
 use Rattle.domain_core.specs.Answers.{outcome, Refuses}
-use Rattle.domain_frames.specs.Told.{told}
+use Rattle.frames_in_flight.specs.Told.{told}
 use Rattle.domain_core.specs.Course.{Enters, StaysOut, KeepsCourse}
 
 module _ (w : WorldState) (t : IsTruthful w) (e : Event) where

@@ -4,7 +4,7 @@ use Rattle.std.proofs.lemmas.List.{length-map}
 use Rattle.wire_base.specs.declared.conf.RouterConf.{RouterConf}
 use Rattle.wire_base.specs.model.Configuration.{DomainConf}
 use Rattle.wire_base.specs.model.Control.{Control}
-use Rattle.router_laws.specs.State.{RouterState}
+use Rattle.laws_router.specs.State.{RouterState}
 use Rattle.replay_text.specs.declared.event.Event.{Event}
 use Rattle.replay_text.specs.declared.event.Event.TheVariants.{Inject, Take, Lose, Again, Down, Up, Send, Tick, Restart}
 use Rattle.domain_model.specs.declared.fault.EventFault.{EventFault}
@@ -12,7 +12,7 @@ use Rattle.domain_model.specs.declared.fault.EventFault.TheVariants as faults
 use Rattle.domain_core.specs.declared.network.Network.{Network}
 use Rattle.domain_model.specs.declared.step_out.StepOut.{StepOut}
 use Rattle.domain_core.specs.Answers.{early_fault, early_rule, Refuses}
-use Rattle.domain_frames.specs.Told.{told}
+use Rattle.frames_in_flight.specs.Told.{told}
 use Rattle.domain_model.specs.Faults.{most_events, most_in_flight, first_fault, entry_fault, rule_fault, event_fault}
 use Rattle.domain_core.specs.Held.{state_of, world_in, IsDone}
 use Rattle.domain_core.specs.Network.{NetworkState, world_of, seen_of, AreFramesOver, IsAsBefore, IsTrueNetwork}

@@ -8,7 +8,7 @@ use Rattle.wire_base.specs.model.Item.{Item, frame_of}
 use Rattle.wire_base.specs.model.OnFrame.{Effects}
 use Rattle.domain_model.specs.declared.step_out.WireFrame.{WireFrame}
 use Rattle.domain_model.specs.Moves.{Sending, Made}
-use Rattle.domain_frames.specs.Framed.{frame_on, frame_from, frame_over, sent_of, wire_of, wire_from, sending_of, got_line, drop_line, ends_of, IsItemFrame, IsFramed}
+use Rattle.frames_in_flight.specs.Framed.{frame_on, frame_from, frame_over, sent_of, wire_of, wire_from, sending_of, got_line, drop_line, ends_of, IsItemFrame, IsFramed}
 use Rattle.domain_model.proofs.EachLaws.{each_weaker, each_mapped}
 use Rattle.domain_model.proofs.QueueLaws.{got_within}
 

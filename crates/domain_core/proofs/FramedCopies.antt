@@ -23,15 +23,15 @@ use Rattle.wire_base.specs.model.Place.{means}
 use Rattle.wire_base.specs.model.Tunnel.{TunnelPacket, plain_ip, ip_header, ip_checksum, gre, protocol_of, tunnel_head, tunnel}
 use Rattle.wire_base.specs.model.View.{control_view}
 use Rattle.wire_base.proofs.HeaderLaws.{length-header_octets}
-use Rattle.item_laws.specs.Fits as item_fits
-use Rattle.item_laws.specs.Fits.{ItemFits, copy_taken}
-use Rattle.item_laws.proofs.PacketFrames.{packet_taken, copy_arrives}
+use Rattle.laws_item.specs.Fits as item_fits
+use Rattle.laws_item.specs.Fits.{ItemFits, copy_taken}
+use Rattle.laws_item.proofs.PacketFrames.{packet_taken, copy_arrives}
 use Rattle.domain_model.specs.World.{is_up, peer_place, link_between}
 use Rattle.domain_model.specs.Moves as moves
 use Rattle.domain_model.specs.Moves.{Sending, Made, over_end, hop_made, passes_through, entering_item, inject_made}
 use Rattle.domain_model.specs.Truth.{IsAmong, IsPrefixOf, OuterFits, MeansAt, router_at, IsTrueItem, IsTrueCopy, IsTrueControl, InjectFits}
-use Rattle.domain_frames.specs.Framed.{frame_over, sent_of, item_sent, IsFramed, IsHopped}
-use Rattle.domain_frames.specs.Read.{item_in}
+use Rattle.frames_in_flight.specs.Framed.{frame_over, sent_of, item_sent, IsFramed, IsHopped}
+use Rattle.frames_in_flight.specs.Read.{item_in}
 use Rattle.domain_model.proofs.EachLaws.{each_weaker, each_both, each_got}
 use Rattle.domain_model.proofs.DomainLaws.{bytes_is, sound_of}
 use Rattle.domain_model.proofs.LinkLaws.{prefix_place, join_of, end_found}

@@ -19,12 +19,12 @@ use Rattle.wire_base.specs.model.Place.{bits_of, own_id}
 use Rattle.wire_base.specs.model.Tunnel.{tunnel, tunnel_on}
 use Rattle.wire_base.specs.model.View.{control_view}
 use Rattle.wire_base.proofs.SetLaws.{within-filter}
-use Rattle.item_laws.specs.Fits.{OuterFits}
-use Rattle.item_laws.proofs.PacketFrames.{ids_back, onward}
+use Rattle.laws_item.specs.Fits.{OuterFits}
+use Rattle.laws_item.proofs.PacketFrames.{ids_back, onward}
 use Rattle.domain_model.specs.Moves as moves
 use Rattle.domain_model.specs.Moves.{Sending, Made, none_made, joined_made, over_end, packet_lost, packet_of, copy_over, copied_directly, copied_in_tunnel, copied_to, or_lost, item_copied, outcome_made, outcomes_at, hop_made_at, sent_onward, passes_through}
 use Rattle.domain_model.specs.Truth.{AreOfSet}
-use Rattle.domain_frames.specs.Framed.{sent_of, got_line, drop_line}
+use Rattle.frames_in_flight.specs.Framed.{sent_of, got_line, drop_line}
 use Rattle.domain_model.proofs.EachLaws.{each_from, each_weaker, each_joined, each_mapped, each_flat}
 use Rattle.domain_model.proofs.HopTruth.{GoesDown}
 use Rattle.domain_core.proofs.FramedBack.{over_at}

@@ -23,17 +23,17 @@ use Rattle.wire_base.specs.model.OnFrame.{Effects, Next, Drop, pdu_frame, frames
 use Rattle.wire_base.specs.model.OwnLsp.{own_flags}
 use Rattle.wire_base.specs.model.Pdu.{Head, Pdu, LspPdu, CsnpPdu, PsnpPdu, HelloPdu, OtherPdu, lsp_sum, tlvs_pass, pdu}
 use Rattle.wire_base.specs.model.Tlv.{SummaryFits}
-use Rattle.format_laws.proofs.TlvListLaws.{row_tlvs_pass, passes_are}
-use Rattle.item_laws.specs.Fits.{IsSendable, EntryFits}
-use Rattle.item_laws.proofs.ControlFrames.{sendable_short, control_taken}
-use Rattle.item_laws.proofs.OwnLaws.{own_fits, dead_fits}
-use Rattle.item_laws.proofs.RowLaws.{rows_short}
+use Rattle.laws_format.proofs.TlvListLaws.{row_tlvs_pass, passes_are}
+use Rattle.laws_item.specs.Fits.{IsSendable, EntryFits}
+use Rattle.laws_item.proofs.ControlFrames.{sendable_short, control_taken}
+use Rattle.laws_item.proofs.OwnLaws.{own_fits, dead_fits}
+use Rattle.laws_item.proofs.RowLaws.{rows_short}
 use Rattle.domain_model.specs.declared.lines.DropLine.{DropLine}
 use Rattle.domain_model.specs.World.{is_up, link_between}
 use Rattle.domain_model.specs.Moves.{over_end, control_lost, replied}
 use Rattle.domain_model.specs.Truth.{IsAmong, IsOwnLsp, IsDeadLsp, IsTrueLsp, IsTrueRow, IsSource, IsTruePdu, IsTrueControl}
-use Rattle.domain_frames.specs.Framed.{frame_over, sent_of, item_sent, drop_line, IsFramed, IsFlooded}
-use Rattle.domain_frames.specs.Read.{item_in}
+use Rattle.frames_in_flight.specs.Framed.{frame_over, sent_of, item_sent, drop_line, IsFramed, IsFlooded}
+use Rattle.frames_in_flight.specs.Read.{item_in}
 use Rattle.domain_model.proofs.EachLaws.{each_weaker, each_mapped, each_got}
 use Rattle.domain_model.proofs.DomainLaws.{sound_of, alike}
 use Rattle.domain_model.proofs.LinkLaws.{join_of, end_found}

@@ -8,7 +8,7 @@ use Rattle.wire_base.specs.model.Control.{Control}
 use Rattle.wire_base.specs.model.Item.{Item, ControlItem, PacketItem}
 use Rattle.domain_model.specs.World.{WorldState, peer_place, link_between, queue_at}
 use Rattle.domain_model.specs.Truth.{IsTrueItem, IsTrueControl, IsTruthful}
-use Rattle.domain_frames.specs.Framed.{frame_on, frame_from, frame_over}
+use Rattle.frames_in_flight.specs.Framed.{frame_on, frame_from, frame_over}
 use Rattle.domain_model.proofs.EachLaws.{each_got}
 use Rattle.domain_model.proofs.QueueLaws.{get_mapped}
 use Rattle.domain_model.proofs.LinkLaws.{peer_is}

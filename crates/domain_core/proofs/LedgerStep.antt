@@ -7,12 +7,12 @@ use Rattle.domain_model.specs.Faults.{event_fault}
 use Rattle.domain_model.specs.Step.{happens}
 use Rattle.domain_model.specs.Truth.{IsTruthful, EventFits}
 use Rattle.domain_model.specs.World.{WorldState}
-use Rattle.ledger_laws.proofs.DeliveryLaws.{later_of, first_of_it}
-use Rattle.ledger_laws.proofs.FallLaws.{event_weight, first_is, take_weight}
-use Rattle.ledger_laws.proofs.LedgerLaws.{event_balances}
-use Rattle.ledger_laws.proofs.TotalLaws.{event_total}
+use Rattle.laws_ledger.proofs.DeliveryLaws.{later_of, first_of_it}
+use Rattle.laws_ledger.proofs.FallLaws.{event_weight, first_is, take_weight}
+use Rattle.laws_ledger.proofs.LedgerLaws.{event_balances}
+use Rattle.laws_ledger.proofs.TotalLaws.{event_total}
 use Rattle.domain_core.specs.Answers.{outcome, Refuses}
-use Rattle.domain_frames.specs.Told.{told}
+use Rattle.frames_in_flight.specs.Told.{told}
 use Rattle.domain_core.specs.Ledger.{KeepsLedger}
 
 event_keeps : (w : WorldState) → IsTruthful w → (e : Event) → EventFits (length w.domain.routers) e → event_fault w e ≡ None → KeepsLedger w (happens w e).world e (told w.domain.routers (happens w e).made)

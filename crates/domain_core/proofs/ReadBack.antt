@@ -17,14 +17,14 @@ use Rattle.wire_base.specs.model.Item.{ControlItem, PacketItem, DataItem, Outer,
 use Rattle.wire_base.specs.model.OnFrame.{Packet}
 use Rattle.wire_base.specs.model.Pdu.{Pdu, pdu, pdu_at}
 use Rattle.wire_base.specs.model.Place.{means}
-use Rattle.item_laws.specs.Fits.{IsSendable, ItemFits, OuterFits}
-use Rattle.item_laws.proofs.ControlFrames.{isis_carries, sendable_reads, sendable_short}
-use Rattle.item_laws.proofs.PacketFrames.{ids_again, item_header_reads, payload_after, head_reads, carried_by, copy_carries, tunnel_back}
+use Rattle.laws_item.specs.Fits.{IsSendable, ItemFits, OuterFits}
+use Rattle.laws_item.proofs.ControlFrames.{isis_carries, sendable_reads, sendable_short}
+use Rattle.laws_item.proofs.PacketFrames.{ids_again, item_header_reads, payload_after, head_reads, carried_by, copy_carries, tunnel_back}
 use Rattle.bier_forward.specs.Packets.{packet_at}
 use Rattle.domain_model.specs.Moves.{packet_of}
 use Rattle.domain_model.specs.Truth.{IsAmong, MeansAt, router_at}
 use Rattle.domain_model.proofs.DomainLaws.{alike}
-use Rattle.domain_frames.specs.Read.{pdu_or_hello, pdu_carried, level_at, level_of, packet_or_none, packet_read, tunnel_carried, packet_carried, packet_in, outer_or_none, outer_carried, outer_in, copy_read, copy_in, item_in}
+use Rattle.frames_in_flight.specs.Read.{pdu_or_hello, pdu_carried, level_at, level_of, packet_or_none, packet_read, tunnel_carried, packet_carried, packet_in, outer_or_none, outer_carried, outer_in, copy_read, copy_in, item_in}
 
 -- ---- PDUs
 

@@ -8,9 +8,9 @@ use Rattle.std.proofs.lemmas.Option.{slice_get-map}
 use Rattle.wire_base.specs.declared.conf.End.{End}
 use Rattle.wire_base.specs.declared.conf.RouterConf.{RouterConf}
 use Rattle.wire_base.specs.model.Item.{Item}
-use Rattle.domain_frames.specs.declared.flight.Flight.{Flight}
+use Rattle.frames_in_flight.specs.declared.flight.Flight.{Flight}
 use Rattle.domain_model.specs.World.{queue_at, with_queue, push_item, without_item, in_flight, no_flights}
-use Rattle.domain_frames.specs.Flights.{item_seen, items_seen, frames_at, with_frames, push_frame, without_frame, frame_count, no_frames}
+use Rattle.frames_in_flight.specs.Flights.{item_seen, items_seen, frames_at, with_frames, push_frame, without_frame, frame_count, no_frames}
 use Rattle.domain_model.proofs.EachLaws.{each_joined, each_left}
 use Rattle.domain_model.proofs.QueueLaws.{set_read}
 

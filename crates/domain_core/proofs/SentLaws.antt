@@ -5,13 +5,13 @@ use Rattle.wire_base.specs.declared.conf.RouterConf.{RouterConf}
 use Rattle.wire_base.specs.declared.effects.Sent.{Sent}
 use Rattle.wire_base.specs.model.Item.{Item}
 use Rattle.wire_base.specs.model.OnFrame.{Effects}
-use Rattle.domain_frames.specs.declared.flight.Flight.{Flight}
+use Rattle.frames_in_flight.specs.declared.flight.Flight.{Flight}
 use Rattle.domain_model.specs.declared.lines.DropLine.{DropLine}
 use Rattle.domain_model.specs.declared.lines.GotLine.{GotLine}
 use Rattle.domain_model.specs.declared.step_out.WireFrame.{WireFrame}
-use Rattle.domain_frames.specs.Told.{told, told_of}
-use Rattle.domain_frames.specs.Flights.{items_seen, flight_of, push_sent, push_all_sent}
-use Rattle.domain_frames.specs.Framed.{sending_of, wire_of, got_line, drop_line, IsItemFrame, IsFramed}
+use Rattle.frames_in_flight.specs.Told.{told, told_of}
+use Rattle.frames_in_flight.specs.Flights.{items_seen, flight_of, push_sent, push_all_sent}
+use Rattle.frames_in_flight.specs.Framed.{sending_of, wire_of, got_line, drop_line, IsItemFrame, IsFramed}
 use Rattle.domain_model.specs.Moves.{Sending, Made}
 use Rattle.domain_core.specs.Network.{IsFrameOver, AreFramesOver}
 use Rattle.domain_model.specs.Step.{push_all}

@@ -6,13 +6,13 @@ use Rattle.replay_text.specs.declared.event.Event.{Event}
 use Rattle.domain_model.specs.declared.fault.EventFault.{EventFault}
 use Rattle.domain_model.specs.declared.step_out.StepOut.{StepOut}
 use Rattle.domain_core.specs.Answers.{outcome, Refuses}
-use Rattle.domain_frames.specs.Told.{IsShortFrame, told}
+use Rattle.frames_in_flight.specs.Told.{IsShortFrame, told}
 use Rattle.domain_model.specs.World.{WorldState, peer_place}
 use Rattle.domain_model.specs.Moves.{Sending}
 use Rattle.domain_model.specs.Faults.{event_fault}
 use Rattle.domain_model.specs.Step.{happens}
 use Rattle.domain_model.specs.Truth.{IsTruthful, EventFits, AreWorldDrops}
-use Rattle.domain_frames.specs.Framed.{wire_of}
+use Rattle.frames_in_flight.specs.Framed.{wire_of}
 use Rattle.domain_model.proofs.CopyTruth.{IsTrueSending}
 use Rattle.domain_core.proofs.FramedWorld.{frame_short}
 use Rattle.domain_model.proofs.WorldTruth.{happens_true}

@@ -5,9 +5,9 @@ use Rattle.wire_base.specs.model.Configuration.{DomainConf, IsValid}
 use Rattle.wire_base.specs.model.Control.{Control}
 use Rattle.wire_base.specs.model.Flooding.{first_control}
 use Rattle.wire_base.specs.model.Item.{Item}
-use Rattle.router_laws.specs.State.{RouterState}
-use Rattle.domain_frames.specs.declared.flight.Flight.{Flight}
-use Rattle.domain_frames.specs.Flights.{items_seen, no_frames}
+use Rattle.laws_router.specs.State.{RouterState}
+use Rattle.frames_in_flight.specs.declared.flight.Flight.{Flight}
+use Rattle.frames_in_flight.specs.Flights.{items_seen, no_frames}
 use Rattle.domain_core.specs.Network.{NetworkState, world_of, started_router, IsFrameOver, IsTrueNetwork}
 use Rattle.domain_model.specs.Truth.{IsTruthful}
 use Rattle.domain_model.specs.World.{first_world, no_flights}

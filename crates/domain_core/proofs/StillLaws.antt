@@ -11,8 +11,8 @@ use Rattle.wire_base.specs.model.OnFrame.{Effects}
 use Rattle.wire_base.specs.model.Pdu.{Head, head_summary, Pdu, LspPdu, CsnpPdu, PsnpPdu, HelloPdu, OtherPdu}
 use Rattle.wire_base.specs.declared.conf.RouterConf.{RouterConf}
 use Rattle.domain_model.specs.Moves.{replied}
-use Rattle.domain_frames.specs.Told.{IsSilent}
-use Rattle.domain_frames.specs.Framed.{IsFramed}
+use Rattle.frames_in_flight.specs.Told.{IsSilent}
+use Rattle.frames_in_flight.specs.Framed.{IsFramed}
 
 -- nothing is sent, or the control state stays
 abbrev pub IsStill : Control → Reply → Type 0

@@ -7,10 +7,10 @@ use Rattle.wire_base.specs.model.Control.{Control}
 use Rattle.wire_base.specs.model.Item.{Item, ControlItem, PacketItem, DataItem}
 use Rattle.wire_base.specs.model.Pdu.{Pdu}
 use Rattle.replay_text.specs.declared.event.Event.TheVariants.{Take}
-use Rattle.domain_frames.specs.declared.flight.Flight.{Flight}
-use Rattle.domain_frames.specs.declared.flight.Note.{Note}
+use Rattle.frames_in_flight.specs.declared.flight.Flight.{Flight}
+use Rattle.frames_in_flight.specs.declared.flight.Note.{Note}
 use Rattle.domain_model.specs.Faults.{is_up_toward}
-use Rattle.domain_frames.specs.Flights.{item_seen, items_seen, push_frame, without_frame}
+use Rattle.frames_in_flight.specs.Flights.{item_seen, items_seen, push_frame, without_frame}
 use Rattle.domain_model.specs.Moves.{item_lost}
 use Rattle.domain_core.specs.Network.{NetworkState, world_of, AreFramesOver, heard_at, heard_of, heard_after}
 use Rattle.domain_model.specs.Step.{same_world, makes, taken_off, arrives, comes, takes, takes_over, loses, loses_over, repeats, repeats_over}

@@ -5,9 +5,9 @@ use Rattle.std.proofs.lemmas.Option.{slice_get_read, get_or_from_slice_get}
 use Rattle.wire_base.specs.declared.conf.RouterConf.{RouterConf}
 use Rattle.wire_base.specs.model.Control.{Control}
 use Rattle.wire_base.specs.model.Flooding.{Reply}
-use Rattle.router_laws.specs.State.{RouterState, counted}
+use Rattle.laws_router.specs.State.{RouterState, counted}
 use Rattle.domain_model.specs.declared.step_out.StepOut.{StepOut}
-use Rattle.domain_frames.specs.Told.{told}
+use Rattle.frames_in_flight.specs.Told.{told}
 use Rattle.domain_model.specs.Moves.{Made, none_made}
 use Rattle.domain_core.specs.Network.{NetworkState, world_of, heard_at}
 use Rattle.domain_model.specs.Step.{Happened, with_router, turns, changes, changes_end}

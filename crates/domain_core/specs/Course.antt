@@ -9,8 +9,8 @@ use Rattle.wire_base.specs.model.View.{control_view}
 use Rattle.replay_text.specs.declared.event.Event.{Event}
 use Rattle.domain_model.specs.Moves.{packet_of, item_copied}
 use Rattle.domain_model.specs.World.{WorldState}
-use Rattle.ledger_laws.specs.Ledger.{Injection, entered, triple_for, drops_of}
-use Rattle.course_laws.specs.Course.{Agreed, IsReachable, KeptFor, loses_copy, own_node}
+use Rattle.laws_ledger.specs.Ledger.{Injection, entered, triple_for, drops_of}
+use Rattle.laws_course.specs.Course.{Agreed, IsReachable, KeptFor, loses_copy, own_node}
 use Rattle.domain_model.specs.declared.step_out.StepOut.{StepOut}
 
 -- The event is the injection n, at the router c, where k is reachable over a path that the TTL covers.

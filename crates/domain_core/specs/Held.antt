@@ -4,7 +4,7 @@ use Rattle.wire_base.specs.declared.bsl.Bsl.{Bsl}
 use Rattle.domain_model.specs.declared.fault.EventFault.{EventFault}
 use Rattle.domain_core.specs.declared.network.Network.{Network}
 use Rattle.domain_model.specs.declared.step_out.StepOut.{StepOut}
-use Rattle.domain_frames.specs.Told.{told}
+use Rattle.frames_in_flight.specs.Told.{told}
 use Rattle.domain_model.specs.Faults.{entry_fault}
 use Rattle.domain_core.specs.Network.{NetworkState, seen_of, world_of, AreFramesOver}
 use Rattle.domain_model.specs.Step.{Happened}

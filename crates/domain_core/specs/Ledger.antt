@@ -3,9 +3,9 @@ use Rattle.std.specs.Prelude.{◌≡◌, ℕ, ◌+◌, ◌<◌, ◌≤◌, true,
 use Rattle.wire_base.specs.model.Hop.{one_if}
 use Rattle.replay_text.specs.declared.event.Event.{Event}
 use Rattle.domain_model.specs.World.{WorldState, ids_in_flight}
-use Rattle.ledger_laws.specs.Ledger.{Injection, injection_of, names, entered, copies_of, deliveries_of, drops_of, AreCopiesOf, AreDeliveriesOf}
-use Rattle.ledger_laws.specs.Runs.{named_in}
-use Rattle.ledger_laws.specs.Weights.{weights, first_weight, takes_copy}
+use Rattle.laws_ledger.specs.Ledger.{Injection, injection_of, names, entered, copies_of, deliveries_of, drops_of, AreCopiesOf, AreDeliveriesOf}
+use Rattle.laws_ledger.specs.Runs.{named_in}
+use Rattle.laws_ledger.specs.Weights.{weights, first_weight, takes_copy}
 use Rattle.domain_model.specs.declared.step_out.StepOut.{StepOut}
 
 -- Each injection is named by its number n, and k is a BFR-id.

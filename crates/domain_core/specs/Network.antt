@@ -6,15 +6,15 @@ use Rattle.wire_base.specs.declared.conf.RouterConf.{RouterConf}
 use Rattle.wire_base.specs.model.Configuration.{DomainConf}
 use Rattle.wire_base.specs.model.Flooding.{first_control}
 use Rattle.wire_base.specs.model.Item.{Item}
-use Rattle.router_laws.specs.State.{RouterState}
-use Rattle.router_laws.specs.State as router
+use Rattle.laws_router.specs.State.{RouterState}
+use Rattle.laws_router.specs.State as router
 use Rattle.replay_text.specs.declared.event.Event.{Event}
 use Rattle.replay_text.specs.declared.event.Event.TheVariants.{Inject, Take, Lose, Again, Down, Up, Send, Tick, Restart}
-use Rattle.domain_frames.specs.declared.flight.Flight.{Flight}
+use Rattle.frames_in_flight.specs.declared.flight.Flight.{Flight}
 use Rattle.domain_model.specs.World.{WorldState, frames_between}
 use Rattle.domain_model.specs.Faults.{is_up_toward}
-use Rattle.domain_frames.specs.Flights.{item_seen, items_seen, frames_at}
-use Rattle.domain_frames.specs.Framed.{frame_over}
+use Rattle.frames_in_flight.specs.Flights.{item_seen, items_seen, frames_at}
+use Rattle.frames_in_flight.specs.Framed.{frame_over}
 use Rattle.domain_model.specs.Truth.{IsTruthful}
 
 -- ---- as it is held

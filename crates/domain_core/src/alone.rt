@@ -10,8 +10,8 @@ ghost use Rattle.domain_model.specs.Truth.{InjectFits};
 ghost use Rattle.domain_model.specs.World.{link_between};
 
 use crate::network::Network;
-use domain_frames::{carry, confs_of};
 use domain_model::{EventFault, StepOut};
+use frames_in_flight::{carry, confs_of};
 use wire_base::{Bsl, EdgeFault, M};
 
 impl Network {

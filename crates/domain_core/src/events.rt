@@ -1,7 +1,7 @@
 //! One event, whichever it is.
 ghost use Rattle.std.specs.Prelude.{◌≡◌, length, None, IfOk, OnOk, OnErr, IfErr, MatchResult};
 ghost use Rattle.domain_core.specs.Answers.{early_fault, Refuses, Stays};
-ghost use Rattle.domain_frames.specs.Told.{told};
+ghost use Rattle.frames_in_flight.specs.Told.{told};
 ghost use Rattle.domain_model.specs.Faults.{event_fault};
 ghost use Rattle.domain_core.specs.Held.{state_of, world_in, heard_in, IsDone};
 ghost use Rattle.domain_core.specs.Network.{IsAsBefore, IsTrueNetwork, heard_after, seen_of};

@@ -12,7 +12,7 @@ ghost use Rattle.wire_base.specs.model.Pdu.{Pdu};
 ghost use Rattle.domain_model.specs.World.{WorldState, is_up, link_between, queue_at};
 ghost use Rattle.domain_model.specs.Moves.{inject_made};
 ghost use Rattle.domain_model.specs.Truth.{IsTruthful, InjectFits};
-ghost use Rattle.domain_frames.specs.Framed.{frame_over, IsFramed, IsFlooded, IsHopped};
+ghost use Rattle.frames_in_flight.specs.Framed.{frame_over, IsFramed, IsFlooded, IsHopped};
 
 use wire_base::limits::MOST_FRAME;
 

@@ -13,7 +13,7 @@ mod refusal;
 mod transit;
 mod world;
 
-pub use domain_frames::{confs_of, peer_place};
 pub use domain_model::{DropLine, EventFault, GotLine, StepOut, WireFrame, WireFrames};
 pub use frame_laws::{frames_do_what_items_do, sent_frames_are_items};
+pub use frames_in_flight::{confs_of, peer_place};
 pub use world::World;

@@ -6,7 +6,7 @@ ghost use Rattle.domain_core.specs.Held.{state_of, world_in, heard_in};
 ghost use Rattle.domain_core.specs.Network.{started_router, IsTrueNetwork};
 ghost use Rattle.domain_model.specs.World.{link_between, frames_between, queue_at, first_world, ids_in_flight};
 
-use domain_frames::{Flights, confs_of, link_between};
+use frames_in_flight::{Flights, confs_of, link_between};
 use router_core::Router;
 use std::alloc::Global;
 use wire_base::{Domain, M, RouterConf};

@@ -4,7 +4,7 @@ ghost use Rattle.replay_text.specs.declared.event.Event.TheVariants as events;
 ghost use Rattle.domain_core.specs.Answers.{outcome, Refuses, Stays};
 ghost use Rattle.domain_core.specs.Held.{state_of, world_in, heard_in};
 ghost use Rattle.domain_core.specs.Network.{IsAsBefore, IsTrueNetwork, heard_after, seen_of};
-ghost use Rattle.domain_frames.specs.Told.{told};
+ghost use Rattle.frames_in_flight.specs.Told.{told};
 ghost use Rattle.domain_model.specs.Faults.{event_fault};
 ghost use Rattle.domain_model.specs.Step.{happens};
 ghost use Rattle.domain_model.specs.World.{link_between};

@@ -5,14 +5,14 @@ ghost use Rattle.replay_text.specs.declared.event.Event.TheVariants as events;
 ghost use Rattle.domain_core.specs.Answers.{early_fault, early_rule};
 ghost use Rattle.domain_model.specs.declared.fault.EventFault.TheVariants as faults;
 ghost use Rattle.domain_model.specs.Faults.{most_in_flight, first_fault, unless_room, up_over, frame_fault, repeat_fault, rule_fault};
-ghost use Rattle.domain_frames.specs.Flights.{item_seen};
+ghost use Rattle.frames_in_flight.specs.Flights.{item_seen};
 ghost use Rattle.domain_core.specs.Held.{world_in};
 ghost use Rattle.domain_model.specs.Truth.{EventFits};
 ghost use Rattle.domain_model.specs.World.{queue_at, in_flight};
 
 use crate::network::Network;
-use domain_frames::FlightSeen;
 use domain_model::EventFault;
+use frames_in_flight::FlightSeen;
 use replay_text::Event;
 use wire_base::limits::{MOST_EVENTS, MOST_IN_FLIGHT};
 
@@ -182,7 +182,7 @@ impl Network {
 }
 
 /// What carries a packet doesn't come again.
-#[tactic(auto, unfolding(domain_frames::specs::Read::item_in))]
+#[tactic(auto, unfolding(frames_in_flight::specs::Read::item_in))]
 fn packet_fault(flight: &FlightSeen<'_>) -> Option<EventFault>
     ensures { (confs : List RouterConf) (i n : ℕ) → result ≡ repeat_fault (Some (item_seen confs flight.now)) i n }
 {

@@ -9,8 +9,8 @@ ghost use Rattle.domain_model.specs.World.{link_between};
 
 use crate::network::Network;
 use crate::over::or_nothing;
-use domain_frames::{carry_taken, confs_of, drop_flight, is_silent};
 use domain_model::StepOut;
+use frames_in_flight::{carry_taken, confs_of, drop_flight, is_silent};
 use wire_base::{Cause, M, Octets};
 
 impl Network {

@@ -3,7 +3,7 @@ ghost use Rattle.std.specs.Prelude.{◌≡◌, ◌<◌, length, map, slice_get, 
 ghost use Rattle.std.specs.List.{AllByRecursion};
 ghost use Rattle.replay_text.specs.declared.event.Event.TheVariants as events;
 ghost use Rattle.domain_core.specs.Answers.{outcome, Refuses, Stays};
-ghost use Rattle.domain_frames.specs.Told.{IsShortFrame, told};
+ghost use Rattle.frames_in_flight.specs.Told.{IsShortFrame, told};
 ghost use Rattle.domain_model.specs.Faults.{event_fault};
 ghost use Rattle.domain_core.specs.Course.{KeepsCourse};
 ghost use Rattle.domain_core.specs.Ledger.{KeepsLedger};

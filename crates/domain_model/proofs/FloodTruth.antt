@@ -17,7 +17,7 @@ use Rattle.wire_base.specs.model.Flooding.{no_links, with_row, send_on, ask_on, 
 use Rattle.wire_base.specs.model.OwnLsp.{own_lsp, full_life}
 use Rattle.wire_base.specs.model.Pdu.{Head, head_summary}
 use Rattle.wire_base.specs.model.Tlv.{rows_of}
-use Rattle.format_laws.proofs.PduLaws.{lsp_sum_fits}
+use Rattle.laws_format.proofs.PduLaws.{lsp_sum_fits}
 use Rattle.lsp_store.proofs.PlaceLaws.{put_ascends}
 use Rattle.domain_model.specs.Truth.{IsAmong, IsNamed, IsOwnLsp, IsDeadLsp, IsTrueLsp, IsTrueEntry, IsUnsent, IsTrueRow}
 use Rattle.domain_model.proofs.EachLaws.{fold_keeps}

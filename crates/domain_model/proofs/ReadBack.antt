@@ -18,8 +18,8 @@ use Rattle.wire_base.specs.model.OwnLsp.{picked, reach_of, most_in_tlv, reach_tl
 use Rattle.wire_base.specs.model.Place.{kind_of, is_mpls}
 use Rattle.wire_base.specs.model.Tlv.{tlv, ReachFits, reach, reach_at, PrefixFits, prefix, prefix_at, prefix_bits, padded, entries_of, tlvs_before}
 use Rattle.wire_base.specs.model.View.{Link, link_of, links_in, sub_of, sub_at, accepted, subs_of, subs_in, is_overload_flag, end_link}
-use Rattle.format_laws.proofs.InfoLaws.{info_again}
-use Rattle.format_laws.proofs.TlvListLaws.{reaches_again, prefixes_again, before_spelled}
+use Rattle.laws_format.proofs.InfoLaws.{info_again}
+use Rattle.laws_format.proofs.TlvListLaws.{reaches_again, prefixes_again, before_spelled}
 use Rattle.lsp_origin.proofs.ContentLaws.{sub_fits, bare_fits, subs_follow, picked_all}
 use Rattle.domain_model.proofs.EachLaws.{each_weaker, each_mapped, each_taken, each_dropped}
 

@@ -16,10 +16,10 @@ use Rattle.wire_base.specs.model.Flooding.{issue, last_sequence, reissue, reissu
 use Rattle.wire_base.specs.model.OwnLsp.{own_lsp, own_content}
 use Rattle.wire_base.specs.model.Pdu.{Head, Pdu, LspPdu, CsnpPdu, PsnpPdu, HelloPdu, OtherPdu}
 use Rattle.lsp_origin.proofs.ContentLaws.{content_short}
-use Rattle.router_laws.specs.State.{IsShort, IsRouter}
-use Rattle.router_laws.specs.Kept.{OwnStands, Kept}
-use Rattle.router_laws.proofs.KeptLaws.{lsp_kept, csnp_kept, psnp_kept}
-use Rattle.router_laws.proofs.StateLaws.{up_kept, down_kept, sent_kept, issue_kept, new_kept, all_aged}
+use Rattle.laws_router.specs.State.{IsShort, IsRouter}
+use Rattle.laws_router.specs.Kept.{OwnStands, Kept}
+use Rattle.laws_router.proofs.KeptLaws.{lsp_kept, csnp_kept, psnp_kept}
+use Rattle.laws_router.proofs.StateLaws.{up_kept, down_kept, sent_kept, issue_kept, new_kept, all_aged}
 use Rattle.domain_model.specs.World.{is_up}
 use Rattle.domain_model.specs.Truth.{IsAmong, IsOwnLsp, IsDeadLsp, IsTrueControl, IsTruePdu}
 use Rattle.domain_model.proofs.NamedLaws.{entries_few}

@@ -16,7 +16,7 @@ use Rattle.wire_base.specs.model.Flooding.{Reply, on_pdu, tick, send, end_up, en
 use Rattle.wire_base.specs.model.Ingress.{edge_fault}
 use Rattle.wire_base.specs.model.Item.{Item, ControlItem, PacketItem}
 use Rattle.wire_base.specs.model.Pdu.{Pdu}
-use Rattle.router_laws.specs.State.{IsRouter}
+use Rattle.laws_router.specs.State.{IsRouter}
 use Rattle.replay_text.specs.declared.event.Event.{Event}
 use Rattle.replay_text.specs.declared.event.Event.TheVariants.{Inject, Take, Lose, Again, Down, Up, Send, Tick, Restart}
 use Rattle.domain_model.specs.declared.fault.EventFault.{EventFault}

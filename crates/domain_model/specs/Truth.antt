@@ -24,7 +24,7 @@ use Rattle.wire_base.specs.model.OwnLsp.{own_content, own_flags, full_life}
 use Rattle.wire_base.specs.model.Pdu.{Head, Pdu, LspPdu, CsnpPdu, PsnpPdu, HelloPdu, OtherPdu, lsp_sum, row_tlvs}
 use Rattle.wire_base.specs.model.Place.{bits_of, means}
 use Rattle.wire_base.specs.model.Tlv.{LspIdFits}
-use Rattle.router_laws.specs.State.{IsRouter}
+use Rattle.laws_router.specs.State.{IsRouter}
 use Rattle.replay_text.specs.declared.event.Event.{Event}
 use Rattle.replay_text.specs.declared.event.Event.TheVariants.{Inject, Take, Lose, Again, Down, Up, Send, Tick, Restart}
 use Rattle.domain_model.specs.declared.lines.DropLine.{DropLine}

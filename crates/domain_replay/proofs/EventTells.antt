@@ -8,10 +8,10 @@ use Rattle.replay_text.specs.declared.event.Event.TheVariants.{Send, Take}
 use Rattle.domain_model.specs.declared.fault.EventFault.{EventFault}
 use Rattle.domain_model.specs.declared.fault.EventFault.TheVariants as faults
 use Rattle.domain_model.specs.declared.step_out.StepOut.{StepOut}
-use Rattle.domain_frames.specs.Told as answer
+use Rattle.frames_in_flight.specs.Told as answer
 use Rattle.domain_core.specs.Answers.{outcome, Refuses, Stays}
 use Rattle.domain_model.specs.Faults.{event_fault}
-use Rattle.domain_frames.specs.Framed.{wire_of}
+use Rattle.frames_in_flight.specs.Framed.{wire_of}
 use Rattle.domain_model.specs.Moves.{Sending}
 use Rattle.domain_core.specs.Network.{Seen}
 use Rattle.domain_model.specs.Step.{happens}

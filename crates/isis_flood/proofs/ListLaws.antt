@@ -10,7 +10,7 @@ use Rattle.wire_base.specs.declared.faults.TlvFault.{TlvFault}
 use Rattle.wire_base.specs.declared.addresses.LspId.{LspId}
 use Rattle.wire_base.specs.declared.triple.Summary.{Summary}
 use Rattle.wire_base.specs.model.Tlv.{Tlv, tlv, tlv_at, row_at, then_entries, entries_within, entries_of, some_tlv, one_tlv_at, rows_in, rows_of}
-use Rattle.format_laws.proofs.TlvLaws.{tlv_parts}
+use Rattle.laws_format.proofs.TlvLaws.{tlv_parts}
 
 few_then : {X E : Type 0} (r : Result (X × List ℕ) E) (f : List ℕ → List X) (n : ℕ) → ((rest : List ℕ) → length (f rest) ≤ n) → length (then_entries r f) ≤ suc n
 few_then (Ok x) f n h = let l = h x.1 in omega arith

@@ -5,7 +5,7 @@ use Rattle.wire_base.specs.declared.faults.PduFault.{PduFault}
 use Rattle.wire_base.specs.declared.conf.Level.{Level}
 use Rattle.wire_base.specs.model.Fields.{Gives, AreOctets}
 use Rattle.wire_base.specs.model.Pdu.{IsPdu, pdu_at}
-use Rattle.format_laws.proofs.PduLaws.{pdu_found}
+use Rattle.laws_format.proofs.PduLaws.{pdu_found}
 use Rattle.isis_pdu.specs.declared.kinds.Pdu.{Pdu}
 use Rattle.isis_pdu.specs.Views.{pdu_of}
 

@@ -4,7 +4,7 @@ use Rattle.std.specs.Simd.Lanes.{chunk}
 use Rattle.std.proofs.Math.Seq.{take-add}
 use Rattle.std.proofs.lemmas.Simd.{length-chunk}
 use Rattle.wire_base.specs.model.Checksum.{weighted}
-use Rattle.format_laws.proofs.ChecksumLaws.{sum-joined, weighted-joined}
+use Rattle.laws_format.proofs.ChecksumLaws.{sum-joined, weighted-joined}
 
 pub sum_chunk : (xs : List ℕ) (at n : ℕ) → sum (take (at + n) xs) ≡ sum (take at xs) + sum (chunk at n xs)
 sum_chunk xs at n = ap sum (take-add at n xs) ∙ sum-joined (take at xs) (chunk at n xs)

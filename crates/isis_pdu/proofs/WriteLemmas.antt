@@ -11,8 +11,8 @@ use Rattle.wire_base.specs.declared.triple.Summary.{Summary}
 use Rattle.wire_base.specs.declared.conf.Level.{Level}
 use Rattle.wire_base.specs.model.Tlv.{tlv, lsp_id, SummaryFits, LspIdFits, row}
 use Rattle.wire_base.specs.model.Pdu.{Head, LspPdu, CsnpPdu, PsnpPdu, LspFits, common, lsp_type, psnp_type, lsp, csnp, psnp, pdu_at, row_tlv, row_tlvs, blocks_within}
-use Rattle.format_laws.proofs.TlvListLaws.{row_tlvs_pass, row_tlvs_length, row_tlvs_step, row_tlvs_end, length_rows, fits_take, fits_drop, fits_joined, passes_are}
-use Rattle.format_laws.proofs.PduLaws.{lsp_read, csnp_read, psnp_read}
+use Rattle.laws_format.proofs.TlvListLaws.{row_tlvs_pass, row_tlvs_length, row_tlvs_step, row_tlvs_end, length_rows, fits_take, fits_drop, fits_joined, passes_are}
+use Rattle.laws_format.proofs.PduLaws.{lsp_read, csnp_read, psnp_read}
 
 -- the octets before the TLVs, and the TLVs, are the whole
 pub lsp_joined : (level : Level) (head : Head) (tlvs front : List ℕ) → front ≡ common 27 (lsp_type level) ++ (big_bytes 2 (27 + length tlvs) ++ (big_bytes 2 head.life ++ (lsp_id head.id ++ (big_bytes 4 head.seq ++ (big_bytes 2 head.sum ++ (head.flags ∷ [])))))) → front ++ tlvs ≡ lsp level head tlvs

@@ -8,8 +8,8 @@ use Rattle.wire_base.specs.model.Tlv.{tlv, tlv_at, IsOverrun, ReachFits, reach, 
 use Rattle.wire_base.specs.model.Tlv.{Tlv as Item}
 use Rattle.wire_base.specs.model.Tlv.{Reach as ReachItem}
 use Rattle.wire_base.specs.model.Tlv.{Prefix as PrefixItem}
-use Rattle.format_laws.proofs.FieldLaws.{IsRest, rest_of, ok_is}
-use Rattle.format_laws.proofs.TlvLaws.{reach_takes, reach_again, prefix_takes, prefix_again, tlv_parts, some_is, tlv_again, tlv_end, tlv_overruns, overrun_of, only_overrun, Tlv-is, Tlv-err}
+use Rattle.laws_format.proofs.FieldLaws.{IsRest, rest_of, ok_is}
+use Rattle.laws_format.proofs.TlvLaws.{reach_takes, reach_again, prefix_takes, prefix_again, tlv_parts, some_is, tlv_again, tlv_end, tlv_overruns, overrun_of, only_overrun, Tlv-is, Tlv-err}
 use Rattle.isis_tlv.specs.declared.reaches.Reach.{Reach}
 use Rattle.isis_tlv.specs.declared.prefixes.PrefixEntry.{PrefixEntry}
 use Rattle.isis_tlv.specs.declared.walk.Tlv.{Tlv}

@@ -7,7 +7,7 @@ use Rattle.std.specs.Iterator.{YieldsFirstBy, MakesProgress, item_count}
 use Rattle.std.proofs.lemmas.List.Concat.{flat_map-cons}
 use Rattle.wire_base.specs.declared.faults.TlvFault.TheVariants.{EntryShort}
 use Rattle.wire_base.specs.model.Tlv.{reach_at, prefix_at, row_at, entries_of}
-use Rattle.format_laws.proofs.TlvListLaws.{Shortens, entries_step, entries_end}
+use Rattle.laws_format.proofs.TlvListLaws.{Shortens, entries_step, entries_end}
 use Rattle.isis_tlv.specs.Walked.{then_walked, walked_within, walked, seen, good, Steps}
 
 then_same : {X E : Type 0} (r : Result (X × List ℕ) E) (f g : List ℕ → List (Result X E)) → ((x : X) (rest : List ℕ) → r ≡ Ok (x, rest) → f rest ≡ g rest) → then_walked r f ≡ then_walked r g

@@ -8,12 +8,12 @@ use Rattle.wire_base.specs.model.Graph.{edges_of, is_overloaded, IsGraph}
 use Rattle.wire_base.specs.model.Walk.{dist, may_enter}
 use Rattle.wire_base.specs.model.Tight.{IsTight, makes_up}
 use Rattle.wire_base.specs.model.Supporting.{TightWay}
-use Rattle.route_laws.specs.OnWay.{IsOnWay}
-use Rattle.route_laws.proofs.WalkLemmas.{edges-node, enter-cases, may-enter-end, may-enter-free}
-use Rattle.route_laws.proofs.DescentLemmas.{dist-end, dist-over, dist-edge, edge-within}
-use Rattle.route_laws.proofs.TightLemmas.{both, both-true, made-up, makes-up}
-use Rattle.route_laws.proofs.RouteLemmas.{dist-through}
-use Rattle.route_laws.proofs.LastLemmas.{dist-last-over}
+use Rattle.laws_route.specs.OnWay.{IsOnWay}
+use Rattle.laws_route.proofs.WalkLemmas.{edges-node, enter-cases, may-enter-end, may-enter-free}
+use Rattle.laws_route.proofs.DescentLemmas.{dist-end, dist-over, dist-edge, edge-within}
+use Rattle.laws_route.proofs.TightLemmas.{both, both-true, made-up, makes-up}
+use Rattle.laws_route.proofs.RouteLemmas.{dist-through}
+use Rattle.laws_route.proofs.LastLemmas.{dist-last-over}
 use Rattle.path_tree.specs.Forward.{IsForward, ForwardWay, is_forward, nowhere}
 
 pub forward-within : (g : List ViewNode) → IsGraph g → (o y z : ℕ) → IsForward g o y z → z < length g

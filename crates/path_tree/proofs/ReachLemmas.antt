@@ -4,9 +4,9 @@ use Rattle.std.proofs.lemmas.Option.{same_Some}
 use Rattle.wire_base.specs.declared.view.ViewNode.{ViewNode}
 use Rattle.wire_base.specs.model.Graph.{edges_of, is_overloaded, IsGraph}
 use Rattle.wire_base.specs.model.Walk.{AreDists, IsDist, dist, may_enter}
-use Rattle.route_laws.proofs.WalkLemmas.{at-most-of, best-IsDist, best-small, edges-node, enter-cases, may-enter-end, may-enter-free}
-use Rattle.route_laws.proofs.DescentLemmas.{dist-end, dist-over, dist-edge, edge-within}
-use Rattle.route_laws.proofs.LastLemmas.{dist-last-over, dist-last}
+use Rattle.laws_route.proofs.WalkLemmas.{at-most-of, best-IsDist, best-small, edges-node, enter-cases, may-enter-end, may-enter-free}
+use Rattle.laws_route.proofs.DescentLemmas.{dist-end, dist-over, dist-edge, edge-within}
+use Rattle.laws_route.proofs.LastLemmas.{dist-last-over, dist-last}
 use Rattle.path_tree.specs.Search.{IsReach, lengths}
 use Rattle.path_tree.specs.Ways.{IsTurned, AreDistsFrom}
 

@@ -9,9 +9,9 @@ use Rattle.std.proofs.lemmas.List.Sorted.{Contains-permutation, IsPermutation-sy
 use Rattle.std.proofs.lemmas.Option.{same_Some}
 use Rattle.std.proofs.Math.ListN.{length-set}
 use Rattle.wire_base.specs.declared.view.ViewEdge.{ViewEdge}
-use Rattle.route_laws.specs.Bounds.{IsAtMost}
-use Rattle.route_laws.proofs.WalkLemmas.{Contains-cases, at-most-of}
-use Rattle.route_laws.proofs.TightLemmas.{Contains-cons}
+use Rattle.laws_route.specs.Bounds.{IsAtMost}
+use Rattle.laws_route.proofs.WalkLemmas.{Contains-cases, at-most-of}
+use Rattle.laws_route.proofs.TightLemmas.{Contains-cons}
 use Rattle.path_tree.specs.Search.{Relaxed, Over, is_shorter, lengths}
 
 nothing : {X : Type 0} (x : X) → Contains {X = X} [] x → ⊥

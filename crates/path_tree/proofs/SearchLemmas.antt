@@ -10,8 +10,8 @@ use Rattle.wire_base.specs.declared.view.ViewEdge.{ViewEdge}
 use Rattle.wire_base.specs.declared.view.ViewNode.{ViewNode}
 use Rattle.wire_base.specs.model.Graph.{edges_of, IsGraph}
 use Rattle.wire_base.specs.model.Walk.{dist}
-use Rattle.route_laws.proofs.WalkLemmas.{Contains-cases}
-use Rattle.route_laws.proofs.TightLemmas.{Contains-cons}
+use Rattle.laws_route.proofs.WalkLemmas.{Contains-cases}
+use Rattle.laws_route.proofs.TightLemmas.{Contains-cons}
 use Rattle.path_tree.specs.Forward.{IsForward, ForwardWay, is_forward, Search, visit, look, look_along}
 use Rattle.path_tree.proofs.ForwardLemmas.{forward-within, step-from, step-has}
 

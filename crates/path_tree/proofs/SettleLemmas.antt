@@ -7,8 +7,8 @@ use Rattle.std.proofs.lemmas.List.Sums.{sum_by-set}
 use Rattle.std.proofs.lemmas.Option.{same_Some}
 use Rattle.std.proofs.Math.ListN.{length-set}
 use Rattle.wire_base.specs.declared.view.ViewEdge.{ViewEdge}
-use Rattle.route_laws.specs.Bounds.{IsAtMost}
-use Rattle.route_laws.proofs.WalkLemmas.{at-most-of}
+use Rattle.laws_route.specs.Bounds.{IsAtMost}
+use Rattle.laws_route.proofs.WalkLemmas.{at-most-of}
 use Rattle.path_tree.specs.Search.{IsReach, Relaxed, TakesNext, lengths, marks}
 
 at-most-weaker : (o : Option ℕ) (m n : ℕ) → IsAtMost o m → m ≤ n → IsAtMost o n

@@ -3,8 +3,8 @@ use Rattle.std.proofs.Common.{◌≡◌, ℕ, zero, suc, ◌<◌, ◌≤◌, ◌
 use Rattle.std.specs.List.Sorted.{IsPermutation}
 use Rattle.std.proofs.lemmas.List.Elements.{All-contains, All-nil}
 use Rattle.std.proofs.lemmas.List.Sorted.{Contains-permutation, IsPermutation-sym, length_permutation}
-use Rattle.route_laws.proofs.WalkLemmas.{Contains-cases}
-use Rattle.route_laws.proofs.TightLemmas.{Contains-cons}
+use Rattle.laws_route.proofs.WalkLemmas.{Contains-cases}
+use Rattle.laws_route.proofs.TightLemmas.{Contains-cons}
 use Rattle.path_tree.specs.Search.{Skipped, TakesNext, marks}
 
 pub skipped-none : (settled : List Bool) (q : List (ℕ × ℕ)) → Skipped settled q q

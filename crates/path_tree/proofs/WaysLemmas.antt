@@ -8,9 +8,9 @@ use Rattle.std.proofs.Math.ListN.{length-set}
 use Rattle.wire_base.specs.declared.view.ViewEdge.{ViewEdge}
 use Rattle.wire_base.specs.declared.view.ViewNode.{ViewNode}
 use Rattle.wire_base.specs.model.Graph.{edges_of, is_overloaded, IsEdge, IsGraph}
-use Rattle.route_laws.proofs.WalkLemmas.{Contains-cases, edges-good, edges-node}
-use Rattle.route_laws.proofs.DescentLemmas.{edge-within}
-use Rattle.route_laws.proofs.TightLemmas.{Contains-cons}
+use Rattle.laws_route.proofs.WalkLemmas.{Contains-cases, edges-good, edges-node}
+use Rattle.laws_route.proofs.DescentLemmas.{edge-within}
+use Rattle.laws_route.proofs.TightLemmas.{Contains-cons}
 use Rattle.path_tree.specs.Ways.{ways_of, put, turned, AreIncoming, IsTurned}
 
 nothing : {X : Type 0} (x : X) → Contains {X = X} [] x → ⊥

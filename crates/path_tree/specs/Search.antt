@@ -1,7 +1,7 @@
 -- A search for shortest walks from a node over given ways: what it is to find, and what one turn of it does.
 use Rattle.std.specs.Prelude.{◌≡◌, ℕ, ◌+◌, ◌<◌, ◌≤◌, ◌^◌, ◌⊎◌, Bool, true, false, nat_lt, List, length, Contains, slice_index_or, Option, Some, None, IfSome}
 use Rattle.wire_base.specs.declared.view.ViewEdge.{ViewEdge}
-use Rattle.route_laws.specs.Bounds.{IsAtMost}
+use Rattle.laws_route.specs.Bounds.{IsAtMost}
 
 -- an edge over which a node with a length is reached from another with the rest of it
 pub record LastEdge (count : ℕ) (ways : ℕ → List ViewEdge) (passes : ℕ → Bool) (f : ℕ → Option ℕ) (y n : ℕ) : Type 0 where

@@ -5,7 +5,7 @@ use Rattle.wire_base.specs.declared.conf.RouterConf.{RouterConf}
 use Rattle.wire_base.specs.model.Capture.{written_header, written_record}
 use Rattle.domain_model.specs.declared.step_out.WireFrame.{WireFrame}
 use Rattle.domain_model.specs.Moves.{Sending}
-use Rattle.domain_frames.specs.Framed.{frame_over}
+use Rattle.frames_in_flight.specs.Framed.{frame_over}
 
 -- A frame is recorded with the line of its event as the second, and no microseconds.
 unfoldable pub frame_record : ℕ → List ℕ → List ℕ

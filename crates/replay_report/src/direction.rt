@@ -4,7 +4,7 @@ ghost use Rattle.std.specs.List.{AllByRecursion, range_with_len};
 ghost use Rattle.wire_base.specs.model.Configuration.{IsSound};
 ghost use Rattle.domain_model.specs.Run as spec;
 
-use domain_frames::peer_place;
+use frames_in_flight::peer_place;
 use std::alloc::Global;
 use std::marker::Model;
 use wire_base::limits::MOST_ROUTERS;

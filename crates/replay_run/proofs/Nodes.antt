@@ -7,20 +7,20 @@ use Rattle.wire_base.specs.declared.status.Status.{Status}
 use Rattle.wire_base.specs.declared.status.Status.TheVariants.{ConfRefused, WriteFault, Memory}
 use Rattle.wire_base.specs.model.Configuration.{DomainConf}
 use Rattle.domain_conf.specs.declared.fault.ConfFault.{ConfFault}
-use Rattle.node_run.specs.declared.words.Form.{Form}
-use Rattle.node_run.specs.declared.words.Form.TheVariants.{Node}
+use Rattle.command_node.specs.declared.words.Form.{Form}
+use Rattle.command_node.specs.declared.words.Form.TheVariants.{Node}
 use Rattle.replay_run.specs.Endings.{DoneOrMemory}
-use Rattle.node_run.specs.DomainFile.{Says, IsRefused}
+use Rattle.command_node.specs.DomainFile.{Says, IsRefused}
 use Rattle.replay_run.specs.Judged.{OnHeld}
-use Rattle.node_run.specs.Routers.{router_named, HasRouter}
+use Rattle.command_node.specs.Routers.{router_named, HasRouter}
 use Rattle.replay_run.specs.Verdict.{verdict, node_on}
-use Rattle.node_run.specs.Named.{node_by}
+use Rattle.command_node.specs.Named.{node_by}
 use Rattle.tool_run.specs.Answer.{Verdict, IsDecided}
-use Rattle.node_run.specs.NodeRun.{node_answer, IsReplayable}
+use Rattle.command_node.specs.NodeRun.{node_answer, IsReplayable}
 use Rattle.tool_run.specs.Outside.{Held, Meets, AppendsFront}
-use Rattle.node_run.proofs.NodeDone.{node_done}
+use Rattle.command_node.proofs.NodeDone.{node_done}
 use Rattle.replay_run.proofs.Owed.{told, in_form}
-use Rattle.node_run.proofs.Told.{nothing_more, no_front, held_some, ended_so}
+use Rattle.command_node.proofs.Told.{nothing_more, no_front, held_some, ended_so}
 use Rattle.replay_run.proofs.Replays.{any_holds}
 
 -- ---- the verdict on the domain file

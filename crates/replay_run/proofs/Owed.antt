@@ -8,16 +8,16 @@ use Rattle.wire_base.specs.declared.conf.RouterConf.{RouterConf}
 use Rattle.wire_base.specs.model.Configuration.{DomainConf}
 use Rattle.domain_conf.specs.Domain.{domain_of}
 use Rattle.domain_conf.specs.declared.fault.ConfFault.{ConfFault}
-use Rattle.node_run.specs.declared.words.Form.{Form}
-use Rattle.node_run.specs.declared.words.Form.TheVariants.{Replay, Node, Hop, Headers, Grow, Unknown}
-use Rattle.node_run.specs.Words.{usage_text}
-use Rattle.node_run.specs.Routers.{router_named}
-use Rattle.grow_run.specs.Grow.{grow_answer}
+use Rattle.command_node.specs.declared.words.Form.{Form}
+use Rattle.command_node.specs.declared.words.Form.TheVariants.{Replay, Node, Hop, Headers, Grow, Unknown}
+use Rattle.command_node.specs.Words.{usage_text}
+use Rattle.command_node.specs.Routers.{router_named}
+use Rattle.command_grow.specs.Grow.{grow_answer}
 use Rattle.tool_run.specs.HopText.{hop_answer, packets_of, IsAllowed}
 use Rattle.tool_run.specs.Partition.{Reports}
 use Rattle.tool_run.specs.Answer.{Verdict}
 use Rattle.replay_run.specs.Verdict.{verdict, replay_on, node_on}
-use Rattle.node_run.specs.Named.{reported, node_by}
+use Rattle.command_node.specs.Named.{reported, node_by}
 use Rattle.tool_run.specs.Answer.{IsDecided}
 use Rattle.replay_run.specs.Judged.{OnHeld}
 use Rattle.tool_run.specs.Outside.{Held, Gave, Meets, AppendsFront}
@@ -25,7 +25,7 @@ use Rattle.tool_run.proofs.Packets.{all_parted}
 use Rattle.tool_run.specs.HeadersText.{headers_answer, IsRead}
 use Rattle.tool_run.proofs.Inputs.{allowed_done}
 use Rattle.tool_run.proofs.Captures.{read_done}
-use Rattle.node_run.proofs.Told.{nothing_more, no_front, held_some, ended_so}
+use Rattle.command_node.proofs.Told.{nothing_more, no_front, held_some, ended_so}
 
 -- ---- verdicts on what was held
 

@@ -12,14 +12,14 @@ use Rattle.domain_conf.specs.Domain.{domain_of}
 use Rattle.domain_conf.specs.declared.fault.ConfFault.{ConfFault}
 use Rattle.domain_conf.proofs.ValidFile.{domain_is_valid}
 use Rattle.domain_replay.specs.Texts.{Refusal, run_text, run_done_text, schedule_reaches}
-use Rattle.node_run.specs.declared.words.Form.TheVariants.{Replay}
-use Rattle.node_run.specs.DomainFile.{Says}
+use Rattle.command_node.specs.declared.words.Form.TheVariants.{Replay}
+use Rattle.command_node.specs.DomainFile.{Says}
 use Rattle.replay_run.specs.Endings.{ReplayLeaves}
 use Rattle.replay_run.specs.Faults.{SourceIsQuiet}
 use Rattle.replay_run.specs.Judged.{OnHeld}
 use Rattle.tool_run.specs.Outside.{Held, Meets}
 use Rattle.replay_run.specs.RunDone.{HasRun, AreRead, RunDone}
-use Rattle.schedule_run.specs.ScheduleText.{answer_to, ending, schedule_answer, schedule_cut}
+use Rattle.command_replay.specs.ScheduleText.{answer_to, ending, schedule_answer, schedule_cut}
 use Rattle.tool_run.specs.Texts.{Close, Ended, Longer, Cut, close_of, is_short, lines_within}
 use Rattle.replay_run.specs.Verdict.{verdict, replay_on}
 use Rattle.tool_run.specs.Answer.{IsDecided}

@@ -10,14 +10,14 @@ use Rattle.wire_base.specs.model.Configuration.{DomainConf}
 use Rattle.tool_run.specs.Answer.{Verdict, IsDecided}
 use Rattle.tool_run.specs.HopText.{hop_cut}
 use Rattle.tool_run.specs.Headers.{IsOpen, lines_of}
-use Rattle.node_run.specs.NodeRun.{node_cut, node_reached}
+use Rattle.command_node.specs.NodeRun.{node_cut, node_reached}
 use Rattle.tool_run.specs.Outside.{Gave, Meets, AppendsFront}
-use Rattle.node_run.specs.declared.words.Form.{Form}
-use Rattle.node_run.specs.declared.words.Form.TheVariants.{Replay, Node, Hop, Headers, Unknown}
-use Rattle.node_run.specs.DomainFile.{Says}
-use Rattle.node_run.specs.Routers.{SaysRouter}
-use Rattle.schedule_run.specs.ScheduleText.{schedule_cut}
-use Rattle.node_run.specs.Words.{IsGrow}
+use Rattle.command_node.specs.declared.words.Form.{Form}
+use Rattle.command_node.specs.declared.words.Form.TheVariants.{Replay, Node, Hop, Headers, Unknown}
+use Rattle.command_node.specs.DomainFile.{Says}
+use Rattle.command_node.specs.Routers.{SaysRouter}
+use Rattle.command_replay.specs.ScheduleText.{schedule_cut}
+use Rattle.command_node.specs.Words.{IsGrow}
 
 -- the status of a run that could be done, where no count rose
 abbrev pub DoneOrMemory : Status → Type 0

@@ -4,17 +4,17 @@ use Rattle.wire_base.specs.declared.status.Status.TheVariants as status
 use Rattle.wire_base.specs.model.Configuration.{DomainConf}
 use Rattle.domain_conf.specs.Domain.{domain_of}
 use Rattle.domain_conf.specs.declared.fault.ConfFault.{ConfFault}
-use Rattle.node_run.specs.DomainFile.{conf_refused_text}
+use Rattle.command_node.specs.DomainFile.{conf_refused_text}
 use Rattle.tool_run.specs.Answer.{Verdict}
-use Rattle.node_run.specs.declared.words.Form.{Form}
-use Rattle.node_run.specs.declared.words.Form.TheVariants.{Replay, Node, Hop, Headers, Grow, Unknown}
-use Rattle.node_run.specs.Words.{usage_text}
-use Rattle.node_run.specs.Routers.{router_named}
+use Rattle.command_node.specs.declared.words.Form.{Form}
+use Rattle.command_node.specs.declared.words.Form.TheVariants.{Replay, Node, Hop, Headers, Grow, Unknown}
+use Rattle.command_node.specs.Words.{usage_text}
+use Rattle.command_node.specs.Routers.{router_named}
 use Rattle.tool_run.specs.HopText.{hop_answer}
 use Rattle.tool_run.specs.HeadersText.{headers_answer}
-use Rattle.schedule_run.specs.ScheduleText.{schedule_answer}
-use Rattle.grow_run.specs.Grow.{grow_answer}
-use Rattle.node_run.specs.Named.{reported, node_by}
+use Rattle.command_replay.specs.ScheduleText.{schedule_answer}
+use Rattle.command_grow.specs.Grow.{grow_answer}
+use Rattle.command_node.specs.Named.{reported, node_by}
 
 -- on a domain file that breaks a rule
 abbrev pub conf_refused : ConfFault → Verdict

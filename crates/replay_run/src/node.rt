@@ -3,14 +3,14 @@ ghost use Rattle.std.specs.Prelude.{◌≡◌, ◌⊎◌, ◌<◌, ◌≢◌, fa
 ghost use Rattle.std.specs.Io.KnownBytes.{IsAtEnd};
 ghost use Rattle.wire_base.specs.Causes.{last_count};
 ghost use Rattle.wire_base.specs.declared.status.Status.TheVariants as status;
-ghost use Rattle.node_run.specs.declared.words.Form.TheVariants as form;
+ghost use Rattle.command_node.specs.declared.words.Form.TheVariants as form;
 ghost use Rattle.tool_run.specs.Answer.{IsDecided};
 ghost use Rattle.tool_run.specs.Outside.{Meets};
 ghost use Rattle.replay_run.specs.Endings.{AppendsFronts, NodeLeaves};
 ghost use Rattle.replay_run.specs.Faults.{CountsFaults};
 ghost use Rattle.replay_run.specs.Judged.{OnHeld};
 
-use node_run::{NoDomain, domain_in, node_in};
+use command_node::{NoDomain, domain_in, node_in};
 use std::alloc::Global;
 use tool_run::deliver;
 use wire_base::{Sink, Source, Status};

@@ -17,10 +17,10 @@ use Rattle.lsp_store.specs.Places.{is_refused}
 use Rattle.lsp_store.proofs.OrderLaws.{below_differs, same_turned}
 use Rattle.router_core.specs.Aging.{is_near}
 use Rattle.router_core.specs.Own.{own_past, spent_past}
-use Rattle.router_laws.specs.State.{IsRouter, control_of}
-use Rattle.router_laws.proofs.EntryLaws.{same_is}
-use Rattle.router_laws.specs.Kept.{Kept, OwnStands}
-use Rattle.router_laws.proofs.StateLaws.{up_kept, down_kept, sent_kept, all_aged, issue_kept, new_kept}
+use Rattle.laws_router.specs.State.{IsRouter, control_of}
+use Rattle.laws_router.proofs.EntryLaws.{same_is}
+use Rattle.laws_router.specs.Kept.{Kept, OwnStands}
+use Rattle.laws_router.proofs.StateLaws.{up_kept, down_kept, sent_kept, all_aged, issue_kept, new_kept}
 use Rattle.router_core.proofs.OwnLaws.{known_not_refused, past_id, past_short, past_live, kept_of, router_of, reissued_is, reissued_keeps}
 
 -- ---- a start

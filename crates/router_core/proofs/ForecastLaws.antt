@@ -20,8 +20,8 @@ use Rattle.isis_flood.proofs.AgeLaws.{unknown_is_none}
 use Rattle.isis_flood.proofs.KeptLaws.{rows_keep}
 use Rattle.router_core.specs.declared.forecast.Look.{Look}
 use Rattle.router_core.specs.Forecast.{is_confused, is_at_odds, past_asked, is_wanted, looked, count_full}
-use Rattle.router_laws.proofs.EntryLaws.{same_is, put_reads, put_other}
-use Rattle.router_laws.specs.Kept.{OwnStands}
+use Rattle.laws_router.proofs.EntryLaws.{same_is, put_reads, put_other}
+use Rattle.laws_router.specs.Kept.{OwnStands}
 
 either : (P : SnpAnswer → Type 0) (b : Bool) (x y : SnpAnswer) → (b ≡ true → P x) → (b ≡ false → P y) → P (if b then x else y)
 either P true x y h k = h refl

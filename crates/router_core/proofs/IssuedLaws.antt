@@ -21,11 +21,11 @@ use Rattle.wire_base.specs.model.Pdu.{Head, head_summary}
 use Rattle.router_core.specs.Own.{own_past, spent_past}
 use Rattle.router_core.specs.Aging.{is_near}
 use Rattle.router_core.specs.Received.{list_taken}
-use Rattle.router_laws.specs.State.{IsIssued, AreIssued, IsRouter, control_of}
-use Rattle.router_laws.proofs.EntryLaws.{same_is, put_reads, id_self, bytes_self}
+use Rattle.laws_router.specs.State.{IsIssued, AreIssued, IsRouter, control_of}
+use Rattle.laws_router.proofs.EntryLaws.{same_is, put_reads, id_self, bytes_self}
 use Rattle.router_core.proofs.EventLaws.{aged_reads}
 use Rattle.router_core.proofs.OwnLaws.{past_id, kept_of}
-use Rattle.router_laws.proofs.StateLaws.{all_aged}
+use Rattle.laws_router.proofs.StateLaws.{all_aged}
 
 some_is : (a b : Entry) → Some a ≡ Some b → a ≡ b
 some_is a b q = cc

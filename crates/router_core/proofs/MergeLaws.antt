@@ -11,7 +11,7 @@ use Rattle.wire_base.specs.declared.effects.Sent.{Sent}
 use Rattle.wire_base.specs.declared.triple.Summary.{Summary}
 use Rattle.wire_base.specs.model.Control.{summary_of}
 use Rattle.router_core.specs.Sending.{entry_frames, entry_summary, found, found_at, lsp_frames, row_asked, row_frames, row_ids}
-use Rattle.router_laws.proofs.EntryLaws.{HasId, same_is}
+use Rattle.laws_router.proofs.EntryLaws.{HasId, same_is}
 
 -- ---- one row after the other
 

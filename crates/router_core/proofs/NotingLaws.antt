@@ -20,7 +20,7 @@ use Rattle.isis_flood.proofs.AgeLaws.{unknown_is_none}
 use Rattle.router_core.specs.Forecast.{is_confused, is_confusing}
 use Rattle.router_core.specs.Keeping.{SaysSame, is_last}
 use Rattle.router_core.specs.Own.{own_past}
-use Rattle.router_laws.proofs.EntryLaws.{put_reads}
+use Rattle.laws_router.proofs.EntryLaws.{put_reads}
 use Rattle.router_core.proofs.OwnLaws.{past_id, reissue_is}
 use Rattle.router_core.proofs.SaidLaws.{parts, same_said, put_apart, put_dead, second_parts, or_first, or_second}
 

@@ -13,10 +13,10 @@ use Rattle.wire_base.specs.model.OwnLsp.{own_lsp, own_content}
 use Rattle.lsp_store.specs.Places.{is_new, is_refused, PutAnswers, AnswersWhere}
 use Rattle.lsp_origin.proofs.ContentLaws.{content_short}
 use Rattle.router_core.specs.Own.{own_past, spent_past}
-use Rattle.router_laws.specs.State.{IsShort, IsRouter, control_of}
-use Rattle.router_laws.proofs.EntryLaws.{HasId}
-use Rattle.router_laws.specs.Kept.{Kept, OwnStands}
-use Rattle.router_laws.proofs.StateLaws.{issue_kept}
+use Rattle.laws_router.specs.State.{IsShort, IsRouter, control_of}
+use Rattle.laws_router.proofs.EntryLaws.{HasId}
+use Rattle.laws_router.specs.Kept.{Kept, OwnStands}
+use Rattle.laws_router.proofs.StateLaws.{issue_kept}
 
 -- an entry that isn't refused is put, where there is room for it or its identifier is there
 pub put_is_ok : (entries : List Entry) (spare : ℕ) (id : LspId) (answer : Result (Unit {0}) PutFault) → PutAnswers entries spare id answer → is_refused entries id ≡ false → (is_new entries id ≡ true → 1 ≤ spare) → IsOk answer

@@ -28,11 +28,11 @@ use Rattle.router_core.specs.declared.forecast.Ready.{Ready}
 use Rattle.router_core.specs.Forecast.{spent_if, flags_issued, entries_issued, count_full, past_of, IsReady}
 use Rattle.router_core.specs.Own.{own_past}
 use Rattle.router_core.specs.Received.{HasRoom, full_drop, is_kept, list_taken}
-use Rattle.router_laws.specs.State.{IsRouter, AreIssued, is_up, control_of}
+use Rattle.laws_router.specs.State.{IsRouter, AreIssued, is_up, control_of}
 use Rattle.router_core.proofs.ForecastLaws.{past_is, full_is}
 use Rattle.router_core.proofs.IssuedLaws.{issued_now, marked_up}
-use Rattle.router_laws.specs.Kept.{Kept, OwnStands}
-use Rattle.router_laws.proofs.KeptLaws.{LspKept, SnpKept, lsp_kept, range_kept, list_kept}
+use Rattle.laws_router.specs.Kept.{Kept, OwnStands}
+use Rattle.laws_router.proofs.KeptLaws.{LspKept, SnpKept, lsp_kept, range_kept, list_kept}
 use Rattle.router_core.proofs.OwnLaws.{past_id, kept_of, router_of, reissued_is, reissued_keeps}
 
 -- ---- lengths

@@ -6,7 +6,7 @@ use Rattle.std.specs.declared.cmp.Ordering.{Ordering}
 use Rattle.std.specs.declared.cmp.Ordering.TheVariants.{Less, Equal, Greater}
 use Rattle.std.specs.Ordering.{is_gt, match_ordering}
 use Rattle.std.specs.List.{cons_option, filter_map, flat_map, list_any}
-use Rattle.format_laws.proofs.TlvLaws.{some_is}
+use Rattle.laws_format.proofs.TlvLaws.{some_is}
 use Rattle.wire_base.specs.declared.addresses.LspId.{LspId}
 use Rattle.wire_base.specs.declared.addresses.SystemId.{SystemId}
 use Rattle.wire_base.specs.declared.conf.SubKind.{SubKind}
@@ -21,7 +21,7 @@ use Rattle.view_graph.proofs.GraphLaws.{and_both}
 use Rattle.lsp_store.proofs.OrderLaws.{above_differs, same_turned}
 use Rattle.isis_flood.proofs.FloodLaws.{same_from_tie}
 use Rattle.router_core.specs.Keeping.{is_last}
-use Rattle.router_laws.proofs.EntryLaws.{same_is, id_self}
+use Rattle.laws_router.proofs.EntryLaws.{same_is, id_self}
 
 -- ---- lists
 

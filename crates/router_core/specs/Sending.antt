@@ -10,7 +10,7 @@ use Rattle.wire_base.specs.model.Control.{Control, FlagRow, entry_in, srm_in, su
 use Rattle.wire_base.specs.model.Flooding.{lsp_of, new_flood}
 use Rattle.wire_base.specs.model.OnFrame.{frames_of}
 use Rattle.wire_base.specs.model.Item.{isis_frame}
-use Rattle.router_laws.specs.State.{control_of}
+use Rattle.laws_router.specs.State.{control_of}
 
 -- a control state of a configuration, where nothing else of it matters
 abbrev pub conf_alone : RouterConf → Control

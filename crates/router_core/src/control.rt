@@ -1,6 +1,6 @@
 ghost use Rattle.std.specs.Prelude.{◌≡◌, IfOk};
 ghost use Rattle.wire_base.specs.model.View.{control_view};
-ghost use Rattle.router_laws.specs.State.{IsRouter, IssuesAlone, is_up};
+ghost use Rattle.laws_router.specs.State.{IsRouter, IssuesAlone, is_up};
 
 use isis_flood::Flood;
 use lsp_store::Store;
@@ -23,7 +23,7 @@ pub(crate) struct Control {
 
 impl Model for Control {
     ghost use Rattle.wire_base.specs.model.Control.{Control as ControlState};
-    ghost use Rattle.router_laws.specs.State.{IsWhole, control_of};
+    ghost use Rattle.laws_router.specs.State.{IsWhole, control_of};
 
     ghost Value = { ControlState };
 

@@ -4,7 +4,7 @@ ghost use Rattle.wire_base.specs.model.Configuration.{IsSound};
 ghost use Rattle.wire_base.specs.model.Control.{IsDatabase, put_entry};
 ghost use Rattle.wire_base.specs.model.Flooding.{mark_all, link_up, link_down, end_up, end_down, restart, started, first_control};
 ghost use Rattle.lsp_store.specs.Places.{is_refused};
-ghost use Rattle.router_laws.specs.State.{is_up};
+ghost use Rattle.laws_router.specs.State.{is_up};
 
 use crate::control::Control;
 use crate::own::{issue, issue_within, own_with, spent_past};

@@ -9,7 +9,7 @@ ghost use Rattle.bier_forward.specs.Tunnels.{carried_on};
 ghost use Rattle.gre_ip.specs.Tunnels.{HasPlaces as HasTunnel, packet_of};
 ghost use Rattle.link_frame.specs.Frames.{carried, HasPlaces};
 ghost use Rattle.router_core.specs.Keeping.{MayKeep};
-ghost use Rattle.router_laws.specs.State.{is_up};
+ghost use Rattle.laws_router.specs.State.{is_up};
 
 use crate::control::Control;
 use crate::kept::{Kept, keep_if};

@@ -10,7 +10,7 @@ ghost use Rattle.isis_pdu.specs.Views.{head_of, pdu_of};
 ghost use Rattle.router_core.specs.Keeping.{MayKeep};
 ghost use Rattle.router_core.specs.Received.{HasRoom, is_kept, list_room, list_taken};
 ghost use Rattle.isis_flood.specs.Answers.{SnpDone};
-ghost use Rattle.router_laws.specs.State.{is_up};
+ghost use Rattle.laws_router.specs.State.{is_up};
 
 use crate::control::Control;
 use crate::forecast::issue_ready;

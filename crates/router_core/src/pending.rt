@@ -4,7 +4,7 @@ ghost use Rattle.wire_base.specs.model.Control.{srm_in, ssn_in};
 ghost use Rattle.wire_base.specs.model.Flooding.{send, send_of, is_known};
 ghost use Rattle.wire_base.specs.declared.conf.RouterConf.{RouterConf};
 ghost use Rattle.isis_flood.specs.Flags.{has_srm, has_ssn};
-ghost use Rattle.router_laws.specs.State.{is_up, control_of};
+ghost use Rattle.laws_router.specs.State.{is_up, control_of};
 
 use crate::control::Control;
 use isis_flood::Flood;

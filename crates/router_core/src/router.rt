@@ -7,7 +7,7 @@ ghost use Rattle.wire_base.specs.model.OnFrame.{nothing, framed, on_frame};
 ghost use Rattle.wire_base.specs.model.View.{control_view};
 ghost use Rattle.bfr_edge.specs.Entry.{Refuses};
 ghost use Rattle.router_core.specs.Bounds.{leaves_state, packet_hopped, most_sent};
-ghost use Rattle.router_laws.specs.State.{IsRouter, IssuesAlone, is_up, counted};
+ghost use Rattle.laws_router.specs.State.{IsRouter, IssuesAlone, is_up, counted};
 
 use crate::control::Control;
 use crate::kept::Kept;
@@ -34,7 +34,7 @@ pub struct Router {
 
 impl Model for Router {
     ghost use Rattle.router_core.specs.Keeping.{MayKeep};
-    ghost use Rattle.router_laws.specs.State.{RouterState};
+    ghost use Rattle.laws_router.specs.State.{RouterState};
 
     ghost Value = { RouterState };
 

@@ -6,7 +6,7 @@ ghost use Rattle.wire_base.specs.model.Flooding.{csnps, psnp_of, id_after, zero_
 ghost use Rattle.wire_base.specs.model.Lists.{blocks};
 ghost use Rattle.wire_base.specs.model.OnFrame.{frames_of, framed};
 ghost use Rattle.router_core.specs.Sending.{conf_alone, entry_frames, entry_summary, found, lsp_frames, row_ids};
-ghost use Rattle.router_laws.specs.State.{IsShort, is_up, control_of};
+ghost use Rattle.laws_router.specs.State.{IsShort, is_up, control_of};
 
 use crate::control::Control;
 use crate::framing::{FramesOut, push_csnp, push_lsp, push_psnp};

@@ -25,8 +25,8 @@ use Rattle.wire_base.specs.model.BierInfo.{Info, Parts, no_parts, take_known, ta
 use Rattle.wire_base.specs.model.Configuration.{IsSound, IsEnd, IsOwnSub, same_length}
 use Rattle.wire_base.specs.model.OwnLsp.{picked, info_of}
 use Rattle.wire_base.specs.model.View.{Link, greatest_metric, link_of, links_in, sub_of, sub_at, subs_of, subs_in, tlvs_of, end_link, claim_of, own_claim, claims_of}
-use Rattle.format_laws.proofs.FieldLaws.{bind_ok, ok_is, guarded}
-use Rattle.format_laws.proofs.TlvLaws.{some_is}
+use Rattle.laws_format.proofs.FieldLaws.{bind_ok, ok_is, guarded}
+use Rattle.laws_format.proofs.TlvLaws.{some_is}
 use Rattle.view_graph.proofs.GraphLaws.{IsLink, HasApart, IsClaim, all_from, all_weaker, all_put, and_both, no_pairs}
 use Rattle.view_graph.proofs.ListLaws.{filter_map-first}
 

@@ -24,7 +24,7 @@ use Rattle.wire_base.specs.declared.view.ViewSub.{ViewSub}
 use Rattle.wire_base.specs.model.Control.{same_system, system_order, is_below, AreAscending, ids_of}
 use Rattle.wire_base.specs.model.BierInfo.{any_overlap}
 use Rattle.wire_base.specs.model.Place.{kind_of}
-use Rattle.format_laws.proofs.TlvLaws.{some_is}
+use Rattle.laws_format.proofs.TlvLaws.{some_is}
 use Rattle.wire_base.specs.model.Graph.{octets_before, IsBefore, IsEdge, IsNode, ShareNoPrefix}
 use Rattle.wire_base.specs.model.View.{Claim, Link, metric_to, lists, edges_from, first_each, all_ranges, unless_overlap, with_known, put_claim, claim_of, is_other, own_claim, claims_of, is_shared, has_prefix, node_of}
 use Rattle.view_graph.specs.Edges.{is_before, AreInOrder}

@@ -16,7 +16,7 @@ use Rattle.view_graph.specs.Renewal.{said_now}
 use Rattle.view_graph.specs.Keep.{Keep, IsUnchanged, heard, said_by, said_in, is_named, without_system}
 use Rattle.wire_base.specs.declared.view.ViewNode.{ViewNode}
 use Rattle.view_graph.specs.Edges.{is_before, AreInOrder}
-use Rattle.format_laws.proofs.TlvLaws.{some_is}
+use Rattle.laws_format.proofs.TlvLaws.{some_is}
 use Rattle.view_graph.proofs.FragmentLaws.{same_is}
 use Rattle.view_graph.proofs.HeardLaws.{said_heard}
 use Rattle.view_graph.proofs.SystemLaws.{tie_is_same, before_trans, before_differs, before_from_above, same_turned}

@@ -15,7 +15,7 @@ use Rattle.std.proofs.lemmas.List.Folds.{list_any-append}
 use Rattle.std.proofs.lemmas.Map.Text.{is_eq-slice_cmp}
 use Rattle.std.proofs.lemmas.Option.{slice_get-map}
 use Rattle.std.proofs.lemmas.Slice.Eq.{bytes_eq-Decides}
-use Rattle.format_laws.proofs.TlvLaws.{some_is}
+use Rattle.laws_format.proofs.TlvLaws.{some_is}
 use Rattle.wire_base.specs.declared.addresses.Ipv4.{Ipv4}
 use Rattle.wire_base.specs.declared.addresses.SystemId.{SystemId}
 use Rattle.wire_base.specs.declared.view.ViewNode.{ViewNode}

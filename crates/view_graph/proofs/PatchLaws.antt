@@ -6,7 +6,7 @@ use Rattle.std.specs.List.{AllByRecursion}
 use Rattle.std.proofs.lemmas.Bool.{eqb-true, eq-eqb}
 use Rattle.std.proofs.lemmas.List.{length-map}
 use Rattle.std.proofs.lemmas.Option.{get_or_from_slice_get, slice_get-map, slice_get_within}
-use Rattle.format_laws.proofs.TlvLaws.{some_is}
+use Rattle.laws_format.proofs.TlvLaws.{some_is}
 use Rattle.wire_base.specs.declared.addresses.Ipv4.{Ipv4}
 use Rattle.wire_base.specs.declared.addresses.SystemId.{SystemId}
 use Rattle.wire_base.specs.declared.view.ViewEdge.{ViewEdge}

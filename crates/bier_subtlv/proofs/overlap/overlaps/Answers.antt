@@ -1,5 +1,5 @@
 use Rattle.std.proofs.Common.{sym, ◌∙◌}
-use Rattle.format_laws.proofs.InfoLaws.{overlap_found, overlap_test}
+use Rattle.laws_format.proofs.InfoLaws.{overlap_found, overlap_test}
 use Rattle.bier_subtlv.proofs.overlap.overlaps.Goals as goal
 
 pub returns-clause-shared : goal.returns-clause-shared

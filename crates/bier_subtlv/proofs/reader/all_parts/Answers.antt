@@ -1,6 +1,6 @@
 use Rattle.std.proofs.Common.{sym, ◌∙◌}
 use Rattle.std.proofs.lemmas.Result.{err_from_is_err_and}
-use Rattle.format_laws.proofs.InfoLaws.{parts_next, parts_refuses, parts_end, parts_short}
+use Rattle.laws_format.proofs.InfoLaws.{parts_next, parts_refuses, parts_end, parts_short}
 use Rattle.isis_tlv.specs.Views.{item}
 use Rattle.bier_subtlv.specs.Views.{parts_view}
 use Rattle.bier_subtlv.proofs.reader.all_parts.Goals as goal

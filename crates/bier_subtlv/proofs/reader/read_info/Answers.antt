@@ -1,6 +1,6 @@
 use Rattle.std.proofs.Common.{Ok, arith}
-use Rattle.format_laws.proofs.FieldLaws.{gives_along}
-use Rattle.format_laws.proofs.InfoLaws.{info_only}
+use Rattle.laws_format.proofs.FieldLaws.{gives_along}
+use Rattle.laws_format.proofs.InfoLaws.{info_only}
 use Rattle.bier_subtlv.proofs.ReadLemmas.{read_found, read_fits}
 use Rattle.bier_subtlv.proofs.reader.read_info.Goals as goal
 

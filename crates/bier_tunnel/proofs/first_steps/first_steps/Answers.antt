@@ -5,7 +5,7 @@ use Rattle.wire_base.specs.declared.view.ViewNode.{ViewNode}
 use Rattle.wire_base.specs.model.Choice.{is_length}
 use Rattle.wire_base.specs.model.Graph.{IsEdge, IsGraph, edges_of}
 use Rattle.wire_base.specs.model.Walk.{dist}
-use Rattle.route_laws.proofs.WalkLemmas.{edges-good}
+use Rattle.laws_route.proofs.WalkLemmas.{edges-good}
 use Rattle.bier_tunnel.specs.Steps.{IsLedOn}
 use Rattle.bier_tunnel.proofs.StepLemmas.{one-led, one-passed, no-steps, steps-are}
 use Rattle.bier_tunnel.proofs.first_steps.first_steps.Goals as goal

@@ -3,7 +3,7 @@ use Rattle.std.specs.List.{AllByRecursion}
 use Rattle.wire_base.specs.declared.view.First.{First}
 use Rattle.wire_base.specs.model.Graph.{IsGraph, covers_at, owner}
 use Rattle.wire_base.specs.model.Place.{bits_of, id_at}
-use Rattle.route_laws.proofs.OwnerLemmas.{owner-is}
+use Rattle.laws_route.proofs.OwnerLemmas.{owner-is}
 use Rattle.birt_rows.specs.declared.owner.Found.TheVariants.{Nobody}
 use Rattle.birt_rows.specs.Owner.{owner_among}
 use Rattle.birt_rows.specs.Rows.{row_of_owner}

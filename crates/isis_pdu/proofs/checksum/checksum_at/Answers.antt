@@ -1,5 +1,5 @@
 use Rattle.std.proofs.Common.{◌∙◌, arith}
-use Rattle.format_laws.proofs.ChecksumLaws.{check_found, check_only, check_sum_is, check_octets}
+use Rattle.laws_format.proofs.ChecksumLaws.{check_found, check_only, check_sum_is, check_octets}
 use Rattle.isis_pdu.proofs.checksum.checksum_at.Goals as goal
 
 pub returns-clause-check : goal.returns-clause-check

@@ -1,5 +1,5 @@
 use Rattle.std.proofs.Common.{refl}
-use Rattle.format_laws.proofs.ChecksumLaws.{check_from}
+use Rattle.laws_format.proofs.ChecksumLaws.{check_from}
 use Rattle.isis_pdu.proofs.checksum.pair_at.Goals as goal
 
 pub returns : goal.returns

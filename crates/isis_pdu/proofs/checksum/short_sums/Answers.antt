@@ -1,5 +1,5 @@
 use Rattle.std.proofs.Common.{arith}
-use Rattle.format_laws.proofs.ChecksumLaws.{sum_step, weighted_step}
+use Rattle.laws_format.proofs.ChecksumLaws.{sum_step, weighted_step}
 use Rattle.isis_pdu.proofs.SumLemmas.{sum_chunk, weighted_chunk}
 use Rattle.isis_pdu.proofs.checksum.short_sums.Goals as goal
 

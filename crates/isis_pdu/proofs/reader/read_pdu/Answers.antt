@@ -1,6 +1,6 @@
 use Rattle.std.proofs.Common.{Ok, arith}
-use Rattle.format_laws.proofs.FieldLaws.{gives_along}
-use Rattle.format_laws.proofs.PduLaws.{pdu_only}
+use Rattle.laws_format.proofs.FieldLaws.{gives_along}
+use Rattle.laws_format.proofs.PduLaws.{pdu_only}
 use Rattle.isis_pdu.proofs.ReadLemmas.{read_found}
 use Rattle.isis_pdu.proofs.reader.read_pdu.Goals as goal
 

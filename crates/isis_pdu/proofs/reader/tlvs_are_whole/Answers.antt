@@ -1,5 +1,5 @@
 use Rattle.std.proofs.Common.{sym, ◌∙◌}
-use Rattle.format_laws.proofs.TlvListLaws.{pass_on, pass_off, pass_none, pass_fault}
+use Rattle.laws_format.proofs.TlvListLaws.{pass_on, pass_off, pass_none, pass_fault}
 use Rattle.isis_tlv.specs.Views.{item}
 use Rattle.isis_pdu.proofs.reader.tlvs_are_whole.Goals as goal
 

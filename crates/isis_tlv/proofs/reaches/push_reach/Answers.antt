@@ -1,7 +1,7 @@
 use Rattle.std.proofs.lemmas.Result.{on_ok_weaker}
 use Rattle.wire_base.specs.model.Tlv.{reach, reach_at}
-use Rattle.format_laws.proofs.FieldLaws.{read_again}
-use Rattle.format_laws.proofs.TlvLaws.{reach_again}
+use Rattle.laws_format.proofs.FieldLaws.{read_again}
+use Rattle.laws_format.proofs.TlvLaws.{reach_again}
 use Rattle.isis_tlv.specs.Views.{reach_of}
 use Rattle.isis_tlv.proofs.reaches.push_reach.Goals as goal
 

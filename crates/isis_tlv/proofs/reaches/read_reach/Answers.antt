@@ -1,5 +1,5 @@
 use Rattle.std.proofs.Common.{Ok, arith}
-use Rattle.format_laws.proofs.FieldLaws.{gives_along}
+use Rattle.laws_format.proofs.FieldLaws.{gives_along}
 use Rattle.isis_tlv.proofs.ReadLemmas.{reach_found, reach_only}
 use Rattle.isis_tlv.proofs.reaches.read_reach.Goals as goal
 

@@ -1,7 +1,7 @@
 use Rattle.std.proofs.lemmas.Result.{on_ok_weaker}
 use Rattle.wire_base.specs.model.Tlv.{row, row_at}
-use Rattle.format_laws.proofs.FieldLaws.{read_again}
-use Rattle.format_laws.proofs.TlvLaws.{row_again}
+use Rattle.laws_format.proofs.FieldLaws.{read_again}
+use Rattle.laws_format.proofs.TlvLaws.{row_again}
 use Rattle.isis_tlv.proofs.summaries.push_summary.Goals as goal
 
 pub returns-clause-again : goal.returns-clause-again

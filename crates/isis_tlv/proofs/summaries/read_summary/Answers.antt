@@ -1,5 +1,5 @@
 use Rattle.std.proofs.Common.{sym, ◌∙◌}
-use Rattle.format_laws.proofs.TlvLaws.{row_once}
+use Rattle.laws_format.proofs.TlvLaws.{row_once}
 use Rattle.isis_tlv.proofs.summaries.read_summary.Goals as goal
 
 pub returns-clause-only : goal.returns-clause-only

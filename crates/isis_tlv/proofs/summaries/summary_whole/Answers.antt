@@ -1,7 +1,7 @@
 use Rattle.std.proofs.Common.{arith}
 use Rattle.wire_base.specs.model.Tlv.{row_at}
-use Rattle.format_laws.proofs.FieldLaws.{given_ok}
-use Rattle.format_laws.proofs.TlvLaws.{row_there, row_whole}
+use Rattle.laws_format.proofs.FieldLaws.{given_ok}
+use Rattle.laws_format.proofs.TlvLaws.{row_there, row_whole}
 use Rattle.isis_tlv.proofs.summaries.summary_whole.Goals as goal
 
 pub unwrap-requires : goal.unwrap-requires

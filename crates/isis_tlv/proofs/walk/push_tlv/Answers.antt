@@ -1,5 +1,5 @@
 use Rattle.std.proofs.lemmas.Result.{on_ok_weaker}
-use Rattle.format_laws.proofs.TlvLaws.{tlv_pushed}
+use Rattle.laws_format.proofs.TlvLaws.{tlv_pushed}
 use Rattle.isis_tlv.proofs.walk.push_tlv.Goals as goal
 
 pub returns-clause-again : goal.returns-clause-again

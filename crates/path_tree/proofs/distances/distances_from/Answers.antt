@@ -1,7 +1,7 @@
 use Rattle.std.proofs.Common.{◌<◌, length, sym, subst}
 use Rattle.wire_base.specs.model.Walk.{dist}
 use Rattle.path_tree.specs.Ways.{AreDistsFrom}
-use Rattle.route_laws.proofs.WalkLemmas.{edges-good}
+use Rattle.laws_route.proofs.WalkLemmas.{edges-good}
 use Rattle.path_tree.proofs.ReachLemmas.{reach-from, dists-from, walks-from}
 use Rattle.path_tree.proofs.distances.distances_from.Goals as goal
 

@@ -2,7 +2,7 @@ use Rattle.std.proofs.Common.{None, false, List, All, length, slice_index_or, ap
 use Rattle.std.proofs.lemmas.List.{take_all}
 use Rattle.wire_base.specs.declared.view.ViewEdge.{ViewEdge}
 use Rattle.wire_base.specs.model.Graph.{IsEdge}
-use Rattle.route_laws.proofs.WalkLemmas.{edges-good}
+use Rattle.laws_route.proofs.WalkLemmas.{edges-good}
 use Rattle.path_tree.specs.Forward.{Search, is_forward, look_along}
 use Rattle.path_tree.proofs.forward.look_around.Goals as goal
 

@@ -3,8 +3,8 @@ use Rattle.std.proofs.lemmas.List.{take_all}
 use Rattle.wire_base.specs.declared.view.ViewEdge.{ViewEdge}
 use Rattle.wire_base.specs.model.Graph.{IsEdge}
 use Rattle.wire_base.specs.model.Tight.{IsTight, tight_from, tight_list}
-use Rattle.route_laws.proofs.WalkLemmas.{edges-good}
-use Rattle.route_laws.proofs.TightLemmas.{tight_list-from, tight_from-ordered, tight_from-IsTight}
+use Rattle.laws_route.proofs.WalkLemmas.{edges-good}
+use Rattle.laws_route.proofs.TightLemmas.{tight_list-from, tight_from-ordered, tight_from-IsTight}
 use Rattle.path_tree.proofs.steps.tight_steps.Goals as goal
 
 pub is_tight-requires-clause-to : goal.is_tight-requires-clause-to

@@ -1,8 +1,8 @@
 use Rattle.std.proofs.Common.{subst, ◌∙◌}
 use Rattle.std.specs.Io.KnownBytes.{Appends}
 use Rattle.tool_run.specs.Outside.{Meets, AppendsFront}
-use Rattle.node_run.specs.DomainFile.{HasNone}
-use Rattle.node_run.proofs.Told.{write_fault}
+use Rattle.command_node.specs.DomainFile.{HasNone}
+use Rattle.command_node.proofs.Told.{write_fault}
 use Rattle.replay_run.proofs.Replays.{played, refused_meets, refused_front, none_front}
 use Rattle.replay_run.proofs.top.replay.Goals as goal
 

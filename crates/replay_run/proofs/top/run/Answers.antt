@@ -1,15 +1,15 @@
 use Rattle.std.proofs.Common.{sym, ◌∙◌}
-use Rattle.node_run.specs.declared.words.Form.TheVariants as form
+use Rattle.command_node.specs.declared.words.Form.TheVariants as form
 use Rattle.tool_run.specs.Outside.{Meets, AppendsFront}
 use Rattle.replay_run.proofs.Owed.{told, in_form, no_fault, hop_meets, hop_front, hop_done, hop_reports, headers_meets, headers_front, headers_done, grow_meets, grow_front, usage_meets, usage_front}
-use Rattle.node_run.proofs.Told.{write_fault}
+use Rattle.command_node.proofs.Told.{write_fault}
 use Rattle.replay_run.proofs.Quiet.{no_fault_of_four, quiet_sink}
 use Rattle.replay_run.proofs.Replays.{replay_done, in_replay}
 use Rattle.replay_run.proofs.RunsDone.{run_done}
 use Rattle.replay_run.proofs.Nodes.{in_node, node_run_done}
-use Rattle.replay_laws.specs.Moments.{HasLedgerThroughout, DeliversOnce}
-use Rattle.replay_laws.specs.Reports.{IsReported}
-use Rattle.replay_laws.specs.Once.{ArriveOnce}
+use Rattle.laws_replay.specs.Moments.{HasLedgerThroughout, DeliversOnce}
+use Rattle.laws_replay.specs.Reports.{IsReported}
+use Rattle.laws_replay.specs.Once.{ArriveOnce}
 use Rattle.replay_run.proofs.top.run.Goals as goal
 
 -- ---- words of the form Replay

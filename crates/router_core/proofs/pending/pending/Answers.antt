@@ -1,4 +1,4 @@
-use Rattle.router_laws.specs.State.{control_of}
+use Rattle.laws_router.specs.State.{control_of}
 use Rattle.router_core.proofs.CountLaws.{counted_so}
 use Rattle.router_core.proofs.pending.pending.Goals as goal
 

@@ -3,7 +3,7 @@ use Rattle.wire_base.specs.declared.effects.Sent.{Sent}
 use Rattle.wire_base.specs.declared.entry.Entry.{Entry}
 use Rattle.wire_base.specs.model.Flooding.{due_csnps}
 use Rattle.wire_base.specs.model.OnFrame.{frames_of}
-use Rattle.router_laws.specs.State.{control_of}
+use Rattle.laws_router.specs.State.{control_of}
 use Rattle.router_core.proofs.SendLaws.{due_is}
 use Rattle.router_core.proofs.sending.due_frames.Goals as goal
 

@@ -1,11 +1,11 @@
 use Rattle.std.proofs.Common.{◌≡◌, ◌∙◌, Option, Some, None, sym, ap}
 use Rattle.wire_base.specs.model.Item.{ControlItem}
-use Rattle.domain_frames.specs.declared.flight.Flight.{Flight}
-use Rattle.domain_frames.specs.declared.flight.Note.{Note}
-use Rattle.domain_frames.specs.Flights.{item_seen, frames_at, push_frame}
+use Rattle.frames_in_flight.specs.declared.flight.Flight.{Flight}
+use Rattle.frames_in_flight.specs.declared.flight.Note.{Note}
+use Rattle.frames_in_flight.specs.Flights.{item_seen, frames_at, push_frame}
 use Rattle.domain_core.specs.Held.{state_of, world_in}
 use Rattle.domain_core.specs.Network.{IsFrameOver}
-use Rattle.domain_frames.specs.Read.{pdu_in, copy_in, item_in}
+use Rattle.frames_in_flight.specs.Read.{pdu_in, copy_in, item_in}
 use Rattle.domain_model.specs.Step.{Happened}
 use Rattle.domain_model.proofs.EachLaws.{each_got}
 use Rattle.domain_core.proofs.SeenLaws.{none_seen_at, some_seen_at, frames_pushed}

@@ -2,7 +2,7 @@ use Rattle.std.proofs.Common.{◌∙◌, ℕ, length, Option, Some, sym, ap}
 use Rattle.wire_base.specs.model.Item.{Item}
 use Rattle.domain_model.specs.declared.fault.EventFault.TheVariants as faults
 use Rattle.domain_model.specs.Faults.{frame_fault}
-use Rattle.domain_frames.specs.Flights.{items_seen}
+use Rattle.frames_in_flight.specs.Flights.{items_seen}
 use Rattle.domain_model.specs.World.{queue_at}
 use Rattle.domain_core.proofs.SeenLaws.{seen_length, none_seen_at, some_seen_at}
 use Rattle.domain_core.proofs.network.Network.frame_fault.Goals as goal

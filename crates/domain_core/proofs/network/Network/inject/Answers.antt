@@ -3,9 +3,9 @@ use Rattle.wire_base.specs.declared.conf.RouterConf.{RouterConf}
 use Rattle.wire_base.specs.declared.faults.EdgeFault.{EdgeFault}
 use Rattle.wire_base.specs.model.Control.{Control}
 use Rattle.domain_model.specs.declared.fault.EventFault.TheVariants as faults
-use Rattle.domain_frames.specs.Told.{told, told_of}
+use Rattle.frames_in_flight.specs.Told.{told, told_of}
 use Rattle.domain_model.specs.Faults.{entry_fault}
-use Rattle.domain_frames.specs.Flights.{items_seen, push_all_sent}
+use Rattle.frames_in_flight.specs.Flights.{items_seen, push_all_sent}
 use Rattle.domain_core.specs.Held.{state_of}
 use Rattle.domain_model.specs.Step.{Happened}
 use Rattle.domain_core.proofs.CarryLaws.{set_same, inject_is, inject_carried, inject_world}

@@ -4,10 +4,10 @@ use Rattle.wire_base.specs.declared.conf.RouterConf.{RouterConf}
 use Rattle.replay_text.specs.declared.event.Event.TheVariants.{Lose}
 use Rattle.domain_model.specs.Moves.{item_lost}
 use Rattle.domain_model.specs.Step.{Happened, doing, taken_off}
-use Rattle.domain_frames.specs.declared.flight.Flight.{Flight}
-use Rattle.domain_frames.specs.Flights.{item_seen, frames_at}
-use Rattle.domain_frames.specs.Told.{told}
-use Rattle.domain_frames.proofs.FlightLaws.{none_gone}
+use Rattle.frames_in_flight.specs.declared.flight.Flight.{Flight}
+use Rattle.frames_in_flight.specs.Flights.{item_seen, frames_at}
+use Rattle.frames_in_flight.specs.Told.{told}
+use Rattle.frames_in_flight.proofs.FlightLaws.{none_gone}
 use Rattle.domain_core.specs.Answers.{outcome}
 use Rattle.domain_core.specs.Held.{state_of, world_in, IsDone}
 use Rattle.domain_core.specs.Network.{IsFrameOver, world_of}

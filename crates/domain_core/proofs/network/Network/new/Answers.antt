@@ -1,5 +1,5 @@
 use Rattle.std.proofs.Common.{◌≡◌, ◌∙◌, sym, ap}
-use Rattle.domain_frames.specs.Flights.{no_frames}
+use Rattle.frames_in_flight.specs.Flights.{no_frames}
 use Rattle.domain_core.proofs.StartLaws.{start_world, start_heard, start_kept}
 use Rattle.domain_core.proofs.network.Network.new.Goals as goal
 

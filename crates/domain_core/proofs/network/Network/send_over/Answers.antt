@@ -1,8 +1,8 @@
 use Rattle.std.proofs.Common.{◌≡◌, ◌∙◌, List, [], None, sym, ap}
 use Rattle.wire_base.specs.declared.conf.RouterConf.{RouterConf}
 use Rattle.wire_base.specs.model.Flooding.{send}
-use Rattle.domain_frames.specs.Told.{told, told_of}
-use Rattle.domain_frames.specs.Flights.{items_seen, push_all_sent}
+use Rattle.frames_in_flight.specs.Told.{told, told_of}
+use Rattle.frames_in_flight.specs.Flights.{items_seen, push_all_sent}
 use Rattle.domain_core.specs.Held.{state_of, world_in}
 use Rattle.domain_model.specs.Moves.{replied}
 use Rattle.domain_model.specs.Step.{Happened}

@@ -5,17 +5,17 @@ use Rattle.wire_base.specs.declared.conf.RouterConf.{RouterConf}
 use Rattle.wire_base.specs.declared.effects.Sent.{Sent}
 use Rattle.wire_base.specs.model.OnFrame.{on_frame}
 use Rattle.domain_model.specs.Moves.{item_lost}
-use Rattle.router_laws.specs.State.{RouterState}
-use Rattle.domain_frames.specs.declared.flight.Flight.{Flight}
-use Rattle.domain_frames.specs.Told.{IsSilent, told, told_of}
-use Rattle.domain_frames.specs.Flights.{item_seen, ids_seen, number_of, frames_at, without_frame, push_after, push_all_sent}
+use Rattle.laws_router.specs.State.{RouterState}
+use Rattle.frames_in_flight.specs.declared.flight.Flight.{Flight}
+use Rattle.frames_in_flight.specs.Told.{IsSilent, told, told_of}
+use Rattle.frames_in_flight.specs.Flights.{item_seen, ids_seen, number_of, frames_at, without_frame, push_after, push_all_sent}
 use Rattle.domain_core.specs.Answers.{outcome}
 use Rattle.domain_core.specs.Held.{state_of, world_in, heard_in}
 use Rattle.domain_core.specs.Network.{world_of, IsFrameOver}
 use Rattle.domain_model.specs.Step.{Happened, taken_off}
 use Rattle.domain_model.specs.World.{is_up, queue_over}
 use Rattle.domain_core.proofs.CarryLaws.{set_same, still_world, is_short, unmoved, heard_there, taken_done}
-use Rattle.domain_frames.proofs.ToldLaws.{silent_told}
+use Rattle.frames_in_flight.proofs.ToldLaws.{silent_told}
 use Rattle.domain_core.proofs.RefusalLaws.{toward, link_within, leads_to}
 use Rattle.domain_core.proofs.SeenLaws.{none_seen_at, some_seen_at, frames_left}
 use Rattle.domain_core.proofs.TransitLaws.{gone_world, lost_world, same_frames, none_taken, down_taken, unheard, none_heard}

@@ -5,7 +5,7 @@ use Rattle.wire_base.specs.model.Configuration.{DomainConf}
 use Rattle.replay_text.specs.declared.event.Event.{Event}
 use Rattle.replay_text.specs.declared.event.Event.TheVariants.{Send}
 use Rattle.domain_model.specs.declared.step_out.StepOut.{StepOut}
-use Rattle.domain_frames.specs.Told.{IsShortFrame}
+use Rattle.frames_in_flight.specs.Told.{IsShortFrame}
 use Rattle.domain_core.specs.Answers.{outcome}
 use Rattle.domain_core.specs.Network.{Seen}
 use Rattle.domain_model.specs.Run.{Direction}

@@ -1,8 +1,8 @@
 use Rattle.std.proofs.Common.{ap, ◌∙◌}
 use Rattle.wire_base.specs.declared.faults.TlvFault.TheVariants.{EntryShort}
 use Rattle.wire_base.specs.model.Tlv.{PrefixFits, prefix, prefix_at}
-use Rattle.format_laws.proofs.TlvLaws.{prefix_again}
-use Rattle.format_laws.proofs.TlvListLaws.{prefix_shortens}
+use Rattle.laws_format.proofs.TlvLaws.{prefix_again}
+use Rattle.laws_format.proofs.TlvListLaws.{prefix_shortens}
 use Rattle.isis_tlv.specs.Walked.{walked}
 use Rattle.isis_tlv.proofs.WalkLemmas.{walked_entries, walked_again, prefix_none}
 use Rattle.isis_tlv.proofs.entries.PrefixWalk.new.Goals as goal

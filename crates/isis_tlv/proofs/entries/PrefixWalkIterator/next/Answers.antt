@@ -1,5 +1,5 @@
 use Rattle.wire_base.specs.model.Tlv.{prefix_at}
-use Rattle.format_laws.proofs.TlvListLaws.{prefix_shortens}
+use Rattle.laws_format.proofs.TlvListLaws.{prefix_shortens}
 use Rattle.isis_tlv.specs.Views.{prefix_of}
 use Rattle.isis_tlv.proofs.WalkLemmas.{step_gives, step_goes}
 use Rattle.isis_tlv.proofs.entries.PrefixWalkIterator.next.Goals as goal

@@ -1,5 +1,5 @@
 use Rattle.wire_base.specs.model.Tlv.{reach_at}
-use Rattle.format_laws.proofs.TlvListLaws.{reach_shortens}
+use Rattle.laws_format.proofs.TlvListLaws.{reach_shortens}
 use Rattle.isis_tlv.specs.Views.{reach_of}
 use Rattle.isis_tlv.proofs.WalkLemmas.{step_gives, step_goes}
 use Rattle.isis_tlv.proofs.entries.ReachWalkIterator.next.Goals as goal

@@ -1,5 +1,5 @@
 use Rattle.wire_base.specs.model.Tlv.{row_at}
-use Rattle.format_laws.proofs.TlvListLaws.{row_shortens}
+use Rattle.laws_format.proofs.TlvListLaws.{row_shortens}
 use Rattle.isis_tlv.specs.Walked.{itself}
 use Rattle.isis_tlv.proofs.WalkLemmas.{step_gives, step_goes}
 use Rattle.isis_tlv.proofs.entries.SummaryWalkIterator.next.Goals as goal

@@ -1,5 +1,5 @@
 use Rattle.wire_base.specs.model.Tlv.{one_tlv_at}
-use Rattle.format_laws.proofs.TlvListLaws.{tlv_shortens}
+use Rattle.laws_format.proofs.TlvListLaws.{tlv_shortens}
 use Rattle.isis_tlv.specs.Views.{item}
 use Rattle.isis_tlv.proofs.WalkLemmas.{step_gives, step_goes}
 use Rattle.isis_tlv.proofs.entries.TlvIterIterator.next.Goals as goal

@@ -3,7 +3,7 @@ use Rattle.std.proofs.Common.{◌∙◌, ap, refl}
 use Rattle.wire_base.specs.model.Control.{Control}
 use Rattle.wire_base.specs.model.Flooding.{reissue}
 use Rattle.router_core.proofs.OwnLaws.{own_not_refused, made_id, reissued_is, reissued_keeps, kept_of}
-use Rattle.router_laws.specs.State.{control_of}
+use Rattle.laws_router.specs.State.{control_of}
 use Rattle.router_core.proofs.control.Control.reissue.Goals as goal
 
 pub issue-requires : goal.issue-requires

@@ -1,7 +1,7 @@
 use Rattle.router_core.proofs.IssuedLaws.{started_issued}
 use Rattle.std.proofs.Common.{◌∙◌, length, ap, sym}
 use Rattle.wire_base.specs.model.Control.{Control}
-use Rattle.router_laws.specs.State.{control_of}
+use Rattle.laws_router.specs.State.{control_of}
 use Rattle.router_core.proofs.EventLaws.{started_is, started_keeps, restart_is}
 use Rattle.router_core.proofs.control.Control.restart.Goals as goal
 

@@ -1,4 +1,4 @@
-use Rattle.router_laws.specs.State.{AreIssued}
+use Rattle.laws_router.specs.State.{AreIssued}
 use Rattle.wire_base.specs.model.Flooding.{SnpAnswer}
 use Rattle.router_core.proofs.IssuedLaws.{list_issued}
 use Rattle.router_core.proofs.ReceivedLaws.{list_listed, list_framed, ready_known, ready_keeps, ready_issued, ready_framed}

@@ -1,5 +1,5 @@
 use Rattle.std.proofs.Common.{ap}
-use Rattle.router_laws.specs.State.{RouterState}
+use Rattle.laws_router.specs.State.{RouterState}
 use Rattle.router_core.proofs.BoundLaws.{few_sent, untaken_stays}
 use Rattle.router_core.proofs.router.Router.frame.Goals as goal
 

@@ -1,0 +1,217 @@
+//! Where a node stands: one router and the clock that the records of a capture set.
+ghost use Rattle.std.specs.Prelude.{◌≡◌, ◌<◌, ◌≤◌, ◌-◌, ◌^◌, length, Some, IfOk, IfSome, OnOk};
+ghost use Rattle.std.specs.Str.{bytes_eq};
+ghost use Rattle.pcap_frames.specs.Seen.{record_seen};
+ghost use Rattle.command_node.specs.NodeRun as run;
+ghost use Rattle.wire_base.specs.model.Configuration.{IsSound};
+
+use super::tally::{Tally, sum};
+use super::texts::{push_effects, push_frames};
+use pcap_frames::{CapRecord, write_cap_header};
+use router_core::{Effects, Router, SentFrames};
+use std::alloc::Global;
+use std::marker::Model;
+use wire_base::limits::MOST_FRAME;
+use wire_base::{End, M, Octets, RouterConf};
+
+/// After so many seconds the router sends.
+const SENDS_EVERY: u64 = 5;
+
+/// At most so many seconds pass between two records.
+const MOST_GAP: u64 = 65_535;
+
+/// A router, the second of its clock, once a record has set it, how many seconds have passed, what was done in numbers, and
+/// both texts. What was written out of them already may be let go.
+#[derive(Drop)]
+pub struct Node {
+    router: Router,
+    clock: Option<u32>,
+    ticks: u64,
+    pub tally: Tally,
+    pub frames: Octets,
+    pub report: Octets,
+}
+
+impl Model for Node {
+    ghost use Rattle.command_node.specs.NodeRun as run;
+
+    ghost Value = { run.Node };
+
+    ghost view = { λ n. record { control = n.router.control; clock = n.clock; ticks = n.ticks; tally = n.tally; frames = n.frames; report = n.report } };
+}
+
+/// The place of the end whose peer has that Ethernet address.
+fn link_from(ends: &[End], mac: &[u8]) -> Option<u16>
+    requires { length ends.now ≤ 65535 }
+    ensures link { result ≡ run.link_from ends.now mac.now }
+    ensures there { IfSome result (λ link. link < length ends.now) }
+{
+    for (place, end) in ends.iter().enumerate() {
+        if end.peer_mac.0.as_slice() == mac {
+            return Some(place as u16);
+        }
+    }
+    None
+}
+
+impl Node {
+    /// A router with that configuration has just started; no record was read.
+    pub fn new(alloc: Global, conf: RouterConf) -> M<Self>
+        requires { IsSound conf }
+        ensures { IfOk result (λ node. node ≡ run.first_node conf) }
+    {
+        let mut frames = Octets::new(alloc);
+        write_cap_header(&mut frames)?;
+        Ok(Node {
+            router: Router::new(alloc, conf)?,
+            clock: None,
+            ticks: 0,
+            tally: Tally::none(),
+            frames,
+            report: Octets::new(alloc),
+        })
+    }
+
+    /// The two seconds of a gap that is too long, where a record of that second makes one.
+    pub fn gap_at(&self, sec: u32) -> Option<(u32, u32)>
+        ensures { result ≡ run.gap_at self.now.clock sec }
+    {
+        match self.clock {
+            Some(clock) if u64::from(clock) + MOST_GAP < u64::from(sec) => Some((clock, sec)),
+            _ => None,
+        }
+    }
+
+    /// Frames go out at a time.
+    #[tactic(auto, unfolding(crate::specs::NodeRun::goes_out))]
+    fn go_out(&mut self, sec: u32, usec: u32, sent: &SentFrames) -> M<()>
+        ensures { OnOk result (self.new ≡ run.goes_out sec usec sent.now self.old) }
+    {
+        push_frames(&mut self.frames, sec, usec, sent)?;
+        self.tally.sent = sum(self.tally.sent, sent.len())?;
+        Ok(())
+    }
+
+    /// What is due on a link goes out, where the link is up.
+    #[tactic(auto, unfolding(crate::specs::NodeRun::sends_on))]
+    fn send_on(&mut self, sec: u32, link: u16) -> M<()>
+        ensures { OnOk result (self.new ≡ run.sends_on sec self.old link) }
+    {
+        if !self.router.is_up(link) {
+            return Ok(());
+        }
+        let effects = self.router.send(link)?;
+        self.go_out(sec, 0, &effects.sent)?;
+        Ok(())
+    }
+
+    /// What is due goes out on each link that is up, in order.
+    #[tactic(auto, unfolding(crate::specs::NodeRun::sends_all))]
+    fn send_all(&mut self, sec: u32) -> M<()>
+        ensures { OnOk result (self.new ≡ run.sends_all sec self.old) }
+    {
+        let ends = self.router.conf().ends.len() as u16;
+        for link in 0..ends {
+            self.send_on(sec, link)?;
+        }
+        Ok(())
+    }
+
+    /// One second passes: the router's database ages, and after every fifth second the router sends.
+    #[tactic(auto, unfolding(crate::specs::NodeRun::second_passes))]
+    fn pass_second(&mut self, sec: u32) -> M<()>
+        ensures { OnOk result (self.new ≡ run.second_passes sec self.old) }
+    {
+        self.router.tick()?;
+        self.clock = Some(sec);
+        self.ticks = sum(self.ticks, 1)?;
+        if self.ticks % SENDS_EVERY == 0 {
+            self.send_all(sec)?;
+        }
+        Ok(())
+    }
+
+    /// The seconds after one pass, up to another.
+    #[tactic(auto, unfolding(crate::specs::NodeRun::seconds_pass))]
+    fn pass_seconds(&mut self, from: u32, to: u32) -> M<()>
+        ensures { OnOk result (self.new ≡ run.seconds_pass (to - from) from self.old) }
+    {
+        let mut sec = from;
+        'seconds: while sec < to {
+            sec += 1;
+            self.pass_second(sec)?;
+        }
+        Ok(())
+    }
+
+    /// The clock moves to a record's second.
+    fn move_to(&mut self, sec: u32) -> M<()>
+        ensures { OnOk result (self.new ≡ run.moved_to sec self.old) }
+    {
+        match self.clock {
+            None => self.clock = Some(sec),
+            Some(clock) => self.pass_seconds(clock, sec)?,
+        }
+        Ok(())
+    }
+
+    /// The link that a record came on; none where the record is passed over.
+    fn link_of(&self, captured: &CapRecord) -> Option<u16>
+        ensures link { result ≡ run.link_of self.now.control.conf (record_seen captured.now) }
+        ensures there { IfSome result (λ link. link < length self.now.control.conf.ends) }
+        ensures short { IfSome result (λ link. length captured.now.octets ≤ MOST_FRAME) }
+    {
+        let octets = captured.octets.as_slice();
+        if !captured.whole || octets.len() < 12 || octets.len() > MOST_FRAME {
+            return None;
+        }
+        link_from(self.router.conf().ends.as_slice(), &octets[6..12])
+    }
+
+    /// A record is passed over.
+    fn pass_over(&mut self) -> M<()>
+        ensures { OnOk result (self.new ≡ run.passes self.old) }
+    {
+        self.tally.passed = sum(self.tally.passed, 1)?;
+        Ok(())
+    }
+
+    /// What the router did with a frame is told.
+    fn tell(&mut self, alloc: Global, captured: &CapRecord, effects: &Effects) -> M<()>
+        ensures { OnOk result (self.new ≡ run.tells (record_seen captured.now) effects.now self.old) }
+    {
+        self.tally.used = sum(self.tally.used, 1)?;
+        self.tally.got = sum(self.tally.got, effects.got.len())?;
+        self.tally.dropped = sum(self.tally.dropped, effects.drops.len())?;
+        push_effects(alloc, &mut self.report, self.tally.records, effects)?;
+        self.go_out(captured.sec, captured.usec, &effects.sent)
+    }
+
+    /// The router is given the frame of a record, which came on a link.
+    fn give(&mut self, alloc: Global, captured: &CapRecord, link: u16) -> M<()>
+        requires link { link < length self.old.control.conf.ends }
+        requires short { length captured.now.octets ≤ MOST_FRAME }
+        ensures { OnOk result (self.new ≡ run.given_on (record_seen captured.now) self.old (Some link)) }
+    {
+        let effects = self.router.frame(link, captured.octets.as_slice())?;
+        if effects.passed {
+            self.pass_over()
+        } else {
+            self.tell(alloc, captured, &effects)
+        }
+    }
+
+    /// Does a record: it is counted, the clock moves to its second, and then the router is given its frame.
+    #[tactic(auto, unfolding(crate::specs::NodeRun::record_done))]
+    pub fn take(&mut self, alloc: Global, captured: &CapRecord) -> M<()>
+        requires { self.old.tally.records < 2 ^ 63 }
+        ensures { OnOk result (self.new ≡ run.record_done self.old (record_seen captured.now)) }
+    {
+        self.tally.records += 1;
+        self.move_to(captured.sec)?;
+        match self.link_of(captured) {
+            None => self.pass_over(),
+            Some(link) => self.give(alloc, captured, link),
+        }
+    }
+}

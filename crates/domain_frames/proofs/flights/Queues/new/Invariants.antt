@@ -1,5 +1,0 @@
-use Rattle.std.proofs.Common.{◌≡◌, [], map, take}
-use Rattle.domain_frames.proofs.flights.Queues.new.Given as goal
-
-abbrev pub invariant-loop-end : goal.invariant-loop-end
-invariant-loop-end l = l.queues.items ≡ map (λ e. []) (take l._end-index l.ends)

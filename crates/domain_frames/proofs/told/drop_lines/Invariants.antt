@@ -1,7 +1,0 @@
-use Rattle.std.proofs.Common.{◌≡◌, map, option_map, take}
-use Rattle.domain_frames.specs.Flights.{ids_taken}
-use Rattle.domain_frames.specs.Framed.{drop_line}
-use Rattle.domain_frames.proofs.told.drop_lines.Given as goal
-
-abbrev pub invariant-loop-note : goal.invariant-loop-note
-invariant-loop-note l = l.lines ≡ map (drop_line l.at l.number (ids_taken l.confs (option_map (λ f. f.now) l.taken))) (take l.note-index l.drops)

@@ -1,0 +1,122 @@
+//! What a router sends is put on its way.
+ghost use Rattle.std.specs.Prelude.{◌≡◌, ◌≤◌, [], length, drop, OnOk, OnErr, OnSome, IfOk, IfSome};
+ghost use Rattle.std.specs.List.{AllByRecursion};
+ghost use Rattle.wire_base.specs.model.Configuration.{IsSound};
+ghost use Rattle.frames_in_flight.specs.Told.{told_of};
+ghost use Rattle.frames_in_flight.specs.Flights.{IsOver, push_all_sent};
+ghost use Rattle.frames_in_flight.specs.Framed.{note_over};
+ghost use Rattle.domain_model.specs.World.{peer_place};
+
+use crate::flight::Note;
+use crate::flights::Flights;
+use crate::places::peer_place;
+use crate::told::{lines_of, with_sent};
+use bier_forward::{Effects, SentFrames};
+use domain_model::StepOut;
+use wire_base::limits::MOST_ROUTERS;
+use wire_base::{M, RouterConf};
+
+/// What the router at a place did by itself, for that injection or for none, is told, and what it sent is put on its way; or
+/// all is as it was. Where one of its ends leads may be known.
+pub fn carry(
+    flights: &mut Flights,
+    confs: &[RouterConf],
+    at: u16,
+    number: Option<u32>,
+    known: Option<(u16, u16)>,
+    effects: Effects,
+) -> M<StepOut>
+    requires few { length confs.now ≤ MOST_ROUTERS }
+    requires sound { AllByRecursion IsSound confs.now }
+    requires known { IfSome known (λ k. k.1 ≡ peer_place confs.now at k.0) }
+    ensures out { IfOk result (λ out. out ≡ told_of confs.now at number [] effects) }
+    ensures ok { OnOk result (flights.new ≡ push_all_sent confs.now at number flights.old effects.sent) }
+    ensures err { OnErr result (flights.new ≡ flights.old) }
+{
+    let lines = lines_of(effects.allocator(), confs, at, number, None, &effects)?;
+    send_all(flights, confs, at, number, &effects.sent)?;
+    Ok(with_sent(lines, confs, at, known, effects.sent))
+}
+
+/// Puts what the router at a place sends, for that injection or for none, at the ends of its directions, in order; or all is
+/// as it was. Frames that share their link, as they mostly do, go there at once.
+#[tactic(auto, using(crate::proofs::SentLaws::all_sent))]
+pub fn send_all(
+    flights: &mut Flights,
+    confs: &[RouterConf],
+    at: u16,
+    number: Option<u32>,
+    sent: &SentFrames,
+) -> M<()>
+    requires { length confs.now ≤ MOST_ROUTERS }
+    ensures ok { OnOk result (flights.new ≡ push_all_sent confs.now at number flights.old sent.now) }
+    ensures err { OnErr result (flights.new ≡ flights.old) }
+    ensures memory { OnErr result (sent.now ≡ [] → ⊥) }
+{
+    match shared_link(sent) {
+        Some(link) => {
+            let note = note_over(confs, at, number, link);
+            flights.push_all(at, link, sent.frames(), note)
+        }
+        None => send_from(flights, confs, at, number, sent, 0),
+    }
+}
+
+/// The link that all frames are sent on, where there are frames and it is one.
+fn shared_link(sent: &SentFrames) -> Option<u16>
+    ensures shared { IfSome result (λ link. AllByRecursion (IsOver link) sent.now) }
+    ensures some { OnSome result (sent.now ≡ [] → ⊥) }
+{
+    if sent.len() == 0 {
+        return None;
+    }
+    let link = sent.link_at(0);
+    'frames: for place in 0..sent.len() {
+        if sent.link_at(place) != link {
+            return None;
+        }
+    }
+    Some(link)
+}
+
+/// The same for the frames from a place on.
+#[tactic(auto, using(crate::proofs::QueueLaws::sent_from, crate::proofs::QueueLaws::sent_none))]
+fn send_from(
+    flights: &mut Flights,
+    confs: &[RouterConf],
+    at: u16,
+    number: Option<u32>,
+    sent: &SentFrames,
+    place: usize,
+) -> M<()>
+    requires few { length confs.now ≤ MOST_ROUTERS }
+    ensures ok { OnOk result (flights.new ≡ push_all_sent confs.now at number flights.old (drop place sent.now)) }
+    ensures err { OnErr result (flights.new ≡ flights.old) }
+    ensures memory { OnErr result (drop place sent.now ≡ [] → ⊥) }
+{
+    if place >= sent.len() {
+        return Ok(());
+    }
+    let link = sent.link_at(place);
+    let note = note_over(confs, at, number, link);
+    flights.push(at, link, sent.octets_at(place), note)?;
+    let done = send_from(flights, confs, at, number, sent, place + 1);
+    if done.is_err() {
+        flights.pop(at, link);
+    }
+    done
+}
+
+/// What is noted of a frame that the router at a place sends over an end.
+fn note_over(confs: &[RouterConf], at: u16, number: Option<u32>, link: u16) -> Option<Note>
+    requires { length confs.now ≤ MOST_ROUTERS }
+    ensures { result ≡ note_over confs.now at number link }
+{
+    match number {
+        None => None,
+        Some(number) => Some(Note {
+            number,
+            to: peer_place(confs, at, link),
+        }),
+    }
+}

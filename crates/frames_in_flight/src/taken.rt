@@ -1,0 +1,76 @@
+//! Frames that leave their way, since a router took or dropped them.
+ghost use Rattle.std.specs.Prelude.{◌≡◌, ◌≤◌, length, slice_get, option_map, IfOk, IfSome, OnOk, OnErr};
+ghost use Rattle.std.specs.List.{AllByRecursion};
+ghost use Rattle.wire_base.specs.model.Configuration.{IsSound};
+ghost use Rattle.frames_in_flight.specs.Flights.{frames_at, ids_seen, item_seen, number_of, push_after, without_frame};
+ghost use Rattle.frames_in_flight.specs.Told.{IsSilent, told, told_of};
+ghost use Rattle.domain_model.specs.Moves.{item_lost};
+ghost use Rattle.domain_model.specs.World.{peer_place};
+
+use crate::flights::Flights;
+use crate::sent::send_all;
+use crate::told::{lines_of, lost, number_of, with_sent};
+use bier_forward::Effects;
+use domain_model::StepOut;
+use std::alloc::Global;
+use wire_base::limits::MOST_ROUTERS;
+use wire_base::{Cause, M, RouterConf};
+
+/// The frame at a place of those in a direction is dropped as a whole by the router at the place `at`, and is gone; or all is as
+/// it was. Nothing is told where there is no such frame.
+pub fn drop_flight(
+    alloc: Global,
+    flights: &mut Flights,
+    confs: &[RouterConf],
+    place: u16,
+    link: u16,
+    i: u32,
+    at: u16,
+    cause: Cause,
+) -> M<Option<StepOut>>
+    requires few { length confs.now ≤ MOST_ROUTERS }
+    requires sound { AllByRecursion IsSound confs.now }
+    ensures out { IfOk result (λ out. out ≡ option_map (λ f. told confs.now (item_lost at cause (item_seen confs.now f))) (slice_get (frames_at flights.old place link) i)) }
+    ensures ok { OnOk result (flights.new ≡ without_frame flights.old place link i) }
+    ensures err { OnErr result (flights.new ≡ flights.old) }
+{
+    let Some(flight) = flights.get(place, link, i) else {
+        return Ok(None);
+    };
+    let out = lost(alloc, confs, at, cause, &flight)?;
+    flights.remove(place, link, i as usize);
+    Ok(Some(out))
+}
+
+/// What the router at the place `at` did that took the frame at a place of those in a direction is told, and what it sent is put
+/// on its way; the frame is gone then. Or all is as it was. Nothing is told where there is no such frame.
+///
+/// Where one of its ends leads may be known.
+pub fn carry_taken(
+    flights: &mut Flights,
+    confs: &[RouterConf],
+    place: u16,
+    link: u16,
+    i: u32,
+    at: u16,
+    known: Option<(u16, u16)>,
+    effects: Effects,
+) -> M<Option<StepOut>>
+    requires few { length confs.now ≤ MOST_ROUTERS }
+    requires sound { AllByRecursion IsSound confs.now }
+    requires known { IfSome known (λ k. k.1 ≡ peer_place confs.now at k.0) }
+    ensures out { IfOk result (λ out. out ≡ option_map (λ f. told_of confs.now at (number_of f) (ids_seen confs.now f) effects) (slice_get (frames_at flights.old place link) i)) }
+    ensures ok { OnOk result (flights.new ≡ push_after confs.now at effects.sent flights.old place link i (slice_get (frames_at flights.old place link) i)) }
+    ensures err { OnErr result (flights.new ≡ flights.old) }
+    ensures memory { OnErr result (IsSilent effects → ⊥) }
+{
+    let Some(flight) = flights.get(place, link, i) else {
+        return Ok(None);
+    };
+    let number = number_of(&flight);
+    let alloc = effects.allocator();
+    let lines = lines_of(alloc, confs, at, number, Some(&flight), &effects)?;
+    send_all(flights, confs, at, number, &effects.sent)?;
+    flights.remove(place, link, i as usize);
+    Ok(Some(with_sent(lines, confs, at, known, effects.sent)))
+}

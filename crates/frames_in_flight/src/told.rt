@@ -1,0 +1,274 @@
+//! What is told of what a router does.
+ghost use Rattle.std.specs.Prelude.{◌≡◌, ◌↔◌, ◌≤◌, IsTrue, ◌++◌, ◌∷◌, [], ℕ, length, map, filter, Option, option_map, IfOk, IfSome, OnOk, OnErr};
+ghost use Rattle.std.specs.List.{AllByRecursion};
+ghost use Rattle.wire_base.specs.model.BitSet.{has_member};
+ghost use Rattle.wire_base.specs.model.Configuration.{IsSound};
+ghost use Rattle.wire_base.specs.model.Item.{Outer};
+ghost use Rattle.wire_base.specs.model.Place.{bits_of, id_at};
+ghost use Rattle.bfr_edge.specs.Entry.{positions_in};
+ghost use Rattle.bier_bits.specs.Any.{bsl_of, positions_of};
+ghost use Rattle.bier_forward.specs.Sets.{set_in, HasLength, HaveLength};
+ghost use Rattle.frames_in_flight.specs.Told.{IsSilent, told_of};
+ghost use Rattle.frames_in_flight.specs.Flights.{item_seen, number_of, ids_seen, ids_taken};
+ghost use Rattle.frames_in_flight.specs.Framed.{peer_noted, wire_from, got_line, drop_line, ids_dropped};
+ghost use Rattle.frames_in_flight.specs.Read.{copy_read, packet_in};
+ghost use Rattle.domain_model.specs.Moves.{item_lost, listed};
+ghost use Rattle.domain_model.specs.World.{peer_place};
+
+use crate::flight::FlightSeen;
+use crate::inside::packet_in;
+use crate::places::peer_place;
+use bfr_edge::Packet;
+use bier_bits::AnyBits;
+use bier_forward::{DropNote, Effects, SentFrames};
+use domain_model::{DropLine, GotLine, StepOut, WireFrames};
+use frame_list::FrameList;
+use std::alloc::Global;
+use wire_base::limits::MOST_ROUTERS;
+use wire_base::{Cause, Got, M, RouterConf, Rows, Triple};
+
+/// What is told of what the router at a place delivered and dropped, for that injection or for none, having taken that frame or
+/// none. Where it did neither, no memory is taken.
+pub fn lines_of(
+    alloc: Global,
+    confs: &[RouterConf],
+    at: u16,
+    number: Option<u32>,
+    taken: Option<&FlightSeen<'_>>,
+    effects: &Effects,
+) -> M<StepOut>
+    requires few { length confs.now ≤ MOST_ROUTERS }
+    requires sound { AllByRecursion IsSound confs.now }
+    ensures out { IfOk result (λ out. out ≡ record (told_of confs.now at number (ids_taken confs.now (option_map (λ f. f.now) taken.entry)) effects.now) { sent = [] }) }
+    ensures memory { OnErr result (effects.now.got ≡ [] → effects.now.drops ≡ [] → ⊥) }
+{
+    Ok(StepOut {
+        sent: WireFrames::new(alloc),
+        got: got_lines(alloc, at, number, effects.got.as_slice())?,
+        drops: drop_lines(alloc, confs, at, number, taken, effects.drops.as_slice())?,
+    })
+}
+
+/// The same with what the router sent, which takes no memory. Where one of its ends leads may be known.
+pub fn with_sent(
+    lines: StepOut,
+    confs: &[RouterConf],
+    at: u16,
+    known: Option<(u16, u16)>,
+    sent: SentFrames,
+) -> StepOut
+    requires few { length confs.now ≤ MOST_ROUTERS }
+    requires known { IfSome known (λ k. k.1 ≡ peer_place confs.now at k.0) }
+    ensures { result ≡ record lines { sent = map (wire_from confs.now at) sent } }
+{
+    StepOut {
+        sent: wire_frames(confs, at, known, sent),
+        got: lines.got,
+        drops: lines.drops,
+    }
+}
+
+/// Whether a router sent, delivered and dropped nothing.
+pub fn is_silent(effects: &Effects) -> bool
+    ensures { IsTrue result ↔ IsSilent effects.now }
+{
+    effects.sent.len() == 0 && effects.got.len() == 0 && effects.drops.len() == 0
+}
+
+/// The injection that a frame comes of.
+pub fn number_of(flight: &FlightSeen<'_>) -> Option<u32>
+    ensures { result ≡ number_of flight.now }
+{
+    match flight.note {
+        None => None,
+        Some(note) => Some(note.number),
+    }
+}
+
+/// The place of the router at the other end of a link, which may be that of the end that is known.
+fn peer_again(confs: &[RouterConf], at: u16, link: u16, known: Option<(u16, u16)>) -> u16
+    requires few { length confs.now ≤ MOST_ROUTERS }
+    requires known { IfSome known (λ k. k.1 ≡ peer_place confs.now at k.0) }
+    ensures { result ≡ peer_place confs.now at link }
+{
+    match known {
+        Some((end, to)) if end == link => to,
+        _ => peer_place(confs, at, link),
+    }
+}
+
+/// What is sent, as frames.
+#[tactic(auto, using(crate::proofs::SentLaws::wires_are))]
+fn wire_frames(
+    confs: &[RouterConf],
+    at: u16,
+    known: Option<(u16, u16)>,
+    sent: SentFrames,
+) -> WireFrames
+    requires few { length confs.now ≤ MOST_ROUTERS }
+    requires known { IfSome known (λ k. k.1 ≡ peer_place confs.now at k.0) }
+    ensures { result ≡ map (wire_from confs.now at) sent }
+{
+    let mut frames = sent.into_frames();
+    note_peers(confs, at, known, &mut frames);
+    WireFrames::sent_by(at, frames)
+}
+
+/// Notes of each frame the router at the other end in place of the link. Those that go out together mostly share their link, so
+/// the place that was found last is at hand.
+fn note_peers(confs: &[RouterConf], at: u16, known: Option<(u16, u16)>, frames: &mut FrameList<u16>)
+    requires few { length confs.now ≤ MOST_ROUTERS }
+    requires known { IfSome known (λ k. k.1 ≡ peer_place confs.now at k.0) }
+    ensures { frames.new ≡ map (peer_noted confs.now at) frames.old }
+{
+    let mut last = known;
+    'frames: for place in 0..frames.len() {
+        let link = frames.note_at(place);
+        let to = peer_again(confs, at, link, last);
+        last = Some((link, to));
+        frames.set_note(place, to);
+    }
+}
+
+fn got_lines(alloc: Global, at: u16, number: Option<u32>, got: &[Got]) -> M<Rows<GotLine>>
+    ensures lines { IfOk result (λ lines. lines ≡ map (got_line at number) got.now) }
+    ensures memory { OnErr result (got.now ≡ [] → ⊥) }
+{
+    let mut lines = Rows::new(alloc);
+    for delivery in got {
+        lines.push(GotLine {
+            router: at,
+            injection: number.unwrap_or(0),
+            id: delivery.id,
+            payload: delivery.payload.copy()?,
+        })?;
+    }
+    Ok(lines)
+}
+
+fn drop_lines(
+    alloc: Global,
+    confs: &[RouterConf],
+    at: u16,
+    number: Option<u32>,
+    taken: Option<&FlightSeen<'_>>,
+    drops: &[DropNote],
+) -> M<Rows<DropLine>>
+    requires few { length confs.now ≤ MOST_ROUTERS }
+    requires sound { AllByRecursion IsSound confs.now }
+    ensures lines { IfOk result (λ lines. lines ≡ map (drop_line at number (ids_taken confs.now (option_map (λ f. f.now) taken.entry))) drops.now) }
+    ensures memory { OnErr result (drops.now ≡ [] → ⊥) }
+{
+    let mut lines = Rows::new(alloc);
+    for note in drops {
+        lines.push(DropLine {
+            router: at,
+            injection: number,
+            cause: note.cause,
+            ids: ids_dropped(alloc, confs, taken, &note.sets)?,
+        })?;
+    }
+    Ok(lines)
+}
+
+/// The BFR-ids of positions; of a frame that is dropped as a whole they are all that it has.
+fn ids_dropped(
+    alloc: Global,
+    confs: &[RouterConf],
+    taken: Option<&FlightSeen<'_>>,
+    sets: &Option<Packet>,
+) -> M<Rows<u16>>
+    requires few { length confs.now ≤ MOST_ROUTERS }
+    requires sound { AllByRecursion IsSound confs.now }
+    requires length { HaveLength sets.now }
+    ensures { IfOk result (λ ids. ids ≡ ids_dropped (ids_taken confs.now (option_map (λ f. f.now) taken.entry)) (set_in sets.now)) }
+{
+    match sets {
+        None => ids_taken(alloc, confs, taken),
+        Some(packet) => ids_listed(alloc, packet.triple, &packet.bits),
+    }
+}
+
+fn ids_taken(alloc: Global, confs: &[RouterConf], taken: Option<&FlightSeen<'_>>) -> M<Rows<u16>>
+    requires few { length confs.now ≤ MOST_ROUTERS }
+    requires sound { AllByRecursion IsSound confs.now }
+    ensures { IfOk result (λ ids. ids ≡ listed (ids_taken confs.now (option_map (λ f. f.now) taken.entry))) }
+{
+    match taken {
+        None => Ok(Rows::new(alloc)),
+        Some(flight) => ids_of(alloc, confs, flight),
+    }
+}
+
+/// The BFR-ids of a frame; a PDU has none.
+#[tactic(auto, unfolding(crate::specs::Read::item_in))]
+fn ids_of(alloc: Global, confs: &[RouterConf], flight: &FlightSeen<'_>) -> M<Rows<u16>>
+    requires few { length confs.now ≤ MOST_ROUTERS }
+    requires sound { AllByRecursion IsSound confs.now }
+    ensures { IfOk result (λ ids. ids ≡ listed (ids_seen confs.now flight.now)) }
+{
+    match flight.note {
+        None => Ok(Rows::new(alloc)),
+        Some(note) => ids_in(alloc, confs, note.to, flight.octets),
+    }
+}
+
+/// The BFR-ids of the packet of a frame that goes to the router at a place.
+fn ids_in(alloc: Global, confs: &[RouterConf], to: u16, octets: &[u8]) -> M<Rows<u16>>
+    requires few { length confs.now ≤ MOST_ROUTERS }
+    requires sound { AllByRecursion IsSound confs.now }
+    ensures { IfOk result (λ ids. (number : ℕ) (outer : Option Outer) → ids ≡ listed (copy_read number outer (packet_in confs.now to octets.now)).ids) }
+{
+    match packet_in(confs, to, octets) {
+        Some(packet) => ids_listed(alloc, packet.triple, &packet.header.bits),
+        None => Ok(Rows::new(alloc)),
+    }
+}
+
+/// The BFR-ids of bit positions of a triple, ascending. A number above 65,535 is no BFR-id, and isn't listed.
+fn ids_listed(alloc: Global, triple: Triple, bits: &AnyBits) -> M<Rows<u16>>
+    requires { bsl_of bits.now ≡ triple.bsl }
+    ensures { IfOk result (λ ids. ids ≡ listed (map (id_at triple) (positions_of bits.now))) }
+{
+    let mut ids = Rows::new(alloc);
+    for position in 0..bits.bsl().bits() {
+        push_id(&mut ids, triple, bits, position + 1)?;
+    }
+    Ok(ids)
+}
+
+/// Appends the BFR-id of a bit position, where the BitString has it and it is one.
+fn push_id(ids: &mut Rows<u16>, triple: Triple, bits: &AnyBits, position: u16) -> M<()>
+    requires low { 1 ≤ position }
+    requires high { position ≤ bits_of (bsl_of bits.now) }
+    ensures { OnOk result (ids.new ≡ ids.old ++ listed (map (id_at triple) (filter (λ p. has_member p (positions_of bits.now)) (position ∷ [])))) }
+{
+    let id = u32::from(triple.si) * u32::from(triple.bsl.bits()) + u32::from(position);
+    if bits.has(position) && id <= 65535 {
+        ids.push(id as u16)?;
+    }
+    Ok(())
+}
+
+/// What is told of a frame that the router at a place drops as a whole.
+#[tactic(auto, unfolding(crate::specs::Read::item_in))]
+pub fn lost(
+    alloc: Global,
+    confs: &[RouterConf],
+    at: u16,
+    cause: Cause,
+    flight: &FlightSeen<'_>,
+) -> M<StepOut>
+    requires few { length confs.now ≤ MOST_ROUTERS }
+    requires sound { AllByRecursion IsSound confs.now }
+    ensures { IfOk result (λ out. (out.sent ≡ []) × (out.got ≡ []) × (out.drops ≡ (item_lost at cause (item_seen confs.now flight.now)).drops)) }
+{
+    let mut out = StepOut::nothing(alloc);
+    out.drops.push(DropLine {
+        router: at,
+        injection: number_of(flight),
+        cause,
+        ids: ids_of(alloc, confs, flight)?,
+    })?;
+    Ok(out)
+}

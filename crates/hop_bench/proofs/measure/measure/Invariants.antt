@@ -1,4 +1,0 @@
-use Rattle.hop_bench.proofs.measure.measure.Given as goal
-
-abbrev pub ghosts-forward : goal.ghosts-forward
-ghosts-forward a = record { name = a.blank.name; parts = a.blank.parts }

@@ -1,5 +1,0 @@
-use Rattle.std.proofs.Common.{length}
-use Rattle.hop_bench.proofs.measure.pass.Given as goal
-
-abbrev pub decreases-outcomes : goal.decreases-outcomes
-decreases-outcomes g l = length l.hop.rest

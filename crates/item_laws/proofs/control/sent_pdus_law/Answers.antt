@@ -1,8 +1,0 @@
-use Rattle.item_laws.proofs.SendLaws.{send_sendable, reply_sendable}
-use Rattle.item_laws.proofs.control.sent_pdus_law.Goals as goal
-
-pub returns-clause-due : goal.returns-clause-due
-returns-clause-due c = send_sendable
-
-pub returns-clause-answered : goal.returns-clause-answered
-returns-clause-answered c = reply_sendable

@@ -1,0 +1,20 @@
+-- What every event keeps of flags and database: flags at links that are up alone, and at entries that are there; contents
+-- that fit a frame; and the router's own link state PDU, live (ISO/IEC 10589, 7.3.15 and 7.3.16).
+use Rattle.std.specs.Prelude.{◌≡◌, ◌<◌, Bool, false, List, Some}
+use Rattle.std.specs.List.{AllByRecursion}
+use Rattle.wire_base.specs.declared.addresses.SystemId.{SystemId}
+use Rattle.wire_base.specs.declared.entry.Entry.{Entry}
+use Rattle.wire_base.specs.model.Control.{fragment_0, entry_in, Flood, IsFlood, HasEntry}
+use Rattle.laws_router.specs.State.{IsShort}
+
+-- the own link state PDU is there, and isn't yet to be issued anew
+abbrev pub OwnStands : SystemId → List Entry → Type 0
+OwnStands own entries = (e : Entry) × ((entry_in entries (fragment_0 own) ≡ Some e) × (300 < e.life))
+
+pub record Kept (own : SystemId) (up : List Bool) (spent : Bool) (f : Flood) (entries : List Entry) : Type 0 where
+  pub own_is : f.own ≡ own
+  pub up_is : f.up ≡ up
+  pub flood : IsFlood f
+  pub flagged : AllByRecursion (HasEntry entries) f.rows
+  pub short : AllByRecursion IsShort entries
+  pub stands : spent ≡ false → OwnStands own entries

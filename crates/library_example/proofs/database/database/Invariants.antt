@@ -1,5 +1,0 @@
-use Rattle.std.proofs.Common.{length}
-use Rattle.library_example.proofs.database.database.Given as goal
-
-abbrev pub decreases-records : goal.decreases-records
-decreases-records l = length l.reader.octets

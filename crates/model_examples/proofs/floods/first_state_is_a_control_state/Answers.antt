@@ -1,5 +1,0 @@
-use Rattle.model_examples.proofs.FirstStates.{first_state}
-use Rattle.model_examples.proofs.floods.first_state_is_a_control_state.Goals as goal
-
-pub returns : goal.returns
-returns c = λ r sound. first_state r sound

@@ -1,9 +1,0 @@
-use Rattle.std.proofs.Common.{◌≡◌, ◌-◌}
-use Rattle.node_run.specs.NodeRun.{seconds_pass}
-use Rattle.node_run.proofs.node_command.standing.Node.pass_seconds.Given as goal
-
-abbrev pub invariant-seconds : goal.invariant-seconds
-invariant-seconds l = seconds_pass (l.to - l.sec) l.sec l.self ≡ seconds_pass (l.to - l.from) l.from l.fn.self
-
-abbrev pub decreases-seconds : goal.decreases-seconds
-decreases-seconds l = l.to - l.sec

@@ -1,6 +1,0 @@
-use Rattle.std.proofs.Common.{slice_get}
-use Rattle.node_run.proofs.NodeLoop.{starts_so}
-use Rattle.node_run.proofs.node_command.start.Goals as goal
-
-pub returns : goal.returns
-returns c = starts_so (slice_get c.args.domain.now.routers c.args.router) c.in_ok-conf_at.field-0 c.new.result c.in_ok-conf_at.ensures.at c.new.ensures

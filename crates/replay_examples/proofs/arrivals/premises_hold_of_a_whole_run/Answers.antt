@@ -1,8 +1,0 @@
-use Rattle.replay_examples.proofs.ArrivalLaws.{undisturbed_a, undisturbed_b}
-use Rattle.replay_examples.proofs.arrivals.premises_hold_of_a_whole_run.Goals as goal
-
-pub returns-clause-own : goal.returns-clause-own
-returns-clause-own _ = undisturbed_a
-
-pub returns-clause-b : goal.returns-clause-b
-returns-clause-b _ = undisturbed_b

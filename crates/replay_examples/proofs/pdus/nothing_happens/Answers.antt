@@ -1,7 +1,0 @@
-use Rattle.std.proofs.Common.{refl}
-use Rattle.replay_examples.proofs.OnLiterals.{views_on_literals, floods_on_literals, runs_on_literals, texts_on_literals}
-use Rattle.replay_examples.proofs.pdus.nothing_happens.Goals as goal
-
-pub returns-clause-report : goal.returns-clause-report
-unfolding views_on_literals floods_on_literals runs_on_literals texts_on_literals
-returns-clause-report c = refl

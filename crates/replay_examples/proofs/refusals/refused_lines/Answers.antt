@@ -1,7 +1,0 @@
-use Rattle.std.proofs.Common.{refl}
-use Rattle.replay_examples.proofs.OnLiterals.{views_on_literals, floods_on_literals, runs_on_literals, texts_on_literals}
-use Rattle.replay_examples.proofs.refusals.refused_lines.Goals as goal
-
-pub returns-clause-line : goal.returns-clause-line
-unfolding views_on_literals floods_on_literals runs_on_literals texts_on_literals
-returns-clause-line c = refl

@@ -1,5 +1,0 @@
-use Rattle.route_laws.proofs.RouteLemmas.{tunnel_links-some}
-use Rattle.route_laws.proofs.choices.tunnels_arrive.Goals as goal
-
-pub returns : goal.returns
-returns _ g u x n good node q = tunnel_links-some g good x u n node q

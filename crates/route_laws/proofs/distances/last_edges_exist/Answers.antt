@@ -1,7 +1,0 @@
-use Rattle.route_laws.proofs.LastLemmas.{dist-last}
-use Rattle.route_laws.proofs.distances.last_edges_exist.Goals as goal
-
-pub returns : goal.returns
-returns _ g u d n good node apart q =
-    let w = dist-last g good u d n node apart q in
-    (w.from, w.edge, w.rest, w.there, w.ends, w.known, w.sum)

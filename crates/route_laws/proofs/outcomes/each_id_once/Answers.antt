@@ -1,5 +1,0 @@
-use Rattle.route_laws.proofs.HopLemmas.{hop-partition}
-use Rattle.route_laws.proofs.outcomes.each_id_once.Goals as goal
-
-pub returns : goal.returns
-returns _ own choose ids ttl k = hop-partition own choose ids ttl k

@@ -1,0 +1,54 @@
+//! Router A of small domains, and its ends.
+ghost use Rattle.std.specs.Prelude.{◌≡◌, ◌<◌, IfOk};
+ghost use Rattle.examples_model.specs.Domains as domains;
+ghost use Rattle.examples_model.specs.Domains.{pair_a};
+
+use std::alloc::Global;
+use wire_base::{
+    Bsl, End, Ipv4, Kind, LabelRange, Level, M, Mac, Name, Octets, OwnSub, RouterConf, Rows,
+    SubKind, SystemId,
+};
+
+pub fn router(alloc: Global, ends: Rows<End>) -> M<RouterConf>
+    ensures { IfOk result (λ conf. conf ≡ record pair_a { ends = ends }) }
+{
+    let range = LabelRange {
+        bsl: Bsl::B64,
+        max_si: 0,
+        label: 100,
+    };
+    let kind = SubKind {
+        sd: 0,
+        kind: Kind::Mpls,
+    };
+    let mut subs = Rows::new(alloc);
+    subs.push(OwnSub {
+        sd: 0,
+        id: 1,
+        ranges: Rows::from_slice(alloc, &[range])?,
+    })?;
+    Ok(RouterConf {
+        level: Level::Two,
+        area: Octets::from_slice(alloc, &[0x49, 0, 1])?,
+        name: Name::from_slice(alloc, b"A")?,
+        system: SystemId([0, 0, 0, 0, 0, 1]),
+        prefix: Ipv4([10, 0, 0, 1]),
+        overload: false,
+        subs,
+        kinds: Rows::from_slice(alloc, &[kind])?,
+        table: Rows::new(alloc),
+        ends,
+    })
+}
+
+pub fn end(peer: u8) -> End
+    requires { 0 < peer }
+    ensures { result ≡ domains.end 1 peer }
+{
+    End {
+        peer: SystemId([0, 0, 0, 0, 0, peer]),
+        peer_mac: Mac([2, 0, 0, peer - 1, 0, 0]),
+        own_mac: Mac([2, 0, 0, 0, 0, peer - 1]),
+        metric: 10,
+    }
+}
