@@ -1,0 +1,5 @@
+pub mod Along
+pub mod Looping
+pub mod Written
+pub mod Appends
+pub mod Meanings

@@ -1,0 +1,6 @@
+pub mod Answer
+pub mod Outside
+pub mod Reading
+pub mod Doing
+pub mod Driving
+pub mod Captured
