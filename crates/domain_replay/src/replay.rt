@@ -79,6 +79,7 @@ impl Replay {
         ensures ok { OnOk result (tells_line line (with_texts self.old texts.old) said.now ≡ told (with_texts self.new texts.new)) }
         ensures refused { IfErr result (λ e. e ≢ fault.Memory → tells_line line (with_texts self.old texts.old) said.now ≡ record { telling = with_texts self.new texts.new; refused = Some e }) }
         ensures stops { OnErr result (StopsIn line (with_texts self.old texts.old) (line_events self.old.world said.now) (with_texts self.new texts.new)) }
+        ensures domain { self.new.world.domain ≡ self.old.world.domain }
     {
         self.told
             .do_line(alloc, texts, line, self.directions.as_slice(), said)

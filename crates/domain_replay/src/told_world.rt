@@ -74,7 +74,13 @@ impl ToldWorld {
     }
 
     /// One event, of a line.
-    fn do_event(&mut self, alloc: Global, texts: &mut Texts, line: u32, event: &Event) -> Result<(), EventFault>
+    fn do_event(
+        &mut self,
+        alloc: Global,
+        texts: &mut Texts,
+        line: u32,
+        event: &Event,
+    ) -> Result<(), EventFault>
         requires { IsAsked (length self.old.world.domain.routers) event.now }
         ensures told { Tells (tells_on line (told (with_texts self.old texts.old)) event.now) (with_texts self.new texts.new) result }
         ensures domain { OnOk result (self.new.world.domain ≡ self.old.world.domain) }
@@ -105,7 +111,13 @@ impl ToldWorld {
     }
 
     /// A send over the end at which a direction leaves. Of most sends nothing is told.
-    fn send_one(&mut self, alloc: Global, texts: &mut Texts, line: u32, direction: Direction) -> Result<(), EventFault>
+    fn send_one(
+        &mut self,
+        alloc: Global,
+        texts: &mut Texts,
+        line: u32,
+        direction: Direction,
+    ) -> Result<(), EventFault>
         requires { IsJoining self.old.world.domain.routers direction }
         ensures told { Tells (tells_on line (told (with_texts self.old texts.old)) (events.Send direction.from direction.to)) (with_texts self.new texts.new) result }
         ensures domain { OnOk result (self.new.world.domain ≡ self.old.world.domain) }
@@ -123,7 +135,13 @@ impl ToldWorld {
     }
 
     /// What the end sends over which a direction leaves, where it is up.
-    fn send_now(&mut self, alloc: Global, texts: &mut Texts, line: u32, direction: Direction) -> Result<(), EventFault>
+    fn send_now(
+        &mut self,
+        alloc: Global,
+        texts: &mut Texts,
+        line: u32,
+        direction: Direction,
+    ) -> Result<(), EventFault>
         requires { IsJoining self.old.world.domain.routers direction }
         ensures told { Tells (tells_all line (told (with_texts self.old texts.old)) (sends_of self.old.world direction)) (with_texts self.new texts.new) result }
         ensures domain { OnOk result (self.new.world.domain ≡ self.old.world.domain) }
@@ -136,7 +154,13 @@ impl ToldWorld {
     }
 
     /// Each end that is up sends, direction by direction. No end comes up or goes down by that.
-    fn do_sends(&mut self, alloc: Global, texts: &mut Texts, line: u32, all: &[Direction]) -> Result<(), EventFault>
+    fn do_sends(
+        &mut self,
+        alloc: Global,
+        texts: &mut Texts,
+        line: u32,
+        all: &[Direction],
+    ) -> Result<(), EventFault>
         requires { AllByRecursion (IsJoining self.old.world.domain.routers) all.now }
         ensures told { Tells (tells_all line (told (with_texts self.old texts.old)) (sends_in self.old.world all.now)) (with_texts self.new texts.new) result }
         ensures domain { OnOk result (self.new.world.domain ≡ self.old.world.domain) }
@@ -192,7 +216,13 @@ impl ToldWorld {
     }
 
     /// As many frames arrive as are on their way in a direction now.
-    fn take_now(&mut self, alloc: Global, texts: &mut Texts, line: u32, direction: Direction) -> Result<(), EventFault>
+    fn take_now(
+        &mut self,
+        alloc: Global,
+        texts: &mut Texts,
+        line: u32,
+        direction: Direction,
+    ) -> Result<(), EventFault>
         requires { IsJoining self.old.world.domain.routers direction }
         ensures told { Tells (tells_all line (told (with_texts self.old texts.old)) (taken_now self.old.world direction)) (with_texts self.new texts.new) result }
         ensures domain { OnOk result (self.new.world.domain ≡ self.old.world.domain) }
@@ -212,7 +242,13 @@ impl ToldWorld {
     }
 
     /// All routers take what is on its way to them, direction by direction.
-    fn do_takes(&mut self, alloc: Global, texts: &mut Texts, line: u32, all: &[Direction]) -> Result<(), EventFault>
+    fn do_takes(
+        &mut self,
+        alloc: Global,
+        texts: &mut Texts,
+        line: u32,
+        all: &[Direction],
+    ) -> Result<(), EventFault>
         requires { AllByRecursion (IsJoining self.old.world.domain.routers) all.now }
         ensures told { Tells (tells_all line (told (with_texts self.old texts.old)) (run.round_takes self.old.world all.now)) (with_texts self.new texts.new) result }
         ensures domain { OnOk result (self.new.world.domain ≡ self.old.world.domain) }
@@ -225,7 +261,13 @@ impl ToldWorld {
     }
 
     /// All routers send what is due, and then all take.
-    fn do_round(&mut self, alloc: Global, texts: &mut Texts, line: u32, all: &[Direction]) -> Result<(), EventFault>
+    fn do_round(
+        &mut self,
+        alloc: Global,
+        texts: &mut Texts,
+        line: u32,
+        all: &[Direction],
+    ) -> Result<(), EventFault>
         requires value { all.now ≡ run.directions self.old.world.domain.routers }
         requires joins { AllByRecursion (IsJoining self.old.world.domain.routers) all.now }
         ensures told { Tells (tells_all line (told (with_texts self.old texts.old)) (round_events self.old.world)) (with_texts self.new texts.new) result }
