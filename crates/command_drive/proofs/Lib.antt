@@ -3,3 +3,4 @@ pub mod Looping
 pub mod Written
 pub mod Appends
 pub mod Meanings
+pub mod LineSteps

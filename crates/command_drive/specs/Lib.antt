@@ -4,3 +4,4 @@ pub mod Reading
 pub mod Doing
 pub mod Driving
 pub mod Captured
+pub mod Lines
