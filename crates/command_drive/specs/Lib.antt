@@ -5,3 +5,4 @@ pub mod Doing
 pub mod Driving
 pub mod Captured
 pub mod Lines
+pub mod Records
