@@ -7,3 +7,5 @@ pub mod LineSteps
 pub mod Seeking
 pub mod RecordSteps
 pub mod Pieces
+pub mod Reported
+pub mod Inputs

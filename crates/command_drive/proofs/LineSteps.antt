@@ -194,10 +194,10 @@ unfolding ended_is
 ended_first Ends item lines = refl
 ended_first Fails item lines = refl
 
-over_is : (held octets : List ℕ) (room : ℕ) (end : End) → room < length octets → lines_read held room false end octets ≡ cut_read (held ++ take room octets)
+pub over_is : (held octets : List ℕ) (room : ℕ) (end : End) → room < length octets → lines_read held room false end octets ≡ cut_read (held ++ take room octets)
 over_is held octets room end more = rw (lt-ltb room (length octets) more) refl
 
-under_is : (held octets : List ℕ) (room : ℕ) (end : End) → length octets ≤ room → lines_read held room false end octets ≡ whole_read end (held ++ octets)
+pub under_is : (held octets : List ℕ) (room : ℕ) (end : End) → length octets ≤ room → lines_read held room false end octets ≡ whole_read end (held ++ octets)
 under_is held octets room end fits = rw (le-ltb room (length octets) fits) refl
 
 -- the same lines are given of what gives the same lines
@@ -331,7 +331,7 @@ module _ (left mid left_now : Option (List ℕ)) (reads : End → List ℕ → R
     seeks.octets,
     Consumes-kept left mid left_now seeks.octets seeks.consumed same,
     ap (reads Fails) (sym (append-nil seeks.octets)) ∙ seeks.is Fails [] ∙ ap₂ (λ (l : List ℕ) (b : Bool). lines_read l room b Fails []) held_is under
-    ∙ under_is line [] room Fails (omega arith) ∙ ap (whole_read Fails) (append-nil line) ∙ ap (λ (ls : List (List ℕ)). record { items = map shown ls; behind = Cut }) (none_open line plain),
+        ∙ under_is line [] room Fails (omega arith) ∙ ap (whole_read Fails) (append-nil line) ∙ ap (λ (ls : List (List ℕ)). record { items = map shown ls; behind = Cut }) (none_open line plain),
   )
 
 -- ---- at the end of the source

@@ -6,3 +6,5 @@ pub mod Driving
 pub mod Captured
 pub mod Lines
 pub mod Records
+pub mod Texts
+pub mod Reporting

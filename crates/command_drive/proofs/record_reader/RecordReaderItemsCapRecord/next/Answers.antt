@@ -71,8 +71,7 @@ returns-in_default-clause-found g c =
     let still = none_again c.chunks.self.reader c.next.new.self after none in
     let unended = c.in-Ok-None.ensures.none (ap Ok c.in-Ok-None.field-0-is) in
     let seeks = seeks_as (g.S.Source.left c.args.input.now) (g.S.Source.left c.chunks.input) (records_read c.args.self.now.reader c.args.self.now.room c.args.self.now.over) (records_read c.chunks.self.reader c.chunks.self.room c.chunks.self.over) (records_read c.next.new.self c.chunks.self.room c.chunks.self.over)
-    c.chunks.invariant.seeks (record_none c.chunks.self.reader c.next.new.self after none c.chunks.self.room c.chunks.self.over) in
-    (
+    c.chunks.invariant.seeks (record_none c.chunks.self.reader c.next.new.self after none c.chunks.self.room c.chunks.self.over) in (
       seeks.octets,
       Consumes-kept (g.S.Source.left c.args.input.now) (g.S.Source.left c.chunks.input) (g.S.Source.left c.read.new.self) seeks.octets seeks.consumed c.in_default.ensures.bytes,
       ap (records_read c.args.self.now.reader c.args.self.now.room c.args.self.now.over Fails) (sym (append-nil seeks.octets)) ∙ seeks.is Fails [] ∙ open_end c.next.new.self still unended c.chunks.self.room c.chunks.self.over Fails c.if-self.false,
@@ -89,8 +88,7 @@ returns-then-count-eq0-clause-found g c =
     let nothing : take c.in-Ok.count c.read.new.into ≡ [] = ap (λ (k : ℕ). take k c.read.new.into) c.if-count-eq0.true in
     let consumed = subst (Consumes (g.S.Source.left c.chunks.input) (g.S.Source.left c.read.new.self)) nothing c.in-Ok.ensures.bytes.0 in
     let at_end = c.in-Ok.ensures.bytes.1 c.if-count-eq0.true (omega (arith, c.read.auto.into, c.deref_mut.ensures.len, ap length c.deref_mut.ensures.value, c.chunks.self.chunk)) in
-    let how = c.end.ensures ∙ ap (λ (r : Reading). close_by (end_of r)) (none_still c.chunks.self.reader c.next.new.self after none) in
-    (
+    let how = c.end.ensures ∙ ap (λ (r : Reading). close_by (end_of r)) (none_still c.chunks.self.reader c.next.new.self after none) in (
       seeks.octets,
       subst (Consumes (g.S.Source.left c.args.input.now) (g.S.Source.left c.read.new.self)) (append-nil seeks.octets) (Consumes-trans (g.S.Source.left c.args.input.now) (g.S.Source.left c.chunks.input) (g.S.Source.left c.read.new.self) seeks.octets [] seeks.consumed consumed),
       λ more left.
