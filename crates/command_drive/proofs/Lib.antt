@@ -4,3 +4,8 @@ pub mod Written
 pub mod Appends
 pub mod Meanings
 pub mod LineSteps
+pub mod Seeking
+pub mod RecordSteps
+pub mod Pieces
+pub mod Reported
+pub mod Inputs

@@ -14,6 +14,7 @@ use Rattle.command_drive.specs.declared.items.Found.{Found}
 use Rattle.command_drive.specs.declared.items.Found.TheVariants as found
 use Rattle.command_drive.specs.declared.items.Close.TheVariants as close
 use Rattle.command_drive.specs.Reading.{End, Ends, Fails, Closed, Cut, Reads, first, Left, Finds}
+use Rattle.command_drive.proofs.Seeking.{Seeks, nothing_left}
 use Rattle.command_drive.specs.Lines.{shown, lines_shown, cut_read, whole_read, lines_read, HasNoEnd, kept, TakesPart}
 
 -- ---- what is kept of a line
@@ -193,10 +194,10 @@ unfolding ended_is
 ended_first Ends item lines = refl
 ended_first Fails item lines = refl
 
-over_is : (held octets : List ℕ) (room : ℕ) (end : End) → room < length octets → lines_read held room false end octets ≡ cut_read (held ++ take room octets)
+pub over_is : (held octets : List ℕ) (room : ℕ) (end : End) → room < length octets → lines_read held room false end octets ≡ cut_read (held ++ take room octets)
 over_is held octets room end more = rw (lt-ltb room (length octets) more) refl
 
-under_is : (held octets : List ℕ) (room : ℕ) (end : End) → length octets ≤ room → lines_read held room false end octets ≡ whole_read end (held ++ octets)
+pub under_is : (held octets : List ℕ) (room : ℕ) (end : End) → length octets ≤ room → lines_read held room false end octets ≡ whole_read end (held ++ octets)
 under_is held octets room end fits = rw (le-ltb room (length octets) fits) refl
 
 -- the same lines are given of what gives the same lines
@@ -266,16 +267,7 @@ chunk_less room count held held_now room_now false some room_is held_is less = o
 
 -- ---- a reader on its way to the next line
 
--- What was read so far, and that the lines of it and more are those of what is held and more.
-pub record Seeks (left left_now : Option (List ℕ)) (reads : End → List ℕ → Reads (List ℕ)) (held : List ℕ) (room : ℕ) (over : Bool) : Type 0 where
-  pub octets : List ℕ
-  pub consumed : Consumes left left_now octets
-  pub is : (end : End) (more : List ℕ) → reads end (octets ++ more) ≡ lines_read held room over end more
-
-pub seeks_first : (left : Option (List ℕ)) (held : List ℕ) (room : ℕ) (over : Bool) → Seeks left left (lines_read held room over) held room over
-seeks_first left held room over = record { octets = []; consumed = Consumes-nil left; is = λ end more. refl }
-
-module _ (left left_now : Option (List ℕ)) (reads : End → List ℕ → Reads (List ℕ)) (line unread unread_now line_now : List ℕ) (room : ℕ) (over : Bool) (seeks : Seeks left left_now reads (line ++ unread) room over) (plain : HasNoEnd line) where
+module _ (left left_now : Option (List ℕ)) (reads : End → List ℕ → Reads (List ℕ)) (line unread unread_now line_now : List ℕ) (room : ℕ) (over : Bool) (seeks : Seeks left left_now reads (lines_read (line ++ unread) room over)) (plain : HasNoEnd line) where
   -- the line was found
   pub seeks_line : (item front rest : List ℕ) (room_now : ℕ) (over_now : Bool) → TakesPart true unread line unread_now line_now → item ≡ shown (strip_carriage_return line_now) → front ≡ [] → rest ≡ unread_now → room_now ≡ room → over_now ≡ over
       → (octets : List ℕ) × Consumes left left_now octets × ((end : End) (more : List ℕ) → reads end (octets ++ more) ≡ first item (lines_read (front ++ rest) room_now over_now end more))
@@ -292,7 +284,7 @@ module _ (left left_now : Option (List ℕ)) (reads : End → List ℕ → Reads
   )
 
   -- all that was left is of the line
-  pub seeks_on : TakesPart false unread line unread_now line_now → Seeks left left_now reads (line_now ++ unread_now) room over
+  pub seeks_on : TakesPart false unread line unread_now line_now → Seeks left left_now reads (lines_read (line_now ++ unread_now) room over)
   seeks_on takes =
       record {
         octets = seeks.octets;
@@ -303,13 +295,13 @@ module _ (left left_now : Option (List ℕ)) (reads : End → List ℕ → Reads
             ∙ ap (λ (l : List ℕ). lines_read l room over end more) held;
       }
 
-module _ (left mid left_now : Option (List ℕ)) (reads : End → List ℕ → Reads (List ℕ)) (line unread : List ℕ) (room : ℕ) (over : Bool) (seeks : Seeks left mid reads (line ++ unread) room over) (none : unread ≡ []) where
+module _ (left mid left_now : Option (List ℕ)) (reads : End → List ℕ → Reads (List ℕ)) (line unread : List ℕ) (room : ℕ) (over : Bool) (seeks : Seeks left mid reads (lines_read (line ++ unread) room over)) (none : unread ≡ []) where
   held_is : line ++ unread ≡ line
   held_is = ap (λ (l : List ℕ). line ++ l) none ∙ append-nil line
 
   -- a further chunk was read
   pub seeks_more : (octets line_now unread_now : List ℕ) (room_now : ℕ) (over_now : Bool) → Consumes mid left_now octets → over ≡ false → line_now ≡ line → unread_now ≡ take room octets → room_now ≡ room - length octets → over_now ≡ nat_lt room (length octets)
-      → Seeks left left_now reads (line_now ++ unread_now) room_now over_now
+      → Seeks left left_now reads (lines_read (line_now ++ unread_now) room_now over_now)
   seeks_more octets line_now unread_now room_now over_now consumed under line_is unread_is room_is over_is =
       record {
         octets = seeks.octets ++ octets;
@@ -339,20 +331,16 @@ module _ (left mid left_now : Option (List ℕ)) (reads : End → List ℕ → R
     seeks.octets,
     Consumes-kept left mid left_now seeks.octets seeks.consumed same,
     ap (reads Fails) (sym (append-nil seeks.octets)) ∙ seeks.is Fails [] ∙ ap₂ (λ (l : List ℕ) (b : Bool). lines_read l room b Fails []) held_is under
-    ∙ under_is line [] room Fails (omega arith) ∙ ap (whole_read Fails) (append-nil line) ∙ ap (λ (ls : List (List ℕ)). record { items = map shown ls; behind = Cut }) (none_open line plain),
+        ∙ under_is line [] room Fails (omega arith) ∙ ap (whole_read Fails) (append-nil line) ∙ ap (λ (ls : List (List ℕ)). record { items = map shown ls; behind = Cut }) (none_open line plain),
   )
 
 -- ---- at the end of the source
-
-pub nothing_left : (left : Option (List ℕ)) (more : List ℕ) → IsAtEnd left → Left left more → more ≡ []
-nothing_left None more at_end left = left
-nothing_left (Some rest) more at_end left = sym left ∙ at_end
 
 pub none_long : (octets : List ℕ) → length octets ≡ 0 → octets ≡ []
 none_long [] is = refl
 none_long (octet ∷ octets) is = absurd (omega arith)
 
-module _ (left left_now : Option (List ℕ)) (reads : End → List ℕ → Reads (List ℕ)) (line unread : List ℕ) (room : ℕ) (over : Bool) (seeks : Seeks left left_now reads (line ++ unread) room over) (none : unread ≡ []) (under : over ≡ false) (at_end : IsAtEnd left_now) where
+module _ (left left_now : Option (List ℕ)) (reads : End → List ℕ → Reads (List ℕ)) (line unread : List ℕ) (room : ℕ) (over : Bool) (seeks : Seeks left left_now reads (lines_read (line ++ unread) room over)) (none : unread ≡ []) (under : over ≡ false) (at_end : IsAtEnd left_now) where
   whole_line : (more : List ℕ) → Left left_now more → reads Ends (seeks.octets ++ more) ≡ record { items = lines_shown true line; behind = Closed close.Ended }
   whole_line more left_more =
       ap (λ (l : List ℕ). reads Ends (seeks.octets ++ l)) (nothing_left left_now more at_end left_more) ∙ seeks.is Ends []

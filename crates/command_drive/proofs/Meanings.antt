@@ -7,9 +7,9 @@ use Rattle.wire_base.specs.declared.status.Status.TheVariants.{ReadFault}
 use Rattle.run_texts.specs.declared.texts.Texts.{Texts}
 use Rattle.command_drive.specs.Answer.{Verdict}
 use Rattle.command_drive.specs.Outside.{Meets, AppendsFronts}
-use Rattle.command_drive.specs.Reading.{Ends, Fails}
+use Rattle.command_drive.specs.Reading.{End, Ends, Fails, Reads}
 use Rattle.command_drive.specs.Doing.{Owed, Told, told}
-use Rattle.command_drive.specs.Driving.{Meaning, Drives}
+use Rattle.command_drive.specs.Driving.{Meaning, meaning, Drives}
 
 -- nothing was told
 pub told_none : {T : Type 0} (owed : Owed T) (texts : Texts) → Told owed owed texts texts
@@ -24,6 +24,13 @@ told_none owed texts = record {
 -- with no output before it
 pub told_empty : (report frames : List ℕ) (v : Verdict) → report ≡ [] → frames ≡ [] → told report frames v ≡ v
 told_empty report frames v r f = ap₂ (λ (a b : List ℕ). told a b v) r f
+
+-- before the first item
+pub means_first : {T : Type 0} (reads fresh : End → List ℕ → Reads T) (owes first : Owed T) (texts : Texts) → texts.report ≡ [] → texts.frames ≡ [] → ((end : End) (octets : List ℕ) → reads end octets ≡ fresh end octets) → owes ≡ first
+    → (end : End) (octets : List ℕ) → meaning reads owes texts end octets ≡ first (fresh end octets).items (fresh end octets).behind
+means_first {T} reads fresh owes first texts report frames same is end octets =
+    told_empty texts.report texts.frames (owes (reads end octets).items (reads end octets).behind) report frames
+    ∙ ap₂ (λ (o : Owed T) (r : Reads T). o r.items r.behind) is (same end octets)
 
 -- A run's facts in other words that mean the same. Behind a read error they need to do so only where that is what ends the run.
 pub drives_as : {S C R : Type 0} (s : source.Ghosts S) (c : sink.Ghosts C) (r : sink.Ghosts R) (refusal : Status) (means other : Meaning) (ended : Status) (i0 i1 : S) (f0 f1 : C) (r0 r1 : R)

@@ -5,3 +5,6 @@ pub mod Doing
 pub mod Driving
 pub mod Captured
 pub mod Lines
+pub mod Records
+pub mod Texts
+pub mod Reporting

@@ -12,6 +12,7 @@ mod items;
 mod line_reader;
 mod nowhere;
 mod outputs;
+mod record_reader;
 mod whole;
 
 pub use captured::{push_refused, refuse_by, refuse_length};
@@ -20,5 +21,6 @@ pub use driving::drive;
 pub use items::{Close, Found, Items};
 pub use line_reader::LineReader;
 pub use nowhere::{NoSink, NoSource};
+pub use record_reader::RecordReader;
 pub use run_texts::Texts;
 pub use whole::{PIECE, buffer, deliver, flush, write_all, write_whole};

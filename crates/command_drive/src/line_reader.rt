@@ -1,9 +1,10 @@
 //! Texts that are read from a source chunk by chunk and given line by line.
-ghost use Rattle.std.specs.Prelude.{◌≡◌, ◌<◌, ◌≤◌, ◌-◌, ◌+◌, ◌++◌, ◌*◌, ℕ, List, [], true, false, IfOk, OnOk, OnErr, length, take, min, nat_lt};
+ghost use Rattle.std.specs.Prelude.{◌≡◌, ◌<◌, ◌≤◌, ◌-◌, ◌+◌, ◌++◌, ◌*◌, ◌^◌, ℕ, List, [], true, false, IfOk, OnOk, OnErr, length, take, min, nat_lt};
 ghost use Rattle.std.specs.Io.KnownBytes.{Consumes, IsAtEnd, Keeps};
 ghost use Rattle.std.specs.Str.Lines.{strip_carriage_return};
 ghost use Rattle.wire_base.specs.Causes.{last_count};
 ghost use Rattle.wire_base.specs.declared.limits.TheConstants.{LINE_LIMIT, TEXT_LIMIT};
+ghost use Rattle.command_drive.specs.Reading.{End};
 ghost use Rattle.command_drive.specs.Lines.{HasNoEnd, shown};
 
 mod unread;
@@ -55,13 +56,12 @@ pub struct LineReader {
 }
 
 impl LineReader {
+    ghost use Rattle.command_drive.specs.Lines.{lines_read, lines_left};
+
     /// A reader that has read nothing.
     pub fn new(alloc: Global) -> M<Self>
-        ensures unread { IfOk result (λ reader. reader.unread ≡ []) }
-        ensures front { IfOk result (λ reader. reader.front ≡ []) }
-        ensures room { IfOk result (λ reader. reader.room ≡ TEXT_LIMIT) }
-        ensures over { IfOk result (λ reader. reader.over ≡ false) }
-        ensures short { IfOk result (λ reader. reader.short ≡ false) }
+        ensures fresh { IfOk result (λ made. (end : End) (octets : List ℕ) → lines_read (made.front ++ made.unread) made.room made.over end octets ≡ lines_read [] TEXT_LIMIT false end octets) }
+        ensures few { IfOk result (λ made. lines_left (made.front ++ made.unread) made.room made.short < 2 ^ 30) }
     {
         Ok(LineReader {
             unread: Unread::new(alloc)?,

@@ -1,5 +1,5 @@
 //! A source without octets and a sink that discards them: for a command that reads no input or writes no frames.
-ghost use Rattle.std.specs.Prelude.{[], Some, None};
+ghost use Rattle.std.specs.Prelude.{◌≡◌, [], Some, None, false};
 
 use wire_base::{Failed, Sink, Source};
 
@@ -20,7 +20,16 @@ impl Source for NoSource {
 /// A sink that discards what it is given.
 #[derive(Drop)]
 pub struct NoSink {
-    pub unfinished: bool,
+    unfinished: bool,
+}
+
+impl NoSink {
+    /// A sink that was given nothing.
+    pub fn new() -> Self
+        ensures { result.unfinished ≡ false }
+    {
+        NoSink { unfinished: false }
+    }
 }
 
 impl Sink for NoSink {
