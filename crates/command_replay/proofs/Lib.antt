@@ -1,3 +1,3 @@
 mod SaidLines
-mod Steps
+pub mod Steps
 pub mod Answered
