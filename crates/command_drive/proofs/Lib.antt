@@ -9,3 +9,4 @@ pub mod RecordSteps
 pub mod Pieces
 pub mod Reported
 pub mod Inputs
+pub mod CaptureLaws
