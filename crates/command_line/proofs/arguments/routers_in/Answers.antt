@@ -1,8 +1,8 @@
 use Rattle.std.proofs.Common.{sym, ap, ◌∙◌, List, ℕ}
 use Rattle.std.specs.Fmt.{decimal}
 use Rattle.std.specs.Str.{bytes_eq}
-use Rattle.command_node.proofs.Asked.{found, not_found}
-use Rattle.command_node.proofs.words.routers_in.Goals as goal
+use Rattle.command_line.proofs.Asked.{found, not_found}
+use Rattle.command_line.proofs.arguments.routers_in.Goals as goal
 
 pub returns-then-eq-clause-value : goal.returns-then-eq-clause-value
 returns-then-eq-clause-value c =

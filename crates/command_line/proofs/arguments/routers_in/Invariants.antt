@@ -2,8 +2,8 @@ use Rattle.std.proofs.Common.{◌≡◌, ◌-◌}
 use Rattle.std.specs.Fmt.{decimal}
 use Rattle.std.specs.Str.{bytes_eq}
 use Rattle.std.specs.List.{find, range_with_len}
-use Rattle.command_node.specs.Words.{routers_of}
-use Rattle.command_node.proofs.words.routers_in.Given as goal
+use Rattle.command_line.specs.Words.{routers_of}
+use Rattle.command_line.proofs.arguments.routers_in.Given as goal
 
 -- none of the numbers below
 abbrev pub invariant-loop-n : goal.invariant-loop-n
