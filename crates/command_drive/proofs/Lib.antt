@@ -10,3 +10,4 @@ pub mod Pieces
 pub mod Reported
 pub mod Inputs
 pub mod Untouched
+pub mod CaptureLaws

@@ -8,3 +8,4 @@ pub mod Lines
 pub mod Records
 pub mod Texts
 pub mod Reporting
+pub mod Captures

@@ -1,4 +1,3 @@
-pub mod Words
 pub mod DomainFile
 pub mod Routers
 pub mod Named
