@@ -12,9 +12,9 @@ use Rattle.wire_base.specs.declared.status.Status.TheVariants.{ConfRefused, Writ
 use Rattle.wire_base.specs.model.Configuration.{DomainConf}
 use Rattle.command_node.specs.Named.{node_by}
 use Rattle.command_node.specs.Routers.{has_name, router_named, no_router_text}
-use Rattle.tool_run.specs.Answer.{Verdict, IsDecided}
+use Rattle.command_drive.specs.Answer.{Verdict, IsDecided}
 use Rattle.command_node.specs.NodeRun.{node_answer}
-use Rattle.tool_run.specs.Outside.{Held, Meets, AppendsFront}
+use Rattle.command_drive.specs.Outside.{Held, Meets, AppendsFront}
 use Rattle.command_node.proofs.Told.{nothing_more, no_front, held_some, ended_so}
 
 -- ---- the router of a name

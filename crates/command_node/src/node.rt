@@ -5,16 +5,16 @@ ghost use Rattle.std.specs.Io.KnownBytes.{IsAtEnd, Consumes};
 ghost use Rattle.wire_base.specs.Causes.{last_count};
 ghost use Rattle.wire_base.specs.declared.conf.RouterConf.{RouterConf};
 ghost use Rattle.wire_base.specs.declared.status.Status.TheVariants as status;
-ghost use Rattle.tool_run.specs.Answer.{IsDecided};
-ghost use Rattle.tool_run.specs.Headers.{IsOpen};
+ghost use Rattle.command_drive.specs.Answer.{IsDecided};
+ghost use Rattle.command_drive.specs.Captures.{IsOpen};
 ghost use Rattle.command_node.specs.NodeRun.{node_cut, node_reached};
-ghost use Rattle.tool_run.specs.Outside.{Held, Meets, AppendsFront};
+ghost use Rattle.command_drive.specs.Outside.{Held, Meets, AppendsFront};
 ghost use Rattle.command_node.specs.Named.{node_by};
 ghost use Rattle.command_node.specs.Routers.{has_name, router_named};
 
 use crate::node_command::node;
 use std::alloc::Global;
-use tool_run::deliver;
+use command_drive::deliver;
 use wire_base::{Domain, RouterConf, Sink, Source, Status};
 
 /// The line that is reported where the word that names the router names none.

@@ -1,5 +1,5 @@
 use Rattle.std.proofs.Common.{sym, inr}
-use Rattle.tool_run.specs.Outside.{Meets, AppendsFront}
+use Rattle.command_drive.specs.Outside.{Meets, AppendsFront}
 use Rattle.command_node.proofs.Told.{write_fault}
 use Rattle.command_node.proofs.Named.{named_so, some_named, runs_so, none_meets, none_front}
 use Rattle.command_node.proofs.node.node_in.Goals as goal

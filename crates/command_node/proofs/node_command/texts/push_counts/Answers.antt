@@ -1,5 +1,5 @@
-use Rattle.tool_run.proofs.Appends.{last_part}
-use Rattle.command_node.proofs.node_command.texts.push_done.Goals as goal
+use Rattle.command_drive.proofs.Appends.{last_part}
+use Rattle.command_node.proofs.node_command.texts.push_counts.Goals as goal
 
 pub returns : goal.returns
 returns c =
