@@ -9,4 +9,5 @@ pub mod RecordSteps
 pub mod Pieces
 pub mod Reported
 pub mod Inputs
+pub mod Untouched
 pub mod CaptureLaws
