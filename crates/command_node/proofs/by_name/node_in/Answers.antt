@@ -10,7 +10,7 @@ use Rattle.command_node.specs.Owed.{node_means}
 use Rattle.command_node.proofs.Told.{write_fault}
 use Rattle.command_node.proofs.Named.{named_so, some_named, answers_so, none_meets, none_front}
 use Rattle.command_node.proofs.NodeRecords.{cut_leaves}
-use Rattle.command_node.proofs.node.node_in.Goals as goal
+use Rattle.command_node.proofs.by_name.node_in.Goals as goal
 
 three_statuses : (ended : Status) → (ended ≡ Done) ⊎ (ended ≡ CaptureRefused) → (ended ≡ Done) ⊎ ((ended ≡ ConfRefused) ⊎ (ended ≡ CaptureRefused))
 three_statuses ended (inl done) = inl done
