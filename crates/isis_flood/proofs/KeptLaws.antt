@@ -17,7 +17,7 @@ use Rattle.wire_base.specs.declared.memory.Memory.{Memory}
 use Rattle.wire_base.specs.declared.triple.Summary.{Summary}
 use Rattle.wire_base.specs.model.Control.{same_system, same_id, id_order, entry_in, put_entry, purge, is_full, is_unknown, is_newer_or_confused, age_of, age_by_life, seq_of, Flood, fragment_0}
 use Rattle.wire_base.specs.model.Pdu.{Head, head_summary}
-use Rattle.wire_base.specs.model.Flooding.{LspAnswer, SnpAnswer, mark_all, kept, on_lsp, lsp_in, lsp_aged, is_own_ahead, is_stray, wanted, is_live_summary, listed_aged, on_listed, on_list, lacks, send_lacking, nothing_asked, with_row, set_srm}
+use Rattle.wire_base.specs.model.Flooding.{LspAnswer, SnpAnswer, mark_all, kept, on_lsp, lsp_in, lsp_aged, is_own_ahead, is_unheld_own, wanted, is_live_summary, listed_aged, on_listed, on_list, lacks, send_lacking, nothing_asked, with_row, set_srm}
 use Rattle.lsp_store.proofs.OrderLaws.{id_total, tie_is_same, above_differs}
 use Rattle.isis_flood.specs.Answers.{LspDone, SnpDone, csnp_listed}
 use Rattle.isis_flood.specs.Kept.{IsAtMost, Stays, NotLowered}
@@ -197,7 +197,7 @@ lsp_keeps f es link h tlvs spent = aged (age_of (entry_in es h.id) (head_summary
     aged a is =
         lsp_if f es (h.seq == 0) _ _ (λ _. same_keeps f es f refl refl) (λ _.
         lsp_if f es (is_own_ahead f h.id spent a) _ _ (λ _. same_keeps f es f refl refl) (λ _.
-        lsp_if f es (is_stray f h a) _ _ (λ stray.
+        lsp_if f es (is_unheld_own f h a) _ _ (λ stray.
         lsp_if f es (is_unknown a && is_full es) _ _ (λ _. same_keeps f es f refl refl) (λ _.
         puts_keeps f es h.id (head_summary h) (ap (λ (a : Age). is_unknown a || is_newer_or_confused a) is ∙ (and_parts (nat_lt 0 h.life) (is_unknown a || is_newer_or_confused a) (and_parts (same_system h.id.system f.own) (nat_lt 0 h.life && (is_unknown a || is_newer_or_confused a)) stray).1).1)))
         (λ _. aged_keeps f es link h tlvs a is)))

@@ -1,7 +1,7 @@
 //! Link state PDUs that are received (ISO/IEC 10589, 7.3.15.1 and 7.3.16).
 ghost use Rattle.std.specs.Prelude.{◌≡◌, ◌<◌, ◌≤◌, ◌+◌, ◌&&◌, not, length, true, false, if◌then◌else◌, IfOk, OnOk, OnErr};
 ghost use Rattle.wire_base.specs.model.Control.{entry_in, put_entry, age_of, is_full, is_unknown, is_newer_or_confused, purge};
-ghost use Rattle.wire_base.specs.model.Flooding.{mark_all, pass_on, kept, on_lsp, lsp_aged, stores, only_says, puts_marked, is_own_ahead, is_stray};
+ghost use Rattle.wire_base.specs.model.Flooding.{mark_all, pass_on, kept, on_lsp, lsp_aged, stores, only_says, puts_marked, is_own_ahead, is_unheld_own};
 ghost use Rattle.wire_base.specs.declared.entry.Age.TheVariants.{Unknown};
 ghost use Rattle.wire_base.specs.declared.flood_out.FloodOut.TheVariants as out;
 ghost use Rattle.wire_base.specs.model.Pdu.{head_summary};
@@ -127,8 +127,8 @@ impl Flood {
     }
 
     /// A live link state PDU of the own system that the router doesn't have.
-    fn is_stray(&self, head: &LspHead, age: Age) -> bool
-        ensures { result ≡ is_stray self.now.flood (head_of head.now) age }
+    fn is_unheld_own(&self, head: &LspHead, age: Age) -> bool
+        ensures { result ≡ is_unheld_own self.now.flood (head_of head.now) age }
     {
         if head.life == 0 || !(is_unknown(age) || is_newer_or_confused(age)) {
             return false;
@@ -270,7 +270,7 @@ impl Flood {
         if self.is_own_ahead(&head.id, spent, age) {
             return Ok(FloodOut::Reissue(head.seq));
         }
-        if self.is_stray(head, age) {
+        if self.is_unheld_own(head, age) {
             return self.on_stray(store, head, age);
         }
         self.on_aged(store, link, head, tlvs, age, guess)

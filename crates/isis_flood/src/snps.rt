@@ -33,7 +33,7 @@ fn wanted(alloc: Global, s: &Summary) -> Entry
 
 impl Flood {
     /// Asks for an unknown one, where the database has room.
-    fn want_it(
+    fn request(
         &mut self,
         store: &mut Store,
         link: u16,
@@ -115,7 +115,7 @@ impl Flood {
         match age {
             Age::Unknown => {
                 if s.is_live() {
-                    self.want_it(store, link, s, guess, answer)
+                    self.request(store, link, s, guess, answer)
                 } else {
                     Ok(())
                 }

@@ -12,6 +12,7 @@ use arrayvec::ArrayVec;
 use isis_tlv::fixed::put;
 use isis_tlv::push_summary;
 use std::alloc::Global;
+use wire_base::codepoints::TLV_LSP_ENTRIES;
 use wire_base::limits::{MOST_CONTENT, MOST_LISTED};
 use wire_base::{Level, LspId, M, Octets, Summary, SystemId};
 
@@ -111,7 +112,7 @@ fn append_block(out: &mut Octets, entries: &[Summary]) -> M<()>
     ensures err { OnErr result (take (length out.old) out.new ≡ out.old) }
     ensures fits { OnOk result (AllByRecursion SummaryFits entries.now) }
 {
-    out.append(&[9, 16 * entries.len() as u8])?;
+    out.append(&[TLV_LSP_ENTRIES, 16 * entries.len() as u8])?;
     for s in entries {
         push_summary(out, s)?;
     }

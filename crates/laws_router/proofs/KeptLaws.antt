@@ -14,7 +14,7 @@ use Rattle.wire_base.specs.declared.flood_out.FloodOut.TheVariants as out
 use Rattle.wire_base.specs.declared.triple.Summary.{Summary}
 use Rattle.wire_base.specs.model.Pdu.{Head, head_summary}
 use Rattle.wire_base.specs.model.Control.{same_id, same_system, fragment_0, entry_in, put_entry, purge, seq_of, age_of, age_by_life, is_unknown, is_newer_or_confused, is_full, FlagRow, no_flags, Flood, IsFlagRow, HasEntry}
-use Rattle.wire_base.specs.model.Flooding.{with_row, no_links, send_on, ask_on, set_srm, mark_all, kept, stores, puts_marked, only_says, flags_alone, lsp_aged, is_stray, is_own_ahead, lsp_in, on_lsp, LspAnswer, SnpAnswer, with_flags, wanted, asks, is_live_summary, listed_aged, on_listed, on_list, lacks, send_lacking, on_csnp, on_psnp}
+use Rattle.wire_base.specs.model.Flooding.{with_row, no_links, send_on, ask_on, set_srm, mark_all, kept, stores, puts_marked, only_says, flags_alone, lsp_aged, is_unheld_own, is_own_ahead, lsp_in, on_lsp, LspAnswer, SnpAnswer, with_flags, wanted, asks, is_live_summary, listed_aged, on_listed, on_list, lacks, send_lacking, on_csnp, on_psnp}
 use Rattle.wire_base.specs.model.Tlv.{rows_of}
 use Rattle.isis_flood.specs.Answers.{csnp_listed}
 use Rattle.laws_router.specs.State.{IsShort}
@@ -175,9 +175,9 @@ module _ (own : SystemId) (up : List Bool) (spent : Bool) (f : Flood) (es : List
       ahead_unspent false u age h = absurd (false≢true h)
 
       pub lsp_in_kept : (age : Age) → age ≡ age_of (entry_in es h.id) (head_summary h) → LspKept own up spent (lsp_in f es link h tlvs spent age)
-      lsp_in_kept age is = cases (h.seq == 0) (is_own_ahead f h.id spent age) (is_stray f h age) (is_unknown age && is_full es) refl refl
+      lsp_in_kept age is = cases (h.seq == 0) (is_own_ahead f h.id spent age) (is_unheld_own f h age) (is_unknown age && is_full es) refl refl
         where
-          cases : (none ahead stray full : Bool) → is_own_ahead f h.id spent age ≡ ahead → is_stray f h age ≡ stray
+          cases : (none ahead stray full : Bool) → is_own_ahead f h.id spent age ≡ ahead → is_unheld_own f h age ≡ stray
               → LspKept own up spent (if none then only_says f es out.Zero else if ahead then only_says f es (out.Reissue h.seq) else if stray then (if full then only_says f es out.Full else puts_marked f es (purge h.id h.seq)) else lsp_aged f es link h tlvs age)
           cases true ahead stray full p q = says_kept out.Zero (λ s r. cc)
           cases false true stray full p q = says_kept (out.Reissue h.seq) (λ s r. ahead_unspent (same_id h.id (fragment_0 f.own)) spent age p)

@@ -8,6 +8,7 @@ ghost use Rattle.std.specs.List.{AllByRecursion};
 use bier_subtlv::push_info;
 use isis_tlv::{PrefixEntry, push_prefix, push_tlv};
 use std::alloc::Global;
+use wire_base::codepoints::TLV_EXTENDED_IP_REACH;
 use wire_base::{Kind, M, Octets, OwnSub, RouterConf, Rows, SubKind, kind_of};
 
 /// The same subdomain without label ranges.
@@ -68,5 +69,5 @@ pub(crate) fn append_prefix(alloc: Global, out: &mut Octets, conf: &RouterConf) 
     };
     let mut value = Octets::new(alloc);
     push_prefix(&mut value, &entry)?;
-    push_tlv(out, 135, value.as_slice())
+    push_tlv(out, TLV_EXTENDED_IP_REACH, value.as_slice())
 }

@@ -20,8 +20,8 @@ said_now r up entries s = if same_system s r.system then Some (with_known r.kind
 abbrev pub seat : ViewNode → Claim
 seat n = record { system = n.system; overload = n.overload; links = []; subs = n.subs }
 
-abbrev pub seats : List ViewNode → List Claim
-seats nodes = map seat nodes
+abbrev pub node_claims : List ViewNode → List Claim
+node_claims nodes = map seat nodes
 
 -- ---- the places of the nodes that may be other ones
 
@@ -39,7 +39,7 @@ pub record IsAdded (place : ℕ) (before now : List ℕ) : Type 0 where
 
 -- the edges that a system lists itself
 abbrev pub halves_now : List ViewNode → List Link → List ViewEdge
-halves_now nodes links = half_edges 0 (metrics_to links (seats nodes))
+halves_now nodes links = half_edges 0 (metrics_to links (node_claims nodes))
 
 -- a node has all edges that its system lists, and no others, and is overloaded where it says so
 pub record IsAsListed (nodes : List ViewNode) (n : ViewNode) (c : Claim) : Type 0 where
@@ -52,11 +52,11 @@ pub record IsNoted (said : SystemId → Option Claim) (nodes : List ViewNode) (p
   pub claim : Claim
   pub node : ViewNode
   pub says : said s ≡ Some claim
-  pub at_place : slice_get nodes (place_in s (seats nodes)) ≡ Some node
+  pub at_place : slice_get nodes (place_in s (node_claims nodes)) ≡ Some node
   pub system : node.system ≡ s
   pub subs : node.subs ≡ claim.subs
   pub ends : (i : ℕ) → has places i ≡ false → leads_to i node.edges ≡ leads_to i (halves_now nodes claim.links)
-  pub own : has places (place_in s (seats nodes)) ≡ false → IsAsListed nodes node claim
+  pub own : has places (place_in s (node_claims nodes)) ≡ false → IsAsListed nodes node claim
 
 abbrev pub AreNoted : (SystemId → Option Claim) → List ViewNode → List SystemId → List ℕ → Type 0
 AreNoted said nodes systems places = (s : SystemId) → is_named systems s ≡ true → IsNoted said nodes places s

@@ -17,6 +17,7 @@ use isis_tlv::{Tlv, TlvWalk};
 use lsp_store::is_system_above;
 use std::alloc::Global;
 use std::marker::Model;
+use wire_base::codepoints::{TLV_EXTENDED_IP_REACH, TLV_EXTENDED_IS_REACH};
 use wire_base::{
     End, Entry, Kind, M, OwnSub, RangeList, RouterConf, SubKind, SubList, SystemId, ViewSub,
     kind_of,
@@ -58,8 +59,8 @@ fn add_tlv(claim: &mut Claim, tlv: Tlv<'_>) -> M<()>
     ensures overload { claim.new.overload ≡ claim.old.overload }
 {
     match tlv.code {
-        22 => append_links(&mut claim.links, tlv.value),
-        135 => append_places(&mut claim.subs, tlv.value),
+        TLV_EXTENDED_IS_REACH => append_links(&mut claim.links, tlv.value),
+        TLV_EXTENDED_IP_REACH => append_places(&mut claim.subs, tlv.value),
         _ => Ok(()),
     }
 }

@@ -11,15 +11,15 @@ mod heard;
 mod keep;
 mod known;
 mod links;
+mod node_index;
 mod nodes;
 mod others;
 mod owners;
 mod patch;
 mod places;
-mod remade;
+mod rebuilt;
 mod renewal;
 mod same;
-mod seats;
 
 pub use keep::ViewKeep;
 pub use nodes::{supports, view};

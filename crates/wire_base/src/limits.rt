@@ -1,9 +1,14 @@
-//! The limits of a domain, of its inputs and of what happens in it, and the times of flooding: each named once, for code and
-//! definitions alike, so that another limit is another number here.
+//! The limits of a domain, of its inputs and of what happens in it, and the timers of flooding: each is named once, for code and
+//! definitions alike.
+//!
+//! Not every one can be changed here alone. Built into the code that uses them are: 64 interfaces of a router (flags are bits of a
+//! `u64`), eight subdomains (their BIER Infos fit one TLV, and `Few` holds them in place), 90 entries of a sequence numbers PDU (six
+//! TLVs of 15, which fit a frame of 1,492 octets), and the 255 of a tunnel's outer TTL, which 250 routers never use up. `docs/changing.md`
+//! says what else to touch for each.
 
 /// Routers of a domain.
 pub const MOST_ROUTERS: usize = 250;
-/// Ends of a router.
+/// Interfaces of a router.
 pub const MOST_ENDS: usize = 64;
 /// Subdomains of a domain.
 pub const MOST_SUBDOMAINS: usize = 8;
@@ -37,7 +42,7 @@ pub const MOST_ROUNDS: u32 = 1_000;
 
 /// Events of a run.
 pub const MOST_EVENTS: u32 = 1_000_000;
-/// Frames on their way before an event that may send one.
+/// Frames in flight before an event that may send one.
 pub const MOST_IN_FLIGHT: usize = 500_000;
 /// Octets of a frame that a router takes, so that each frame that it sends fits a tunnel and a record of a capture.
 pub const MOST_FRAME: usize = 65_000;

@@ -109,8 +109,8 @@ lsp_aged f entries link h tlvs Equal = flags_alone (with_row f h.id (ask_on link
 lsp_aged f entries link h tlvs Older = flags_alone (with_row f h.id (send_on link)) entries
 
 -- an LSP of the own system that the router didn't issue, or issued before it restarted
-abbrev pub is_stray : Flood → Head → Age → Bool
-is_stray f h age = same_system h.id.system f.own && (nat_lt 0 h.life && (is_unknown age || is_newer_or_confused age))
+abbrev pub is_unheld_own : Flood → Head → Age → Bool
+is_unheld_own f h age = same_system h.id.system f.own && (nat_lt 0 h.life && (is_unknown age || is_newer_or_confused age))
 
 -- the own LSP, at another sequence number or another content than the router's
 abbrev pub is_own_ahead : Flood → LspId → Bool → Age → Bool
@@ -120,7 +120,7 @@ abbrev pub lsp_in : Flood → List Entry → ℕ → Head → List ℕ → Bool 
 lsp_in f entries link h tlvs spent age =
     if h.seq == 0 then only_says f entries out.Zero
     else if is_own_ahead f h.id spent age then only_says f entries (out.Reissue h.seq)
-    else if is_stray f h age then (if is_unknown age && is_full entries then only_says f entries out.Full else puts_marked f entries (purge h.id h.seq))
+    else if is_unheld_own f h age then (if is_unknown age && is_full entries then only_says f entries out.Full else puts_marked f entries (purge h.id h.seq))
     else lsp_aged f entries link h tlvs age
 
 -- an LSP on a link; spent says that the router issues none itself

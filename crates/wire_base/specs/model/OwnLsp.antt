@@ -2,6 +2,7 @@
 -- RFC 5305, 3 and 4; RFC 8401, 6.1 and 6.2).
 use Rattle.std.specs.Prelude.{ℕ, ◌+◌, Bool, true, false, List, [], ◌∷◌, ◌++◌, length, map, if◌then◌else◌}
 use Rattle.std.specs.List.{flat_map}
+use Rattle.wire_base.specs.declared.codepoints.TheConstants.{NLPID_IPV4, TLV_AREA_ADDRESSES, TLV_DYNAMIC_HOSTNAME, TLV_EXTENDED_IP_REACH, TLV_EXTENDED_IS_REACH, TLV_PROTOCOLS_SUPPORTED}
 use Rattle.wire_base.specs.declared.limits.TheConstants.{FULL_LIFE}
 use Rattle.wire_base.specs.declared.conf.Level.{Level}
 use Rattle.wire_base.specs.declared.conf.Level.TheVariants.{One, Two}
@@ -26,14 +27,14 @@ picked (false ∷ bs) (x ∷ xs) = picked bs xs
 
 -- area addresses
 abbrev pub area_tlv : List ℕ → Tlv
-area_tlv area = record { code = 1; value = length area ∷ area }
+area_tlv area = record { code = TLV_AREA_ADDRESSES; value = length area ∷ area }
 
 -- the protocols that the router routes: IPv4, 0xCC
 abbrev pub protocols_tlv : Tlv
-protocols_tlv = record { code = 129; value = 204 ∷ [] }
+protocols_tlv = record { code = TLV_PROTOCOLS_SUPPORTED; value = NLPID_IPV4 ∷ [] }
 
 abbrev pub name_tlv : List ℕ → Tlv
-name_tlv name = record { code = 137; value = name }
+name_tlv name = record { code = TLV_DYNAMIC_HOSTNAME; value = name }
 
 -- a link that is up
 abbrev pub reach_of : End → Reach
@@ -44,7 +45,7 @@ abbrev pub most_in_tlv : ℕ
 most_in_tlv = 23
 
 abbrev pub reach_tlv : List End → Tlv
-reach_tlv ends = record { code = 22; value = flat_map (λ e. reach (reach_of e)) ends }
+reach_tlv ends = record { code = TLV_EXTENDED_IS_REACH; value = flat_map (λ e. reach (reach_of e)) ends }
 
 abbrev pub reach_tlvs : List End → List Tlv
 reach_tlvs ends = map reach_tlv (blocks most_in_tlv ends)
@@ -65,7 +66,7 @@ abbrev pub own_prefix : RouterConf → Prefix
 own_prefix r = record { metric = 0; control = control_for r.subs; octets = r.prefix.0; subs = infos_of r.kinds r.subs }
 
 abbrev pub prefix_tlv : RouterConf → Tlv
-prefix_tlv r = record { code = 135; value = prefix (own_prefix r) }
+prefix_tlv r = record { code = TLV_EXTENDED_IP_REACH; value = prefix (own_prefix r) }
 
 -- the TLVs of a router's own LSP, where those ends are up
 abbrev pub own_tlvs : RouterConf → List Bool → List Tlv

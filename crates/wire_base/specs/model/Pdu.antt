@@ -3,6 +3,7 @@
 use Rattle.std.specs.Prelude.{◌≡◌, ℕ, zero, suc, ◌+◌, ◌-◌, ◌*◌, ◌%◌, ◌<◌, ◌^◌, ◌⊎◌, Bool, true, false, not, ◌&&◌, ◌||◌, List, [], ◌∷◌, ◌++◌, length, take, drop, slice_index, Result, Ok, Err, nat_lt, nat_le, ◌==◌, if◌then◌else◌}
 use Rattle.std.specs.List.{list_all, flat_map}
 use Rattle.byteorder.specs.Endian.{big_bytes}
+use Rattle.wire_base.specs.declared.codepoints.TheConstants.{TLV_LSP_ENTRIES}
 use Rattle.wire_base.specs.declared.addresses.SystemId.{SystemId}
 use Rattle.wire_base.specs.declared.addresses.LspId.{LspId}
 use Rattle.wire_base.specs.declared.triple.Summary.{Summary}
@@ -39,7 +40,7 @@ pub data Pdu : Type 0 where
 
 -- Where entries are listed, a TLV 9 is so many entries of 16 octets.
 abbrev pub passes : Bool → Tlv → Bool
-passes rows t = if rows && (t.code == 9) then length t.value % 16 == 0 else true
+passes rows t = if rows && (t.code == TLV_LSP_ENTRIES) then length t.value % 16 == 0 else true
 
 -- the octets are TLVs one after the other, each of which passes
 pub record AreTlvs (rows : Bool) (octets : List ℕ) : Type 0 where
@@ -119,7 +120,7 @@ abbrev pub blocks : List Summary → List (List Summary)
 blocks rows = blocks_within (length rows) rows
 
 abbrev pub row_tlv : List Summary → Tlv
-row_tlv block = record { code = 9; value = flat_map row block }
+row_tlv block = record { code = TLV_LSP_ENTRIES; value = flat_map row block }
 
 unfoldable pub row_tlvs : List Summary → List ℕ
 row_tlvs rows = flat_map (λ block. tlv (row_tlv block)) (blocks rows)

@@ -3,6 +3,7 @@
 use Rattle.std.specs.Prelude.{◌≡◌, ℕ, zero, suc, ◌+◌, ◌-◌, ◌/◌, ◌%◌, ◌<◌, ◌≤◌, ◌^◌, Bool, true, false, List, [], ◌∷◌, ◌++◌, length, take, drop, replicate, Option, Some, None, Result, Ok, Err, nat_lt, ◌==◌, if◌then◌else◌}
 use Rattle.std.specs.List.{flat_map}
 use Rattle.byteorder.specs.Endian.{big_bytes}
+use Rattle.wire_base.specs.declared.codepoints.TheConstants.{TLV_LSP_ENTRIES}
 use Rattle.wire_base.specs.declared.addresses.SystemId.{SystemId}
 use Rattle.wire_base.specs.declared.addresses.LspId.{LspId}
 use Rattle.wire_base.specs.declared.triple.Summary.{Summary}
@@ -200,7 +201,7 @@ tlvs_before octets = entries_of one_tlv_at octets
 
 -- the entries that TLVs 9 list
 abbrev pub rows_in : Tlv → List Summary
-rows_in t = if t.code == 9 then entries_of row_at t.value else []
+rows_in t = if t.code == TLV_LSP_ENTRIES then entries_of row_at t.value else []
 
 abbrev pub rows_of : List ℕ → List Summary
 rows_of octets = flat_map rows_in (tlvs_before octets)

@@ -6,6 +6,7 @@ use Rattle.std.specs.Prelude.{ℕ, ◌+◌, ◌/◌, ◌%◌, ◌==◌, ◌&&◌
 use Rattle.std.specs.List.{flat_map, filter_map, list_any}
 use Rattle.std.specs.Ordering.{is_lt}
 use Rattle.std.specs.Str.{bytes_eq}
+use Rattle.wire_base.specs.declared.codepoints.TheConstants.{SUB_TLV_BIER_INFO, TLV_EXTENDED_IP_REACH, TLV_EXTENDED_IS_REACH}
 use Rattle.wire_base.specs.declared.addresses.SystemId.{SystemId}
 use Rattle.wire_base.specs.declared.addresses.Ipv4.{Ipv4}
 use Rattle.wire_base.specs.declared.conf.End.{End}
@@ -50,7 +51,7 @@ link_of r =
 
 -- an entry that can't be read ends its TLV
 abbrev pub links_in : Tlv → List Link
-links_in t = if t.code == 22 then filter_map link_of (entries_of reach_at t.value) else []
+links_in t = if t.code == TLV_EXTENDED_IS_REACH then filter_map link_of (entries_of reach_at t.value) else []
 
 abbrev pub sub_of : List ℕ → Info → ViewSub
 sub_of prefix i = record { sd = i.sd; id = i.id; prefix = record { 0 = prefix }; ranges = i.ranges }
@@ -61,14 +62,14 @@ accepted prefix (Err fault) = None
 
 -- a BIER Info, where its reader takes it
 abbrev pub sub_at : List ℕ → Tlv → Option ViewSub
-sub_at prefix t = if t.code == 32 then accepted prefix (info_at t.value) else None
+sub_at prefix t = if t.code == SUB_TLV_BIER_INFO then accepted prefix (info_at t.value) else None
 
 -- of a prefix of 32 bits; an overrun ends the sub-TLVs
 abbrev pub subs_of : Prefix → List ViewSub
 subs_of p = if prefix_bits p.control == 32 then filter_map (sub_at p.octets) (tlvs_before p.subs) else []
 
 abbrev pub subs_in : Tlv → List ViewSub
-subs_in t = if t.code == 135 then flat_map subs_of (entries_of prefix_at t.value) else []
+subs_in t = if t.code == TLV_EXTENDED_IP_REACH then flat_map subs_of (entries_of prefix_at t.value) else []
 
 -- a live entry of a system itself, not of one of its pseudonodes
 abbrev pub is_part_of : SystemId → Entry → Bool
