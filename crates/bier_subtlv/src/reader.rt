@@ -14,7 +14,7 @@ use wire_base::codepoints::SUB_SUB_TLV_BIER_MPLS;
 use wire_base::limits::LAST_LABEL;
 use wire_base::{Bsl, InfoFault, LabelRange};
 
-/// What a BIER Info says: a subdomain, the BFR-id of the advertising router there, and its label ranges, at most one
+/// What a BIER Info says: a sub-domain, the BFR-id of the advertising router there, and its label ranges, at most one
 /// for each length of bit strings (RFC 8401, 6.1 and 6.2).
 #[derive(Drop)]
 pub struct Info {

@@ -49,7 +49,7 @@ fn append_info(out: &mut Octets, s: &OwnSub) -> M<()>
     out.append_two(&[SUB_TLV_BIER_INFO, value.len() as u8], value.as_slice())
 }
 
-/// Appends a sub-TLV 32 with the BIER Info of a subdomain (RFC 8401, 6.1 and 6.2).
+/// Appends a sub-TLV 32 with the BIER Info of a sub-domain (RFC 8401, 6.1 and 6.2).
 pub fn push_info(out: &mut Octets, s: &OwnSub) -> M<()>
     requires { InfoFits (own_of s.now) }
     ensures ok { OnOk result (out.new ≡ out.old ++ tlv (info_tlv (own_of s.now))) }

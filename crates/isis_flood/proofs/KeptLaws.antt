@@ -132,7 +132,7 @@ pub unknown_stays : (o : Option Entry) (s : Summary) (new : Entry) → age_of o 
 unknown_stays None s new h = tt
 unknown_stays (Some e) s new h = absurd (true≢false (sym (ap is_unknown h) ∙ unknown_is_none (Some e) s))
 
--- ---- a link state PDU
+-- ---- an LSP
 
 -- what a PDU leaves as it was, and never takes back
 pub record Keeps (f : Flood) (es : List Entry) (g : Flood) (new : List Entry) : Type 0 where
@@ -348,7 +348,7 @@ all_pass p (e ∷ es) = cases (all_pass p es) (p e)
     cases again true = omega (arith, again)
     cases again false = omega (arith, again)
 
--- A CSNP lacks at most as many entries as there were before it: those that it makes the database wait for are dead.
+-- A CSNP lacks at most as many entries as there were before it: those that it makes the LSDB wait for are dead.
 pub lacking_few : (link : ℕ) (start last : LspId) (listed rows : List Summary) (spent : Bool) (a b : SnpAnswer) → b ≡ fold (on_listed link spent) a rows → length (filter (lacks start last listed) b.entries) ≤ length a.entries
 lacking_few link start last listed rows spent a b is =
     let fewer = filter_fewer (lacks start last listed) live (λ e h. (and_parts _ _ h).0) b.entries in

@@ -12,7 +12,7 @@ use wire_base::codepoints::TLV_LSP_ENTRIES;
 use wire_base::fields::{read_octets, read_six, read_u8, read_u16, read_u32};
 use wire_base::{Level, PduFault, SystemId};
 
-/// The type of a level's link state PDUs (ISO/IEC 10589, 9.8 and 9.9).
+/// The type of a level's LSPs (ISO/IEC 10589, 9.8 and 9.9).
 pub fn lsp_number(level: Level) -> u8
     ensures { result ≡ lsp_type level }
 {
@@ -79,7 +79,7 @@ fn sized(size: u16, bytes: &[u8]) -> Result<(&[u8], &[u8]), PduFault>
     read_octets(PduFault::PduLength, usize::from(n - 10), rest)
 }
 
-/// A link state PDU from its identifier on, which its checksum covers.
+/// An LSP from its identifier on, which its checksum covers.
 fn read_covered(life: u16, covered: &[u8]) -> Result<Pdu<'_>, PduFault>
     ensures { Gives pdu_of result (covered_at life covered.now) }
 {

@@ -11,7 +11,7 @@ use byteorder::{BigEndian, ByteOrder};
 use wire_base::fields::{read_counted, read_six, read_u8, read_u24};
 use wire_base::{M, Octets, SystemId, TlvFault};
 
-/// An entry of TLV 22: a neighbour that the issuing system reaches, its pseudonode octet, the metric of the link in
+/// An entry of TLV 22: a neighbor that the issuing system reaches, its pseudonode octet, the metric of the link in
 /// 24 bits, and the octets of the sub-TLVs (RFC 5305, 3).
 #[derive(Clone, Copy, Debug)]
 pub struct Reach<'a> {

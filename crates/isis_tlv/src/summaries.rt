@@ -9,7 +9,7 @@ use arrayvec::ArrayVec;
 use wire_base::fields::{read_six, read_u8, read_u16, read_u32};
 use wire_base::{LspId, M, Octets, Summary, SystemId, TlvFault};
 
-/// The identifier of a link state PDU at the front, and the octets after it; the given fault where there are fewer
+/// The identifier of an LSP at the front, and the octets after it; the given fault where there are fewer
 /// than eight octets (ISO/IEC 10589, 9.8).
 pub fn lsp_id_of<E: Copy>(fault: E, bytes: &[u8]) -> Result<(LspId, &[u8]), E>
     ensures { Gives (λ x. (x.0, x.1.now)) result (lsp_id_at fault bytes.now) }

@@ -1,5 +1,5 @@
--- What every event keeps of flags and database: flags at links that are up alone, and at entries that are there; contents
--- that fit a frame; and the router's own link state PDU, live.
+-- What every event keeps of flags and LSDB: flags at links that are up alone, and at entries that are there; contents
+-- that fit a frame; and the router's own LSP, live.
 use Rattle.std.proofs.Common.{◌≡◌, ◌∙◌, ℕ, ◌+◌, ◌<◌, ◌≤◌, ◌&&◌, ◌||◌, not, ◌==◌, nat_lt, Bool, true, false, List, [], ◌∷◌, length, set, get_or, Option, Some, None, if◌then◌else◌, refl, sym, ap, subst, arith}
 use Rattle.std.proofs.lemmas.Bool.{false≢true, true≢false}
 use Rattle.std.specs.List.{AllByRecursion, fold}
@@ -91,14 +91,14 @@ has_aged : (o : Option Entry) (s : Summary) (age : Age) → age ≡ age_of o s �
 has_aged None s age is known = absurd (true≢false (sym (ap is_unknown is) ∙ known))
 has_aged (Some e) s age is known = (e, refl)
 
--- the own link state PDU of a router that isn't spent isn't unknown
+-- the own LSP of a router that isn't spent isn't unknown
 own_known : (own : SystemId) (spent : Bool) (es : List Entry) (id : LspId) (s : Summary) (age : Age) → (spent ≡ false → OwnStands own es) → age ≡ age_of (entry_in es id) s → spent ≡ false → same_id id (fragment_0 own) ≡ true → is_unknown age ≡ false
 own_known own spent es id s age stands is unspent same = read (stands unspent)
   where
     read : OwnStands own es → is_unknown age ≡ false
     read (e, (there, more)) = ap is_unknown (is ∙ ap (λ (i : LspId). age_of (entry_in es i) s) (same_is id (fragment_0 own) same) ∙ ap (λ (o : Option Entry). age_of o s) there) ∙ known_age e s
 
--- ---- a link state PDU
+-- ---- an LSP
 
 pub record LspKept (own : SystemId) (up : List Bool) (spent : Bool) (a : LspAnswer) : Type 0 where
   pub kept : Kept own up spent a.flood a.entries

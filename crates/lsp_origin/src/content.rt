@@ -31,7 +31,7 @@ fn append_identity(out: &mut Octets, conf: &RouterConf) -> M<()>
     push_tlv(out, TLV_DYNAMIC_HOSTNAME, conf.name.as_slice())
 }
 
-/// The TLVs of the router's own link state PDU, where those ends are up.
+/// The TLVs of the router's own LSP, where those ends are up.
 pub(crate) fn own_content(alloc: Global, conf: &RouterConf, up: &[bool]) -> M<Octets>
     requires sound { IsSound conf.now }
     requires up { length up.now ≡ length conf.now.ends }

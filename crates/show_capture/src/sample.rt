@@ -46,7 +46,7 @@ fn info(alloc: Global, n: u8) -> M<Octets> {
     Ok(out)
 }
 
-/// The links of a router to its two neighbours.
+/// The links of a router to its two neighbors.
 fn links(alloc: Global, neighbours: [u8; 2]) -> M<Octets> {
     let mut out = Octets::new(alloc);
     for neighbour in neighbours {

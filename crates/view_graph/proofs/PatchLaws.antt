@@ -25,7 +25,7 @@ use Rattle.view_graph.proofs.KeepLaws.{same_claims, said_head}
 use Rattle.view_graph.proofs.AnewLaws.{place_self, put_turns}
 use Rattle.view_graph.proofs.SystemLaws.{before_differs}
 
--- ---- what depends on the systems and their places in subdomains alone
+-- ---- what depends on the systems and their places in sub-domains alone
 
 abbrev stripped : SystemId → List ViewSub → Claim
 stripped s subs = record { system = s; overload = false; links = []; subs = subs }
@@ -215,7 +215,7 @@ lead_at x p (suc i) (y ∷ ys) d at = by (lists y x.system) (metric_to x.links y
 
 -- ---- what is known where a view is renewed
 
--- The nodes are those by what was said before, with all places in subdomains; systems that are not named say the same now.
+-- The nodes are those by what was said before, with all places in sub-domains; systems that are not named say the same now.
 pub record IsBase (claims now : List Claim) (nodes : List ViewNode) (said : SystemId → Option Claim) (systems : List SystemId) : Type 0 where
   pub order : AreInOrder claims
   pub order_now : AreInOrder now
@@ -235,7 +235,7 @@ whole_at claims nodes i n c whole node claim =
     some_is n.subs c.subs
     (sym (slice_get-map (λ (m : ViewNode). m.subs) nodes i ∙ ap (option_map (λ (m : ViewNode). m.subs)) node) ∙ ap (λ (l : List (List ViewSub)). slice_get l i) whole ∙ slice_get-map (λ (d : Claim). d.subs) claims i ∙ ap (option_map (λ (d : Claim). d.subs)) claim)
 
--- the systems, and their places in subdomains, are as before
+-- the systems, and their places in sub-domains, are as before
 same_strips : (claims now : List Claim) (nodes : List ViewNode) (said : SystemId → Option Claim) (systems : List SystemId) (places : List ℕ) → IsBase claims now nodes said systems → AreNoted said nodes systems places → map strip claims ≡ map strip now
 same_strips claims now nodes said systems places base noted =
     same_claims (map strip claims) (map strip now) (order_strip claims base.order) (order_strip now base.order_now) (λ s. said_strip claims s ∙ by s (is_named systems s) refl ∙ sym (said_strip now s))
@@ -425,7 +425,7 @@ patch_turns claims now nodes said systems anew base patch =
             ∙ ap (λ (n : ViewNode). Some n) (unmade claims now nodes said systems (map (λ (n : NewNode). n.place) anew) i x y.claim base patch.noted strips (has_made anew i ∙ away) e y.at_place y.like)
             ∙ sym (ap (option_map (node_of now)) y.at_place)
 
--- ---- that no place in a subdomain is left out
+-- ---- that no place in a sub-domain is left out
 
 own_all : (k cs : List Claim) → map (λ (n : ViewNode). n.subs) (map (node_of k) cs) ≡ map (own_subs (map strip k)) (map strip cs)
 own_all k [] = refl

@@ -42,7 +42,7 @@ fn add_ends(places: &mut Vec<usize>, edges: &[ViewEdge], others: &[ViewEdge]) ->
     Ok(())
 }
 
-/// Whether a node has all edges that its system lists, and no others, and is overloaded where it says so.
+/// Whether a node has all edges that its system lists, and no others, and has its overload bit set where it says so.
 fn is_as_listed(node: &ViewNode, claim: &Claim, halves: &[ViewEdge]) -> bool
     ensures { result ≡ true → (node.now.overload ≡ claim.now.overload) × (node.now.edges ≡ halves.now) }
 {
@@ -90,7 +90,7 @@ fn add_unlike(
 }
 
 /// Adds the places of the nodes that may be other ones for what a system says now. False where that cannot be told: where
-/// the system has no node or says nothing, or tells other places in subdomains than its node has.
+/// the system has no node or says nothing, or tells other places in sub-domains than its node has.
 fn add_changed(
     places: &mut Vec<usize>,
     nodes: &[ViewNode],

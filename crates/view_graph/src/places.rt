@@ -1,4 +1,4 @@
-//! The places in subdomains that a system tells in its TLVs 135.
+//! The places in sub-domains that a system tells in its TLVs 135.
 ghost use Rattle.std.specs.Prelude.{◌≡◌, ◌++◌, ◌∷◌, [], OnOk, IfOk, option_to_list};
 ghost use Rattle.std.specs.List.{filter_map, flat_map};
 ghost use Rattle.wire_base.specs.model.Tlv.{entries_of, prefix_at, prefix_bits, tlvs_before};

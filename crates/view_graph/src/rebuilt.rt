@@ -98,7 +98,7 @@ fn both_ways(
     Ok(edges)
 }
 
-/// A node made anew by what its system says, with the places in subdomains as before.
+/// A node made anew by what its system says, with the places in sub-domains as before.
 fn made_of(
     nodes: &[ViewNode],
     conf: &RouterConf,

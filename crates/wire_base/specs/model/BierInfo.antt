@@ -13,7 +13,7 @@ use Rattle.wire_base.specs.model.Fields.{◌>>=◌}
 use Rattle.wire_base.specs.model.Place.{code_of, bsl_coded}
 use Rattle.wire_base.specs.model.Tlv.{Tlv, tlv, tlv_at}
 
--- A subdomain, the BFR-id there, and the label ranges.
+-- A sub-domain, the BFR-id there, and the label ranges.
 pub record Info : Type 0 where
   pub sd : ℕ
   pub id : ℕ
@@ -31,7 +31,7 @@ range_tlv r = record { code = SUB_SUB_TLV_BIER_MPLS; value = big_bytes 4 (range_
 abbrev pub range : LabelRange → List ℕ
 range r = tlv (range_tlv r)
 
--- algorithms 0 and 0, subdomain, BFR-id, and the ranges
+-- algorithms 0 and 0, sub-domain, BFR-id, and the ranges
 abbrev pub info : Info → List ℕ
 info i = 0 ∷ 0 ∷ i.sd ∷ (big_bytes 2 i.id ++ flat_map range i.ranges)
 

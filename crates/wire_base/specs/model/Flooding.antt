@@ -1,7 +1,7 @@
 -- Flooding on point-to-point links: what a control state becomes, what is sent, and what is dropped
 -- (ISO/IEC 10589, 7.3.15 to 7.3.17).
 --
--- A flood state and a database change together; what is asked of the router beside that, as to issue its own LSP
+-- A flood state and an LSDB change together; what is asked of the router beside that, as to issue its own LSP
 -- again, is an answer, and the control state does it. All links here are up, unless it is said otherwise.
 use Rattle.std.specs.Prelude.{ℕ, ◌+◌, ◌==◌, ◌&&◌, ◌||◌, not, nat_lt, Bool, true, false, List, [], ◌∷◌, ◌++◌, length, map, filter, fold, take, replicate, slice_index, slice_index_or, slice_set, Option, Some, None, if◌then◌else◌}
 use Rattle.std.specs.List.{filter_map, list_any}
@@ -65,7 +65,7 @@ pass_on f id link = with_row f id (λ row. record row { srm = slice_set f.up lin
 unfoldable pub forget : Flood → LspId → Flood
 forget f id = record f { rows = without_row id f.rows }
 
--- ---- a link state PDU on a link (ISO/IEC 10589, 7.3.15.1 and 7.3.16)
+-- ---- an LSP on a link (ISO/IEC 10589, 7.3.15.1 and 7.3.16)
 
 pub record LspAnswer : Type 0 where
   pub flood : Flood
@@ -84,7 +84,7 @@ flags_alone f entries = record { flood = f; entries = entries; answer = out.Kept
 abbrev pub puts_marked : Flood → List Entry → Entry → LspAnswer
 puts_marked f entries e = record { flood = mark_all f e.id; entries = put_entry e entries; answer = out.Kept }
 
--- what a database keeps of an LSP: of a dead one a purge
+-- what an LSDB keeps of an LSP: of a dead one a purge
 abbrev pub kept : Head → List ℕ → Entry
 kept h tlvs =
     if h.life == 0
@@ -388,6 +388,6 @@ started r up =
 unfoldable pub first_control : RouterConf → Control
 first_control r = started r (replicate (length r.ends) true)
 
--- a restart forgets the database; each end keeps its state
+-- a restart forgets the LSDB; each end keeps its state
 unfoldable pub restart : Control → Reply
 restart c = quiet (started c.conf c.flood.up)

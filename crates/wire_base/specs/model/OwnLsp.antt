@@ -1,4 +1,4 @@
--- The link state PDU that a router issues of itself: fragment 0 alone (ISO/IEC 10589, 7.3.7 and 9.8; RFC 5301, 3;
+-- The LSP that a router issues of itself: fragment 0 alone (ISO/IEC 10589, 7.3.7 and 9.8; RFC 5301, 3;
 -- RFC 5305, 3 and 4; RFC 8401, 6.1 and 6.2).
 use Rattle.std.specs.Prelude.{ℕ, ◌+◌, Bool, true, false, List, [], ◌∷◌, ◌++◌, length, map, if◌then◌else◌}
 use Rattle.std.specs.List.{flat_map}
@@ -50,14 +50,14 @@ reach_tlv ends = record { code = TLV_EXTENDED_IS_REACH; value = flat_map (λ e. 
 abbrev pub reach_tlvs : List End → List Tlv
 reach_tlvs ends = map reach_tlv (blocks most_in_tlv ends)
 
--- label ranges stand only in subdomains that give their BIFT-ids by labels
+-- label ranges stand only in sub-domains that give their BIFT-ids by labels
 abbrev pub info_of : List SubKind → OwnSub → Info
 info_of kinds s = record { sd = s.sd; id = s.id; ranges = if is_mpls (kind_of kinds s.sd) then s.ranges else [] }
 
 abbrev pub infos_of : List SubKind → List OwnSub → List ℕ
 infos_of kinds subs = flat_map (λ s. tlv (info_tlv (info_of kinds s))) subs
 
--- a prefix of 32 bits; bit 64 says that sub-TLVs follow, which a router in no subdomain doesn't have
+-- a prefix of 32 bits; bit 64 says that sub-TLVs follow, which a router in no sub-domain doesn't have
 abbrev pub control_for : List OwnSub → ℕ
 control_for [] = 32
 control_for (s ∷ subs) = 96
@@ -76,7 +76,7 @@ own_tlvs r up = area_tlv r.area ∷ protocols_tlv ∷ name_tlv r.name ∷ (reach
 unfoldable pub own_content : RouterConf → List Bool → List ℕ
 own_content r up = flat_map tlv (own_tlvs r up)
 
--- the type of the system, and whether it is overloaded
+-- the type of the system, and whether it has its overload bit set
 abbrev pub level_bits : Level → ℕ
 level_bits One = 1
 level_bits Two = 3

@@ -74,7 +74,7 @@ psnp_type Two = 27
 abbrev pub common : ℕ → ℕ → List ℕ
 common size number = 131 ∷ size ∷ 1 ∷ 0 ∷ number ∷ 1 ∷ 0 ∷ 0 ∷ []
 
--- what the checksum of a link state PDU covers
+-- what the checksum of an LSP covers
 abbrev pub lsp_covered : Head → List ℕ → List ℕ
 lsp_covered head tlvs = lsp_id head.id ++ (big_bytes 4 head.seq ++ (big_bytes 2 head.sum ++ (head.flags ∷ tlvs)))
 
@@ -105,7 +105,7 @@ pdu level (PsnpPdu source tlvs) = psnp level source tlvs
 pdu level HelloPdu = []
 pdu level (OtherPdu number) = []
 
--- the checksum that a live link state PDU carries
+-- the checksum that a live LSP carries
 abbrev pub lsp_sum : Head → List ℕ → ℕ
 lsp_sum head tlvs = check_sum (lsp_covered (record head { sum = 0 }) tlvs) 12
 

@@ -53,7 +53,7 @@ tlvs_within (suc n) octets = tlv_at octets >>= λ o. then_tlvs o (tlvs_within n)
 unfoldable pub tlvs_of : List ℕ → Result (List Tlv) TlvFault
 tlvs_of octets = tlvs_within (length octets) octets
 
--- ---- an entry of TLV 22: a neighbour that is reached (RFC 5305, 3)
+-- ---- an entry of TLV 22: a neighbor that is reached (RFC 5305, 3)
 
 pub record Reach : Type 0 where
   pub neighbour : SystemId
@@ -137,7 +137,7 @@ prefix_at octets = do
   subs ← subs_if_at (has_subs control.0) bare.1
   Ok (record { metric = metric.0; control = control.0; octets = padded bare.0; subs = subs.0 }, subs.1)
 
--- ---- an identifier of a link state PDU (ISO/IEC 10589, 9.8)
+-- ---- an identifier of an LSP (ISO/IEC 10589, 9.8)
 
 pub record LspIdFits (id : LspId) : Type 0 where
   pub system : length id.system.0 ≡ 6

@@ -1,4 +1,4 @@
--- The view of a router: the nodes and edges that its configuration and its database make up (ISO/IEC 10589, 7.2.5 and
+-- The view of a router: the nodes and edges that its configuration and its LSDB make up (ISO/IEC 10589, 7.2.5 and
 -- 7.2.8; RFC 5305, 3 and 4; RFC 8401, 4 and 5).
 --
 -- First stands what each system claims, then which of it counts beside what the others claim.
@@ -26,12 +26,12 @@ use Rattle.wire_base.specs.model.OwnLsp.{picked, info_of}
 
 -- ---- what a system claims
 
--- a link to a neighbour
+-- a link to a neighbor
 pub record Link : Type 0 where
   pub neighbour : SystemId
   pub metric : ℕ
 
--- A system: whether it is overloaded, its links, and its places in subdomains, in the order of its LSPs.
+-- A system: whether it has its overload bit set, its links, and its places in sub-domains, in the order of its LSPs.
 pub record Claim : Type 0 where
   pub system : SystemId
   pub overload : Bool
@@ -82,7 +82,7 @@ tlvs_of entries s = flat_map (λ e. tlvs_before e.content) (filter (is_part_of s
 abbrev pub is_overload_flag : ℕ → Bool
 is_overload_flag flags = flags / 4 % 2 == 1
 
--- what the system of a fragment 0 claims; it is overloaded where that fragment says so
+-- what the system of a fragment 0 claims; it has its overload bit set where that fragment says so
 abbrev pub claim_of : List Entry → Entry → Claim
 claim_of entries e =
     record {
@@ -117,7 +117,7 @@ put_claim c (x ∷ xs) = if is_lt (system_order c.system x.system) then c ∷ x 
 unfoldable pub claims_of : RouterConf → List Bool → List Entry → List Claim
 claims_of r up entries = put_claim (own_claim r up) (map (claim_of entries) (filter (is_other r.system) entries))
 
--- ---- which places in subdomains count
+-- ---- which places in sub-domains count
 
 abbrev pub all_ranges : List ViewSub → List LabelRange
 all_ranges subs = flat_map (λ s. s.ranges) subs
@@ -126,12 +126,12 @@ all_ranges subs = flat_map (λ s. s.ranges) subs
 abbrev pub unless_overlap : List ViewSub → List ViewSub
 unless_overlap subs = if any_overlap (all_ranges subs) then [] else subs
 
--- the first place in each subdomain
+-- the first place in each sub-domain
 abbrev pub first_each : List ViewSub → List ViewSub
 first_each [] = []
 first_each (s ∷ subs) = s ∷ filter (λ x. not (x.sd == s.sd)) (first_each subs)
 
--- of the subdomains that the router knows
+-- of the sub-domains that the router knows
 abbrev pub known_subs : List SubKind → List ViewSub → List ViewSub
 known_subs kinds subs = first_each (filter (λ s. is_some (kind_of kinds s.sd)) (unless_overlap subs))
 
@@ -180,7 +180,7 @@ node_of claims c = record { system = c.system; overload = c.overload; edges = ed
 abbrev pub nodes_of : List Claim → List ViewNode
 nodes_of claims = map (node_of claims) claims
 
--- The view by a configuration, the ends that are up, and a database, in the order of the systems.
+-- The view by a configuration, the ends that are up, and an LSDB, in the order of the systems.
 unfoldable pub view_of : RouterConf → List Bool → List Entry → List ViewNode
 view_of r up entries = nodes_of (map (with_known r.kinds) (claims_of r up entries))
 
