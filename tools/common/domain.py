@@ -38,6 +38,10 @@ class Domain:
         self.place = {router.name: router.place for router in self.routers}
         self.by_prefix = {router.prefix: router.place for router in self.routers}
         self.by_system = {router.system: router.place for router in self.routers}
+        self.by_addresses = {}  # a data frame's first 12 octets: from where to where
+        for place, conf in enumerate(confs):
+            for end in conf["ends"]:
+                self.by_addresses.setdefault(end["peer_mac"] + end["own_mac"], (place, end["peer_at"]))
         self.kinds = dict(confs[0]["kinds"])
         self.table = confs[0]["table"]
 
@@ -61,12 +65,8 @@ class Domain:
         return next((end["peer_at"] for end in self.ends(place) if end["peer_mac"] == octets[:6]), None)
 
     def sender_of(self, octets):
-        """The two routers of a data frame's way, by its addresses."""
-        for place, conf in enumerate(self.confs):
-            for end in conf["ends"]:
-                if end["own_mac"] == octets[6:12] and end["peer_mac"] == octets[:6]:
-                    return place, end["peer_at"]
-        return None
+        """The two routers of a data frame's link, by its addresses."""
+        return self.by_addresses.get(octets[:12])
 
     def owners(self, subdomain, bfr_id):
         return [router for router in self.routers if bfr_id and (subdomain, bfr_id) in router.ids()]

@@ -1,8 +1,9 @@
 """Data frames and the headers in them: RFC 8296, RFC 3032, RFC 2784."""
 MPLS, BIER, IPV4 = 0x8847, 0xAB37, 0x0800
 LENGTHS = {1: 64, 2: 128, 3: 256, 4: 512, 5: 1024, 6: 2048, 7: 4096}
-# No label stack of the domain is deeper, and `headers` passes those that are.
+# No label stack of the domain is deeper, and `headers` passes over those that are.
 DEEPEST_STACK = 8
+LSPS = (18, 20)  # PDU types, of level 1 and 2
 
 
 class Header:
@@ -26,6 +27,18 @@ def number(octets, start, count):
 
 def is_isis(octets):
     return len(octets) >= 17 and number(octets, 12, 2) <= 1500 and octets[14:17] == b"\xfe\xfe\x03"
+
+
+def neighbors(octets):
+    """The system identifiers that an LSP lists in its Extended IS Reachability TLVs (RFC 5305)."""
+    found, at, end = set(), 44, 14 + number(octets, 12, 2)
+    while at + 2 <= end:
+        kind, at, last = octets[at], at + 2, at + 2 + octets[at + 1]
+        while kind == 22 and at + 11 <= last:
+            found.add(octets[at : at + 6])
+            at += 11 + octets[at + 10]
+        at = last
+    return found
 
 
 def bottom_of_stack(octets):

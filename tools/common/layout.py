@@ -52,22 +52,30 @@ def distances(neighbours):
 def lessen(places, wanted, turns):
     """Moves each router to where the others want it, by distance; the stress never rises."""
     count = len(places)
+    weights = [[1.0 / (row[b] * row[b]) if a != b else 0.0 for b in range(count)] for a, row in enumerate(wanted)]
+    totals = [sum(row) for row in weights]
     for _ in range(turns):
-        moved = []
-        for a in range(count):
-            x = y = total = 0.0
-            for b in range(count):
-                if a == b:
-                    continue
-                weight = 1.0 / (wanted[a][b] * wanted[a][b])
-                dx, dy = places[a][0] - places[b][0], places[a][1] - places[b][1]
-                pull = wanted[a][b] / max(math.hypot(dx, dy), 1e-9)
-                x += weight * (places[b][0] + pull * dx)
-                y += weight * (places[b][1] + pull * dy)
-                total += weight
-            moved.append((x / total, y / total))
-        places = moved
+        places = [(x / total, y / total) for (x, y), total in zip(pulled(places, wanted, weights), totals)]
     return places
+
+
+def pulled(places, wanted, weights):
+    """For each router the weighted sum of the places where the others want it; each pair is looked at once."""
+    xs, ys = [x for x, _ in places], [y for _, y in places]
+    sum_x, sum_y = [0.0] * len(places), [0.0] * len(places)
+    for a, (xa, ya) in enumerate(places):
+        to_x = to_y = 0.0
+        for b, (xb, yb, far, weight) in enumerate(zip(xs[:a], ys, wanted[a], weights[a])):
+            dx, dy = xa - xb, ya - yb
+            pull = weight * far / (math.sqrt(dx * dx + dy * dy) or 1e-9)
+            pull_x, pull_y = pull * dx, pull * dy
+            to_x += weight * xb + pull_x
+            to_y += weight * yb + pull_y
+            sum_x[b] += weight * xa - pull_x
+            sum_y[b] += weight * ya - pull_y
+        sum_x[a] += to_x
+        sum_y[a] += to_y
+    return zip(sum_x, sum_y)
 
 
 def stress(places, wanted):
@@ -97,10 +105,21 @@ def pushed_apart(places):
     """No two routers so close that their boxes overlap: of two that are, each gives way by half, on the shorter side."""
     places = [list(place) for place in places]
     for _ in range(300):
-        pairs = [(a, b) for a in range(len(places)) for b in range(a) if push(places[a], places[b])]
-        if not pairs:
+        if not any([push(places[a], places[b]) for a, b in close_pairs(places)]):
             break
     return [tuple(place) for place in places]
+
+
+def close_pairs(places):
+    """The pairs that are less than a box apart from left to right."""
+    order = sorted(range(len(places)), key=lambda a: (places[a][0], a))
+    found = []
+    for rank, a in enumerate(order):
+        for b in order[rank + 1 :]:
+            if places[b][0] - places[a][0] >= BOX[0]:
+                break
+            found.append((max(a, b), min(a, b)))
+    return sorted(found)
 
 
 def push(one, other):

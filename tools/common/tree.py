@@ -19,10 +19,12 @@ class Hop:
 
 
 class Tree:
-    """An injection: where it entered, its copies, and the report's lines of it."""
+    """An injection: where it entered, its copies, the report's lines of it, and the ends that were down at its last event."""
 
-    def __init__(self, number, ingress, hops, told):
+    def __init__(self, number, line, ingress, hops, told):
         self.number, self.ingress, self.hops, self.told = number, ingress, hops, told
+        self.last_line = max([line, *(hop.line for hop in hops), *(it.line for it in told)])
+        self.down = set()  # pairs of a router and the neighbor that its end leads to
 
 
 def hop_of(item):
@@ -35,7 +37,12 @@ def tree_by_schedule(domain, schedule, report, records, number):
     if number not in course.injected:
         raise Trouble(f"the replay has no injection {number}; it has {len(course.injected)}")
     hops = [hop_of(item) for step in course.steps for item in step.sent if item.injection == number]
-    return Tree(number, course.injected[number][1], hops, told_of(report, number))
+    line, ingress, *_ = course.injected[number]
+    found = Tree(number, line, ingress, hops, told_of(report, number))
+    for step in course.steps[: found.last_line]:
+        for a, b, is_up in step.ends:
+            (found.down.discard if is_up else found.down.add)((a, b))
+    return found
 
 
 def told_of(report, number):
@@ -128,8 +135,40 @@ class Joined:
             if root.numbers - {place}:
                 raise Trouble("two injections look alike in the capture, so their copies can't be told apart: add --schedule")
         root = in_order[number - 1]
-        return Tree(number, root.ingress, [hop_of(item) for item in root.items], told_of(self.report, number))
+        return Tree(number, root.line, root.ingress, [hop_of(item) for item in root.items], told_of(self.report, number))
 
 
 def tree_by_frames(domain, report, records, number):
-    return Joined(domain, report, records).tree(number)
+    found = Joined(domain, report, records).tree(number)
+    found.down = unlisted_ends(domain, records, found.last_line) | ends_of_drops(domain, found)
+    return found
+
+
+def unlisted_ends(domain, records, last_line):
+    """The ends that their routers' newest LSPs leave out, of those that were sent up to a line."""
+    newest = {}
+    for record in records:
+        octets = record.octets
+        if record.second > last_line:
+            break
+        if frames.is_isis(octets) and octets[21] & 31 in frames.LSPS and octets[29:35] in domain.by_system:
+            identifier, sequence = octets[29:37], frames.number(octets, 37, 4)
+            if identifier not in newest or sequence > newest[identifier][0]:
+                newest[identifier] = sequence, octets
+    found = set()
+    for identifier, (_, octets) in newest.items():
+        place, listed = domain.by_system[identifier[:6]], frames.neighbors(octets)
+        # An expired LSP lists nothing, and says nothing of links.
+        if frames.number(octets, 27, 2):
+            found |= {(place, end["peer_at"]) for end in domain.ends(place) if end["peer"] not in listed}
+    return found
+
+
+def ends_of_drops(domain, tree):
+    """The ends at which copies of this packet arrived while they were down, by the report."""
+    found = set()
+    for told in tree.told:
+        if told.cause == "link":
+            b = domain.place[told.router]
+            found |= {(b, hop.a) for hop in tree.hops if hop.b == b and set(hop.ids) == set(told.ids)}
+    return found

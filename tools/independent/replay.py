@@ -4,7 +4,7 @@
 tools/independent/replay.py replay CONF SCHEDULE FRAMES        the words, report, capture and status of the program's `replay`
 tools/independent/replay.py node CONF ROUTER CAPTURE FRAMES    those of its `node`
 """
-import sys, tomllib, struct, heapq, re
+import sys, tomllib, struct, heapq, re, functools, operator
 
 BSLS = {64: 1, 128: 2, 256: 3, 512: 4, 1024: 5, 2048: 6, 4096: 7}
 LAST = 0xFFFFFFFF
@@ -188,10 +188,7 @@ def read_domain(data):
 
 def checksum(b):
     """Right where the two sums are 0 modulo 255."""
-    c0 = c1 = 0
-    for x in b:
-        c0 = (c0 + x) % 255; c1 = (c1 + c0) % 255
-    return c0 == 0 and c1 == 0
+    return sum(b) % 255 == 0 and sum(map(operator.mul, b, range(len(b), 0, -1))) % 255 == 0
 
 def check_at(b, at):
     n = len(b)
@@ -206,6 +203,7 @@ def check_at(b, at):
 def common(hlen, typ): return bytes([0x83, hlen, 1, 0, typ, 1, 0, 0])
 
 TYPES = {1: (18, 24, 26), 2: (20, 25, 27)}
+HEADS = (27, 33, 17)
 
 def write_lsp(level, e):
     total = 27 + len(e["content"])
@@ -252,6 +250,40 @@ def own_lsp(r, up, seq):
 
 def purge(i, seq): return dict(id=i, seq=seq, life=0, hold=60, sum=0, flags=0, content=b"")
 
+def read_head(level, b):
+    """The type of a PDU by its number, and its octets up to its length; a drop by its cause, or None twice where it is passed over."""
+    if len(b) < 8: return "drop", "pdu-1"
+    if b[0] != 0x83: return "drop", "pdu-2"
+    if b[2] != 1 or b[5] != 1: return "drop", "pdu-3"
+    if b[3] not in (0, 6): return "drop", "pdu-4"
+    typ = b[4] & 31
+    if typ not in TYPES[level]: return None, None
+    hl = HEADS[TYPES[level].index(typ)]
+    if b[1] != hl: return "drop", "pdu-5"
+    if len(b) < hl: return "drop", "pdu-6"
+    n = int.from_bytes(b[8:10], "big")
+    if n < hl or n > len(b): return "drop", "pdu-6"
+    return typ, b[:n]
+
+# An LSP is flooded over many links, so most PDUs come again.
+@functools.lru_cache(1 << 16)
+def read_pdu(level, b):
+    """A PDU as "lsp" with its fields, "csnp" or "psnp" with its rows and bounds, or what read_head says of it."""
+    typ, b = read_head(level, b)
+    if not isinstance(typ, int): return typ, b
+    kind = TYPES[level].index(typ); hl = HEADS[kind]
+    if kind == 0 and int.from_bytes(b[10:12], "big") > 0 and not checksum(b[12:]): return "drop", "pdu-7"
+    tl, ok = walk_tlvs(b[hl:])
+    if not ok or (kind > 0 and any(c == 9 and len(v) % 16 for c, v in tl)): return "drop", "pdu-8"
+    if kind == 0:
+        return "lsp", dict(life=int.from_bytes(b[10:12], "big"), id=b[12:20], seq=int.from_bytes(b[20:24], "big"), sum=int.from_bytes(b[24:26], "big"), flags=b[26], content=b[27:])
+    rows = []
+    for c, v in tl:
+        if c == 9:
+            for k in range(0, len(v), 16):
+                x = v[k:k + 16]; rows.append(dict(life=int.from_bytes(x[:2], "big"), id=x[2:10], seq=int.from_bytes(x[10:14], "big"), sum=int.from_bytes(x[14:], "big")))
+    return ("csnp" if kind == 1 else "psnp"), (rows, b[17:25], b[25:33])
+
 def age(e, s):
     if e is None: return "Unknown"
     if s["seq"] != e["seq"]: return "Newer" if s["seq"] > e["seq"] else "Older"
@@ -283,15 +315,18 @@ class Router:
         self.start()
 
     def start(self):
-        self.entries, self.srm, self.ssn, self.spent = {}, set(), set(), False
+        # The flooding flags: by link, the identifiers that have one.
+        self.srm, self.ssn = [set() for _ in self.up], [set() for _ in self.up]
+        self.entries, self.spent = {}, False
         self.due = list(self.up)
         e = own_lsp(self.conf, self.up, 1)
         self.entries[e["id"]] = e
         self.mark(e["id"])
 
     def mark(self, i):
-        self.srm = {x for x in self.srm if x[0] != i} | {(i, l) for l, u in enumerate(self.up) if u}
-        self.ssn = {x for x in self.ssn if x[0] != i}
+        self.forget(i)
+        for ids, u in zip(self.srm, self.up):
+            if u: ids.add(i)
 
     def own_id(self): return self.conf["system"] + b"\0\0"
 
@@ -310,7 +345,7 @@ class Router:
             self.reissue(e["seq"] if e else 0)
 
     def forget(self, i):
-        self.srm = {x for x in self.srm if x[0] != i}; self.ssn = {x for x in self.ssn if x[0] != i}
+        for ids in self.srm + self.ssn: ids.discard(i)
 
     def on_lsp(self, c, h, out):
         i = h["id"]
@@ -326,55 +361,57 @@ class Router:
         if a in ("Unknown", "Newer"):
             self.entries[i] = purge(i, h["seq"]) if h["life"] == 0 else dict(id=i, seq=h["seq"], life=h["life"], hold=0, sum=h["sum"], flags=h["flags"], content=h["content"])
             self.forget(i)
-            self.srm |= {(i, l) for l, u in enumerate(self.up) if u and l != c}; self.ssn.add((i, c))
+            for l, u in enumerate(self.up):
+                if u and l != c: self.srm[l].add(i)
+            self.ssn[c].add(i)
         elif a == "Confused":
             self.entries[i] = purge(i, h["seq"]); self.mark(i)
         elif a == "Equal":
-            self.srm.discard((i, c)); self.ssn.add((i, c))
+            self.srm[c].discard(i); self.ssn[c].add(i)
         else:
-            self.srm.add((i, c)); self.ssn.discard((i, c))
+            self.srm[c].add(i); self.ssn[c].discard(i)
 
     def on_list(self, c, rows, out):
         re_ = None
         for s in rows:
             i = s["id"]; e = self.entries.get(i)
             if s["seq"] == 0:
-                if e and e["seq"] > 0: self.srm.add((i, c)); self.ssn.discard((i, c))
+                if e and e["seq"] > 0: self.srm[c].add(i); self.ssn[c].discard(i)
                 continue
             a = age(e, s)
-            if a == "Equal": self.srm.discard((i, c))
-            elif a == "Older": self.srm.add((i, c)); self.ssn.discard((i, c))
-            elif a == "Newer": self.ssn.add((i, c)); self.srm.discard((i, c))
+            if a == "Equal": self.srm[c].discard(i)
+            elif a == "Older": self.srm[c].add(i); self.ssn[c].discard(i)
+            elif a == "Newer": self.ssn[c].add(i); self.srm[c].discard(i)
             elif a == "Confused":
                 if i == self.own_id() and not self.spent: re_ = s["seq"]
                 else: self.entries[i] = purge(i, s["seq"]); self.mark(i)
             elif s["life"] and s["seq"] and s["sum"]:
                 if len(self.entries) >= 4096: out["drops"].append(("full", None)); continue
                 self.entries[i] = dict(id=i, seq=0, life=0, hold=60, sum=0, flags=0, content=b"")
-                self.ssn.add((i, c)); self.srm.discard((i, c))
+                self.ssn[c].add(i); self.srm[c].discard(i)
         return re_
 
     def isis(self, link, pdu):
         e = self.conf["ends"][link]
         return bytes.fromhex("09002b000005") + e["own_mac"] + struct.pack(">H", 3 + len(pdu)) + b"\xfe\xfe\x03" + pdu
 
+    def complete_lists(self):
+        sent, start = [], b"\0" * 8
+        known = [i for i in sorted(self.entries) if self.entries[i]["seq"] > 0]
+        blocks = [known[k:k + 90] for k in range(0, len(known), 90)] or [[]]
+        for k, blk in enumerate(blocks):
+            last = b"\xff" * 8 if k == len(blocks) - 1 else blk[-1]
+            sent.append(write_csnp(self.conf["level"], self.conf["system"], start, last, [summ(self.entries[i]) for i in blk]))
+            if k < len(blocks) - 1: start = (int.from_bytes(last, "big") + 1).to_bytes(8, "big")
+        return sent
+
     def send(self, link):
-        sent, lev, sy = [], self.conf["level"], self.conf["system"]
-        ids = sorted(self.entries)
-        if self.due[link]:
-            known = [i for i in ids if self.entries[i]["seq"] > 0]
-            blocks = [known[k:k + 90] for k in range(0, len(known), 90)] or [[]]
-            start = b"\0" * 8
-            for k, blk in enumerate(blocks):
-                last = b"\xff" * 8 if k == len(blocks) - 1 else blk[-1]
-                sent.append(write_csnp(lev, sy, start, last, [summ(self.entries[i]) for i in blk]))
-                if k < len(blocks) - 1: start = (int.from_bytes(last, "big") + 1).to_bytes(8, "big")
-        for i in ids:
-            if (i, link) in self.srm: sent.append(write_lsp(lev, self.entries[i]))
-        asks = [summ(self.entries[i]) for i in ids if (i, link) in self.ssn]
-        for k in range(0, len(asks), 90): sent.append(write_psnp(lev, sy, asks[k:k + 90]))
+        sent = self.complete_lists() if self.due[link] else []
+        for i in sorted(self.srm[link]): sent.append(write_lsp(self.conf["level"], self.entries[i]))
+        asks = [summ(self.entries[i]) for i in sorted(self.ssn[link])]
+        for k in range(0, len(asks), 90): sent.append(write_psnp(self.conf["level"], self.conf["system"], asks[k:k + 90]))
         self.due[link] = False
-        self.ssn = {x for x in self.ssn if x[1] != link}
+        self.ssn[link].clear()
         return [(link, self.isis(link, p)) for p in sent]
 
     def tick(self):
@@ -391,12 +428,12 @@ class Router:
     def end_up(self, l):
         self.up[l] = True; self.due[l] = True
         for i, e in self.entries.items():
-            if e["seq"] > 0: self.srm.add((i, l))
+            if e["seq"] > 0: self.srm[l].add(i)
         self.reissue_own()
 
     def end_down(self, l):
         self.up[l] = False; self.due[l] = False
-        self.srm = {x for x in self.srm if x[1] != l}; self.ssn = {x for x in self.ssn if x[1] != l}
+        self.srm[l].clear(); self.ssn[l].clear()
         self.reissue_own()
 
     # ---- view
@@ -656,36 +693,18 @@ class Router:
         out["sent"].append((link, e["peer_mac"] + e["own_mac"] + b"\x08\x00" + bytes(h)))
 
     def pdu(self, link, b, out):
-        drop = lambda c: out["drops"].append((c, None))
-        if len(b) < 8: return drop("pdu-1")
-        if b[0] != 0x83: return drop("pdu-2")
-        if b[2] != 1 or b[5] != 1: return drop("pdu-3")
-        if b[3] not in (0, 6): return drop("pdu-4")
-        typ = b[4] & 31; L, C, P = TYPES[self.conf["level"]]
-        if typ not in (L, C, P): out["passed"] = True; return
-        hl = {L: 27, C: 33, P: 17}[typ]
-        if b[1] != hl: return drop("pdu-5")
-        if len(b) < hl: return drop("pdu-6")
-        n = int.from_bytes(b[8:10], "big")
-        if n < hl or n > len(b): return drop("pdu-6")
-        b = b[:n]
-        if typ == L and int.from_bytes(b[10:12], "big") > 0 and not checksum(b[12:]): return drop("pdu-7")
-        tl, ok = walk_tlvs(b[hl:])
-        if not ok or (typ != L and any(c == 9 and len(v) % 16 for c, v in tl)): return drop("pdu-8")
-        if typ == L:
-            h = dict(life=int.from_bytes(b[10:12], "big"), id=b[12:20], seq=int.from_bytes(b[20:24], "big"), sum=int.from_bytes(b[24:26], "big"), flags=b[26], content=b[27:])
-            return self.on_lsp(link, h, out)
-        rows = []
-        for c, v in tl:
-            if c == 9:
-                for k in range(0, len(v), 16):
-                    x = v[k:k + 16]; rows.append(dict(life=int.from_bytes(x[:2], "big"), id=x[2:10], seq=int.from_bytes(x[10:14], "big"), sum=int.from_bytes(x[14:], "big")))
-        re_ = self.on_list(link, rows, out)
-        if typ == C:
-            lo, hi = b[17:25], b[25:33]; listed = {s["id"] for s in rows}
-            for i, e in self.entries.items():
-                if e["life"] > 0 and e["seq"] > 0 and lo <= i <= hi and i not in listed: self.srm.add((i, link))
-        if re_ is not None: self.reissue(re_)
+        typ, what = read_pdu(self.conf["level"], bytes(b))
+        if typ is None: out["passed"] = True
+        elif typ == "drop": out["drops"].append((what, None))
+        elif typ == "lsp": self.on_lsp(link, what, out)
+        else:
+            rows, lo, hi = what
+            re_ = self.on_list(link, rows, out)
+            if typ == "csnp":
+                listed = {s["id"] for s in rows}
+                for i, e in self.entries.items():
+                    if e["life"] > 0 and e["seq"] > 0 and lo <= i <= hi and i not in listed: self.srm[link].add(i)
+            if re_ is not None: self.reissue(re_)
 
     def edge_fault(self, sd, L, ids):
         if not ids: return "1 NoEgress"
