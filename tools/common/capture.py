@@ -36,8 +36,9 @@ def read_capture(path):
     return list(records_of(path, octets, order))
 
 
-def records_of(path, octets, order):
-    at, number = 24, 0
+def records_of(path, octets, order, at=24):
+    """The records of a capture from an offset on, numbered from 1."""
+    number = 0
     while at < len(octets):
         number += 1
         if at + 16 > len(octets):

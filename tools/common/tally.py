@@ -7,7 +7,7 @@ import socket
 import subprocess
 import tempfile
 
-from . import chance, texts
+from . import chance, driver, texts
 from .domain import Domain, independent
 from .trouble import Trouble, write_octets
 
@@ -26,12 +26,6 @@ COLOURS = {
 
 
 # One run
-
-
-def replay(program, folder, limit):
-    """Runs the program on the domain and schedule of a folder; the capture goes there too."""
-    words = [program, "replay", "domain.toml", "schedule", "frames"]
-    return subprocess.run(words, cwd=folder, capture_output=True, timeout=limit)
 
 
 def is_whole(result):
@@ -65,18 +59,14 @@ def fault_of(counts, report):
     return f"its lines and its last line differ in {', '.join(wrong)}" if wrong else None
 
 
-def one(job, rule, settled, number):
-    """The result of one run: fates, or why it broke."""
+def one(job, rule, seen, number, folder):
+    """The result of one run, whose files go to the folder: fates, or why it broke."""
     result = {"run": number, "host": socket.gethostname()}
     try:
-        schedule = chance.schedule(rule, settled, number)
-        with tempfile.TemporaryDirectory() as folder:
-            write_octets(os.path.join(folder, "domain.toml"), job["domain"].encode())
-            write_octets(os.path.join(folder, "schedule"), schedule.encode())
-            done = replay(job["program"], folder, job["limit"])
-        report = texts.report_of("report", done.stdout.decode(errors="replace"))
-        if done.returncode or not report.is_done:
-            raise Trouble(f"status {done.returncode}, {report.end}")
+        run = driver.Driver(job["program"], folder, job["domain"], job["limit"], seen)
+        schedule = chance.Writer(rule, run, number).write()
+        write_octets(run.at("report"), run.report)
+        report = run.whole_report()
         counts = fates(report, schedule)
         fault = fault_of(counts, report)
         if fault:
@@ -84,25 +74,54 @@ def one(job, rule, settled, number):
         return {**result, "fates": counts}
     except subprocess.TimeoutExpired:
         return {**result, "broken": f"it took more than {job['limit']} seconds"}
-    except (Trouble, OSError, independent.Refused) as trouble:
+    except driver.Refused as trouble:
+        return {**result, "broken": str(trouble), "final": True}
+    except (Trouble, OSError) as trouble:
         return {**result, "broken": str(trouble)}
+    except (IndexError, KeyError, TypeError):
+        return {**result, "broken": "its capture isn't of its schedule"}
+
+
+def settled(job, rule):
+    """How many octets of a capture the domain's first settling takes, which all runs begin with."""
+    with tempfile.TemporaryDirectory() as folder:
+        run = driver.Driver(job["program"], folder, job["domain"], job["limit"])
+        lines = chance.first_lines(rule, "The domain settles.")
+        if any(record.second == len(lines) for record in run.do(lines)):
+            raise Trouble("the domain doesn't come to rest")
+        return run.seen
+
+
+def rule_of(job):
+    return chance.Rule(Domain(independent.read_domain(job["domain"].encode())), job["rule"])
 
 
 def work(lines, out):
     """A worker: for each line, a job with its runs, one line for each result. The status is 1 where one broke."""
-    last, rule, settled, status = None, None, None, 0
+    last, rule, seen, status, parent = None, None, None, 0, os.getppid()
     for line in lines:
         job = json.loads(line)
         if last != (job["domain"], job["rule"]):
-            last = job["domain"], job["rule"]
-            rule = chance.Rule(Domain(independent.read_domain(job["domain"].encode())), job["rule"])
-            settled = chance.Settled(rule.domain)
+            last, rule, seen = (job["domain"], job["rule"]), rule_of(job), None
         for number in job["runs"]:
-            result = one(job, rule, settled, number)
+            if os.getppid() != parent:
+                return 1  # nobody is there to take results
+            result = one_of(job, rule, number, seen)
+            seen = result.pop("seen", seen)
             status = status if is_whole(result) else 1
             out.write(json.dumps(result) + "\n")
             out.flush()
     return status
+
+
+def one_of(job, rule, number, seen):
+    """A run in a folder that is gone afterwards; with it how much the first settling takes, where it wasn't known."""
+    try:
+        seen = seen or settled(job, rule)
+    except (Trouble, OSError, subprocess.TimeoutExpired) as trouble:
+        return {"run": number, "host": socket.gethostname(), "broken": f"the domain's first settling: {trouble}"}
+    with tempfile.TemporaryDirectory() as folder:
+        return {**one(job, rule, seen, number, folder), "seen": seen}
 
 
 # All runs
@@ -127,7 +146,7 @@ def sums(results):
 
 
 def egress_name(it, rule, bfr_id):
-    return "+".join(router.name for router in it.owners(rule.words["sd"], bfr_id)) or "nobody"
+    return "+".join(router.name for router in it.owners(rule.options["sd"], bfr_id)) or "nobody"
 
 
 def kinds_in(total):

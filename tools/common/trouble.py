@@ -26,9 +26,11 @@ def run(main):
         sys.exit(1)
 
 
-def read_octets(path):
+def read_octets(path, start=0):
     try:
         with open(path, "rb") as file:
+            if start:
+                file.seek(start)
             return file.read()
     except OSError as error:
         raise Trouble(f"{path}: {error.strerror}")
