@@ -69,9 +69,11 @@ class Words(unittest.TestCase):
         it = replayed("replay-ring")
         self.refused("name an .svg", "picture", it.domain, "-o", scratch("picture.txt"))
         self.refused("no router of that name", "sweep", it.domain, "--from", "Z", "--out", scratch("none"))
+        self.refused("no router of that name", "sweep", it.domain, "--to", "Z", "--out", scratch("none"))
+        self.refused("no link joins", "sweep", it.domain, "--group", "A/B,A/C", "--out", scratch("none"))
         self.refused("no router of that name", "heard", it.domain, "Z", it.frames, scratch("out.pcap"))
         self.refused("there are", "heard", it.domain, "A", it.frames, scratch("out.pcap"), "--damage", "100000")
-        self.refused("no such subdomain", "sweep", it.domain, "--sd", "9", "--out", scratch("none"))
+        self.refused("no such sub-domain", "sweep", it.domain, "--sd", "9", "--out", scratch("none"))
         self.refused("Not a directory", "sweep", it.domain, "--out", os.path.join(it.domain, "out"), "--program", program())
         self.refused("No such file", "sweep", it.domain, "--program", scratch("gone"), "--out", scratch("none"))
 
