@@ -1,5 +1,5 @@
 """Domain files, read by the rules of the user guide, through the independent implementation in tools/independent."""
-from . import places  # sets where the independent program is found
+from . import explain, places  # the latter sets where the independent program is found
 from .trouble import Trouble, read_octets
 
 import replay as independent
@@ -85,4 +85,4 @@ def read_domain(path):
     try:
         return Domain(independent.read_domain(read_octets(path)))
     except independent.ConfFault as fault:
-        raise Trouble(f"{path}: not a domain file, refused as {fault} (docs/user-guide.md, The domain file)")
+        raise Trouble(f"not a domain file: {explain.conf(path, str(fault))}")
