@@ -1,4 +1,4 @@
-"""One way to end a tool that can't go on: a line on standard error, and never a traceback."""
+"""How a tool ends that can't go on: with one line on standard error, and never a traceback."""
 import os
 import sys
 
@@ -43,7 +43,11 @@ def read_text(path):
         raise Trouble(f"{path}: not a text")
 
 
-def write_octets(path, octets):
+def write_octets(path, octets, inputs=()):
+    """Writes a file, which must be none of the inputs."""
+    for read in inputs:
+        if os.path.exists(path) and os.path.samefile(path, read) and os.path.isfile(path):
+            raise Trouble(f"{path}: is an input, and would be overwritten")
     try:
         with open(path, "wb") as file:
             file.write(octets)

@@ -64,6 +64,11 @@ def scratch(name):
     return os.path.join(SCRATCH.name, name)
 
 
+def read(path):
+    with open(path) as file:
+        return file.read()
+
+
 def write(name, octets):
     path = scratch(name)
     with open(path, "wb") as file:
