@@ -74,6 +74,14 @@ class Picture(unittest.TestCase):
             self.assertIn(RED, dot)
             self.assertNotIn(GREEN, dot)
 
+    def test_links_that_are_down(self):
+        """With the schedule all ends that are down; without it those that the LSPs up to then leave out."""
+        it = replayed("replay-ring")
+        for injection, known, found in (("3", None, None), ("4", "\\ndown at B", None), ("5", "\\ndown", "\\ndown")):
+            for words, wanted in ((["--schedule", it.schedule], known), ([], found)):
+                dot = drawn(it.domain, it.report, it.frames, injection, *words)
+                self.assertEqual(re.findall(r'label="10(.*?down.*?)"', dot), [wanted] if wanted else [])
+
     def test_each_injection(self):
         for name in REPLAYS:
             it = replayed(name)

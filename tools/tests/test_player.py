@@ -8,7 +8,7 @@ import subprocess
 import tempfile
 import unittest
 
-from support import REPLAYS, needs, replayed, scratch, tool
+from support import REPLAYS, needs, program, replayed, scratch, tool, write
 from common import capture
 
 TRIES = 3  # Chromium may fail to start where a machine is busy
@@ -134,6 +134,24 @@ class Page(unittest.TestCase):
         text, _ = page("replay-ring")
         script = text.replace("http://www.w3.org/2000/svg", "")
         self.assertNotRegex(script, r"https?://|<link|src=|@import|fetch\(|XMLHttpRequest")
+
+    def test_same_way_up(self):
+        """The page counts downward, and Graphviz upward."""
+        it, dot = replayed("replay-television"), scratch("way-up.dot")
+        self.assertEqual(tool("picture", it.domain, "-o", dot).returncode, 0)
+        with open(dot) as file:
+            pictured = [float(y) for y in re.findall(r'pos="[-0-9.]+,([-0-9.]+)!"', file.read())]
+        shown = [router["y"] for router in data_of(page("replay-television")[0])["routers"]]
+        order = lambda heights: sorted(range(len(heights)), key=lambda place: (round(heights[place], 2), place))
+        self.assertEqual(order([-y / 1.5 for y in pictured]), order([y - max(shown) for y in shown]))
+
+    def test_no_lines(self):
+        it, empty, report, frames = replayed("replay-pair"), write("empty", ""), scratch("empty.report"), scratch("empty.pcap")
+        with open(report, "wb") as file:
+            subprocess.run([program(), "replay", it.domain, empty, frames], stdout=file, check=True)
+        done = tool("player", it.domain, empty, report, frames, "-o", scratch("empty.html"))
+        self.assertEqual((done.returncode, done.stderr), (0, ""))
+        self.assertIn("0 lines, 0 frames", done.stdout)
 
     def test_odd_texts(self):
         """What stands in a schedule's comments can't end the page's script."""

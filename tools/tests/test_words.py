@@ -2,9 +2,9 @@
 import os
 import unittest
 
-from support import program, replayed, scratch, tool, write
+from support import program, python_alone, replayed, scratch, tool, write
 
-NAMES = ["picture", "player", "sweep", "heard", "storm", "fail-each", "check", "check-capture"]
+NAMES = ["picture", "player", "sweep", "heard", "lint", "storm", "fail-each", "check", "check-capture"]
 
 
 class Words(unittest.TestCase):
@@ -64,6 +64,21 @@ class Words(unittest.TestCase):
             "aren't of one replay", "player", ring.domain, ring.schedule, ring.report, pair.frames, "-o", scratch("page.html")
         )
         self.refused("no injection 99", "picture", ring.domain, ring.report, ring.frames, "99")
+
+    def test_inputs_are_kept(self):
+        it = replayed("replay-ring")
+        for path in it.files[:3:2] + it.files[3:]:
+            before = os.path.getsize(path)
+            self.refused("would be overwritten", "player", *it.files, "-o", path)
+            self.assertEqual(os.path.getsize(path), before)
+        self.refused("would be overwritten", "heard", it.domain, "A", it.frames, it.frames)
+
+    def test_nothing_is_checked(self):
+        """Without tshark a capture isn't called right."""
+        it = replayed("replay-ring")
+        done = tool("check-capture", it.frames, it.domain, env={"PATH": python_alone()})
+        self.assertEqual(done.returncode, 1)
+        self.assertIn("tshark isn't installed (Debian: tshark)", done.stderr)
 
     def test_what_can_t_be_done(self):
         it = replayed("replay-ring")
