@@ -1,5 +1,6 @@
-"""Schedules by rule and seed: which links and routers fail, and how frames are lost, reordered and repeated until all routers
-know of it. A schedule may only name frames that are in flight: those that the capture says were sent, and no line has taken.
+"""Schedules by rule and seed: which links and routers fail, and how frames are lost, reordered and repeated during convergence.
+
+A schedule may only name frames that are in flight: those that the capture has, and that no line has delivered or lost.
 """
 import itertools
 import random
@@ -12,7 +13,7 @@ MOST_ROUNDS = 1000  # of one settle line
 
 
 class Failure:
-    """What fails together: links, and routers with all their links."""
+    """What fails together: links, or a router with all its links."""
 
     def __init__(self, name, links, routers=()):
         self.name, self.links, self.routers = name, links, routers
@@ -45,7 +46,7 @@ class Rule:
         return self.case(run)[0].name
 
     def settle_lines(self, cut):
-        """Lines after which the domain without those links is at rest: LSPs and packets go a link on in each round."""
+        """Lines after which the domain without those links is at rest: in each round LSPs and packets go one link further."""
         cut = frozenset(cut)
         if cut not in self.rounds:
             self.rounds[cut] = min(MOST_ROUNDS, 2 * self.longest_path(cut) + 6)

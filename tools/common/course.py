@@ -36,7 +36,7 @@ class Packet:
 
 
 class Step:
-    """What one line of the schedule did: frames sent and ended, and what the report says of it."""
+    """What one line of the schedule did: frames sent and ended, and its lines of the report."""
 
     def __init__(self, line, text):
         self.line, self.text = line, text
@@ -85,7 +85,7 @@ class Course:
         except ValueError as fault:
             if self.report.end.startswith(f"refused {number} text "):
                 return False
-            raise Trouble(f"line {number} of the schedule isn't in its grammar ({fault}), but the report doesn't say so")
+            raise Trouble(f"line {number} of the schedule is invalid ({fault}), but the report doesn't reject it")
         try:
             self.do(event)
         except Stop:
@@ -104,7 +104,7 @@ class Course:
                 return self.count((event[1] - done - 1) * (self.events - before[0]))
 
     def round(self):
-        """One round: each router sends on each end that is up, then each frame that stands on a link is delivered."""
+        """One round: each router sends on each interface that is up, then each frame in flight arrives."""
         for a, b in self.ways:
             router, link = self.routers[a], self.link_at[a, b]
             if not router.up[link]:
@@ -227,10 +227,10 @@ class Course:
         return copy if is_next else None
 
     def account(self, a, packet, forward):
-        """Finds the deliveries, drops and copies into which the BFR-ids of a packet went at a router.
+        """Finds the deliveries, drops and copies that a router made of a packet.
 
-        A line of the report may be of a later visit of the same packet, as in a loop; a frame may be of another packet that is
-        alike. Where neither TTL nor BFR-ids tell, `forward` does, which is what the independent implementation makes of it."""
+        The report's next line may be of a later visit of the same packet, as in a loop, and the next frame may be of a similar
+        packet. Where TTL and BFR-ids don't decide, `forward` does: what the independent implementation makes of the packet."""
         dropped = None
         while packet.ids:
             told, copy = self.told_at(a, packet), self.copy_at(a, packet)
@@ -248,7 +248,7 @@ class Course:
                 raise self.wrong(f"what {self.domain.name(a)} does with injection {packet.injection} is in neither report nor capture")
 
     def told_at(self, a, packet):
-        """The report's next line where it can be of this packet here and now."""
+        """The report's next line where it can be of this packet at this visit."""
         told = self.told_of(a, packet.injection, packet.ids)
         is_now = told and (told.is_got or told.cause == "none" or told.cause == "ttl" and packet.ttl <= 0)
         return told if is_now else None
@@ -325,7 +325,7 @@ class Course:
     # Databases and the end
 
     def databases(self):
-        """What the routers touched by this line hold: identifier, sequence number, whether it is live, checksum."""
+        """The LSDBs of the routers that this line touched: LSP ID, sequence number, whether it is live, checksum."""
         held = {}
         for place in sorted(self.touched):
             entries = self.routers[place].entries.values()
@@ -346,7 +346,7 @@ def key_of(header):
 
 
 def data_item(domain, record, a, b, header, tunnel):
-    """A data frame as an item, with the identifiers that its BIFT-id gives it at its target; None where it has no meaning."""
+    """A data frame as an item, with the BFR-ids that its BIFT-id gives it at its target; None where the BIFT-id means nothing there."""
     item = Item(record, a, b)
     item.header, item.tunnel = header, tunnel
     if tunnel:

@@ -1,7 +1,7 @@
-"""A replay that goes on while its schedule is written.
+"""A replay that is continued while its schedule is written.
 
-The program reads a whole schedule, so to see what some lines do, it replays all lines up to them. What earlier lines sent and
-reported stands at the front of its files, which is passed over: the same lines always do the same.
+To see what further lines do, the program replays the schedule from its start. The same lines always do the same, so the capture
+begins with what earlier lines sent, which is skipped.
 """
 import os
 import subprocess

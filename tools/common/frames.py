@@ -7,13 +7,13 @@ LSPS = (18, 20)  # PDU types, of level 1 and 2
 
 
 class Header:
-    """A BIER header, the length of its bit string taken from its own field."""
+    """A BIER header, with the BitString length of its BSL field."""
 
     __slots__ = ("is_mpls", "bift", "ttl", "bits", "entropy", "protocol", "bfir", "bitstring", "payload")
 
 
 class Tunnel:
-    """The outer header of a packet that is carried by GRE in IPv4."""
+    """The outer IPv4 header of a packet in GRE."""
 
     __slots__ = ("source", "destination", "ttl")
 
@@ -42,7 +42,7 @@ def neighbors(octets):
 
 
 def bottom_of_stack(octets):
-    """Where the last label of a stack begins; None where the stack can't be read."""
+    """The offset of the last label of a stack; None where the stack can't be read."""
     for place in range(DEEPEST_STACK):
         at = 4 * place
         if at + 4 > len(octets):
@@ -68,7 +68,7 @@ def fault_of(octets, is_mpls):
 
 
 def header_of(octets, is_mpls):
-    """The header at the front of octets that `fault_of` finds whole."""
+    """The header at the start of octets in which `fault_of` finds no fault."""
     header = Header()
     header.is_mpls = is_mpls
     header.bift, header.ttl = number(octets, 0, 3) >> 4, octets[3]
@@ -80,7 +80,7 @@ def header_of(octets, is_mpls):
 
 
 def positions(bitstring):
-    """The set positions of a bit string, ascending from 1."""
+    """The bit positions that are set in a BitString, ascending from 1."""
     found, at = [], 1
     while bitstring:
         if bitstring & 1:
@@ -91,7 +91,7 @@ def positions(bitstring):
 
 
 def bier_in(octets):
-    """The octets from a frame's BIER header on and whether it is behind labels; None where the frame has no BIER header."""
+    """The octets from a frame's BIER header on and whether it follows labels; None where the frame has no BIER header."""
     if len(octets) < 14:
         return None
     kind, inside = number(octets, 12, 2), octets[14:]
@@ -100,7 +100,7 @@ def bier_in(octets):
     if kind != MPLS:
         return None
     bottom = bottom_of_stack(inside)
-    # Behind the stack the first four bits tell BIER (5) from IP.
+    # After the stack the first four bits distinguish BIER (5) from IP.
     if bottom is None or len(inside) < bottom + 5 or inside[bottom + 4] >> 4 != 5:
         return None
     return inside[bottom:], True
@@ -119,7 +119,7 @@ def data_of(octets):
 
 
 def header_line(octets):
-    """A frame's line of `headers` without the record's number; None for a frame that is passed."""
+    """A frame's line of `headers` without the record's number; None for a frame that is passed over."""
     found = bier_in(octets)
     if found is None:
         return None

@@ -1,4 +1,4 @@
-"""What a domain file may say and the routers then drop as `none` without a word."""
+"""What is valid in a domain file, but makes the routers drop packets with the cause `none`."""
 from .domain import read_domain
 from .explain import Conf
 from .layout import hops_from
@@ -7,7 +7,7 @@ MOST_NAMES = 6  # in one warning
 
 
 def warnings(path):
-    """The warnings of a domain file, each with its file and line where one entry is the reason."""
+    """The warnings about a domain file, each with its file, and the line where one entry is the reason."""
     domain = read_domain(path)
     conf = Conf(path)
     found = [*without_labels(domain, conf), *beyond_range(domain, conf), *twice(domain, conf)]
@@ -91,7 +91,7 @@ def needed(domain, subdomain, bits):
 
 
 def without_room(domain, path):
-    """Routers whose range of a length has no BIFT-id for the sets of others, so that they are no way to these."""
+    """Routers whose range of a length has no BIFT-id for the sets of others, so no path leads through them to these."""
     for subdomain in mpls(domain):
         for bits in sorted({own for router in domain.routers for sd, own, _, _ in router.ranges() if sd == subdomain}):
             most, bfr_id = needed(domain, subdomain, bits)
@@ -104,7 +104,7 @@ def without_room(domain, path):
 
 
 def without_rows(domain, path):
-    """Sets of BFR-ids that the written table of a sub-domain lacks, at a length that it has."""
+    """Sets of BFR-ids that are missing from the [[row]] entries of a sub-domain, at a length that these have."""
     for subdomain in (it for it, kind in domain.kinds.items() if kind == "configured"):
         rows = {triple[1:] for triple, _ in domain.table if triple[0] == subdomain}
         ids = sorted(router.id_in(subdomain) for router in domain.routers if router.id_in(subdomain))

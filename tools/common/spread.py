@@ -17,7 +17,7 @@ from .trouble import Trouble, read_text, write_octets
 SWEEP = os.path.join(places.TOOLS, "sweep")
 MOST_IN_BATCH = 16
 CORES = 8  # what a machine may have, for the size of batches
-WINDOW = 60  # seconds of which the speed is taken
+WINDOW = 60  # seconds over which the speed is measured
 
 
 
@@ -53,7 +53,7 @@ WORKERS = Workers()
 
 
 class Progress:
-    """How far a sweep is, on standard error: in one line that is renewed on a terminal, else a line every ten seconds."""
+    """The progress of a sweep, on standard error: one line that is updated on a terminal, else a line every ten seconds."""
 
     def __init__(self, done, count):
         self.done, self.count = done, count
@@ -89,7 +89,7 @@ class Progress:
 
 
 def batches(numbers, count):
-    """Runs in batches: few enough that each worker gets several, since a worker settles the domain once."""
+    """Runs in batches: small enough that each worker gets several, since a worker settles the domain once."""
     size = max(1, min(MOST_IN_BATCH, len(numbers) // (4 * count)))
     return [numbers[start : start + size] for start in range(0, len(numbers), size)]
 
@@ -122,7 +122,7 @@ def over_cores(job, numbers, count):
 
 
 def serve(job, todo, done):
-    """Feeds one worker with batches. A worker that ends early is started anew, and the runs that it had are named."""
+    """Feeds one worker with batches. A worker that ends early is restarted, and its runs are reported as broken."""
     worker = None
     while True:
         try:
@@ -177,10 +177,10 @@ def hosts_of(path):
 
 
 def parallel_words(log, login, given):
-    """GNU parallel's words: each line of its input is a job, which gets it as its standard input on some machine."""
+    """GNU parallel's arguments: each line of its input is a job, which some machine reads as its standard input."""
     command = f"cd {shlex.quote(places.ROOT)} && exec python3 tools/sweep --worker"
     words = ["parallel", "--will-cite", "--pipe", "-N", "1", "--joblog", log, "--sshloginfile", login]
-    # A machine that says nothing any more is given up at last.
+    # A machine that stops answering is given up in the end.
     words += ["--timeout", str(given.limit * MOST_IN_BATCH), "-j", str(given.jobs or "100%")]
     return [*words, command]
 
@@ -217,7 +217,7 @@ def feed(stream, job, all_batches):
 
 
 def parsed(stream):
-    """Results, line by line; what a machine says besides is passed."""
+    """Results, line by line; other output of a machine is ignored."""
     for line in stream:
         try:
             result = json.loads(line)
@@ -228,10 +228,10 @@ def parsed(stream):
 
 
 def name_broken(log, said, has_others):
-    """Names the machines on which jobs failed or of which nothing came; those on which none succeeded are left out from now on."""
+    """Reports the machines on which jobs failed or that returned nothing; those on which no job succeeded are left out from now on."""
     failed, well = {}, set()
     for line in read_text(log).splitlines()[1:]:
-        # A job's number, machine, start, time, octets that went there and that came back, exit status and signal.
+        # A job's number, machine, start, duration, octets sent and received, exit status and signal.
         cells = line.split("\t")
         if len(cells) > 7:
             if cells[5] != "0" and cells[6:8] == ["0", "0"]:

@@ -1,4 +1,4 @@
-"""One run of a sweep and what came of it, and the sums over all runs."""
+"""One run of a sweep and its result, and the sums over all runs."""
 import collections
 import html
 import json
@@ -11,8 +11,8 @@ from . import chance, driver, texts
 from .domain import Domain, independent
 from .trouble import Trouble, write_octets
 
-GOT, ON_THE_WAY = "got", "flight"
-TITLES = {GOT: "delivered", ON_THE_WAY: "on the way"}
+GOT, IN_FLIGHT = "got", "flight"
+TITLES = {GOT: "delivered", IN_FLIGHT: "in flight"}
 COLOURS = {
     GOT: "#2a9d4a",
     "none": "#c9302c",
@@ -21,7 +21,7 @@ COLOURS = {
     "link": "#1d5fa8",
     "outer": "#8a5a2b",
     "route": "#5d6b00",
-    ON_THE_WAY: "#9aa5b1",
+    IN_FLIGHT: "#9aa5b1",
 }
 
 
@@ -43,18 +43,18 @@ def fates(report, schedule):
         for bfr_id in told.ids:
             counts[str(bfr_id)][GOT if told.is_got else told.cause] += 1
     for count in counts.values():
-        count[ON_THE_WAY] = 2 * count["named"] - sum(count.values())
+        count[IN_FLIGHT] = 2 * count["named"] - sum(count.values())
     return {bfr_id: {name: many for name, many in count.items() if many} for bfr_id, count in counts.items()}
 
 
 def fault_of(counts, report):
-    """Why the sums of a run don't fit its report's last line; None where they do."""
+    """In what the sums of a run differ from its report's last line; None where they don't."""
     wanted = report.numbers()
     sums = collections.Counter()
     for count in counts.values():
         sums.update(count)
-    dropped = sums["named"] - sums[GOT] - sums[ON_THE_WAY]
-    found = {"named": sums["named"], "got": sums[GOT], "dropped": dropped, "flight": sums[ON_THE_WAY]}
+    dropped = sums["named"] - sums[GOT] - sums[IN_FLIGHT]
+    found = {"named": sums["named"], "got": sums[GOT], "dropped": dropped, "flight": sums[IN_FLIGHT]}
     wrong = [name for name, many in found.items() if many != wanted.get(name)]
     return f"its lines and its last line differ in {', '.join(wrong)}" if wrong else None
 
@@ -132,7 +132,7 @@ def undelivered(result):
 
 
 def worst(results, most):
-    """The runs in which most identifiers weren't delivered."""
+    """The runs in which the most BFR-ids weren't delivered."""
     bad = [result for result in results if undelivered(result)]
     return sorted(bad, key=lambda result: (-undelivered(result), result["run"]))[:most]
 
@@ -150,12 +150,12 @@ def egress_name(it, rule, bfr_id):
 
 
 def kinds_in(total):
-    """The fates that came up, in one order."""
-    return [kind for kind in (*texts.CAUSES, ON_THE_WAY) if any(count[kind] for count in total.values())]
+    """The fates that occur, in a fixed order."""
+    return [kind for kind in (*texts.CAUSES, IN_FLIGHT) if any(count[kind] for count in total.values())]
 
 
 def columns(rows):
-    """Rows as text, in columns that are as wide as they need; the first is set to the left."""
+    """Rows as text, in columns as wide as needed; the first is left-aligned."""
     wide = [max(len(row[place]) for row in rows) for place in range(len(rows[0]))]
     return "".join(
         "  ".join(
@@ -192,7 +192,7 @@ def egress_rows(it, rule, total):
 
 
 def failure_rows(rule, results, most=12):
-    """The failures that cost most."""
+    """The failures after which the least was delivered."""
     total = collections.defaultdict(collections.Counter)
     for number, result in results.items():
         for count in result["fates"].values():
@@ -227,7 +227,7 @@ def text_at(x, y, text, anchor="start", size=12, colour="#1b2733"):
 
 
 def bar(count, kinds, x, y, width):
-    """One egress: the shares of what became of its identifiers."""
+    """One egress router: the shares of what became of its BFR-ids."""
     parts = []
     for kind in (GOT, *kinds):
         wide = width * count[kind] / count["named"]
@@ -250,7 +250,7 @@ def legend(kinds, x, y):
 
 
 def plot(it, rule, results):
-    """Bars by egress, as an SVG."""
+    """Bars by egress router, as an SVG."""
     total = {bfr_id: count for bfr_id, count in sums(results.values()).items() if count["named"]}
     kinds, left, width = kinds_in(total), 190, 620
     high = 84 + 24 * len(total)

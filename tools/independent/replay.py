@@ -1,7 +1,7 @@
 #!/usr/bin/env python3
-"""A second implementation of `replay` and `node`, written from the rules alone, to compare with the program.
+"""A second implementation of `replay` and `node`, written from the rules only, to compare with the program.
 
-tools/independent/replay.py replay CONF SCHEDULE FRAMES        the words, report, capture and status of the program's `replay`
+tools/independent/replay.py replay CONF SCHEDULE FRAMES        the arguments, report, capture and status of the program's `replay`
 tools/independent/replay.py node CONF ROUTER CAPTURE FRAMES    those of its `node`
 """
 import sys, tomllib, struct, heapq, re, functools, operator
@@ -18,9 +18,9 @@ def fault(num, name, path):
     raise ConfFault(f"{num} {name} {path}")
 
 def read_toml(data):
-    """The document, by TOML 1.1. Python's reader knows 1.0, so inline tables over several lines are joined for it."""
+    """The document, by TOML 1.1. Python's parser implements 1.0, so inline tables over several lines are joined for it."""
     try:
-        text = data.decode("utf-8-sig")  # a byte order mark at the front is passed
+        text = data.decode("utf-8-sig")  # without a byte order mark
         try: return tomllib.loads(text)
         except tomllib.TOMLDecodeError: return tomllib.loads(joined_tables(text))
     except (UnicodeDecodeError, tomllib.TOMLDecodeError, RecursionError):
@@ -30,7 +30,7 @@ def read_toml(data):
 TOKEN = re.compile(r'"""(?:[^\\]|\\.)*?"{3,5}|\'\'\'.*?\'{3,5}|"(?:[^"\\\n]|\\.)*"|\'[^\'\n]*\'|#[^\n]*|\r?\n|.', re.S)
 
 def joined_tables(text):
-    """Inline tables each in one line, without the comma that may stand behind their last value."""
+    """Inline tables each in one line, without a comma after their last value."""
     out, depth = [], []
     for token in TOKEN.findall(text):
         if token in "{[": depth.append(token)
@@ -187,7 +187,7 @@ def read_domain(data):
 # ---------------------------------------------------------------- PDUs
 
 def checksum(b):
-    """Right where the two sums are 0 modulo 255."""
+    """Whether the two sums are 0 modulo 255."""
     return sum(b) % 255 == 0 and sum(map(operator.mul, b, range(len(b), 0, -1))) % 255 == 0
 
 def check_at(b, at):
@@ -251,7 +251,7 @@ def own_lsp(r, up, seq):
 def purge(i, seq): return dict(id=i, seq=seq, life=0, hold=60, sum=0, flags=0, content=b"")
 
 def read_head(level, b):
-    """The type of a PDU by its number, and its octets up to its length; a drop by its cause, or None twice where it is passed over."""
+    """The type of a PDU and its octets up to its length; "drop" and the cause, or None twice where it is passed over."""
     if len(b) < 8: return "drop", "pdu-1"
     if b[0] != 0x83: return "drop", "pdu-2"
     if b[2] != 1 or b[5] != 1: return "drop", "pdu-3"
@@ -265,7 +265,7 @@ def read_head(level, b):
     if n < hl or n > len(b): return "drop", "pdu-6"
     return typ, b[:n]
 
-# An LSP is flooded over many links, so most PDUs come again.
+# An LSP is flooded over many links, so most PDUs are read several times.
 @functools.lru_cache(1 << 16)
 def read_pdu(level, b):
     """A PDU as "lsp" with its fields, "csnp" or "psnp" with its rows and bounds, or what read_head says of it."""
@@ -304,7 +304,7 @@ def walk_tlvs(b):
 # ---------------------------------------------------------------- one router
 
 class View(list):
-    """The nodes of a view, and the distances to those that were asked for."""
+    """The nodes of a topology, and the costs to those that were asked for."""
     def __init__(self, nodes):
         super().__init__(nodes); self.dist = {}
 
@@ -315,7 +315,7 @@ class Router:
         self.start()
 
     def start(self):
-        # The flooding flags: by link, the identifiers that have one.
+        # The SRM and SSN flags: by link, the LSP IDs that have one.
         self.srm, self.ssn = [set() for _ in self.up], [set() for _ in self.up]
         self.entries, self.spent = {}, False
         self.due = list(self.up)
@@ -934,7 +934,7 @@ class Node:
         while self.clock < sec: self.tick()
 
     def link_of(self, is_whole, frame):
-        """The end whose peer sent a frame; None where the record is passed over."""
+        """The interface whose neighbor sent a frame; None where the record is passed over."""
         if not is_whole or not 12 <= len(frame) <= 65000: return None
         return next((i for i, e in enumerate(self.router.conf["ends"]) if e["peer_mac"] == frame[6:12]), None)
 
@@ -968,7 +968,7 @@ def read(path):
         sys.exit(f"replay.py: {path}: {error.strerror}")
 
 def begun(words):
-    """The run that the words ask for, and the octets that it is on."""
+    """The run that the arguments ask for, and its input."""
     routers = read_domain(read(words[1]))
     if words[0] == "replay": return Replay(routers), read(words[2])
     conf = next((r for r in routers if r["name"] == words[2]), None)

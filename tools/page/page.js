@@ -1,10 +1,10 @@
 "use strict";
-// The page of a replay. All that it shows is in the element `data`, which tools/player wrote:
+// The page of a replay. All that it shows is in the element `data`, which tools/player writes:
 //   routers, links      the domain; a link is [a, b, metric from a, metric from b]
 //   lines               one a line of the schedule, see Line below
-//   frames              [a, b, injection or 0, head, body, first id of its set, subdomain]; the first frame is number 1
+//   frames              [a, b, injection or 0, head, body, first id of its set, sub-domain]; the first frame is number 1
 //   heads, bodies       the first 12 octets of frames as hexadecimal digits, and the rest in base64
-//   entries, databases  entries of link state databases, and the databases as lists of them
+//   entries, databases  entries of LSDBs, and the LSDBs as lists of them
 
 const $ = (id) => document.getElementById(id);
 const data = JSON.parse($("data").textContent);
@@ -36,8 +36,8 @@ function sizes() {
 
 // ---------------------------------------------------------------- the course of the replay
 
-// A line: t its text, s [number of the first frame sent, how many], x frames that were taken, l lost, m that met a down end,
-// r frames that were repeated, g what the report says, u ends that changed [a, b, is up], d databases that changed.
+// A line: t its text, s [number of the first frame sent, how many], x frames that were delivered, l lost, m that arrived at an
+// interface that is down, r repeated, g the report's lines, u interfaces that changed [a, b, is up], d LSDBs that changed.
 
 class State {
   constructor() {
@@ -108,12 +108,12 @@ function summaryOf(number) {
   return text;
 }
 
-// Draws anew when an element's size changed, but in the next frame, so that drawing can't change sizes while they are told.
+// Redraws when an element's size changes, but in the next frame, since drawing may change sizes again.
 function onResize(element, draw) {
   new ResizeObserver(() => requestAnimationFrame(draw)).observe(element);
 }
 
-// ---------------------------------------------------------------- long lists: only the rows in sight are made
+// ---------------------------------------------------------------- long lists: only the visible rows are made
 
 class List {
   constructor(element, fill) {
@@ -213,7 +213,7 @@ function make(name, attributes, parent, text) {
 
 const pointOf = (place) => ({ x: data.routers[place].x * WIDE, y: data.routers[place].y * HIGH });
 
-// Where a line from a router's middle leaves its box.
+// Where a line from a router's center leaves its box.
 function edgePoint(from, to, gap) {
   const dx = to.x - from.x, dy = to.y - from.y;
   const across = (BOX.width / 2 + gap) / Math.max(Math.abs(dx), 0.01), down = (BOX.height / 2 + gap) / Math.max(Math.abs(dy), 0.01);
@@ -255,7 +255,7 @@ function drawWay(layer, a, b, metric) {
   ways.set(`${a},${b}`, { arrow, hit, badge, count, ids, idsAt, lost });
 }
 
-// Squeezes a text that is wider than a box, by the width of its letters.
+// Condenses a text that is wider than a box, by the width of its letters.
 function textIn(text, letter) {
   if (text.textContent.length * letter > BOX.width - 4) {
     text.setAttribute("textLength", BOX.width - 8);
@@ -269,7 +269,7 @@ function drawRouter(layer, router, place) {
   make("rect", { x: -BOX.width / 2, y: -BOX.height / 2, width: BOX.width, height: BOX.height, rx: router.overload ? 2 : 8 }, group);
   make("title", {}, group, `${router.name}, ${router.ids}${router.overload ? ", overload bit set" : ""}`);
   textIn(make("text", { y: -3 }, group, router.name), 7.2);
-  textIn(make("text", { class: "small", y: 11 }, group, router.ids + (router.overload ? " · overload" : "")), 5.4);
+  textIn(make("text", { class: "small", y: 11 }, group, router.ids + (router.overload ? " · overload bit" : "")), 5.4);
   make("circle", { cx: BOX.width / 2 - 3, cy: -BOX.height / 2 + 3, r: 6 }, group);
   const fate = make("text", { class: "fate", y: BOX.height / 2 + 12 }, group, "");
   group.onclick = () => select({ router: place });
@@ -376,7 +376,7 @@ function showArrow(it, copies, hasControl) {
   if (copies.length > 3) make("text", { class: "ids", x: it.idsAt.x, y: it.idsAt.y + 37 }, it.ids, `and ${copies.length - 3} more`);
 }
 
-// Ascending numbers, runs of them from first to last.
+// Ascending numbers, with runs of them as the first and the last.
 function runsOf(numbers) {
   const runs = [];
   for (const number of numbers) {
@@ -418,9 +418,9 @@ function updateRouters(line) {
   });
 }
 
-// ---------------------------------------------------------------- databases
+// ---------------------------------------------------------------- LSDBs
 
-// The databases that routers hold now, each with its routers, the one that most hold first.
+// The LSDBs that routers have now, each with its routers, the most frequent one first.
 function groups() {
   const found = new Map();
   state.databases.forEach((database, place) => found.set(database, [...(found.get(database) || []), place]));
@@ -436,16 +436,16 @@ function entryText(entry) {
   return `${name}, sequence ${sequence}${isLive ? "" : ", purged"}, checksum ${checksum}`;
 }
 
-// How a database differs from another: what it lacks, has otherwise, and has besides.
+// How an LSDB differs from another: what is missing, different, or only there.
 function differences(database, other) {
   const byName = (it) => new Map(data.databases[it].map((entry) => [data.entries[entry][0], entry]));
   const own = byName(database), others = byName(other), found = [];
   const worded = (entry) => `sequence ${data.entries[entry][1]}${data.entries[entry][2] ? "" : ", purged"}`;
   for (const [name, entry] of others) {
-    if (!own.has(name)) found.push(`lacks ${name} (${worded(entry)})`);
+    if (!own.has(name)) found.push(`${name} is missing (${worded(entry)})`);
     else if (own.get(name) !== entry) found.push(`${name}: ${worded(own.get(name))}, others ${worded(entry)}`);
   }
-  for (const [name, entry] of own) if (!others.has(name)) found.push(`has ${name} (${worded(entry)}) besides`);
+  for (const [name, entry] of own) if (!others.has(name)) found.push(`also has ${name} (${worded(entry)})`);
   return found;
 }
 
@@ -464,7 +464,7 @@ function listOf(texts, most = 60) {
 
 function groupTitle(all, rank) {
   const many = all[rank][1].length;
-  if (all.length === 1) return "All databases agree";
+  if (all.length === 1) return "All LSDBs agree";
   return rank === 0 ? `${many} of ${data.routers.length} routers agree` : `${many} differ`;
 }
 
@@ -473,11 +473,11 @@ function showDatabases() {
   box.replaceChildren();
   const heading = (text) => box.append(Object.assign(document.createElement("h3"), { textContent: text }));
   if (selected && selected.router !== undefined) {
-    heading(`${nameOf(selected.router)} holds`);
+    heading(`LSDB of ${nameOf(selected.router)}`);
     box.append(listOf(data.databases[state.databases[selected.router]].map(entryText), 300));
   }
   all.forEach(([database, places], rank) => {
-    heading(`${groupTitle(all, rank)}, ${data.databases[database].length} link state PDUs`);
+    heading(`${groupTitle(all, rank)}, ${data.databases[database].length} LSPs`);
     const chips = document.createElement("div");
     chips.className = "chips";
     chips.append(...places.map(chip));
@@ -535,7 +535,7 @@ function showFrame(number) {
   $("detail").hidden = !number;
   if (number) {
     const [a, b, injection, , , , subdomain] = data.frames[number - 1], it = dissect(octetsOf(number), NAMES);
-    const what = injection ? `injection ${injection}, subdomain ${subdomain}, for ${idsOf(number, it).join(",")}` : it.summary;
+    const what = injection ? `injection ${injection}, sub-domain ${subdomain}, for ${idsOf(number, it).join(",")}` : it.summary;
     $("detail-title").textContent = `Frame ${number}: ${nameOf(a)} → ${nameOf(b)}, ${what}`;
     showFields(it);
   }
@@ -642,7 +642,7 @@ function goTo(number) {
 function update() {
   const line = shownLine ? data.lines[shownLine - 1] : null;
   $("line-number").value = shownLine;
-  $("line-text").textContent = line ? line.t : "before the first line: each router has its own link state PDU alone";
+  $("line-text").textContent = line ? line.t : "before the first line: each router has only its own LSP";
   updateMap(line);
   updateLists(line);
   showDatabases();
@@ -688,7 +688,7 @@ function writeLink() {
 }
 
 function readLink() {
-  const words = new URLSearchParams(location.hash.slice(1)); // taken before anything writes the link anew
+  const words = new URLSearchParams(location.hash.slice(1)); // read before anything rewrites the link
   const frame = Number(words.get("frame") || 0), tab = words.get("tab");
   showTab(["way", "databases"].includes(tab) ? tab : "line");
   goTo(Number(words.get("line") || 0));

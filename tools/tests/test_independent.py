@@ -102,7 +102,7 @@ class Storm(unittest.TestCase):
     def test_no_command(self):
         done = tool("storm", "--frames", "1000", "--jobs", "1", "--program", write_program("usage", "echo usage: none; exit 2"))
         self.assertEqual(done.returncode, 1)
-        self.assertIn("it has no command node", done.stderr)
+        self.assertIn("has no command `node`", done.stderr)
 
 
 class Captures(unittest.TestCase):

@@ -1,4 +1,4 @@
-"""Pictures of domains and of a packet's way."""
+"""Pictures of domains and of a packet's path."""
 import os
 import re
 import unittest
@@ -56,12 +56,12 @@ class Picture(unittest.TestCase):
 
     def test_kinds_of_routers(self):
         fork = drawn(os.path.join(EXAMPLES, "fork", "domain.toml"), "--labels")
-        self.assertIn("P\\nno BIER", fork)
+        self.assertIn("P\\nnon-BFR", fork)
         self.assertIn("64 bits: 300", fork)
-        self.assertIn("overloaded", drawn(os.path.join(EXAMPLES, "line", "domain.toml")))
+        self.assertIn("overload bit", drawn(os.path.join(EXAMPLES, "line", "domain.toml")))
         mixed = drawn(write("mixed.toml", DIFFERENT_METRICS))
         self.assertIn('taillabel="10", headlabel="77"', mixed)
-        self.assertIn("A\\npasses on\\noverloaded", mixed)
+        self.assertIn("A\\ntransit\\noverload bit", mixed)
 
     def test_a_loop(self):
         """The packet of the ring's example that goes back and forth until its time to live ends."""

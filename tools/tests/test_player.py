@@ -1,4 +1,4 @@
-"""The page of a replay: its data, and in Chromium what it shows."""
+"""The page of a replay: its data, and what it shows in Chromium."""
 import base64
 import html
 import json
@@ -14,7 +14,7 @@ from common import capture
 TRIES = 3  # Chromium may fail to start where a machine is busy
 
 
-# Does what a person does, one after the other, and writes the line and the address after each step.
+# Does what a user does, step by step, and writes down the line and the address after each step.
 KEYS = """
   const note = (name, text) => { steps[name] = [shownLine, text === undefined ? location.hash : text]; };
   const key = (name, key, shiftKey = false) => { document.dispatchEvent(new KeyboardEvent("keydown", { key, shiftKey })); note(name); };
@@ -185,7 +185,7 @@ class Page(unittest.TestCase):
 
     @needs("chromium", "chromium")
     def test_keys_and_mouse(self):
-        """Each key and click leads where the guide says; the page writes down what it then shows."""
+        """Each key and click leads where the user guide has it; the page writes down what it then shows."""
         text, _ = page("replay-television")
         path = with_script(text, "keys.html", KEYS)
         dom, console = opened(path, "#line=3")
@@ -219,7 +219,7 @@ class Page(unittest.TestCase):
         number = next(place for place, frame in enumerate(data["frames"], 1) if frame[2])
         dom, console = opened(path, f"#line=3&frame={number}")
         self.assertEqual(console, [])
-        self.assertIn(f"Frame {number}: A → B, injection 1, subdomain 0, for 3", dom)
+        self.assertIn(f"Frame {number}: A → B, injection 1, sub-domain 0, for 3", dom)
         for field, value in (
             ("BIFT-id (label)", "200"),
             ("TTL", "8"),

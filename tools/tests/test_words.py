@@ -1,4 +1,4 @@
-"""What each tool answers to words and files that aren't right: a line that says so, and never a traceback."""
+"""What each tool answers to wrong arguments and files: one line about it, and never a traceback."""
 import os
 import unittest
 
@@ -44,7 +44,7 @@ class Words(unittest.TestCase):
         it, broken = replayed("replay-ring"), write("broken", b"\xff\xfe[[\x00broken")
         self.refused("not a domain file", "picture", broken)
         self.refused("not a domain file", "sweep", broken, "--out", scratch("none"))
-        for place, said in enumerate(("not a domain file", "isn't in its grammar", "not a text", "not a capture")):
+        for place, said in enumerate(("not a domain file", "is invalid (1 Word)", "not a text", "not a capture")):
             files = [broken if place == other else path for other, path in enumerate(it.files)]
             self.refused(said, "player", *files, "-o", scratch("page.html"))
 
@@ -55,8 +55,8 @@ class Words(unittest.TestCase):
         with open(it.report) as file:
             half = write("half", "".join(file.readlines()[:3]))
         self.refused("ends within record", "player", it.domain, it.schedule, it.report, cut, "-o", scratch("page.html"))
-        self.refused("not a whole report", "player", it.domain, it.schedule, half, it.frames, "-o", scratch("page.html"))
-        self.refused("not a whole report", "picture", it.domain, half, it.frames, "1")
+        self.refused("not a complete report", "player", it.domain, it.schedule, half, it.frames, "-o", scratch("page.html"))
+        self.refused("not a complete report", "picture", it.domain, half, it.frames, "1")
 
     def test_files_of_two_replays(self):
         ring, pair = replayed("replay-ring"), replayed("replay-pair")
