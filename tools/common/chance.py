@@ -250,8 +250,8 @@ class Writer:
         return ends
 
     def write(self):
-        """Packets over links that are cut and not known to be; a packet, and the ends notice while it is in flight; packets
-        while the routers tell each other, and one after that."""
+        """Packets before a cut is noticed; a packet that is in flight while it is noticed; packets during convergence, and one
+        after it."""
         self.unseen()
         self.inject()
         for _ in range(self.chance.randrange(3)):

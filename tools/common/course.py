@@ -210,7 +210,7 @@ class Course:
         self.account(b, Packet(item.injection, item.subdomain, key_of(header), header.ttl - 1, item.ids), forward)
 
     def pass_on(self, b, item, forward):
-        """A tunnel goes on as it is, or ends here as a whole."""
+        """A tunnel packet is forwarded unchanged, or dropped as a whole."""
         copy, told = self.copy_of_tunnel(b, item), self.told_of(b, item.injection, set(item.ids))
         if told and (told.cause == "outer" and item.tunnel.ttl > 1 or told.cause not in ("outer", "route")):
             told = None

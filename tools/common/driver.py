@@ -35,7 +35,7 @@ class Driver:
         return records
 
     def look_ahead(self, lines):
-        """The frames that lines would send. The next lines take their place."""
+        """The frames that lines would send, without doing them."""
         write_octets(self.at("schedule"), "".join(line + "\n" for line in self.lines + lines).encode())
         self.report = self.replay()
         octets = read_octets(self.at("frames"), self.seen)

@@ -1,4 +1,4 @@
-"""What a line `refused ..` of a report means, in words: file and line, the value that stands there, and what is expected."""
+"""What a line `refused ..` of a report means: file and line, the value there, and what is expected."""
 import os
 import re
 import tomllib
@@ -232,7 +232,7 @@ def record(path, refusal):
 
 
 def line(path, refusal):
-    """A rejected line, by what follows `refused` in the report; None where that names no line."""
+    """A rejected line, by what follows `refused` in the report; None where that isn't a line."""
     words = refusal.split(" ")
     if len(words) < 4 or words[1] not in ("text", "event"):
         return None

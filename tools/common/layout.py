@@ -3,7 +3,7 @@ allows (the stress of a drawing, reduced step by step). The same domain always h
 import math
 from collections import deque
 
-BOX = (0.95, 0.72)  # what a router takes, in units of a link
+BOX = (0.95, 0.72)  # of a router, in units of a link
 FAR = 3  # links beyond the longest path, for routers that no path joins
 
 

@@ -1,4 +1,4 @@
-"""Where the keys of a TOML document stand: lines by path, as in `router[2].prefix`."""
+"""The lines of the keys of a TOML document, by path, as in `router[2].prefix`."""
 import re
 
 from . import places  # sets where the independent program is found

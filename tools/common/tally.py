@@ -83,7 +83,7 @@ def one(job, rule, seen, number, folder):
 
 
 def settled(job, rule):
-    """How many octets of a capture the domain's first settling takes, which all runs begin with."""
+    """The size of the capture of the domain's first settling, with which all runs begin."""
     with tempfile.TemporaryDirectory() as folder:
         run = driver.Driver(job["program"], folder, job["domain"], job["limit"])
         lines = chance.first_lines(rule, "The domain settles.")
@@ -105,7 +105,7 @@ def work(lines, out):
             last, rule, seen = (job["domain"], job["rule"]), rule_of(job), None
         for number in job["runs"]:
             if os.getppid() != parent:
-                return 1  # nobody is there to take results
+                return 1  # nobody reads the results
             result = one_of(job, rule, number, seen)
             seen = result.pop("seen", seen)
             status = status if is_whole(result) else 1
@@ -115,7 +115,7 @@ def work(lines, out):
 
 
 def one_of(job, rule, number, seen):
-    """A run in a folder that is gone afterwards; with it how much the first settling takes, where it wasn't known."""
+    """A run in a temporary folder; its result also has `seen`, the size of the first settling."""
     try:
         seen = seen or settled(job, rule)
     except (Trouble, OSError, subprocess.TimeoutExpired) as trouble:

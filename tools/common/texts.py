@@ -58,7 +58,7 @@ def report_of(path, text):
 
 
 def read_schedule(path):
-    """The lines of a schedule without their ends. A comment may hold any octets."""
+    """The lines of a schedule without line ends. A comment may contain any octets."""
     lines = read_octets(path).decode("utf-8", "replace").split("\n")
     if lines[-1] == "":
         lines.pop()

@@ -133,7 +133,7 @@ class Joined:
             raise Trouble(f"the replay has no injection {number}; it has {len(in_order)}")
         for place, root in enumerate(in_order, 1):
             if root.numbers - {place}:
-                raise Trouble("two injections look alike in the capture, so their copies can't be told apart: add --schedule")
+                raise Trouble("two injections look alike in the capture, so their copies can't be distinguished: add --schedule")
         root = in_order[number - 1]
         return Tree(number, root.line, root.ingress, [hop_of(item) for item in root.items], told_of(self.report, number))
 

@@ -4,7 +4,7 @@ import sys
 
 
 class Trouble(Exception):
-    """What is wrong, in words for whoever called the tool."""
+    """What is wrong, for the user."""
 
 
 def run(main):
@@ -56,6 +56,6 @@ def write_octets(path, octets, inputs=()):
 
 
 def replace_octets(path, octets):
-    """Writes a file whole or not at all, whenever this process is stopped."""
+    """Writes a file completely or not at all, even where this process is stopped."""
     write_octets(path + ".new", octets)
     os.replace(path + ".new", path)

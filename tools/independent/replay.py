@@ -268,7 +268,7 @@ def read_head(level, b):
 # An LSP is flooded over many links, so most PDUs are read several times.
 @functools.lru_cache(1 << 16)
 def read_pdu(level, b):
-    """A PDU as "lsp" with its fields, "csnp" or "psnp" with its rows and bounds, or what read_head says of it."""
+    """A PDU as "lsp" with its fields, "csnp" or "psnp" with its rows and bounds, or as read_head has it."""
     typ, b = read_head(level, b)
     if not isinstance(typ, int): return typ, b
     kind = TYPES[level].index(typ); hl = HEADS[kind]
@@ -830,7 +830,7 @@ class Replay:
                     for _ in range(len(self.q[a, e["peer_at"]])): self.step(("take", a, e["peer_at"], 0), line)
 
     def parse(self, w):
-        """The event of the words, or a text fault."""
+        """The event of a line's words, or a ValueError with number and name."""
         def router(s):
             if s not in self.names: raise ValueError("3 Name")
             return self.names[s]
@@ -893,7 +893,7 @@ class Broken(Exception):
     def __init__(self, record, text): super().__init__(f"refused record {record} {text}")
 
 def records_of(octets):
-    """The records of a capture, each with its number, time, whether it is whole, and its frame."""
+    """The records of a capture, each with its number, time, whether it is complete, and its frame."""
     magics = {b"\xd4\xc3\xb2\xa1": ("<", 1), b"\x4d\x3c\xb2\xa1": ("<", 1000), b"\xa1\xb2\xc3\xd4": (">", 1), b"\xa1\xb2\x3c\x4d": (">", 1000)}
     if len(octets) >= 4 and octets[:4] not in magics: raise Broken(0, "1 Magic")
     if len(octets) < 24: raise Broken(0, "4 CutHeader")

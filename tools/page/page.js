@@ -18,7 +18,7 @@ const PREFIXES = Object.fromEntries(data.routers.map((router) => [router.prefix,
 const colourOf = (injection) => COLOURS[(injection - 1) % COLOURS.length];
 const nameOf = (place) => data.routers[place].name;
 
-// The size of a router's box, of a unit of the layout across and down, and of the map's edges. Routers stand at least 0.95 units
+// The size of a router's box, of a unit of the layout across and down, and of the map's edges. Routers are at least 0.95 units
 // apart across or 0.72 down. Boxes of a large domain are as wide as its names, and the layout is stretched to fill the panel.
 function sizes() {
   const { length } = data.routers;

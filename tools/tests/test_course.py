@@ -95,7 +95,7 @@ class TheCourse(unittest.TestCase):
             course.Course(it, [], report, records)
 
     def test_examples(self):
-        """Each frame is sent by its line, ends at most once, and each line of the report is told by its line."""
+        """Each frame is sent by its line, ends at most once, and each line of the report belongs to its line."""
         for name in REPLAYS:
             with self.subTest(name):
                 it, schedule, report, records = parts(name)
@@ -109,7 +109,7 @@ class TheCourse(unittest.TestCase):
                     self.assertEqual(len(path.injected), report.numbers()["injected"])
 
     def test_stored_reports(self):
-        """The reports and captures that stand beside the examples are of one replay."""
+        """The stored reports and captures of the examples are of one replay."""
         for name in REPLAYS:
             folder = os.path.join(EXAMPLES, name)
             if os.path.exists(os.path.join(folder, "frames")):
@@ -147,7 +147,7 @@ class TheCourse(unittest.TestCase):
                     self.assertEqual((found.ingress, spots(found)), (known.ingress, spots(known)))
 
     def test_header_lines(self):
-        """The tools' own reader of headers, against the report that stands beside the example."""
+        """The tools' own reader of headers, against the stored report of the example."""
         folder = os.path.join(EXAMPLES, "headers-of-a-capture")
         with open(os.path.join(folder, "report")) as file:
             wanted = file.read().splitlines()[:-1]

@@ -1,4 +1,4 @@
-"""What is said of a domain file or a line that is rejected, and of a domain file whose packets get nowhere."""
+"""The messages about a rejected domain file or line, and about a domain file that loses packets."""
 import importlib.machinery
 import importlib.util
 import os
@@ -14,7 +14,7 @@ RING = read(os.path.join(EXAMPLES, "ring", "domain.toml"))
 ROUTER_E = '[[router]]\nname = "E"\nsystem = "0000.0000.0009"\nprefix = "10.0.0.9"\n'
 LABELS = '[[labels]]\nrouter = "{}"\nsd = {}\nbsl = {}\nmax_si = {}\nlabel = {}\n'
 LINK = '[[link]]\na = "{}"\nb = "{}"\nmetric_ab = 10\nmetric_ba = 10\n'
-# A change of the ring's file: what to replace by what, the first time, or None and what to append; and what is said, with the line.
+# A change of the ring's file: the first text is replaced by the second, which None appends; and the message, with the line.
 REJECTED = [
     ('"10.0.0.1"', '"10.0.0.01"', ':10: `prefix = "10.0.0.01"`: expected an address as 10.0.0.1'),
     ('"0000.0000.0002"', '"0000.0000.0001"', ':14: `system = "0000.0000.0001"`: stands twice, first in '),
@@ -31,7 +31,7 @@ REJECTED = [
     (None, ROUTER_E + LABELS.format("E", 0, 64, 0, 77), "`sd = 0`: E has no [[bier]] entry in that sub-domain"),
     (None, "[[row]]\nsd = 0\nbsl = 64\nsi = 0\nbift = 7\n", '`sd = 0`: the sub-domain is of kind "mpls"'),
 ]
-# Changes of the same kind, and the warning of each.
+# Changes of the same kind, each with its warning.
 WARNED = [
     (LABELS.format("A", 0, 64, 0, 100), "", "A has no [[labels]] in sub-domain 0"),
     ("id = 4", "id = 70", "with 64 bits D has the sets up to 0, and its own BFR-id 70 is in set 1"),
@@ -40,7 +40,7 @@ WARNED = [
     (None, ROUTER_E, "E has no link"),
     (None, ROUTER_E + ROUTER_E.replace("E", "F").replace("9", "8") + LINK.format("E", "F"), "no link leads from E, F to the other 4 routers"),
 ]
-# A second line of a schedule in the ring, and what is said of it.
+# A second line of a schedule in the ring, and the message.
 LINES = [
     ("take A B 3", "there is no frame 3; 0 are in flight there"),
     ("inject A 0 512 3 8 0 00", "the router doesn't support that BitString length"),
@@ -96,7 +96,7 @@ class Explained(unittest.TestCase):
         self.assertEqual((done.returncode, done.stdout), (0, ""))
 
     def test_the_script(self):
-        """The report and the status are the program's, and what is wrong stands on standard error."""
+        """The report and the status are the program's, and what is wrong goes to standard error."""
         ring = write("script.toml", RING)
         for text, said in LINES:
             path = write("script.schedule", f"settle 4\n{text}\n")

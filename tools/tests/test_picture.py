@@ -64,7 +64,7 @@ class Picture(unittest.TestCase):
         self.assertIn("A\\ntransit\\noverload bit", mixed)
 
     def test_a_loop(self):
-        """The packet of the ring's example that goes back and forth until its time to live ends."""
+        """The packet of the ring's example that loops until its TTL expires."""
         it = replayed("replay-ring")
         for words in ([], ["--schedule", it.schedule]):
             dot = drawn(it.domain, it.report, it.frames, "4", *words)
@@ -75,7 +75,7 @@ class Picture(unittest.TestCase):
             self.assertNotIn(GREEN, dot)
 
     def test_links_that_are_down(self):
-        """With the schedule all ends that are down; without it those that the LSPs up to then leave out."""
+        """With the schedule, all interfaces that are down; without it, those that the LSPs up to then leave out."""
         it = replayed("replay-ring")
         for injection, known, found in (("3", None, None), ("4", "\\ndown at B", None), ("5", "\\ndown", "\\ndown")):
             for words, wanted in ((["--schedule", it.schedule], known), ([], found)):

@@ -75,7 +75,7 @@ def three_lines(name, count):
 
 
 def opened(path, link):
-    """What Chromium has made of the page, and what it wrote to its console."""
+    """The page's DOM in Chromium, and its console output."""
     with tempfile.TemporaryDirectory() as profile:
         command = [
             "chromium",
@@ -154,7 +154,7 @@ class Page(unittest.TestCase):
         self.assertIn("0 lines, 0 frames", done.stdout)
 
     def test_odd_texts(self):
-        """What stands in a schedule's comments can't end the page's script."""
+        """A schedule's comments can't end the page's script."""
         it, path = replayed("replay-pair"), scratch("odd.html")
         with open(it.schedule) as file:
             lines = file.read().splitlines()
@@ -169,7 +169,7 @@ class Page(unittest.TestCase):
 
     @needs("chromium", "chromium")
     def test_in_chromium(self):
-        """Each example opens; at three lines, by their links, it shows what the report says."""
+        """Each example opens; at three lines, by their links, it shows the report's lines."""
         for name in REPLAYS:
             text, _ = page(name)
             data, told = data_of(text), told_by_line(name)

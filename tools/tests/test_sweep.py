@@ -14,7 +14,7 @@ from support import EXAMPLES, needs, places, program, python_alone, scratch, too
 RING = os.path.join(EXAMPLES, "ring", "domain.toml")
 RULE = ["--lose", "0,0.2", "--reorder", "0.5", "--repeat", "0.1", "--seeds", "2", "--packets", "2", "--mend"]
 # Programs that break: each run the first time; one run always; a report without one of its lines. And an ssh to machines that are this one, are dead,
-# have nothing, or say nothing.
+# have nothing, or answer nothing.
 AT_TIMES = """#!/bin/sh
 [ $# = 0 ] && exec {program}
 mark={mark}/$(head -n 1 schedule | cksum | tr " " -)
@@ -48,7 +48,7 @@ def swept(name, *words, env=None, using=None):
 
 
 def brief(name, *words):
-    """A sweep of one seed without loss, where the words don't say otherwise."""
+    """A sweep of one seed without loss, unless other arguments are given."""
     return tool("sweep", RING, "--out", scratch(name), "--jobs", "2", "--program", program(), "--seeds", "1", *words)
 
 
@@ -137,7 +137,7 @@ class Sweep(unittest.TestCase):
         self.assertIn("--bsl 512: not supported in sub-domain 0 by A, B, C, D", done.stderr)
 
     def test_stopped(self):
-        """A signal ends the workers at once; the table has what was done, and a line says how to go on."""
+        """A signal ends the workers at once; the table has what was done, and a line tells how to continue."""
         for number in (signal.SIGTERM, signal.SIGINT):
             name = f"signal-{number}"
             words = [os.path.join(places.TOOLS, "sweep"), RING, "--out", scratch(name), "--jobs", "2", "--program", program()]
@@ -161,7 +161,7 @@ class Sweep(unittest.TestCase):
             self.assertRegex(out, r"^\d+ of 5000 runs, 0 broken")
 
     def test_worst_runs(self):
-        """The kept schedules give what was counted, and the player takes them."""
+        """The kept schedules reproduce what was counted, and the player accepts them."""
         counted = {
             result["run"]: sum(count["named"] - count.get("got", 0) for count in result["fates"].values())
             for result in lines_of("whole")
@@ -254,7 +254,7 @@ class Sweep(unittest.TestCase):
 
     @needs("parallel", "parallel")
     def test_machines(self):
-        """Over this machine, one more that answers, and three that don't, can't and say nothing: their runs go to the others."""
+        """Over this machine, one more that answers, and three that are dead, lack the program and stay silent: their runs go to the others."""
         hosts = write("hosts", "# machines\n:\nalive\ndead\nbare\nmute\n")
         done = swept("machines", "--hosts", hosts, env={"PARALLEL_SSH": script("ssh.sh", SSH)})
         self.assertEqual(done.returncode, 0, done.stderr)
@@ -264,7 +264,7 @@ class Sweep(unittest.TestCase):
         self.assertEqual(table_of("machines"), self.table)
 
     def test_without_parallel(self):
-        # The independent program is run by the words of its first line, which need python3 alone.
+        # The independent program is run by its first line, which needs only python3.
         done = swept("no-parallel", "--hosts", write("hosts", ":\n"), env={"PATH": python_alone()})
         self.assertEqual(done.returncode, 1)
         self.assertIn("GNU parallel isn't installed", done.stderr)

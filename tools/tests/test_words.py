@@ -74,7 +74,7 @@ class Words(unittest.TestCase):
         self.refused("would be overwritten", "heard", it.domain, "A", it.frames, it.frames)
 
     def test_nothing_is_checked(self):
-        """Without tshark a capture isn't called right."""
+        """Without tshark a capture doesn't pass."""
         it = replayed("replay-ring")
         done = tool("check-capture", it.frames, it.domain, env={"PATH": python_alone()})
         self.assertEqual(done.returncode, 1)

@@ -195,7 +195,7 @@ local function add_words(tree, first, rest)
     end
 end
 
--- Shows a header that can't be read, with the fault in red.
+-- Shows a header that can't be read, with the error in red.
 local function add_broken(tree, first, rest, fault, octets, pinfo)
     local range = first
     if octets then
