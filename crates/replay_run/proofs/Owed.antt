@@ -8,9 +8,9 @@ use Rattle.wire_base.specs.declared.conf.RouterConf.{RouterConf}
 use Rattle.wire_base.specs.model.Configuration.{DomainConf}
 use Rattle.domain_conf.specs.Domain.{domain_of}
 use Rattle.domain_conf.specs.declared.fault.ConfFault.{ConfFault}
-use Rattle.command_node.specs.declared.words.Form.{Form}
-use Rattle.command_node.specs.declared.words.Form.TheVariants.{Replay, Node, Hop, Headers, Grow, Unknown}
-use Rattle.command_node.specs.Words.{usage_text}
+use Rattle.command_line.specs.Form.{Form}
+use Rattle.command_line.specs.Form.{Replay, Node, Hop, Headers, Grow, Unknown}
+use Rattle.command_line.specs.Words.{usage_text}
 use Rattle.command_node.specs.Routers.{router_named}
 use Rattle.command_grow.specs.Grow.{grow_answer}
 use Rattle.tool_run.specs.HopText.{hop_answer, packets_of, IsAllowed}

@@ -17,8 +17,8 @@ use Rattle.domain_model.specs.Faults.{event_fault}
 use Rattle.domain_model.specs.Run.{Run, Progress, first_run, goes_on, tries, does, line_done, line_events, world_after}
 use Rattle.domain_conf.specs.declared.fault.ConfFault.{ConfFault}
 use Rattle.domain_replay.specs.Texts.{Refusal, names_of, lines_reach, schedule_reaches}
-use Rattle.command_node.specs.declared.words.Form.{Form}
-use Rattle.command_node.specs.declared.words.Form.TheVariants.{Replay}
+use Rattle.command_line.specs.Form.{Form}
+use Rattle.command_line.specs.Form.{Replay}
 use Rattle.tool_run.specs.Answer.{Verdict}
 use Rattle.command_node.specs.DomainFile.{Says, IsRefused}
 use Rattle.replay_run.specs.Endings.{DoneOrMemory}

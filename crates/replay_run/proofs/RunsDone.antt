@@ -12,7 +12,7 @@ use Rattle.domain_conf.specs.Domain.{domain_of}
 use Rattle.domain_conf.specs.declared.fault.ConfFault.{ConfFault}
 use Rattle.domain_conf.proofs.ValidFile.{domain_is_valid}
 use Rattle.domain_replay.specs.Texts.{Refusal, run_text, run_done_text, schedule_reaches}
-use Rattle.command_node.specs.declared.words.Form.TheVariants.{Replay}
+use Rattle.command_line.specs.Form.{Replay}
 use Rattle.command_node.specs.DomainFile.{Says}
 use Rattle.replay_run.specs.Endings.{ReplayLeaves}
 use Rattle.replay_run.specs.Faults.{SourceIsQuiet}

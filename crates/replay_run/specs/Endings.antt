@@ -12,12 +12,12 @@ use Rattle.tool_run.specs.HopText.{hop_cut}
 use Rattle.tool_run.specs.Headers.{IsOpen, lines_of}
 use Rattle.command_node.specs.NodeRun.{node_cut, node_reached}
 use Rattle.tool_run.specs.Outside.{Gave, Meets, AppendsFront}
-use Rattle.command_node.specs.declared.words.Form.{Form}
-use Rattle.command_node.specs.declared.words.Form.TheVariants.{Replay, Node, Hop, Headers, Unknown}
+use Rattle.command_line.specs.Form.{Form}
+use Rattle.command_line.specs.Form.{Replay, Node, Hop, Headers, Unknown}
 use Rattle.command_node.specs.DomainFile.{Says}
 use Rattle.command_node.specs.Routers.{SaysRouter}
 use Rattle.command_replay.specs.ScheduleText.{schedule_cut}
-use Rattle.command_node.specs.Words.{IsGrow}
+use Rattle.command_line.specs.Words.{IsGrow}
 
 -- the status of a run that could be done, where no count rose
 abbrev pub DoneOrMemory : Status → Type 0

@@ -1,6 +1,6 @@
 -- The verdict where sources don't tell what they hold: it is that on octets which they may have held.
 use Rattle.std.specs.Prelude.{ℕ, List, Option, Some, IfSome}
-use Rattle.command_node.specs.declared.words.Form.{Form}
+use Rattle.command_line.specs.Form.{Form}
 use Rattle.tool_run.specs.Answer.{Verdict}
 use Rattle.replay_run.specs.Verdict.{verdict}
 use Rattle.tool_run.specs.Outside.{Held}

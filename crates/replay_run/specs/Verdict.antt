@@ -6,9 +6,9 @@ use Rattle.domain_conf.specs.Domain.{domain_of}
 use Rattle.domain_conf.specs.declared.fault.ConfFault.{ConfFault}
 use Rattle.command_node.specs.DomainFile.{conf_refused_text}
 use Rattle.tool_run.specs.Answer.{Verdict}
-use Rattle.command_node.specs.declared.words.Form.{Form}
-use Rattle.command_node.specs.declared.words.Form.TheVariants.{Replay, Node, Hop, Headers, Grow, Unknown}
-use Rattle.command_node.specs.Words.{usage_text}
+use Rattle.command_line.specs.Form.{Form}
+use Rattle.command_line.specs.Form.{Replay, Node, Hop, Headers, Grow, Unknown}
+use Rattle.command_line.specs.Words.{usage_text}
 use Rattle.command_node.specs.Routers.{router_named}
 use Rattle.tool_run.specs.HopText.{hop_answer}
 use Rattle.tool_run.specs.HeadersText.{headers_answer}

@@ -3,7 +3,7 @@ ghost use Rattle.std.specs.Prelude.{◌≡◌, ◌⊎◌, ◌<◌, ◌≢◌, fa
 ghost use Rattle.std.specs.Io.KnownBytes.{IsAtEnd};
 ghost use Rattle.wire_base.specs.Causes.{last_count};
 ghost use Rattle.wire_base.specs.declared.status.Status.TheVariants as status;
-ghost use Rattle.command_node.specs.declared.words.Form.TheVariants as form;
+ghost use Rattle.command_line.specs.Form as form;
 ghost use Rattle.tool_run.specs.Answer.{IsDecided};
 ghost use Rattle.tool_run.specs.Outside.{Meets};
 ghost use Rattle.replay_run.specs.Endings.{AppendsFronts, NodeLeaves};

@@ -1,5 +1,6 @@
-use Rattle.std.proofs.Common.{sym, ◌∙◌}
-use Rattle.command_node.specs.declared.words.Form.TheVariants as form
+use Rattle.std.proofs.Common.{◌∙◌}
+use Rattle.command_line.specs.Form as form
+use Rattle.command_line.proofs.Forms.{form_known, router_known}
 use Rattle.tool_run.specs.Outside.{Meets, AppendsFront}
 use Rattle.replay_run.proofs.Owed.{told, in_form, no_fault, hop_meets, hop_front, hop_done, hop_reports, headers_meets, headers_front, headers_done, grow_meets, grow_front, usage_meets, usage_front}
 use Rattle.command_node.proofs.Told.{write_fault}
@@ -16,7 +17,7 @@ use Rattle.replay_run.proofs.top.run.Goals as goal
 
 pub returns-in-Replay-clause-some_held : goal.returns-in-Replay-clause-some_held
 returns-in-Replay-clause-some_held g c decided =
-    in_replay _ _ (g.D.Source.left c.args.conf.now) (g.S.Source.left c.args.input.now) (λ owed. Meets owed c.replay.result (g.R.Sink.written c.args.report.now) (g.R.Sink.written c.replay.new.report) (g.C.Sink.written c.args.frames.now) (g.C.Sink.written c.replay.new.frames)) (sym c.form_of.ensures.value ∙ c.in-Replay.is)
+    in_replay _ _ (g.D.Source.left c.args.conf.now) (g.S.Source.left c.args.input.now) (λ owed. Meets owed c.replay.result (g.R.Sink.written c.args.report.now) (g.R.Sink.written c.replay.new.report) (g.C.Sink.written c.args.frames.now) (g.C.Sink.written c.replay.new.frames)) (form_known _ _ _ c.parse.ensures.value c.in-Replay.is)
     (c.replay.ensures.answer decided)
 
 pub returns-in-Replay-clause-verdict : goal.returns-in-Replay-clause-verdict
@@ -25,7 +26,7 @@ returns-in-Replay-clause-verdict g c decided =
 
 pub returns-in-Replay-clause-front : goal.returns-in-Replay-clause-front
 returns-in-Replay-clause-front g c stopped =
-    in_replay _ _ (g.D.Source.left c.args.conf.now) (g.S.Source.left c.args.input.now) (λ owed. AppendsFront (g.R.Sink.written c.args.report.now) (g.R.Sink.written c.replay.new.report) owed.report × AppendsFront (g.C.Sink.written c.args.frames.now) (g.C.Sink.written c.replay.new.frames) owed.frames) (sym c.form_of.ensures.value ∙ c.in-Replay.is) (c.replay.ensures.front stopped)
+    in_replay _ _ (g.D.Source.left c.args.conf.now) (g.S.Source.left c.args.input.now) (λ owed. AppendsFront (g.R.Sink.written c.args.report.now) (g.R.Sink.written c.replay.new.report) owed.report × AppendsFront (g.C.Sink.written c.args.frames.now) (g.C.Sink.written c.replay.new.frames) owed.frames) (form_known _ _ _ c.parse.ensures.value c.in-Replay.is) (c.replay.ensures.front stopped)
 
 pub returns-in-Replay-clause-decided : goal.returns-in-Replay-clause-decided
 returns-in-Replay-clause-decided g c =
@@ -60,8 +61,8 @@ returns-in-Replay-clause-exactly_once g c is =
 
 pub returns-in-Node-clause-some_held : goal.returns-in-Node-clause-some_held
 returns-in-Node-clause-some_held g c decided =
-    in_node _ _ _ (g.D.Source.left c.args.conf.now) (g.S.Source.left c.args.input.now) (λ owed. Meets owed c.node.result (g.R.Sink.written c.args.report.now) (g.R.Sink.written c.node.new.report) (g.C.Sink.written c.args.frames.now) (g.C.Sink.written c.node.new.frames)) (sym c.form_of.ensures.value ∙ c.in-Node.is)
-    c.router_word.ensures (c.node.ensures.answer decided)
+    in_node _ _ _ (g.D.Source.left c.args.conf.now) (g.S.Source.left c.args.input.now) (λ owed. Meets owed c.node.result (g.R.Sink.written c.args.report.now) (g.R.Sink.written c.node.new.report) (g.C.Sink.written c.args.frames.now) (g.C.Sink.written c.node.new.frames)) (form_known _ _ _ c.parse.ensures.value c.in-Node.is)
+    (c.as_bytes.ensures.value ∙ router_known _ _ _ c.parse.ensures.value c.in-Node.is) (c.node.ensures.answer decided)
 
 pub returns-in-Node-clause-verdict : goal.returns-in-Node-clause-verdict
 returns-in-Node-clause-verdict g c decided =
@@ -69,8 +70,8 @@ returns-in-Node-clause-verdict g c decided =
 
 pub returns-in-Node-clause-front : goal.returns-in-Node-clause-front
 returns-in-Node-clause-front g c stopped =
-    in_node _ _ _ (g.D.Source.left c.args.conf.now) (g.S.Source.left c.args.input.now) (λ owed. AppendsFront (g.R.Sink.written c.args.report.now) (g.R.Sink.written c.node.new.report) owed.report × AppendsFront (g.C.Sink.written c.args.frames.now) (g.C.Sink.written c.node.new.frames) owed.frames) (sym c.form_of.ensures.value ∙ c.in-Node.is)
-    c.router_word.ensures (c.node.ensures.front stopped)
+    in_node _ _ _ (g.D.Source.left c.args.conf.now) (g.S.Source.left c.args.input.now) (λ owed. AppendsFront (g.R.Sink.written c.args.report.now) (g.R.Sink.written c.node.new.report) owed.report × AppendsFront (g.C.Sink.written c.args.frames.now) (g.C.Sink.written c.node.new.frames) owed.frames) (form_known _ _ _ c.parse.ensures.value c.in-Node.is)
+    (c.as_bytes.ensures.value ∙ router_known _ _ _ c.parse.ensures.value c.in-Node.is) (c.node.ensures.front stopped)
 
 pub returns-in-Node-clause-decided : goal.returns-in-Node-clause-decided
 returns-in-Node-clause-decided g c =
@@ -79,16 +80,16 @@ returns-in-Node-clause-decided g c =
 pub returns-in-Node-clause-node_complete : goal.returns-in-Node-clause-node_complete
 returns-in-Node-clause-node_complete g c is =
     node_run_done _ _ (g.D.Source.left c.args.conf.now) (g.S.Source.left c.args.input.now) (g.R.Sink.written c.args.report.now) (g.R.Sink.written c.node.new.report) (g.C.Sink.written c.args.frames.now) (g.C.Sink.written c.node.new.frames) c.node.result
-    _ c.router_word.ensures (returns-in-Node-clause-decided g c) c.node.ensures.answer
+    _ (c.as_bytes.ensures.value ∙ router_known _ _ _ c.parse.ensures.value c.in-Node.is) (returns-in-Node-clause-decided g c) c.node.ensures.answer
 
 pub returns-in-Node-clause-node_leaves : goal.returns-in-Node-clause-node_leaves
-returns-in-Node-clause-node_leaves g c is = rw (← c.router_word.ensures) c.node.ensures.leaves
+returns-in-Node-clause-node_leaves g c is = rw (← (c.as_bytes.ensures.value ∙ router_known _ _ _ c.parse.ensures.value c.in-Node.is)) c.node.ensures.leaves
 
 -- ---- words of the form Hop
 
 pub returns-in-Hop-clause-some_held : goal.returns-in-Hop-clause-some_held
 returns-in-Hop-clause-some_held g c decided =
-    in_form _ form.Hop _ (g.D.Source.left c.args.conf.now) (g.S.Source.left c.args.input.now) (λ owed. Meets owed c.hop.result (g.R.Sink.written c.args.report.now) (g.R.Sink.written c.hop.new.report) (g.C.Sink.written c.args.frames.now) (g.C.Sink.written c.args.frames.now)) (sym c.form_of.ensures.value ∙ c.in-Hop.is)
+    in_form _ form.Hop _ (g.D.Source.left c.args.conf.now) (g.S.Source.left c.args.input.now) (λ owed. Meets owed c.hop.result (g.R.Sink.written c.args.report.now) (g.R.Sink.written c.hop.new.report) (g.C.Sink.written c.args.frames.now) (g.C.Sink.written c.args.frames.now)) (form_known _ _ _ c.parse.ensures.value c.in-Hop.is)
     (hop_meets _ (g.D.Source.left c.args.conf.now) (g.S.Source.left c.args.input.now) (g.R.Sink.written c.args.report.now) (g.R.Sink.written c.hop.new.report) (g.C.Sink.written c.args.frames.now) c.hop.result (c.hop.ensures.answer decided))
 
 pub returns-in-Hop-clause-verdict : goal.returns-in-Hop-clause-verdict
@@ -97,7 +98,7 @@ returns-in-Hop-clause-verdict g c decided =
 
 pub returns-in-Hop-clause-front : goal.returns-in-Hop-clause-front
 returns-in-Hop-clause-front g c stopped =
-    in_form _ form.Hop _ (g.D.Source.left c.args.conf.now) (g.S.Source.left c.args.input.now) (λ owed. AppendsFront (g.R.Sink.written c.args.report.now) (g.R.Sink.written c.hop.new.report) owed.report × AppendsFront (g.C.Sink.written c.args.frames.now) (g.C.Sink.written c.args.frames.now) owed.frames) (sym c.form_of.ensures.value ∙ c.in-Hop.is)
+    in_form _ form.Hop _ (g.D.Source.left c.args.conf.now) (g.S.Source.left c.args.input.now) (λ owed. AppendsFront (g.R.Sink.written c.args.report.now) (g.R.Sink.written c.hop.new.report) owed.report × AppendsFront (g.C.Sink.written c.args.frames.now) (g.C.Sink.written c.args.frames.now) owed.frames) (form_known _ _ _ c.parse.ensures.value c.in-Hop.is)
     (hop_front _ (g.D.Source.left c.args.conf.now) (g.S.Source.left c.args.input.now) (g.R.Sink.written c.args.report.now) (g.R.Sink.written c.hop.new.report) (g.C.Sink.written c.args.frames.now) (c.hop.ensures.front stopped))
 
 pub returns-in-Hop-clause-decided : goal.returns-in-Hop-clause-decided
@@ -115,7 +116,7 @@ returns-in-Hop-clause-hop_parts g c is decided = hop_reports (g.S.Source.left c.
 
 pub returns-in-Headers-clause-some_held : goal.returns-in-Headers-clause-some_held
 returns-in-Headers-clause-some_held g c decided =
-    in_form _ form.Headers _ (g.D.Source.left c.args.conf.now) (g.S.Source.left c.args.input.now) (λ owed. Meets owed c.headers.result (g.R.Sink.written c.args.report.now) (g.R.Sink.written c.headers.new.report) (g.C.Sink.written c.args.frames.now) (g.C.Sink.written c.args.frames.now)) (sym c.form_of.ensures.value ∙ c.in-Headers.is)
+    in_form _ form.Headers _ (g.D.Source.left c.args.conf.now) (g.S.Source.left c.args.input.now) (λ owed. Meets owed c.headers.result (g.R.Sink.written c.args.report.now) (g.R.Sink.written c.headers.new.report) (g.C.Sink.written c.args.frames.now) (g.C.Sink.written c.args.frames.now)) (form_known _ _ _ c.parse.ensures.value c.in-Headers.is)
     (headers_meets _ (g.D.Source.left c.args.conf.now) (g.S.Source.left c.args.input.now) (g.R.Sink.written c.args.report.now) (g.R.Sink.written c.headers.new.report) (g.C.Sink.written c.args.frames.now) c.headers.result (c.headers.ensures.answer decided))
 
 pub returns-in-Headers-clause-verdict : goal.returns-in-Headers-clause-verdict
@@ -124,7 +125,7 @@ returns-in-Headers-clause-verdict g c decided =
 
 pub returns-in-Headers-clause-front : goal.returns-in-Headers-clause-front
 returns-in-Headers-clause-front g c stopped =
-    in_form _ form.Headers _ (g.D.Source.left c.args.conf.now) (g.S.Source.left c.args.input.now) (λ owed. AppendsFront (g.R.Sink.written c.args.report.now) (g.R.Sink.written c.headers.new.report) owed.report × AppendsFront (g.C.Sink.written c.args.frames.now) (g.C.Sink.written c.args.frames.now) owed.frames) (sym c.form_of.ensures.value ∙ c.in-Headers.is)
+    in_form _ form.Headers _ (g.D.Source.left c.args.conf.now) (g.S.Source.left c.args.input.now) (λ owed. AppendsFront (g.R.Sink.written c.args.report.now) (g.R.Sink.written c.headers.new.report) owed.report × AppendsFront (g.C.Sink.written c.args.frames.now) (g.C.Sink.written c.args.frames.now) owed.frames) (form_known _ _ _ c.parse.ensures.value c.in-Headers.is)
     (headers_front _ (g.D.Source.left c.args.conf.now) (g.S.Source.left c.args.input.now) (g.R.Sink.written c.args.report.now) (g.R.Sink.written c.headers.new.report) (g.C.Sink.written c.args.frames.now) (c.headers.ensures.front stopped))
 
 pub returns-in-Headers-clause-decided : goal.returns-in-Headers-clause-decided
@@ -139,7 +140,7 @@ returns-in-Headers-clause-headers_complete g c is =
 
 pub returns-in-Grow-clause-some_held : goal.returns-in-Grow-clause-some_held
 returns-in-Grow-clause-some_held g c decided =
-    in_form _ (form.Grow c.in-Grow.routers) _ (g.D.Source.left c.args.conf.now) (g.S.Source.left c.args.input.now) (λ owed. Meets owed c.grow.result (g.R.Sink.written c.args.report.now) (g.R.Sink.written c.grow.new.report) (g.C.Sink.written c.args.frames.now) (g.C.Sink.written c.args.frames.now)) (sym c.form_of.ensures.value ∙ c.in-Grow.is)
+    in_form _ (form.Grow c.in-Grow.routers) _ (g.D.Source.left c.args.conf.now) (g.S.Source.left c.args.input.now) (λ owed. Meets owed c.grow.result (g.R.Sink.written c.args.report.now) (g.R.Sink.written c.grow.new.report) (g.C.Sink.written c.args.frames.now) (g.C.Sink.written c.args.frames.now)) (form_known _ _ _ c.parse.ensures.value c.in-Grow.is)
     (grow_meets c.in-Grow.routers _ (g.D.Source.left c.args.conf.now) (g.S.Source.left c.args.input.now) (g.R.Sink.written c.args.report.now) (g.R.Sink.written c.grow.new.report) (g.C.Sink.written c.args.frames.now) c.grow.result (c.grow.ensures.answer decided))
 
 pub returns-in-Grow-clause-verdict : goal.returns-in-Grow-clause-verdict
@@ -148,14 +149,14 @@ returns-in-Grow-clause-verdict g c decided =
 
 pub returns-in-Grow-clause-front : goal.returns-in-Grow-clause-front
 returns-in-Grow-clause-front g c stopped =
-    in_form _ (form.Grow c.in-Grow.routers) _ (g.D.Source.left c.args.conf.now) (g.S.Source.left c.args.input.now) (λ owed. AppendsFront (g.R.Sink.written c.args.report.now) (g.R.Sink.written c.grow.new.report) owed.report × AppendsFront (g.C.Sink.written c.args.frames.now) (g.C.Sink.written c.args.frames.now) owed.frames) (sym c.form_of.ensures.value ∙ c.in-Grow.is)
+    in_form _ (form.Grow c.in-Grow.routers) _ (g.D.Source.left c.args.conf.now) (g.S.Source.left c.args.input.now) (λ owed. AppendsFront (g.R.Sink.written c.args.report.now) (g.R.Sink.written c.grow.new.report) owed.report × AppendsFront (g.C.Sink.written c.args.frames.now) (g.C.Sink.written c.args.frames.now) owed.frames) (form_known _ _ _ c.parse.ensures.value c.in-Grow.is)
     (grow_front c.in-Grow.routers _ (g.D.Source.left c.args.conf.now) (g.S.Source.left c.args.input.now) (g.R.Sink.written c.args.report.now) (g.R.Sink.written c.grow.new.report) (g.C.Sink.written c.args.frames.now) (c.grow.ensures.front stopped))
 
 -- ---- words of the form Unknown
 
 pub returns-in-Unknown-clause-some_held : goal.returns-in-Unknown-clause-some_held
 returns-in-Unknown-clause-some_held g c decided =
-    in_form _ form.Unknown _ (g.D.Source.left c.args.conf.now) (g.S.Source.left c.args.input.now) (λ owed. Meets owed c.deliver.result (g.R.Sink.written c.args.report.now) (g.R.Sink.written c.deliver.new.report) (g.C.Sink.written c.args.frames.now) (g.C.Sink.written c.args.frames.now)) (sym c.form_of.ensures.value ∙ c.in-Unknown.is)
+    in_form _ form.Unknown _ (g.D.Source.left c.args.conf.now) (g.S.Source.left c.args.input.now) (λ owed. Meets owed c.deliver.result (g.R.Sink.written c.args.report.now) (g.R.Sink.written c.deliver.new.report) (g.C.Sink.written c.args.frames.now) (g.C.Sink.written c.args.frames.now)) (form_known _ _ _ c.parse.ensures.value c.in-Unknown.is)
     (usage_meets _ (g.D.Source.left c.args.conf.now) (g.S.Source.left c.args.input.now) (g.R.Sink.written c.args.report.now) (g.R.Sink.written c.deliver.new.report) (g.C.Sink.written c.args.frames.now) c.deliver.result decided c.deliver.ensures.status (c.deliver.ensures.written decided))
 
 pub returns-in-Unknown-clause-verdict : goal.returns-in-Unknown-clause-verdict
@@ -164,5 +165,5 @@ returns-in-Unknown-clause-verdict g c decided =
 
 pub returns-in-Unknown-clause-front : goal.returns-in-Unknown-clause-front
 returns-in-Unknown-clause-front g c stopped =
-    in_form _ form.Unknown _ (g.D.Source.left c.args.conf.now) (g.S.Source.left c.args.input.now) (λ owed. AppendsFront (g.R.Sink.written c.args.report.now) (g.R.Sink.written c.deliver.new.report) owed.report × AppendsFront (g.C.Sink.written c.args.frames.now) (g.C.Sink.written c.args.frames.now) owed.frames) (sym c.form_of.ensures.value ∙ c.in-Unknown.is)
+    in_form _ form.Unknown _ (g.D.Source.left c.args.conf.now) (g.S.Source.left c.args.input.now) (λ owed. AppendsFront (g.R.Sink.written c.args.report.now) (g.R.Sink.written c.deliver.new.report) owed.report × AppendsFront (g.C.Sink.written c.args.frames.now) (g.C.Sink.written c.args.frames.now) owed.frames) (form_known _ _ _ c.parse.ensures.value c.in-Unknown.is)
     (usage_front _ (g.D.Source.left c.args.conf.now) (g.S.Source.left c.args.input.now) (g.R.Sink.written c.args.report.now) (g.R.Sink.written c.deliver.new.report) (g.C.Sink.written c.args.frames.now) (c.deliver.ensures.front (write_fault _ c.deliver.result tt c.deliver.ensures.status stopped)))
