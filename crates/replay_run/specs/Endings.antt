@@ -1,5 +1,5 @@
 -- How a run ends: the status by the form of its words, and what it leaves.
-use Rattle.std.specs.Prelude.{ℕ, ◌≡◌, ◌≢◌, ◌⊎◌, ◌<◌, ◌↔◌, false, List, Option, None}
+use Rattle.std.specs.Prelude.{ℕ, ◌≡◌, ◌≢◌, ◌⊎◌, ◌<◌, ◌↔◌, false, List, None}
 use Rattle.std.specs.Io.KnownBytes.{Consumes, Appends}
 use Rattle.wire_base.specs.declared.outside.Source as source
 use Rattle.wire_base.specs.declared.outside.Sink as sink
@@ -7,7 +7,7 @@ use Rattle.wire_base.specs.declared.status.Status.{Status}
 use Rattle.wire_base.specs.declared.status.Status.TheVariants.{Done, Usage, ConfRefused, InputRefused, CaptureRefused, ReadFault, WriteFault, Memory}
 use Rattle.wire_base.specs.declared.conf.RouterConf.{RouterConf}
 use Rattle.wire_base.specs.model.Configuration.{DomainConf}
-use Rattle.command_drive.specs.Answer.{Verdict, IsDecided}
+use Rattle.command_drive.specs.Answer.{IsDecided}
 use Rattle.command_hop.specs.HopText.{hop_cut}
 use Rattle.command_drive.specs.Captures.{IsOpen}
 use Rattle.command_headers.specs.HeadersText.{lines_of}

@@ -1,4 +1,4 @@
-use Rattle.std.proofs.Common.{arith}
+use Rattle.std.proofs.Common.{◌∙◌, arith}
 use Rattle.command_line.specs.Form as form
 use Rattle.command_line.proofs.Forms.{form_known, router_known}
 use Rattle.command_drive.specs.Outside.{Meets, AppendsFront}
