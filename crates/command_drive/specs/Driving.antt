@@ -1,5 +1,5 @@
 -- What a run over an input does.
-use Rattle.std.specs.Prelude.{ℕ, ◌≡◌, ◌≢◌, ◌⊎◌, ◌<◌, false, List, ◌++◌, Option, Some, None}
+use Rattle.std.specs.Prelude.{ℕ, ◌≡◌, ◌≢◌, ◌⊎◌, ◌<◌, false, List, [], ◌++◌, Option, Some, None}
 use Rattle.std.specs.Io.KnownBytes.{Appends, Consumes, IsAtEnd}
 use Rattle.wire_base.specs.Causes.{last_count}
 use Rattle.command_drive.specs.Answer.{Verdict, IsDecided}
@@ -49,6 +49,11 @@ OneRose c r frames_old frames_new report_old report_new =
     (c.faults frames_old < c.faults frames_new) ⊎ ((c.zeros frames_old < c.zeros frames_new) ⊎ ((r.faults report_old < r.faults report_new) ⊎ (r.zeros report_old < r.zeros report_new)))
 
 -- ---- on the way
+
+-- nothing is left to be written
+pub record IsWritten (texts : Texts) : Type 0 where
+  pub frames : texts.frames ≡ []
+  pub report : texts.report ≡ []
 
 -- Fronts of both texts were written out, and the rest is left.
 pub record Wrote {C R : Type 0} (c : sink.Ghosts C) (r : sink.Ghosts R) (texts texts_now : Texts) (frames_old frames_new : C) (report_old report_new : R) : Type 0 where
