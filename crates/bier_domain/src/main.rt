@@ -1,25 +1,24 @@
-//! The program: what `tool_host` does on the words of the command line, with the files and the standard output of the system.
-//! Nothing is written to standard error.
+//! The program: `host_run` on the arguments, the files and the standard output of the system. Nothing is written to standard error.
 #![tactic(auto)]
 
-mod objects;
-
-use objects::run_words;
+use host_run::{run_arguments, run_words};
 use std::alloc::AllocError;
 use std::env;
+use std::io;
 use std::process::ExitCode;
-use tool_host::{after_name, exit_code, is_no_text, texts_of};
+use tool_host::{SystemFiles, WriterSink, exit_code, is_no_text};
 use wire_base::Status;
 
-/// Runs on the words of the command line.
+/// Runs on the arguments of the system.
 fn run_command_line(rt: &HostRuntime) -> Result<Status, AllocError> {
+    let files = SystemFiles::new(rt);
+    let mut report = WriterSink::new(io::writer(rt));
     match env::args(rt) {
         Ok(args) => {
             let args: Vec<String> = args.collect(rt.alloc())?;
-            let words = texts_of(rt.alloc(), after_name(&args))?;
-            Ok(run_words(rt, rt.alloc(), &words))
+            run_arguments(rt.alloc(), &args, &files, &mut report)
         }
-        Err(error) if is_no_text(&error) => Ok(run_words(rt, rt.alloc(), &[])),
+        Err(error) if is_no_text(&error) => Ok(run_words(rt.alloc(), &[], &files, &mut report)),
         Err(_) => Err(AllocError),
     }
 }

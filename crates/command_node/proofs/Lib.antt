@@ -1,5 +1,3 @@
-pub mod Asked
-pub mod WordForms
 pub mod DomainFiles
 pub mod Told
 pub mod Named
@@ -7,4 +5,4 @@ pub mod NodeDone
 pub mod NodeIds
 pub mod NodeLaws
 pub mod NodeSteps
-pub mod NodeLoop
+pub mod NodeRecords

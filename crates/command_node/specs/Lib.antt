@@ -1,6 +1,5 @@
-pub mod Words
 pub mod DomainFile
 pub mod Routers
 pub mod Named
 pub mod NodeRun
-pub mod NodeReached
+pub mod Owed

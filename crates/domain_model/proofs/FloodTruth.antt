@@ -13,7 +13,7 @@ use Rattle.wire_base.specs.declared.flood_out.FloodOut.{FloodOut}
 use Rattle.wire_base.specs.declared.flood_out.FloodOut.TheVariants as out
 use Rattle.wire_base.specs.declared.triple.Summary.{Summary}
 use Rattle.wire_base.specs.model.Control.{same_id, AreAscending, ids_of, entry_in, put_entry, is_full, seq_of, purge, age_of, age_by_life, is_unknown, FlagRow, Flood, srm_in, fragment_0}
-use Rattle.wire_base.specs.model.Flooding.{no_links, with_row, send_on, ask_on, set_srm, clear_both, mark_all, LspAnswer, only_says, puts_marked, kept, stores, lsp_aged, is_stray, is_own_ahead, lsp_in, on_lsp, SnpAnswer, with_flags, wanted, asks, is_live_summary, listed_aged, on_listed, nothing_asked, on_list, lacks, send_lacking, on_csnp, on_psnp, last_sequence}
+use Rattle.wire_base.specs.model.Flooding.{no_links, with_row, send_on, ask_on, set_srm, clear_both, mark_all, LspAnswer, only_says, puts_marked, kept, stores, lsp_aged, is_unheld_own, is_own_ahead, lsp_in, on_lsp, SnpAnswer, with_flags, wanted, asks, is_live_summary, listed_aged, on_listed, nothing_asked, on_list, lacks, send_lacking, on_csnp, on_psnp, last_sequence}
 use Rattle.wire_base.specs.model.OwnLsp.{own_lsp, full_life}
 use Rattle.wire_base.specs.model.Pdu.{Head, head_summary}
 use Rattle.wire_base.specs.model.Tlv.{rows_of}
@@ -213,11 +213,11 @@ module _ (confs : List RouterConf) (small : length confs ≤ MOST_ROUTERS) (f : 
       strays = if is_unknown age && is_full es then only_says f es out.Full else puts_marked f es (purge h.id h.seq)
 
       rest : LspAnswer
-      rest = if is_stray f h age then strays else lsp_aged f es link h tlvs age
+      rest = if is_unheld_own f h age then strays else lsp_aged f es link h tlvs age
 
       others : IsTrueAnswer confs rest
       others =
-          cond_both (is_stray f h age) strays (lsp_aged f es link h tlvs age) (IsTrueAnswer confs)
+          cond_both (is_unheld_own f h age) strays (lsp_aged f es link h tlvs age) (IsTrueAnswer confs)
           (λ stray. cond_both (is_unknown age && is_full es) (only_says f es out.Full) (puts_marked f es (purge h.id h.seq)) (IsTrueAnswer confs)
           (λ full. absurd (false≢true (sym room ∙ (and_parts (is_unknown age) (is_full es) full).1))) (λ free. purged))
           (λ no. aged_true age older)

@@ -3,6 +3,7 @@ use Rattle.std.proofs.Common.{◌≡◌, ℕ, Bool, true, false, ◌+◌, List, 
 use Rattle.std.proofs.Math.Nat.{add-zero}
 use Rattle.std.specs.Prelude.{flat_map}
 use Rattle.wire_base.specs.declared.conf.RouterConf.{RouterConf}
+use Rattle.wire_base.specs.model.Configuration.{DomainConf}
 use Rattle.replay_text.specs.declared.event.Event.{Event}
 use Rattle.replay_text.specs.declared.event.Event.TheVariants.{Send, Take}
 use Rattle.domain_model.specs.declared.fault.EventFault.{EventFault}
@@ -16,12 +17,14 @@ use Rattle.domain_model.specs.Moves.{Sending}
 use Rattle.domain_core.specs.Network.{Seen}
 use Rattle.domain_model.specs.Step.{happens}
 use Rattle.domain_model.specs.World.{WorldState}
+use Rattle.run_texts.specs.declared.texts.Texts.{Texts}
 use Rattle.replay_report.specs.declared.counts.Counts.{Counts}
 use Rattle.replay_report.specs.Captures.{wire_record, with_records}
 use Rattle.replay_report.specs.Counting.{counted}
 use Rattle.replay_report.specs.Lines.{event_text}
-use Rattle.domain_replay.specs.Telling.{Telling, told, tells, tells_or, tells_on, sent_records}
+use Rattle.domain_replay.specs.Telling.{Telling, told, tells, tells_or, tells_on, sent_records, ReplayState, with_texts}
 use Rattle.domain_replay.specs.Replaying.{Tells, ends_with}
+use Rattle.domain_replay.proofs.Stays.{happens_domain}
 use Rattle.domain_replay.proofs.TellingLaws.{same_telling}
 
 records_same : (routers : List RouterConf) (line : ℕ) (sent : List Sending) → flat_map (wire_record line) (map (wire_of routers) sent) ≡ sent_records routers line sent
@@ -44,6 +47,17 @@ event_told line t e w c f r made allowed world is counts frames routers same rep
     (ap (λ (m : StepOut). t.report ++ event_text t.world.domain.routers line m.got m.drops) (sym is) ∙ ap (λ (rs : List RouterConf). t.report ++ event_text rs line made.got made.drops) (sym same) ∙ sym report)
     (sym captures))
     ∙ ap (λ (v : WorldState). told (record { world = v; counts = c; frames = f; report = r; captures = b })) (sym world)
+
+-- the same of what a domain at work tells
+pub event_reported : (line : ℕ) (s old new : ReplayState) (texts texts_now : Texts) (e : Event) (w : WorldState) (made : StepOut) → old ≡ s → event_fault old.world e ≡ None → w ≡ (happens old.world e).world →
+    made ≡ answer.told old.world.domain.routers (happens old.world e).made → new ≡ record { world = w; counts = counted old.counts e made.got made.drops; captures = old.captures } →
+    texts_now.frames ≡ with_records old.captures texts.frames (flat_map (wire_record line) made.sent) → texts_now.report ≡ texts.report ++ event_text w.domain.routers line made.got made.drops →
+    tells_on line (told (with_texts s texts)) e ≡ told (with_texts new texts_now)
+event_reported line s old new texts texts_now e w made view allowed world is state frames report =
+    ap (λ (x : ReplayState). tells_on line (told (with_texts x texts)) e) (sym view)
+    ∙ event_told line (with_texts old texts) e w (counted old.counts e made.got made.drops) texts_now.frames texts_now.report made allowed world is refl frames w.domain.routers
+    (ap (λ (x : WorldState). x.domain.routers) world ∙ ap (λ (d : DomainConf). d.routers) (happens_domain old.world e)) report old.captures refl
+    ∙ ap (λ (x : ReplayState). told (with_texts x texts_now)) (sym state)
 
 abbrev of : Counts → List ℕ → List ℕ → Bool → Seen → Telling
 of c f r b s = record { world = s.world; counts = c; frames = f; report = r; captures = b }

@@ -2,7 +2,7 @@
 use Rattle.std.specs.Prelude.{ℕ, ◌≡◌, List, ◌++◌}
 use Rattle.wire_base.specs.model.Configuration.{DomainConf}
 use Rattle.domain_model.specs.Run.{Run}
-use Rattle.domain_replay.specs.Telling.{Telling, uncaptured, telling_of, IsRunOf}
+use Rattle.domain_replay.specs.Telling.{Telling, telling_of, IsRunOf}
 
 -- A run on its way: the run of a domain so far, and the fronts of its texts that are written out.
 pub record Course : Type 0 where
@@ -19,8 +19,3 @@ past frames report t = record { world = t.world; counts = t.counts; frames = fra
 pub record IsAt (course : Course) (now : Telling) : Type 0 where
   pub run : IsRunOf course.domain course.run
   pub telling : telling_of course.domain course.run ≡ past course.frames course.report now
-
--- The same of a replay without a capture.
-pub record IsAtUncaptured (course : Course) (now : Telling) : Type 0 where
-  pub run : IsRunOf course.domain course.run
-  pub telling : uncaptured (telling_of course.domain course.run) ≡ past course.frames course.report now

@@ -14,6 +14,7 @@ use Rattle.domain_model.specs.Moves.{Sending}
 use Rattle.domain_model.specs.Step.{Happened, happens}
 use Rattle.domain_model.specs.Faults.{event_fault}
 use Rattle.domain_model.specs.Run.{Run, Progress, line_events, on_line}
+use Rattle.run_texts.specs.declared.texts.Texts.{Texts}
 use Rattle.replay_report.specs.declared.counts.Counts.{Counts}
 use Rattle.replay_report.specs.Captures.{sending_record, with_records}
 use Rattle.replay_report.specs.Counting.{no_counts, counted, counts_of, NamesOnce}
@@ -53,6 +54,22 @@ tells_made line t e n =
 -- one event more, of a line
 unfoldable pub tells : ℕ → Telling → Event → Telling
 tells line t e = tells_made line t e (happens t.world e)
+
+-- ---- a domain at work
+
+-- The world now, what was counted, and whether what is sent goes into the capture: a telling without its texts.
+pub record ReplayState : Type 0 where
+  pub world : WorldState
+  pub counts : Counts
+  pub captures : Bool
+
+-- nothing was done
+abbrev pub first_state : (captures : Bool) → DomainConf → ReplayState
+first_state captures d = record { world = first_world d; counts = no_counts; captures = captures }
+
+-- the telling, with what stands in both texts
+abbrev pub with_texts : ReplayState → Texts → Telling
+with_texts s texts = record { world = s.world; counts = s.counts; frames = texts.frames; report = texts.report; captures = s.captures }
 
 -- ---- lines
 

@@ -12,6 +12,6 @@ mod told_world;
 pub use laws::{a_start_is_told, each_line_is_told};
 pub use replay::Replay;
 pub use replay_report::{
-    Counts, push_done, push_event, push_event_refused, push_frames, push_text_refused,
+    Counts, push_done, push_event, push_event_refused, push_frames, push_made, push_text_refused,
     push_too_long,
 };

@@ -1,68 +1,93 @@
-//! A domain at work, whose events are told as they are done.
-ghost use Rattle.std.specs.Prelude.{◌≡◌, ◌≢◌, ◌∷◌, length, Some, None, IfOk, OnOk, OnErr, [], replicate};
+//! A domain at work, whose events are reported as they are done.
+ghost use Rattle.std.specs.Prelude.{◌≡◌, ◌≢◌, ◌∷◌, ◌++◌, length, Some, None, IfOk, OnOk, OnErr, [], flat_map};
 ghost use Rattle.std.specs.List.{AllByRecursion};
 ghost use Rattle.replay_text.specs.Events.{LineFits};
 ghost use Rattle.replay_text.specs.declared.event.Event.TheVariants as events;
 ghost use Rattle.domain_model.specs.World.{link_between, frames_between};
 ghost use Rattle.domain_model.specs.Run as run;
 ghost use Rattle.domain_model.specs.Run.{taken_now, round_events, line_events};
-ghost use Rattle.domain_replay.specs.Telling.{first_telling, uncaptured, told, tells_on, tells_all, tells_line, LineNamesOnce};
+ghost use Rattle.replay_report.specs.Captures.{wire_record, with_records, AreShort};
+ghost use Rattle.replay_report.specs.Counting.{counted, NamesOnce};
+ghost use Rattle.replay_report.specs.Lines.{event_text};
+ghost use Rattle.domain_replay.specs.Telling.{first_state, with_texts, told, tells_on, tells_all, tells_line, LineNamesOnce};
 ghost use Rattle.domain_replay.specs.Replaying.{Tells, StopsIn, IsAsked, IsJoining, sends_of, sends_in};
 
 use crate::asked::numbers_fit;
 use domain_core::{EventFault, World, confs_of};
-use replay_report::{Direction, Texts, directions};
+use domain_model::StepOut;
+use replay_report::{Counts, Direction, directions, push_made};
 use replay_text::{Event, Line};
+use run_texts::Texts;
 use std::alloc::Global;
 use std::marker::Model;
 use wire_base::{Domain, M, Rows};
 
-/// A domain at work, and what is told of it.
+/// A domain at work, what was counted, and whether what is sent goes into a capture.
 #[derive(Drop)]
 pub struct ToldWorld {
     pub world: World,
-    pub texts: Texts,
+    pub counts: Counts,
+    pub captures: bool,
 }
 
 impl Model for ToldWorld {
-    ghost use Rattle.domain_replay.specs.Telling.{Telling};
+    ghost use Rattle.domain_replay.specs.Telling.{ReplayState};
 
-    ghost Value = { Telling };
+    ghost Value = { ReplayState };
 
-    ghost view = { λ t. record { world = t.world.world; counts = t.texts.counts; frames = t.texts.frames; report = t.texts.report; captures = t.texts.captures } };
+    ghost view = { λ t. record { world = t.world.world; counts = t.counts; captures = t.captures } };
 }
 
 impl ToldWorld {
     /// Nothing is done yet.
-    pub(crate) fn new(alloc: Global, domain: Domain) -> M<Self>
-        ensures { IfOk result (λ told. told ≡ first_telling domain) }
+    pub(crate) fn new(alloc: Global, domain: Domain, captures: bool) -> M<Self>
+        ensures { IfOk result (λ told. told ≡ first_state captures domain) }
     {
         Ok(ToldWorld {
             world: World::new(alloc, domain)?,
-            texts: Texts::new(alloc)?,
+            counts: Counts::none(),
+            captures,
         })
     }
 
-    /// The same without a capture.
-    pub(crate) fn uncaptured(alloc: Global, domain: Domain) -> M<Self>
-        ensures { IfOk result (λ told. told ≡ uncaptured (first_telling domain)) }
+    /// Reports an event of a line, which names no BFR-id twice, and what it made; or nothing, where an allocation fails.
+    fn tell(
+        &mut self,
+        alloc: Global,
+        texts: &mut Texts,
+        line: u32,
+        event: &Event,
+        made: &StepOut,
+    ) -> M<()>
+        requires once { NamesOnce event.now }
+        requires short { AreShort made.now.sent }
+        ensures state { OnOk result (self.new ≡ record self.old { counts = counted self.old.counts event.now made.now.got made.now.drops }) }
+        ensures frames { OnOk result (texts.new.frames ≡ with_records self.old.captures texts.old.frames (flat_map (wire_record line) made.now.sent)) }
+        ensures report { OnOk result (texts.new.report ≡ texts.old.report ++ event_text self.old.world.domain.routers line made.now.got made.now.drops) }
+        ensures err { OnErr result ((self.new ≡ self.old) × (texts.new ≡ texts.old)) }
     {
-        Ok(ToldWorld {
-            world: World::new(alloc, domain)?,
-            texts: Texts::uncaptured(alloc),
-        })
+        let counts = self.counts.with(event, made)?;
+        let routers = self.world.domain().routers.as_slice();
+        push_made(alloc, texts, self.captures, routers, line, made)?;
+        self.counts = counts;
+        Ok(())
     }
 
     /// One event, of a line.
-    fn do_event(&mut self, alloc: Global, line: u32, event: &Event) -> Result<(), EventFault>
+    fn do_event(
+        &mut self,
+        alloc: Global,
+        texts: &mut Texts,
+        line: u32,
+        event: &Event,
+    ) -> Result<(), EventFault>
         requires { IsAsked (length self.old.world.domain.routers) event.now }
-        ensures told { Tells (tells_on line (told self.old) event.now) self.new result }
+        ensures told { Tells (tells_on line (told (with_texts self.old texts.old)) event.now) (with_texts self.new texts.new) result }
         ensures domain { OnOk result (self.new.world.domain ≡ self.old.world.domain) }
-        ensures stops { OnErr result (StopsIn line self.old (event.now ∷ []) self.new) }
+        ensures stops { OnErr result (StopsIn line (with_texts self.old texts.old) (event.now ∷ []) (with_texts self.new texts.new)) }
     {
         let made = self.world.step(event)?;
-        let routers = self.world.domain().routers.as_slice();
-        self.texts.tell(alloc, routers, line, event, &made)?;
+        self.tell(alloc, texts, line, event, &made)?;
         Ok(())
     }
 
@@ -86,11 +111,17 @@ impl ToldWorld {
     }
 
     /// A send over the end at which a direction leaves. Of most sends nothing is told.
-    fn send_one(&mut self, alloc: Global, line: u32, direction: Direction) -> Result<(), EventFault>
+    fn send_one(
+        &mut self,
+        alloc: Global,
+        texts: &mut Texts,
+        line: u32,
+        direction: Direction,
+    ) -> Result<(), EventFault>
         requires { IsJoining self.old.world.domain.routers direction }
-        ensures told { Tells (tells_on line (told self.old) (events.Send direction.from direction.to)) self.new result }
+        ensures told { Tells (tells_on line (told (with_texts self.old texts.old)) (events.Send direction.from direction.to)) (with_texts self.new texts.new) result }
         ensures domain { OnOk result (self.new.world.domain ≡ self.old.world.domain) }
-        ensures stops { OnErr result (StopsIn line self.old (events.Send direction.from direction.to ∷ []) self.new) }
+        ensures stops { OnErr result (StopsIn line (with_texts self.old texts.old) (events.Send direction.from direction.to ∷ []) (with_texts self.new texts.new)) }
     {
         let Direction { from, link, to } = direction;
         let made = match self.world.send_over(from, link, to) {
@@ -99,33 +130,44 @@ impl ToldWorld {
             Err(fault) => return Err(fault),
         };
         let event = Event::Send { from, to };
-        let routers = self.world.domain().routers.as_slice();
-        self.texts.tell(alloc, routers, line, &event, &made)?;
+        self.tell(alloc, texts, line, &event, &made)?;
         Ok(())
     }
 
     /// What the end sends over which a direction leaves, where it is up.
-    fn send_now(&mut self, alloc: Global, line: u32, direction: Direction) -> Result<(), EventFault>
+    fn send_now(
+        &mut self,
+        alloc: Global,
+        texts: &mut Texts,
+        line: u32,
+        direction: Direction,
+    ) -> Result<(), EventFault>
         requires { IsJoining self.old.world.domain.routers direction }
-        ensures told { Tells (tells_all line (told self.old) (sends_of self.old.world direction)) self.new result }
+        ensures told { Tells (tells_all line (told (with_texts self.old texts.old)) (sends_of self.old.world direction)) (with_texts self.new texts.new) result }
         ensures domain { OnOk result (self.new.world.domain ≡ self.old.world.domain) }
-        ensures stops { OnErr result (StopsIn line self.old (sends_of self.old.world direction) self.new) }
+        ensures stops { OnErr result (StopsIn line (with_texts self.old texts.old) (sends_of self.old.world direction) (with_texts self.new texts.new)) }
     {
         if !self.may_send(direction) {
             return Ok(());
         }
-        self.send_one(alloc, line, direction)
+        self.send_one(alloc, texts, line, direction)
     }
 
     /// Each end that is up sends, direction by direction. No end comes up or goes down by that.
-    fn do_sends(&mut self, alloc: Global, line: u32, all: &[Direction]) -> Result<(), EventFault>
+    fn do_sends(
+        &mut self,
+        alloc: Global,
+        texts: &mut Texts,
+        line: u32,
+        all: &[Direction],
+    ) -> Result<(), EventFault>
         requires { AllByRecursion (IsJoining self.old.world.domain.routers) all.now }
-        ensures told { Tells (tells_all line (told self.old) (sends_in self.old.world all.now)) self.new result }
+        ensures told { Tells (tells_all line (told (with_texts self.old texts.old)) (sends_in self.old.world all.now)) (with_texts self.new texts.new) result }
         ensures domain { OnOk result (self.new.world.domain ≡ self.old.world.domain) }
-        ensures stops { OnErr result (StopsIn line self.old (sends_in self.old.world all.now) self.new) }
+        ensures stops { OnErr result (StopsIn line (with_texts self.old texts.old) (sends_in self.old.world all.now) (with_texts self.new texts.new)) }
     {
         for direction in all {
-            self.send_now(alloc, line, *direction)?;
+            self.send_now(alloc, texts, line, *direction)?;
         }
         Ok(())
     }
@@ -151,15 +193,16 @@ impl ToldWorld {
     fn take_one(
         &mut self,
         alloc: Global,
+        texts: &mut Texts,
         line: u32,
         direction: Direction,
         back: u16,
     ) -> Result<(), EventFault>
         requires joins { IsJoining self.old.world.domain.routers direction }
         requires facing { link_between self.old.world.domain.routers direction.to direction.from ≡ Some back }
-        ensures told { Tells (tells_on line (told self.old) (events.Take direction.from direction.to 0)) self.new result }
+        ensures told { Tells (tells_on line (told (with_texts self.old texts.old)) (events.Take direction.from direction.to 0)) (with_texts self.new texts.new) result }
         ensures domain { OnOk result (self.new.world.domain ≡ self.old.world.domain) }
-        ensures stops { OnErr result (StopsIn line self.old (events.Take direction.from direction.to 0 ∷ []) self.new) }
+        ensures stops { OnErr result (StopsIn line (with_texts self.old texts.old) (events.Take direction.from direction.to 0 ∷ []) (with_texts self.new texts.new)) }
     {
         let Direction { from, link, to } = direction;
         let made = match self.world.take_over(from, link, to, back) {
@@ -168,38 +211,22 @@ impl ToldWorld {
             Err(fault) => return Err(fault),
         };
         let event = Event::Take { from, to, i: 0 };
-        let routers = self.world.domain().routers.as_slice();
-        self.texts.tell(alloc, routers, line, &event, &made)?;
-        Ok(())
-    }
-
-    /// So many frames in a direction arrive at the end `back`, one after the other.
-    fn take_times(
-        &mut self,
-        alloc: Global,
-        line: u32,
-        direction: Direction,
-        back: u16,
-        count: usize,
-    ) -> Result<(), EventFault>
-        requires joins { IsJoining self.old.world.domain.routers direction }
-        requires facing { link_between self.old.world.domain.routers direction.to direction.from ≡ Some back }
-        ensures told { Tells (tells_all line (told self.old) (replicate count (events.Take direction.from direction.to 0))) self.new result }
-        ensures domain { OnOk result (self.new.world.domain ≡ self.old.world.domain) }
-        ensures stops { OnErr result (StopsIn line self.old (replicate count (events.Take direction.from direction.to 0)) self.new) }
-    {
-        for _time in 0..count {
-            self.take_one(alloc, line, direction, back)?;
-        }
+        self.tell(alloc, texts, line, &event, &made)?;
         Ok(())
     }
 
     /// As many frames arrive as are on their way in a direction now.
-    fn take_now(&mut self, alloc: Global, line: u32, direction: Direction) -> Result<(), EventFault>
+    fn take_now(
+        &mut self,
+        alloc: Global,
+        texts: &mut Texts,
+        line: u32,
+        direction: Direction,
+    ) -> Result<(), EventFault>
         requires { IsJoining self.old.world.domain.routers direction }
-        ensures told { Tells (tells_all line (told self.old) (taken_now self.old.world direction)) self.new result }
+        ensures told { Tells (tells_all line (told (with_texts self.old texts.old)) (taken_now self.old.world direction)) (with_texts self.new texts.new) result }
         ensures domain { OnOk result (self.new.world.domain ≡ self.old.world.domain) }
-        ensures stops { OnErr result (StopsIn line self.old (taken_now self.old.world direction) self.new) }
+        ensures stops { OnErr result (StopsIn line (with_texts self.old texts.old) (taken_now self.old.world direction) (with_texts self.new texts.new)) }
     {
         let count = self.waiting(direction);
         if count == 0 {
@@ -208,49 +235,65 @@ impl ToldWorld {
         let Some(back) = self.facing(direction) else {
             return Ok(());
         };
-        self.take_times(alloc, line, direction, back, count)
+        for _time in 0..count {
+            self.take_one(alloc, texts, line, direction, back)?;
+        }
+        Ok(())
     }
 
     /// All routers take what is on its way to them, direction by direction.
-    fn do_takes(&mut self, alloc: Global, line: u32, all: &[Direction]) -> Result<(), EventFault>
+    fn do_takes(
+        &mut self,
+        alloc: Global,
+        texts: &mut Texts,
+        line: u32,
+        all: &[Direction],
+    ) -> Result<(), EventFault>
         requires { AllByRecursion (IsJoining self.old.world.domain.routers) all.now }
-        ensures told { Tells (tells_all line (told self.old) (run.round_takes self.old.world all.now)) self.new result }
+        ensures told { Tells (tells_all line (told (with_texts self.old texts.old)) (run.round_takes self.old.world all.now)) (with_texts self.new texts.new) result }
         ensures domain { OnOk result (self.new.world.domain ≡ self.old.world.domain) }
-        ensures stops { OnErr result (StopsIn line self.old (run.round_takes self.old.world all.now) self.new) }
+        ensures stops { OnErr result (StopsIn line (with_texts self.old texts.old) (run.round_takes self.old.world all.now) (with_texts self.new texts.new)) }
     {
         for direction in all {
-            self.take_now(alloc, line, *direction)?;
+            self.take_now(alloc, texts, line, *direction)?;
         }
         Ok(())
     }
 
     /// All routers send what is due, and then all take.
-    fn do_round(&mut self, alloc: Global, line: u32, all: &[Direction]) -> Result<(), EventFault>
+    fn do_round(
+        &mut self,
+        alloc: Global,
+        texts: &mut Texts,
+        line: u32,
+        all: &[Direction],
+    ) -> Result<(), EventFault>
         requires value { all.now ≡ run.directions self.old.world.domain.routers }
         requires joins { AllByRecursion (IsJoining self.old.world.domain.routers) all.now }
-        ensures told { Tells (tells_all line (told self.old) (round_events self.old.world)) self.new result }
+        ensures told { Tells (tells_all line (told (with_texts self.old texts.old)) (round_events self.old.world)) (with_texts self.new texts.new) result }
         ensures domain { OnOk result (self.new.world.domain ≡ self.old.world.domain) }
-        ensures stops { OnErr result (StopsIn line self.old (round_events self.old.world) self.new) }
+        ensures stops { OnErr result (StopsIn line (with_texts self.old texts.old) (round_events self.old.world) (with_texts self.new texts.new)) }
     {
-        self.do_sends(alloc, line, all)?;
-        self.do_takes(alloc, line, all)
+        self.do_sends(alloc, texts, line, all)?;
+        self.do_takes(alloc, texts, line, all)
     }
 
     /// So many rounds.
     fn do_rounds(
         &mut self,
         alloc: Global,
+        texts: &mut Texts,
         line: u32,
         all: &[Direction],
         rounds: u32,
     ) -> Result<(), EventFault>
         requires value { all.now ≡ run.directions self.old.world.domain.routers }
         requires joins { AllByRecursion (IsJoining self.old.world.domain.routers) all.now }
-        ensures told { Tells (tells_all line (told self.old) (run.settle_events self.old.world rounds)) self.new result }
-        ensures stops { OnErr result (StopsIn line self.old (run.settle_events self.old.world rounds) self.new) }
+        ensures told { Tells (tells_all line (told (with_texts self.old texts.old)) (run.settle_events self.old.world rounds)) (with_texts self.new texts.new) result }
+        ensures stops { OnErr result (StopsIn line (with_texts self.old texts.old) (run.settle_events self.old.world rounds) (with_texts self.new texts.new)) }
     {
         for _round in 0..rounds {
-            self.do_round(alloc, line, all)?;
+            self.do_round(alloc, texts, line, all)?;
         }
         Ok(())
     }
@@ -260,6 +303,7 @@ impl ToldWorld {
     pub(crate) fn do_line(
         &mut self,
         alloc: Global,
+        texts: &mut Texts,
         line: u32,
         all: &[Direction],
         said: &Line,
@@ -268,16 +312,16 @@ impl ToldWorld {
         requires joins { AllByRecursion (IsJoining self.old.world.domain.routers) all.now }
         requires fits { LineFits (length self.old.world.domain.routers) said.now }
         requires once { LineNamesOnce said.now }
-        ensures told { Tells (tells_line line self.old said.now) self.new result }
-        ensures stops { OnErr result (StopsIn line self.old (line_events self.old.world said.now) self.new) }
+        ensures told { Tells (tells_line line (with_texts self.old texts.old) said.now) (with_texts self.new texts.new) result }
+        ensures stops { OnErr result (StopsIn line (with_texts self.old texts.old) (line_events self.old.world said.now) (with_texts self.new texts.new)) }
     {
         match said {
             Line::Empty => Ok(()),
             Line::One(event) => {
                 numbers_fit(event);
-                self.do_event(alloc, line, event)
+                self.do_event(alloc, texts, line, event)
             }
-            Line::Settle(rounds) => self.do_rounds(alloc, line, all, *rounds),
+            Line::Settle(rounds) => self.do_rounds(alloc, texts, line, all, *rounds),
         }
     }
 }

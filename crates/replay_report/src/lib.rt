@@ -8,12 +8,12 @@ mod capture;
 mod counts;
 mod direction;
 mod lines;
+mod made;
 mod refused;
-mod texts;
 
 pub use capture::push_frames;
 pub use counts::Counts;
 pub use direction::{Direction, directions};
 pub use lines::{push_done, push_event};
+pub use made::push_made;
 pub use refused::{push_event_refused, push_text_refused, push_too_long};
-pub use texts::Texts;

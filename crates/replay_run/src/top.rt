@@ -3,8 +3,8 @@ ghost use Rattle.std.specs.Prelude.{◌≡◌, ◌⊎◌, ◌<◌, ◌≢◌, �
 ghost use Rattle.std.specs.Io.KnownBytes.{IsAtEnd};
 ghost use Rattle.wire_base.specs.Causes.{last_count};
 ghost use Rattle.wire_base.specs.declared.status.Status.TheVariants as status;
-ghost use Rattle.command_node.specs.declared.words.Form.TheVariants as form;
-ghost use Rattle.replay_run.specs.Endings.{DoneOrMemory, ComesOn, AppendsFronts, ReplayLeaves, NodeLeaves, HopLeaves, HeadersLeaves, LeavesAlone};
+ghost use Rattle.command_line.specs.Form as form;
+ghost use Rattle.replay_run.specs.Endings.{DoneOrMemory, ComesOn, ReplayLeaves, NodeLeaves, HopLeaves, HeadersLeaves, LeavesAlone};
 ghost use Rattle.replay_run.specs.Faults.{SourceIsQuiet, SinkIsQuiet, NoneRose, CountsFaults};
 ghost use Rattle.command_grow.specs.Grow.{GoesThrough};
 ghost use Rattle.replay_run.specs.Judged.{OnHeld};
@@ -12,24 +12,27 @@ ghost use Rattle.replay_run.specs.Replayed.{IsReplayed};
 ghost use Rattle.command_node.specs.Routers.{HasRouter};
 ghost use Rattle.replay_run.specs.RunDone.{HasRun, RunDone};
 ghost use Rattle.replay_run.specs.Verdict.{verdict};
-ghost use Rattle.command_node.specs.Words.{form_in, router_in, IsGrow};
-ghost use Rattle.tool_run.specs.Answer.{IsDecided};
-ghost use Rattle.tool_run.specs.HeadersText.{IsRead};
-ghost use Rattle.tool_run.specs.HopText.{IsAllowed};
+ghost use Rattle.command_line.specs.Words.{form_in, router_in, IsGrow};
+ghost use Rattle.command_drive.specs.Answer.{IsDecided};
+ghost use Rattle.command_headers.specs.HeadersText.{IsRead};
+ghost use Rattle.command_hop.specs.HopText.{IsAllowed};
 ghost use Rattle.command_node.specs.NodeRun.{IsReplayable};
-ghost use Rattle.tool_run.specs.Outside.{Meets};
-ghost use Rattle.tool_run.specs.Partition.{Reports};
+ghost use Rattle.command_drive.specs.Outside.{Meets, AppendsFronts};
+ghost use Rattle.command_hop.specs.Partition.{Reports};
 ghost use Rattle.laws_replay.specs.Moments.{HasLedgerThroughout, DeliversOnce};
 ghost use Rattle.laws_replay.specs.Reports.{IsReported};
 ghost use Rattle.laws_replay.specs.Once.{ArriveOnce};
 
 use crate::node::node;
+use command_drive::deliver;
 use command_grow::grow;
-use command_node::{Form, NoDomain, USAGE, domain_in, form_of, router_word};
+use command_headers::run_headers;
+use command_hop::{packets_are_parted, run_hop};
+use command_line::{Arguments, USAGE, parse};
+use command_node::{NoDomain, domain_in};
 use command_replay::play;
 use laws_replay::{replays_are_accounted, replays_arrive_once};
 use std::alloc::Global;
-use tool_run::{deliver, headers, hop, packets_are_parted};
 use wire_base::{Sink, Source, Status};
 
 /// All that the program does on the words `replay CONF SCHEDULE FRAMES`: where the domain file breaks a rule, it reports that;
@@ -174,12 +177,14 @@ pub fn run<D: Source, S: Source, C: Sink, R: Sink>(
     packets_are_parted();
     replays_are_accounted();
     replays_arrive_once();
-    match form_of(words) {
-        Form::Replay => replay(alloc, conf, input, frames, report),
-        Form::Node => node(alloc, router_word(words), conf, input, frames, report),
-        Form::Hop => hop(alloc, input, report),
-        Form::Headers => headers(alloc, input, report),
-        Form::Grow(routers) => grow(alloc, routers, report),
-        Form::Unknown => deliver(report, Status::Usage, USAGE),
+    match parse(words) {
+        Arguments::Replay { .. } => replay(alloc, conf, input, frames, report),
+        Arguments::Node { router, .. } => {
+            node(alloc, router.as_bytes(), conf, input, frames, report)
+        }
+        Arguments::Hop { .. } => run_hop(alloc, input, report),
+        Arguments::Headers { .. } => run_headers(alloc, input, report),
+        Arguments::Grow { routers } => grow(alloc, routers, report),
+        Arguments::Unknown => deliver(report, Status::Usage, USAGE),
     }
 }

@@ -13,9 +13,9 @@ ghost use Rattle.isis_flood.specs.Answers.{SnpDone};
 ghost use Rattle.laws_router.specs.State.{is_up};
 
 use crate::control::Control;
-use crate::forecast::issue_ready;
 use crate::framing::{FramesOut, push_psnp};
 use crate::kept::Kept;
+use crate::snp_needs::issue_ready;
 use bier_forward::{DropNote, Effects};
 use isis_flood::{Flood, append_listed, listed};
 use isis_pdu::{LspHead, Pdu, read_pdu};

@@ -11,7 +11,7 @@ ghost use Rattle.laws_router.specs.State.{IsRouter, IssuesAlone, is_up, counted}
 
 use crate::control::Control;
 use crate::kept::Kept;
-use crate::noting::note_own;
+use crate::staleness::note_own;
 use bier_forward::Effects;
 use lsp_store::Store;
 use std::alloc::Global;

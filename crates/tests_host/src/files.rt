@@ -1,9 +1,9 @@
 //! Files as sources and sinks, over a disk whose calls fail and over a real one, and those that never fail.
-use crate::disk::{Call, Disk};
+use crate::disk::{Call, Disk, OpenCalls};
 use std::fs;
 use std::io::ErrorKind;
 use std::test::Fail;
-use tool_host::{FileSink, FileSource};
+use tool_host::{FileSink, FileSource, SystemFiles, WriterSink};
 use wire_base::{Failed, Octets, QuietSink, QuietSource, Sink, Source};
 
 /// What a file at that path is read from, or written to.
@@ -34,7 +34,8 @@ const WRITTEN: Disk = Disk {
 /// A read is a fault exactly where the file's is, interrupted or not, and the end exactly where nothing was read.
 #[test]
 fn reads_fail_as_the_file_does(rt: HostRuntime) -> Result<(), Fail> {
-    let mut source = FileSource::new(&READ, "domain.toml");
+    let files = SystemFiles::new(&READ);
+    let mut source = FileSource::new(&files, "domain.toml");
     let mut into = [0; 4];
     assert_eq!(rt; source.read(&mut into), Ok(2));
     assert_eq!(rt; &into[..2], b"ab".as_slice());
@@ -44,11 +45,11 @@ fn reads_fail_as_the_file_does(rt: HostRuntime) -> Result<(), Fail> {
     assert_eq!(rt; source.read(&mut into), Err(Failed));
     assert_eq!(rt; source.read(&mut into), Ok(0));
     assert_eq!(rt;
-        FileSource::new(&READ, "other").read(&mut into),
+        FileSource::new(&files, "other").read(&mut into),
         Err(Failed)
     );
     assert_eq!(rt;
-        FileSource::new(&WRITTEN, "frames.pcap").read(&mut into),
+        FileSource::new(&SystemFiles::new(&WRITTEN), "frames.pcap").read(&mut into),
         Err(Failed)
     );
     Ok(())
@@ -57,7 +58,8 @@ fn reads_fail_as_the_file_does(rt: HostRuntime) -> Result<(), Fail> {
 /// A write and a finish fail exactly where the file's write and flush do; a finish where nothing was written opens nothing.
 #[test]
 fn writes_fail_as_the_file_does(rt: HostRuntime) -> Result<(), Fail> {
-    let mut sink = FileSink::new(&WRITTEN, "frames.pcap");
+    let files = SystemFiles::new(&WRITTEN);
+    let mut sink = FileSink::new(&files, "frames.pcap");
     assert_eq!(rt; sink.finish(), Ok(()));
     assert_eq!(rt; sink.write(b"abc"), Ok(2));
     assert_eq!(rt; sink.write(b"c"), Err(Failed));
@@ -65,13 +67,31 @@ fn writes_fail_as_the_file_does(rt: HostRuntime) -> Result<(), Fail> {
     assert_eq!(rt; sink.finish(), Err(Failed));
     assert_eq!(rt; sink.finish(), Ok(()));
     assert_eq!(rt;
-        FileSink::new(&WRITTEN, "schedule.txt").write(b"ab"),
+        FileSink::new(&files, "schedule.txt").write(b"ab"),
         Err(Failed)
     );
     assert_eq!(rt;
-        FileSink::new(&READ, "domain.toml").write(b"ab"),
+        FileSink::new(&SystemFiles::new(&READ), "domain.toml").write(b"ab"),
         Err(Failed)
     );
+    Ok(())
+}
+
+/// What a writer as standard output is told to write is what the sink was given, as far as it takes it, and a finish flushes it.
+#[test]
+fn a_writer_takes_two_of_five_octets(rt: HostRuntime) -> Result<(), Fail> {
+    let mut sink = WriterSink::new(OpenCalls::new(&[
+        Call::Moves(b"ab"),
+        Call::Moves(b"cde"),
+        Call::Flushes,
+        Call::Fails(ErrorKind::BrokenPipe),
+        Call::Fails(ErrorKind::StorageFull),
+    ]));
+    assert_eq!(rt; sink.write(b"abcde"), Ok(2));
+    assert_eq!(rt; sink.write(b"cde"), Ok(3));
+    assert_eq!(rt; sink.finish(), Ok(()));
+    assert_eq!(rt; sink.write(b"f"), Err(Failed));
+    assert_eq!(rt; sink.finish(), Err(Failed));
     Ok(())
 }
 
@@ -79,17 +99,18 @@ fn writes_fail_as_the_file_does(rt: HostRuntime) -> Result<(), Fail> {
 #[test]
 fn a_file_written_and_read_back(rt: HostRuntime) -> Result<(), Fail> {
     let path = "bier_domain.test";
+    let files = SystemFiles::new(&rt);
     let mut into = [0; 8];
     assert!(rt;
-        FileSource::new(&rt, "no/such/file")
+        FileSource::new(&files, "no/such/file")
             .read(&mut into)
             .is_err()
     );
     fs::write(&rt, path, "what stood there before")?;
-    let mut sink = FileSink::new(&rt, path);
+    let mut sink = FileSink::new(&files, path);
     assert_eq!(rt; sink.write(b"bsl 64\n"), Ok(7));
     assert_eq!(rt; sink.finish(), Ok(()));
-    let mut source = FileSource::new(&rt, path);
+    let mut source = FileSource::new(&files, path);
     assert_eq!(rt; source.read(&mut into), Ok(7));
     assert_eq!(rt; &into[..7], b"bsl 64\n".as_slice());
     assert_eq!(rt; source.read(&mut into), Ok(0));

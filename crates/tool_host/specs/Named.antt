@@ -1,20 +1,37 @@
--- The words that name files.
-use Rattle.std.specs.Prelude.{ℕ, ◌≡◌, Bool, true, false, List, [], ◌∷◌, codes}
-use Rattle.std.specs.Borrow.{Bor}
-use Rattle.std.specs.Str.{bytes_eq}
+-- The files that a command line names.
+use Rattle.std.specs.Prelude.{ℕ, ◌≡◌, List, Option, Some, None, IfSome}
+use Rattle.command_line.specs.CommandLine.{CommandLine, Replay, Node, Hop, Headers, Grow, Unknown}
+use Rattle.tool_host.specs.declared.objects.Objects.{Objects}
 
--- That holds of CONF, CAPTURE and FRAMES of five words: of the second, the fourth and the fifth.
-abbrev pub IsNode : List (Bor (List ℕ)) → (Bor (List ℕ) → Bor (List ℕ) → Bor (List ℕ) → Type 0) → Type 0
-IsNode words Holds = (command conf router capture frames : Bor (List ℕ)) → words ≡ command ∷ conf ∷ router ∷ capture ∷ frames ∷ [] → Holds conf capture frames
+-- the path of the domain file
+abbrev pub conf_path : CommandLine → Option (List ℕ)
+conf_path (Replay conf schedule frames) = Some conf
+conf_path (Node conf router capture frames) = Some conf
+conf_path (Hop input) = None
+conf_path (Headers capture) = None
+conf_path (Grow routers) = None
+conf_path Unknown = None
 
--- whether a word is `grow`
-abbrev pub is_grow : Bor (List ℕ) → Bool
-is_grow word = bytes_eq word.now (codes "grow")
+-- the path of the schedule, the capture or the other input
+abbrev pub input_path : CommandLine → Option (List ℕ)
+input_path (Replay conf schedule frames) = Some schedule
+input_path (Node conf router capture frames) = Some capture
+input_path (Hop input) = Some input
+input_path (Headers capture) = Some capture
+input_path (Grow routers) = None
+input_path Unknown = None
 
--- That holds of the input of two words, where the first isn't `grow`.
-abbrev pub IsOneInput : List (Bor (List ℕ)) → (Bor (List ℕ) → Type 0) → Type 0
-IsOneInput words Holds = (command input : Bor (List ℕ)) → words ≡ command ∷ input ∷ [] → is_grow command ≡ false → Holds input
+-- the path that the frames are written to
+abbrev pub frames_path : CommandLine → Option (List ℕ)
+frames_path (Replay conf schedule frames) = Some frames
+frames_path (Node conf router capture frames) = Some frames
+frames_path (Hop input) = None
+frames_path (Headers capture) = None
+frames_path (Grow routers) = None
+frames_path Unknown = None
 
--- That holds of two words of which the first is `grow`.
-abbrev pub IsGrow : List (Bor (List ℕ)) → Type 0 → Type 0
-IsGrow words Holds = (command count : Bor (List ℕ)) → words ≡ command ∷ count ∷ [] → is_grow command ≡ true → Holds
+-- Each object is the file at the path that the command line gives it.
+pub record AreNamed {F D : Type 0} (line : CommandLine) (objects : Objects F D) : Type 0 where
+  pub conf : IfSome (conf_path line) (λ path. objects.conf.path.now ≡ path)
+  pub input : IfSome (input_path line) (λ path. objects.input.path.now ≡ path)
+  pub frames : IfSome (frames_path line) (λ path. objects.frames.path.now ≡ path)

@@ -1,10 +1,15 @@
 -- Files that are opened at their first call, and what their calls answer.
 use Rattle.std.specs.Prelude.{ℕ, ◌≡◌, List, Option, None, Some, Result, Ok, MatchResult, IsErr}
 
--- the octets that a file tells of itself; before it is opened it tells nothing
-abbrev pub told : {F : Type 0} → (F → Option (List ℕ)) → Option F → Option (List ℕ)
-told tells None = None
-told tells (Some file) = tells file
+-- what is told is so; where nothing is told, anything may be
+abbrev pub Tells : Option (List ℕ) → Option (List ℕ) → Type 0
+Tells None known = Unit {0}
+Tells (Some octets) known = known ≡ Some octets
+
+-- the octets that a file tells of itself; before it is opened, those that are told of it
+abbrev pub told : {F : Type 0} → (F → Option (List ℕ)) → Option (List ℕ) → Option F → Option (List ℕ)
+told tells before None = before
+told tells before (Some file) = tells file
 
 -- an answer is passed on: its value, or that there is none
 abbrev pub IsPassedOn : {T E G : Type 0} → Result T E → Result T G → Type 0

@@ -1,37 +1,37 @@
-//! Sources and sinks over real files and standard output. Each works over whatever runtime it is handed, and tells of its octets
-//! what that runtime's files tell; those of the system tell nothing.
-ghost use Rattle.std.specs.Prelude.{◌≡◌, None, false};
+//! Sources and sinks over the files of a file system, and a sink over a writer. Each tells of its octets what that file system or
+//! writer tells.
+ghost use Rattle.std.specs.Prelude.{◌≡◌, ℕ, List, Option, None, false};
 ghost use Rattle.std.specs.Io.{ReadsAtMost, WritesAtMost};
 ghost use Rattle.std.specs.Io.KnownBytes.{ReadConsumes, WriteAppends, Keeps};
-ghost use Rattle.wire_base.specs.Causes.{HasCause, CountsZeros, after_write, after_finish};
 ghost use Rattle.tool_host.specs.Fresh.{IsFresh};
 ghost use Rattle.tool_host.specs.Opened.{told};
 
 use crate::counts::{Tally, count_read};
+use crate::file_system::FileSystem;
+use std::io;
 use std::io::{Read, Write};
-use std::rt::Files;
-use std::{fs, io};
 use wire_base::{Failed, Sink, Source};
 
 /// A file that is read from its beginning. It is opened at the first read; where it can't be opened, that read and
 /// each later one fails.
 #[derive(Drop)]
-pub struct FileSource<'a, R: Files> {
-    rt: &'a R,
+pub struct FileSource<'a, F: FileSystem> {
+    files: &'a F,
     path: &'a str,
-    file: Option<R::File>,
+    file: Option<F::File>,
     faults: u64,
 }
 
-impl<'a, R: Files> FileSource<'a, R> {
+impl<'a, F: FileSystem> FileSource<'a, F> {
     /// The file at that path, which isn't opened yet.
-    pub fn new(rt: &'a R, path: &'a str) -> Self
+    pub fn new(files: &'a F, path: &'a str) -> Self
+        ensures files { result.files ≡ files.entry }
         ensures path { result.path ≡ path.entry }
         ensures closed { result.file ≡ None }
         ensures faults { result.faults ≡ 0 }
     {
         FileSource {
-            rt,
+            files,
             path,
             file: None,
             faults: 0,
@@ -39,40 +39,34 @@ impl<'a, R: Files> FileSource<'a, R> {
     }
 }
 
-/// Reads once from a file that is open.
-pub fn read_open<F: Read>(file: &mut Option<F>, into: &mut [u8]) -> io::Result<usize>
-    ensures bound { ReadsAtMost result into.new }
-    ensures bytes { ReadConsumes (told F.remaining file.old) (told F.remaining file.new) result into.new }
-{
-    match file {
-        Some(file) => file.read(into),
-        None => Ok(0),
-    }
-}
-
 /// Reads once from the file at that path, which it opens where it isn't open.
-fn read_at<R: Files>(
-    rt: &R,
+fn read_at<F: FileSystem>(
+    files: &F,
     path: &str,
-    file: &mut Option<R::File>,
+    file: &mut Option<F::File>,
     into: &mut [u8],
 ) -> io::Result<usize>
     ensures bound { ReadsAtMost result into.new }
-    ensures bytes { ReadConsumes (told R.File.remaining file.old) (told R.File.remaining file.new) result into.new }
+    ensures bytes { ReadConsumes (told F.File.remaining (F.at files.now path.now) file.old) (told F.File.remaining (F.at files.now path.now) file.new) result into.new }
 {
-    if file.is_none() {
-        *file = Some(fs::open(rt, path)?);
+    match file {
+        Some(file) => file.read(into),
+        None => {
+            let mut opened = files.open(path)?;
+            let answer = opened.read(into);
+            *file = Some(opened);
+            answer
+        }
     }
-    read_open(file, into)
 }
 
-impl<'a, R: Files> Source for FileSource<'a, R> {
-    ghost left = { λ s. told R.File.remaining s.file };
+impl<'a, F: FileSystem> Source for FileSource<'a, F> {
+    ghost left = { λ s. told F.File.remaining (F.at s.files.now s.path.now) s.file };
 
     ghost faults = { λ s. s.faults };
 
     fn read(&mut self, into: &mut [u8]) -> Result<usize, Failed> {
-        let answer = read_at(self.rt, self.path, &mut self.file, into);
+        let answer = read_at(self.files, self.path, &mut self.file, into);
         count_read(&mut self.faults, answer)
     }
 }
@@ -80,22 +74,23 @@ impl<'a, R: Files> Source for FileSource<'a, R> {
 /// A file that is written from its beginning. It is made, or cut to no octets where it is there, at the first write;
 /// where it can't be opened, that write and each later one fails.
 #[derive(Drop)]
-pub struct FileSink<'a, R: Files> {
-    rt: &'a R,
+pub struct FileSink<'a, F: FileSystem> {
+    files: &'a F,
     path: &'a str,
-    file: Option<R::File>,
+    file: Option<F::File>,
     tally: Tally,
 }
 
-impl<'a, R: Files> FileSink<'a, R> {
+impl<'a, F: FileSystem> FileSink<'a, F> {
     /// The file at that path, which isn't made yet.
-    pub fn new(rt: &'a R, path: &'a str) -> Self
+    pub fn new(files: &'a F, path: &'a str) -> Self
+        ensures files { result.files ≡ files.entry }
         ensures path { result.path ≡ path.entry }
         ensures closed { result.file ≡ None }
         ensures tally { result.tally ≡ record { faults = 0; zeros = 0; unfinished = false } }
     {
         FileSink {
-            rt,
+            files,
             path,
             file: None,
             tally: Tally::new(),
@@ -103,36 +98,30 @@ impl<'a, R: Files> FileSink<'a, R> {
     }
 }
 
-/// Writes once to a file that is open.
-pub fn write_open<F: Write>(file: &mut Option<F>, piece: &[u8]) -> io::Result<usize>
-    ensures bound { WritesAtMost result piece.now }
-    ensures bytes { WriteAppends (told F.contents file.old) (told F.contents file.new) result piece.now }
-{
-    match file {
-        Some(file) => file.write(piece),
-        None => Ok(0),
-    }
-}
-
-/// Writes once to the file at that path, which it makes or cuts where it isn't open.
-fn write_at<R: Files>(
-    rt: &R,
+/// Writes once to the file at that path, which it makes or truncates where it isn't open.
+fn write_at<F: FileSystem>(
+    files: &F,
     path: &str,
-    file: &mut Option<R::File>,
+    file: &mut Option<F::File>,
     piece: &[u8],
 ) -> io::Result<usize>
     ensures bound { WritesAtMost result piece.now }
-    ensures bytes { WriteAppends (told R.File.contents file.old) (told R.File.contents file.new) result piece.now }
+    ensures bytes { WriteAppends (told F.File.contents (F.made files.now) file.old) (told F.File.contents (F.made files.now) file.new) result piece.now }
 {
-    if file.is_none() {
-        *file = Some(fs::create(rt, path)?);
+    match file {
+        Some(file) => file.write(piece),
+        None => {
+            let mut made = files.create(path)?;
+            let answer = made.write(piece);
+            *file = Some(made);
+            answer
+        }
     }
-    write_open(file, piece)
 }
 
 /// Flushes a file, where it is open.
-pub fn flush_open<F: Write>(file: &mut Option<F>) -> io::Result<()>
-    ensures { Keeps (told F.contents file.old) (told F.contents file.new) }
+fn flush_open<W: Write>(file: &mut Option<W>) -> io::Result<()>
+    ensures { (before : Option (List ℕ)) → Keeps (told W.contents before file.old) (told W.contents before file.new) }
 {
     match file {
         Some(file) => file.flush(),
@@ -140,8 +129,8 @@ pub fn flush_open<F: Write>(file: &mut Option<F>) -> io::Result<()>
     }
 }
 
-impl<'a, R: Files> Sink for FileSink<'a, R> {
-    ghost written = { λ s. told R.File.contents s.file };
+impl<'a, F: FileSystem> Sink for FileSink<'a, F> {
+    ghost written = { λ s. told F.File.contents (F.made s.files.now) s.file };
 
     ghost faults = { λ s. s.tally.faults };
 
@@ -150,7 +139,7 @@ impl<'a, R: Files> Sink for FileSink<'a, R> {
     ghost unfinished = { λ s. s.tally.unfinished };
 
     fn write(&mut self, piece: &[u8]) -> Result<usize, Failed> {
-        let answer = write_at(self.rt, self.path, &mut self.file, piece);
+        let answer = write_at(self.files, self.path, &mut self.file, piece);
         self.tally.count_write(piece, answer)
     }
 
@@ -160,27 +149,28 @@ impl<'a, R: Files> Sink for FileSink<'a, R> {
     }
 }
 
-/// Standard output, which keeps nothing back.
+/// A writer as a sink, as standard output.
 #[derive(Drop)]
-pub struct StdoutSink<'a, P: Print> {
-    rt: &'a P,
+pub struct WriterSink<W: Write> {
+    out: W,
     tally: Tally,
 }
 
-impl<'a, P: Print> StdoutSink<'a, P> {
-    /// Standard output, to which nothing is written yet.
-    pub fn new(rt: &'a P) -> Self
-        ensures { IsFresh result }
+impl<W: Write> WriterSink<W> {
+    /// A sink into that writer, to which it has written nothing yet.
+    pub fn new(out: W) -> Self
+        ensures out { result.out ≡ out }
+        ensures fresh { IsFresh result }
     {
-        StdoutSink {
-            rt,
+        WriterSink {
+            out,
             tally: Tally::new(),
         }
     }
 }
 
-impl<'a, P: Print> Sink for StdoutSink<'a, P> {
-    ghost written = { λ _. None };
+impl<W: Write> Sink for WriterSink<W> {
+    ghost written = { λ s. W.contents s.out };
 
     ghost faults = { λ s. s.tally.faults };
 
@@ -189,14 +179,12 @@ impl<'a, P: Print> Sink for StdoutSink<'a, P> {
     ghost unfinished = { λ s. s.tally.unfinished };
 
     fn write(&mut self, piece: &[u8]) -> Result<usize, Failed> {
-        let mut out = Some(io::writer(self.rt));
-        let answer = write_open(&mut out, piece);
+        let answer = self.out.write(piece);
         self.tally.count_write(piece, answer)
     }
 
     fn finish(&mut self) -> Result<(), Failed> {
-        let mut out = Some(io::writer(self.rt));
-        let answer = flush_open(&mut out);
+        let answer = self.out.flush();
         self.tally.count_flush(answer)
     }
 }

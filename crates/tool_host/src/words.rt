@@ -1,4 +1,4 @@
-//! The words of the command line, and the number that the program ends with.
+//! The arguments of the program, and its exit status.
 ghost use Rattle.std.specs.Prelude.{◌≡◌, ◌↔◌, MatchResult, IfOk, map, drop, string_bytes, false};
 ghost use Rattle.std.specs.IoError.{error_kind};
 ghost use Rattle.std.specs.Process.{exit_status};
@@ -11,35 +11,36 @@ use std::io::ErrorKind;
 use std::process::ExitCode;
 use wire_base::Status;
 
-/// What follows the program's name.
-pub fn after_name(args: &[String]) -> &[String]
+fn after_name(args: &[String]) -> &[String]
     ensures { result.now ≡ drop 1 args.now }
 {
     match args {
         [] => args,
-        [_, words @ ..] => words,
+        [_, rest @ ..] => rest,
     }
 }
 
-/// The texts of words.
-pub fn texts_of<'a>(alloc: Global, words: &'a [String]) -> Result<Vec<&'a str>, AllocError>
-    ensures { IfOk result (λ texts. map (λ text. text.now) texts.items ≡ map string_bytes words.now) }
+/// The arguments that follow the program's name.
+pub fn words_of<'a>(alloc: Global, args: &'a [String]) -> Result<Vec<&'a str>, AllocError>
+    ensures { IfOk result (λ words. map (λ word. word.now) words.items ≡ map string_bytes (drop 1 args.now)) }
 {
-    let mut texts = Vec::new(alloc);
-    for word in words {
-        texts.push(word.as_str())?;
+    let behind = after_name(args);
+    let mut words = Vec::new(alloc);
+    for word in behind {
+        words.push(word.as_str())?;
     }
-    Ok(texts)
+    Ok(words)
 }
 
-/// Whether there are no words since one of them isn't UTF-8, and so stands in no form of words; else memory was refused.
+/// Whether an argument isn't UTF-8, so that the command line is an unknown one; otherwise the program was out of memory.
 pub fn is_no_text(error: &io::Error) -> bool
     ensures { result ≡ false ↔ error_kind error.now ≡ ErrorKind.OutOfMemory }
 {
     error.kind() != ErrorKind::OutOfMemory
 }
 
-/// The number that the program ends with: the status's own; where memory was refused before the run, that of want of memory.
+/// The exit status of the program: the number of the run's status, or that of `Status::Memory` where the program was out of memory
+/// before the run.
 pub fn exit_code(ended: Result<Status, AllocError>) -> ExitCode
     ensures { MatchResult ended (λ status. exit_status result ≡ number_of status) (λ e. exit_status result ≡ number_of statuses.Memory) }
 {

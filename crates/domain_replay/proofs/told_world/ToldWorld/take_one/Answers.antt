@@ -1,37 +1,33 @@
-use Rattle.std.proofs.Common.{◌≡◌, ap, sym, subst, ◌∙◌, [], ◌∷◌, Option}
+use Rattle.std.proofs.Common.{ap, sym, subst, ◌∙◌, [], ◌∷◌, Option}
 use Rattle.std.specs.List.{AllByRecursion}
 use Rattle.std.proofs.lemmas.Result.{err_from_is_err_and}
-use Rattle.wire_base.specs.model.Configuration.{DomainConf}
 use Rattle.replay_text.specs.declared.event.Event.{Event}
 use Rattle.replay_text.specs.declared.event.Event.TheVariants.{Take}
 use Rattle.domain_model.specs.declared.step_out.StepOut.{StepOut}
 use Rattle.frames_in_flight.specs.Told.{IsShortFrame}
 use Rattle.domain_core.specs.Answers.{outcome}
 use Rattle.domain_model.specs.Run.{Direction}
-use Rattle.domain_model.specs.World.{WorldState}
-use Rattle.domain_replay.proofs.Stays.{happens_domain}
 use Rattle.domain_replay.specs.Replaying.{StopsIn}
-use Rattle.domain_replay.specs.Telling.{Telling, told, tells_on}
-use Rattle.domain_replay.proofs.StopLaws.{with_texts, step_stops, tell_stops}
-use Rattle.domain_replay.proofs.EventTells.{event_told, refused_so, take_untold}
+use Rattle.domain_replay.specs.Telling.{ReplayState, with_texts, told, tells_on}
+use Rattle.domain_replay.proofs.StopLaws.{step_stops, tell_stops}
+use Rattle.domain_replay.proofs.EventTells.{event_reported, refused_so, take_untold}
 use Rattle.domain_replay.proofs.told_world.ToldWorld.take_one.Goals as goal
 
 pub returns-in-Err-clause-told : goal.returns-in-Err-clause-told
 returns-in-Err-clause-told c =
-    refused_so c.args.line c.args.self.now c.self.inside.world c.take_over.new.self _ _ _ _ _ _ _ (ap (λ (d : Direction). Take d.from d.to 0) c.direction.view_is) c.self.view_is c.in-Err.ensures.refused c.in-Err.ensures.stays
+    refused_so c.args.line (with_texts c.args.self.now c.args.texts.now) c.self.inside.world c.take_over.new.self _ _ _ _ _ _ _ (ap (λ (d : Direction). Take d.from d.to 0) c.direction.view_is)
+    (ap (λ (s : ReplayState). with_texts s c.args.texts.now) c.self.view_is) c.in-Err.ensures.refused c.in-Err.ensures.stays
 
 pub returns-in-Err-clause-stops : goal.returns-in-Err-clause-stops
 returns-in-Err-clause-stops c =
-    step_stops c.args.line c.args.self.now c.self.inside.world.world c.take_over.new.self.world c.self.inside.texts (Take c.args.direction.from c.args.direction.to 0) c.self.view_is c.in-Err.ensures.whole.world
-
--- the event in the numbers of the direction
-so_far : (c : goal.In-Ok-None) → tells_on c.args.line (told c.args.self.now) (Take c.args.direction.from c.args.direction.to 0) ≡ tells_on c.args.line (told (with_texts c.self.inside.world.world c.self.inside.texts)) (Take c.direction.inside.from c.direction.inside.to 0)
-so_far c = ap (tells_on c.args.line (told c.args.self.now)) (sym (ap (λ (d : Direction). Take d.from d.to 0) c.direction.view_is)) ∙ ap (λ (t : Telling). tells_on c.args.line (told t) (Take c.direction.inside.from c.direction.inside.to 0)) (sym c.self.view_is)
+    step_stops c.args.line c.args.self.now _ c.take_over.new.self.world c.args.texts.now (Take c.args.direction.from c.args.direction.to 0) c.self.view_is c.in-Err.ensures.whole.world
 
 pub returns-in-Ok-None-clause-told : goal.returns-in-Ok-None-clause-told
 returns-in-Ok-None-clause-told c =
-    so_far c
-    ∙ take_untold c.args.line (with_texts c.self.inside.world.world c.self.inside.texts) c.direction.inside.from c.direction.inside.to 0 c.take_over.new.self.world c.in-Ok-None.ensures.refused c.in-Ok-None.ensures.world
+    -- the event in the numbers of the direction
+    ap (tells_on c.args.line (told (with_texts c.args.self.now c.args.texts.now))) (sym (ap (λ (d : Direction). Take d.from d.to 0) c.direction.view_is))
+    ∙ ap (λ (s : ReplayState). tells_on c.args.line (told (with_texts s c.args.texts.now)) (Take c.direction.inside.from c.direction.inside.to 0)) (sym c.self.view_is)
+    ∙ take_untold c.args.line _ c.direction.inside.from c.direction.inside.to 0 c.take_over.new.self.world c.in-Ok-None.ensures.refused c.in-Ok-None.ensures.world
     (ap outcome (sym c.in-Ok-None.field-0-is) ∙ c.in-Ok-None.ensures.told)
 
 pub tell-requires-clause-short : goal.tell-requires-clause-short
@@ -41,12 +37,11 @@ pub returns-in_err-tell-clause-stops : goal.returns-in_err-tell-clause-stops
 returns-in_err-tell-clause-stops c =
     let p = err_from_is_err_and c.from_residual.result c.from_residual.ensures.1 in
     rw p.1
-    (subst (λ (e : Event). StopsIn c.args.line c.args.self.now (e ∷ []) (with_texts c.take_over.new.self.world c.tell.new.self)) (ap (λ (d : Direction). Take d.from d.to 0) c.direction.view_is)
-    (tell_stops c.args.line c.args.self.now c.self.inside.world.world c.take_over.new.self.world c.self.inside.texts c.tell.new.self (Take c.direction.inside.from c.direction.inside.to 0) c.self.view_is c.in-Ok-Some.ensures.refused c.in-Ok-Some.ensures.world c.in_err-tell.ensures.err))
+    (subst (λ (e : Event). StopsIn c.args.line (with_texts c.args.self.now c.args.texts.now) (e ∷ []) (with_texts c.tell.new.self c.tell.new.texts)) (ap (λ (d : Direction). Take d.from d.to 0) c.direction.view_is)
+    (tell_stops c.args.line c.args.self.now _ c.tell.new.self c.take_over.new.self.world c.args.texts.now c.tell.new.texts (Take c.direction.inside.from c.direction.inside.to 0) c.self.view_is c.in-Ok-Some.ensures.refused c.in-Ok-Some.ensures.world c.in_err-tell.ensures.err))
 
 pub returns-clause-told : goal.returns-clause-told
 returns-clause-told c =
-    ap (tells_on c.args.line (told c.args.self.now)) (sym (ap (λ (d : Direction). Take d.from d.to 0) c.direction.view_is))
-    ∙ ap (λ (t : Telling). tells_on c.args.line (told t) (Take c.direction.inside.from c.direction.inside.to 0)) (sym c.self.view_is)
-    ∙ event_told c.args.line _ (Take c.direction.inside.from c.direction.inside.to 0) _ _ _ _ c.in-Ok-Some.made c.in-Ok-Some.ensures.refused c.in-Ok-Some.ensures.world (ap outcome (sym c.in-Ok-Some.field-0-is) ∙ c.in-Ok-Some.ensures.told) c.in_ok-tell.ensures.counts c.in_ok-tell.ensures.frames _
-    (c.as_slice-routers.ensures ∙ ap (λ (d : DomainConf). d.routers) (c.behind-self.view_is ∙ c.domain.ensures.domain ∙ ap (λ (w : WorldState). w.domain) c.in-Ok-Some.ensures.world ∙ happens_domain c.self.inside.world.world (Take c.direction.inside.from c.direction.inside.to 0))) c.in_ok-tell.ensures.report _ (c.tell.ensures.captures)
+    ap (tells_on c.args.line (told (with_texts c.args.self.now c.args.texts.now))) (sym (ap (λ (d : Direction). Take d.from d.to 0) c.direction.view_is))
+    ∙ event_reported c.args.line c.args.self.now _ c.tell.new.self c.args.texts.now c.tell.new.texts (Take c.direction.inside.from c.direction.inside.to 0) c.take_over.new.self.world c.in-Ok-Some.made c.self.view_is c.in-Ok-Some.ensures.refused
+    c.in-Ok-Some.ensures.world (ap outcome (sym c.in-Ok-Some.field-0-is) ∙ c.in-Ok-Some.ensures.told) c.in_ok-tell.ensures.state c.in_ok-tell.ensures.frames c.in_ok-tell.ensures.report

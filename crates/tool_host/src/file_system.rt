@@ -1,0 +1,54 @@
+//! The files that the program is handed.
+ghost use Rattle.std.specs.Prelude.{ℕ, List, Option, None, IfOk};
+ghost use Rattle.tool_host.specs.Opened.{Tells};
+
+use std::io::{Read, Write};
+use std::rt::Files;
+use std::{fs, io};
+
+/// What opens files by their paths.
+pub trait FileSystem {
+    type File: Read + Write + Drop;
+
+    /// The octets of the file at a path, where it tells them.
+    ghost at: { Self → List ℕ → Option (List ℕ) };
+
+    /// The octets that a file which was just made holds, where it tells them.
+    ghost made: { Self → Option (List ℕ) };
+
+    /// Opens the file at that path, to be read from its beginning.
+    fn open(&self, path: &str) -> io::Result<Self::File>
+        ensures { IfOk result (λ file. Tells (at self.now path.now) (Self.File.remaining file)) };
+
+    /// Makes a file at that path, or truncates the one that is there, to be written from its beginning.
+    fn create(&self, path: &str) -> io::Result<Self::File>
+        ensures { IfOk result (λ file. Tells (made self.now) (Self.File.contents file)) };
+}
+
+/// The files of a runtime, which tell nothing.
+#[derive(Drop)]
+pub struct SystemFiles<'a, R: Files> {
+    rt: &'a R,
+}
+
+impl<'a, R: Files> SystemFiles<'a, R> {
+    pub fn new(rt: &'a R) -> Self {
+        SystemFiles { rt }
+    }
+}
+
+impl<'a, R: Files> FileSystem for SystemFiles<'a, R> {
+    type File = R::File;
+
+    ghost at = { λ _ _. None };
+
+    ghost made = { λ _. None };
+
+    fn open(&self, path: &str) -> io::Result<R::File> {
+        fs::open(self.rt, path)
+    }
+
+    fn create(&self, path: &str) -> io::Result<R::File> {
+        fs::create(self.rt, path)
+    }
+}
