@@ -95,8 +95,8 @@ def first_lines(rule, comment):
 class Writer:
     """Writes one schedule while a driver does it.
 
-    A round is: each router sends on each end that is up, in any order; then each frame that was in flight is delivered or lost,
-    in any order. What is sent meanwhile is in flight in the next round.
+    A round is: each router sends on each interface that is up, in random order; then each frame that was in flight is delivered
+    or lost, in random order. What is sent meanwhile is in flight in the next round.
     """
 
     def __init__(self, rule, driver, run):
@@ -171,7 +171,7 @@ class Writer:
             self.in_flight[self.way_of(event, record)].append(not frames.is_isis(record.octets))
 
     def way_of(self, event, record):
-        """From where to where a frame goes that an event sent."""
+        """The sender and the receiver of a frame that an event sent."""
         if event[0] == "send":
             return event[1:3]
         sender = event[2] if event[0] == "take" else event[1]
@@ -206,16 +206,16 @@ class Writer:
         self.event("take", a, b, place)
 
     def unseen(self):
-        """Packets while links are cut and no router knows: what is sent over these links is lost."""
+        """Packets before the routers at a cut link notice: what they send over it is lost."""
         self.is_cut = self.has_failed = self.rule.options["unseen"] > 0
         for _ in range(self.rule.options["unseen"] if self.cut else 0):
             if self.inject():
                 self.follow_packet()
 
     def follow_packet(self):
-        """Has the packet go through the domain, which is at rest, but not over the links that are cut.
+        """Forwards a packet through the domain, which is at rest, up to the links that are cut.
 
-        Its copies are those that it has in a domain with all links, but for those beyond a cut."""
+        Its copies are those that it has in the domain with all links, except those beyond a cut."""
         lines = [line for line, _ in self.events]
         injected = len(self.driver.lines) + len(lines)
         records = self.driver.look_ahead([*lines, *self.rule.settle_lines(())])
@@ -223,6 +223,7 @@ class Writer:
         self.deliver_uncut(items)
 
     def deliver_uncut(self, items):
+        """Delivers a packet's copies, each of which comes from the last one with the same BFR-ids, or loses them at a cut."""
         holder, children = {}, {None: []}
         for item in items:
             children.setdefault(holder.get(item.ids[0]), []).append(item)

@@ -28,7 +28,7 @@ class Item:
 
 
 class Packet:
-    """A packet at a router, before the router forwards it: what its copies have in common, and its BFR-ids that are unaccounted for."""
+    """A packet that a router is to forward: what its copies have in common, and its BFR-ids that aren't accounted for yet."""
 
     def __init__(self, injection, subdomain, key, ttl, ids):
         self.injection, self.subdomain, self.key, self.ids = injection, subdomain, key, set(ids)
@@ -245,7 +245,8 @@ class Course:
                 self.tell(a, packet.injection)
                 packet.ids -= set(told.ids)
             else:
-                raise self.wrong(f"what {self.domain.name(a)} does with injection {packet.injection} is in neither report nor capture")
+                name = self.domain.name(a)
+                raise self.wrong(f"neither report nor capture has what {name} does with injection {packet.injection}")
 
     def told_at(self, a, packet):
         """The report's next line where it can be of this packet at this visit."""
@@ -346,7 +347,7 @@ def key_of(header):
 
 
 def data_item(domain, record, a, b, header, tunnel):
-    """A data frame as an item, with the BFR-ids that its BIFT-id gives it at its target; None where the BIFT-id means nothing there."""
+    """A data frame as an item, with the BFR-ids that its BIFT-id gives it at its target; None where that has no such BIFT-id."""
     item = Item(record, a, b)
     item.header, item.tunnel = header, tunnel
     if tunnel:

@@ -199,7 +199,9 @@ def limit_text(it, array, at, entry):
         return f"the file has {len(it.octets):,} octets; at most 4,194,304 are read"
     count = len(it.entries(array))
     if at is None:
-        return f"there is no [[{array}]]" if not count else f"there are {count:,} [[{array}]]; at most {LIMITS[array]:,} are allowed"
+        if not count:
+            return f"there is no [[{array}]]"
+        return f"there are {count:,} [[{array}]]; at most {LIMITS[array]:,} are allowed"
     name = entry.get("name")
     links = sum(name in (link.get("a"), link.get("b")) for link in it.entries("link"))
     if links > 64:

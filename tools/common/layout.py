@@ -102,7 +102,7 @@ def laid_flat(places):
 
 
 def pushed_apart(places):
-    """No two routers so close that their boxes overlap: two that are move apart by half the overlap each, along its shorter side."""
+    """No two routers so close that their boxes overlap: such two move apart along the overlap's shorter side, each by half."""
     places = [list(place) for place in places]
     for _ in range(300):
         if not any([push(places[a], places[b]) for a, b in close_pairs(places)]):

@@ -61,7 +61,8 @@ def twice(domain, conf):
         for bfr_id, names in owners.items():
             if len(names) > 1:
                 where = entry_line(conf, "bier", router=names[1], sd=subdomain)
-                yield f"{where}: BFR-id {bfr_id} of sub-domain {subdomain} is at {listed(names)}, so none of them gets packets for it"
+                owners_of = f"BFR-id {bfr_id} of sub-domain {subdomain} is at {listed(names)}"
+                yield f"{where}: {owners_of}, so none of them gets packets for it"
 
 
 def without_links(domain, conf):
@@ -95,12 +96,14 @@ def without_room(domain, path):
     for subdomain in mpls(domain):
         for bits in sorted({own for router in domain.routers for sd, own, _, _ in router.ranges() if sd == subdomain}):
             most, bfr_id = needed(domain, subdomain, bits)
-            short = [
-                router.name for router in domain.routers for sd, own, highest, _ in router.ranges() if (sd, own) == (subdomain, bits) and highest < most
-            ]
+            highest = {
+                router.name: top for router in domain.routers for sd, own, top, _ in router.ranges() if (sd, own) == (subdomain, bits)
+            }
+            short = [name for name, top in highest.items() if top < most]
             if short:
                 need = f"with {bits} bits BFR-id {bfr_id} is in set {most}"
-                yield f"{path}: sub-domain {subdomain}: {need}, for which {listed(short)} {'has' if len(short) == 1 else 'have'} no label"
+                verb = "has" if len(short) == 1 else "have"
+                yield f"{path}: sub-domain {subdomain}: {need}, for which {listed(short)} {verb} no label"
 
 
 def without_rows(domain, path):

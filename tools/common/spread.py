@@ -228,7 +228,7 @@ def parsed(stream):
 
 
 def name_broken(log, said, has_others):
-    """Reports the machines on which jobs failed or that returned nothing; those on which no job succeeded are left out from now on."""
+    """Reports the machines on which jobs failed or that returned nothing; those on which no job succeeded, to be left out."""
     failed, well = {}, set()
     for line in read_text(log).splitlines()[1:]:
         # A job's number, machine, start, duration, octets sent and received, exit status and signal.

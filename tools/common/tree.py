@@ -19,7 +19,7 @@ class Hop:
 
 
 class Tree:
-    """An injection: its ingress router, its copies, its lines of the report, and the interfaces that were down at its last event."""
+    """An injection: its ingress router, its copies, its lines of the report, and the interfaces down at its last event."""
 
     def __init__(self, number, line, ingress, hops, told):
         self.number, self.ingress, self.hops, self.told = number, ingress, hops, told

@@ -12,6 +12,7 @@ from common.trouble import Trouble
 
 RING = read(os.path.join(EXAMPLES, "ring", "domain.toml"))
 ROUTER_E = '[[router]]\nname = "E"\nsystem = "0000.0000.0009"\nprefix = "10.0.0.9"\n'
+ROUTER_F = ROUTER_E.replace("E", "F").replace("9", "8")
 LABELS = '[[labels]]\nrouter = "{}"\nsd = {}\nbsl = {}\nmax_si = {}\nlabel = {}\n'
 LINK = '[[link]]\na = "{}"\nb = "{}"\nmetric_ab = 10\nmetric_ba = 10\n'
 # A change of the ring's file: the first text is replaced by the second, which None appends; and the message, with the line.
@@ -38,7 +39,7 @@ WARNED = [
     ("id = 4", "id = 70", "with 64 bits BFR-id 70 is in set 1, for which A, B, C, D have no label"),
     ("id = 4", "id = 3", "BFR-id 3 of sub-domain 0 is at C, D"),
     (None, ROUTER_E, "E has no link"),
-    (None, ROUTER_E + ROUTER_E.replace("E", "F").replace("9", "8") + LINK.format("E", "F"), "no link leads from E, F to the other 4 routers"),
+    (None, ROUTER_E + ROUTER_F + LINK.format("E", "F"), "no link leads from E, F to the other 4 routers"),
 ]
 # A second line of a schedule in the ring, and the message.
 LINES = [
@@ -64,7 +65,13 @@ def root_script():
     return module
 
 
-RUN = "import sys; sys.path[:0] = [{tests!r}]; import test_explain; sys.argv[1:] = {words!r}; sys.exit(test_explain.root_script().main())"
+RUN = """
+import sys
+sys.path[:0] = [{tests!r}]
+import test_explain
+sys.argv[1:] = {words!r}
+sys.exit(test_explain.root_script().main())
+"""
 
 
 def run_script(*words):

@@ -8,8 +8,10 @@ import stat
 import subprocess
 import time
 import unittest
+from unittest import mock
 
 from support import EXAMPLES, needs, places, program, python_alone, scratch, tool, write
+from common import spread
 
 RING = os.path.join(EXAMPLES, "ring", "domain.toml")
 RULE = ["--lose", "0,0.2", "--reorder", "0.5", "--repeat", "0.1", "--seeds", "2", "--packets", "2", "--mend"]
@@ -159,6 +161,19 @@ class Sweep(unittest.TestCase):
             self.assertIn("the same arguments continue", err)
             self.assertEqual(out, table_of(name))
             self.assertRegex(out, r"^\d+ of 5000 runs, 0 broken")
+
+    def test_time_left(self):
+        """The speed is that of the last minute, without the time before the first result."""
+        shown, clock = [], iter([0, 100, 101, 102, 103, 104])
+        with mock.patch.object(spread.time, "monotonic", lambda: next(clock)), mock.patch.object(
+            spread, "print", lambda text, **_: shown.append(text), create=True
+        ):
+            progress = spread.Progress(0, 10)
+            for _ in range(5):
+                progress.step(True)
+            progress.show()
+        self.assertEqual(shown[0], "1 of 10 runs")
+        self.assertTrue(shown[-1].strip("\r\x1b[K").startswith("5 of 10 runs, 1.0 a second, 5 s left"), shown)
 
     def test_worst_runs(self):
         """The kept schedules reproduce what was counted, and the player accepts them."""
