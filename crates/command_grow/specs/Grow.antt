@@ -1,6 +1,6 @@
 -- The command `grow`: a domain that grows with a number, over its schedule. What its routers deliver and drop is counted and
 -- thrown away; of what they send no capture is made.
-use Rattle.std.specs.Prelude.{ℕ, ◌≡◌, Bool, true, false, List, ◌∷◌, [], Option, Some, None, codes}
+use Rattle.std.specs.Prelude.{ℕ, ◌≡◌, List, ◌∷◌, [], Option, Some, None, codes}
 use Rattle.std.specs.Fmt.{decimal}
 use Rattle.wire_base.specs.declared.status.Status.{Status}
 use Rattle.wire_base.specs.declared.status.Status.TheVariants.{Done, InputRefused}
@@ -13,8 +13,6 @@ use Rattle.replay_report.specs.declared.counts.Counts.{Counts}
 use Rattle.domain_replay.specs.Counting.{counts_of}
 use Rattle.replay_text.specs.Report.{line_of}
 use Rattle.domain_replay.specs.Lines.{event_refused_text}
-use Rattle.domain_replay.specs.Telling.{Telling}
-use Rattle.domain_replay.specs.Courses.{Course, IsAtUncaptured}
 
 -- ---- what is owed
 
@@ -40,24 +38,3 @@ grow_answer n = ends_by n (grown_run n).run (grown_run n).refused
 -- no line of the schedule is refused
 unfoldable pub GoesThrough : ℕ → Type 0
 GoesThrough n = (grown_run n).refused ≡ None
-
--- ---- what is done
-
--- no line was refused so far
-abbrev pub going : Run → Progress
-going r = record { run = r; refused = None }
-
--- A line was done in a run on its way, and the numbers that stand in a replay are those of the run; or the line is refused, and the
--- report says so.
-abbrev pub Goes : Progress → Course → Telling → Bool → Type 0
-Goes p course now true = (p.refused ≡ None) × (report : List ℕ) × IsAtUncaptured (record course { run = p.run; report = report }) now
-Goes p course now false = (refused : ℕ × EventFault) × (p.refused ≡ Some refused) × (now.report ≡ event_refused_text refused.0 refused.1)
-
--- the same of all lines
-pub record HasNumbers (r : Run) (now : Telling) : Type 0 where
-  pub counts : now.counts ≡ counts_of r
-  pub flights : now.world.flights ≡ r.world.flights
-
-abbrev pub EndsAs : Progress → Telling → Bool → Type 0
-EndsAs p now true = (p.refused ≡ None) × HasNumbers p.run now
-EndsAs p now false = (refused : ℕ × EventFault) × (p.refused ≡ Some refused) × (now.report ≡ event_refused_text refused.0 refused.1)

@@ -1,1 +1,2 @@
 pub mod Grow
+pub mod Counted

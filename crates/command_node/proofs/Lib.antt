@@ -5,4 +5,4 @@ pub mod NodeDone
 pub mod NodeIds
 pub mod NodeLaws
 pub mod NodeSteps
-pub mod NodeLoop
+pub mod NodeRecords

@@ -12,9 +12,9 @@ use Rattle.wire_base.specs.declared.status.Status.TheVariants.{ConfRefused, Writ
 use Rattle.wire_base.specs.model.Configuration.{DomainConf}
 use Rattle.command_node.specs.Named.{node_by}
 use Rattle.command_node.specs.Routers.{has_name, router_named, no_router_text}
-use Rattle.tool_run.specs.Answer.{Verdict, IsDecided}
+use Rattle.command_drive.specs.Answer.{Verdict, IsDecided}
 use Rattle.command_node.specs.NodeRun.{node_answer}
-use Rattle.tool_run.specs.Outside.{Held, Meets, AppendsFront}
+use Rattle.command_drive.specs.Outside.{Held, Meets, AppendsFront}
 use Rattle.command_node.proofs.Told.{nothing_more, no_front, held_some, ended_so}
 
 -- ---- the router of a name
@@ -69,12 +69,9 @@ none_named d word is = no_place (has_name word) d.routers is
 -- ---- the verdict on it
 
 -- where there is one, the verdict is the capture's
-pub runs_so : (d : DomainConf) (word : List ℕ) (place : ℕ) (left : Option (List ℕ)) (Holds : Verdict → Type 0) → position (has_name word) d.routers ≡ Some place → place < length d.routers
-    → IfSome (slice_get d.routers place) (λ own. (octets : List ℕ) × Held left octets × Holds (node_answer own octets))
+pub answers_so : (d : DomainConf) (word : List ℕ) (own : RouterConf) (left : Option (List ℕ)) (Holds : Verdict → Type 0) → router_named d word ≡ Some own → (octets : List ℕ) × Held left octets × Holds (node_answer own octets)
     → (octets : List ℕ) × Held left octets × IfSome (node_by (router_named d word) (Some octets)) Holds
-runs_so d word place left Holds is within answer =
-    let named = named_so d word place (λ own. (octets : List ℕ) × Held left octets × Holds (node_answer own octets)) is within answer in
-    (named.2.0, named.2.1, subst (λ (o : Option RouterConf). IfSome (node_by o (Some named.2.0)) Holds) (sym named.1) named.2.2)
+answers_so d word own left Holds is answer = (answer.0, answer.1, subst (λ (o : Option RouterConf). IfSome (node_by o (Some answer.0)) Holds) (sym is) answer.2)
 
 -- where there is none, that says so
 pub none_so : (d : DomainConf) (word : List ℕ) (left : Option (List ℕ)) (Holds : Verdict → Type 0) → position (has_name word) d.routers ≡ None

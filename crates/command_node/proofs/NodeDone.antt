@@ -9,7 +9,7 @@ use Rattle.wire_base.specs.declared.faults.CaptureFault.{CaptureFault}
 use Rattle.wire_base.specs.model.Capture.{CaptureRecord, Stage, HeaderToCome, HeaderRead, Refused, unread, fed, drained, end_of, end_in}
 use Rattle.pcap_frames.proofs.Spelled.{capture_again}
 use Rattle.command_node.specs.declared.node_command.tally.Tally.{Tally}
-use Rattle.tool_run.specs.HeadersText.{within_limit}
+use Rattle.command_drive.specs.Captures.{within_limit}
 use Rattle.command_node.specs.NodeRun.{first_node, records_reach, node_at_end, node_end, ending, node_answer_of, node_answer, HasNoGap, IsReplayable}
 use Rattle.command_node.proofs.NodeLaws.{all_done}
 

@@ -7,7 +7,7 @@ use Rattle.wire_base.specs.model.Flooding.{tick, send}
 use Rattle.wire_base.specs.model.OnFrame.{Effects, Next, on_frame, framed}
 use Rattle.laws_router.specs.State.{is_up}
 use Rattle.command_node.specs.NodeRun.{Node, frames_text, goes_out, next_sent, sends_on, sends_all, every_fifth, second_passes, seconds_pass, moved_from, moved_to, effects_text, counts_record, passes, tells, taken_so, given_on, given_to, link_of, record_done, Reached, gap_at, and_further, records_reach, later, HasNoGap}
-use Rattle.command_node.specs.NodeReached.{past}
+use Rattle.command_node.specs.Owed.{past}
 
 -- ---- what was written before
 
@@ -77,7 +77,7 @@ module _ (frames report : List ℕ) where
   given_past read n None = refl
   given_past read n (Some link) = taken_past read n (on_frame n.control link read.octets)
 
-  record_past : (n : Node) (read : CaptureRecord) → record_done (past frames report n) read ≡ past frames report (record_done n read)
+  pub record_past : (n : Node) (read : CaptureRecord) → record_done (past frames report n) read ≡ past frames report (record_done n read)
   unfolding record_done
   record_past n read =
       let moved : Node = moved_to read.sec (counts_record n) in

@@ -4,8 +4,8 @@ use Rattle.std.specs.Prelude.{◌⊎◌}
 use Rattle.std.specs.Io.KnownBytes.{Appends}
 use Rattle.wire_base.specs.declared.status.Status.{Status}
 use Rattle.wire_base.specs.declared.status.Status.TheVariants.{WriteFault, Memory}
-use Rattle.tool_run.specs.Answer.{IsDecided}
-use Rattle.tool_run.specs.Outside.{Held, AppendsFront}
+use Rattle.command_drive.specs.Answer.{IsDecided}
+use Rattle.command_drive.specs.Outside.{Held, AppendsFront}
 
 pub nothing_more : (known : Option (List ℕ)) → Appends known known []
 nothing_more None = tt

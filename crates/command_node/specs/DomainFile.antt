@@ -10,7 +10,7 @@ use Rattle.domain_conf.specs.Fault as conf
 use Rattle.replay_text.specs.Report.{line_of}
 use Rattle.command_node.specs.declared.domain_file.NoDomain.{NoDomain}
 use Rattle.command_node.specs.declared.domain_file.NoDomain.TheVariants.{Refused, Stopped}
-use Rattle.tool_run.specs.Outside.{Held}
+use Rattle.command_drive.specs.Outside.{Held}
 
 -- `refused conf N NAME PATH`
 abbrev pub conf_refused_text : ConfFault → List ℕ

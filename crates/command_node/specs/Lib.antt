@@ -2,4 +2,4 @@ pub mod DomainFile
 pub mod Routers
 pub mod Named
 pub mod NodeRun
-pub mod NodeReached
+pub mod Owed

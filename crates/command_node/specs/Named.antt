@@ -3,7 +3,7 @@ use Rattle.std.specs.Prelude.{ℕ, List, [], Option, Some, None, option_map}
 use Rattle.wire_base.specs.declared.status.Status.{Status}
 use Rattle.wire_base.specs.declared.status.Status.TheVariants as status
 use Rattle.wire_base.specs.declared.conf.RouterConf.{RouterConf}
-use Rattle.tool_run.specs.Answer.{Verdict}
+use Rattle.command_drive.specs.Answer.{Verdict}
 use Rattle.command_node.specs.NodeRun.{node_answer}
 use Rattle.command_node.specs.Routers.{no_router_text}
 

@@ -19,9 +19,9 @@ use Rattle.wire_base.specs.model.Place.{id_at}
 use Rattle.replay_text.specs.Ids.{ids_text}
 use Rattle.replay_text.specs.Payload.{payload_text}
 use Rattle.laws_router.specs.State.{is_up}
-use Rattle.tool_run.specs.Answer.{Verdict}
-use Rattle.tool_run.specs.Captured.{refused_record, refused_by, too_long}
-use Rattle.tool_run.specs.HeadersText.{within_limit, is_within}
+use Rattle.command_drive.specs.Answer.{Verdict}
+use Rattle.command_drive.specs.Captured.{refused_record, refused_by, too_long}
+use Rattle.command_drive.specs.Captures.{within_limit, is_within}
 use Rattle.replay_text.specs.Report.{line_of, cause_text}
 use Rattle.command_node.specs.declared.node_command.tally.Tally.{Tally}
 

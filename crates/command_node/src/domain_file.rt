@@ -9,7 +9,7 @@ ghost use Rattle.command_node.specs.DomainFile.{Says, ReadsAs, StoppedBy, HasNon
 
 use domain_conf::{ConfFault, read_domain};
 use std::alloc::Global;
-use tool_run::buffer;
+use command_drive::buffer;
 use wire_base::limits::DOMAIN_FILE_LIMIT;
 use wire_base::{Domain, M, Memory, Octets, Source, Status};
 

@@ -1,16 +1,16 @@
-//! What the program does before a domain is at work: the domain file, and the command `node`, which runs one router of that domain
-//! on a capture.
+//! The command `node`: one router of a domain on the records of a capture; and the domain file, which names that router.
 //!
-//! It stands on `domain_conf`, `tool_run` and one router, and promises that a domain is the one that the file says and a refusal
-//! the rule that it breaks, and that the status and the texts of `node` are those of the router of the name on the input, that each
-//! status has its cause, and what a stop leaves.
+//! It stands on `domain_conf`, `command_drive` and one router, and promises that a domain is the one that the file contains and an error
+//! the first rule that it breaks, that the status and the output of `node` are those of the router of that name on the capture, that
+//! each I/O error has its cause, and what an aborted run leaves.
 #![tactic(auto)]
 
+mod by_name;
 mod domain_file;
-mod node;
 mod node_command;
 mod refusals;
 
+pub use by_name::node_in;
 pub use domain_file::{NoDomain, domain_in};
-pub use node::node_in;
+pub use node_command::node;
 pub use refusals::lines_of_refused_files;

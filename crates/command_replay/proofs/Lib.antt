@@ -1,7 +1,3 @@
-pub mod NamedOnce
-pub mod ScheduleSteps
-pub mod Wrote
-pub mod Rounds
-pub mod SaidSteps
-pub mod Grown
-pub mod ScheduleLoop
+mod SaidLines
+pub mod Steps
+pub mod Answered

@@ -1,2 +1,2 @@
 pub mod ScheduleText
-pub mod Scheduling
+pub mod Owed

@@ -6,8 +6,10 @@ use Rattle.wire_base.specs.model.Configuration.{DomainConf}
 use Rattle.replay_text.specs.Pieces.{lines_in}
 use Rattle.domain_model.specs.Run.{Run}
 use Rattle.domain_replay.specs.Texts.{Refusal, TooLong, Reached, capture_text, run_text, run_done_text, refusal_text, schedule_reaches}
-use Rattle.tool_run.specs.Answer.{Verdict}
-use Rattle.tool_run.specs.Texts.{Close, Ended, Longer, Cut, close_of, is_short, lines_within}
+use Rattle.command_drive.specs.Answer.{Verdict}
+use Rattle.command_drive.specs.Reading.{Ends, Fails}
+use Rattle.command_drive.specs.Driving.{Meaning}
+use Rattle.command_drive.specs.Texts.{Close, Ended, Longer, Cut, close_of, is_short, lines_within}
 
 -- How the report on so many lines ends: where one was refused, at the end of the schedule, or at the line that passes the limit.
 -- Where the schedule's source failed, nothing is said.
@@ -36,3 +38,8 @@ schedule_answer d schedule = answer_to (close_of (is_short schedule)) d (lines_w
 -- those of the lines that are whole in octets behind which the source failed
 unfoldable pub schedule_cut : DomainConf → List ℕ → Verdict
 schedule_cut d octets = answer_to Cut d (lines_in false octets)
+
+-- what a schedule means, whether its source ends behind those octets or fails
+abbrev pub schedule_means : DomainConf → Meaning
+schedule_means d Ends octets = schedule_answer d octets
+schedule_means d Fails octets = schedule_cut d octets

@@ -1,9 +1,11 @@
 //! The command `replay` once its domain file is read: a domain over a schedule, whose capture and report are written out on the way.
 //!
-//! It stands on `domain_replay` and `tool_run`, and promises that the status and both texts are those of the schedule, that each fault
-//! has its cause, and what a stop leaves.
+//! It stands on `domain_replay` and `command_drive`, and promises that the status and both outputs are those of the schedule, that
+//! each I/O error has its cause, and what a stop leaves.
 #![tactic(auto)]
 
-mod replay;
+mod replay_command;
+mod replaying;
 
-pub use replay::play;
+pub use replay_command::play;
+pub use replaying::Replaying;

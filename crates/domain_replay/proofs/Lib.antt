@@ -10,4 +10,3 @@ mod LineTells
 mod SameDomain
 pub mod CourseLaws
 pub mod UncapturedLaws
-pub mod RoundLaws

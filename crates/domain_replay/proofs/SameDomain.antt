@@ -27,7 +27,7 @@ stopped_domain line t now es s = by s.left s.stands
     by [] (inr next) = absurd next
     by (e ∷ es) (inr next) = ap (λ (u : Telling). u.world.domain) next.1 ∙ happens_domain s.so_far.world e ∙ so_far
 
-line_domain : (line : ℕ) (t now : Telling) (said : Line) (result : Result (Unit {0}) EventFault) → Tells (tells_line line t said) now result → OnErr result (StopsIn line t (line_events t.world said) now) →
+pub line_domain : (line : ℕ) (t now : Telling) (said : Line) (result : Result (Unit {0}) EventFault) → Tells (tells_line line t said) now result → OnErr result (StopsIn line t (line_events t.world said) now) →
     now.world.domain ≡ t.world.domain
 unfolding tells_line
 line_domain line t now said (Ok u) is stops = ap (λ (w : WorldState). w.domain) (world_told line (line_events t.world said) t now is) ∙ after_domain (line_events t.world said) t.world

@@ -1,19 +1,19 @@
 -- Where a call stops within events, part by part.
-use Rattle.std.proofs.Common.{◌≡◌, ◌⊎◌, inl, inr, ℕ, suc, ◌+◌, ◌-◌, ◌<◌, replicate, append_assoc, arith, List, [], ◌∷◌, ◌++◌, None, Result, Ok, Err, OnErr, refl, sym, ap, subst, ◌∙◌}
+use Rattle.std.proofs.Common.{◌≡◌, ◌⊎◌, inl, inr, ℕ, suc, ◌+◌, ◌-◌, ◌<◌, replicate, append_assoc, arith, List, [], ◌∷◌, ◌++◌, None, Result, Ok, Err, OnErr, refl, sym, ap, ap₂, subst, ◌∙◌}
 use Rattle.replay_text.specs.declared.event.Event.{Event}
 use Rattle.domain_model.specs.declared.fault.EventFault.{EventFault}
 use Rattle.domain_model.specs.World.{WorldState}
 use Rattle.domain_model.specs.Step.{happens}
 use Rattle.domain_model.specs.Faults.{event_fault}
 use Rattle.domain_model.specs.Run.{Direction, directions, round_sends, round_takes, round_events, settle_events, world_after}
-use Rattle.replay_report.specs.declared.texts.Texts.{Texts}
-use Rattle.domain_replay.specs.Telling.{Telling, Told, told, tells_on, tells_all}
+use Rattle.run_texts.specs.declared.texts.Texts.{Texts}
+use Rattle.domain_replay.specs.Telling.{Telling, Told, told, reports_on, tells_all, ReplayState, with_texts}
 use Rattle.domain_replay.specs.Replaying.{NextUntold, StopsIn}
 use Rattle.domain_replay.proofs.TellsLaws.{all_joined, world_told}
 
--- a world with what is told so far
-abbrev pub with_texts : WorldState → Texts → Telling
-with_texts w texts = record { world = w; counts = texts.counts; frames = texts.frames; report = texts.report; captures = texts.captures }
+-- the world alone went on
+abbrev pub in_world : ReplayState → WorldState → ReplayState
+in_world s w = record { world = w; counts = s.counts; captures = s.captures }
 
 -- nothing was done
 pub stops_before : (line : ℕ) (t now : Telling) (es : List Event) → now ≡ t → StopsIn line t es now
@@ -26,15 +26,18 @@ unfolding tells_all
 stops_untold line t now e allowed is = record { done = []; left = e ∷ []; all = refl; so_far = t; tells = refl; stands = inr (allowed, is) }
 
 -- the step of an event was refused
-pub step_stops : (line : ℕ) (t : Telling) (w v : WorldState) (texts : Texts) (e : Event) → with_texts w texts ≡ t → v ≡ w → StopsIn line t (e ∷ []) (with_texts v texts)
-step_stops line t w v texts e view same = stops_before line t (with_texts v texts) (e ∷ []) (ap (λ (x : WorldState). with_texts x texts) same ∙ view)
+pub step_stops : (line : ℕ) (s old : ReplayState) (w : WorldState) (texts : Texts) (e : Event) → old ≡ s → w ≡ old.world → StopsIn line (with_texts s texts) (e ∷ []) (with_texts (in_world old w) texts)
+step_stops line s old w texts e view same =
+    stops_before line (with_texts s texts) (with_texts (in_world old w) texts) (e ∷ [])
+    (ap (λ (x : WorldState). with_texts (in_world old x) texts) same ∙ ap (λ (x : ReplayState). with_texts x texts) view)
 
--- the event was done, and memory was refused as it was told
-pub tell_stops : (line : ℕ) (t : Telling) (w v : WorldState) (old new : Texts) (e : Event) → with_texts w old ≡ t → event_fault w e ≡ None → v ≡ (happens w e).world → new ≡ old →
-    StopsIn line t (e ∷ []) (with_texts v new)
-tell_stops line t w v old new e view allowed is same =
-    subst (λ (u : Telling). StopsIn line u (e ∷ []) (with_texts v new)) view
-    (stops_untold line (with_texts w old) (with_texts v new) e allowed (ap (with_texts v) same ∙ ap (λ (x : WorldState). with_texts x old) is))
+-- the event was done, and memory ran out as it was reported
+pub tell_stops : (line : ℕ) (s old new : ReplayState) (w : WorldState) (texts texts_now : Texts) (e : Event) → old ≡ s → event_fault old.world e ≡ None → w ≡ (happens old.world e).world →
+    (new ≡ in_world old w) × (texts_now ≡ texts) → StopsIn line (with_texts s texts) (e ∷ []) (with_texts new texts_now)
+tell_stops line s old new w texts texts_now e view allowed is same =
+    subst (λ (x : ReplayState). StopsIn line (with_texts x texts) (e ∷ []) (with_texts new texts_now)) view
+    (stops_untold line (with_texts old texts) (with_texts new texts_now) e allowed
+    (ap₂ with_texts same.0 same.1 ∙ ap (λ (x : WorldState). with_texts (in_world old x) texts) is))
 
 -- more events are left behind those
 still_stands : (so_far now : Telling) (left more : List Event) → (now ≡ so_far) ⊎ NextUntold so_far left now → (now ≡ so_far) ⊎ NextUntold so_far (left ++ more) now
@@ -53,7 +56,7 @@ stops_first line t now xs ys s = record {
   stands = still_stands s.so_far now s.left ys s.stands;
 }
 
--- within the part behind what was told
+-- within the part behind what was reported
 pub stops_behind : (line : ℕ) (t mid now : Telling) (xs ys : List Event) → tells_all line (told t) xs ≡ told mid → StopsIn line mid ys now → StopsIn line t (xs ++ ys) now
 stops_behind line t mid now xs ys h s = record {
   done = xs ++ s.done;
@@ -77,7 +80,7 @@ alike_split e n i within = let k : n - i ≡ suc (n - (i + 1)) = omega arith in 
 pub alike_first : (line : ℕ) (t now : Telling) (e : Event) (n i : ℕ) → i < n → StopsIn line t (e ∷ []) now → StopsIn line t (replicate (n - i) e) now
 alike_first line t now e n i within s = subst (λ (l : List Event). StopsIn line t l now) (sym (alike_split e n i within)) (stops_first line t now (e ∷ []) (replicate (n - (i + 1)) e) s)
 
-pub alike_behind : (line : ℕ) (t mid now : Telling) (e : Event) (n i : ℕ) → i < n → tells_on line (told t) e ≡ told mid → StopsIn line mid (replicate (n - (i + 1)) e) now → StopsIn line t (replicate (n - i) e) now
+pub alike_behind : (line : ℕ) (t mid now : Telling) (e : Event) (n i : ℕ) → i < n → reports_on line (told t) e ≡ told mid → StopsIn line mid (replicate (n - (i + 1)) e) now → StopsIn line t (replicate (n - i) e) now
 unfolding tells_all
 alike_behind line t mid now e n i within h s = subst (λ (l : List Event). StopsIn line t l now) (sym (alike_split e n i within)) (stops_behind line t mid now (e ∷ []) (replicate (n - (i + 1)) e) h s)
 

@@ -7,11 +7,11 @@
 mod asked;
 mod laws;
 mod replay;
-mod told_world;
+mod reported_world;
 
 pub use laws::{a_start_is_told, each_line_is_told};
 pub use replay::Replay;
 pub use replay_report::{
-    Counts, push_done, push_event, push_event_refused, push_frames, push_text_refused,
+    Counts, push_done, push_event, push_event_refused, push_frames, push_made, push_text_refused,
     push_too_long,
 };

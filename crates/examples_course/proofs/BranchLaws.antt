@@ -57,7 +57,7 @@ branch_valid = record {
   );
 }
 
--- ---- databases
+-- ---- LSDBs
 
 among_a : IsAmong branch.routers branch_a
 among_a = record { place = 0; there = refl }

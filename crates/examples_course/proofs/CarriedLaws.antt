@@ -43,7 +43,7 @@ view_c = refl
 views_same : AllByRecursion (λ (c : Control). control_view c ≡ control_view ingress) (map rest branch.routers)
 views_same = (refl, (view_b ∙ sym view_a, (view_p ∙ sym view_a, (view_c ∙ sym view_a, tt))))
 
--- where no router's database changed, all agree
+-- where no router's LSDB changed, all agree
 agrees : (w : WorldState) → w.routers ≡ map rest branch.routers → HasAgreed w 0 (control_view ingress)
 agrees w same = record {
   router = ingress;
@@ -54,7 +54,7 @@ agrees w same = record {
 
 -- ---- the run
 
--- no event changes a database
+-- no event changes an LSDB
 stay_1 : (goes_on begun enters).world.routers ≡ map rest branch.routers
 unfolding views_on_literals hops_on_literals runs_on_literals
 stay_1 = refl

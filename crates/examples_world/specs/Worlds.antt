@@ -25,7 +25,7 @@ sending a link b x = record { from = a; link = link; to = b; item = x }
 abbrev pub after : WorldState → Event → WorldState
 after w e = (happens w e).world
 
--- all routers have those databases, and nothing is on the way
+-- all routers have those LSDBs, and nothing is on the way
 abbrev pub at_rest : DomainConf → List Entry → WorldState
 at_rest d entries =
     record {
@@ -76,7 +76,7 @@ for_c_and_d = after fork_at_rest (enters (3 ∷ 4 ∷ []) 8 0)
 abbrev pub dropped_at_p : Cause → Made
 dropped_at_p why = record none_made { drops = record { router = 1; injection = Some 1; cause = why; ids = 3 ∷ [] } ∷ [] }
 
--- both databases of the pair once all is settled
+-- both LSDBs of the pair once all is settled
 abbrev pub pair_lsps : List Entry
 pair_lsps = own_lsp pair_a (true ∷ []) 1 ∷ own_lsp pair_b (true ∷ []) 1 ∷ []
 

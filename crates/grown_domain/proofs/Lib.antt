@@ -2,3 +2,4 @@ pub mod Ranged
 pub mod GrownLinks
 pub mod GrownEntries
 pub mod GrownDomain
+pub mod ScheduleLines

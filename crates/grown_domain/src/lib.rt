@@ -9,4 +9,4 @@ mod routers;
 mod schedule;
 
 pub use domain::{grown, grown_as_in_a_file};
-pub use schedule::grown_lines;
+pub use schedule::GrownLine;

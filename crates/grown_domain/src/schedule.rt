@@ -1,6 +1,7 @@
 //! The schedule for a grown domain.
 ghost use Rattle.std.specs.Prelude.{◌≡◌, ◌<◌, ◌≤◌, IfOk};
 ghost use Rattle.std.specs.List.{range_with_len};
+ghost use Rattle.replay_text.specs.Events.{LineFits};
 ghost use Rattle.grown_domain.specs.Schedule as spec;
 
 use replay_text::{Event, Line};
@@ -42,18 +43,40 @@ fn sending(alloc: Global, n: u16, entropy: u32) -> M<Line>
     }))
 }
 
-/// The lines of the schedule for the domain of `n` routers: it settles, sixteen packets for all routers enter at the first one, and
-/// it settles again.
-#[tactic(auto, unfolding(crate::specs::Schedule::grown_lines))]
-pub fn grown_lines(alloc: Global, n: u16) -> M<Rows<Line>>
-    requires { n ≤ 250 }
-    ensures { IfOk result (λ lines. lines ≡ spec.grown_lines n) }
-{
-    let mut lines = Rows::new(alloc);
-    lines.push(settling(n))?;
-    for entropy in 0..16 {
-        lines.push(sending(alloc, n, entropy)?)?;
+/// A line of the schedule for a grown domain.
+#[derive(Clone, Copy, Debug, PartialEq, Eq)]
+pub enum GrownLine {
+    /// The domain settles: rounds enough for what the farthest routers advertise.
+    Settle,
+    /// A packet with that entropy enters at the first router for all routers.
+    Send(u16),
+}
+
+impl GrownLine {
+    /// How many lines the schedule has.
+    pub const COUNT: u16 = 18;
+
+    /// The line at an index: the domain settles, sixteen packets enter, and it settles again.
+    pub fn at(index: u16) -> GrownLine
+        ensures { result ≡ spec.line_at index }
+    {
+        match index {
+            0 | 17 => GrownLine::Settle,
+            _ => GrownLine::Send(index - 1),
+        }
     }
-    lines.push(settling(n))?;
-    Ok(lines)
+
+    /// The line as it is for the domain of `n` routers.
+    #[tactic(auto, using(crate::proofs::ScheduleLines::sending_fits))]
+    pub fn line(self, alloc: Global, n: u16) -> M<Line>
+        requires some { 0 < n }
+        requires few { n ≤ 250 }
+        ensures value { IfOk result (λ line. line ≡ spec.line_of n self) }
+        ensures fits { IfOk result (λ line. LineFits n line) }
+    {
+        match self {
+            GrownLine::Settle => Ok(settling(n)),
+            GrownLine::Send(entropy) => sending(alloc, n, u32::from(entropy)),
+        }
+    }
 }

@@ -7,7 +7,7 @@ use Rattle.command_line.specs.Form as form
 use Rattle.command_line.specs.Words.{form_of, router_of}
 use Rattle.tool_host.specs.Named.{AreNamed, conf_path, input_path}
 use Rattle.tool_host.specs.declared.objects.Objects.{Objects}
-use Rattle.tool_run.specs.Answer.{Verdict}
+use Rattle.command_drive.specs.Answer.{Verdict}
 use Rattle.replay_run.specs.Verdict.{verdict}
 use Rattle.host_run.specs.Ran.{held}
 

@@ -7,7 +7,7 @@ use Rattle.command_line.specs.CommandLine.{CommandLine}
 use Rattle.command_line.specs.Words.{form_of, router_of}
 use Rattle.tool_host.specs.Named.{conf_path, input_path, frames_path}
 use Rattle.tool_host.specs.declared.files.StdoutSink.{StdoutSink}
-use Rattle.tool_run.specs.Answer.{IsDecided}
+use Rattle.command_drive.specs.Answer.{IsDecided}
 use Rattle.replay_run.specs.Endings.{ComesOn}
 use Rattle.replay_run.specs.Verdict.{verdict}
 

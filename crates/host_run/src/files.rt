@@ -1,8 +1,8 @@
 //! A run over files that are named.
 ghost use Rattle.std.specs.Prelude.{◌≡◌, IfSome};
 ghost use Rattle.command_line.specs.Words.{command_line_in, form_in, router_in};
-ghost use Rattle.tool_run.specs.Answer.{IsDecided};
-ghost use Rattle.tool_run.specs.Outside.{Meets};
+ghost use Rattle.command_drive.specs.Answer.{IsDecided};
+ghost use Rattle.command_drive.specs.Outside.{Meets};
 ghost use Rattle.replay_run.specs.Endings.{ComesOn, LeavesAlone};
 ghost use Rattle.replay_run.specs.Faults.{CountsFaults};
 ghost use Rattle.replay_run.specs.Verdict.{verdict};

@@ -1,4 +1,4 @@
-//! What is told of a domain at work, as texts: its frames in a capture, its deliveries and drops in the lines of a report, and how
+//! What is reported of a domain at work, as texts: its frames in a capture, its deliveries and drops in the lines of a report, and how
 //! much was done; and the directions of its links.
 //!
 //! It stands on `domain_model` and `frames_in_flight`, and promises that the texts of an event are those of its definitions.
@@ -8,12 +8,12 @@ mod capture;
 mod counts;
 mod direction;
 mod lines;
+mod made;
 mod refused;
-mod texts;
 
 pub use capture::push_frames;
 pub use counts::Counts;
 pub use direction::{Direction, directions};
 pub use lines::{push_done, push_event};
+pub use made::push_made;
 pub use refused::{push_event_refused, push_text_refused, push_too_long};
-pub use texts::Texts;

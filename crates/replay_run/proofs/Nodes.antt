@@ -15,9 +15,9 @@ use Rattle.replay_run.specs.Judged.{OnHeld}
 use Rattle.command_node.specs.Routers.{router_named, HasRouter}
 use Rattle.replay_run.specs.Verdict.{verdict, node_on}
 use Rattle.command_node.specs.Named.{node_by}
-use Rattle.tool_run.specs.Answer.{Verdict, IsDecided}
+use Rattle.command_drive.specs.Answer.{Verdict, IsDecided}
 use Rattle.command_node.specs.NodeRun.{node_answer, IsReplayable}
-use Rattle.tool_run.specs.Outside.{Held, Meets, AppendsFront}
+use Rattle.command_drive.specs.Outside.{Held, Meets, AppendsFront}
 use Rattle.command_node.proofs.NodeDone.{node_done}
 use Rattle.replay_run.proofs.Owed.{told, in_form}
 use Rattle.command_node.proofs.Told.{nothing_more, no_front, held_some, ended_so}

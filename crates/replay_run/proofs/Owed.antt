@@ -1,5 +1,5 @@
 -- What a command did is what a run owes.
-use Rattle.std.proofs.Common.{◌≡◌, ℕ, ◌<◌, List, [], Option, Some, None, refl, sym, subst, ◌∙◌, arith, inl, inr}
+use Rattle.std.proofs.Common.{◌≡◌, ℕ, ◌<◌, List, [], Option, Some, None, refl, sym, ap, subst, ◌∙◌, arith, inl, inr}
 use Rattle.std.specs.Prelude.{IfSome, ◌⊎◌, Result, Ok, Err}
 use Rattle.std.specs.Io.KnownBytes.{Appends}
 use Rattle.wire_base.specs.declared.status.Status.{Status}
@@ -12,19 +12,20 @@ use Rattle.command_line.specs.Form.{Form}
 use Rattle.command_line.specs.Form.{Replay, Node, Hop, Headers, Grow, Unknown}
 use Rattle.command_line.specs.Words.{usage_text}
 use Rattle.command_node.specs.Routers.{router_named}
-use Rattle.command_grow.specs.Grow.{grow_answer}
-use Rattle.tool_run.specs.HopText.{hop_answer, packets_of, IsAllowed}
-use Rattle.tool_run.specs.Partition.{Reports}
-use Rattle.tool_run.specs.Answer.{Verdict}
+use Rattle.command_grow.specs.Grow.{grow_answer, GoesThrough, ends_by, grown_run}
+use Rattle.domain_model.specs.declared.fault.EventFault.{EventFault}
+use Rattle.command_hop.specs.HopText.{hop_answer, packets_of, IsAllowed}
+use Rattle.command_hop.specs.Partition.{Reports}
+use Rattle.command_drive.specs.Answer.{Verdict}
 use Rattle.replay_run.specs.Verdict.{verdict, replay_on, node_on}
 use Rattle.command_node.specs.Named.{reported, node_by}
-use Rattle.tool_run.specs.Answer.{IsDecided}
+use Rattle.command_drive.specs.Answer.{IsDecided}
 use Rattle.replay_run.specs.Judged.{OnHeld}
-use Rattle.tool_run.specs.Outside.{Held, Gave, Meets, AppendsFront}
-use Rattle.tool_run.proofs.Packets.{all_parted}
-use Rattle.tool_run.specs.HeadersText.{headers_answer, IsRead}
-use Rattle.tool_run.proofs.Inputs.{allowed_done}
-use Rattle.tool_run.proofs.Captures.{read_done}
+use Rattle.command_drive.specs.Outside.{Held, Gave, Meets, AppendsFront}
+use Rattle.command_hop.proofs.Packets.{all_parted}
+use Rattle.command_headers.specs.HeadersText.{headers_answer, IsRead}
+use Rattle.command_hop.proofs.Inputs.{allowed_done}
+use Rattle.command_headers.proofs.Steps.{read_done}
 use Rattle.command_node.proofs.Told.{nothing_more, no_front, held_some, ended_so}
 
 -- ---- verdicts on what was held
@@ -194,7 +195,20 @@ pub grow_front : (n : ℕ) (router : List ℕ) (conf left before now frames : Op
 grow_front n router conf left before now frames front =
     grow_holds n router conf left (λ owed. AppendsFront before now owed.report × AppendsFront frames frames owed.frames) (front, no_front frames [])
 
--- ---- words of no form
+goes_done : (n : ℕ) → GoesThrough n → (grow_answer n).0 ≡ Done
+unfolding grow_answer GoesThrough
+goes_done n none = ap (λ (o : Option (ℕ × EventFault)). (ends_by n (grown_run n).run o).0) none
+
+pub grow_done : (m n : ℕ) (form : Form) (result : Status) (before now : Option (List ℕ)) (writes writes_now takes takes_now : ℕ) → form ≡ Grow m → form ≡ Grow n → (IsDecided result → Gave (grow_answer m) result before now)
+    → (result ≡ ReadFault → ⊥) → (result ≡ WriteFault → (writes < writes_now) ⊎ (takes < takes_now)) → GoesThrough n → writes_now ≡ writes → takes_now ≡ takes → (result ≡ Done) ⊎ (result ≡ Memory)
+grow_done m n form result before now writes writes_now takes takes_now is_m is_n answer read write goes w t =
+    let same : m ≡ n = (let both : Grow m ≡ Grow n = sym is_m ∙ is_n in cc) in
+    elim (no_fault result 0 0 writes writes_now takes takes_now (λ failed. absurd (read failed)) write refl w t) [
+      | inl decided ↦ inl ((answer decided).status ∙ ap (λ (k : ℕ). (grow_answer k).0) same ∙ goes_done n goes)
+      | inr memory ↦ inr memory
+    ]
+
+-- ---- unknown arguments
 
 pub usage_holds : (router : List ℕ) (conf left : Option (List ℕ)) (Holds : Verdict → Type 0) → Holds (reported (Usage, usage_text)) → OnHeld Unknown router conf left Holds
 unfolding verdict

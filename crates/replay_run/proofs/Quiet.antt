@@ -1,11 +1,11 @@
 -- Where no count rose, no fault is answered.
-use Rattle.std.proofs.Common.{◌≡◌, ℕ, List, Option, Some, None, refl, arith, inl, inr}
+use Rattle.std.proofs.Common.{◌≡◌, ◌≢◌, sym, ◌∙◌, ℕ, List, Option, Some, None, refl, arith, inl, inr}
 use Rattle.std.specs.Prelude.{◌⊎◌, IfSome}
 use Rattle.wire_base.specs.declared.outside.Source as source
 use Rattle.wire_base.specs.declared.outside.Sink as sink
 use Rattle.wire_base.specs.declared.status.Status.{Status}
 use Rattle.wire_base.specs.declared.status.Status.TheVariants.{Done, Usage, ConfRefused, InputRefused, CaptureRefused, ReadFault, WriteFault, Memory}
-use Rattle.tool_run.specs.Answer.{IsDecided}
+use Rattle.command_drive.specs.Answer.{IsDecided}
 use Rattle.replay_run.specs.Faults.{SinkIsQuiet, NoneRose, CountsFaults}
 
 module _ {D S C R : Type 0} (gd : source.Ghosts D) (gs : source.Ghosts S) (gc : sink.Ghosts C) (gr : sink.Ghosts R)
@@ -39,3 +39,17 @@ pub quiet_sink : {C : Type 0} (gc : sink.Ghosts C) (old new : C) (left : Option 
     → IfSome left (λ octets. Asked octets → Reads → SinkIsQuiet gc old new → Ends)
 quiet_sink gc old new None Asked Reads Ends all = tt
 quiet_sink gc old new (Some octets) Asked Reads Ends all = λ asked reads quiet. all asked reads quiet.faults quiet.zeros
+
+-- a read error is none of the others
+
+pub read_not_write : (ended : Status) → ended ≡ ReadFault → ended ≢ WriteFault
+read_not_write ended is other = apart (sym is ∙ other)
+  where
+    apart : ReadFault ≡ WriteFault → ⊥
+    apart e = cc
+
+pub read_not_memory : (ended : Status) → ended ≡ ReadFault → ended ≢ Memory
+read_not_memory ended is other = apart (sym is ∙ other)
+  where
+    apart : ReadFault ≡ Memory → ⊥
+    apart e = cc

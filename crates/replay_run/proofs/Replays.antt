@@ -19,16 +19,16 @@ use Rattle.domain_conf.specs.declared.fault.ConfFault.{ConfFault}
 use Rattle.domain_replay.specs.Texts.{Refusal, names_of, lines_reach, schedule_reaches}
 use Rattle.command_line.specs.Form.{Form}
 use Rattle.command_line.specs.Form.{Replay}
-use Rattle.tool_run.specs.Answer.{Verdict}
+use Rattle.command_drive.specs.Answer.{Verdict}
 use Rattle.command_node.specs.DomainFile.{Says, IsRefused}
 use Rattle.replay_run.specs.Endings.{DoneOrMemory}
 use Rattle.replay_run.specs.Judged.{OnHeld}
 use Rattle.replay_run.specs.Replayed.{AreAllowed, AreDone, IsDone, IsReplayed}
 use Rattle.command_replay.specs.ScheduleText.{schedule_answer, answer_to, ending}
-use Rattle.tool_run.specs.Texts.{Ended, close_of, is_short, within_limit, lines_within}
+use Rattle.command_drive.specs.Texts.{Ended, close_of, is_short, within_limit, lines_within}
 use Rattle.replay_run.specs.Verdict.{verdict, replay_on}
-use Rattle.tool_run.specs.Answer.{IsDecided}
-use Rattle.tool_run.specs.Outside.{Held, Meets, AppendsFront}
+use Rattle.command_drive.specs.Answer.{IsDecided}
+use Rattle.command_drive.specs.Outside.{Held, Meets, AppendsFront}
 use Rattle.replay_run.proofs.Owed.{told, in_form}
 use Rattle.command_node.proofs.Told.{nothing_more, no_front, held_some, ended_so}
 

@@ -17,12 +17,12 @@ use Rattle.command_node.specs.DomainFile.{Says}
 use Rattle.replay_run.specs.Endings.{ReplayLeaves}
 use Rattle.replay_run.specs.Faults.{SourceIsQuiet}
 use Rattle.replay_run.specs.Judged.{OnHeld}
-use Rattle.tool_run.specs.Outside.{Held, Meets}
+use Rattle.command_drive.specs.Outside.{Held, Meets}
 use Rattle.replay_run.specs.RunDone.{HasRun, AreRead, RunDone}
 use Rattle.command_replay.specs.ScheduleText.{answer_to, ending, schedule_answer, schedule_cut}
-use Rattle.tool_run.specs.Texts.{Close, Ended, Longer, Cut, close_of, is_short, lines_within}
+use Rattle.command_drive.specs.Texts.{Close, Ended, Longer, Cut, close_of, is_short, lines_within}
 use Rattle.replay_run.specs.Verdict.{verdict, replay_on}
-use Rattle.tool_run.specs.Answer.{IsDecided}
+use Rattle.command_drive.specs.Answer.{IsDecided}
 
 -- a report that ends as done ends with the last line
 done_so : (close : Close) (n : ℕ) (r : Run) (o : Option (ℕ × Refusal)) → Done ≡ (ending close n r o).0 → (ending close n r o).1 ≡ run_done_text r n

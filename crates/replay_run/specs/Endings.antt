@@ -1,5 +1,5 @@
 -- How a run ends: the status by the form of its words, and what it leaves.
-use Rattle.std.specs.Prelude.{ℕ, ◌≡◌, ◌≢◌, ◌⊎◌, ◌<◌, ◌↔◌, false, List, Option, None}
+use Rattle.std.specs.Prelude.{ℕ, ◌≡◌, ◌≢◌, ◌⊎◌, ◌<◌, ◌↔◌, false, List, None}
 use Rattle.std.specs.Io.KnownBytes.{Consumes, Appends}
 use Rattle.wire_base.specs.declared.outside.Source as source
 use Rattle.wire_base.specs.declared.outside.Sink as sink
@@ -7,11 +7,12 @@ use Rattle.wire_base.specs.declared.status.Status.{Status}
 use Rattle.wire_base.specs.declared.status.Status.TheVariants.{Done, Usage, ConfRefused, InputRefused, CaptureRefused, ReadFault, WriteFault, Memory}
 use Rattle.wire_base.specs.declared.conf.RouterConf.{RouterConf}
 use Rattle.wire_base.specs.model.Configuration.{DomainConf}
-use Rattle.tool_run.specs.Answer.{Verdict, IsDecided}
-use Rattle.tool_run.specs.HopText.{hop_cut}
-use Rattle.tool_run.specs.Headers.{IsOpen, lines_of}
+use Rattle.command_drive.specs.Answer.{IsDecided}
+use Rattle.command_hop.specs.HopText.{hop_cut}
+use Rattle.command_drive.specs.Captures.{IsOpen}
+use Rattle.command_headers.specs.HeadersText.{lines_of}
 use Rattle.command_node.specs.NodeRun.{node_cut, node_reached}
-use Rattle.tool_run.specs.Outside.{Gave, Meets, AppendsFront}
+use Rattle.command_drive.specs.Outside.{Gave, Meets}
 use Rattle.command_line.specs.Form.{Form}
 use Rattle.command_line.specs.Form.{Replay, Node, Hop, Headers, Unknown}
 use Rattle.command_node.specs.DomainFile.{Says}
@@ -23,14 +24,10 @@ use Rattle.command_line.specs.Words.{IsGrow}
 abbrev pub DoneOrMemory : Status → Type 0
 DoneOrMemory ended = (ended ≡ Done) ⊎ (ended ≡ Memory)
 
--- a front of each text of a verdict was written
-abbrev pub AppendsFronts : Verdict → (report report_now frames frames_now : Option (List ℕ)) → Type 0
-AppendsFronts owed report report_now frames frames_now = AppendsFront report report_now owed.report × AppendsFront frames frames_now owed.frames
-
 -- a status that comes on words of that form
 pub record ComesOn (form : Form) (ended : Status) : Type 0 where
   pub done : ended ≡ Done → form ≢ Unknown
-  -- a status that words and octets decide is `Usage` exactly on words of no form
+  -- a status that words and octets decide is `Usage` exactly on unknown arguments
   pub usage : IsDecided ended → ((ended ≡ Usage) ↔ (form ≡ Unknown))
   pub usage_or_fault : form ≡ Unknown → (ended ≡ Usage) ⊎ (ended ≡ WriteFault)
   pub conf_refused : ended ≡ ConfRefused → (form ≡ Replay) ⊎ (form ≡ Node)

@@ -10,9 +10,9 @@ use Rattle.replay_text.specs.Pieces.{lines_in}
 use Rattle.domain_model.specs.Run.{Run}
 use Rattle.domain_replay.specs.Texts.{run_text, run_done_text, schedule_reaches}
 use Rattle.command_node.specs.DomainFile.{Says}
-use Rattle.tool_run.specs.Outside.{Held, Meets}
+use Rattle.command_drive.specs.Outside.{Held, Meets}
 use Rattle.command_replay.specs.ScheduleText.{answer_to}
-use Rattle.tool_run.specs.Texts.{Close, Cut, close_of, is_short, lines_within}
+use Rattle.command_drive.specs.Texts.{Close, Cut, close_of, is_short, lines_within}
 
 -- the statuses with which a replay ends that did a run, to its end or to where it stopped
 abbrev pub HasRun : Status → Type 0

@@ -5,13 +5,13 @@ use Rattle.wire_base.specs.model.Configuration.{DomainConf}
 use Rattle.domain_conf.specs.Domain.{domain_of}
 use Rattle.domain_conf.specs.declared.fault.ConfFault.{ConfFault}
 use Rattle.command_node.specs.DomainFile.{conf_refused_text}
-use Rattle.tool_run.specs.Answer.{Verdict}
+use Rattle.command_drive.specs.Answer.{Verdict}
 use Rattle.command_line.specs.Form.{Form}
 use Rattle.command_line.specs.Form.{Replay, Node, Hop, Headers, Grow, Unknown}
 use Rattle.command_line.specs.Words.{usage_text}
 use Rattle.command_node.specs.Routers.{router_named}
-use Rattle.tool_run.specs.HopText.{hop_answer}
-use Rattle.tool_run.specs.HeadersText.{headers_answer}
+use Rattle.command_hop.specs.HopText.{hop_answer}
+use Rattle.command_headers.specs.HeadersText.{headers_answer}
 use Rattle.command_replay.specs.ScheduleText.{schedule_answer}
 use Rattle.command_grow.specs.Grow.{grow_answer}
 use Rattle.command_node.specs.Named.{reported, node_by}

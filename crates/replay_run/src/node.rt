@@ -4,15 +4,15 @@ ghost use Rattle.std.specs.Io.KnownBytes.{IsAtEnd};
 ghost use Rattle.wire_base.specs.Causes.{last_count};
 ghost use Rattle.wire_base.specs.declared.status.Status.TheVariants as status;
 ghost use Rattle.command_line.specs.Form as form;
-ghost use Rattle.tool_run.specs.Answer.{IsDecided};
-ghost use Rattle.tool_run.specs.Outside.{Meets};
-ghost use Rattle.replay_run.specs.Endings.{AppendsFronts, NodeLeaves};
+ghost use Rattle.command_drive.specs.Answer.{IsDecided};
+ghost use Rattle.command_drive.specs.Outside.{Meets, AppendsFronts};
+ghost use Rattle.replay_run.specs.Endings.{NodeLeaves};
 ghost use Rattle.replay_run.specs.Faults.{CountsFaults};
 ghost use Rattle.replay_run.specs.Judged.{OnHeld};
 
+use command_drive::deliver;
 use command_node::{NoDomain, domain_in, node_in};
 use std::alloc::Global;
-use tool_run::deliver;
 use wire_base::{Sink, Source, Status};
 
 /// All that the program does on the words `node CONF ROUTER CAPTURE FRAMES`: where the domain file breaks a rule, or no router of

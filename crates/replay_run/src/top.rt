@@ -4,7 +4,7 @@ ghost use Rattle.std.specs.Io.KnownBytes.{IsAtEnd};
 ghost use Rattle.wire_base.specs.Causes.{last_count};
 ghost use Rattle.wire_base.specs.declared.status.Status.TheVariants as status;
 ghost use Rattle.command_line.specs.Form as form;
-ghost use Rattle.replay_run.specs.Endings.{DoneOrMemory, ComesOn, AppendsFronts, ReplayLeaves, NodeLeaves, HopLeaves, HeadersLeaves, LeavesAlone};
+ghost use Rattle.replay_run.specs.Endings.{DoneOrMemory, ComesOn, ReplayLeaves, NodeLeaves, HopLeaves, HeadersLeaves, LeavesAlone};
 ghost use Rattle.replay_run.specs.Faults.{SourceIsQuiet, SinkIsQuiet, NoneRose, CountsFaults};
 ghost use Rattle.command_grow.specs.Grow.{GoesThrough};
 ghost use Rattle.replay_run.specs.Judged.{OnHeld};
@@ -13,24 +13,26 @@ ghost use Rattle.command_node.specs.Routers.{HasRouter};
 ghost use Rattle.replay_run.specs.RunDone.{HasRun, RunDone};
 ghost use Rattle.replay_run.specs.Verdict.{verdict};
 ghost use Rattle.command_line.specs.Words.{form_in, router_in, IsGrow};
-ghost use Rattle.tool_run.specs.Answer.{IsDecided};
-ghost use Rattle.tool_run.specs.HeadersText.{IsRead};
-ghost use Rattle.tool_run.specs.HopText.{IsAllowed};
+ghost use Rattle.command_drive.specs.Answer.{IsDecided};
+ghost use Rattle.command_headers.specs.HeadersText.{IsRead};
+ghost use Rattle.command_hop.specs.HopText.{IsAllowed};
 ghost use Rattle.command_node.specs.NodeRun.{IsReplayable};
-ghost use Rattle.tool_run.specs.Outside.{Meets};
-ghost use Rattle.tool_run.specs.Partition.{Reports};
+ghost use Rattle.command_drive.specs.Outside.{Meets, AppendsFronts};
+ghost use Rattle.command_hop.specs.Partition.{Reports};
 ghost use Rattle.laws_replay.specs.Moments.{HasLedgerThroughout, DeliversOnce};
 ghost use Rattle.laws_replay.specs.Reports.{IsReported};
 ghost use Rattle.laws_replay.specs.Once.{ArriveOnce};
 
 use crate::node::node;
+use command_drive::deliver;
 use command_grow::grow;
+use command_headers::run_headers;
+use command_hop::{packets_are_parted, run_hop};
 use command_line::{Arguments, USAGE, parse};
 use command_node::{NoDomain, domain_in};
 use command_replay::play;
 use laws_replay::{replays_are_accounted, replays_arrive_once};
 use std::alloc::Global;
-use tool_run::{deliver, headers, hop, packets_are_parted};
 use wire_base::{Sink, Source, Status};
 
 /// All that the program does on the words `replay CONF SCHEDULE FRAMES`: where the domain file breaks a rule, it reports that;
@@ -105,7 +107,7 @@ pub fn run<D: Source, S: Source, C: Sink, R: Sink>(
     ensures some_held { IsDecided result → OnHeld (form_in words.now) (router_in words.now) (D.left conf.old) (S.left input.old)
         (λ owed. Meets owed result (R.written report.old) (R.written report.new) (C.written frames.old) (C.written frames.new)) }
 
-    // Where no count rose, the answer is the verdict's or want of memory.
+    // Where no count rose, the answer is the verdict's or out of memory.
     ensures decided { NoneRose D.Source S.Source C.Sink R.Sink conf.old conf.new input.old input.new frames.old frames.new report.old report.new
         → IsDecided result ⊎ (result ≡ status.Memory) }
 
@@ -143,7 +145,7 @@ pub fn run<D: Source, S: Source, C: Sink, R: Sink>(
     ensures grow_complete { (n : ℕ) → form_in words.now ≡ form.Grow n → GoesThrough n → SinkIsQuiet R.Sink report.old report.new → DoneOrMemory result }
 
     // What a stop leaves: what was written is finished; behind a failed source, what is whole in what was taken is done and reported;
-    // at a fault of a sink, and at want of memory, a front of each text is written.
+    // at a write error, and on out of memory, a prefix of each output is written.
     ensures finished { IsDecided result → R.unfinished report.new ≡ false }
     ensures frames_finished { result ≢ status.WriteFault → result ≢ status.Memory → (frames.new ≡ frames.old) ⊎ (C.unfinished frames.new ≡ false) }
     ensures replay_leaves { form_in words.now ≡ form.Replay → ReplayLeaves D.Source S.Source C.Sink R.Sink result
@@ -180,8 +182,8 @@ pub fn run<D: Source, S: Source, C: Sink, R: Sink>(
         Arguments::Node { router, .. } => {
             node(alloc, router.as_bytes(), conf, input, frames, report)
         }
-        Arguments::Hop { .. } => hop(alloc, input, report),
-        Arguments::Headers { .. } => headers(alloc, input, report),
+        Arguments::Hop { .. } => run_hop(alloc, input, report),
+        Arguments::Headers { .. } => run_headers(alloc, input, report),
         Arguments::Grow { routers } => grow(alloc, routers, report),
         Arguments::Unknown => deliver(report, Status::Usage, USAGE),
     }

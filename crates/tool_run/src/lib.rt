@@ -1,23 +1,10 @@
-//! The commands that need no router's database: `hop` and `headers`, each over whatever source and sinks it is handed, and what
-//! they share with the others: texts that are taken line by line, captures that are taken record by record, and texts that are
-//! written whole or from time to time.
+//! The commands that run without a domain of routers, over any source and sinks: `hop`, `headers` and `node`.
 //!
-//! It stands on one hop and the codecs, and promises that each command's status and texts are those of the input, that each
-//! status has its cause, and what a stop leaves.
+//! Each is the command of its own crate, run by the driver. Its contract says that the status and the output are those of the input,
+//! that each I/O error has its cause, and what an aborted run leaves. None of them returns `Usage` or `ConfRefused`.
 #![tactic(auto)]
 
-mod captured;
-mod headers_command;
-mod hop_command;
-mod law;
-mod reader;
-mod records;
-mod whole;
+mod calls;
 
-pub use captured::{push_refused, refuse_by, refuse_length};
-pub use headers_command::headers;
-pub use hop_command::hop;
-pub use law::packets_are_parted;
-pub use reader::{Found, LineReader};
-pub use records::{Ending, FoundRecord, RecordReader};
-pub use whole::{PIECE, buffer, deliver, flush, write_if_long, write_whole};
+pub use calls::{headers, hop, node};
+pub use command_hop::packets_are_parted;

@@ -9,8 +9,10 @@ use super::tally::{Tally, sum};
 use super::texts::{push_effects, push_frames};
 use pcap_frames::{CapRecord, write_cap_header};
 use router_core::{Effects, Router, SentFrames};
+use run_texts::Texts;
 use std::alloc::Global;
 use std::marker::Model;
+use std::mem;
 use wire_base::limits::MOST_FRAME;
 use wire_base::{End, M, Octets, RouterConf};
 
@@ -20,8 +22,8 @@ const SENDS_EVERY: u64 = 5;
 /// At most so many seconds pass between two records.
 const MOST_GAP: u64 = 65_535;
 
-/// A router, the second of its clock, once a record has set it, how many seconds have passed, what was done in numbers, and
-/// both texts. What was written out of them already may be let go.
+/// A router, the second of its clock, once a record has set it, how many seconds have passed, what was done in numbers, and the
+/// output that it appends to, which it is lent for each record.
 #[derive(Drop)]
 pub struct Node {
     router: Router,
@@ -70,6 +72,16 @@ impl Node {
             frames,
             report: Octets::new(alloc),
         })
+    }
+
+    /// Trades the output that it appends to for another.
+    pub fn trade(&mut self, texts: &mut Texts)
+        ensures node { self.new ≡ record self.old { frames = texts.old.frames; report = texts.old.report } }
+        ensures frames { texts.new.frames ≡ self.old.frames }
+        ensures report { texts.new.report ≡ self.old.report }
+    {
+        mem::swap(&mut self.frames, &mut texts.frames);
+        mem::swap(&mut self.report, &mut texts.report);
     }
 
     /// The two seconds of a gap that is too long, where a record of that second makes one.

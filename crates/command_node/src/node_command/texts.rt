@@ -6,7 +6,8 @@ ghost use Rattle.bier_forward.specs.Sets.{set_in, HaveLength};
 ghost use Rattle.wire_base.specs.model.BitSet.{has_member};
 ghost use Rattle.wire_base.specs.model.Capture.{written_record};
 ghost use Rattle.wire_base.specs.model.Place.{bits_of, id_at};
-ghost use Rattle.tool_run.specs.Captured.{refused_record};
+ghost use Rattle.command_drive.specs.Answer.{behind};
+ghost use Rattle.command_drive.specs.Captured.{refused_record};
 ghost use Rattle.command_node.specs.NodeRun as run;
 
 use super::tally::Tally;
@@ -15,8 +16,8 @@ use pcap_frames::write_cap_record;
 use replay_text::{push_loss, push_number, push_payload};
 use router_core::{DropNote, Effects, Got, Packet, SentFrames};
 use std::alloc::Global;
-use tool_run::push_refused;
-use wire_base::{M, Memory, Octets, Rows, Triple};
+use command_drive::push_refused;
+use wire_base::{M, Memory, Octets, Rows, Status, Triple};
 
 /// The most octets of a frame in a record of a capture.
 const MOST_RECORDED: usize = 65_535;
@@ -143,7 +144,7 @@ fn push_count(out: &mut Octets, what: &[u8], count: u64) -> M<()>
 }
 
 /// Appends the last line, on all records.
-pub fn push_done(out: &mut Octets, tally: Tally) -> M<()>
+fn push_counts(out: &mut Octets, tally: Tally) -> M<()>
     ensures { OnOk result (out.new ≡ out.old ++ (run.node_done tally).1) }
 {
     push_count(out, b"done records ", tally.records)?;
@@ -153,6 +154,14 @@ pub fn push_done(out: &mut Octets, tally: Tally) -> M<()>
     push_count(out, b" dropped ", tally.dropped)?;
     push_count(out, b" sent ", tally.sent)?;
     out.push(b'\n')
+}
+
+/// Ends the report after the last record.
+pub fn push_done(out: &mut Octets, tally: Tally) -> M<Status>
+    ensures { IfOk result (λ ended. (ended, out.new) ≡ behind out.old (run.node_done tally)) }
+{
+    push_counts(out, tally)?;
+    Ok(Status::Done)
 }
 
 /// Appends the line of a refusal at a record that makes a gap that is too long, with both seconds.

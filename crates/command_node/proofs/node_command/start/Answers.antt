@@ -1,5 +1,5 @@
 use Rattle.std.proofs.Common.{slice_get}
-use Rattle.command_node.proofs.NodeLoop.{starts_so}
+use Rattle.command_node.proofs.NodeRecords.{starts_so}
 use Rattle.command_node.proofs.node_command.start.Goals as goal
 
 pub returns : goal.returns

@@ -1,6 +1,6 @@
 use Rattle.std.proofs.Common.{subst, ◌∙◌}
 use Rattle.std.specs.Io.KnownBytes.{Appends}
-use Rattle.tool_run.specs.Outside.{Meets, AppendsFront}
+use Rattle.command_drive.specs.Outside.{Meets, AppendsFront}
 use Rattle.command_node.specs.DomainFile.{HasNone}
 use Rattle.command_node.proofs.Told.{write_fault}
 use Rattle.replay_run.proofs.Replays.{played, refused_meets, refused_front, none_front}

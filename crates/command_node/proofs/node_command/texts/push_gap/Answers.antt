@@ -1,7 +1,7 @@
 use Rattle.std.proofs.Common.{ℕ, [], ◌∷◌, ◌++◌, ap, ◌∙◌}
 use Rattle.std.specs.Prelude.{codes}
 use Rattle.std.specs.Fmt.{decimal}
-use Rattle.tool_run.proofs.Appends.{last_part, same_text, rule_front}
+use Rattle.command_drive.proofs.Appends.{last_part, same_text, rule_front}
 use Rattle.command_node.proofs.node_command.texts.push_gap.Goals as goal
 
 pub returns : goal.returns

@@ -1,5 +1,13 @@
-use Rattle.domain_replay.proofs.SameDomain.{line_directions}
+use Rattle.std.proofs.Common.{ap, ◌∙◌}
+use Rattle.domain_replay.specs.Telling.{ReplayState, with_texts}
+use Rattle.domain_replay.proofs.SameDomain.{line_directions, line_domain}
 use Rattle.domain_replay.proofs.replay.Replay.line.Goals as goal
 
 pub invariant_of-self : goal.invariant_of-self
-invariant_of-self c = line_directions c.args.line c.self.inside.told c.do_line.new.self c.args.said.now c.do_line.result c.self.inside.directions c.do_line.ensures.told c.do_line.ensures.stops c.self.invariant
+invariant_of-self c =
+    line_directions c.args.line (with_texts c.self.inside.told c.args.texts.now) (with_texts c.do_line.new.self c.do_line.new.texts) c.args.said.now c.do_line.result c.self.inside.directions c.do_line.ensures.told c.do_line.ensures.stops c.self.invariant
+
+pub returns-clause-domain : goal.returns-clause-domain
+returns-clause-domain c =
+    line_domain c.args.line (with_texts c.self.inside.told c.args.texts.now) (with_texts c.do_line.new.self c.do_line.new.texts) c.args.said.now c.do_line.result c.do_line.ensures.told c.do_line.ensures.stops
+    ∙ ap (λ (t : ReplayState). t.world.domain) c.self.view_is

@@ -1,0 +1,13 @@
+pub mod Along
+pub mod Looping
+pub mod Written
+pub mod Appends
+pub mod Meanings
+pub mod LineSteps
+pub mod Seeking
+pub mod RecordSteps
+pub mod Pieces
+pub mod Reported
+pub mod Inputs
+pub mod Untouched
+pub mod CaptureLaws

@@ -1,0 +1,11 @@
+pub mod Answer
+pub mod Outside
+pub mod Reading
+pub mod Doing
+pub mod Driving
+pub mod Captured
+pub mod Lines
+pub mod Records
+pub mod Texts
+pub mod Reporting
+pub mod Captures

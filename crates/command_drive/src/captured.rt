@@ -1,0 +1,58 @@
+//! How a report on a capture ends where the capture is refused.
+ghost use Rattle.std.specs.Prelude.{◌≡◌, ◌<◌, ◌^◌, ◌++◌, ◌∷◌, [], codes, IfOk, OnOk};
+ghost use Rattle.std.specs.Fmt.{decimal};
+ghost use Rattle.replay_text.specs.Fault.{rule_text};
+ghost use Rattle.command_drive.specs.Answer.{behind};
+ghost use Rattle.command_drive.specs.Captured as captured;
+
+use replay_text::push_rule;
+use wire_base::{CaptureFault, M, Octets, Status};
+
+/// The number of the record that a fault stands at, after those that were done: the capture's header has the number 0.
+fn fault_record(records: u64, why: CaptureFault) -> u64
+    requires { records < 2 ^ 63 }
+    ensures { result ≡ captured.fault_record records why }
+{
+    match why {
+        CaptureFault::Magic
+        | CaptureFault::Version
+        | CaptureFault::LinkType
+        | CaptureFault::CutHeader => 0,
+        CaptureFault::CutRecord | CaptureFault::LongRecord | CaptureFault::Memory => records + 1,
+    }
+}
+
+/// Appends the front of a refusal's line: the number of the record, and the number and the name of the rule that it breaks.
+pub fn push_refused(out: &mut Octets, number: u64, rule: u8, name: &[u8]) -> M<()>
+    ensures { OnOk result (out.new ≡ out.old ++ (codes "refused record " ++ (decimal number ++ 32 ∷ rule_text rule name.now))) }
+{
+    out.append(b"refused record ")?;
+    out.append_number(number)?;
+    out.push(b' ')?;
+    push_rule(out, rule, name)
+}
+
+/// Ends a report at a record that breaks a rule.
+fn refuse(out: &mut Octets, number: u64, rule: u8, name: &[u8]) -> M<Status>
+    ensures { IfOk result (λ ended. (ended, out.new) ≡ behind out.old (captured.refused_record number (decimal rule ∷ name.now ∷ []))) }
+{
+    push_refused(out, number, rule, name)?;
+    out.push(b'\n')?;
+    Ok(Status::CaptureRefused)
+}
+
+/// Ends a report at an error in the capture, with so many records done.
+pub fn refuse_by(out: &mut Octets, records: u64, why: CaptureFault) -> M<Status>
+    requires { records < 2 ^ 63 }
+    ensures { IfOk result (λ ended. (ended, out.new) ≡ behind out.old (captured.refused_by records why)) }
+{
+    refuse(out, fault_record(records, why), why.number(), why.name())
+}
+
+/// Ends a report at the record that the limit of a capture cuts, with so many records done.
+pub fn refuse_length(out: &mut Octets, records: u64) -> M<Status>
+    requires { records < 2 ^ 63 }
+    ensures { IfOk result (λ ended. (ended, out.new) ≡ behind out.old (captured.too_long records)) }
+{
+    refuse(out, records + 1, 8, b"TooLong")
+}

@@ -1,0 +1,64 @@
+//! Where items come from.
+ghost use Rattle.std.specs.Prelude.{◌≡◌, ◌≢◌, ◌<◌, ℕ, Bool, List, IfOk, OnErr};
+ghost use Rattle.wire_base.specs.Causes.{last_count};
+ghost use Rattle.command_drive.specs.declared.items.Found.TheVariants as found;
+ghost use Rattle.command_drive.specs.Reading.{End, Reads, Finds, GoesOn, IsWaiting};
+
+use std::alloc::Global;
+use wire_base::{CaptureFault, M, Source};
+
+/// Why there is no further item, where no read failed.
+#[derive(Clone, Copy, Debug, PartialEq, Eq)]
+pub enum Close {
+    /// The source ended, and with it the last item.
+    Ended,
+    /// The input has more octets than it may have.
+    TooLong,
+    /// The octets that follow are no item.
+    Broken(CaptureFault),
+}
+
+/// What a call for the next item found.
+#[derive(Clone, Copy, Debug, PartialEq, Eq)]
+pub enum Found {
+    /// A further item.
+    Item,
+    /// A further item, which ends with the source, as a last line without LF does.
+    Last,
+    /// No whole item is left of what was read, and the source gave less than it was asked for: the next call waits until
+    /// it gives more.
+    Waits,
+    /// There is no further item.
+    Closed(Close),
+    /// A read failed.
+    Failed,
+}
+
+/// Gives the items of an input, one after the other, from sources of a type.
+pub trait Items<T, S: Source> {
+    /// The items of further octets, where the source then ends, or fails.
+    ghost reads: { Self → End → List ℕ → Reads T };
+
+    /// The item that was found last.
+    ghost last: { Self → T };
+
+    /// How many items and waits may still be found.
+    ghost most: { Self → ℕ };
+
+    /// Whether the last call found `Waits`, so that the next one waits for the source.
+    ghost waits: { Self → Bool };
+
+    /// Finds the next item, and reads on from the source as far as it takes.
+    fn next(&mut self, alloc: Global, input: &mut S) -> M<Found>
+        requires { S.faults input.old < last_count }
+        ensures found { IfOk result (λ what. Finds what (reads self.old) (reads self.new) (last self.new) (S.left input.old) (S.left input.new)) }
+        ensures fewer { IfOk result (λ what. GoesOn what → most self.new < most self.old) }
+        ensures waits { IfOk result (λ what. IsWaiting what (waits self.new)) }
+        ensures quiet { IfOk result (λ what. what ≢ found.Failed → S.faults input.new ≡ S.faults input.old) }
+        ensures failed { IfOk result (λ what. what ≡ found.Failed → S.faults input.old < S.faults input.new) }
+        ensures memory { OnErr result (S.faults input.new ≡ S.faults input.old) };
+
+    /// The item that was found last.
+    fn item(&self) -> &T
+        ensures { result.now ≡ last self.now };
+}

@@ -1,0 +1,145 @@
+//! Captures that are read from a source chunk by chunk and given record by record.
+ghost use Rattle.std.specs.Prelude.{◌≡◌, ◌≢◌, ◌<◌, ◌≤◌, ◌-◌, ◌^◌, ℕ, List, Ok, None, true, false, IfOk, OnOk, length, take, min, nat_lt};
+ghost use Rattle.wire_base.specs.declared.limits.TheConstants.{CAPTURE_LIMIT};
+ghost use Rattle.wire_base.specs.model.Capture.{unread, fed, next_of, end_of};
+ghost use Rattle.wire_base.specs.declared.faults.CaptureFault.TheVariants as fault;
+ghost use Rattle.command_drive.specs.Reading.{End};
+ghost use Rattle.command_drive.specs.Records.{close_by};
+
+use crate::items::{Close, Found, Items};
+use crate::whole::{PIECE, buffer};
+use pcap_frames::{CapRecord, Reader};
+use std::alloc::Global;
+use std::mem;
+use wire_base::limits::CAPTURE_LIMIT;
+use wire_base::{CaptureFault, M, Memory, Octets, Source};
+
+/// Whether a fault is one of the capture; else memory ran out.
+fn known(why: CaptureFault) -> M<()>
+    ensures { OnOk result (why ≢ fault.Memory) }
+{
+    if why == CaptureFault::Memory {
+        return Err(Memory);
+    }
+    Ok(())
+}
+
+/// A capture that is read record by record: at most 268,435,456 octets.
+///
+/// It holds one chunk of the capture, and what was read and isn't given yet. A fault within the limit is found before a capture
+/// is found too long.
+#[derive(Drop)]
+pub struct RecordReader {
+    buffer: Vec<u8>,
+    reader: Reader,
+    given: CapRecord,
+    room: usize,
+    over: bool,
+    short: bool,
+    waits: bool,
+    ghost chunk: { 0 < length buffer.items },
+    ghost within: { room ≤ CAPTURE_LIMIT },
+}
+
+impl RecordReader {
+    ghost use Rattle.command_drive.specs.Records.{records_read, records_left};
+
+    /// A reader that has read nothing.
+    pub fn new(alloc: Global) -> M<Self>
+        ensures fresh { IfOk result (λ made. (end : End) (octets : List ℕ) → records_read made.reader made.room made.over end octets ≡ records_read unread CAPTURE_LIMIT false end octets) }
+        ensures idle { IfOk result (λ made. made.waits ≡ false) }
+        ensures few { IfOk result (λ made. records_left made.reader made.room made.short < 2 ^ 30) }
+    {
+        Ok(RecordReader {
+            buffer: buffer(alloc)?,
+            reader: Reader::new(alloc),
+            given: CapRecord {
+                sec: 0,
+                usec: 0,
+                whole: true,
+                octets: Octets::new(alloc),
+            },
+            room: CAPTURE_LIMIT,
+            over: false,
+            short: false,
+            waits: false,
+        })
+    }
+
+    /// Takes so many octets that were read, up to the limit.
+    fn take(&mut self, count: usize) -> M<()>
+        requires { count ≤ length self.old.buffer.items }
+        ensures reader { OnOk result (self.new.reader ≡ fed self.old.reader (take (min count self.old.room) self.old.buffer.items)) }
+        ensures room { OnOk result (self.new.room ≡ self.old.room - count) }
+        ensures over { OnOk result (self.new.over ≡ nat_lt self.old.room count) }
+        ensures waits { OnOk result (self.new.waits ≡ self.old.waits) }
+        ensures short { OnOk result (self.new.short ≡ true → count < self.old.room) }
+    {
+        let room = self.room;
+        let fits = count.min(room);
+        self.reader.feed(&self.buffer[..fits])?;
+        self.room -= fits;
+        self.over = count > room;
+        self.short = count < room.min(PIECE);
+        Ok(())
+    }
+
+    /// How the capture closes where the source ended.
+    fn end(&mut self, alloc: Global) -> Close
+        requires { (next_of self.old.reader).0 ≡ Ok None }
+        ensures { result ≡ close_by (end_of (next_of self.old.reader).1) }
+    {
+        match mem::replace(&mut self.reader, Reader::new(alloc)).finish() {
+            Ok(()) => Close::Ended,
+            Err(why) => Close::Broken(why),
+        }
+    }
+}
+
+impl<S: Source> Items<CapRecord, S> for RecordReader {
+    ghost use Rattle.command_drive.specs.Records.{records_read, records_left};
+
+    ghost reads = { λ s end octets. records_read s.reader s.room s.over end octets };
+
+    ghost last = { λ s. s.given };
+
+    ghost most = { λ s. records_left s.reader s.room s.short };
+
+    ghost waits = { λ s. s.waits };
+
+    fn next(&mut self, alloc: Global, input: &mut S) -> M<Found> {
+        self.waits = false;
+        'chunks: loop {
+            match self.reader.next() {
+                Ok(Some(record)) => {
+                    self.given = record;
+                    return Ok(Found::Item);
+                }
+                Ok(None) => {}
+                Err(why) => {
+                    known(why)?;
+                    return Ok(Found::Closed(Close::Broken(why)));
+                }
+            }
+            if self.over {
+                return Ok(Found::Closed(Close::TooLong));
+            }
+            if self.short {
+                self.short = false;
+                self.waits = true;
+                return Ok(Found::Waits);
+            }
+            let Ok(count) = input.read(&mut self.buffer) else {
+                return Ok(Found::Failed);
+            };
+            if count == 0 {
+                return Ok(Found::Closed(self.end(alloc)));
+            }
+            self.take(count)?;
+        }
+    }
+
+    fn item(&self) -> &CapRecord {
+        &self.given
+    }
+}

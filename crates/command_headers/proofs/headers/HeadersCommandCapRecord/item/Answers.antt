@@ -1,0 +1,11 @@
+use Rattle.std.proofs.Common.{refl, ap, ◌+◌, ◌++◌, ◌∙◌, ℕ, List}
+use Rattle.command_headers.specs.Sight.{sight_of, sight_text, sight_count}
+use Rattle.command_headers.proofs.Steps.{told_record}
+use Rattle.command_headers.proofs.headers.HeadersCommandCapRecord.item.Goals as goal
+
+pub returns-clause-did : goal.returns-clause-did
+returns-clause-did c =
+    let s = c.args.self.now in
+    told_record s.records (s.records + 1) s.headers (s.headers + c.in_ok-found.found) c.args.item.now c.args.texts.now (record c.args.texts.now { report = c.push_record.new.out }) refl
+    (ap (λ (m : ℕ). s.headers + m) (c.in_ok-found.ensures.count ∙ ap (λ (l : List ℕ). sight_count (sight_of l)) c.as_slice-frame.ensures))
+    (c.in_ok-found.ensures.text ∙ ap (λ (l : List ℕ). c.args.texts.now.report ++ sight_text (s.records + 1) (sight_of l)) c.as_slice-frame.ensures) refl

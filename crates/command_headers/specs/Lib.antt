@@ -1,0 +1,3 @@
+pub mod Sight
+pub mod HeadersText
+pub mod Owed

@@ -1,0 +1,120 @@
+//! The line of a record: its BIER header, or why its octets are none.
+ghost use Rattle.std.specs.Prelude.{◌≡◌, ◌++◌, IfOk, OnOk};
+ghost use Rattle.wire_base.specs.model.Labels.{stack_at};
+ghost use Rattle.wire_base.specs.model.BierHeader.{coded_header_at};
+ghost use Rattle.bier_head.specs.Views.{header_of};
+ghost use Rattle.command_headers.specs.Sight as sight;
+
+use bier_head::{Header, read_by_field};
+use link_frame::{Class, classify, read_stack};
+use replay_text::{push_positions, push_rule};
+use std::alloc::Global;
+use wire_base::{HeadFault, Kind, M, Octets};
+
+/// Appends why a record's octets are no header: the number and the name of the rule that they break.
+fn push_bad(out: &mut Octets, fault: HeadFault) -> M<()>
+    ensures { OnOk result (out.new ≡ out.old ++ sight.head_fault_text fault) }
+{
+    out.append(b" bad ")?;
+    push_rule(out, fault.number(), fault.name())?;
+    out.push(b'\n')
+}
+
+fn kind_text(kind: Kind) -> &'static [u8]
+    ensures { result.now ≡ sight.kind_text kind }
+{
+    match kind {
+        Kind::Mpls => b" mpls ",
+        Kind::Configured => b" bier ",
+    }
+}
+
+/// Appends three numbers, with a blank after each.
+fn push_three(out: &mut Octets, first: u32, second: u32, third: u32) -> M<()>
+    ensures { OnOk result (out.new ≡ out.old ++ sight.three_text first second third) }
+{
+    out.append_number(u64::from(first))?;
+    out.push(b' ')?;
+    out.append_number(u64::from(second))?;
+    out.push(b' ')?;
+    out.append_number(u64::from(third))?;
+    out.push(b' ')
+}
+
+/// Appends the fields of a header.
+fn push_fields(out: &mut Octets, header: &Header) -> M<()>
+    ensures { OnOk result (out.new ≡ out.old ++ sight.header_text (header_of header.now)) }
+{
+    let bits = header.bits.bsl().bits();
+    push_three(out, header.bift, u32::from(header.ttl), u32::from(bits))?;
+    push_three(
+        out,
+        header.entropy,
+        u32::from(header.proto),
+        u32::from(header.bfir),
+    )?;
+    push_positions(out, &header.bits)?;
+    out.push(b'\n')
+}
+
+/// Appends the line of a record whose octets are a BIER packet, and answers how many headers it has: one, or none
+/// where they are no header.
+fn push_header(out: &mut Octets, number: u64, kind: Kind, bytes: &[u8]) -> M<u64>
+    ensures text { OnOk result (out.new ≡ out.old ++ sight.sight_text number (sight.sight_by kind (coded_header_at kind bytes.now))) }
+    ensures count { IfOk result (λ count. count ≡ sight.sight_count (sight.sight_by kind (coded_header_at kind bytes.now))) }
+{
+    match read_by_field(kind, bytes) {
+        Ok(header) => {
+            out.append_number(number)?;
+            out.append(kind_text(kind))?;
+            push_fields(out, &header)?;
+            Ok(1)
+        }
+        Err(fault) => {
+            out.append_number(number)?;
+            push_bad(out, fault)?;
+            Ok(0)
+        }
+    }
+}
+
+/// Whether octets begin with the four bits of a BIER header behind a label (RFC 8296, 2.1.2).
+fn begins_bier(bytes: &[u8]) -> bool
+    ensures { result ≡ sight.begins_bier bytes.now }
+{
+    match bytes {
+        [] => false,
+        [octet, ..] => octet / 16 == 5,
+    }
+}
+
+/// Appends the line of a record that carries a packet behind labels, whose last one is the first number of a header.
+/// Where the stack can't be read, or no BIER header follows it, there is none.
+fn push_behind_stack(out: &mut Octets, number: u64, bytes: &[u8]) -> M<u64>
+    ensures text { OnOk result (out.new ≡ out.old ++ sight.sight_text number (sight.behind_stack bytes.now (stack_at 8 bytes.now))) }
+    ensures count { IfOk result (λ count. count ≡ sight.sight_count (sight.behind_stack bytes.now (stack_at 8 bytes.now))) }
+{
+    let Ok(labels) = read_stack(bytes) else {
+        return Ok(0);
+    };
+    let last = 4 * (labels.len() - 1);
+    if begins_bier(&bytes[last + 4..]) {
+        push_header(out, number, Kind::Mpls, &bytes[last..])
+    } else {
+        Ok(0)
+    }
+}
+
+/// Appends the line of a record with that frame, where it is one of a BIER packet, and answers how many headers it has:
+/// one, or none.
+#[tactic(auto, unfolding(crate::specs::Sight::sight_of))]
+pub fn push_record(_alloc: Global, out: &mut Octets, number: u64, frame: &[u8]) -> M<u64>
+    ensures text { OnOk result (out.new ≡ out.old ++ sight.sight_text number (sight.sight_of frame.now)) }
+    ensures count { IfOk result (λ count. count ≡ sight.sight_count (sight.sight_of frame.now)) }
+{
+    match classify(frame) {
+        Ok(Class::Mpls { from }) => push_behind_stack(out, number, &frame[from..]),
+        Ok(Class::Bier { from }) => { push_header(out, number, Kind::Configured, &frame[from..]) }
+        _ => Ok(0),
+    }
+}

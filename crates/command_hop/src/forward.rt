@@ -1,0 +1,202 @@
+//! One router's forwarding of a packet on written rows.
+ghost use Rattle.std.specs.Prelude.{◌≡◌, ◌<◌, ◌*◌, ◌++◌, List, IfOk, OnOk, IsTrue};
+ghost use Rattle.std.specs.Fmt.{decimal};
+ghost use Rattle.wire_base.specs.model.Hop.{hop};
+ghost use Rattle.wire_base.specs.model.Place.{bits_of};
+ghost use Rattle.bier_bits.specs.Any.{positions_of, bsl_of};
+ghost use Rattle.bier_bits.specs.Sets.{is_width};
+ghost use Rattle.bier_hop.specs.Outcomes.{IsNumbering, IsOwn, left, outcome};
+ghost use Rattle.replay_text.specs.Ids.{in_range};
+ghost use Rattle.replay_text.specs.declared.hop.HopRow.{HopRow};
+ghost use Rattle.command_hop.specs.Forward as forward;
+ghost use Rattle.command_hop.specs.Ways.{AreWays, name_at, number_of, seen, chosen, texts, routers_of, length_of};
+
+use crate::ways::{AnyTable, Ways};
+use bier_bits::{AnyBits, BitString};
+use bier_hop::{Hop, Out};
+use bift_table::Table;
+use replay_text::push_set;
+use std::alloc::Global;
+use std::marker::Brand;
+use std::sync::ledger::{Blank, Ledger};
+use wire_base::{First, M, Name, Octets, Steps};
+
+/// A TTL with which each copy goes on.
+const TTL: u16 = 255;
+
+/// The number of a packet's line, and what follows it.
+fn begin_line(out: &mut Octets, line: u64, what: &[u8]) -> M<()>
+    ensures { OnOk result (out.new ≡ out.old ++ (decimal line ++ what.now)) }
+{
+    out.append_number(line)?;
+    out.append(what)
+}
+
+/// The name of a neighbor.
+fn name_of<'n>(names: &'n [Name], to: &First) -> &'n [u8]
+    ensures { result.now ≡ name_at names.now (number_of to.now) }
+{
+    let number = to.direct.unwrap_or(0);
+    match names.get(usize::from(number)) {
+        None => &[],
+        Some(name) => name.as_slice(),
+    }
+}
+
+/// The own id is delivered.
+fn push_local(out: &mut Octets, line: u64, own: u16) -> M<()>
+    ensures { OnOk result (out.new ≡ out.old ++ forward.outcome_text line (forward.Local own)) }
+{
+    begin_line(out, line, b" local ")?;
+    out.append_number(u64::from(own))?;
+    out.push(b'\n')
+}
+
+/// One copy.
+fn push_copy<const W: usize>(out: &mut Octets, line: u64, name: &[u8], set: &BitString<W>) -> M<()>
+    requires { IsTrue (is_width W) }
+    ensures { OnOk result (out.new ≡ out.old ++ forward.outcome_text line (forward.Copy name.now set.now)) }
+{
+    begin_line(out, line, b" copy ")?;
+    out.append(name)?;
+    out.push(b' ')?;
+    push_set(out, set)?;
+    out.push(b'\n')
+}
+
+/// The ids without a row are dropped.
+fn push_drop<const W: usize>(out: &mut Octets, line: u64, set: &BitString<W>) -> M<()>
+    requires { IsTrue (is_width W) }
+    ensures { OnOk result (out.new ≡ out.old ++ forward.outcome_text line (forward.Dropped set.now)) }
+{
+    begin_line(out, line, b" drop none ")?;
+    push_set(out, set)?;
+    out.push(b'\n')
+}
+
+/// The line of an outcome.
+fn push_outcome<const W: usize>(
+    out: &mut Octets,
+    line: u64,
+    names: &[Name],
+    one: &Out<'_, W>,
+) -> M<()>
+    requires { IsTrue (is_width W) }
+    ensures { OnOk result (out.new ≡ out.old ++ forward.outcome_text line (seen names.now (outcome number_of one.now))) }
+{
+    match one {
+        Out::Local(own) => push_local(out, line, *own),
+        Out::Copy { to, set, .. } => push_copy(out, line, name_of(names, to), set),
+        Out::Dropped { set, .. } => push_drop(out, line, set),
+    }
+}
+
+/// The lines of the outcomes that are left of a packet.
+fn push_left<const W: usize, L: Ledger>(
+    out: &mut Octets,
+    line: u64,
+    names: &[Name],
+    mut hop: Hop<'_, W>,
+    steps: &mut Steps<L>,
+) -> M<()>
+    requires width { IsTrue (is_width W) }
+    requires numbered { IsNumbering hop.table number_of (chosen hop.table) }
+    ensures { OnOk result (out.new ≡ out.old ++ texts line names.now (left (chosen hop.entry.table) hop.entry)) }
+{
+    'outcomes: while let Some(one) = hop.next(steps) {
+        push_outcome(out, line, names, &one)?;
+    }
+    Ok(())
+}
+
+/// The own id as a position, where it is one.
+fn own_position(own: u16, bits: u16) -> Option<u16>
+    ensures value { result ≡ in_range bits own }
+    ensures own { IsOwn bits result }
+{
+    if own == 0 || own > bits {
+        return None;
+    }
+    Some(own)
+}
+
+/// The lines of a packet at a table.
+fn push_hop<const W: usize, L: Ledger>(
+    out: &mut Octets,
+    line: u64,
+    names: &[Name],
+    own: u16,
+    table: &Table<W>,
+    set: &BitString<W>,
+    steps: &mut Steps<L>,
+) -> M<()>
+    requires width { IsTrue (is_width W) }
+    requires numbered { IsNumbering table.now number_of (chosen table.now) }
+    ensures { OnOk result (out.new ≡ out.old ++ texts line names.now (hop (in_range (64 * W) own) (chosen table.now) set.now 255)) }
+{
+    let own = own_position(own, set.width());
+    let hop = Hop::begin(table, own, set.copy(), TTL);
+    push_left(out, line, names, hop, steps)
+}
+
+/// The lines of a packet at a table of its length, with a ledger for the steps, which nobody reads.
+fn push_along<L: Ledger>(
+    out: &mut Octets,
+    line: u64,
+    own: u16,
+    ways: &Ways,
+    bits: &AnyBits,
+    blank: Blank,
+) -> M<()>
+    requires name { blank.name ≡ L.name }
+    requires parts { blank.parts ≡ L.parts }
+    requires some { 0 < blank.parts }
+    requires length { length_of ways.now.table ≡ bsl_of bits.now }
+    requires numbered { IsNumbering (routers_of ways.now.table) number_of (chosen (routers_of ways.now.table)) }
+    ensures { OnOk result (out.new ≡ out.old ++ texts line ways.now.names (hop (in_range (bits_of (bsl_of bits.now)) own) (chosen (routers_of ways.now.table)) (positions_of bits.now) 255)) }
+{
+    let mut steps = Steps::<L>::new(blank);
+    let names = ways.names.as_slice();
+    match (&ways.table, bits) {
+        (AnyTable::B64(table), AnyBits::B64(set)) => {
+            push_hop(out, line, names, own, table, set, &mut steps)
+        }
+        (AnyTable::B128(table), AnyBits::B128(set)) => {
+            push_hop(out, line, names, own, table, set, &mut steps)
+        }
+        (AnyTable::B256(table), AnyBits::B256(set)) => {
+            push_hop(out, line, names, own, table, set, &mut steps)
+        }
+        (AnyTable::B512(table), AnyBits::B512(set)) => {
+            push_hop(out, line, names, own, table, set, &mut steps)
+        }
+        (AnyTable::B1024(table), AnyBits::B1024(set)) => {
+            push_hop(out, line, names, own, table, set, &mut steps)
+        }
+        (AnyTable::B2048(table), AnyBits::B2048(set)) => {
+            push_hop(out, line, names, own, table, set, &mut steps)
+        }
+        (AnyTable::B4096(table), AnyBits::B4096(set)) => {
+            push_hop(out, line, names, own, table, set, &mut steps)
+        }
+        _ => unreachable!(),
+    }
+}
+
+/// Appends the lines of a packet: the line's number, and what is done with each id. It is one hop over the table of the rows,
+/// seen by names.
+pub fn push_outcomes(
+    _alloc: Global,
+    out: &mut Octets,
+    line: u64,
+    own: u16,
+    ways: &Ways,
+    bits: &AnyBits,
+) -> M<()>
+    requires length { length_of ways.now.table ≡ bsl_of bits.now }
+    requires ways { (rows : List HopRow) × AreWays rows ways.now }
+    ensures { (rows : List HopRow) → AreWays rows ways.now → OnOk result (out.new ≡ out.old ++ forward.outcomes_text line (forward.outcomes own rows (positions_of bits.now))) }
+{
+    let _bsl = bits.bsl();
+    push_along::<Brand>(out, line, own, ways, bits, Blank::new(1))
+}

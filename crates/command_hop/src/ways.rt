@@ -1,0 +1,156 @@
+//! The forwarding table of written rows: each different name is a neighbor with a number.
+ghost use Rattle.std.specs.Prelude.{◌≡◌, ◌≤◌, ◌<◌, ◌+◌, ◌-◌, ◌++◌, ℕ, List, [], length, true, false, IfOk, MatchOption, slice_index_or, option_map};
+ghost use Rattle.std.specs.Str.{bytes_eq};
+ghost use Rattle.wire_base.specs.model.Place.{bits_of};
+ghost use Rattle.bift_table.specs.Bift.{router_at, member_at};
+ghost use Rattle.command_hop.specs.Forward as forward;
+ghost use Rattle.command_hop.specs.Ways as spec;
+
+use bift_table::Table;
+use replay_text::HopRow;
+use std::alloc::Global;
+use wire_base::{Bsl, First, FirstList, M, Name, RowSet, Rows, SystemId};
+
+/// A forwarding table of one of the seven lengths.
+#[derive(Drop)]
+pub(crate) enum AnyTable {
+    B64(Table<1>),
+    B128(Table<2>),
+    B256(Table<4>),
+    B512(Table<8>),
+    B1024(Table<16>),
+    B2048(Table<32>),
+    B4096(Table<64>),
+}
+
+impl AnyTable {
+    /// Its length.
+    pub fn bsl(&self) -> Bsl
+        ensures { result ≡ spec.length_of self.now }
+    {
+        match self {
+            AnyTable::B64(_) => Bsl::B64,
+            AnyTable::B128(_) => Bsl::B128,
+            AnyTable::B256(_) => Bsl::B256,
+            AnyTable::B512(_) => Bsl::B512,
+            AnyTable::B1024(_) => Bsl::B1024,
+            AnyTable::B2048(_) => Bsl::B2048,
+            AnyTable::B4096(_) => Bsl::B4096,
+        }
+    }
+}
+
+/// The neighbors' names, each at its number, and the table.
+#[derive(Drop)]
+pub(crate) struct Ways {
+    pub names: Rows<Name>,
+    pub table: AnyTable,
+}
+
+/// The name of an id's row.
+fn name_of(rows: &[HopRow], id: u16) -> Option<&[u8]>
+    ensures { option_map (λ name. name.now) result ≡ forward.name_of rows.now id }
+{
+    let row = rows.iter().find(|row| row.id == id)?;
+    Some(row.name.as_slice())
+}
+
+fn is_name(name: &Name, text: &[u8]) -> bool
+    ensures { result ≡ bytes_eq name.now text.now }
+{
+    name.as_slice() == text
+}
+
+/// The number of a name, where it has one.
+fn find_number(names: &[Name], text: &[u8]) -> Option<usize>
+    ensures { MatchOption result (spec.has_name names.now text.now ≡ false) (λ n. (spec.has_name names.now text.now ≡ true) × ((n ≡ spec.number_in names.now text.now) × (n < length names.now))) }
+{
+    for (n, name) in names.iter().enumerate() {
+        if is_name(name, text) {
+            return Some(n);
+        }
+    }
+    None
+}
+
+/// The number of a name, which gets the next one where it has none.
+fn number_for(alloc: Global, names: &mut Rows<Name>, text: &[u8]) -> M<u16>
+    requires { length names.old ≤ 65535 }
+    ensures number { IfOk result (λ n. n ≡ spec.number_in names.new text.now) }
+    ensures names { IfOk result (λ _. names.new ≡ spec.with_name names.old text.now) }
+{
+    if let Some(n) = find_number(names.as_slice(), text) {
+        return Ok(n as u16);
+    }
+    let n = names.len() as u16;
+    names.push(Name::from_slice(alloc, text)?)?;
+    Ok(n)
+}
+
+/// The neighbor with a number.
+fn neighbour(n: u16) -> First
+    ensures { result ≡ spec.neighbour n }
+{
+    First {
+        system: SystemId([0, 0, 0, 0, (n / 256) as u8, (n % 256) as u8]),
+        direct: Some(n),
+    }
+}
+
+/// Where a position leads.
+fn list_at(alloc: Global, names: &mut Rows<Name>, rows: &[HopRow], p: u16) -> M<FirstList>
+    requires { length names.old ≤ 65535 }
+    ensures listed { IfOk result (λ list. spec.IsListed rows.now names.new p list) }
+    ensures names { IfOk result (λ _. (more : List (List ℕ)) × (names.new ≡ names.old ++ more)) }
+    ensures few { IfOk result (λ _. length names.new ≤ length names.old + 1) }
+{
+    match name_of(rows, p) {
+        None => Ok(FirstList::new(alloc)),
+        Some(name) => {
+            let n = number_for(alloc, names, name)?;
+            Ok(FirstList::from_slice(alloc, &[neighbour(n)])?)
+        }
+    }
+}
+
+/// Where each position of a length leads.
+fn lists_of(alloc: Global, names: &mut Rows<Name>, rows: &[HopRow], bits: u16) -> M<RowSet>
+    requires none { names.old ≡ [] }
+    requires few { bits ≤ 4096 }
+    ensures length { IfOk result (λ set. length set.bits ≡ bits) }
+    ensures listed { IfOk result (λ set. (q : ℕ) → q < bits → spec.IsListed rows.now names.new (q + 1) (slice_index_or set.bits q [])) }
+{
+    let mut lists = Rows::new(alloc);
+    'positions: for q in 0..bits {
+        lists.push(list_at(alloc, names, rows, q + 1)?)?;
+    }
+    Ok(RowSet { bits: lists })
+}
+
+/// The table of a length.
+fn table_of(alloc: Global, rows: &RowSet, bsl: Bsl) -> M<AnyTable>
+    requires { length rows.now.bits ≡ bits_of bsl }
+    ensures bsl { IfOk result (λ table. spec.length_of table ≡ bsl) }
+    ensures routers { IfOk result (λ table. (p : ℕ) → 1 ≤ p → router_at (spec.routers_of table) p ≡ member_at 0 (slice_index_or rows.now.bits (p - 1) [])) }
+{
+    Ok(match bsl {
+        Bsl::B64 => AnyTable::B64(Table::build(alloc, rows, 0)?),
+        Bsl::B128 => AnyTable::B128(Table::build(alloc, rows, 0)?),
+        Bsl::B256 => AnyTable::B256(Table::build(alloc, rows, 0)?),
+        Bsl::B512 => AnyTable::B512(Table::build(alloc, rows, 0)?),
+        Bsl::B1024 => AnyTable::B1024(Table::build(alloc, rows, 0)?),
+        Bsl::B2048 => AnyTable::B2048(Table::build(alloc, rows, 0)?),
+        Bsl::B4096 => AnyTable::B4096(Table::build(alloc, rows, 0)?),
+    })
+}
+
+/// The table of rows, for packets of a length. The neighbors are numbered in the order of their least positions.
+pub(crate) fn ways_of(alloc: Global, rows: &[HopRow], bsl: Bsl) -> M<Ways>
+    ensures ways { IfOk result (λ ways. spec.AreWays rows.now ways) }
+    ensures bsl { IfOk result (λ ways. spec.length_of ways.table ≡ bsl) }
+{
+    let mut names = Rows::new(alloc);
+    let lists = lists_of(alloc, &mut names, rows, bsl.bits())?;
+    let table = table_of(alloc, &lists, bsl)?;
+    Ok(Ways { names, table })
+}

@@ -1,0 +1,28 @@
+use Rattle.std.proofs.Common.{◌≡◌, ℕ, List, ◌++◌, ap, ◌∙◌}
+use Rattle.wire_base.specs.declared.status.Status.TheVariants as status
+use Rattle.wire_base.specs.model.Capture.{written_header}
+use Rattle.command_drive.specs.Reading.{Ends, Fails}
+use Rattle.command_drive.proofs.Meanings.{drives_as}
+use Rattle.command_drive.proofs.Untouched.{drives_none}
+use Rattle.command_replay.specs.ScheduleText.{schedule_means}
+use Rattle.command_replay.proofs.Answered.{answer_met, cut_met}
+use Rattle.command_replay.proofs.replay_command.play.Goals as goal
+
+pub returns-in_default : goal.returns-in_default
+returns-in_default g c = drives_none g.S.Source g.C.Sink g.R.Sink status.InputRefused (schedule_means c.args.domain) c.args.input.now c.args.frames.now c.args.report.now
+
+pub returns-in_default-write_cap_header : goal.returns-in_default-write_cap_header
+returns-in_default-write_cap_header g c = drives_none g.S.Source g.C.Sink g.R.Sink status.InputRefused (schedule_means c.args.domain) c.args.input.now c.args.frames.now c.args.report.now
+
+pub returns-in_default-new : goal.returns-in_default-new
+returns-in_default-new g c = drives_none g.S.Source g.C.Sink g.R.Sink status.InputRefused (schedule_means c.args.domain) c.args.input.now c.args.frames.now c.args.report.now
+
+pub returns : goal.returns
+returns g c =
+    let r = c.in-Ok-new.replaying in
+    let e = c.in-Ok-new.ensures in
+    let header : c.write_cap_header.new.out ≡ written_header = c.in-Ok-write_cap_header.ensures.ok ∙ ap (λ (l : List ℕ). l ++ written_header) c.new-texts.ensures.frames in
+    drives_as g.S.Source g.C.Sink g.R.Sink status.InputRefused _ (schedule_means c.args.domain) c.drive.result _ _ _ _ _ _
+    (λ octets. answer_met c.args.domain r.replay r.names r.line r.rounds c.new-texts.result.report c.write_cap_header.new.out e.replay e.names e.line e.rounds c.new-texts.ensures.report header _ octets (c.in-Ok.ensures.fresh Ends octets))
+    (λ octets failed. cut_met c.args.domain r.replay r.names r.line r.rounds c.new-texts.result.report c.write_cap_header.new.out e.replay e.names e.line e.rounds c.new-texts.ensures.report header _ octets (c.in-Ok.ensures.fresh Fails octets) failed)
+    c.drive.ensures

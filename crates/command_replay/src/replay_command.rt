@@ -1,0 +1,48 @@
+//! The command `replay`: a domain over a schedule.
+ghost use Rattle.std.specs.Prelude.{◌≡◌};
+ghost use Rattle.wire_base.specs.declared.status.Status.TheVariants as status;
+ghost use Rattle.command_drive.specs.Driving.{MayRise, Drives};
+ghost use Rattle.command_replay.specs.ScheduleText.{schedule_means};
+
+use crate::replaying::Replaying;
+use command_drive::{LineReader, Texts, drive};
+use pcap_frames::write_cap_header;
+use std::alloc::Global;
+use wire_base::{Domain, Sink, Source, Status};
+
+/// All that the program does for the arguments `replay CONF SCHEDULE FRAMES`, once the domain file is read: it does the schedule's
+/// lines in the domain, up to its end or to the first line that is rejected, and writes the capture of what the routers sent and the
+/// report of what they delivered and dropped.
+///
+/// The status and both outputs are those of the schedule. After a read error the lines that are whole in what was read are done and
+/// reported; at a write error, and where memory runs out, a prefix of each output is written. Each error has its cause.
+pub fn play<S: Source, C: Sink, R: Sink>(
+    alloc: Global,
+    domain: Domain,
+    input: &mut S,
+    frames: &mut C,
+    report: &mut R,
+) -> Status
+    requires { MayRise S.Source C.Sink R.Sink input.old frames.old report.old }
+    ensures { Drives S.Source C.Sink R.Sink status.InputRefused (schedule_means domain) result input.old input.new frames.old frames.new report.old report.new }
+{
+    let Ok(mut reader) = LineReader::new(alloc) else {
+        return Status::Memory;
+    };
+    let mut texts = Texts::new(alloc);
+    let Ok(()) = write_cap_header(&mut texts.frames) else {
+        return Status::Memory;
+    };
+    let Ok(mut replaying) = Replaying::new(alloc, domain) else {
+        return Status::Memory;
+    };
+    drive(
+        alloc,
+        &mut reader,
+        &mut replaying,
+        &mut texts,
+        input,
+        frames,
+        report,
+    )
+}

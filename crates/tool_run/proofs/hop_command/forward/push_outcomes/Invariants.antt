@@ -1,4 +1,0 @@
-use Rattle.tool_run.proofs.hop_command.forward.push_outcomes.Given as goal
-
-abbrev pub ghosts-push_along : goal.ghosts-push_along
-ghosts-push_along a = record { name = a.blank.name; parts = a.blank.parts }

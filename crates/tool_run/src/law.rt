@@ -1,9 +1,0 @@
-//! What holds of every packet.
-ghost use Rattle.std.specs.Prelude.{List, ℕ, All};
-ghost use Rattle.tool_run.specs.HopText.{packets_of};
-ghost use Rattle.tool_run.specs.Partition.{IsParted};
-
-/// Whatever the input of `hop`: each id of each of its packets stands in exactly one of that packet's lines.
-pub fn packets_are_parted()
-    ensures { (input : List ℕ) → All IsParted (packets_of input) }
-{}
