@@ -1,5 +1,5 @@
 -- An input that is taken and done item by item is done as a whole, whatever the items and whatever is done with them.
-use Rattle.std.proofs.Common.{◌≡◌, ◌≢◌, ℕ, ◌+◌, ◌<◌, List, [], ◌++◌, length, take, Option, Some, None, Result, Ok, Err, refl, sym, ap, ap₂, subst, ◌∙◌, arith, inl, inr, append-nil, append_assoc}
+use Rattle.std.proofs.Common.{◌≡◌, ◌≢◌, ℕ, ◌+◌, ◌<◌, Bool, List, [], ◌++◌, length, take, Option, Some, None, Result, Ok, Err, refl, sym, ap, ap₂, subst, ◌∙◌, arith, inl, inr, append-nil, append_assoc}
 use Rattle.std.specs.Prelude.{OnErr, IfErr}
 use Rattle.std.specs.Result.{IsErrAnd}
 use Rattle.std.specs.Io.KnownBytes.{Appends, Consumes}
@@ -17,7 +17,7 @@ use Rattle.run_texts.specs.declared.texts.Texts.{Texts}
 use Rattle.command_drive.specs.declared.items.Close.{Close}
 use Rattle.command_drive.specs.declared.items.Found.{Found}
 use Rattle.command_drive.specs.declared.items.Found.TheVariants as found
-use Rattle.command_drive.specs.Reading.{End, Behind, Reads, Left, Finds, GoesOn}
+use Rattle.command_drive.specs.Reading.{End, Behind, Reads, Left, Finds, GoesOn, IsWaiting}
 use Rattle.command_drive.specs.Doing.{Owed, Told, Concludes, Did, told}
 use Rattle.command_drive.specs.Driving.{SinksQuiet, Wrote, Fronted, total, Moves, Owing, Went, Fronts}
 
@@ -83,7 +83,7 @@ module _ {T C R : Type 0} (c : sink.Ghosts C) (r : sink.Ghosts R) where
         owed = λ items behind. m.owed items behind ∙ ap (told m.report_part m.frames_part) (n.owed items behind) ∙ told-told m.report_part m.frames_part n.report_part n.frames_part (three items behind);
       }
 
-  -- something was told
+  -- something was reported
   pub moves_told : (old new : Owed T) (texts texts_now : Texts) (frames : C) (report : R) → Told old new texts texts_now → Moves c r (total texts old) (total texts_now new) frames frames report report
   moves_told old new texts texts_now frames report t =
       record {
@@ -208,6 +208,9 @@ closed_apart how e = cc
 -- there may be more to find
 pub goes_on : (what other : Found) (P : Type 0) → what ≡ other → GoesOn other → (GoesOn what → P) → P
 goes_on what other P is goes then = then (subst GoesOn (sym is) goes)
+
+pub waiting_as : (what other : Found) (waits : Bool) → what ≡ other → IsWaiting what waits → IsWaiting other waits
+waiting_as what other waits is waiting = subst (λ (w : Found). IsWaiting w waits) is waiting
 
 pub finds_last : {T : Type 0} (old new : End → List ℕ → Reads T) (item other : T) (left left_now : Option (List ℕ)) → item ≡ other → Finds found.Last old new other left left_now → Finds found.Last old new item left left_now
 finds_last {T} old new item other left left_now is finds = subst (λ (x : T). Finds found.Last old new x left left_now) (sym is) finds

@@ -1,5 +1,5 @@
 -- What a run over an input does.
-use Rattle.std.specs.Prelude.{ℕ, ◌≡◌, ◌≢◌, ◌⊎◌, ◌<◌, false, List, ◌++◌, Option, Some, None}
+use Rattle.std.specs.Prelude.{ℕ, ◌≡◌, ◌≢◌, ◌⊎◌, ◌<◌, false, List, [], ◌++◌, Option, Some, None}
 use Rattle.std.specs.Io.KnownBytes.{Appends, Consumes, IsAtEnd}
 use Rattle.wire_base.specs.Causes.{last_count}
 use Rattle.command_drive.specs.Answer.{Verdict, IsDecided}
@@ -49,6 +49,11 @@ OneRose c r frames_old frames_new report_old report_new =
     (c.faults frames_old < c.faults frames_new) ⊎ ((c.zeros frames_old < c.zeros frames_new) ⊎ ((r.faults report_old < r.faults report_new) ⊎ (r.zeros report_old < r.zeros report_new)))
 
 -- ---- on the way
+
+-- nothing is left to be written
+pub record IsWritten (texts : Texts) : Type 0 where
+  pub frames : texts.frames ≡ []
+  pub report : texts.report ≡ []
 
 -- Fronts of both texts were written out, and the rest is left.
 pub record Wrote {C R : Type 0} (c : sink.Ghosts C) (r : sink.Ghosts R) (texts texts_now : Texts) (frames_old frames_new : C) (report_old report_new : R) : Type 0 where
@@ -104,7 +109,7 @@ abbrev pub Fronts : {T C R : Type 0} → sink.Ghosts C → sink.Ghosts R → Owe
 Fronts {T} c r owed frames_old frames_new report_old report_new =
     (items : List T) (behind : Behind) → AppendsFronts (owed items behind) (r.written report_old) (r.written report_new) (c.written frames_old) (c.written frames_new)
 
--- A run stopped at a fault of a sink, or for want of memory.
+-- A run stopped at a write error, or out of memory.
 abbrev pub StopsFor : {C R : Type 0} → Status → sink.Ghosts C → sink.Ghosts R → (frames_old frames_new : C) → (report_old report_new : R) → Type 0
 StopsFor why c r frames_old frames_new report_old report_new =
     ((why ≡ WriteFault) × OneRose c r frames_old frames_new report_old report_new) ⊎ ((why ≡ Memory) × SinksQuiet c r frames_old frames_new report_old report_new)
@@ -130,7 +135,7 @@ pub record Drives {S C R : Type 0} (s : source.Ghosts S) (c : sink.Ghosts C) (r 
   -- Behind a failed source, what is whole in what was taken is done and told.
   pub stopped : ended ≡ ReadFault → (octets : List ℕ) × Consumes (s.left input_old) (s.left input_new) octets
       × Meets (means Fails octets) ended (r.written report_old) (r.written report_new) (c.written frames_old) (c.written frames_new)
-  -- At a fault of a sink, and at want of memory, a front of each text is written.
+  -- At a write error, and on out of memory, a prefix of each output is written.
   pub front : (ended ≡ WriteFault) ⊎ (ended ≡ Memory) → (octets : List ℕ) × Held (s.left input_old) octets
       × AppendsFronts (means Ends octets) (r.written report_old) (r.written report_new) (c.written frames_old) (c.written frames_new)
 

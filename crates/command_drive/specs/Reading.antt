@@ -1,5 +1,5 @@
 -- The items of an input, and what stands behind them.
-use Rattle.std.specs.Prelude.{ℕ, ◌≡◌, List, [], ◌∷◌, ◌++◌, Option, Some, None}
+use Rattle.std.specs.Prelude.{ℕ, ◌≡◌, Bool, true, false, List, [], ◌∷◌, ◌++◌, Option, Some, None}
 use Rattle.std.specs.Io.KnownBytes.{Consumes, IsAtEnd}
 use Rattle.command_drive.specs.declared.items.Close.{Close}
 use Rattle.command_drive.specs.declared.items.Close.TheVariants as close
@@ -54,3 +54,11 @@ GoesOn found.Last = Unit {0}
 GoesOn found.Waits = Unit {0}
 GoesOn (found.Closed how) = ⊥
 GoesOn found.Failed = ⊥
+
+-- whether it waits for more of the input, where it goes on
+abbrev pub IsWaiting : Found → Bool → Type 0
+IsWaiting found.Item waits = waits ≡ false
+IsWaiting found.Last waits = waits ≡ false
+IsWaiting found.Waits waits = waits ≡ true
+IsWaiting (found.Closed how) waits = Unit {0}
+IsWaiting found.Failed waits = Unit {0}

@@ -1,17 +1,19 @@
 //! The one loop.
-ghost use Rattle.std.specs.Prelude.{◌≡◌, ◌⊎◌, ◌<◌, ◌≤◌, ◌+◌, ◌∷◌, [], None, IfOk, IfErr, OnOk, OnErr};
+ghost use Rattle.std.specs.Prelude.{◌≡◌, ◌≢◌, ◌⊎◌, true, false, ◌<◌, ◌≤◌, ◌+◌, ◌∷◌, [], None, IfOk, IfErr, OnOk, OnErr};
 ghost use Rattle.command_drive.specs.Outside.{AppendsFronts};
 ghost use Rattle.wire_base.specs.declared.status.Status.TheVariants as status;
 ghost use Rattle.command_drive.specs.declared.items.Close.TheVariants as closes;
-ghost use Rattle.command_drive.specs.Reading.{Closed};
-ghost use Rattle.command_drive.specs.Driving.{MayRise, SinksMayRise, SinksQuiet, StopsFor, Drives, Went, Fronts, Owing, EndsDecided, EndsCut, Stops, IsRefusal, meaning, total};
+ghost use Rattle.wire_base.specs.Causes.{last_count};
+ghost use Rattle.command_drive.specs.declared.items.Found.TheVariants as found;
+ghost use Rattle.command_drive.specs.Reading.{Closed, Finds, GoesOn, IsWaiting};
+ghost use Rattle.command_drive.specs.Driving.{MayRise, SinksMayRise, SinksQuiet, StopsFor, Drives, Went, Fronts, Owing, EndsDecided, EndsCut, Stops, IsRefusal, IsWritten, meaning, total};
 
 use crate::command::{Command, Flow};
 use crate::items::{Close, Found, Items};
 use crate::outputs::{flush_both, write_both, write_out};
 use run_texts::Texts;
 use std::alloc::Global;
-use wire_base::{Failed, Sink, Source, Status};
+use wire_base::{Failed, M, Sink, Source, Status};
 
 /// Processes an item, and writes long output between its parts. Returns how the run ends where the item is rejected.
 fn do_item<T, K: Command<T>, C: Sink, R: Sink>(
@@ -70,6 +72,25 @@ fn do_last<T, K: Command<T>, C: Sink, R: Sink>(
     }
 }
 
+/// Finds the next item. Where the call waits for the input, all output is written before.
+fn next_item<T, I: Items<T, S>, S: Source>(
+    alloc: Global,
+    items: &mut I,
+    _texts: &Texts,
+    input: &mut S,
+) -> M<Found>
+    requires faults { S.faults input.old < last_count }
+    requires written { I.waits items.old ≡ true → IsWritten _texts.now }
+    ensures found { IfOk result (λ what. Finds what (I.reads items.old) (I.reads items.new) (I.last items.new) (S.left input.old) (S.left input.new)) }
+    ensures fewer { IfOk result (λ what. GoesOn what → I.most items.new < I.most items.old) }
+    ensures waits { IfOk result (λ what. IsWaiting what (I.waits items.new)) }
+    ensures quiet { IfOk result (λ what. what ≢ found.Failed → S.faults input.new ≡ S.faults input.old) }
+    ensures failed { IfOk result (λ what. what ≡ found.Failed → S.faults input.old < S.faults input.new) }
+    ensures memory { OnErr result (S.faults input.new ≡ S.faults input.old) }
+{
+    items.next(alloc, input)
+}
+
 /// Processes the items of an input, and returns how the run ends. The end of the output is left in `texts`.
 ///
 /// Output is written once there is a chunk of it, and all of it before the next call that may wait for its input.
@@ -86,12 +107,13 @@ fn do_items<T, I: Items<T, S>, K: Command<T>, S: Source, C: Sink, R: Sink>(
     requires refuses { IsRefusal K.refusal }
     requires rests { K.waits command.old ≡ 0 }
     requires room { I.most items.old ≤ K.room command.old }
+    requires fresh { I.waits items.old ≡ false }
     ensures ended { IfOk result (λ ended. EndsDecided S.Source C.Sink R.Sink K.refusal (meaning (I.reads items.old) (K.owes command.old) texts.old) ended texts.new input.old input.new frames.old frames.new report.old report.new
         ⊎ EndsCut S.Source C.Sink R.Sink (meaning (I.reads items.old) (K.owes command.old) texts.old) ended texts.new input.old input.new frames.old frames.new report.old report.new) }
     ensures stopped { IfErr result (λ why. Stops S.Source C.Sink R.Sink (meaning (I.reads items.old) (K.owes command.old) texts.old) why input.old input.new frames.old frames.new report.old report.new) }
 {
     'items: loop {
-        match items.next(alloc, input)? {
+        match next_item(alloc, items, texts, input)? {
             Found::Item => {}
             Found::Last => {
                 let last = items.item();
@@ -135,6 +157,7 @@ pub fn drive<T, I: Items<T, S>, K: Command<T>, S: Source, C: Sink, R: Sink>(
     requires refuses { IsRefusal K.refusal }
     requires rests { K.waits command.old ≡ 0 }
     requires room { I.most items.old ≤ K.room command.old }
+    requires fresh { I.waits items.old ≡ false }
     ensures { Drives S.Source C.Sink R.Sink K.refusal (meaning (I.reads items.old) (K.owes command.old) texts.old) result input.old input.new frames.old frames.new report.old report.new }
 {
     match do_items(alloc, items, command, texts, input, frames, report) {

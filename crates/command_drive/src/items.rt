@@ -1,8 +1,8 @@
 //! Where items come from.
-ghost use Rattle.std.specs.Prelude.{◌≡◌, ◌≢◌, ◌<◌, ℕ, List, IfOk, OnErr};
+ghost use Rattle.std.specs.Prelude.{◌≡◌, ◌≢◌, ◌<◌, ℕ, Bool, List, IfOk, OnErr};
 ghost use Rattle.wire_base.specs.Causes.{last_count};
 ghost use Rattle.command_drive.specs.declared.items.Found.TheVariants as found;
-ghost use Rattle.command_drive.specs.Reading.{End, Reads, Finds, GoesOn};
+ghost use Rattle.command_drive.specs.Reading.{End, Reads, Finds, GoesOn, IsWaiting};
 
 use std::alloc::Global;
 use wire_base::{CaptureFault, M, Source};
@@ -45,11 +45,15 @@ pub trait Items<T, S: Source> {
     /// How many items and waits may still be found.
     ghost most: { Self → ℕ };
 
+    /// Whether the last call found `Waits`, so that the next one waits for the source.
+    ghost waits: { Self → Bool };
+
     /// Finds the next item, and reads on from the source as far as it takes.
     fn next(&mut self, alloc: Global, input: &mut S) -> M<Found>
         requires { S.faults input.old < last_count }
         ensures found { IfOk result (λ what. Finds what (reads self.old) (reads self.new) (last self.new) (S.left input.old) (S.left input.new)) }
         ensures fewer { IfOk result (λ what. GoesOn what → most self.new < most self.old) }
+        ensures waits { IfOk result (λ what. IsWaiting what (waits self.new)) }
         ensures quiet { IfOk result (λ what. what ≢ found.Failed → S.faults input.new ≡ S.faults input.old) }
         ensures failed { IfOk result (λ what. what ≡ found.Failed → S.faults input.old < S.faults input.new) }
         ensures memory { OnErr result (S.faults input.new ≡ S.faults input.old) };

@@ -50,6 +50,7 @@ pub struct LineReader {
     room: usize,
     over: bool,
     short: bool,
+    waits: bool,
     ghost plain: { HasNoEnd front },
     ghost kept: { length front ≤ LINE_LIMIT + 2 },
     ghost within: { room ≤ TEXT_LIMIT },
@@ -61,6 +62,7 @@ impl LineReader {
     /// A reader that has read nothing.
     pub fn new(alloc: Global) -> M<Self>
         ensures fresh { IfOk result (λ made. (end : End) (octets : List ℕ) → lines_read (made.front ++ made.unread) made.room made.over end octets ≡ lines_read [] TEXT_LIMIT false end octets) }
+        ensures idle { IfOk result (λ made. made.waits ≡ false) }
         ensures few { IfOk result (λ made. lines_left (made.front ++ made.unread) made.room made.short < 2 ^ 30) }
     {
         Ok(LineReader {
@@ -70,6 +72,7 @@ impl LineReader {
             room: TEXT_LIMIT,
             over: false,
             short: false,
+            waits: false,
         })
     }
 
@@ -80,6 +83,7 @@ impl LineReader {
         ensures room { IfOk result (λ count. self.new.room ≡ self.old.room - count) }
         ensures over { IfOk result (λ count. self.new.over ≡ nat_lt self.old.room count) }
         ensures front { self.new.front ≡ self.old.front }
+        ensures waits { self.new.waits ≡ self.old.waits }
         ensures short { IfOk result (λ count. self.new.short ≡ true → count < self.old.room) }
         ensures end { IfOk result (λ count. count ≡ 0 → IsAtEnd (S.left input.new)) }
         ensures quiet { OnOk result (S.faults input.new ≡ S.faults input.old) }
@@ -102,6 +106,7 @@ impl LineReader {
         ensures room { self.new.room ≡ self.old.room }
         ensures over { self.new.over ≡ self.old.over }
         ensures short { self.new.short ≡ self.old.short }
+        ensures waits { self.new.waits ≡ self.old.waits }
     {
         self.line.truncate(0);
         mem::swap(&mut self.front, &mut self.line);
@@ -118,7 +123,10 @@ impl<S: Source> Items<Octets, S> for LineReader {
 
     ghost most = { λ s. lines_left (s.front ++ s.unread) s.room s.short };
 
+    ghost waits = { λ s. s.waits };
+
     fn next(&mut self, _alloc: Global, input: &mut S) -> M<Found> {
+        self.waits = false;
         'parts: loop {
             if take_part(&mut self.unread, &mut self.front)? {
                 self.give();
@@ -131,6 +139,7 @@ impl<S: Source> Items<Octets, S> for LineReader {
             }
             if self.short {
                 self.short = false;
+                self.waits = true;
                 return Ok(Found::Waits);
             }
             let Ok(count) = self.refill(input) else {

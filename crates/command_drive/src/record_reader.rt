@@ -36,6 +36,7 @@ pub struct RecordReader {
     room: usize,
     over: bool,
     short: bool,
+    waits: bool,
     ghost chunk: { 0 < length buffer.items },
     ghost within: { room ≤ CAPTURE_LIMIT },
 }
@@ -46,6 +47,7 @@ impl RecordReader {
     /// A reader that has read nothing.
     pub fn new(alloc: Global) -> M<Self>
         ensures fresh { IfOk result (λ made. (end : End) (octets : List ℕ) → records_read made.reader made.room made.over end octets ≡ records_read unread CAPTURE_LIMIT false end octets) }
+        ensures idle { IfOk result (λ made. made.waits ≡ false) }
         ensures few { IfOk result (λ made. records_left made.reader made.room made.short < 2 ^ 30) }
     {
         Ok(RecordReader {
@@ -60,6 +62,7 @@ impl RecordReader {
             room: CAPTURE_LIMIT,
             over: false,
             short: false,
+            waits: false,
         })
     }
 
@@ -69,6 +72,7 @@ impl RecordReader {
         ensures reader { OnOk result (self.new.reader ≡ fed self.old.reader (take (min count self.old.room) self.old.buffer.items)) }
         ensures room { OnOk result (self.new.room ≡ self.old.room - count) }
         ensures over { OnOk result (self.new.over ≡ nat_lt self.old.room count) }
+        ensures waits { OnOk result (self.new.waits ≡ self.old.waits) }
         ensures short { OnOk result (self.new.short ≡ true → count < self.old.room) }
     {
         let room = self.room;
@@ -101,7 +105,10 @@ impl<S: Source> Items<CapRecord, S> for RecordReader {
 
     ghost most = { λ s. records_left s.reader s.room s.short };
 
+    ghost waits = { λ s. s.waits };
+
     fn next(&mut self, alloc: Global, input: &mut S) -> M<Found> {
+        self.waits = false;
         'chunks: loop {
             match self.reader.next() {
                 Ok(Some(record)) => {
@@ -119,6 +126,7 @@ impl<S: Source> Items<CapRecord, S> for RecordReader {
             }
             if self.short {
                 self.short = false;
+                self.waits = true;
                 return Ok(Found::Waits);
             }
             let Ok(count) = input.read(&mut self.buffer) else {

@@ -16,6 +16,7 @@ pub parts-init : goal.parts-init
 parts-init g c = record {
   seeks = seeks_first (g.S.Source.left c.args.input.now) (lines_read (c.args.self.now.front ++ c.args.self.now.unread) c.args.self.now.room c.args.self.now.over);
   fewer = omega arith;
+  idle = refl;
   quiet = refl;
 }
 
@@ -89,6 +90,7 @@ parts-preserved g c =
     record {
       seeks = more;
       fewer = omega (arith, before, part_less c.parts.self.unread c.parts.self.front c.take_part.new.unread c.take_part.new.line takes, chunk);
+      idle = c.refill.ensures.waits ∙ c.parts.invariant.idle;
       quiet = c.in-Ok.ensures.quiet ∙ c.parts.invariant.quiet;
     }
 

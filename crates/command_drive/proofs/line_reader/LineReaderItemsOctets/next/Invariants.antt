@@ -1,4 +1,4 @@
-use Rattle.std.proofs.Common.{◌≡◌, ◌≤◌, ◌+◌, ◌-◌, ◌++◌, length, cond}
+use Rattle.std.proofs.Common.{false, ◌≡◌, ◌≤◌, ◌+◌, ◌-◌, ◌++◌, length, cond}
 use Rattle.command_drive.specs.Lines.{lines_read, lines_left}
 use Rattle.command_drive.proofs.Seeking.{Seeks}
 use Rattle.command_drive.proofs.line_reader.LineReaderItemsOctets.next.Given as goal
@@ -7,6 +7,7 @@ abbrev pub invariant-parts : goal.invariant-parts
 invariant-parts g l = record {
   seeks : Seeks (g.S.Source.left l.fn.input) (g.S.Source.left l.input) (lines_read (l.fn.self.front ++ l.fn.self.unread) l.fn.self.room l.fn.self.over) (lines_read (l.self.front ++ l.self.unread) l.self.room l.self.over);
   fewer : lines_left (l.self.front ++ l.self.unread) l.self.room l.self.short ≤ lines_left (l.fn.self.front ++ l.fn.self.unread) l.fn.self.room l.fn.self.short;
+  idle : l.self.waits ≡ false;
   quiet : g.S.Source.faults l.input ≡ g.S.Source.faults l.fn.input;
 }
 

@@ -18,7 +18,7 @@ use Rattle.command_drive.proofs.Seeking.{seeks_first, seeks_as, seeks_on, nothin
 use Rattle.command_drive.proofs.record_reader.RecordReaderItemsCapRecord.next.Goals as goal
 
 pub chunks-init : goal.chunks-init
-chunks-init g c = record { seeks = seeks_first (g.S.Source.left c.args.input.now) (records_read c.args.self.now.reader c.args.self.now.room c.args.self.now.over); fewer = omega arith; quiet = refl }
+chunks-init g c = record { seeks = seeks_first (g.S.Source.left c.args.input.now) (records_read c.args.self.now.reader c.args.self.now.room c.args.self.now.over); fewer = omega arith; idle = refl; quiet = refl }
 
 pub returns-in-Ok-Some-clause-found : goal.returns-in-Ok-Some-clause-found
 returns-in-Ok-Some-clause-found g c =
@@ -123,5 +123,6 @@ chunks-preserved g c =
           ∙ ap₂ (λ (r : Reading) (n : ℕ). records_read r n (nat_lt room (length piece)) end more) (sym part) (ap (λ (n : ℕ). room - n) size ∙ sym c.in_ok-take.ensures.room)
           ∙ ap (λ (b : Bool). records_read c.take.new.self.reader c.take.new.self.room b end more) (ap (nat_lt room) size ∙ sym c.in_ok-take.ensures.over));
       fewer = omega (arith, lower, before, chunk);
+      idle = c.in_ok-take.ensures.waits ∙ c.chunks.invariant.idle;
       quiet = c.in-Ok.ensures.cause.succeeded ∙ c.chunks.invariant.quiet;
     }

@@ -1,4 +1,4 @@
-use Rattle.std.proofs.Common.{◌≡◌, ◌≤◌, ◌+◌, cond}
+use Rattle.std.proofs.Common.{false, ◌≡◌, ◌≤◌, ◌+◌, cond}
 use Rattle.command_drive.specs.Records.{records_read, records_left}
 use Rattle.command_drive.proofs.Seeking.{Seeks}
 use Rattle.command_drive.proofs.record_reader.RecordReaderItemsCapRecord.next.Given as goal
@@ -7,6 +7,7 @@ abbrev pub invariant-chunks : goal.invariant-chunks
 invariant-chunks g l = record {
   seeks : Seeks (g.S.Source.left l.fn.input) (g.S.Source.left l.input) (records_read l.fn.self.reader l.fn.self.room l.fn.self.over) (records_read l.self.reader l.self.room l.self.over);
   fewer : records_left l.self.reader l.self.room l.self.short ≤ records_left l.fn.self.reader l.fn.self.room l.fn.self.short;
+  idle : l.self.waits ≡ false;
   quiet : g.S.Source.faults l.input ≡ g.S.Source.faults l.fn.input;
 }
 
