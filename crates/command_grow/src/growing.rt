@@ -33,7 +33,7 @@ impl GrownLines {
 }
 
 impl Items<GrownLine, NoSource> for GrownLines {
-    ghost use Rattle.std.specs.Prelude.{◌-◌};
+    ghost use Rattle.std.specs.Prelude.{◌-◌, false};
     ghost use Rattle.command_drive.specs.declared.items.Close.TheVariants as closes;
     ghost use Rattle.command_drive.specs.Reading.{Closed};
     ghost use Rattle.command_grow.specs.Counted.{lines_from};
@@ -43,6 +43,8 @@ impl Items<GrownLine, NoSource> for GrownLines {
     ghost last = { λ s. s.line };
 
     ghost most = { λ s. 18 - s.given };
+
+    ghost waits = { λ _. false };
 
     fn next(&mut self, _alloc: Global, _input: &mut NoSource) -> M<Found> {
         if self.given >= GrownLine::COUNT {

@@ -1,4 +1,4 @@
--- Where flooding answers at once, the router stays as it was; so what it answers can be told and put on its way after that.
+-- Where flooding answers at once, the router is unchanged; so what it answers can be told and queued after that.
 use Rattle.std.proofs.Common.{◌≡◌, ◌⊎◌, inl, inr, ℕ, ◌==◌, ◌&&◌, Bool, List, [], ◌∷◌, map, None, if◌then◌else◌, refl, sym, ap, ◌∙◌}
 use Rattle.std.proofs.lemmas.Bool.{cond_both}
 use Rattle.wire_base.specs.declared.entry.Age.{Age}

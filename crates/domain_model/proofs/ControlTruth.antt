@@ -1,4 +1,4 @@
--- What a router does with a PDU, a second, its ends and a restart keeps what its database says true.
+-- What a router does with a PDU, a second, its ends and a restart keeps what its LSDB says true.
 use Rattle.std.proofs.Common.{◌≡◌, ℕ, ◌+◌, ◌<◌, ◌≤◌, ◌==◌, ◌&&◌, nat_lt, not, Bool, true, false, if◌then◌else◌, List, [], ◌∷◌, length, map, replicate, slice_set, length-set, Option, Some, None, refl, sym, ap, subst, ◌∙◌, arith}
 use Rattle.std.specs.List.{AllByRecursion}
 use Rattle.std.proofs.lemmas.List.{length-replicate}

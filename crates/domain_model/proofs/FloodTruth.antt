@@ -1,4 +1,4 @@
--- Flooding keeps what databases say true, one rule at a time.
+-- Flooding keeps what LSDBs say true, one rule at a time.
 use Rattle.std.proofs.Common.{◌≡◌, ◌⊎◌, inl, inr, ℕ, zero, suc, ◌+◌, ◌<◌, ◌≤◌, ◌^◌, ◌==◌, ◌&&◌, nat_lt, not, Bool, true, false, if◌then◌else◌, List, [], ◌∷◌, length, slice_index_or, slice_set, Option, Some, None, refl, sym, ap, ◌∙◌, arith}
 use mathlib.Core.Bool.{false≢true}
 use Rattle.std.specs.List.{AllByRecursion}
@@ -24,7 +24,7 @@ use Rattle.domain_model.proofs.EachLaws.{fold_keeps}
 use Rattle.domain_model.proofs.FlagLaws.{same_id_is, put_same, put_other, put_each, each_is_found, srm_same, KeepsId, SetsNone, changed_for, changed_off}
 use Rattle.domain_model.proofs.NamedLaws.{never_full}
 
--- a database and flags: all entries are true, in order, and none is sent that only asks
+-- an LSDB and flags: all entries are true, in order, and none is sent that only asks
 pub record IsTrueState (confs : List RouterConf) (f : Flood) (entries : List Entry) : Type 0 where
   pub entries_true : AllByRecursion (IsTrueEntry confs) entries
   pub in_order : AreAscending (ids_of entries)
@@ -155,9 +155,9 @@ unknown_none (Some e) s q = by (e.seq == s.seq) (s.seq == 0) (nat_lt e.seq s.seq
     by false b true x y z q = cc
     by false b false x y z q = cc
 
--- ---- a link state PDU
+-- ---- an LSP
 
--- what is asked for: a database is never full, and no sequence number is 0
+-- what is asked for: an LSDB is never full, and no sequence number is 0
 abbrev pub IsTrueOut : List RouterConf → FloodOut → Type 0
 IsTrueOut confs out.Kept = Unit {0}
 IsTrueOut confs (out.Reissue s) = s ≤ last_sequence

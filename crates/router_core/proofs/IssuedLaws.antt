@@ -1,4 +1,4 @@
--- What stands in the database for the router's own system and is live, the router issued as it is now: kept by every event.
+-- What stands in the LSDB for the router's own system and is live, the router issued as it is now: kept by every event.
 use Rattle.std.proofs.Common.{◌≡◌, ◌∙◌, ℕ, ◌+◌, ◌-◌, ◌<◌, set, ◌==◌, ◌&&◌, ◌||◌, not, nat_lt, nat_le, Bool, true, false, List, [], ◌∷◌, Option, Some, None, if◌then◌else◌, refl, sym, ap, subst, arith}
 use Rattle.std.specs.Prelude.{option_and_then}
 use Rattle.std.proofs.lemmas.Bool.{false≢true, true≢false, eqb-true}
@@ -48,7 +48,7 @@ module _ (r : RouterConf) (up : List Bool) (spent : Bool) where
   pub dead_issued : (e : Entry) (es : List Entry) → AreIssued r up spent es → e.life ≡ 0 → AreIssued r up spent (put_entry e es)
   dead_issued e es all dead = put_issued e es all (λ live own. absurd (omega (arith, live, dead)))
 
--- ---- the own link state PDU
+-- ---- the own LSP
 
 past_new : (r : RouterConf) (up : List Bool) (spent : Bool) (s : ℕ) (id : LspId) (x : Entry) → spent ≡ false → id ≡ fragment_0 r.system → own_past r up s ≡ x → 0 < x.life → IsIssued r up (spent_past spent s) id x
 unfolding own_past own_lsp
@@ -75,7 +75,7 @@ past_issued r up ups before spent s es unspent all =
         let old = all.each id x there live own in
         absurd (true≢false (sym (ap (λ (i : LspId). same_id i id) (past_id r up s) ∙ ap (λ (i : LspId). same_id i id) (sym old.fragment) ∙ id_self id) ∙ same))
 
--- ---- a link state PDU
+-- ---- an LSP
 
 module _ (r : RouterConf) (up : List Bool) (spent : Bool) (f : Flood) (es : List Entry) (system : f.own ≡ r.system) (all : AreIssued r up spent es) where
   lsp_if : (b : Bool) (x y : LspAnswer) → AreIssued r up spent x.entries → AreIssued r up spent y.entries → AreIssued r up spent (if b then x else y).entries
@@ -185,7 +185,7 @@ none_issued r up spent = record { each = λ id e there live own. cc }
 
 -- ---- of what the code makes
 
--- the own link state PDU was made for the ends that are up now, and is put
+-- the own LSP was made for the ends that are up now, and is put
 pub issued_now : (r : RouterConf) (ups up before_up : List Bool) (before spent now : Bool) (s : ℕ) (own : Entry) (es es' : List Entry) → own ≡ own_past r ups s → es' ≡ put_entry own es → now ≡ spent_past spent s → spent ≡ false → ups ≡ up → AreIssued r before_up before es → AreIssued r up now es'
 issued_now r ups up before_up before spent now s own es es' is put now_is unspent ups_are all =
     let one : AreIssued r ups (spent_past spent s) (put_entry (own_past r ups s) es) = past_issued r ups before_up before spent s es unspent all in

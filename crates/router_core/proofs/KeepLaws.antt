@@ -155,7 +155,7 @@ module _ (c : Control) (tlvs : List ℕ) (k : Option Kept) (all : (next : Contro
 
 -- ---- sending
 
--- where view, configuration and database are the same, what is kept stays
+-- where view, configuration and LSDB are the same, what is kept stays
 moved : (c c' : Control) (k : Option Kept) → control_view c' ≡ control_view c → c'.conf ≡ c.conf → c'.entries ≡ c.entries → MayKeep c k → MayKeep c' k
 moved c c' None view conf entries kept = tt
 moved c c' (Some k) view conf entries kept =

@@ -125,7 +125,7 @@ module _ (r : RouterConf) (f : Flood) (es : List Entry) (spent : Bool) (k : IsRo
 
 -- ---- lists of entries
 
--- what a list of entries leaves of a router, and what it asks for, is what was told of it
+-- what a list of entries leaves of a router, and what it asks for, is what was reported of it
 pub record IsListed (c : Control) (rows : List Summary) (a : SnpAnswer) : Type 0 where
   pub kept : SnpKept c.conf.system c.flood.up c.spent a
   pub asked : a.answer.reissue ≡ past_of c rows

@@ -1,4 +1,4 @@
--- What a list of entries asks for is what was told from it beforehand.
+-- What a list of entries asks for is what was reported from it beforehand.
 use Rattle.std.proofs.Common.{◌≡◌, ◌∙◌, ℕ, suc, ◌+◌, ◌≤◌, ◌==◌, ◌&&◌, ◌||◌, not, nat_lt, nat_le, Bool, true, false, if◌then◌else◌, List, [], ◌∷◌, ◌++◌, length, Option, Some, None, is_none, refl, sym, ap, subst, length-append, length-set, arith}
 use Rattle.std.proofs.lemmas.Bool.{false≢true, true≢false, and_parts, eqb-true, leb-true}
 use Rattle.std.proofs.lemmas.List.{length-map}
@@ -35,7 +35,7 @@ all_and : (b : Bool) → (b && true) ≡ b
 all_and true = refl
 all_and false = refl
 
--- ---- the own link state PDU
+-- ---- the own LSP
 
 -- what is at odds with an entry has its sequence number, which isn't 0
 confused_seq : (o : Option Entry) (s : Summary) → is_confused (age_of o s) ≡ true → (seq_of o ≡ s.seq) × ((s.seq == 0) ≡ false)
@@ -74,7 +74,7 @@ module _ (link : ℕ) (a : SnpAnswer) (s : Summary) where
       cases false true = refl
       cases false false = refl
 
-  -- a listed entry asks for the own link state PDU where it is at odds with it
+  -- a listed entry asks for the own LSP where it is at odds with it
   listed_asks : (spent : Bool) → Asks spent (is_at_odds a.entries (fragment_0 a.flood.own) s) (on_listed link spent a s)
   unfolding on_listed
   listed_asks spent = either (Asks spent (is_at_odds a.entries (fragment_0 a.flood.own) s)) (s.seq == 0) _ _ (λ none. either (Asks spent (is_at_odds a.entries (fragment_0 a.flood.own) s)) (nat_lt 0 (seq_of (entry_in a.entries s.id))) _ _ (λ _. calm none) (λ _. calm none)) (λ _. aged_asks spent (age_of (entry_in a.entries s.id) s))
@@ -92,7 +92,7 @@ module _ (link : ℕ) (own : SystemId) (e : Entry) where
   abbrev Stands : SnpAnswer → Type 0
   Stands x = entry_in x.entries (fragment_0 own) ≡ Some e
 
-  -- no listed entry changes the own link state PDU of a router that isn't spent
+  -- no listed entry changes the own LSP of a router that isn't spent
   listed_stands : (a : SnpAnswer) (s : Summary) → a.flood.own ≡ own → Stands a → Stands (on_listed link false a s)
   unfolding on_listed
   listed_stands a s mine there = either Stands (s.seq == 0) _ _ (λ _. either Stands (nat_lt 0 (seq_of (entry_in a.entries s.id))) _ _ (λ _. there) (λ _. there)) (λ _. by_age (age_of (entry_in a.entries s.id) s) refl)
@@ -174,7 +174,7 @@ put_news e es id = ap is_none (put_reads e es id) ∙ cases (same_id e.id id)
     cases true = refl
     cases false = refl
 
--- a new identifier makes the database longer by one, and no other does
+-- a new identifier makes the LSDB longer by one, and no other does
 put_long : (e : Entry) (es : List Entry) → AreAscending (ids_of es) → (new : Bool) → is_new es e.id ≡ new → length (put_entry e es) ≡ (if new then suc (length es) else length es)
 put_long e es order new is = cases (stands_at (ids_of es) (place_in (ids_of es) e.id) e.id) refl
   where
@@ -187,7 +187,7 @@ put_long e es order new is = cases (stands_at (ids_of es) (place_in (ids_of es) 
         let so : length (put_entry e es) ≡ suc (length es) = omega (arith, one, ap length (put_new es e h)) in
         so ∙ ap (λ (b : Bool). if b then suc (length es) else length es) (sym (ap is_none (entry_missing es e.id order h)) ∙ is)
 
--- what a list has done so far, and what was told of it
+-- what a list has done so far, and what was reported of it
 record Looks (es : List Entry) (a : SnpAnswer) (look : Look) : Type 0 where
   pub full : a.answer.full ≡ look.full
   pub long : length a.entries ≡ length es + length look.added
@@ -225,7 +225,7 @@ module _ (link : ℕ) (spent : Bool) (es : List Entry) where
     zero_dead : s.seq ≡ 0 → is_live_summary s ≡ false
     zero_dead none = ap (λ n. nat_lt 0 s.life && (nat_lt 0 n && nat_lt 0 s.sum)) none ∙ none_and (nat_lt 0 s.life)
 
-    -- the database waits for it, or is full
+    -- the LSDB waits for it, or is full
     waits : is_new a.entries s.id ≡ true → is_live_summary s ≡ true → Looks es (asks a link s) (looked es look s)
     unfolding looked
     waits new live = subst (λ (l : Look). Looks es (asks a link s) l) (ap (λ (b : Bool). if b then (if nat_le most_entries (length es + length look.added) then record look { full = look.full + 1 } else record look { added = look.added ++ s.id ∷ [] }) else look) (sym (wanted_is ∙ ap (λ (b : Bool). b && is_new a.entries s.id) live ∙ new)))
@@ -293,7 +293,7 @@ full_is link spent f es rows order =
     (rows_look link spent es rows (record { flood = f; entries = es; answer = nothing_asked }) (record { added = []; full = 0 })
     (record { full = refl; long = omega arith; known = λ id. sym (all_and (is_new es id)); order = order })).full
 
--- a list that can't fill the database
+-- a list that can't fill the LSDB
 few_full : (es : List Entry) (rows : List Summary) (look : Look) → length es + length look.added + length rows ≤ MOST_ENTRIES → (fold (looked es) look rows).full ≡ look.full
 unfolding looked
 few_full es [] look few = refl

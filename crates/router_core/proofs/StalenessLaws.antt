@@ -45,7 +45,7 @@ reissue_but system c x s is = subst (IsBut system c) (sym (reissue_is x s)) (rec
     own : (t : SystemId) → same_system t c.conf.system ≡ false → same_system (own_past x.conf x.flood.up s).id.system t ≡ false
     own t apart = ap (λ (i : LspId). same_system i.system t) (past_id x.conf x.flood.up s) ∙ ap (λ (r : RouterConf). same_system r.system t) is.conf ∙ same_turned c.conf.system t ∙ apart
 
--- ---- a link state PDU
+-- ---- an LSP
 
 same_if : (P : List Entry → Type 0) (b : Bool) (x y : LspAnswer) → P x.entries → P y.entries → P (if b then x else y).entries
 same_if P true x y h k = h
@@ -91,7 +91,7 @@ lsp_but c link h tlvs =
     answer_but h.id.system c (record c { flood = (on_lsp c.flood c.entries link h tlvs c.spent).flood; entries = (on_lsp c.flood c.entries link h tlvs c.spent).entries })
     (record { conf = refl; others = λ t apart away. lsp_same t c.flood c.entries link h tlvs away c.spent }) (on_lsp c.flood c.entries link h tlvs c.spent).answer
 
--- ---- a sequence numbers PDU that lists nothing at odds with the database
+-- ---- a sequence numbers PDU that lists nothing at odds with the LSDB
 
 wanted_clear : (s r : Summary) → is_confused (age_of (Some (wanted s)) r) ≡ false
 wanted_clear s r = by (0 == r.seq) (r.seq == 0) (r.life == 0) (0 == r.sum) (nat_lt 0 r.seq)
@@ -116,7 +116,7 @@ rows_clear s es (r ∷ rows) h =
     ap (λ (b : Bool). b || list_any (is_confusing (put_entry (wanted s) es)) rows) (put_clear s es r (or_first (is_confusing es r) (list_any (is_confusing es) rows) h))
     ∙ rows_clear s es rows (or_second (is_confusing es r) (list_any (is_confusing es) rows) h)
 
--- nothing is asked of the router, a system has the same live entries, and nothing more of the list is at odds with the database
+-- nothing is asked of the router, a system has the same live entries, and nothing more of the list is at odds with the LSDB
 pub record IsCalm (t : SystemId) (rows : List Summary) (a next : SnpAnswer) : Type 0 where
   pub same : parts t next.entries ≡ parts t a.entries
   pub asked : next.answer.reissue ≡ a.answer.reissue

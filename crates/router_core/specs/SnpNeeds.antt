@@ -1,4 +1,4 @@
--- What a list of entries will ask for, told from the list and the database before anything changes.
+-- What a list of entries will ask for, told from the list and the LSDB before anything changes.
 use Rattle.std.specs.Prelude.{◌≡◌, ℕ, ◌+◌, ◌&&◌, not, nat_le, Bool, true, false, List, [], ◌∷◌, ◌++◌, length, map, replicate, fold, option_map, Option, Some, None, if◌then◌else◌}
 use Rattle.std.specs.List.{list_any}
 use Rattle.wire_base.specs.declared.addresses.LspId.{LspId}
@@ -15,7 +15,7 @@ use Rattle.router_core.specs.declared.snp_needs.Ready.{Ready}
 use Rattle.router_core.specs.Own.{own_past, spent_past}
 use Rattle.router_core.specs.Received.{full_drop}
 
--- ---- the own link state PDU
+-- ---- the own LSP
 
 abbrev pub is_confused : Age → Bool
 is_confused Unknown = false
@@ -24,15 +24,15 @@ is_confused Equal = false
 is_confused Older = false
 is_confused Confused = true
 
--- a listed entry that is at odds with the database's of its identifier
+-- a listed entry that is at odds with the LSDB's of its identifier
 abbrev pub is_confusing : List Entry → Summary → Bool
 is_confusing entries s = is_confused (age_of (entry_in entries s.id) s)
 
--- a listed entry of an identifier that is at odds with the database's
+-- a listed entry of an identifier that is at odds with the LSDB's
 abbrev pub is_at_odds : List Entry → LspId → Summary → Bool
 is_at_odds entries id s = same_id s.id id && is_confused (age_of (entry_in entries s.id) s)
 
--- past which sequence number the own link state PDU is to be issued anew: past its own, where the list has it at odds
+-- past which sequence number the own LSP is to be issued anew: past its own, where the list has it at odds
 abbrev pub past_asked : Bool → List Entry → LspId → List Summary → Option ℕ
 past_asked spent entries own rows = if not spent && list_any (is_at_odds entries own) rows then Some (seq_of (entry_in entries own)) else None
 
@@ -41,7 +41,7 @@ abbrev pub spent_if : Bool → Option ℕ → Bool
 spent_if spent None = spent
 spent_if spent (Some s) = spent_past spent s
 
--- flags and database once the own one is issued, where there is one
+-- flags and LSDB once the own one is issued, where there is one
 abbrev pub flags_issued : Option Entry → Flood → Flood
 flags_issued None f = f
 flags_issued (Some e) f = mark_all f e.id
@@ -52,11 +52,11 @@ entries_issued (Some e) entries = put_entry e entries
 
 -- ---- entries that find no room
 
--- live, unknown to the database, and not yet among what the list made it wait for
+-- live, unknown to the LSDB, and not yet among what the list made it wait for
 abbrev pub is_wanted : List Entry → List LspId → Summary → Bool
 is_wanted entries added s = is_live_summary s && (is_new entries s.id && not (list_any (λ id. same_id id s.id) added))
 
--- one listed entry: the database will wait for it, or it finds no room
+-- one listed entry: the LSDB will wait for it, or it finds no room
 unfoldable pub looked : List Entry → Look → Summary → Look
 looked entries look s =
     if is_wanted entries look.added s
@@ -69,7 +69,7 @@ count_full entries rows = (fold (looked entries) (record { added = []; full = 0 
 
 -- ---- what is made ready
 
--- past which sequence number a router's own link state PDU is asked for
+-- past which sequence number a router's own LSP is asked for
 abbrev pub past_of : Control → List Summary → Option ℕ
 past_of c rows = past_asked c.spent c.entries (fragment_0 c.conf.system) rows
 

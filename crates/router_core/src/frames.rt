@@ -144,7 +144,7 @@ impl Control {
         Ok(())
     }
 
-    /// What a frame carries, by its class; or all is as it was.
+    /// What a frame carries, by its class; or nothing has changed.
     fn take_class(
         &mut self,
         kept: &mut Option<Kept>,
@@ -177,7 +177,7 @@ impl Control {
         }
     }
 
-    /// A frame that came on a link; or all is as it was. What it does to the outside is written in place, since to most
+    /// A frame that came on a link; or nothing has changed. What it does to the outside is written in place, since to most
     /// frames it is nothing.
     #[tactic(auto, unfolding(wire_base::specs::model::OnFrame::on_frame))]
     pub(crate) fn frame(

@@ -21,7 +21,7 @@ use wire_base::{Age, Cause, Entry, LspId, M, Rows, Summary};
 /// What is made ready for a list of entries.
 #[derive(Drop)]
 pub(crate) struct Ready {
-    /// The own link state PDU, where it is to be issued anew.
+    /// The own LSP, where it is to be issued anew.
     pub(crate) own: Option<Entry>,
     /// Whether the router is spent then.
     pub(crate) spent: bool,
@@ -29,7 +29,7 @@ pub(crate) struct Ready {
     pub(crate) drops: Rows<DropNote>,
 }
 
-/// The identifiers that a list makes a database wait for, and how many of its entries find no room.
+/// The identifiers that a list makes an LSDB wait for, and how many of its entries find no room.
 #[derive(Drop)]
 pub(crate) struct Look {
     added: Rows<LspId>,
@@ -45,7 +45,7 @@ fn is_confused(age: Age) -> bool
     }
 }
 
-/// Whether a listed entry is at odds with the database's of its identifier.
+/// Whether a listed entry is at odds with the LSDB's of its identifier.
 fn is_confusing(store: &Store, s: &Summary) -> bool
     ensures { result ≡ is_confusing store.now.entries s.now }
 {
@@ -59,7 +59,7 @@ pub(crate) fn any_confusing(store: &Store, rows: &[Summary]) -> bool
     rows.iter().any(|s| is_confusing(store, s))
 }
 
-/// Whether a listed entry has an identifier, and is at odds with the database's.
+/// Whether a listed entry has an identifier, and is at odds with the LSDB's.
 fn is_at_odds(store: &Store, id: &LspId, s: &Summary) -> bool
     ensures { result ≡ is_at_odds store.now.entries id.now s.now }
 {
@@ -72,7 +72,7 @@ fn any_at_odds(store: &Store, id: &LspId, rows: &[Summary]) -> bool
     rows.iter().any(|s| is_at_odds(store, id, s))
 }
 
-/// Past which sequence number a list asks that the own link state PDU be issued anew.
+/// Past which sequence number a list asks that the own LSP be issued anew.
 fn past_asked(store: &Store, own: &LspId, rows: &[Summary], spent: bool) -> Option<u32>
     ensures { result ≡ past_asked spent store.now.entries own.now rows.now }
 {
@@ -82,7 +82,7 @@ fn past_asked(store: &Store, own: &LspId, rows: &[Summary], spent: bool) -> Opti
     None
 }
 
-/// Whether a router is spent once its own link state PDU is issued past a sequence number, where one is asked for.
+/// Whether a router is spent once its own LSP is issued past a sequence number, where one is asked for.
 fn spent_if(spent: bool, past: Option<u32>) -> bool
     ensures { result ≡ spent_if spent past }
 {
@@ -104,7 +104,7 @@ fn has_id(ids: &[LspId], id: &LspId) -> bool
     ids.iter().any(|i| i == id)
 }
 
-/// Whether the database is to wait for a listed entry, beside those that it waits for already.
+/// Whether the LSDB is to wait for a listed entry, beside those that it waits for already.
 fn is_wanted(store: &Store, added: &[LspId], s: &Summary) -> bool
     ensures { result ≡ is_wanted store.now.entries added.now s.now }
 {
@@ -128,7 +128,7 @@ fn look_at(store: &Store, look: &mut Look, s: &Summary) -> M<()>
     look.added.push(s.id)
 }
 
-/// How many entries of a list find no room. The list is gone through only where it can fill the database.
+/// How many entries of a list find no room. The list is gone through only where it can fill the LSDB.
 #[tactic(auto, unfolding(crate::specs::SnpNeeds::count_full))]
 fn count_full(store: &Store, rows: &[Summary]) -> M<usize>
     ensures { IfOk result (λ full. full ≡ count_full store.now.entries rows.now) }
@@ -169,7 +169,7 @@ fn repeated_drops(alloc: Global, full: usize) -> M<Rows<DropNote>>
     Ok(drops)
 }
 
-/// Issues the own link state PDU that was made ready, where one was; it takes no memory.
+/// Issues the own LSP that was made ready, where one was; it takes no memory.
 pub(crate) fn issue_ready(store: &mut Store, flood: &mut Flood, own: Option<Entry>)
     requires known { IfSome own (λ e. is_new store.old.entries e.id ≡ false) }
     requires flags { 1 ≤ flood.old.spare }
@@ -185,7 +185,7 @@ pub(crate) fn issue_ready(store: &mut Store, flood: &mut Flood, own: Option<Entr
 }
 
 impl Control {
-    /// The own link state PDU past a sequence number, where one is asked for.
+    /// The own LSP past a sequence number, where one is asked for.
     fn own_asked(&self, past: Option<u32>) -> M<Option<Entry>>
         ensures { IfOk result (λ own. own ≡ option_map (own_past self.now.conf self.now.flood.up) past) }
     {

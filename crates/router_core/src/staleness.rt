@@ -76,7 +76,7 @@ fn note(kept: &mut Option<Kept>, system: SystemId)
 }
 
 impl Control {
-    /// Whether one of the entries that those TLVs list may be at odds with the database's.
+    /// Whether one of the entries that those TLVs list may be at odds with the LSDB's.
     fn may_confuse(&self, tlvs: &[u8]) -> bool
         ensures { result ≡ false → list_any (is_confusing self.now.entries) (rows_of tlvs.now) ≡ false }
     {
@@ -86,8 +86,8 @@ impl Control {
         }
     }
 
-    /// A sequence numbers PDU of those TLVs comes. An entry at odds with the database's becomes a purge, and its system says
-    /// something else; else the PDU changes at most what the database waits for.
+    /// A sequence numbers PDU of those TLVs comes. An entry at odds with the LSDB's becomes a purge, and its system says
+    /// something else; else the PDU changes at most what the LSDB waits for.
     fn note_list(&self, kept: &mut Option<Kept>, tlvs: &[u8])
         requires { MayKeep self.now kept.old }
         ensures { (next : ControlState) → (list_any (is_confusing self.now.entries) (rows_of tlvs.now) ≡ false → SaysSame self.now.conf.system self.now next) → MayKeep next kept.new }
