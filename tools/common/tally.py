@@ -82,6 +82,17 @@ def one(job, rule, number, folder):
         return {**result, "broken": "its capture isn't of its schedule"}
 
 
+def check_program(job, rule):
+    """Trouble where the program doesn't answer a line from a pipe before its input ends."""
+    echo = chance.echo_line(rule.domain, rule.options)
+    with tempfile.TemporaryDirectory() as folder:
+        try:
+            with driver.Driver(job["program"], folder, job["domain"], echo, min(job["limit"], 20)) as run:
+                run.skip([])
+        except subprocess.TimeoutExpired:
+            raise Trouble(f"{job['program']}: doesn't answer a line of a schedule from a pipe before the schedule ends")
+
+
 def rule_of(job):
     return chance.Rule(Domain(independent.read_domain(job["domain"].encode())), job["rule"])
 
