@@ -37,6 +37,8 @@ class Driver:
     def __exit__(self, *_):
         self.process.kill()
         self.process.wait()
+        if os.path.exists(self.at("live")):
+            os.remove(self.at("live"))
 
     def at(self, name):
         return os.path.join(self.folder, name)

@@ -9,7 +9,7 @@ import tempfile
 
 from . import chance, driver, texts
 from .domain import Domain, independent
-from .trouble import Trouble, write_octets
+from .trouble import Trouble
 
 GOT, IN_FLIGHT = "got", "flight"
 TITLES = {GOT: "delivered", IN_FLIGHT: "in flight"}
@@ -80,6 +80,17 @@ def one(job, rule, number, folder):
         return {**result, "broken": str(trouble)}
     except (IndexError, KeyError, TypeError):
         return {**result, "broken": "its capture isn't of its schedule"}
+
+
+def check_program(job, rule):
+    """Trouble where the program doesn't answer a line from a pipe before its input ends."""
+    echo = chance.echo_line(rule.domain, rule.options)
+    with tempfile.TemporaryDirectory() as folder:
+        try:
+            with driver.Driver(job["program"], folder, job["domain"], echo, min(job["limit"], 20)) as run:
+                run.skip([])
+        except subprocess.TimeoutExpired:
+            raise Trouble(f"{job['program']}: doesn't answer a line of a schedule from a pipe before the schedule ends")
 
 
 def rule_of(job):

@@ -32,6 +32,11 @@ WRONG = """#!/bin/sh
 [ "$3" = schedule ] || exec {program} "$@"
 {program} "$@" | sed "0,/^[0-9]* got /{{/^[0-9]* got /d}}"
 """
+LATE = """#!/bin/sh
+[ "$3" = /dev/stdin ] || exec {program} "$@"
+cat > all
+exec {program} replay domain.toml all "$4"
+"""
 SSH = """#!/bin/sh
 while [ $# -gt 0 ]; do case $1 in -*) shift ;; *) host=$1; shift; break ;; esac; done
 [ "$1" = -- ] && shift
@@ -261,6 +266,11 @@ class Sweep(unittest.TestCase):
         self.assertEqual(done.returncode, 1)
         self.assertIn(f"{RUNS - 1} of {RUNS} runs, 1 broken", done.stdout)
         self.assertIn("run 3 broke: status 4, refused 1 text 1 Word", done.stdout)
+
+    def test_a_program_that_answers_late(self):
+        done = swept("late", "--limit", "2", using=script("late.sh", LATE.format(program=program())))
+        self.assertEqual(done.returncode, 1)
+        self.assertIn("doesn't answer a line of a schedule from a pipe", done.stderr)
 
     def test_a_report_that_doesn_t_add_up(self):
         using = script("wrong.sh", WRONG.format(program=program()))
