@@ -13,8 +13,8 @@ ghost use Rattle.command_node.specs.Named.{node_by};
 ghost use Rattle.command_node.specs.Routers.{has_name, router_named};
 
 use crate::node_command::node;
-use std::alloc::Global;
 use command_drive::deliver;
+use std::alloc::Global;
 use wire_base::{Domain, RouterConf, Sink, Source, Status};
 
 /// The line that is reported where the word that names the router names none.

@@ -7,9 +7,9 @@ ghost use Rattle.domain_conf.specs.declared.fault.ConfFault.TheVariants as fault
 ghost use Rattle.command_node.specs.declared.domain_file.NoDomain.TheVariants as no;
 ghost use Rattle.command_node.specs.DomainFile.{Says, ReadsAs, StoppedBy, HasNone, conf_refused_text};
 
+use command_drive::buffer;
 use domain_conf::{ConfFault, read_domain};
 use std::alloc::Global;
-use command_drive::buffer;
 use wire_base::limits::DOMAIN_FILE_LIMIT;
 use wire_base::{Domain, M, Memory, Octets, Source, Status};
 
