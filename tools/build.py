@@ -36,17 +36,17 @@ def build():
     if not any(os.access(os.path.join(it, "rt"), os.X_OK) for it in os.get_exec_path()):
         say("the Rattle kit's command rt isn't in PATH")
         sys.exit(127)
-    say("proving and building the program, which the first time takes a while; examples/first-look shows a report before")
+    say("proving and building the program, which takes a while the first time; examples/first-look shows a report sooner")
     started = time.time()
     status = subprocess.run([sys.executable, os.path.join(ROOT, "tools", "prove"), "bier_domain"]).returncode
     if status:
         sys.exit(status if status == 130 else 1)
     if not os.access(PROGRAM, os.X_OK):
-        say("the program wasn't built; crates/bier_domain/out/prove.log says why")
+        say("the program wasn't built; see crates/bier_domain/out/prove.log")
         sys.exit(1)
     with open(STAMP, "w", encoding="utf-8"):
         pass
-    # What was changed while this ran is built the next time.
+    # What changed meanwhile is built the next time.
     os.utime(STAMP, (started, started))
     say(f"proved and built in {int(time.time() - started) // 60} min {int(time.time() - started) % 60} s")
 

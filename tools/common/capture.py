@@ -4,7 +4,7 @@ import struct
 from .trouble import Trouble, read_octets
 
 HEADER = struct.pack("<IHHIIII", 0xA1B2C3D4, 2, 4, 0, 0, 65535, 1)
-# The first four octets tell the byte order, and how many units of time are in a microsecond.
+# The byte order, by the first four octets.
 MAGICS = {
     bytes.fromhex("d4c3b2a1"): "<",
     bytes.fromhex("a1b2c3d4"): ">",
@@ -14,7 +14,7 @@ MAGICS = {
 
 
 class Record:
-    """A frame of a capture. Its number counts from 1; its second is the schedule's line in a replay's capture."""
+    """A frame of a capture. Its number counts from 1; in a replay's capture its second is the line of the schedule."""
 
     __slots__ = ("number", "second", "octets")
 
@@ -36,8 +36,9 @@ def read_capture(path):
     return list(records_of(path, octets, order))
 
 
-def records_of(path, octets, order):
-    at, number = 24, 0
+def records_of(path, octets, order, at=24):
+    """The records of a capture from an offset on, numbered from 1."""
+    number = 0
     while at < len(octets):
         number += 1
         if at + 16 > len(octets):
@@ -50,7 +51,7 @@ def records_of(path, octets, order):
 
 
 def write_capture(frames):
-    """The octets of a capture of frames; each frame's second is its place, from 1."""
+    """A capture of frames as octets; each frame's second is its number, from 1."""
     out = [HEADER]
     for number, frame in enumerate(frames, 1):
         out.append(struct.pack("<IIII", number, 0, len(frame), len(frame)) + frame)

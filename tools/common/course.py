@@ -1,9 +1,9 @@
-"""The course of a replay: which frame was sent, taken, lost or repeated by which line, told again from its texts.
+"""The course of a replay: which frame was sent, delivered, lost or repeated by which line.
 
-Schedule, report and capture hold it all, but no text says where one event of a `settle` line ends and the next begins. So
-the flooding is done again by the independent implementation in tools/independent, and each frame that it sends must be the
-capture's next. What became of a data frame is read off the texts alone: an identifier of a packet is in one copy, one
-delivery or one drop, so the deliveries, drops and copies that belong to a frame are those that share its identifiers.
+Schedule, report and capture hold it all, but none of them shows where one event of a `settle` line ends and the next begins. So
+the flooding is repeated by the independent implementation in tools/independent, and each frame that it sends must be the
+capture's next. What became of a packet is read from the report and the capture: each of its BFR-ids is in one copy, one
+delivery or one drop. The independent implementation forwards a packet only where these leave two readings.
 """
 from . import frames
 from .domain import independent
@@ -13,17 +13,30 @@ MOST_EVENTS, MOST_IN_FLIGHT = 1_000_000, 500_000
 
 
 class Item:
-    """A frame on the way. Only a data frame has an injection, identifiers, a subdomain and a target."""
+    """A frame in flight. Only a data frame has an injection, BFR-ids, a sub-domain, a target and a header, and perhaps a tunnel."""
 
-    __slots__ = ("record", "a", "b", "injection", "ids", "subdomain", "target", "is_tunnelled")
+    __slots__ = ("record", "a", "b", "injection", "ids", "subdomain", "target", "header", "tunnel")
 
     def __init__(self, record, a, b):
         self.record, self.a, self.b = record, a, b
-        self.injection, self.ids, self.subdomain, self.target, self.is_tunnelled = None, (), None, b, False
+        self.injection, self.ids, self.subdomain, self.target = None, (), None, b
+        self.header = self.tunnel = None
+
+    @property
+    def is_tunnelled(self):
+        return self.tunnel is not None
+
+
+class Packet:
+    """A packet that a router is to forward: what its copies have in common, and its BFR-ids that aren't accounted for yet."""
+
+    def __init__(self, injection, subdomain, key, ttl, ids):
+        self.injection, self.subdomain, self.key, self.ids = injection, subdomain, key, set(ids)
+        self.ttl = ttl  # of its copies
 
 
 class Step:
-    """What one line of the schedule did: frames sent and ended, and what the report says of it."""
+    """What one line of the schedule did: frames sent and ended, and its lines of the report."""
 
     def __init__(self, line, text):
         self.line, self.text = line, text
@@ -34,7 +47,7 @@ class Step:
 
 
 class Stop(Exception):
-    """The run met a limit here, and its report says so."""
+    """The run reached a limit here, and its report says so."""
 
 
 class Course:
@@ -45,10 +58,12 @@ class Course:
         self.reader = independent.Replay(domain.confs)
         self.routers = self.reader.routers
         self.queues = {(a, end["peer_at"]): [] for a in range(len(domain.routers)) for end in domain.ends(a)}
+        self.ways = [(a, end["peer_at"]) for a in range(len(domain.routers)) for end in domain.ends(a)]
+        self.link_at = {(a, end["peer_at"]): link for a in range(len(domain.routers)) for link, end in enumerate(domain.ends(a))}
         self.in_flight = self.events = self.injections = 0
         self.next_record = self.next_told = 0
         self.touched, self.steps, self.injected = set(range(len(domain.routers))), [], {}
-        self.start = self.databases()
+        self.start, self.step = self.databases(), Step(0, "")
         for number, text in enumerate(schedule, 1):
             if not self.line(number, text):
                 break
@@ -70,7 +85,7 @@ class Course:
         except ValueError as fault:
             if self.report.end.startswith(f"refused {number} text "):
                 return False
-            raise Trouble(f"line {number} of the schedule isn't in its grammar ({fault}), but the report doesn't say so")
+            raise Trouble(f"line {number} of the schedule is invalid ({fault}), but the report doesn't reject it")
         try:
             self.do(event)
         except Stop:
@@ -79,30 +94,39 @@ class Course:
         return True
 
     def do(self, event):
-        if event[0] == "settle":
-            for _ in range(event[1]):
-                self.round()
-        else:
-            self.event(*event)
+        if event[0] != "settle":
+            return self.event(*event)
+        for done in range(event[1]):
+            before = self.events, self.next_record
+            self.round()
+            if self.next_record == before[1] and not self.in_flight:
+                # The domain is at rest, so the other rounds only count.
+                return self.count((event[1] - done - 1) * (self.events - before[0]))
 
     def round(self):
-        """One round: each router sends on each end that is up, then each frame that stands on a link is taken."""
-        for a, router in enumerate(self.routers):
-            for place, end in enumerate(self.domain.ends(a)):
-                if router.up[place]:
-                    self.event("send", a, end["peer_at"])
-        for a in range(len(self.routers)):
-            for end in self.domain.ends(a):
-                for _ in range(len(self.queues[a, end["peer_at"]])):
-                    self.event("take", a, end["peer_at"], 0)
+        """One round: each router sends on each interface that is up, then each frame in flight arrives."""
+        for a, b in self.ways:
+            router, link = self.routers[a], self.link_at[a, b]
+            if not router.up[link]:
+                continue
+            if router.due[link] or router.srm[link] or router.ssn[link]:
+                self.event("send", a, b)
+            else:
+                self.count(1)
+        for a, b in self.ways:
+            for _ in range(len(self.queues[a, b])):
+                self.event("take", a, b, 0)
+
+    def count(self, events):
+        self.events += events
+        self.step.events += events
+        if self.events > MOST_EVENTS:
+            raise Stop
 
     def event(self, name, *words):
-        if self.events >= MOST_EVENTS:
-            raise Stop
         if self.in_flight >= MOST_IN_FLIGHT and name in ("inject", "take", "send", "again"):
             raise Stop
-        self.events += 1
-        self.step.events += 1
+        self.count(1)
         try:
             getattr(self, "do_" + name)(*words)
         except (IndexError, TypeError, KeyError):
@@ -114,13 +138,12 @@ class Course:
     # Events
 
     def do_send(self, a, b):
-        self.touched.add(a)
-        for link, octets in self.routers[a].send(self.end(a, b)):
+        for link, octets in self.routers[a].send(self.link_at[a, b]):
             self.expect_control(a, link, octets)
 
     def do_take(self, a, b, place):
         item = self.remove(a, b, place)
-        link = self.end(b, a)
+        link = self.link_at[b, a]
         if not self.routers[b].up[link]:
             self.ended(item, "link")
             self.drop_whole(item)
@@ -129,7 +152,7 @@ class Course:
             self.take_control(b, link, item)
         else:
             self.ended(item, "taken")
-            self.take_data(b, item)
+            self.take_data(b, link, item)
 
     def do_lose(self, a, b, place):
         item = self.remove(a, b, place)
@@ -144,12 +167,12 @@ class Course:
 
     def do_down(self, a, b):
         self.touched.add(a)
-        self.routers[a].end_down(self.end(a, b))
+        self.routers[a].end_down(self.link_at[a, b])
         self.step.ends.append((a, b, False))
 
     def do_up(self, a, b):
         self.touched.add(a)
-        self.routers[a].end_up(self.end(a, b))
+        self.routers[a].end_up(self.link_at[a, b])
         self.step.ends.append((a, b, True))
 
     def do_tick(self, a):
@@ -163,7 +186,9 @@ class Course:
     def do_inject(self, a, subdomain, bits, ids, ttl, entropy, payload):
         self.injections += 1
         self.injected[self.injections] = (self.step.line, a, subdomain, sorted(set(ids)))
-        self.account(a, set(ids), subdomain, self.injections)
+        own = next(sub["id"] for sub in self.routers[a].conf["subs"] if sub["sd"] == subdomain)
+        packet = Packet(self.injections, subdomain, (entropy, own, payload), ttl, ids)
+        self.account(a, packet, lambda: self.routers[a].inject(subdomain, bits, ids, ttl, entropy, payload))
 
     # What becomes of a frame
 
@@ -177,26 +202,68 @@ class Course:
         for _ in out["drops"]:
             self.tell(b, None)
 
-    def take_data(self, b, item):
-        if item.target == b:
-            self.account(b, set(item.ids), item.subdomain, item.injection)
-            return
-        # A tunnel goes on as it is, or ends here as a whole.
-        told = self.peek_told()
-        if told and self.is_told(told, b, item.injection) and set(told.ids) == set(item.ids):
-            self.tell(b, item.injection)
-            return
-        self.expect_data(b, set(item.ids), item.injection)
+    def take_data(self, b, link, item):
+        forward = lambda: self.routers[b].frame(link, item.record.octets)
+        if item.target != b:
+            return self.pass_on(b, item, forward)
+        header = item.header
+        self.account(b, Packet(item.injection, item.subdomain, key_of(header), header.ttl - 1, item.ids), forward)
 
-    def account(self, a, ids, subdomain, injection):
-        """Finds the deliveries, drops and copies into which the identifiers of a packet went at a router."""
+    def pass_on(self, b, item, forward):
+        """A tunnel packet is forwarded unchanged, or dropped as a whole."""
+        copy, told = self.copy_of_tunnel(b, item), self.told_of(b, item.injection, set(item.ids))
+        if told and (told.cause == "outer" and item.tunnel.ttl > 1 or told.cause not in ("outer", "route")):
+            told = None
+        if copy and (told is None or not any(cause == "route" for cause, _ in forward()["drops"])):
+            return self.put_data(copy, item.injection)
+        self.tell(b, item.injection)
+
+    def copy_of_tunnel(self, b, item):
+        copy = self.peek_copy(b)
+        if copy is None or copy.tunnel is None or (copy.ids, copy.subdomain) != (item.ids, item.subdomain):
+            return None
+        same = (copy.tunnel.destination, copy.header.ttl) == (item.tunnel.destination, item.header.ttl)
+        is_next = same and copy.tunnel.ttl == item.tunnel.ttl - 1 and key_of(copy.header) == key_of(item.header)
+        return copy if is_next else None
+
+    def account(self, a, packet, forward):
+        """Finds the deliveries, drops and copies that a router made of a packet.
+
+        The report's next line may be of a later visit of the same packet, as in a loop, and the next frame may be of a similar
+        packet. Where TTL and BFR-ids don't decide, `forward` does: what the independent implementation makes of the packet."""
+        dropped = None
+        while packet.ids:
+            told, copy = self.told_at(a, packet), self.copy_at(a, packet)
+            if told and copy and told.cause == "none" and set(told.ids) & set(copy.ids):
+                if dropped is None:
+                    dropped = {bfr_id for cause, what in forward()["drops"] if cause == "none" for bfr_id in what[1]}
+                told, copy = (told, None) if set(told.ids) <= dropped else (None, copy)
+            if copy:
+                self.put_data(copy, packet.injection)
+                packet.ids -= set(copy.ids)
+            elif told:
+                self.tell(a, packet.injection)
+                packet.ids -= set(told.ids)
+            else:
+                name = self.domain.name(a)
+                raise self.wrong(f"neither report nor capture has what {name} does with injection {packet.injection}")
+
+    def told_at(self, a, packet):
+        """The report's next line where it can be of this packet at this visit."""
+        told = self.told_of(a, packet.injection, packet.ids)
+        is_now = told and (told.is_got or told.cause == "none" or told.cause == "ttl" and packet.ttl <= 0)
+        return told if is_now else None
+
+    def told_of(self, a, injection, ids):
         told = self.peek_told()
-        while told and self.is_told(told, a, injection) and told.ids and set(told.ids) <= ids:
-            ids -= set(told.ids)
-            self.tell(a, injection)
-            told = self.peek_told()
-        while ids:
-            ids -= self.expect_data(a, ids, injection)
+        return told if told and self.is_told(told, a, injection) and told.ids and set(told.ids) <= ids else None
+
+    def copy_at(self, a, packet):
+        """The capture's next frame where it can be a copy of this packet."""
+        copy = self.peek_copy(a)
+        if copy is None or copy.subdomain != packet.subdomain or copy.header.ttl != packet.ttl:
+            return None
+        return copy if copy.ids and set(copy.ids) <= packet.ids and key_of(copy.header) == packet.key else None
 
     def drop_whole(self, item):
         self.tell(item.b, item.injection)
@@ -212,7 +279,7 @@ class Course:
     def tell(self, router, injection):
         told = self.peek_told()
         if told is None or not self.is_told(told, router, injection):
-            raise self.wrong(f"the report says nothing of what {self.domain.name(router)} dropped")
+            raise self.wrong(f"the report's next line isn't what {self.domain.name(router)} dropped")
         self.next_told += 1
         self.step.told.append(told)
 
@@ -231,20 +298,18 @@ class Course:
             raise self.wrong(f"frame {record.number} isn't what {self.domain.name(a)} sends")
         self.put(Item(record, a, self.domain.ends(a)[link]["peer_at"]))
 
-    def expect_data(self, a, ids, injection):
-        """The next frame must be a copy with some of these identifiers; answers those it has."""
-        record = self.take_record()
-        item = self.data_item(record, a)
-        if item is None or not item.ids or not set(item.ids) <= ids:
-            name = self.domain.name(a)
-            raise self.wrong(f"frame {record.number} isn't a copy that {name} makes of injection {injection}")
-        item.injection = injection
-        self.put(item)
-        return set(item.ids)
-
-    def data_item(self, record, a):
+    def peek_copy(self, a):
+        """The capture's next frame as a data frame that the router sends in this line; None where it isn't."""
+        if self.next_record >= len(self.records) or self.records[self.next_record].second != self.step.line:
+            return None
+        record = self.records[self.next_record]
         found, b = frames.data_of(record.octets), self.domain.peer_of(a, record.octets)
         return None if found is None or b is None else data_item(self.domain, record, a, b, *found)
+
+    def put_data(self, item, injection):
+        self.next_record += 1
+        item.injection = injection
+        self.put(item)
 
     def put(self, item):
         self.queues[item.a, item.b].append(item)
@@ -258,13 +323,10 @@ class Course:
     def ended(self, item, how):
         self.step.ended.append((item, how))
 
-    def end(self, a, b):
-        return next(place for place, end in enumerate(self.domain.ends(a)) if end["peer_at"] == b)
-
     # Databases and the end
 
     def databases(self):
-        """What the routers touched by this line hold: identifier, sequence number, whether it is live, checksum."""
+        """The LSDBs of the routers that this line touched: LSP ID, sequence number, whether it is live, checksum."""
         held = {}
         for place in sorted(self.touched):
             entries = self.routers[place].entries.values()
@@ -279,11 +341,17 @@ class Course:
             raise self.wrong(f"the report says more than happened: {self.report.told[self.next_told].text}")
 
 
+def key_of(header):
+    """What all copies of a packet have in common."""
+    return header.entropy, header.bfir, header.payload
+
+
 def data_item(domain, record, a, b, header, tunnel):
-    """A data frame as an item, with the identifiers that its BIFT-id gives it at its target; None where it has no meaning."""
+    """A data frame as an item, with the BFR-ids that its BIFT-id gives it at its target; None where that has no such BIFT-id."""
     item = Item(record, a, b)
+    item.header, item.tunnel = header, tunnel
     if tunnel:
-        item.is_tunnelled, item.target = True, domain.by_prefix.get(tunnel.destination)
+        item.target = domain.by_prefix.get(tunnel.destination)
     triple = None if item.target is None else domain.triple(item.target, header.is_mpls, header.bift)
     if triple is None or triple[1] != header.bits:
         return None

@@ -1,5 +1,5 @@
 """Domain files, read by the rules of the user guide, through the independent implementation in tools/independent."""
-from . import places  # sets where the independent program is found
+from . import explain, places  # the latter sets where the independent program is found
 from .trouble import Trouble, read_octets
 
 import replay as independent
@@ -16,18 +16,18 @@ class Router:
 
     @property
     def plain(self):
-        """Whether it knows no BIER."""
+        """Whether it is a non-BFR."""
         return not self.subs
 
     def ids(self):
-        """Its BFR-ids, as pairs of subdomain and id; an id of 0 only passes packets on."""
+        """Its BFR-ids, as pairs of sub-domain and BFR-id; with 0 it only forwards packets."""
         return [(sub["sd"], sub["id"]) for sub in self.subs]
 
     def id_in(self, subdomain):
         return next((sub["id"] for sub in self.subs if sub["sd"] == subdomain), 0)
 
     def ranges(self):
-        """Its label ranges: subdomain, length, highest set identifier, label of set 0."""
+        """Its label ranges: sub-domain, BitString length, highest set identifier, label of set 0."""
         return [(sub["sd"], *entry) for sub in self.subs for entry in sub["ranges"]]
 
 
@@ -38,6 +38,10 @@ class Domain:
         self.place = {router.name: router.place for router in self.routers}
         self.by_prefix = {router.prefix: router.place for router in self.routers}
         self.by_system = {router.system: router.place for router in self.routers}
+        self.by_addresses = {}  # a data frame's first 12 octets: sender and receiver
+        for place, conf in enumerate(confs):
+            for end in conf["ends"]:
+                self.by_addresses.setdefault(end["peer_mac"] + end["own_mac"], (place, end["peer_at"]))
         self.kinds = dict(confs[0]["kinds"])
         self.table = confs[0]["table"]
 
@@ -48,7 +52,7 @@ class Domain:
         return self.confs[place]["ends"]
 
     def links(self):
-        """Each link once: the two places, and the metric from each to the other."""
+        """Each link once: the indexes of its two routers, and the metric from each to the other."""
         for a, conf in enumerate(self.confs):
             for end in conf["ends"]:
                 b = end["peer_at"]
@@ -57,22 +61,18 @@ class Domain:
                     yield a, b, end["metric"], back
 
     def peer_of(self, place, octets):
-        """The router at whose end a data frame of this router arrives, by the frame's destination."""
+        """The router at which a data frame of this router arrives, by the frame's destination."""
         return next((end["peer_at"] for end in self.ends(place) if end["peer_mac"] == octets[:6]), None)
 
     def sender_of(self, octets):
-        """The two routers of a data frame's way, by its addresses."""
-        for place, conf in enumerate(self.confs):
-            for end in conf["ends"]:
-                if end["own_mac"] == octets[6:12] and end["peer_mac"] == octets[:6]:
-                    return place, end["peer_at"]
-        return None
+        """The two routers of a data frame's link, by its addresses."""
+        return self.by_addresses.get(octets[:12])
 
     def owners(self, subdomain, bfr_id):
         return [router for router in self.routers if bfr_id and (subdomain, bfr_id) in router.ids()]
 
     def triple(self, place, is_mpls, bift):
-        """What a BIFT-id means at a router: subdomain, length, set identifier; None where it means nothing."""
+        """What a BIFT-id selects at a router: sub-domain, BitString length, set identifier; None where it selects nothing."""
         if not is_mpls:
             return next((triple for triple, number in self.table if number == bift), None)
         for subdomain, bits, highest, label in self.routers[place].ranges():
@@ -85,4 +85,4 @@ def read_domain(path):
     try:
         return Domain(independent.read_domain(read_octets(path)))
     except independent.ConfFault as fault:
-        raise Trouble(f"{path}: not a domain file, refused as {fault} (docs/user-guide.md, The domain file)")
+        raise Trouble(f"not a domain file: {explain.conf(path, str(fault))}")

@@ -1,18 +1,19 @@
 """Data frames and the headers in them: RFC 8296, RFC 3032, RFC 2784."""
 MPLS, BIER, IPV4 = 0x8847, 0xAB37, 0x0800
 LENGTHS = {1: 64, 2: 128, 3: 256, 4: 512, 5: 1024, 6: 2048, 7: 4096}
-# No label stack of the domain is deeper, and `headers` passes those that are.
+# No label stack of the domain is deeper, and `headers` passes over those that are.
 DEEPEST_STACK = 8
+LSPS = (18, 20)  # PDU types, of level 1 and 2
 
 
 class Header:
-    """A BIER header, the length of its bit string taken from its own field."""
+    """A BIER header, with the BitString length of its BSL field."""
 
     __slots__ = ("is_mpls", "bift", "ttl", "bits", "entropy", "protocol", "bfir", "bitstring", "payload")
 
 
 class Tunnel:
-    """The outer header of a packet that is carried by GRE in IPv4."""
+    """The outer IPv4 header of a packet in GRE."""
 
     __slots__ = ("source", "destination", "ttl")
 
@@ -28,8 +29,20 @@ def is_isis(octets):
     return len(octets) >= 17 and number(octets, 12, 2) <= 1500 and octets[14:17] == b"\xfe\xfe\x03"
 
 
+def neighbors(octets):
+    """The system identifiers that an LSP lists in its Extended IS Reachability TLVs (RFC 5305)."""
+    found, at, end = set(), 44, 14 + number(octets, 12, 2)
+    while at + 2 <= end:
+        kind, at, last = octets[at], at + 2, at + 2 + octets[at + 1]
+        while kind == 22 and at + 11 <= last:
+            found.add(octets[at : at + 6])
+            at += 11 + octets[at + 10]
+        at = last
+    return found
+
+
 def bottom_of_stack(octets):
-    """Where the last label of a stack begins; None where the stack can't be read."""
+    """The offset of the last label of a stack; None where the stack can't be read."""
     for place in range(DEEPEST_STACK):
         at = 4 * place
         if at + 4 > len(octets):
@@ -55,7 +68,7 @@ def fault_of(octets, is_mpls):
 
 
 def header_of(octets, is_mpls):
-    """The header at the front of octets that `fault_of` finds whole."""
+    """The header at the start of octets in which `fault_of` finds no fault."""
     header = Header()
     header.is_mpls = is_mpls
     header.bift, header.ttl = number(octets, 0, 3) >> 4, octets[3]
@@ -67,7 +80,7 @@ def header_of(octets, is_mpls):
 
 
 def positions(bitstring):
-    """The set positions of a bit string, ascending from 1."""
+    """The bit positions that are set in a BitString, ascending from 1."""
     found, at = [], 1
     while bitstring:
         if bitstring & 1:
@@ -78,7 +91,7 @@ def positions(bitstring):
 
 
 def bier_in(octets):
-    """The octets from a frame's BIER header on and whether it is behind labels; None where the frame has no BIER header."""
+    """The octets from a frame's BIER header on and whether it follows labels; None where the frame has no BIER header."""
     if len(octets) < 14:
         return None
     kind, inside = number(octets, 12, 2), octets[14:]
@@ -87,7 +100,7 @@ def bier_in(octets):
     if kind != MPLS:
         return None
     bottom = bottom_of_stack(inside)
-    # Behind the stack the first four bits tell BIER (5) from IP.
+    # After the stack the first four bits distinguish BIER (5) from IP.
     if bottom is None or len(inside) < bottom + 5 or inside[bottom + 4] >> 4 != 5:
         return None
     return inside[bottom:], True
@@ -106,7 +119,7 @@ def data_of(octets):
 
 
 def header_line(octets):
-    """A frame's line of `headers` without the record's number; None for a frame that is passed."""
+    """A frame's line of `headers` without the record's number; None for a frame that is passed over."""
     found = bier_in(octets)
     if found is None:
         return None

@@ -15,7 +15,7 @@ sys.path.insert(0, os.path.join(TOOLS, "independent"))
 def program(given=None):
     """The program's path: the option, or BIER_DOMAIN, or what the script at the root has built.
 
-    The script is run once, on no words, so that many runs at once don't each begin to build.
+    It is run once without arguments, so that many runs at once don't each begin to build.
     """
     path = given or os.environ.get("BIER_DOMAIN")
     script = os.path.abspath(path or os.path.join(ROOT, "bier_domain"))
@@ -24,7 +24,7 @@ def program(given=None):
     except (OSError, subprocess.TimeoutExpired) as error:
         raise Trouble(f"{script}: {getattr(error, 'strerror', None) or 'no answer'}")
     if done.returncode != 2 or not done.stdout.startswith(b"usage"):
-        raise Trouble(f"{script}: not the program, it has no usage line")
+        raise Trouble(f"{script}: not the program: it prints no usage line")
     return script if path else BUILT
 
 

@@ -1,9 +1,11 @@
 """Spreads the runs of a sweep over the cores of this machine, or over machines by GNU parallel."""
+import collections
 import json
 import os
 import queue
 import shlex
 import shutil
+import signal
 import subprocess
 import sys
 import threading
@@ -15,27 +17,66 @@ from .trouble import Trouble, read_text, write_octets
 SWEEP = os.path.join(places.TOOLS, "sweep")
 MOST_IN_BATCH = 16
 CORES = 8  # what a machine may have, for the size of batches
+WINDOW = 60  # seconds over which the speed is measured
+
+
+
+class Workers:
+    """The processes that work now, each in a process group of its own with the programs that it runs."""
+
+    def __init__(self):
+        self.started, self.is_stopped, self.lock = [], False, threading.Lock()
+
+    def start(self, words, **pipes):
+        """A new worker; None where all were stopped."""
+        with self.lock:
+            if self.is_stopped:
+                return None
+            worker = subprocess.Popen(words, text=True, start_new_session=True, **pipes)
+            self.started.append(worker)
+            return worker
+
+    def stop(self):
+        """Ends all of them. GNU parallel ends its jobs at the second SIGTERM."""
+        with self.lock:
+            self.is_stopped = True
+        for number in (signal.SIGTERM, signal.SIGTERM, signal.SIGKILL):
+            for worker in self.started:
+                if worker.poll() is None:
+                    os.killpg(worker.pid, number)
+            ends = time.monotonic() + 0.5
+            while time.monotonic() < ends and any(worker.poll() is None for worker in self.started):
+                time.sleep(0.02)
+
+
+WORKERS = Workers()
 
 
 class Progress:
-    """How far a sweep is, on standard error: in one line that is renewed on a terminal, else a line every ten seconds."""
+    """The progress of a sweep, on standard error: one line that is updated on a terminal, else a line every ten seconds."""
 
     def __init__(self, done, count):
-        self.done, self.count, self.before = done, count, done
-        self.started = self.told = time.monotonic()
+        self.done, self.count = done, count
+        self.shown = time.monotonic()
+        self.steps = collections.deque()  # when the last results came
         self.is_terminal = sys.stderr.isatty()
 
     def step(self, is_new):
         self.done += is_new
         now = time.monotonic()
-        if now - self.told >= (0.2 if self.is_terminal else 10):
-            self.told = now
+        self.steps.append(now)
+        while now - self.steps[0] > WINDOW:
+            self.steps.popleft()
+        if now - self.shown >= (0.2 if self.is_terminal else 10):
+            self.shown = now
             self.show()
 
     def show(self):
-        speed = (self.done - self.before) / max(time.monotonic() - self.started, 1e-6)
-        left = (self.count - self.done) / speed if speed else 0
-        text = f"{self.done} of {self.count} runs, {speed:.1f} a second, {left:.0f} s left"
+        text = f"{self.done} of {self.count} runs"
+        # Before the second result nothing is known of the speed: the first one waits for the domain to settle.
+        if len(self.steps) > 1 and self.steps[-1] > self.steps[0]:
+            speed = (len(self.steps) - 1) / (self.steps[-1] - self.steps[0])
+            text += f", {speed:.1f} a second, {(self.count - self.done) / speed:.0f} s left"
         print(f"\r{text}\x1b[K" if self.is_terminal else text, end="" if self.is_terminal else "\n", file=sys.stderr, flush=True)
 
     def say(self, text):
@@ -47,9 +88,9 @@ class Progress:
             print(file=sys.stderr)
 
 
-def batches(numbers, workers):
-    """Runs in batches: few enough that each worker gets several, since a worker settles the domain once."""
-    size = max(1, min(MOST_IN_BATCH, len(numbers) // (4 * workers)))
+def batches(numbers, count):
+    """Runs in batches: small enough that each worker gets several, since a worker settles the domain once."""
+    size = max(1, min(MOST_IN_BATCH, len(numbers) // (4 * count)))
     return [numbers[start : start + size] for start in range(0, len(numbers), size)]
 
 
@@ -64,11 +105,11 @@ def results(job, numbers, given, left_out, folder):
 # This machine
 
 
-def over_cores(job, numbers, workers):
+def over_cores(job, numbers, count):
     todo, done = queue.Queue(), queue.Queue()
-    for batch in batches(numbers, workers):
+    for batch in batches(numbers, count):
         todo.put(batch)
-    threads = [threading.Thread(target=serve, args=(job, todo, done), daemon=True) for _ in range(workers)]
+    threads = [threading.Thread(target=serve, args=(job, todo, done), daemon=True) for _ in range(count)]
     for thread in threads:
         thread.start()
     alive = len(threads)
@@ -81,7 +122,7 @@ def over_cores(job, numbers, workers):
 
 
 def serve(job, todo, done):
-    """Feeds one worker with batches. A worker that ends early is started anew, and the runs that it had are named."""
+    """Feeds one worker with batches. A worker that ends early is restarted, and its runs are reported as broken."""
     worker = None
     while True:
         try:
@@ -89,9 +130,9 @@ def serve(job, todo, done):
         except queue.Empty:
             break
         if worker is None:
-            worker = subprocess.Popen(
-                [sys.executable, SWEEP, "--worker"], stdin=subprocess.PIPE, stdout=subprocess.PIPE, text=True
-            )
+            worker = WORKERS.start([sys.executable, SWEEP, "--worker"], stdin=subprocess.PIPE, stdout=subprocess.PIPE)
+        if worker is None:
+            break
         if not serve_batch(worker, job, batch, done):
             worker = None
     if worker:
@@ -136,10 +177,10 @@ def hosts_of(path):
 
 
 def parallel_words(log, login, given):
-    """GNU parallel's words: each line of its input is a job, which gets it as its standard input on some machine."""
+    """GNU parallel's arguments: each line of its input is a job, which some machine reads as its standard input."""
     command = f"cd {shlex.quote(places.ROOT)} && exec python3 tools/sweep --worker"
     words = ["parallel", "--will-cite", "--pipe", "-N", "1", "--joblog", log, "--sshloginfile", login]
-    # A machine that says nothing any more is given up at last.
+    # A machine that stops answering is given up in the end.
     words += ["--timeout", str(given.limit * MOST_IN_BATCH), "-j", str(given.jobs or "100%")]
     return [*words, command]
 
@@ -155,7 +196,7 @@ def over_hosts(job, numbers, given, left_out, folder):
     write_octets(log, b"")
     all_batches, said = batches(numbers, len(hosts) * (given.jobs or CORES)), []
     pipes = {"stdin": subprocess.PIPE, "stdout": subprocess.PIPE, "stderr": subprocess.PIPE}
-    parallel = subprocess.Popen(parallel_words(log, login, given), text=True, **pipes)
+    parallel = WORKERS.start(parallel_words(log, login, given), **pipes)
     feeder = threading.Thread(target=feed, args=(parallel.stdin, job, all_batches), daemon=True)
     listener = threading.Thread(target=lambda: said.extend(parallel.stderr), daemon=True)
     feeder.start()
@@ -176,7 +217,7 @@ def feed(stream, job, all_batches):
 
 
 def parsed(stream):
-    """Results, line by line; what a machine says besides is passed."""
+    """Results, line by line; other output of a machine is ignored."""
     for line in stream:
         try:
             result = json.loads(line)
@@ -187,10 +228,10 @@ def parsed(stream):
 
 
 def name_broken(log, said, has_others):
-    """Names the machines on which jobs failed or of which nothing came; those on which none succeeded are left out from now on."""
+    """Reports the machines on which jobs failed or that returned nothing; those on which no job succeeded, to be left out."""
     failed, well = {}, set()
     for line in read_text(log).splitlines()[1:]:
-        # A job's number, machine, start, time, octets that went there and that came back, exit status and signal.
+        # A job's number, machine, start, duration, octets sent and received, exit status and signal.
         cells = line.split("\t")
         if len(cells) > 7:
             if cells[5] != "0" and cells[6:8] == ["0", "0"]:

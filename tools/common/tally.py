@@ -1,4 +1,4 @@
-"""One run of a sweep and what came of it, and the sums over all runs."""
+"""One run of a sweep and its result, and the sums over all runs."""
 import collections
 import html
 import json
@@ -7,12 +7,12 @@ import socket
 import subprocess
 import tempfile
 
-from . import chance, texts
+from . import chance, driver, texts
 from .domain import Domain, independent
 from .trouble import Trouble, write_octets
 
-GOT, ON_THE_WAY = "got", "flight"
-TITLES = {GOT: "delivered", ON_THE_WAY: "on the way"}
+GOT, IN_FLIGHT = "got", "flight"
+TITLES = {GOT: "delivered", IN_FLIGHT: "in flight"}
 COLOURS = {
     GOT: "#2a9d4a",
     "none": "#c9302c",
@@ -21,17 +21,11 @@ COLOURS = {
     "link": "#1d5fa8",
     "outer": "#8a5a2b",
     "route": "#5d6b00",
-    ON_THE_WAY: "#9aa5b1",
+    IN_FLIGHT: "#9aa5b1",
 }
 
 
 # One run
-
-
-def replay(program, folder, limit):
-    """Runs the program on the domain and schedule of a folder; the capture goes there too."""
-    words = [program, "replay", "domain.toml", "schedule", "frames"]
-    return subprocess.run(words, cwd=folder, capture_output=True, timeout=limit)
 
 
 def is_whole(result):
@@ -49,34 +43,30 @@ def fates(report, schedule):
         for bfr_id in told.ids:
             counts[str(bfr_id)][GOT if told.is_got else told.cause] += 1
     for count in counts.values():
-        count[ON_THE_WAY] = 2 * count["named"] - sum(count.values())
+        count[IN_FLIGHT] = 2 * count["named"] - sum(count.values())
     return {bfr_id: {name: many for name, many in count.items() if many} for bfr_id, count in counts.items()}
 
 
 def fault_of(counts, report):
-    """Why the sums of a run don't fit its report's last line; None where they do."""
+    """In what the sums of a run differ from its report's last line; None where they don't."""
     wanted = report.numbers()
     sums = collections.Counter()
     for count in counts.values():
         sums.update(count)
-    dropped = sums["named"] - sums[GOT] - sums[ON_THE_WAY]
-    found = {"named": sums["named"], "got": sums[GOT], "dropped": dropped, "flight": sums[ON_THE_WAY]}
+    dropped = sums["named"] - sums[GOT] - sums[IN_FLIGHT]
+    found = {"named": sums["named"], "got": sums[GOT], "dropped": dropped, "flight": sums[IN_FLIGHT]}
     wrong = [name for name, many in found.items() if many != wanted.get(name)]
     return f"its lines and its last line differ in {', '.join(wrong)}" if wrong else None
 
 
-def one(job, rule, settled, number):
-    """The result of one run: fates, or why it broke."""
+def one(job, rule, seen, number, folder):
+    """The result of one run, whose files go to the folder: fates, or why it broke."""
     result = {"run": number, "host": socket.gethostname()}
     try:
-        schedule = chance.schedule(rule, settled, number)
-        with tempfile.TemporaryDirectory() as folder:
-            write_octets(os.path.join(folder, "domain.toml"), job["domain"].encode())
-            write_octets(os.path.join(folder, "schedule"), schedule.encode())
-            done = replay(job["program"], folder, job["limit"])
-        report = texts.report_of("report", done.stdout.decode(errors="replace"))
-        if done.returncode or not report.is_done:
-            raise Trouble(f"status {done.returncode}, {report.end}")
+        run = driver.Driver(job["program"], folder, job["domain"], job["limit"], seen)
+        schedule = chance.Writer(rule, run, number).write()
+        write_octets(run.at("report"), run.report)
+        report = run.whole_report()
         counts = fates(report, schedule)
         fault = fault_of(counts, report)
         if fault:
@@ -84,25 +74,54 @@ def one(job, rule, settled, number):
         return {**result, "fates": counts}
     except subprocess.TimeoutExpired:
         return {**result, "broken": f"it took more than {job['limit']} seconds"}
-    except (Trouble, OSError, independent.Refused) as trouble:
+    except driver.Refused as trouble:
+        return {**result, "broken": str(trouble), "final": True}
+    except (Trouble, OSError) as trouble:
         return {**result, "broken": str(trouble)}
+    except (IndexError, KeyError, TypeError):
+        return {**result, "broken": "its capture isn't of its schedule"}
+
+
+def settled(job, rule):
+    """The size of the capture of the domain's first settling, with which all runs begin."""
+    with tempfile.TemporaryDirectory() as folder:
+        run = driver.Driver(job["program"], folder, job["domain"], job["limit"])
+        lines = chance.first_lines(rule, "The domain settles.")
+        if any(record.second == len(lines) for record in run.do(lines)):
+            raise Trouble("the domain doesn't come to rest")
+        return run.seen
+
+
+def rule_of(job):
+    return chance.Rule(Domain(independent.read_domain(job["domain"].encode())), job["rule"])
 
 
 def work(lines, out):
     """A worker: for each line, a job with its runs, one line for each result. The status is 1 where one broke."""
-    last, rule, settled, status = None, None, None, 0
+    last, rule, seen, status, parent = None, None, None, 0, os.getppid()
     for line in lines:
         job = json.loads(line)
         if last != (job["domain"], job["rule"]):
-            last = job["domain"], job["rule"]
-            rule = chance.Rule(Domain(independent.read_domain(job["domain"].encode())), job["rule"])
-            settled = chance.Settled(rule.domain)
+            last, rule, seen = (job["domain"], job["rule"]), rule_of(job), None
         for number in job["runs"]:
-            result = one(job, rule, settled, number)
+            if os.getppid() != parent:
+                return 1  # nobody reads the results
+            result = one_of(job, rule, number, seen)
+            seen = result.pop("seen", seen)
             status = status if is_whole(result) else 1
             out.write(json.dumps(result) + "\n")
             out.flush()
     return status
+
+
+def one_of(job, rule, number, seen):
+    """A run in a temporary folder; its result also has `seen`, the size of the first settling."""
+    try:
+        seen = seen or settled(job, rule)
+    except (Trouble, OSError, subprocess.TimeoutExpired) as trouble:
+        return {"run": number, "host": socket.gethostname(), "broken": f"the domain's first settling: {trouble}"}
+    with tempfile.TemporaryDirectory() as folder:
+        return {**one(job, rule, seen, number, folder), "seen": seen}
 
 
 # All runs
@@ -113,7 +132,7 @@ def undelivered(result):
 
 
 def worst(results, most):
-    """The runs in which most identifiers weren't delivered."""
+    """The runs in which the most BFR-ids weren't delivered."""
     bad = [result for result in results if undelivered(result)]
     return sorted(bad, key=lambda result: (-undelivered(result), result["run"]))[:most]
 
@@ -127,16 +146,16 @@ def sums(results):
 
 
 def egress_name(it, rule, bfr_id):
-    return "+".join(router.name for router in it.owners(rule.words["sd"], bfr_id)) or "nobody"
+    return "+".join(router.name for router in it.owners(rule.options["sd"], bfr_id)) or "nobody"
 
 
 def kinds_in(total):
-    """The fates that came up, in one order."""
-    return [kind for kind in (*texts.CAUSES, ON_THE_WAY) if any(count[kind] for count in total.values())]
+    """The fates that occur, in a fixed order."""
+    return [kind for kind in (*texts.CAUSES, IN_FLIGHT) if any(count[kind] for count in total.values())]
 
 
 def columns(rows):
-    """Rows as text, in columns that are as wide as they need; the first is set to the left."""
+    """Rows as text, in columns as wide as needed; the first is left-aligned."""
     wide = [max(len(row[place]) for row in rows) for place in range(len(rows[0]))]
     return "".join(
         "  ".join(
@@ -173,7 +192,7 @@ def egress_rows(it, rule, total):
 
 
 def failure_rows(rule, results, most=12):
-    """The failures that cost most."""
+    """The failures after which the least was delivered."""
     total = collections.defaultdict(collections.Counter)
     for number, result in results.items():
         for count in result["fates"].values():
@@ -208,7 +227,7 @@ def text_at(x, y, text, anchor="start", size=12, colour="#1b2733"):
 
 
 def bar(count, kinds, x, y, width):
-    """One egress: the shares of what became of its identifiers."""
+    """One egress router: the shares of what became of its BFR-ids."""
     parts = []
     for kind in (GOT, *kinds):
         wide = width * count[kind] / count["named"]
@@ -231,7 +250,7 @@ def legend(kinds, x, y):
 
 
 def plot(it, rule, results):
-    """Bars by egress, as an SVG."""
+    """Bars by egress router, as an SVG."""
     total = {bfr_id: count for bfr_id, count in sums(results.values()).items() if count["named"]}
     kinds, left, width = kinds_in(total), 190, 620
     high = 84 + 24 * len(total)

@@ -5,7 +5,7 @@ CAUSES = ("none", "ttl", "lost", "link", "outer", "route")
 
 
 class Told:
-    """A line of a report: what a router delivered, or dropped and why. Control frames have no injection and no ids."""
+    """A line of a report: what a router delivered, or dropped and why. IS-IS frames have no injection and no BFR-ids."""
 
     __slots__ = ("text", "line", "is_got", "router", "injection", "cause", "ids", "payload")
 
@@ -39,7 +39,7 @@ def told_of(path, number, text):
         else:
             raise ValueError
     except (IndexError, ValueError):
-        raise Trouble(f"{path}: line {number} is no line of a replay's report: {text[:60]}")
+        raise Trouble(f"{path}: line {number} isn't a line of a replay's report: {text[:60]}")
     return told
 
 
@@ -50,15 +50,15 @@ def read_report(path):
 def report_of(path, text):
     lines = text.splitlines()
     if not lines or not lines[-1].startswith(("done lines ", "refused ")):
-        raise Trouble(f"{path}: not a whole report of a replay: its last line begins with neither `done` nor `refused`")
+        raise Trouble(f"{path}: not a complete report of a replay: its last line begins with neither `done` nor `refused`")
     if lines[-1].startswith(("refused conf", "refused record")):
-        raise Trouble(f"{path}: the report of a run that did nothing: {lines[-1]}")
+        raise Trouble(f"{path}: the report of a run that was rejected at once: {lines[-1]}")
     told = [told_of(path, number, line) for number, line in enumerate(lines[:-1], 1)]
     return Report(told, lines[-1])
 
 
 def read_schedule(path):
-    """The lines of a schedule without their ends. A comment may hold any octets."""
+    """The lines of a schedule without line ends. A comment may contain any octets."""
     lines = read_octets(path).decode("utf-8", "replace").split("\n")
     if lines[-1] == "":
         lines.pop()

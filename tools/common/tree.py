@@ -1,8 +1,8 @@
-"""Where one injection's copies went, and what became of its identifiers.
+"""Where one injection's copies went, and what became of its BFR-ids.
 
-With the schedule this is read off the course of the replay. Without it the capture's data frames are joined to trees: a copy
-comes from a frame to its sender that has the same ingress, entropy and payload, one more hop to live and all its bits. What
-has no such frame before it was sent by an injection, and so each injection's line is known, and its number by their order.
+With the schedule, the course of the replay has it. Without it, the capture's data frames are joined to trees: a copy comes from
+a frame to its sender that has the same BFIR-id, entropy and payload, a TTL one higher and all its bits. A frame without such a
+predecessor was sent by an injection, so each injection's line is known, and its number by their order.
 """
 from . import frames
 from .course import Course, data_item
@@ -10,7 +10,7 @@ from .trouble import Trouble
 
 
 class Hop:
-    """A copy on a link: the line that sent it, from where to where, for which identifiers."""
+    """A copy on a link: the line that sent it, from where to where, for which BFR-ids."""
 
     __slots__ = ("line", "a", "b", "ids", "ttl", "is_tunnelled")
 
@@ -19,10 +19,12 @@ class Hop:
 
 
 class Tree:
-    """An injection: where it entered, its copies, and the report's lines of it."""
+    """An injection: its ingress router, its copies, its lines of the report, and the interfaces down at its last event."""
 
-    def __init__(self, number, ingress, hops, told):
+    def __init__(self, number, line, ingress, hops, told):
         self.number, self.ingress, self.hops, self.told = number, ingress, hops, told
+        self.last_line = max([line, *(hop.line for hop in hops), *(it.line for it in told)])
+        self.down = set()  # interfaces, as pairs of a router and its neighbor
 
 
 def hop_of(item):
@@ -35,7 +37,12 @@ def tree_by_schedule(domain, schedule, report, records, number):
     if number not in course.injected:
         raise Trouble(f"the replay has no injection {number}; it has {len(course.injected)}")
     hops = [hop_of(item) for step in course.steps for item in step.sent if item.injection == number]
-    return Tree(number, course.injected[number][1], hops, told_of(report, number))
+    line, ingress, *_ = course.injected[number]
+    found = Tree(number, line, ingress, hops, told_of(report, number))
+    for step in course.steps[: found.last_line]:
+        for a, b, is_up in step.ends:
+            (found.down.discard if is_up else found.down.add)((a, b))
+    return found
 
 
 def told_of(report, number):
@@ -43,7 +50,7 @@ def told_of(report, number):
 
 
 class Root:
-    """An injection that was found: its line and ingress, its frames, and the numbers that the report has for it."""
+    """An injection that was found: its line and ingress router, its frames, and the numbers that the report has for it."""
 
     def __init__(self, line, ingress):
         self.line, self.ingress, self.items, self.numbers = line, ingress, [], set()
@@ -54,7 +61,7 @@ class Joined:
 
     def __init__(self, domain, report, records):
         self.domain, self.report = domain, report
-        self.waiting = {}  # by router: copies that it hasn't dealt with yet, as [item, header, identifiers left, root]
+        self.waiting = {}  # by router: copies that it hasn't forwarded yet, as [item, header, BFR-ids left, root]
         self.roots = {}  # by line
         self.told = list(report.told)
         for record in records:
@@ -91,23 +98,23 @@ class Joined:
         same = (header.entropy, header.bfir, header.payload) == (above.entropy, above.bfir, above.payload)
         if not same or item.subdomain != parent.subdomain:
             return False
-        # A packet that only passes through, in its tunnel, keeps its own time to live.
+        # A packet in transit in its tunnel keeps its own TTL.
         passes = parent.is_tunnelled and parent.target != item.a
         return header.ttl == above.ttl - (0 if passes else 1)
 
     def tell_until(self, line):
-        """Deals with the report's lines before a line of the schedule."""
+        """Applies the report's lines before a line of the schedule."""
         while self.told and (line is None or self.told[0].line < line):
             told = self.told.pop(0)
             if told.injection is not None and told.ids:
                 self.tell(told)
 
     def tell(self, told):
-        """A delivery or drop ends identifiers of a copy at its router; where there is no copy, the packet just entered."""
+        """A delivery or drop ends BFR-ids of a copy at its router; where there is no copy, the packet has just entered."""
         place, ids = self.domain.place[told.router], set(told.ids)
         fitting = [entry for entry in self.waiting.get(place, []) if ids <= entry[2] and self.may_be(told, *entry)]
         known = [entry for entry in fitting if told.injection in entry[3].numbers] or fitting
-        # A line that injects does nothing else, so all that it tells is of its own packet.
+        # A line that injects does nothing else, so what it reports concerns its own packet.
         if told.line in self.roots or not known:
             self.root(told.line, place).numbers.add(told.injection)
             return
@@ -115,7 +122,7 @@ class Joined:
         known[0][3].numbers.add(told.injection)
 
     def may_be(self, told, item, header, left, root):
-        """Whether a line of the report may be of this copy."""
+        """Whether a line of the report may concern this copy."""
         payload = header.payload.hex() or "-"
         return root.numbers <= {told.injection} and (not told.is_got or told.payload == payload)
 
@@ -126,10 +133,42 @@ class Joined:
             raise Trouble(f"the replay has no injection {number}; it has {len(in_order)}")
         for place, root in enumerate(in_order, 1):
             if root.numbers - {place}:
-                raise Trouble("two injections look alike in the capture, so their copies can't be told apart: add --schedule")
+                raise Trouble("two injections look alike in the capture, so their copies can't be distinguished: add --schedule")
         root = in_order[number - 1]
-        return Tree(number, root.ingress, [hop_of(item) for item in root.items], told_of(self.report, number))
+        return Tree(number, root.line, root.ingress, [hop_of(item) for item in root.items], told_of(self.report, number))
 
 
 def tree_by_frames(domain, report, records, number):
-    return Joined(domain, report, records).tree(number)
+    found = Joined(domain, report, records).tree(number)
+    found.down = unlisted_ends(domain, records, found.last_line) | ends_of_drops(domain, found)
+    return found
+
+
+def unlisted_ends(domain, records, last_line):
+    """The interfaces that are missing from their routers' newest LSPs, of those that were sent up to a line."""
+    newest = {}
+    for record in records:
+        octets = record.octets
+        if record.second > last_line:
+            break
+        if frames.is_isis(octets) and octets[21] & 31 in frames.LSPS and octets[29:35] in domain.by_system:
+            identifier, sequence = octets[29:37], frames.number(octets, 37, 4)
+            if identifier not in newest or sequence > newest[identifier][0]:
+                newest[identifier] = sequence, octets
+    found = set()
+    for identifier, (_, octets) in newest.items():
+        place, listed = domain.by_system[identifier[:6]], frames.neighbors(octets)
+        # An expired LSP lists nothing, whatever the links are.
+        if frames.number(octets, 27, 2):
+            found |= {(place, end["peer_at"]) for end in domain.ends(place) if end["peer"] not in listed}
+    return found
+
+
+def ends_of_drops(domain, tree):
+    """The interfaces at which copies of this packet arrived while they were down, by the report."""
+    found = set()
+    for told in tree.told:
+        if told.cause == "link":
+            b = domain.place[told.router]
+            found |= {(b, hop.a) for hop in tree.hops if hop.b == b and set(hop.ids) == set(told.ids)}
+    return found

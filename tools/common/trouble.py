@@ -1,10 +1,10 @@
-"""One way to end a tool that can't go on: a line on standard error, and never a traceback."""
+"""How a tool ends that can't go on: with one line on standard error, and never a traceback."""
 import os
 import sys
 
 
 class Trouble(Exception):
-    """What is wrong, in words for whoever called the tool."""
+    """What is wrong, for the user."""
 
 
 def run(main):
@@ -26,9 +26,11 @@ def run(main):
         sys.exit(1)
 
 
-def read_octets(path):
+def read_octets(path, start=0):
     try:
         with open(path, "rb") as file:
+            if start:
+                file.seek(start)
             return file.read()
     except OSError as error:
         raise Trouble(f"{path}: {error.strerror}")
@@ -41,7 +43,11 @@ def read_text(path):
         raise Trouble(f"{path}: not a text")
 
 
-def write_octets(path, octets):
+def write_octets(path, octets, inputs=()):
+    """Writes a file, which must be none of the inputs."""
+    for read in inputs:
+        if os.path.exists(path) and os.path.samefile(path, read) and os.path.isfile(path):
+            raise Trouble(f"{path}: is an input, and would be overwritten")
     try:
         with open(path, "wb") as file:
             file.write(octets)
@@ -50,6 +56,6 @@ def write_octets(path, octets):
 
 
 def replace_octets(path, octets):
-    """Writes a file whole or not at all, whenever this process is stopped."""
+    """Writes a file completely or not at all, even where this process is stopped."""
     write_octets(path + ".new", octets)
     os.replace(path + ".new", path)

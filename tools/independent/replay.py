@@ -1,10 +1,10 @@
 #!/usr/bin/env python3
-"""A second implementation of `replay` and `node`, written from the rules alone, to compare with the program.
+"""A second implementation of `replay` and `node`, written from the rules only, to compare with the program.
 
-tools/independent/replay.py replay CONF SCHEDULE FRAMES        the words, report, capture and status of the program's `replay`
+tools/independent/replay.py replay CONF SCHEDULE FRAMES        the arguments, report, capture and status of the program's `replay`
 tools/independent/replay.py node CONF ROUTER CAPTURE FRAMES    those of its `node`
 """
-import sys, tomllib, struct, heapq, re
+import sys, tomllib, struct, heapq, re, functools, operator
 
 BSLS = {64: 1, 128: 2, 256: 3, 512: 4, 1024: 5, 2048: 6, 4096: 7}
 LAST = 0xFFFFFFFF
@@ -18,9 +18,9 @@ def fault(num, name, path):
     raise ConfFault(f"{num} {name} {path}")
 
 def read_toml(data):
-    """The document, by TOML 1.1. Python's reader knows 1.0, so inline tables over several lines are joined for it."""
+    """The document, by TOML 1.1. Python's parser implements 1.0, so inline tables over several lines are joined for it."""
     try:
-        text = data.decode("utf-8-sig")  # a byte order mark at the front is passed
+        text = data.decode("utf-8-sig")  # without a byte order mark
         try: return tomllib.loads(text)
         except tomllib.TOMLDecodeError: return tomllib.loads(joined_tables(text))
     except (UnicodeDecodeError, tomllib.TOMLDecodeError, RecursionError):
@@ -30,7 +30,7 @@ def read_toml(data):
 TOKEN = re.compile(r'"""(?:[^\\]|\\.)*?"{3,5}|\'\'\'.*?\'{3,5}|"(?:[^"\\\n]|\\.)*"|\'[^\'\n]*\'|#[^\n]*|\r?\n|.', re.S)
 
 def joined_tables(text):
-    """Inline tables each in one line, without the comma that may stand behind their last value."""
+    """Inline tables each in one line, without a comma after their last value."""
     out, depth = [], []
     for token in TOKEN.findall(text):
         if token in "{[": depth.append(token)
@@ -187,11 +187,8 @@ def read_domain(data):
 # ---------------------------------------------------------------- PDUs
 
 def checksum(b):
-    """Right where the two sums are 0 modulo 255."""
-    c0 = c1 = 0
-    for x in b:
-        c0 = (c0 + x) % 255; c1 = (c1 + c0) % 255
-    return c0 == 0 and c1 == 0
+    """Whether the two sums are 0 modulo 255."""
+    return sum(b) % 255 == 0 and sum(map(operator.mul, b, range(len(b), 0, -1))) % 255 == 0
 
 def check_at(b, at):
     n = len(b)
@@ -206,6 +203,7 @@ def check_at(b, at):
 def common(hlen, typ): return bytes([0x83, hlen, 1, 0, typ, 1, 0, 0])
 
 TYPES = {1: (18, 24, 26), 2: (20, 25, 27)}
+HEADS = (27, 33, 17)
 
 def write_lsp(level, e):
     total = 27 + len(e["content"])
@@ -252,6 +250,40 @@ def own_lsp(r, up, seq):
 
 def purge(i, seq): return dict(id=i, seq=seq, life=0, hold=60, sum=0, flags=0, content=b"")
 
+def read_head(level, b):
+    """The type of a PDU and its octets up to its length; "drop" and the cause, or None twice where it is passed over."""
+    if len(b) < 8: return "drop", "pdu-1"
+    if b[0] != 0x83: return "drop", "pdu-2"
+    if b[2] != 1 or b[5] != 1: return "drop", "pdu-3"
+    if b[3] not in (0, 6): return "drop", "pdu-4"
+    typ = b[4] & 31
+    if typ not in TYPES[level]: return None, None
+    hl = HEADS[TYPES[level].index(typ)]
+    if b[1] != hl: return "drop", "pdu-5"
+    if len(b) < hl: return "drop", "pdu-6"
+    n = int.from_bytes(b[8:10], "big")
+    if n < hl or n > len(b): return "drop", "pdu-6"
+    return typ, b[:n]
+
+# An LSP is flooded over many links, so most PDUs are read several times.
+@functools.lru_cache(1 << 16)
+def read_pdu(level, b):
+    """A PDU as "lsp" with its fields, "csnp" or "psnp" with its rows and bounds, or as read_head has it."""
+    typ, b = read_head(level, b)
+    if not isinstance(typ, int): return typ, b
+    kind = TYPES[level].index(typ); hl = HEADS[kind]
+    if kind == 0 and int.from_bytes(b[10:12], "big") > 0 and not checksum(b[12:]): return "drop", "pdu-7"
+    tl, ok = walk_tlvs(b[hl:])
+    if not ok or (kind > 0 and any(c == 9 and len(v) % 16 for c, v in tl)): return "drop", "pdu-8"
+    if kind == 0:
+        return "lsp", dict(life=int.from_bytes(b[10:12], "big"), id=b[12:20], seq=int.from_bytes(b[20:24], "big"), sum=int.from_bytes(b[24:26], "big"), flags=b[26], content=b[27:])
+    rows = []
+    for c, v in tl:
+        if c == 9:
+            for k in range(0, len(v), 16):
+                x = v[k:k + 16]; rows.append(dict(life=int.from_bytes(x[:2], "big"), id=x[2:10], seq=int.from_bytes(x[10:14], "big"), sum=int.from_bytes(x[14:], "big")))
+    return ("csnp" if kind == 1 else "psnp"), (rows, b[17:25], b[25:33])
+
 def age(e, s):
     if e is None: return "Unknown"
     if s["seq"] != e["seq"]: return "Newer" if s["seq"] > e["seq"] else "Older"
@@ -272,7 +304,7 @@ def walk_tlvs(b):
 # ---------------------------------------------------------------- one router
 
 class View(list):
-    """The nodes of a view, and the distances to those that were asked for."""
+    """The nodes of a topology, and the costs to those that were asked for."""
     def __init__(self, nodes):
         super().__init__(nodes); self.dist = {}
 
@@ -283,15 +315,18 @@ class Router:
         self.start()
 
     def start(self):
-        self.entries, self.srm, self.ssn, self.spent = {}, set(), set(), False
+        # The SRM and SSN flags: by link, the LSP IDs that have one.
+        self.srm, self.ssn = [set() for _ in self.up], [set() for _ in self.up]
+        self.entries, self.spent = {}, False
         self.due = list(self.up)
         e = own_lsp(self.conf, self.up, 1)
         self.entries[e["id"]] = e
         self.mark(e["id"])
 
     def mark(self, i):
-        self.srm = {x for x in self.srm if x[0] != i} | {(i, l) for l, u in enumerate(self.up) if u}
-        self.ssn = {x for x in self.ssn if x[0] != i}
+        self.forget(i)
+        for ids, u in zip(self.srm, self.up):
+            if u: ids.add(i)
 
     def own_id(self): return self.conf["system"] + b"\0\0"
 
@@ -310,7 +345,7 @@ class Router:
             self.reissue(e["seq"] if e else 0)
 
     def forget(self, i):
-        self.srm = {x for x in self.srm if x[0] != i}; self.ssn = {x for x in self.ssn if x[0] != i}
+        for ids in self.srm + self.ssn: ids.discard(i)
 
     def on_lsp(self, c, h, out):
         i = h["id"]
@@ -326,55 +361,57 @@ class Router:
         if a in ("Unknown", "Newer"):
             self.entries[i] = purge(i, h["seq"]) if h["life"] == 0 else dict(id=i, seq=h["seq"], life=h["life"], hold=0, sum=h["sum"], flags=h["flags"], content=h["content"])
             self.forget(i)
-            self.srm |= {(i, l) for l, u in enumerate(self.up) if u and l != c}; self.ssn.add((i, c))
+            for l, u in enumerate(self.up):
+                if u and l != c: self.srm[l].add(i)
+            self.ssn[c].add(i)
         elif a == "Confused":
             self.entries[i] = purge(i, h["seq"]); self.mark(i)
         elif a == "Equal":
-            self.srm.discard((i, c)); self.ssn.add((i, c))
+            self.srm[c].discard(i); self.ssn[c].add(i)
         else:
-            self.srm.add((i, c)); self.ssn.discard((i, c))
+            self.srm[c].add(i); self.ssn[c].discard(i)
 
     def on_list(self, c, rows, out):
         re_ = None
         for s in rows:
             i = s["id"]; e = self.entries.get(i)
             if s["seq"] == 0:
-                if e and e["seq"] > 0: self.srm.add((i, c)); self.ssn.discard((i, c))
+                if e and e["seq"] > 0: self.srm[c].add(i); self.ssn[c].discard(i)
                 continue
             a = age(e, s)
-            if a == "Equal": self.srm.discard((i, c))
-            elif a == "Older": self.srm.add((i, c)); self.ssn.discard((i, c))
-            elif a == "Newer": self.ssn.add((i, c)); self.srm.discard((i, c))
+            if a == "Equal": self.srm[c].discard(i)
+            elif a == "Older": self.srm[c].add(i); self.ssn[c].discard(i)
+            elif a == "Newer": self.ssn[c].add(i); self.srm[c].discard(i)
             elif a == "Confused":
                 if i == self.own_id() and not self.spent: re_ = s["seq"]
                 else: self.entries[i] = purge(i, s["seq"]); self.mark(i)
             elif s["life"] and s["seq"] and s["sum"]:
                 if len(self.entries) >= 4096: out["drops"].append(("full", None)); continue
                 self.entries[i] = dict(id=i, seq=0, life=0, hold=60, sum=0, flags=0, content=b"")
-                self.ssn.add((i, c)); self.srm.discard((i, c))
+                self.ssn[c].add(i); self.srm[c].discard(i)
         return re_
 
     def isis(self, link, pdu):
         e = self.conf["ends"][link]
         return bytes.fromhex("09002b000005") + e["own_mac"] + struct.pack(">H", 3 + len(pdu)) + b"\xfe\xfe\x03" + pdu
 
+    def complete_lists(self):
+        sent, start = [], b"\0" * 8
+        known = [i for i in sorted(self.entries) if self.entries[i]["seq"] > 0]
+        blocks = [known[k:k + 90] for k in range(0, len(known), 90)] or [[]]
+        for k, blk in enumerate(blocks):
+            last = b"\xff" * 8 if k == len(blocks) - 1 else blk[-1]
+            sent.append(write_csnp(self.conf["level"], self.conf["system"], start, last, [summ(self.entries[i]) for i in blk]))
+            if k < len(blocks) - 1: start = (int.from_bytes(last, "big") + 1).to_bytes(8, "big")
+        return sent
+
     def send(self, link):
-        sent, lev, sy = [], self.conf["level"], self.conf["system"]
-        ids = sorted(self.entries)
-        if self.due[link]:
-            known = [i for i in ids if self.entries[i]["seq"] > 0]
-            blocks = [known[k:k + 90] for k in range(0, len(known), 90)] or [[]]
-            start = b"\0" * 8
-            for k, blk in enumerate(blocks):
-                last = b"\xff" * 8 if k == len(blocks) - 1 else blk[-1]
-                sent.append(write_csnp(lev, sy, start, last, [summ(self.entries[i]) for i in blk]))
-                if k < len(blocks) - 1: start = (int.from_bytes(last, "big") + 1).to_bytes(8, "big")
-        for i in ids:
-            if (i, link) in self.srm: sent.append(write_lsp(lev, self.entries[i]))
-        asks = [summ(self.entries[i]) for i in ids if (i, link) in self.ssn]
-        for k in range(0, len(asks), 90): sent.append(write_psnp(lev, sy, asks[k:k + 90]))
+        sent = self.complete_lists() if self.due[link] else []
+        for i in sorted(self.srm[link]): sent.append(write_lsp(self.conf["level"], self.entries[i]))
+        asks = [summ(self.entries[i]) for i in sorted(self.ssn[link])]
+        for k in range(0, len(asks), 90): sent.append(write_psnp(self.conf["level"], self.conf["system"], asks[k:k + 90]))
         self.due[link] = False
-        self.ssn = {x for x in self.ssn if x[1] != link}
+        self.ssn[link].clear()
         return [(link, self.isis(link, p)) for p in sent]
 
     def tick(self):
@@ -391,12 +428,12 @@ class Router:
     def end_up(self, l):
         self.up[l] = True; self.due[l] = True
         for i, e in self.entries.items():
-            if e["seq"] > 0: self.srm.add((i, l))
+            if e["seq"] > 0: self.srm[l].add(i)
         self.reissue_own()
 
     def end_down(self, l):
         self.up[l] = False; self.due[l] = False
-        self.srm = {x for x in self.srm if x[1] != l}; self.ssn = {x for x in self.ssn if x[1] != l}
+        self.srm[l].clear(); self.ssn[l].clear()
         self.reissue_own()
 
     # ---- view
@@ -656,36 +693,18 @@ class Router:
         out["sent"].append((link, e["peer_mac"] + e["own_mac"] + b"\x08\x00" + bytes(h)))
 
     def pdu(self, link, b, out):
-        drop = lambda c: out["drops"].append((c, None))
-        if len(b) < 8: return drop("pdu-1")
-        if b[0] != 0x83: return drop("pdu-2")
-        if b[2] != 1 or b[5] != 1: return drop("pdu-3")
-        if b[3] not in (0, 6): return drop("pdu-4")
-        typ = b[4] & 31; L, C, P = TYPES[self.conf["level"]]
-        if typ not in (L, C, P): out["passed"] = True; return
-        hl = {L: 27, C: 33, P: 17}[typ]
-        if b[1] != hl: return drop("pdu-5")
-        if len(b) < hl: return drop("pdu-6")
-        n = int.from_bytes(b[8:10], "big")
-        if n < hl or n > len(b): return drop("pdu-6")
-        b = b[:n]
-        if typ == L and int.from_bytes(b[10:12], "big") > 0 and not checksum(b[12:]): return drop("pdu-7")
-        tl, ok = walk_tlvs(b[hl:])
-        if not ok or (typ != L and any(c == 9 and len(v) % 16 for c, v in tl)): return drop("pdu-8")
-        if typ == L:
-            h = dict(life=int.from_bytes(b[10:12], "big"), id=b[12:20], seq=int.from_bytes(b[20:24], "big"), sum=int.from_bytes(b[24:26], "big"), flags=b[26], content=b[27:])
-            return self.on_lsp(link, h, out)
-        rows = []
-        for c, v in tl:
-            if c == 9:
-                for k in range(0, len(v), 16):
-                    x = v[k:k + 16]; rows.append(dict(life=int.from_bytes(x[:2], "big"), id=x[2:10], seq=int.from_bytes(x[10:14], "big"), sum=int.from_bytes(x[14:], "big")))
-        re_ = self.on_list(link, rows, out)
-        if typ == C:
-            lo, hi = b[17:25], b[25:33]; listed = {s["id"] for s in rows}
-            for i, e in self.entries.items():
-                if e["life"] > 0 and e["seq"] > 0 and lo <= i <= hi and i not in listed: self.srm.add((i, link))
-        if re_ is not None: self.reissue(re_)
+        typ, what = read_pdu(self.conf["level"], bytes(b))
+        if typ is None: out["passed"] = True
+        elif typ == "drop": out["drops"].append((what, None))
+        elif typ == "lsp": self.on_lsp(link, what, out)
+        else:
+            rows, lo, hi = what
+            re_ = self.on_list(link, rows, out)
+            if typ == "csnp":
+                listed = {s["id"] for s in rows}
+                for i, e in self.entries.items():
+                    if e["life"] > 0 and e["seq"] > 0 and lo <= i <= hi and i not in listed: self.srm[link].add(i)
+            if re_ is not None: self.reissue(re_)
 
     def edge_fault(self, sd, L, ids):
         if not ids: return "1 NoEgress"
@@ -811,7 +830,7 @@ class Replay:
                     for _ in range(len(self.q[a, e["peer_at"]])): self.step(("take", a, e["peer_at"], 0), line)
 
     def parse(self, w):
-        """The event of the words, or a text fault."""
+        """The event of a line's words, or a ValueError with number and name."""
         def router(s):
             if s not in self.names: raise ValueError("3 Name")
             return self.names[s]
@@ -874,7 +893,7 @@ class Broken(Exception):
     def __init__(self, record, text): super().__init__(f"refused record {record} {text}")
 
 def records_of(octets):
-    """The records of a capture, each with its number, time, whether it is whole, and its frame."""
+    """The records of a capture, each with its number, time, whether it is complete, and its frame."""
     magics = {b"\xd4\xc3\xb2\xa1": ("<", 1), b"\x4d\x3c\xb2\xa1": ("<", 1000), b"\xa1\xb2\xc3\xd4": (">", 1), b"\xa1\xb2\x3c\x4d": (">", 1000)}
     if len(octets) >= 4 and octets[:4] not in magics: raise Broken(0, "1 Magic")
     if len(octets) < 24: raise Broken(0, "4 CutHeader")
@@ -915,7 +934,7 @@ class Node:
         while self.clock < sec: self.tick()
 
     def link_of(self, is_whole, frame):
-        """The end whose peer sent a frame; None where the record is passed over."""
+        """The interface whose neighbor sent a frame; None where the record is passed over."""
         if not is_whole or not 12 <= len(frame) <= 65000: return None
         return next((i for i, e in enumerate(self.router.conf["ends"]) if e["peer_mac"] == frame[6:12]), None)
 
@@ -949,7 +968,7 @@ def read(path):
         sys.exit(f"replay.py: {path}: {error.strerror}")
 
 def begun(words):
-    """The run that the words ask for, and the octets that it is on."""
+    """The run that the arguments ask for, and its input."""
     routers = read_domain(read(words[1]))
     if words[0] == "replay": return Replay(routers), read(words[2])
     conf = next((r for r in routers if r["name"] == words[2]), None)

@@ -1,6 +1,6 @@
 "use strict";
-// What a frame says, field by field. Each field is {from, to, name, value, level}: the octets it stands in (to is exclusive),
-// and how deep it is. Octets are a Uint8Array.
+// The fields of a frame. Each is {from, to, name, value, level}: its octets (to is exclusive), and how deep it is nested. Octets are
+// a Uint8Array.
 
 const PDU_NAMES = {
   18: "LSP, level 1", 20: "LSP, level 2",
@@ -13,7 +13,7 @@ const BIT_LENGTHS = [0, 64, 128, 256, 512, 1024, 2048, 4096];
 class Dissection {
   constructor(octets, names) {
     this.octets = octets;
-    this.names = names; // how a system identifier, twelve hexadecimal digits, is called
+    this.names = names; // of routers, by system identifier as twelve hexadecimal digits
     this.fields = [];
     this.summary = "";
   }
@@ -53,7 +53,7 @@ class Dissection {
     if (at < this.octets.length) this.add(at, this.octets.length, name, this.hex(at, this.octets.length - at), 0);
   }
 
-  // Whether so many octets stand there; where they don't, what is there is shown as it is.
+  // Whether that many octets are there; where they aren't, what is there is shown undissected.
   has(at, count, end = this.octets.length) {
     if (at + count <= end) return true;
     this.add(at, end, "Cut short", this.hex(at, end - at), 0);
@@ -138,7 +138,7 @@ function bierHeader(it, at, isLabel) {
   it.rest(at + 12 + bits / 8);
 }
 
-// The set positions of a bit string, from 1; the highest comes first in the octets.
+// The bit positions that are set in a BitString, from 1; the highest comes first in the octets.
 function positions(octets) {
   const found = [];
   for (let at = octets.length - 1; at >= 0; at--) {
@@ -191,7 +191,7 @@ function psnp(it, at, end) {
   it.summary = `PSNP, ${tlvs(it, at + 17, end)} entries`;
 }
 
-// Walks the TLVs; answers how many LSP entries they have.
+// Reads the TLVs; the number of their LSP entries.
 function tlvs(it, at, end) {
   let entries = 0;
   while (at + 2 <= end) {
@@ -225,7 +225,7 @@ function lspEntries(it, from, to) {
 }
 
 function reaches(it, from, to) {
-  it.add(from - 2, to, "TLV 22, neighbours", "");
+  it.add(from - 2, to, "TLV 22, neighbors", "");
   for (let at = from; at + 11 <= to; at += 11 + it.octets[at + 10]) {
     it.add(at, at + 11, it.system(at), `metric ${it.number(at + 7, 3)}`, 2);
   }
@@ -257,7 +257,7 @@ function subTlvs(it, at, end) {
 }
 
 function bierInfo(it, at, end) {
-  it.add(at, at + 7, "BIER Info", `subdomain ${it.octets[at + 4]}, BFR-id ${it.number(at + 5, 2)}`, 3);
+  it.add(at, at + 7, "BIER Info", `sub-domain ${it.octets[at + 4]}, BFR-id ${it.number(at + 5, 2)}`, 3);
   at += 7;
   while (at + 2 <= end && at + 2 + it.octets[at + 1] <= end) {
     const to = at + 2 + it.octets[at + 1];

@@ -1,28 +1,43 @@
 "use strict";
-// The page of a replay. All that it shows is in the element `data`, which tools/player wrote:
+// The page of a replay. All that it shows is in the element `data`, which tools/player writes:
 //   routers, links      the domain; a link is [a, b, metric from a, metric from b]
 //   lines               one a line of the schedule, see Line below
-//   frames              [a, b, injection or 0, head, body, first id of its set, subdomain]; the first frame is number 1
+//   frames              [a, b, injection or 0, head, body, first id of its set, sub-domain]; the first frame is number 1
 //   heads, bodies       the first 12 octets of frames as hexadecimal digits, and the rest in base64
-//   entries, databases  entries of link state databases, and the databases as lists of them
+//   entries, databases  entries of LSDBs, and the LSDBs as lists of them
 
-const data = JSON.parse(document.getElementById("data").textContent);
+const $ = (id) => document.getElementById(id);
+const data = JSON.parse($("data").textContent);
 const COLOURS = ["#1d5fa8", "#b5500c", "#0b7d74", "#8a2f8f", "#5d6b00", "#a3263f", "#3f3fb5", "#7a5230"];
 const ROW = 21;
-// A small domain has room for longer links.
-const [WIDE, HIGH] = data.routers.length <= 6 ? [215, 160] : data.routers.length <= 16 ? [165, 150] : [165, 125];
-const BOX = { width: 104, height: 36 };
+const FEW = 16; // routers, which have room for long links
 const LEAST_WIDTH = 760; // of the map, so that few routers aren't drawn huge
+let { BOX, WIDE, HIGH, EDGE } = sizes();
 const NAMES = Object.fromEntries(data.routers.map((router) => [router.system, router.name]));
 const PREFIXES = Object.fromEntries(data.routers.map((router) => [router.prefix, router.name]));
-const $ = (id) => document.getElementById(id);
 const colourOf = (injection) => COLOURS[(injection - 1) % COLOURS.length];
 const nameOf = (place) => data.routers[place].name;
 
+// The size of a router's box, of a unit of the layout across and down, and of the map's edges. Routers are at least 0.95 units
+// apart across or 0.72 down. Boxes of a large domain are as wide as its names, and the layout is stretched to fill the panel.
+function sizes() {
+  const { length } = data.routers;
+  if (length <= FEW) return { BOX: { width: 104, height: 36 }, WIDE: length <= 6 ? 215 : 165, HIGH: length <= 6 ? 160 : 150, EDGE: 75 };
+  const longest = Math.max(...data.routers.map((router) => Math.min(15, router.name.length)));
+  const box = { width: Math.max(48, 7.2 * longest + 8), height: 30 };
+  const across = Math.max(...data.routers.map((router) => router.x)), down = Math.max(...data.routers.map((router) => router.y));
+  const edge = box.width / 2 + 12, panel = $("map").getBoundingClientRect();
+  let wide = box.width / 0.95, high = (box.height + 12) / 0.72;
+  const shape = (panel.width || 1) / (panel.height || 1), width = across * wide + 2 * edge, height = down * high + 115;
+  if (width < height * shape) wide = Math.min(215, (height * shape - 2 * edge) / (across || 1));
+  else high = Math.min(160, (width / shape - 115) / (down || 1));
+  return { BOX: box, WIDE: wide, HIGH: high, EDGE: edge };
+}
+
 // ---------------------------------------------------------------- the course of the replay
 
-// A line: t its text, s [number of the first frame sent, how many], x frames that were taken, l lost, m that met a down end,
-// r frames that were repeated, g what the report says, u ends that changed [a, b, is up], d databases that changed.
+// A line: t its text, s [number of the first frame sent, how many], x frames that were delivered, l lost, m that arrived at an
+// interface that is down, r repeated, g the report's lines, u interfaces that changed [a, b, is up], d LSDBs that changed.
 
 class State {
   constructor() {
@@ -93,12 +108,12 @@ function summaryOf(number) {
   return text;
 }
 
-// Draws anew when an element's size changed, but in the next frame, so that drawing can't change sizes while they are told.
+// Redraws when an element's size changes, but in the next frame, since drawing may change sizes again.
 function onResize(element, draw) {
   new ResizeObserver(() => requestAnimationFrame(draw)).observe(element);
 }
 
-// ---------------------------------------------------------------- long lists: only the rows in sight are made
+// ---------------------------------------------------------------- long lists: only the visible rows are made
 
 class List {
   constructor(element, fill) {
@@ -198,7 +213,7 @@ function make(name, attributes, parent, text) {
 
 const pointOf = (place) => ({ x: data.routers[place].x * WIDE, y: data.routers[place].y * HIGH });
 
-// Where a line from a router's middle leaves its box.
+// Where a line from a router's center leaves its box.
 function edgePoint(from, to, gap) {
   const dx = to.x - from.x, dy = to.y - from.y;
   const across = (BOX.width / 2 + gap) / Math.max(Math.abs(dx), 0.01), down = (BOX.height / 2 + gap) / Math.max(Math.abs(dy), 0.01);
@@ -212,6 +227,7 @@ function drawLink(layer, [a, b, there, back]) {
   const p = pointOf(a), q = pointOf(b), middle = between(p, q, 0.5);
   halves.set(`${a},${b}`, make("line", { class: "link", x1: p.x, y1: p.y, x2: middle.x, y2: middle.y }, layer));
   halves.set(`${b},${a}`, make("line", { class: "link", x1: q.x, y1: q.y, x2: middle.x, y2: middle.y }, layer));
+  if (data.routers.length > FEW) return; // a link's title has its metric
   const places = there === back ? [[0.5, there]] : [[0.32, there], [0.68, back]];
   for (const [share, metric] of places) {
     const at = between(p, q, share);
@@ -219,15 +235,15 @@ function drawLink(layer, [a, b, there, back]) {
   }
 }
 
-// What a direction of a link shows: an arrow with ids, how many frames are on the way, and a cross where one was lost.
-function drawWay(layer, a, b) {
+// What a direction of a link shows: an arrow with BFR-ids, how many frames are in flight, and a cross where one was lost.
+function drawWay(layer, a, b, metric) {
   const p = pointOf(a), q = pointOf(b), length = Math.hypot(q.x - p.x, q.y - p.y) || 1;
   const aside = { x: (-(q.y - p.y) / length) * 7, y: ((q.x - p.x) / length) * 7 };
   const shift = (point) => ({ x: point.x + aside.x, y: point.y + aside.y });
   const from = shift(edgePoint(p, q, 2)), to = shift(edgePoint(q, p, 6));
   const arrow = make("path", { class: "arrow", d: `M${from.x},${from.y}L${to.x},${to.y}` }, layer);
   const hit = make("line", { class: "hit", x1: from.x, y1: from.y, x2: to.x, y2: to.y }, layer);
-  make("title", {}, hit, `${nameOf(a)} → ${nameOf(b)}`);
+  make("title", {}, hit, `${nameOf(a)} → ${nameOf(b)}, metric ${metric}`);
   hit.onclick = () => select({ a, b });
   const badgeAt = between(from, to, 0.3), idsAt = between(from, to, 0.62), cross = between(from, to, 0.5);
   const badge = make("g", { class: "badge", transform: `translate(${badgeAt.x},${badgeAt.y})` }, layer);
@@ -239,13 +255,21 @@ function drawWay(layer, a, b) {
   ways.set(`${a},${b}`, { arrow, hit, badge, count, ids, idsAt, lost });
 }
 
+// Condenses a text that is wider than a box, by the width of its letters.
+function textIn(text, letter) {
+  if (text.textContent.length * letter > BOX.width - 4) {
+    text.setAttribute("textLength", BOX.width - 8);
+    text.setAttribute("lengthAdjust", "spacingAndGlyphs");
+  }
+}
+
 function drawRouter(layer, router, place) {
   const { x, y } = pointOf(place);
   const group = make("g", { transform: `translate(${x},${y})` }, layer);
   make("rect", { x: -BOX.width / 2, y: -BOX.height / 2, width: BOX.width, height: BOX.height, rx: router.overload ? 2 : 8 }, group);
-  const name = make("text", { y: -3 }, group, router.name);
-  if (router.name.length > 15) name.setAttribute("textLength", BOX.width - 8);
-  make("text", { class: "small", y: 11 }, group, router.ids + (router.overload ? " · overloaded" : ""));
+  make("title", {}, group, `${router.name}, ${router.ids}${router.overload ? ", overload bit set" : ""}`);
+  textIn(make("text", { y: -3 }, group, router.name), 7.2);
+  textIn(make("text", { class: "small", y: 11 }, group, router.ids + (router.overload ? " · overload bit" : "")), 5.4);
   make("circle", { cx: BOX.width / 2 - 3, cy: -BOX.height / 2 + 3, r: 6 }, group);
   const fate = make("text", { class: "fate", y: BOX.height / 2 + 12 }, group, "");
   group.onclick = () => select({ router: place });
@@ -254,6 +278,8 @@ function drawRouter(layer, router, place) {
 
 function drawMap() {
   const svg = $("map");
+  svg.replaceChildren();
+  routerElements.length = 0;
   const marks = make("defs", {}, svg);
   for (const [name, colour] of [...COLOURS.map((colour, i) => [`m${i}`, colour]), ["mc", "#7d8995"]]) {
     const size = name === "mc" ? 6 : 4.2;
@@ -261,19 +287,27 @@ function drawMap() {
     const mark = make("marker", { id: name, ...place }, marks);
     make("path", { d: "M0,0L8,4L0,8z", fill: colour }, mark);
   }
-  const [links, boxes, over] = ["g", "g", "g"].map((name) => make(name, {}, svg));
+  const [links, over, boxes] = ["g", "g", "g"].map((name) => make(name, {}, svg)); // names are never covered
   for (const link of data.links) drawLink(links, link);
   data.routers.forEach((router, place) => drawRouter(boxes, router, place));
-  for (const [a, b] of data.links) {
-    drawWay(over, a, b);
-    drawWay(over, b, a);
+  for (const [a, b, there, back] of data.links) {
+    drawWay(over, a, b, there);
+    drawWay(over, b, a, back);
   }
   const xs = data.routers.map((_, place) => pointOf(place).x), ys = data.routers.map((_, place) => pointOf(place).y);
-  const left = Math.min(...xs) - 75, top = Math.min(...ys) - 45;
-  const width = Math.max(...xs) + 75 - left, wider = Math.max(0, LEAST_WIDTH - width);
+  const left = Math.min(...xs) - EDGE, top = Math.min(...ys) - 45;
+  const width = Math.max(...xs) + EDGE - left, wider = Math.max(0, LEAST_WIDTH - width);
   view = { x: left - wider / 2, y: top, width: width + wider, height: Math.max(...ys) + 70 - top };
   setView();
-  moveByHand(svg);
+}
+
+// A large domain fills the panel, whatever its size.
+function fitMap() {
+  const now = sizes();
+  if (data.routers.length <= FEW || (now.WIDE === WIDE && now.HIGH === HIGH)) return;
+  ({ BOX, WIDE, HIGH, EDGE } = now);
+  drawMap();
+  update();
 }
 
 function setView() {
@@ -337,12 +371,12 @@ function showArrow(it, copies, hasControl) {
   copies.slice(0, 3).forEach((number, place) => {
     const own = data.frames[number - 1][2], ids = idsOf(number, dissect(octetsOf(number), NAMES));
     const spot = { class: "ids", x: it.idsAt.x, y: it.idsAt.y + 4 + 11 * place, fill: colourOf(own) };
-    make("text", spot, it.ids, `#${own}: ${short(runsOf(ids))}`).style.pointerEvents = "none";
+    make("text", spot, it.ids, `#${own}: ${short(runsOf(ids), data.routers.length > FEW ? 9 : 18)}`).style.pointerEvents = "none";
   });
   if (copies.length > 3) make("text", { class: "ids", x: it.idsAt.x, y: it.idsAt.y + 37 }, it.ids, `and ${copies.length - 3} more`);
 }
 
-// Ascending numbers, runs of them from first to last.
+// Ascending numbers, with runs of them as the first and the last.
 function runsOf(numbers) {
   const runs = [];
   for (const number of numbers) {
@@ -353,7 +387,7 @@ function runsOf(numbers) {
   return runs.map(([from, to]) => (from === to ? from : to === from + 1 ? `${from},${to}` : `${from}–${to}`)).join(",");
 }
 
-const short = (text) => (text.length > 18 ? text.slice(0, 16) + "…" : text);
+const short = (text, most = 18) => (text.length > most ? text.slice(0, most - 2) + "…" : text);
 
 function showBadge(it, queue) {
   it.badge.style.display = queue.length ? "" : "none";
@@ -384,9 +418,9 @@ function updateRouters(line) {
   });
 }
 
-// ---------------------------------------------------------------- databases
+// ---------------------------------------------------------------- LSDBs
 
-// The databases that routers hold now, each with its routers, the one that most hold first.
+// The LSDBs that routers have now, each with its routers, the most frequent one first.
 function groups() {
   const found = new Map();
   state.databases.forEach((database, place) => found.set(database, [...(found.get(database) || []), place]));
@@ -402,16 +436,16 @@ function entryText(entry) {
   return `${name}, sequence ${sequence}${isLive ? "" : ", purged"}, checksum ${checksum}`;
 }
 
-// How a database differs from another: what it lacks, has otherwise, and has besides.
+// How an LSDB differs from another: what is missing, different, or only there.
 function differences(database, other) {
   const byName = (it) => new Map(data.databases[it].map((entry) => [data.entries[entry][0], entry]));
   const own = byName(database), others = byName(other), found = [];
   const worded = (entry) => `sequence ${data.entries[entry][1]}${data.entries[entry][2] ? "" : ", purged"}`;
   for (const [name, entry] of others) {
-    if (!own.has(name)) found.push(`lacks ${name} (${worded(entry)})`);
+    if (!own.has(name)) found.push(`${name} is missing (${worded(entry)})`);
     else if (own.get(name) !== entry) found.push(`${name}: ${worded(own.get(name))}, others ${worded(entry)}`);
   }
-  for (const [name, entry] of own) if (!others.has(name)) found.push(`has ${name} (${worded(entry)}) besides`);
+  for (const [name, entry] of own) if (!others.has(name)) found.push(`also has ${name} (${worded(entry)})`);
   return found;
 }
 
@@ -430,7 +464,7 @@ function listOf(texts, most = 60) {
 
 function groupTitle(all, rank) {
   const many = all[rank][1].length;
-  if (all.length === 1) return "All databases agree";
+  if (all.length === 1) return "All LSDBs agree";
   return rank === 0 ? `${many} of ${data.routers.length} routers agree` : `${many} differ`;
 }
 
@@ -439,11 +473,11 @@ function showDatabases() {
   box.replaceChildren();
   const heading = (text) => box.append(Object.assign(document.createElement("h3"), { textContent: text }));
   if (selected && selected.router !== undefined) {
-    heading(`${nameOf(selected.router)} holds`);
+    heading(`LSDB of ${nameOf(selected.router)}`);
     box.append(listOf(data.databases[state.databases[selected.router]].map(entryText), 300));
   }
   all.forEach(([database, places], rank) => {
-    heading(`${groupTitle(all, rank)}, ${data.databases[database].length} link state PDUs`);
+    heading(`${groupTitle(all, rank)}, ${data.databases[database].length} LSPs`);
     const chips = document.createElement("div");
     chips.className = "chips";
     chips.append(...places.map(chip));
@@ -501,7 +535,7 @@ function showFrame(number) {
   $("detail").hidden = !number;
   if (number) {
     const [a, b, injection, , , , subdomain] = data.frames[number - 1], it = dissect(octetsOf(number), NAMES);
-    const what = injection ? `injection ${injection}, subdomain ${subdomain}, for ${idsOf(number, it).join(",")}` : it.summary;
+    const what = injection ? `injection ${injection}, sub-domain ${subdomain}, for ${idsOf(number, it).join(",")}` : it.summary;
     $("detail-title").textContent = `Frame ${number}: ${nameOf(a)} → ${nameOf(b)}, ${what}`;
     showFields(it);
   }
@@ -608,7 +642,7 @@ function goTo(number) {
 function update() {
   const line = shownLine ? data.lines[shownLine - 1] : null;
   $("line-number").value = shownLine;
-  $("line-text").textContent = line ? line.t : "before the first line: each router has its own link state PDU alone";
+  $("line-text").textContent = line ? line.t : "before the first line: each router has only its own LSP";
   updateMap(line);
   updateLists(line);
   showDatabases();
@@ -654,7 +688,7 @@ function writeLink() {
 }
 
 function readLink() {
-  const words = new URLSearchParams(location.hash.slice(1)); // taken before anything writes the link anew
+  const words = new URLSearchParams(location.hash.slice(1)); // read before anything rewrites the link
   const frame = Number(words.get("frame") || 0), tab = words.get("tab");
   showTab(["way", "databases"].includes(tab) ? tab : "line");
   goTo(Number(words.get("line") || 0));
@@ -702,6 +736,8 @@ const BUTTONS = {
 function start() {
   $("end").textContent = data.end;
   drawMap();
+  moveByHand($("map"));
+  onResize($("map"), fitMap);
   linesList.set(data.lines);
   barByHand();
   for (const [id, act] of Object.entries(BUTTONS)) $(id).onclick = act;

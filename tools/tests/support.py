@@ -22,7 +22,7 @@ def needs(command, package):
 
 
 def program():
-    """A program that is built, or the independent one, which has the same words."""
+    """The built program, or the independent one, which has the same arguments."""
     return places.built_program() or INDEPENDENT
 
 
@@ -45,7 +45,7 @@ class Replay:
 
 @functools.cache
 def replayed(name):
-    """Replays an example; the capture of one whose schedule is refused counts as well."""
+    """Replays an example; also one whose schedule is rejected."""
     folder = os.path.join(SCRATCH.name, name)
     os.makedirs(folder)
     for part in ("domain.toml", "schedule"):
@@ -64,6 +64,11 @@ def scratch(name):
     return os.path.join(SCRATCH.name, name)
 
 
+def read(path):
+    with open(path) as file:
+        return file.read()
+
+
 def write(name, octets):
     path = scratch(name)
     with open(path, "wb") as file:
@@ -73,7 +78,7 @@ def write(name, octets):
 
 @functools.cache
 def python_alone():
-    """A folder with python3 and nothing else, for the path of a tool that is to find nothing besides."""
+    """A folder with python3 and nothing else, as the PATH of a tool."""
     folder = scratch("python")
     os.makedirs(folder)
     os.symlink(os.path.realpath(sys.executable), os.path.join(folder, "python3"))

@@ -1,9 +1,11 @@
-"""The course of a replay, told again from its texts, and the trees of its packets."""
+"""The course of a replay, read from its schedule, report and capture, and the trees of its packets."""
 import os
+import random
 import unittest
 
-from support import EXAMPLES, REPLAYS, replayed
+from support import EXAMPLES, REPLAYS, replayed, write
 from common import capture, course, domain, frames, texts, tree
+from common.domain import independent
 from common.trouble import Trouble
 
 
@@ -17,9 +19,83 @@ def parts(name):
     )
 
 
+def ring(chance, count, plain):
+    """Routers r0, r1, .. in a ring, r0 with BFR-id 1 and so on, some without BIER, and the last link the worst."""
+    systems = chance.sample(range(10, 100), count)
+    text = '[[subdomain]]\nsd = 0\nkind = "mpls"\n'
+    for place, system in enumerate(systems):
+        text += f'[[router]]\nname = "r{place}"\nsystem = "0000.0000.00{system}"\nprefix = "10.0.0.{place + 1}"\n'
+    for place in set(range(count)) - plain:
+        text += f'[[bier]]\nrouter = "r{place}"\nsd = 0\nid = {place + 1}\n'
+        text += f'[[labels]]\nrouter = "r{place}"\nsd = 0\nbsl = 64\nmax_si = 0\nlabel = {100 * place + 100}\n'
+    for place in range(count):
+        metric = 10 if place < count - 1 else 100
+        ends = f'a = "r{place}"\nb = "r{(place + 1) % count}"'
+        text += f"[[link]]\n{ends}\nmetric_ab = {metric}\nmetric_ba = {metric}\n"
+    return text
+
+
+def replay_of(text, schedule):
+    """The parts of a replay by the independent program, and that program's world at its end."""
+    confs = independent.read_domain(text.encode())
+    world = independent.Replay(confs)
+    world.run(schedule.encode())
+    report = texts.report_of("report", "".join(line + "\n" for line in world.report))
+    records = capture.read_capture(write("course.pcap", bytes(world.cap)))
+    return (domain.Domain(confs), schedule.splitlines(), report, records), world
+
+
 class TheCourse(unittest.TestCase):
+    def same(self, text, schedule):
+        """The course of a replay ends with what the independent program has in flight; its report."""
+        found, world = replay_of(text, schedule)
+        path = course.Course(*found)
+        for way, queue in path.queues.items():
+            self.assertEqual([item.record.octets for item in queue], [octets for octets, _ in world.q[way]])
+        return found[2]
+
+    def test_a_micro_loop(self):
+        """A packet that visits r3 twice in one line, and is dropped at its second visit or later."""
+        cut = "settle 30\ndown r4 r5\ndown r5 r4\n"
+        for plain in (set(), {1, 3}):
+            text = ring(random.Random(1), 6, plain)
+            causes = set()
+            for ttl in range(1, 12):
+                for told in self.same(text, f"{cut}inject r0 0 64 6 {ttl} 0 00\nsettle 30\n").told:
+                    causes.add(told.cause or "got")
+            self.assertEqual(causes, {"ttl", "got"})
+
+    def test_loops_at_random(self):
+        """Packets that are alike, over links that go down and come up, some of them in tunnels."""
+        chance = random.Random(7)
+        for _ in range(40):
+            count = chance.randint(4, 9)
+            plain, down = {place for place in range(1, count) if chance.random() < 0.25}, set()
+            lines = ["settle 30"]
+            for _ in range(chance.randint(3, 20)):
+                a = chance.randrange(count)
+                end = (a, (a + chance.choice((1, -1))) % count)
+                kind = chance.choice(("end", "inject", "inject", "settle"))
+                if kind == "end":
+                    lines.append(f"{'up' if end in down else 'down'} r{end[0]} r{end[1]}")
+                    down ^= {end}
+                elif kind == "inject":
+                    ingress = chance.choice(sorted(set(range(count)) - plain))
+                    ids = ",".join(map(str, sorted(chance.sample(range(1, count + 2), 3))))
+                    lines.append(f"inject r{ingress} 0 64 {ids} {chance.choice((2, 5, 8, 64))} {chance.choice((0, 1))} 00")
+                else:
+                    lines.append(f"settle {chance.choice((1, 2, 3, 30))}")
+            self.same(ring(chance, count, plain), "\n".join([*lines, "settle 30"]) + "\n")
+
+    def test_no_lines(self):
+        empty, _ = replay_of(ring(random.Random(1), 4, set()), "")
+        self.assertEqual(course.Course(*empty).steps, [])
+        it, _, report, records = parts("replay-ring")
+        with self.assertRaises(Trouble):
+            course.Course(it, [], report, records)
+
     def test_examples(self):
-        """Each frame is sent by its line, ends at most once, and each line of the report is told by its line."""
+        """Each frame is sent by its line, ends at most once, and each line of the report belongs to its line."""
         for name in REPLAYS:
             with self.subTest(name):
                 it, schedule, report, records = parts(name)
@@ -33,7 +109,7 @@ class TheCourse(unittest.TestCase):
                     self.assertEqual(len(path.injected), report.numbers()["injected"])
 
     def test_stored_reports(self):
-        """The reports and captures that stand beside the examples are of one replay."""
+        """The stored reports and captures of the examples are of one replay."""
         for name in REPLAYS:
             folder = os.path.join(EXAMPLES, name)
             if os.path.exists(os.path.join(folder, "frames")):
@@ -71,7 +147,7 @@ class TheCourse(unittest.TestCase):
                     self.assertEqual((found.ingress, spots(found)), (known.ingress, spots(known)))
 
     def test_header_lines(self):
-        """The tools' own reader of headers, against the report that stands beside the example."""
+        """The tools' own reader of headers, against the stored report of the example."""
         folder = os.path.join(EXAMPLES, "headers-of-a-capture")
         with open(os.path.join(folder, "report")) as file:
             wanted = file.read().splitlines()[:-1]

@@ -26,7 +26,7 @@ FAULTS = {"Short": 1, "Nibble": 2, "Version": 3, "BslCode": 4}
 STORED = ["headers-of-a-capture", "headers-cut-capture"]
 
 PAIR = bytes.fromhex("020000010000020000000001")
-# A packet that A sends to C behind a router that knows no BIER, there and one router on, and one to D.
+# A packet that A sends to C behind a non-BFR, before and after it, and one to D.
 TUNNELS = [
     "02000001000002000000000108004500002e00004000ff2f679d0a0000010a000003000088470012c10850100000000400010000000000000004" "00ff",
     "02000002000102000001000208004500002e00004000fe2f689d0a0000010a000003000088470012c10850100000000400010000000000000004" "00ff",
@@ -101,7 +101,7 @@ def frames_of_examples():
 
 
 def mutated(chance, frame):
-    """A frame with some octets changed, taken away or added."""
+    """A frame with some octets changed, removed or added."""
     frame = bytearray(frame)
     for _ in range(chance.choice((1, 1, 2, 4, 8))):
         kind, at = chance.randrange(6), chance.randrange(len(frame) or 1)
@@ -203,7 +203,7 @@ class Dissector(unittest.TestCase):
         path = write("mutated.pcap", capture.write_capture(every))
         wanted = [f"{number} {line}" for number, frame in enumerate(every, 1) if (line := frames.header_line(frame))]
         found = lines(path)
-        # A payload may hold a second packet, whose fields stand beside the first's.
+        # A payload may contain a second packet, whose fields are listed with the first's.
         twice = {line.split(" ")[0] for line in found if "," in " ".join(line.split(" ")[2:8])}
         self.assertLess(len(twice), 50)
         alone = lambda these: [line for line in these if line.split(" ")[0] not in twice]

@@ -1,4 +1,4 @@
-"""Grown domains of the program that is built: each packet arrives at each router, whatever their number."""
+"""`grow` of the built program: each packet arrives at each router, whatever their number."""
 import subprocess
 import unittest
 

@@ -1,4 +1,4 @@
-"""What one router heard: of a replay of the television example, what the independent program's `node` makes of it."""
+"""What one router received in a replay of the television example, and what the independent program's `node` makes of it."""
 import subprocess
 import unittest
 

@@ -26,7 +26,7 @@ def modelled(folder, schedule=None):
 
 class Model(unittest.TestCase):
     def test_stored_replays(self):
-        """What stands beside the examples."""
+        """The stored outputs of the examples."""
         for name in REPLAYS:
             folder = os.path.join(EXAMPLES, name)
             with self.subTest(name):
@@ -94,7 +94,7 @@ class Node(unittest.TestCase):
 
 class Storm(unittest.TestCase):
     def test_few_frames(self):
-        """The independent program beside itself, until the program has `node`."""
+        """The independent program compared with itself."""
         words = ["storm", "--frames", "2000", "--jobs", "1", "--memory", "500", "--keep", scratch("storm")]
         done = tool(*words, "--program", INDEPENDENT)
         self.assertIn("0 runs differ", done.stdout, done.stderr)
@@ -102,7 +102,7 @@ class Storm(unittest.TestCase):
     def test_no_command(self):
         done = tool("storm", "--frames", "1000", "--jobs", "1", "--program", write_program("usage", "echo usage: none; exit 2"))
         self.assertEqual(done.returncode, 1)
-        self.assertIn("it has no command node", done.stderr)
+        self.assertIn("has no command `node`", done.stderr)
 
 
 class Captures(unittest.TestCase):
@@ -130,7 +130,7 @@ class Captures(unittest.TestCase):
         octets[22] -= 1  # the outer TTL, and not the checksum
         done = tool("check-capture", write("wrong.pcap", capture.write_capture([octets])))
         self.assertEqual(done.returncode, 1)
-        self.assertIn("1 that tshark doesn't read as one with a right checksum", done.stdout)
+        self.assertIn("1 that tshark doesn't dissect as one with a correct checksum", done.stdout)
 
 
 if __name__ == "__main__":

@@ -1,4 +1,4 @@
-"""isis_dump on the captures of the examples, beside tshark, and on damaged frames."""
+"""isis_dump on the captures of the examples, compared with tshark, and on damaged frames."""
 import glob
 import os
 import struct
@@ -52,7 +52,7 @@ FIELDS = {
 
 
 def dump(octets):
-    """What the program says of a capture, and its status."""
+    """The program's output for a capture, and its status."""
     done = subprocess.run([PROGRAM], input=octets, capture_output=True, timeout=120)
     return done.stdout.decode(), done.returncode
 
@@ -81,7 +81,7 @@ def head_of(row):
     kind = KINDS[int(row["type"], 0) % 32]
     if kind.startswith("lsp"):
         life = int(row["life"])
-        # 1 is tshark's word for a checksum that is right.
+        # 1 is tshark's value of a good checksum.
         right = ("right" if row["right"] == "1" else "wrong") if life else "unused"
         return f"{kind} {row['id']} seq {int(row['seq'], 0)} life {life} sum {int(row['sum'], 0):04x} {right} flags {flags_of(row):02x}"
     if kind.startswith("csnp"):
@@ -96,7 +96,7 @@ def details_of(row):
     for it in zip(words(row["entry_id"]), numbers(row["entry_seq"]), numbers(row["entry_life"]), numbers(row["entry_sum"]), strict=True):
         lines.append(f"entry {it[0]} seq {it[1]} life {it[2]} sum {it[3]:04x}")
     for area in words(row["area"]):
-        octets = bytes.fromhex(area.replace(":", ""))[1:]  # behind its length
+        octets = bytes.fromhex(area.replace(":", ""))[1:]  # after its length
         lines.append("area " + octets[:1].hex() + "".join("." + octets[at : at + 2].hex() for at in range(1, len(octets), 2)))
     if row["protocols"]:
         lines.append("protocols " + " ".join(f"{it:02x}" for it in numbers(row["protocols"])))
@@ -111,7 +111,7 @@ def details_of(row):
 
 
 def by_tshark(path):
-    """What tshark says of each IS-IS frame, in the program's words."""
+    """tshark's dissection of each IS-IS frame, in the program's format."""
     chosen = [word for field in FIELDS.values() for word in ("-e", field)]
     command = ["tshark", "-r", path, "-Y", "isis", "-T", "fields", "-E", "occurrence=a", "-E", "aggregator=|", *chosen]
     done = subprocess.run(command, capture_output=True, text=True, timeout=300, check=True)
@@ -137,7 +137,7 @@ LSP = (
     "831b010014010000004d04b0000000000001000000000001554e030104034900018101cc890141160b0000000000020000000a00"
     "871700000000600a0000010d200b0000000001010400100064"
 )
-# a PDU, the place of an octet that is changed, its new value, and the rule that is then broken
+# a PDU, the index of an octet that is changed, its new value, and the rule that is then broken
 DAMAGE = [
     (LSP, 0, 0x82, "refused pdu 2 Discriminator"),
     (LSP, 2, 0, "refused pdu 3 Version"),
@@ -220,7 +220,7 @@ class IsisDump(unittest.TestCase):
                 self.assertIn(line, text.splitlines())
 
     def test_frames_and_captures(self):
-        """A frame that isn't whole, frames that are passed, a capture that ends within a record, and words."""
+        """A truncated frame, frames that are passed over, a capture that ends within a record, and arguments."""
         cut = frame(bytes.fromhex(LSP))[:60]
         text, status = dump(HEADER + struct.pack("<IIII", 7, 5, 60, 94) + cut)
         self.assertEqual((text.splitlines()[0], status), ("1 7.000005 cut refused frame 2 Length", 0))
@@ -234,7 +234,7 @@ class IsisDump(unittest.TestCase):
         self.assertEqual((done.stdout, done.returncode), ("usage: isis_dump < CAPTURE\n", 2))
 
     def test_faults_of_input_and_output(self):
-        """A folder can't be read; a device that is full takes nothing."""
+        """A folder can't be read; a full device accepts nothing."""
         with tempfile.TemporaryDirectory() as folder:
             there = os.open(folder, os.O_RDONLY)
             done = subprocess.run([PROGRAM], stdin=there, capture_output=True)

@@ -1,4 +1,4 @@
-"""docs/library.md quotes code and texts as they stand in the crates."""
+"""docs/library.md quotes code and texts of the crates unchanged."""
 import os
 import re
 import unittest
@@ -24,7 +24,7 @@ class LibraryPage(unittest.TestCase):
         self.assertGreater(len(quotes), 3)
         for path, code in quotes:
             source = "\n" + read(path)
-            # Each function is quoted whole; what stands between them in the file may be left out.
+            # Each function is quoted completely; what is between them in the file may be left out.
             for part in code.rstrip("\n").split("\n\n"):
                 with self.subTest(file=path, code=part.splitlines()[0]):
                     self.assertIn("\n" + part + "\n", source)

@@ -1,4 +1,4 @@
-"""Want of memory at each request of a run of the program that is built."""
+"""Each allocation of a run of the built program fails once."""
 import os
 import unittest
 

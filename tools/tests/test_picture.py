@@ -1,4 +1,4 @@
-"""Pictures of domains and of a packet's way."""
+"""Pictures of domains and of a packet's path."""
 import os
 import re
 import unittest
@@ -56,15 +56,15 @@ class Picture(unittest.TestCase):
 
     def test_kinds_of_routers(self):
         fork = drawn(os.path.join(EXAMPLES, "fork", "domain.toml"), "--labels")
-        self.assertIn("P\\nno BIER", fork)
+        self.assertIn("P\\nnon-BFR", fork)
         self.assertIn("64 bits: 300", fork)
-        self.assertIn("overloaded", drawn(os.path.join(EXAMPLES, "line", "domain.toml")))
+        self.assertIn("overload bit", drawn(os.path.join(EXAMPLES, "line", "domain.toml")))
         mixed = drawn(write("mixed.toml", DIFFERENT_METRICS))
         self.assertIn('taillabel="10", headlabel="77"', mixed)
-        self.assertIn("A\\npasses on\\noverloaded", mixed)
+        self.assertIn("A\\ntransit\\noverload bit", mixed)
 
     def test_a_loop(self):
-        """The packet of the ring's example that goes back and forth until its time to live ends."""
+        """The packet of the ring's example that loops until its TTL expires."""
         it = replayed("replay-ring")
         for words in ([], ["--schedule", it.schedule]):
             dot = drawn(it.domain, it.report, it.frames, "4", *words)
@@ -73,6 +73,14 @@ class Picture(unittest.TestCase):
             self.assertIn("dropped 3: ttl, line 14", dot)
             self.assertIn(RED, dot)
             self.assertNotIn(GREEN, dot)
+
+    def test_links_that_are_down(self):
+        """With the schedule, all interfaces that are down; without it, those that the LSPs up to then leave out."""
+        it = replayed("replay-ring")
+        for injection, known, found in (("3", None, None), ("4", "\\ndown at B", None), ("5", "\\ndown", "\\ndown")):
+            for words, wanted in ((["--schedule", it.schedule], known), ([], found)):
+                dot = drawn(it.domain, it.report, it.frames, injection, *words)
+                self.assertEqual(re.findall(r'label="10(.*?down.*?)"', dot), [wanted] if wanted else [])
 
     def test_each_injection(self):
         for name in REPLAYS:

@@ -1,4 +1,4 @@
-"""The page of a replay: its data, and in Chromium what it shows."""
+"""The page of a replay: its data, and what it shows in Chromium."""
 import base64
 import html
 import json
@@ -8,13 +8,13 @@ import subprocess
 import tempfile
 import unittest
 
-from support import REPLAYS, needs, replayed, scratch, tool
+from support import REPLAYS, needs, program, replayed, scratch, tool, write
 from common import capture
 
 TRIES = 3  # Chromium may fail to start where a machine is busy
 
 
-# Does what a person does, one after the other, and writes the line and the address after each step.
+# Does what a user does, step by step, and writes down the line and the address after each step.
 KEYS = """
   const note = (name, text) => { steps[name] = [shownLine, text === undefined ? location.hash : text]; };
   const key = (name, key, shiftKey = false) => { document.dispatchEvent(new KeyboardEvent("keydown", { key, shiftKey })); note(name); };
@@ -75,7 +75,7 @@ def three_lines(name, count):
 
 
 def opened(path, link):
-    """What Chromium has made of the page, and what it wrote to its console."""
+    """The page's DOM in Chromium, and its console output."""
     with tempfile.TemporaryDirectory() as profile:
         command = [
             "chromium",
@@ -135,8 +135,26 @@ class Page(unittest.TestCase):
         script = text.replace("http://www.w3.org/2000/svg", "")
         self.assertNotRegex(script, r"https?://|<link|src=|@import|fetch\(|XMLHttpRequest")
 
+    def test_same_way_up(self):
+        """The page counts downward, and Graphviz upward."""
+        it, dot = replayed("replay-television"), scratch("way-up.dot")
+        self.assertEqual(tool("picture", it.domain, "-o", dot).returncode, 0)
+        with open(dot) as file:
+            pictured = [float(y) for y in re.findall(r'pos="[-0-9.]+,([-0-9.]+)!"', file.read())]
+        shown = [router["y"] for router in data_of(page("replay-television")[0])["routers"]]
+        order = lambda heights: sorted(range(len(heights)), key=lambda place: (round(heights[place], 2), place))
+        self.assertEqual(order([-y / 1.5 for y in pictured]), order([y - max(shown) for y in shown]))
+
+    def test_no_lines(self):
+        it, empty, report, frames = replayed("replay-pair"), write("empty", ""), scratch("empty.report"), scratch("empty.pcap")
+        with open(report, "wb") as file:
+            subprocess.run([program(), "replay", it.domain, empty, frames], stdout=file, check=True)
+        done = tool("player", it.domain, empty, report, frames, "-o", scratch("empty.html"))
+        self.assertEqual((done.returncode, done.stderr), (0, ""))
+        self.assertIn("0 lines, 0 frames", done.stdout)
+
     def test_odd_texts(self):
-        """What stands in a schedule's comments can't end the page's script."""
+        """A schedule's comments can't end the page's script."""
         it, path = replayed("replay-pair"), scratch("odd.html")
         with open(it.schedule) as file:
             lines = file.read().splitlines()
@@ -151,7 +169,7 @@ class Page(unittest.TestCase):
 
     @needs("chromium", "chromium")
     def test_in_chromium(self):
-        """Each example opens; at three lines, by their links, it shows what the report says."""
+        """Each example opens; at three lines, by their links, it shows the report's lines."""
         for name in REPLAYS:
             text, _ = page(name)
             data, told = data_of(text), told_by_line(name)
@@ -167,7 +185,7 @@ class Page(unittest.TestCase):
 
     @needs("chromium", "chromium")
     def test_keys_and_mouse(self):
-        """Each key and click leads where the guide says; the page writes down what it then shows."""
+        """Each key and click leads where the user guide has it; the page writes down what it then shows."""
         text, _ = page("replay-television")
         path = with_script(text, "keys.html", KEYS)
         dom, console = opened(path, "#line=3")
@@ -201,7 +219,7 @@ class Page(unittest.TestCase):
         number = next(place for place, frame in enumerate(data["frames"], 1) if frame[2])
         dom, console = opened(path, f"#line=3&frame={number}")
         self.assertEqual(console, [])
-        self.assertIn(f"Frame {number}: A → B, injection 1, subdomain 0, for 3", dom)
+        self.assertIn(f"Frame {number}: A → B, injection 1, sub-domain 0, for 3", dom)
         for field, value in (
             ("BIFT-id (label)", "200"),
             ("TTL", "8"),

@@ -1,5 +1,6 @@
 """Sweeps: their counts, that they go on where they were stopped, and what they do with runs and machines that break."""
 import fcntl
+import glob
 import json
 import os
 import signal
@@ -7,16 +8,18 @@ import stat
 import subprocess
 import time
 import unittest
+from unittest import mock
 
 from support import EXAMPLES, needs, places, program, python_alone, scratch, tool, write
+from common import spread
 
 RING = os.path.join(EXAMPLES, "ring", "domain.toml")
 RULE = ["--lose", "0,0.2", "--reorder", "0.5", "--repeat", "0.1", "--seeds", "2", "--packets", "2", "--mend"]
-# Programs that break: each schedule the first time; one run always; a report without one of its lines. And an ssh to machines that are this one, are dead,
-# have nothing, or say nothing.
+# Programs that break: each run the first time; one run always; a report without one of its lines. And an ssh to machines that are this one, are dead,
+# have nothing, or answer nothing.
 AT_TIMES = """#!/bin/sh
 [ $# = 0 ] && exec {program}
-mark={mark}/$(cksum schedule | tr " " -)
+mark={mark}/$(head -n 1 schedule | cksum | tr " " -)
 [ -e $mark ] || {{ touch $mark; exit 9; }}
 exec {program} "$@"
 """
@@ -27,7 +30,7 @@ exec {program} "$@"
 """
 WRONG = """#!/bin/sh
 [ $# = 0 ] && exec {program}
-{program} "$@" | sed "0,/ got /{{/ got /d}}"
+{program} "$@" | sed "0,/^[0-9]* got /{{/^[0-9]* got /d}}"
 """
 SSH = """#!/bin/sh
 while [ $# -gt 0 ]; do case $1 in -*) shift ;; *) host=$1; shift; break ;; esac; done
@@ -44,6 +47,20 @@ RUNS = 5 * 2 * 2  # four links and none, two rates, two seeds
 
 def swept(name, *words, env=None, using=None):
     return tool("sweep", RING, "--out", scratch(name), "--jobs", "2", "--program", using or program(), *RULE, *words, env=env)
+
+
+def brief(name, *words):
+    """A sweep of one seed without loss, unless other arguments are given."""
+    return tool("sweep", RING, "--out", scratch(name), "--jobs", "2", "--program", program(), "--seeds", "1", *words)
+
+
+def children_of(process):
+    """The processes that a process has started, by /proc."""
+    found = []
+    for path in glob.glob(f"/proc/{process}/task/*/children"):
+        with open(path) as file:
+            found += [int(word) for word in file.read().split()]
+    return found
 
 
 def lines_of(name):
@@ -75,8 +92,8 @@ class Sweep(unittest.TestCase):
         self.assertIn(f"{RUNS} of {RUNS} runs", self.done.stderr)  # progress
         head, *rows = [line.split() for line in self.table.splitlines()[2:8]]
         self.assertEqual(head[:5], ["egress", "BFR-id", "named", "delivered", "share"])
-        # Without failures a run has four packets for all; each link that fails and comes up again has three more.
-        named = 4 * (RUNS // 5) + 7 * (RUNS - RUNS // 5)
+        # Without failures a run has four packets for all; each link that fails and comes up again has four more.
+        named = 4 * (RUNS // 5) + 8 * (RUNS - RUNS // 5)
         self.assertEqual([row[:3] for row in rows[:4]], [[name, str(place), str(named)] for place, name in enumerate("ABCD", 1)])
         for row in rows[:4]:
             self.assertEqual(int(row[2]), sum(map(int, row[3:4] + row[5:])))
@@ -93,8 +110,73 @@ class Sweep(unittest.TestCase):
         _, named, delivered, share = table_of("rest").splitlines()[7].split()
         self.assertEqual((named, share), (delivered, "100.00%"))
 
+    def test_unseen(self):
+        """Before the ends of a link notice that it is cut, packets over it are lost; where they know at once, the cause is `link`."""
+        for many in (0, 2):
+            name = f"unseen-{many}"
+            done = brief(name, "--unseen", str(many), "--seeds", "4")
+            self.assertEqual(done.returncode, 0, done.stderr)
+            for result in lines_of(name):
+                lost = sum(count.get("lost", 0) for count in result["fates"].values())
+                self.assertEqual(lost > 0, many > 0 and result["run"] % 5 > 0, result)
+
+    def test_receivers(self):
+        self.assertEqual(brief("to", "--fail", "none", "--to", "B", "--to", "D").returncode, 0)
+        self.assertEqual(sorted(lines_of("to")[0]["fates"]), ["2", "4"])
+
+    def test_routers_and_groups(self):
+        """A router that fails takes its links with it and gets no more packets; a group's links fail together."""
+        self.assertEqual(brief("routers", "--fail", "routers", "--from", "A").returncode, 0)
+        self.assertEqual({row.split()[1] for row in table_of("routers").splitlines() if row.startswith("router ")}, set("BCD"))
+        self.assertEqual(brief("groups", "--group", "A/B,C/D", "--group", "B/C").returncode, 0)
+        self.assertRegex(table_of("groups"), r"(?m)^A-B\+C-D +\d")
+        fates = {result["run"]: result["fates"] for result in lines_of("groups")}
+        self.assertEqual(len(fates), 3)
+
+    def test_a_length_that_is_not_supported(self):
+        done = brief("length", "--bsl", "512")
+        self.assertEqual(done.returncode, 1)
+        self.assertIn("--bsl 512: not supported in sub-domain 0 by A, B, C, D", done.stderr)
+
+    def test_stopped(self):
+        """A signal ends the workers at once; the table has what was done, and a line tells how to continue."""
+        for number in (signal.SIGTERM, signal.SIGINT):
+            name = f"signal-{number}"
+            words = [os.path.join(places.TOOLS, "sweep"), RING, "--out", scratch(name), "--jobs", "2", "--program", program()]
+            running = subprocess.Popen(
+                [*words, "--seeds", "1000"], stdout=subprocess.PIPE, stderr=subprocess.PIPE, text=True, start_new_session=True
+            )
+            results, began = os.path.join(scratch(name), "results.jsonl"), time.monotonic()
+            while time.monotonic() - began < 60 and not (os.path.exists(results) and os.path.getsize(results) > 600):
+                time.sleep(0.05)
+            workers = children_of(running.pid)
+            running.send_signal(number)
+            began = time.monotonic()
+            out, err = running.communicate(timeout=30)
+            self.assertLess(time.monotonic() - began, 10)
+            self.assertEqual(running.returncode, 128 + number, err)
+            self.assertEqual(len(workers), 2)
+            self.assertFalse([worker for worker in workers if os.path.exists(f"/proc/{worker}")])
+            self.assertIn("of 5000 runs are kept in", err)
+            self.assertIn("the same arguments continue", err)
+            self.assertEqual(out, table_of(name))
+            self.assertRegex(out, r"^\d+ of 5000 runs, 0 broken")
+
+    def test_time_left(self):
+        """The speed is that of the last minute, without the time before the first result."""
+        shown, clock = [], iter([0, 100, 101, 102, 103, 104])
+        with mock.patch.object(spread.time, "monotonic", lambda: next(clock)), mock.patch.object(
+            spread, "print", lambda text, **_: shown.append(text), create=True
+        ):
+            progress = spread.Progress(0, 10)
+            for _ in range(5):
+                progress.step(True)
+            progress.show()
+        self.assertEqual(shown[0], "1 of 10 runs")
+        self.assertTrue(shown[-1].strip("\r\x1b[K").startswith("5 of 10 runs, 1.0 a second, 5 s left"), shown)
+
     def test_worst_runs(self):
-        """The kept schedules give what was counted, and the player takes them."""
+        """The kept schedules reproduce what was counted, and the player accepts them."""
         counted = {
             result["run"]: sum(count["named"] - count.get("got", 0) for count in result["fates"].values())
             for result in lines_of("whole")
@@ -152,7 +234,7 @@ class Sweep(unittest.TestCase):
             fcntl.flock(lock, fcntl.LOCK_EX)
             done = swept("whole")
         self.assertEqual(done.returncode, 1)
-        self.assertIn("another sweep is at work there", done.stderr)
+        self.assertIn("another sweep is running there", done.stderr)
 
     def test_another_rule(self):
         done = tool("sweep", RING, "--out", scratch("whole"), "--seeds", "1", "--program", program())
@@ -171,7 +253,10 @@ class Sweep(unittest.TestCase):
         self.assertEqual(table_of("at-times"), self.table)
 
     def test_a_run_that_always_breaks(self):
+        """A schedule that is rejected is named once, and not tried again."""
         done = swept("always", using=script("always.sh", ALWAYS.format(program=program())))
+        self.assertEqual(done.stderr.count("run 3 broke on"), 1)
+        self.assertNotIn("try 2", done.stderr)
         self.assertEqual(done.returncode, 1)
         self.assertIn(f"{RUNS - 1} of {RUNS} runs, 1 broken", done.stdout)
         self.assertIn("run 3 broke: status 4, refused 1 text 1 Word", done.stdout)
@@ -184,7 +269,7 @@ class Sweep(unittest.TestCase):
 
     @needs("parallel", "parallel")
     def test_machines(self):
-        """Over this machine, one more that answers, and three that don't, can't and say nothing: their runs go to the others."""
+        """Over this machine, one more that answers, and three that are dead, lack the program and stay silent: their runs go to the others."""
         hosts = write("hosts", "# machines\n:\nalive\ndead\nbare\nmute\n")
         done = swept("machines", "--hosts", hosts, env={"PARALLEL_SSH": script("ssh.sh", SSH)})
         self.assertEqual(done.returncode, 0, done.stderr)
@@ -194,7 +279,7 @@ class Sweep(unittest.TestCase):
         self.assertEqual(table_of("machines"), self.table)
 
     def test_without_parallel(self):
-        # The independent program is run by the words of its first line, which need python3 alone.
+        # The independent program is run by its first line, which needs only python3.
         done = swept("no-parallel", "--hosts", write("hosts", ":\n"), env={"PATH": python_alone()})
         self.assertEqual(done.returncode, 1)
         self.assertIn("GNU parallel isn't installed", done.stderr)

@@ -5,14 +5,14 @@
 --
 -- Or put this file into the folder of personal Lua plugins (Help, About Wireshark, Folders).
 --
--- A BIER header stands in a frame of type 0xAB37, or begins with the last label of an MPLS stack behind which the first four
--- bits are 5. Both are found in Ethernet and in GRE.
+-- A BIER header is in a frame of type 0xAB37, or begins with the last label of an MPLS stack that is followed by the four bits 5.
+-- Both are found in Ethernet and in GRE.
 
 local bier = Proto("bier", "Bit Index Explicit Replication")
 local stack = Proto("bier_mpls", "MPLS with BIER behind it")
 local after = Proto("bier_after_label", "BIER behind a label")
 
-local OCTETS = { 8, 16, 32, 64, 128, 256, 512 } -- of a bit string, by its BSL code
+local OCTETS = { 8, 16, 32, 64, 128, 256, 512 } -- of a BitString, by its BSL code
 local PROTOCOLS = {
     [0] = "reserved",
     [1] = "MPLS, downstream-assigned label",
@@ -22,10 +22,10 @@ local PROTOCOLS = {
     [5] = "OAM",
     [6] = "IPv6",
 }
-local HEADER = 12 -- octets before the bit string
-local DEEPEST_STACK = 8 -- as `bier_domain headers` has it
+local HEADER = 12 -- octets before the BitString
+local DEEPEST_STACK = 8 -- as in `bier_domain headers`
 
--- The words of the header, each field with its name, what it is called, and its bits.
+-- The words of the header: each field with its filter name, its title and its bits.
 local WORDS = {
     {
         { "bift_id", "BIFT-id", 0xfffff000 },
@@ -64,7 +64,7 @@ for _, word in ipairs(WORDS) do
 end
 bier.fields = fields
 
--- What can be wrong with a header, by the names that `bier_domain headers` has for it. An error is shown in red.
+-- What can be wrong with a header, by its names in `bier_domain headers`. An error is shown in red.
 local FAULTS = {
     Short = "The octets end before the BitString does that the BSL field tells",
     Version = "The version isn't 0",
@@ -78,7 +78,7 @@ experts.Payload =
     ProtoExpert.new("bier.payload.other", "The payload isn't of the next protocol", expert.group.PROTOCOL, expert.severity.NOTE)
 bier.experts = experts
 
--- Another dissector may find a frame broken, and says so in the tree; that mustn't end ours.
+-- Another dissector may find a frame malformed, and shows that in the tree; ours must go on.
 local function call(name, tvb, pinfo, tree)
     local known, dissector = pcall(Dissector.get, name)
     if known and dissector then
@@ -86,13 +86,13 @@ local function call(name, tvb, pinfo, tree)
     end
 end
 
--- The next protocol's dissector, where the payload begins as a packet of that protocol does.
+-- The next protocol's dissector, where the payload begins like a packet of that protocol.
 
 local function begins_as_ip(tvb, version, shortest)
     return tvb:len() >= shortest and tvb(0, 1):bitfield(0, 4) == version
 end
 
--- Where the last label of a stack begins; nil where the stack doesn't end.
+-- The offset of the last label of a stack; nil where the stack doesn't end.
 local function bottom_of_stack(tvb)
     for place = 0, DEEPEST_STACK - 1 do
         local at = 4 * place
@@ -139,7 +139,7 @@ local function add_payload(proto, tvb, pinfo, root, item)
     call(name or "data", tvb, pinfo, root)
 end
 
--- The fields of one word of the header; `range` is where it stands.
+-- The fields of one word of the header, whose octets are `range`.
 local function add_word(tree, place, range)
     for _, field in ipairs(WORDS[place]) do
         tree:add(fields[field[1]], range)
@@ -150,7 +150,7 @@ local function add_fault(tree, range, name)
     tree:add(fields.fault, range, name):set_generated():add_proto_expert_info(experts[name])
 end
 
--- One item for each set position. The highest position comes first in the octets.
+-- One item for each bit that is set. The highest position comes first in the octets.
 local function add_positions(tree, range)
     local places, length = {}, range:len()
     for at = length - 1, 0, -1 do
@@ -168,8 +168,8 @@ local function add_positions(tree, range)
     return #places == 0 and "-" or table.concat(places, ",")
 end
 
--- The first rule that a header breaks, nil where it can be read; and the octets of the bit string, where the BSL field tells.
--- `rest` is what stands behind the first word.
+-- The first rule that a header breaks, nil where it can be read; and the length of the BitString, where the BSL field has one.
+-- `rest` is what follows the first word.
 local function fault_of(rest)
     if rest:len() < HEADER - 4 then
         return "Short", nil
@@ -195,7 +195,7 @@ local function add_words(tree, first, rest)
     end
 end
 
--- Shows a header that can't be read, with the fault in red.
+-- Shows a header that can't be read, with the error in red.
 local function add_broken(tree, first, rest, fault, octets, pinfo)
     local range = first
     if octets then
@@ -207,7 +207,7 @@ local function add_broken(tree, first, rest, fault, octets, pinfo)
     pinfo.cols.info = "BIER, " .. FAULTS[fault]
 end
 
--- A header: `first` is its first word as a range, `rest` the octets behind it or nil where there are none, `tree` its item.
+-- A header: `first` is its first word as a range, `rest` the octets after it or nil where there are none, `tree` its item.
 local function dissect_header(first, rest, pinfo, root, tree)
     pinfo.cols.protocol = "BIER"
     add_words(tree, first, rest)
@@ -230,7 +230,7 @@ local function dissect_header(first, rest, pinfo, root, tree)
     end
 end
 
--- How many of the octets are the header's, so that its item marks these alone.
+-- How many of the octets are the header's, so that its item marks only these.
 local function header_length(rest)
     local fault, octets = fault_of(rest)
     return fault and rest:len() or HEADER - 4 + octets
@@ -251,8 +251,8 @@ function bier.dissector(tvb, pinfo, root)
     return tvb:len()
 end
 
--- Behind labels. Wireshark's own dissector of MPLS shows the stack, and hands what is behind it to whoever is bound to the
--- last label: for the time of this call, to us.
+-- After labels. Wireshark's own dissector of MPLS shows the stack, and hands the rest to the dissector that is bound to the last
+-- label: during this call, to ours.
 
 local last_label -- the last label of the stack that is being dissected, as a range
 
@@ -267,7 +267,7 @@ end
 
 local labels = DissectorTable.get("mpls.label")
 
--- A stack behind which the first four bits are 5.
+-- A stack that is followed by the four bits 5.
 local function is_bier(tvb, bottom)
     return bottom ~= nil and tvb:len() > bottom + 4 and tvb(bottom + 4, 1):bitfield(0, 4) == 5
 end

@@ -1,4 +1,4 @@
-//! Packets of 20 ids at 4,096 bits that pass one hop over 512 neighbours, as octets: how many copies and drops they make,
+//! Packets of 20 ids at 4,096 bits that pass one hop over 512 neighbors, as octets: how many copies and drops they make,
 //! and the sum of what is sent. It does a thousand packets; with the word `time` it does a million, and says too how long
 //! they took. `bench/hop` runs it so.
 //!

@@ -1,4 +1,4 @@
-//! The rows of 4,096 positions over 512 neighbours.
+//! The rows of 4,096 positions over 512 neighbors.
 ghost use Rattle.std.specs.Prelude.{◌≡◌, IfOk, length};
 
 use std::alloc::Global;
@@ -17,7 +17,7 @@ pub fn rows(alloc: Global) -> M<RowSet>
     Ok(RowSet { bits })
 }
 
-/// Every sixteenth position has no row; the others lead to all neighbours in turn.
+/// Every sixteenth position has no row; the others lead to all neighbors in turn.
 fn row(alloc: Global, place: u16) -> M<FirstList> {
     if place % 16 == 15 {
         return Ok(FirstList::new(alloc));

@@ -1,4 +1,4 @@
--- An entry that is put into a database leaves what each other system says.
+-- An entry that is put into an LSDB leaves what each other system says.
 use Rattle.std.proofs.Common.{◌≡◌, ◌==◌, ◌&&◌, ◌||◌, nat_lt, Bool, true, false, if◌then◌else◌, List, [], ◌∷◌, map, filter, slice_get, refl, sym, ap, ◌∙◌}
 use mathlib.Core.Bool.{false≢true}
 use Rattle.std.specs.declared.cmp.Ordering.{Ordering}

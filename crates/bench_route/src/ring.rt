@@ -1,4 +1,4 @@
-//! The database of a router of a ring with chords: what each other router says of itself.
+//! The LSDB of a router of a ring with chords: what each other router says of itself.
 ghost use Rattle.std.specs.Prelude.{◌≤◌, ◌<◌, ◌+◌};
 
 use lsp_store::Store;
@@ -74,7 +74,7 @@ fn append_links(content: &mut Octets, nodes: u16, place: u16, says: Says) -> M<(
     Ok(())
 }
 
-/// Appends a TLV 135 with the router's prefix and its place in subdomain 0: its number is its BFR-id, and it has labels
+/// Appends a TLV 135 with the router's prefix and its place in sub-domain 0: its number is its BFR-id, and it has labels
 /// for four sets of 256 bits.
 fn append_place(content: &mut Octets, router: u16) -> M<()> {
     let [high, low] = router.to_be_bytes();

@@ -15,7 +15,7 @@ positions_in p = record { triple = p.triple; positions = positions_of p.bits }
 abbrev pub placed : IngressPacket → Positions
 placed p = record { triple = p.triple; positions = item.positions_of p.triple p.ids }
 
--- A fault is the first that holds, or memory was refused.
+-- A fault is the first that holds, or memory ran out.
 abbrev pub Refuses : Option EdgeFault → EdgeFault → Type 0
 Refuses first NoEgress = first ≡ Some NoEgress
 Refuses first IdZero = first ≡ Some IdZero

@@ -18,8 +18,8 @@ use wire_base::{Bsl, EdgeFault, M, RouterConf, Rows, Triple};
 /// positions of the ids of that set (RFC 8279, 3). The ids may repeat and stand in any order.
 ///
 /// Refused is, in this order: a list without ids (NoEgress), the id 0 (IdZero), an id whose set identifier is above 255
-/// (SiLarge, with the first such id), a router without a BFR-id in the subdomain (NotBfr), and one that supports no triple
-/// of the subdomain and the length (BslUnknown). Memory may come in place of any answer.
+/// (SiLarge, with the first such id), a router without a BFR-id in the sub-domain (NotBfr), and one that supports no triple
+/// of the sub-domain and the length (BslUnknown). Memory may come in place of any answer.
 #[tactic(auto, using(crate::proofs::SupportLaws::unsupported_is, crate::proofs::SupportLaws::supported_is))]
 pub fn ingress(
     alloc: Global,

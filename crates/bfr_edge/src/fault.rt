@@ -78,7 +78,7 @@ fn sub_in(subs: &[OwnSub], sd: u8) -> Option<&OwnSub>
     None
 }
 
-// Whether the router has a BFR-id in the subdomain.
+// Whether the router has a BFR-id in the sub-domain.
 fn has_id(subs: &[OwnSub], sd: u8) -> bool
     ensures { result ≡ is_some (id_of (sub_in subs.now sd)) }
 {
@@ -88,7 +88,7 @@ fn has_id(subs: &[OwnSub], sd: u8) -> bool
     }
 }
 
-/// Whether the router has a BIFT-id for some set of the length in the subdomain.
+/// Whether the router has a BIFT-id for some set of the length in the sub-domain.
 pub fn supports_length(conf: &RouterConf, sd: u8, bsl: Bsl) -> bool
     ensures value { result ≡ supports_length conf.now sd bsl }
     ensures some { (result ≡ true) ↔ ((si : ℕ) × (is_some (own_bift conf.now (record { sd = sd; bsl = bsl; si = si })) ≡ true)) }

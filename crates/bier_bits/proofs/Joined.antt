@@ -40,7 +40,7 @@ eight_from f first a b out at room same fits kept h k lt =
 pub eight_more : (f : ℕ → ℕ → ℕ) (a b out : List ℕ) (at : ℕ) → at + 8 ≤ length a → length b ≡ length a → length out ≡ length a → ((k : ℕ) → k < at → get_or out k 0 ≡ f (get_or a k 0) (get_or b k 0)) → (k : ℕ) → k < at + 8 → get_or (put_chunk at out (zip2 f (chunk at 8 a) (chunk at 8 b))) k 0 ≡ f (get_or a k 0) (get_or b k 0)
 eight_more f a b out at room same fits h k lt = eight_from f a a b out at room same fits (λ k from. refl) h k lt
 
--- how far words were cut: those before a place are what is left and what was taken, and those from it on are as they were
+-- how far words were cut: those before a place are what is left and what was taken, and those from it on are unchanged
 pub record IsCut (first words mask taken : List ℕ) (at : ℕ) : Type 0 where
   pub cut : (k : ℕ) → k < at → get_or taken k 0 ≡ bit_and (get_or first k 0) (get_or mask k 0)
   pub left : (k : ℕ) → k < at → get_or words k 0 ≡ and_not (get_or first k 0) (get_or mask k 0)

@@ -1,4 +1,4 @@
-ghost use Rattle.std.specs.Prelude.{◌≡◌, ◌≤◌, ◌*◌, ◌/◌, ◌==◌, length, [], ◌∷◌, ◌+◌, IfSome, IsTrue};
+ghost use Rattle.std.specs.Prelude.{◌≡◌, ◌≢◌, ◌≤◌, ◌*◌, ◌/◌, ◌==◌, true, false, length, [], ◌∷◌, ◌+◌, IfSome, IsTrue};
 ghost use Rattle.wire_base.specs.model.Place.{bits_of};
 ghost use Rattle.wire_base.specs.model.BitSet.{has_member, first_member, with_member, IsWithin, intersection, difference, union, set_of, octets_of};
 ghost use Rattle.bier_bits.specs.Sets.{is_width, from_on};
@@ -210,6 +210,24 @@ impl AnyBits {
             AnyBits::B1024(bits) => bits.is_empty(),
             AnyBits::B2048(bits) => bits.is_empty(),
             AnyBits::B4096(bits) => bits.is_empty(),
+        }
+    }
+
+    /// Whether the two sets, which are of one length, have the same positions.
+    pub fn is_same(&self, other: &Self) -> bool
+        requires { bsl_of other.now ≡ bsl_of self.now }
+        ensures same { result ≡ true → positions_of self.now ≡ positions_of other.now }
+        ensures differ { result ≡ false → positions_of self.now ≢ positions_of other.now }
+    {
+        match (self, other) {
+            (AnyBits::B64(a), AnyBits::B64(b)) => a.is_same(b),
+            (AnyBits::B128(a), AnyBits::B128(b)) => a.is_same(b),
+            (AnyBits::B256(a), AnyBits::B256(b)) => a.is_same(b),
+            (AnyBits::B512(a), AnyBits::B512(b)) => a.is_same(b),
+            (AnyBits::B1024(a), AnyBits::B1024(b)) => a.is_same(b),
+            (AnyBits::B2048(a), AnyBits::B2048(b)) => a.is_same(b),
+            (AnyBits::B4096(a), AnyBits::B4096(b)) => a.is_same(b),
+            _ => unreachable!(),
         }
     }
 

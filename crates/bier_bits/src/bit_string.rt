@@ -1,4 +1,4 @@
-ghost use Rattle.std.specs.Prelude.{◌≡◌, ◌≤◌, ◌+◌, ◌*◌, ◌==◌, [], ◌∷◌, length, IsTrue, IfSome};
+ghost use Rattle.std.specs.Prelude.{◌≡◌, ◌≢◌, ◌≤◌, ◌+◌, ◌*◌, ◌==◌, [], ◌∷◌, true, false, length, IsTrue, IfSome};
 ghost use Rattle.wire_base.specs.model.BitSet.{has_member, with_member, first_member, IsWithin, intersection, difference, union, set_of, octets_of};
 ghost use Rattle.bier_bits.specs.Sets.{is_width, from_on, AreApartBelow};
 
@@ -160,6 +160,16 @@ impl<const W: usize> BitString<W> {
         ensures { result ≡ (length self.now == 0) }
     {
         are_zero(&self.lanes)
+    }
+
+    /// Whether the two sets have the same positions.
+    pub fn is_same(&self, other: &Self) -> bool
+        requires { IsTrue (is_width W) }
+        ensures same { result ≡ true → self.now ≡ other.now }
+        ensures differ { result ≡ false → self.now ≢ other.now }
+    {
+        let _widths = (self.width(), other.width());
+        self.and_not(other).is_empty() && other.and_not(self).is_empty()
     }
 
     /// How many positions the set has.

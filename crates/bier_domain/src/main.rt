@@ -3,16 +3,15 @@
 
 use host_run::{run_arguments, run_words};
 use std::alloc::AllocError;
-use std::env;
-use std::io;
 use std::process::ExitCode;
-use tool_host::{SystemFiles, WriterSink, exit_code, is_no_text};
+use std::{env, io};
+use tool_host::{StdoutSink, SystemFiles, exit_code, is_no_text};
 use wire_base::Status;
 
 /// Runs on the arguments of the system.
 fn run_command_line(rt: &HostRuntime) -> Result<Status, AllocError> {
     let files = SystemFiles::new(rt);
-    let mut report = WriterSink::new(io::writer(rt));
+    let mut report = StdoutSink::new(io::writer(rt));
     match env::args(rt) {
         Ok(args) => {
             let args: Vec<String> = args.collect(rt.alloc())?;

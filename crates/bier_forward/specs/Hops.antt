@@ -98,7 +98,7 @@ tunnel_way r g t f bift =
     (λ dst. option_and_then (way_on r bift (Some dst)) (next_link r g (node_place g r.system) (place_of g f)))
     (prefix_of g t.sd (place_of g f))
 
--- to a neighbour on its end, to another router in a tunnel
+-- to a neighbor on its end, to another router in a tunnel
 abbrev pub way_by : RouterConf → List ViewNode → Triple → First → ℕ → Option ℕ → Option Way
 way_by r g t f bift None = tunnel_way r g t f bift
 way_by r g t f bift (Some link) = way_on r bift None link

@@ -1,13 +1,12 @@
 -- What tunnels need of a view, and a tunnel packet that goes on.
-use Rattle.std.specs.Prelude.{◌≡◌, ℕ, nat_le, List, length, Option, Some, None, if◌then◌else◌}
+use Rattle.std.specs.Prelude.{◌≡◌, ℕ, nat_le, List, length, Option, Some, None, option_and_then, if◌then◌else◌}
+use Rattle.wire_base.specs.declared.addresses.Ipv4.{Ipv4}
 use Rattle.wire_base.specs.declared.cause.Cause.TheVariants as cause
 use Rattle.wire_base.specs.declared.conf.RouterConf.{RouterConf}
 use Rattle.wire_base.specs.declared.view.ViewNode.{ViewNode}
-use Rattle.wire_base.specs.model.OnFrame.{Effects, dropped, forwarded, node_place}
+use Rattle.wire_base.specs.model.OnFrame.{Effects, dropped, forwarded, next_link, node_place, node_with}
 use Rattle.wire_base.specs.model.Tunnel.{TunnelPacket}
 use Rattle.bier_tunnel.specs.Ways.{AreWays}
-use Rattle.bier_tunnel.specs.declared.next.Next.{Next}
-use Rattle.bier_tunnel.specs.declared.next.Next.TheVariants.{Leave, On, Outer, Route}
 use Rattle.bier_tunnel.specs.declared.ways.Way.{Way}
 
 -- The ways from the router's node, where they were sought.
@@ -24,9 +23,6 @@ HasNode r g (Some ways) = Unit {0}
 abbrev pub carried_on : RouterConf → List ViewNode → List ℕ → TunnelPacket → Effects
 carried_on r g octets t = if nat_le t.ttl 1 then dropped cause.Outer else forwarded r g (node_place g r.system) octets t
 
--- the link over which a packet goes on
-abbrev pub link_of : Next → Option ℕ
-link_of Leave = None
-link_of (On link ttl) = Some link
-link_of Outer = None
-link_of Route = None
+-- the link toward the router with a BFR-prefix
+abbrev pub link_to_prefix : RouterConf → List ViewNode → Ipv4 → Option ℕ
+link_to_prefix r g dst = option_and_then (next_link r g (node_place g r.system)) (node_with g dst)

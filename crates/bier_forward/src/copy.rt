@@ -23,7 +23,7 @@ use wire_base::{End, Ipv4, Kind, M, Octets, RouterConf};
 /// The TTL with which a tunnel begins.
 const OUTER_TTL: u8 = 255;
 
-/// The frame of a copy on its way: the packet with that BIFT-id, TTL and BitString. A tunnel leads from the router's own
+/// The frame of a copy in flight: the packet with that BIFT-id, TTL and BitString. A tunnel leads from the router's own
 /// prefix to that of the way.
 pub(crate) fn frame_of<const W: usize>(
     alloc: Global,

@@ -83,7 +83,7 @@ impl Effects {
         self.sent.allocator()
     }
 
-    /// Then a frame is sent on a link; nothing changes where memory is refused.
+    /// Then a frame is sent on a link; nothing changes where memory runs out.
     pub fn send(&mut self, link: u16, octets: &[u8]) -> M<()>
         ensures ok { OnOk result (self.new ≡ record self.old { sent = self.old.sent ++ sent_as link octets.now ∷ [] }) }
         ensures err { OnErr result (self.new ≡ self.old) }
@@ -91,7 +91,7 @@ impl Effects {
         self.sent.push(link, octets)
     }
 
-    /// Then a packet is delivered; nothing changes where memory is refused.
+    /// Then a packet is delivered; nothing changes where memory runs out.
     pub fn deliver(&mut self, got: Got) -> M<()>
         ensures ok { OnOk result (self.new ≡ record self.old { got = self.old.got ++ got ∷ [] }) }
         ensures err { OnErr result (self.new ≡ self.old) }
@@ -99,7 +99,7 @@ impl Effects {
         self.got.push(got)
     }
 
-    /// Then something is dropped; nothing changes where memory is refused.
+    /// Then something is dropped; nothing changes where memory runs out.
     pub fn note(&mut self, drop: DropNote) -> M<()>
         ensures ok { OnOk result (self.new ≡ record self.old { drops = self.old.drops ++ drop ∷ [] }) }
         ensures err { OnErr result (self.new ≡ self.old) }

@@ -31,7 +31,7 @@ use wire_base::{M, OwnSub, RouterConf, Steps, Triple, View};
 /// whose TTL has ended or that lead nowhere. A copy is the packet with the BIFT-id of that router, a TTL one lower and the
 /// positions that lead to it; all else, and the octets after the header, are as they came. A copy to a router that no link
 /// leads to directly goes in a tunnel to its BFR-prefix (RFC 8279, 6.9; RFC 2784); the positions of one that has no
-/// prefix in the subdomain are dropped. The rows, tables and ways that it needs of the view are kept, and made where they
+/// prefix in the sub-domain are dropped. The rows, tables and ways that it needs of the view are kept, and made where they
 /// aren't yet.
 pub fn hop_packet(
     alloc: Global,
@@ -263,7 +263,7 @@ fn own_position(conf: &RouterConf, triple: Triple) -> Option<u16>
     triple.place(own_id(conf.subs.as_slice(), triple.sd)?)
 }
 
-/// The BFR-id of a router that is in those subdomains; 0 is none.
+/// The BFR-id of a router that is in those sub-domains; 0 is none.
 pub(crate) fn own_id(subs: &[OwnSub], sd: u8) -> Option<u16>
     ensures { result ≡ id_of (sub_in subs.now sd) }
 {

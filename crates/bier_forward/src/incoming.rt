@@ -11,7 +11,7 @@ use std::marker::Model;
 use wire_base::fields::word_at;
 use wire_base::{Bsl, Cause, HeadFault, Kind, RouterConf, Triple};
 
-/// A packet that was read: the triple that its BIFT-id means, how the subdomain gives BIFT-ids, its header, whose BitString
+/// A packet that was read: the triple that its BIFT-id means, how the sub-domain gives BIFT-ids, its header, whose BitString
 /// has the triple's length, and the octets after it.
 #[derive(Drop)]
 pub struct Incoming<'a> {

@@ -25,4 +25,4 @@ pub use forward::hop_packet;
 pub use incoming::{Incoming, read_packet};
 pub use routes::Routes;
 pub use sent_frames::SentFrames;
-pub use transit::carry_on;
+pub use transit::forward_tunnel;

@@ -78,7 +78,7 @@ impl SentFrames {
         self.list
     }
 
-    /// Then a frame is sent on a link; nothing changes where memory is refused.
+    /// Then a frame is sent on a link; nothing changes where memory runs out.
     #[tactic(auto, using(crate::proofs::SentLaws::sent_more))]
     pub fn push(&mut self, link: u16, octets: &[u8]) -> M<()>
         ensures ok { OnOk result (self.new ≡ self.old ++ sent_as link octets.now ∷ []) }

@@ -1,19 +1,20 @@
 //! Tunnel packets for another router, which go on (RFC 2784; RFC 1812, 5.2.1 and 5.3.1).
-ghost use Rattle.std.specs.Prelude.{◌≡◌, ◌<◌, ◌≤◌, ◌-◌, ◌++◌, Some, false, IfOk, OnOk, length, take, drop, option_and_then};
+ghost use Rattle.std.specs.Prelude.{◌≡◌, ◌≤◌, ◌++◌, Some, false, IfOk, OnOk, length, take, drop};
 ghost use Rattle.std.specs.Str.{bytes_eq};
 ghost use Rattle.wire_base.specs.model.Configuration.{IsSound};
 ghost use Rattle.wire_base.specs.model.Item.{ip_frame};
-ghost use Rattle.wire_base.specs.model.OnFrame.{next_link, node_place, node_with, or_no_route, sent_on};
+ghost use Rattle.wire_base.specs.model.OnFrame.{or_no_route, sent_on};
 ghost use Rattle.wire_base.specs.model.Tunnel.{total_of, tunnel_on};
 ghost use Rattle.gre_ip.specs.Tunnels.{HasPlaces, packet_of};
 ghost use Rattle.bier_forward.specs.Kept.{AreRoutes};
-ghost use Rattle.bier_forward.specs.Tunnels.{IsBuilt, carried_on, link_of};
+ghost use Rattle.bier_tunnel.specs.Ways.{next_of};
+ghost use Rattle.bier_forward.specs.Tunnels.{IsBuilt, carried_on, link_to_prefix};
 
 use crate::copy::ip_head;
 use crate::effects::Effects;
 use crate::routes::Routes;
 use crate::ways::{build, end_at};
-use bier_tunnel::{Fib, Next};
+use bier_tunnel::{Fib, Next, next_of};
 use gre_ip::{Tunnel, write_onward};
 use std::alloc::Global;
 use wire_base::ethernet::FRAME_HEAD;
@@ -23,7 +24,7 @@ use wire_base::{Cause, End, M, Octets, RouterConf, View};
 /// with that prefix, with a lower time to live and the checksum for it. Octets past the packet's total length stay behind.
 ///
 /// Its drop is `Outer` where the time to live has ended, and `Route` where no way leads to a router with that prefix.
-pub fn carry_on(
+pub fn forward_tunnel(
     alloc: Global,
     conf: &RouterConf,
     view: &View,
@@ -38,81 +39,67 @@ pub fn carry_on(
     ensures effects { IfOk result (λ e. e ≡ carried_on conf.now view.now.nodes octets.now (packet_of octets.now tunnel.now)) }
     ensures kept { OnOk result (AreRoutes conf.now view.now.nodes routes.new) }
 {
-    if tunnel.ttl <= 1 {
-        return Effects::dropped(alloc, Cause::Outer);
-    }
-    match link_toward(alloc, conf, view, &mut routes.fib, tunnel)? {
-        None => Effects::dropped(alloc, Cause::Route),
-        Some(link) => send_on(alloc, conf, octets, tunnel, link),
+    match next_hop(alloc, conf, view, &mut routes.fib, tunnel)? {
+        Next::On { link, ttl } => send_on(alloc, conf, octets, tunnel, (link, ttl)),
+        Next::Outer => Effects::dropped(alloc, Cause::Outer),
+        Next::Route => Effects::dropped(alloc, Cause::Route),
+        // The tunnel ends elsewhere.
+        Next::Leave => Ok(Effects::nothing(alloc)),
     }
 }
 
-/// The link toward the router with the destination's prefix. A router without a node in the view reaches no other.
-fn link_toward(
+/// What becomes of the packet. A router without a node in the view reaches no other.
+fn next_hop(
     alloc: Global,
     conf: &RouterConf,
     view: &View,
     fib: &mut Option<Fib>,
     tunnel: &Tunnel,
-) -> M<Option<u16>>
+) -> M<Next>
     requires sound { IsSound conf.now }
-    requires elsewhere { bytes_eq tunnel.now.dst.0 conf.now.prefix.0 ≡ false }
-    requires onward { 1 < tunnel.now.ttl }
     requires built { IsBuilt conf.now view.now.nodes fib.old }
-    ensures link { IfOk result (λ link. link ≡ option_and_then (next_link conf.now view.now.nodes (node_place view.now.nodes conf.now.system)) (node_with view.now.nodes tunnel.now.dst)) }
+    ensures next { IfOk result (λ next. next ≡ next_of conf.now.prefix tunnel.now (link_to_prefix conf.now view.now.nodes tunnel.now.dst)) }
     ensures built { OnOk result (IsBuilt conf.now view.now.nodes fib.new) }
 {
     build(alloc, conf, view, fib)?;
     match fib {
-        None => Ok(None),
-        Some(fib) => Ok(link_of(fib.transit(conf.prefix, tunnel))),
+        None => Ok(next_of(conf.prefix, tunnel, None)),
+        Some(fib) => Ok(fib.transit(conf.prefix, tunnel)),
     }
 }
 
-/// The link over which a packet goes on.
-fn link_of(next: Next) -> Option<u16>
-    ensures { result ≡ link_of next }
-{
-    match next {
-        Next::On { link, ttl: _ } => Some(link),
-        Next::Leave | Next::Outer | Next::Route => None,
-    }
-}
-
-/// Sends the packet on over a link, where it has an end.
+/// Sends the packet on over a link with a time to live, where the link has an end.
 fn send_on(
     alloc: Global,
     conf: &RouterConf,
     octets: &[u8],
     tunnel: &Tunnel,
-    link: u16,
+    on: (u16, u8),
 ) -> M<Effects>
     requires places { HasPlaces octets.now tunnel.now }
-    requires onward { 1 < tunnel.now.ttl }
-    ensures { IfOk result (λ e. e ≡ or_no_route (sent_on conf.now (Some link) (λ end. ip_frame end.peer_mac end.own_mac (tunnel_on octets.now (tunnel.now.ttl - 1))))) }
+    ensures { IfOk result (λ e. e ≡ or_no_route (sent_on conf.now (Some on.0) (λ end. ip_frame end.peer_mac end.own_mac (tunnel_on octets.now on.1)))) }
 {
-    match end_at(conf, link) {
+    match end_at(conf, on.0) {
         None => Effects::dropped(alloc, Cause::Route),
         Some(end) => {
-            let frame = onward_frame(alloc, end, octets, tunnel)?;
+            let frame = onward_frame(alloc, end, octets, tunnel, on.1)?;
             let mut effects = Effects::nothing(alloc);
-            effects.send(link, frame.as_slice())?;
+            effects.send(on.0, frame.as_slice())?;
             Ok(effects)
         }
     }
 }
 
-/// The frame of the packet on an end, with a time to live of one less.
-fn onward_frame(alloc: Global, end: End, octets: &[u8], tunnel: &Tunnel) -> M<Octets>
+/// The frame of the packet on an end, with that time to live.
+fn onward_frame(alloc: Global, end: End, octets: &[u8], tunnel: &Tunnel, ttl: u8) -> M<Octets>
     requires places { HasPlaces octets.now tunnel.now }
-    requires onward { 1 < tunnel.now.ttl }
-    ensures { IfOk result (λ frame. frame ≡ ip_frame end.peer_mac end.own_mac (tunnel_on octets.now (tunnel.now.ttl - 1))) }
+    ensures { IfOk result (λ frame. frame ≡ ip_frame end.peer_mac end.own_mac (tunnel_on octets.now ttl)) }
 {
     let head = ip_head(end);
     let mut frame = Vec::with_capacity(alloc, head.len() + tunnel.to)?;
     frame.extend_from_slice(&head)?;
     frame.extend_from_slice(&octets[..tunnel.to])?;
-    write_behind(frame.as_mut_slice(), tunnel.ttl - 1);
+    write_behind(frame.as_mut_slice(), ttl);
     Ok(Octets::from_vec(frame))
 }
 

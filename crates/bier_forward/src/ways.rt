@@ -1,4 +1,4 @@
-//! How a copy goes to a router: on the end that leads to a neighbour, or in a tunnel (RFC 8279, 6.9; RFC 2784).
+//! How a copy goes to a router: on the end that leads to a neighbor, or in a tunnel (RFC 8279, 6.9; RFC 2784).
 ghost use Rattle.std.specs.Prelude.{◌≡◌, ◌<◌, ◌^◌, Some, IfOk, IfSome, List, OnOk, slice_get};
 ghost use Rattle.wire_base.specs.declared.view.ViewNode.{ViewNode};
 ghost use Rattle.wire_base.specs.model.Configuration.{IsSound};

@@ -11,7 +11,7 @@ use Rattle.bier_hop.specs.declared.out.Out.TheVariants.{Local, Copy, Dropped}
 use Rattle.bier_hop.specs.declared.out.Why.{Why}
 use Rattle.bier_hop.specs.declared.out.Why.TheVariants.{NoRow, Ttl}
 
--- A packet on its way through a router: its table, its own position, the positions that are left, and the packet's TTL.
+-- A packet being forwarded by a router: its table, its own position, the positions that are left, and the packet's TTL.
 pub record HopState : Type 0 where
   pub table : List (Option First)
   pub own : Option ℕ

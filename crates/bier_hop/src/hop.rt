@@ -15,7 +15,7 @@ use std::mem;
 use std::sync::ledger::Ledger;
 use wire_base::{First, Steps};
 
-/// A packet on its way through one router, seen as the router's table, its own position, the positions that are not yet
+/// A packet being forwarded by one router, seen as the router's table, its own position, the positions that are not yet
 /// given and the packet's TTL.
 ///
 /// Of the positions that are left none below `from` has a row, so a hop looks at each word of the packet about once.

@@ -10,10 +10,11 @@ ghost use Rattle.bier_subtlv.specs.Views.{Becomes, info_of, parts_view};
 use arrayvec::ArrayVec;
 use byteorder::{BigEndian, ByteOrder};
 use isis_tlv::{Tlv, TlvWalk};
+use wire_base::codepoints::SUB_SUB_TLV_BIER_MPLS;
 use wire_base::limits::LAST_LABEL;
 use wire_base::{Bsl, InfoFault, LabelRange};
 
-/// What a BIER Info says: a subdomain, the BFR-id of the advertising router there, and its label ranges, at most one
+/// What a BIER Info says: a sub-domain, the BFR-id of the advertising router there, and its label ranges, at most one
 /// for each length of bit strings (RFC 8401, 6.1 and 6.2).
 #[derive(Drop)]
 pub struct Info {
@@ -69,7 +70,7 @@ fn part(parts: &mut PartsSoFar, tlv: Tlv<'_>) -> Result<(), InfoFault>
     ensures next { Becomes result (parts_view parts.new) (take_part (parts_view parts.old) (item tlv.entry)) }
     ensures room { length parts.new.ranges.items ≤ count_by (λ b. b) parts.new.seen }
 {
-    if tlv.code != 1 {
+    if tlv.code != SUB_SUB_TLV_BIER_MPLS {
         return Ok(());
     }
     if tlv.value.len() != 4 {

@@ -7,6 +7,7 @@ ghost use Rattle.bier_subtlv.specs.Views.{own_of};
 
 use arrayvec::ArrayVec;
 use isis_tlv::fixed::put;
+use wire_base::codepoints::{SUB_SUB_TLV_BIER_MPLS, SUB_TLV_BIER_INFO};
 use wire_base::{LabelRange, M, Octets, OwnSub};
 
 fn word_of(r: &LabelRange) -> u32
@@ -22,7 +23,7 @@ fn put_range(value: &mut ArrayVec<u8, 47>, r: &LabelRange)
     ensures items { value.new.items ≡ value.old.items ++ range r.now }
     ensures len { array_vec_len value.new ≡ array_vec_len value.old + 6 }
 {
-    put(value, &[1, 4]);
+    put(value, &[SUB_SUB_TLV_BIER_MPLS, 4]);
     put(value, &word_of(r).to_be_bytes());
 }
 
@@ -45,10 +46,10 @@ fn append_info(out: &mut Octets, s: &OwnSub) -> M<()>
     ensures err { OnErr result (out.new ≡ out.old) }
 {
     let value = info_octets(s);
-    out.append_two(&[32, value.len() as u8], value.as_slice())
+    out.append_two(&[SUB_TLV_BIER_INFO, value.len() as u8], value.as_slice())
 }
 
-/// Appends a sub-TLV 32 with the BIER Info of a subdomain (RFC 8401, 6.1 and 6.2).
+/// Appends a sub-TLV 32 with the BIER Info of a sub-domain (RFC 8401, 6.1 and 6.2).
 pub fn push_info(out: &mut Octets, s: &OwnSub) -> M<()>
     requires { InfoFits (own_of s.now) }
     ensures ok { OnOk result (out.new ≡ out.old ++ tlv (info_tlv (own_of s.now))) }

@@ -52,7 +52,7 @@ way_of (w ∷ ws) s = if is_system w.system s then Some w else way_of ws s
 abbrev pub link_to : List Way → SystemId → Option ℕ
 link_to kept s = option_and_then (λ w. w.link) (way_of kept s)
 
--- the prefix in a subdomain
+-- the prefix in a sub-domain
 abbrev pub prefix_in : List SubPrefix → ℕ → Option Ipv4
 prefix_in [] sd = None
 prefix_in (p ∷ ps) sd = if p.sd == sd then Some p.prefix else prefix_in ps sd

@@ -70,7 +70,7 @@ impl Fib {
         self.link_to(target)
     }
 
-    /// The BFR-prefix of a router in a subdomain. None exactly where the view gives it none.
+    /// The BFR-prefix of a router in a sub-domain. None exactly where the view gives it none.
     pub fn prefix_of(&self, target: SystemId, sd: u8) -> Option<Ipv4>
         ensures kept { result ≡ prefix_to self.now target sd }
         ensures prefix { (r : RouterConf) (g : List ViewNode) (u : ℕ) → AreWays r g u self.now
@@ -105,7 +105,7 @@ impl Fib {
         self.way_of(target)?.link
     }
 
-    /// The prefix of a router in a subdomain.
+    /// The prefix of a router in a sub-domain.
     fn prefix_to(&self, target: SystemId, sd: u8) -> Option<Ipv4>
         ensures { result ≡ prefix_to self.now target sd }
     {

@@ -10,4 +10,4 @@ mod ways;
 
 pub use fib::Fib;
 pub use laws::tunnel_ways;
-pub use next::Next;
+pub use next::{Next, next_of};

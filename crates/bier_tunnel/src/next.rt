@@ -18,8 +18,9 @@ pub enum Next {
     Route,
 }
 
-/// What a router with that BFR-prefix does with the packet, where `link` is the way on to the packet's destination.
-pub(crate) fn next_of(own: Ipv4, t: &Tunnel, link: Option<u16>) -> Next
+/// What a router with that BFR-prefix does with the packet, where `link` leads to the packet's destination: the one place that
+/// decides of a tunnel's outer TTL (RFC 2784; RFC 1812, 5.3.1).
+pub fn next_of(own: Ipv4, t: &Tunnel, link: Option<u16>) -> Next
     ensures { result ≡ next_of own t.now link }
 {
     if t.dst == own {

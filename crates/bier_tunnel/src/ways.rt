@@ -6,7 +6,7 @@ ghost use Rattle.bier_tunnel.specs.Ways.{end_of, has_prefix, own_prefix, prefix_
 use std::alloc::Global;
 use wire_base::{End, Ipv4, M, Rows, SystemId, ViewNode, ViewSub, end_toward};
 
-/// A BFR-prefix, and the subdomain in which a router advertises it.
+/// A BFR-prefix, and the sub-domain in which a router advertises it.
 #[derive(Clone, Copy, Debug, PartialEq, Eq)]
 pub struct SubPrefix {
     pub sd: u8,
@@ -65,7 +65,7 @@ fn prefixes_of(alloc: Global, subs: &[ViewSub]) -> M<Rows<SubPrefix>>
     Ok(prefixes)
 }
 
-/// The prefix in a subdomain.
+/// The prefix in a sub-domain.
 pub(crate) fn prefix_in(prefixes: &[SubPrefix], sd: u8) -> Option<Ipv4>
     ensures { result ≡ prefix_in prefixes.now sd }
 {

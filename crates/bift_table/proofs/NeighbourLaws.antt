@@ -1,4 +1,4 @@
--- Neighbours with their masks, and the number of each position's one, stand for a table.
+-- Neighbors with their masks, and the number of each position's one, stand for a table.
 use Rattle.std.proofs.Common.{◌≡◌, ℕ, zero, suc, ◌+◌, ◌-◌, ◌<◌, ◌≤◌, ◌||◌, ◌++◌, Bool, true, false, List, [], ◌∷◌, length, get_or, set, take, drop, map, cond, Option, Some, None, option_map, is_some, refl, sym, ap, ◌∙◌, arith, subst, inl, inr}
 use Rattle.std.specs.List.{AllByRecursion, list_any, slice_get}
 use Rattle.std.proofs.lemmas.Bool.{cases_Bool, cases_lt, true≢false}
@@ -23,7 +23,7 @@ same_router-swap a b = elim (cases_Bool (same_router a b)) [
   ]
 ]
 
--- whether a router has a neighbour
+-- whether a router has a neighbor
 abbrev pub is_known : {w : ℕ} → First → List (Neighbour w) → Bool
 is_known to ns = list_any (λ n. same_router n.to to) ns
 
@@ -82,7 +82,7 @@ given-new {w} (m ∷ ns) to p none = elim (cases_Bool (same_router m.to to)) [
 abbrev pub MasksTo : {w : ℕ} → List (Option First) → ℕ → List (Neighbour w) → Type 0
 MasksTo table k ns = AllByRecursion (λ n. n.mask ≡ chosen (λ p. leads_to (router_at table p) n.to) k) ns
 
--- no router has two neighbours
+-- no router has two neighbors
 abbrev pub AreApart : {w : ℕ} → List (Neighbour w) → Type 0
 AreApart [] = Unit {0}
 AreApart (n ∷ ns) = (is_known n.to ns ≡ false) × AreApart ns
@@ -184,7 +184,7 @@ known-some table k m to ns step is known p f le q = elim (cases_lt k p) [
     or_true true = refl
     or_true false = refl
 
--- a router without a neighbour has no position so far
+-- a router without a neighbor has no position so far
 fresh-none : {w : ℕ} (table : List (Option First)) (k : ℕ) (to : First) (ns : List (Neighbour w)) → AreKnown table k ns → is_known to ns ≡ false → chosen (λ p. leads_to (router_at table p) to) k ≡ []
 fresh-none table k to ns known none = filter-is k (λ p. leads_to (router_at table p) to) [] tt (λ p low high. sym (on p high (router_at table p) refl))
   where

@@ -1,4 +1,4 @@
--- How neighbours with their masks, and for each position the number of its neighbour, stand for a table.
+-- How neighbors with their masks, and for each position the number of its neighbor, stand for a table.
 use Rattle.std.specs.Prelude.{ℕ, suc, ◌≡◌, List, [], ◌∷◌, length, map, Option, Some, None, option_map, if◌then◌else◌}
 use Rattle.std.specs.List.{AllByRecursion, slice_get}
 use Rattle.wire_base.specs.declared.view.First.{First}
@@ -42,12 +42,12 @@ pub record IsTable {w : ℕ} (size : ℕ) (ns : List (Neighbour w)) (firsts : Li
 
 -- ---- one position more
 
--- the number of a router's neighbour, or the next one
+-- the number of a router's neighbor, or the next one
 abbrev pub number_in : {w : ℕ} → First → List (Neighbour w) → ℕ
 number_in to [] = 0
 number_in to (n ∷ ns) = if same_router n.to to then 0 else suc (number_in to ns)
 
--- the neighbours once a position is given to a router
+-- the neighbors once a position is given to a router
 abbrev pub given : {w : ℕ} → First → ℕ → List (Neighbour w) → List (Neighbour w)
 given to p [] = record { to = to; mask = p ∷ [] } ∷ []
 given to p (n ∷ ns) = if same_router n.to to then record { to = n.to; mask = with_member p n.mask } ∷ ns else n ∷ given to p ns

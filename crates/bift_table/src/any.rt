@@ -25,7 +25,7 @@ pub enum AnyTable {
 impl AnyTable {
     /// The table of a class, below 16, over positions of that length: at each position the router at the place `class` modulo
     /// the size of the position's list, and no row where the list is empty (RFC 8279, 6.7). `rows` has a list for each bit of
-    /// the length. Memory where memory is refused.
+    /// the length. Memory where memory runs out.
     pub fn build(alloc: Global, bsl: Bsl, rows: &RowSet, class: u8) -> M<AnyTable>
         requires lists { length rows.now.bits ≡ bits_of bsl }
         requires class { class < 16 }

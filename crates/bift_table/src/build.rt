@@ -8,7 +8,7 @@ use bier_bits::BitString;
 use std::alloc::Global;
 use wire_base::{First, FirstList, M};
 
-// The neighbours of the positions so far, each once, for each position the number of its neighbour, and the positions that
+// The neighbors of the positions so far, each once, for each position the number of its neighbor, and the positions that
 // have one.
 #[derive(Drop)]
 pub struct Drawn<const W: usize> {

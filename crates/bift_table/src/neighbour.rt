@@ -15,7 +15,7 @@ pub struct Neighbour<const W: usize> {
     pub mask: BitString<W>,
 }
 
-// The routers of neighbours.
+// The routers of neighbors.
 pub fn routers_of<const W: usize>(alloc: Global, neighbours: &[Neighbour<W>]) -> M<Vec<First>>
     ensures { IfOk result (λ routers. routers.items ≡ map (λ n. n.to) neighbours.now) }
 {
@@ -26,7 +26,7 @@ pub fn routers_of<const W: usize>(alloc: Global, neighbours: &[Neighbour<W>]) ->
     Ok(routers)
 }
 
-// Gives a position to a router: to its neighbour, or to a new one where it has none yet. Answers the neighbour's number.
+// Gives a position to a router: to its neighbor, or to a new one where it has none yet. Answers the neighbor's number.
 pub fn give<const W: usize>(neighbours: &mut Vec<Neighbour<W>>, to: First, bp: u16) -> M<u16>
     requires width { IsTrue (is_width W) }
     requires low { 1 ≤ bp }
@@ -46,7 +46,7 @@ pub fn give<const W: usize>(neighbours: &mut Vec<Neighbour<W>>, to: First, bp: u
     Ok(number)
 }
 
-// The number of a router's neighbour, where it has one.
+// The number of a router's neighbor, where it has one.
 fn find_number<const W: usize>(neighbours: &[Neighbour<W>], to: First) -> Option<usize>
     ensures { MatchOption result (list_any (λ n. same_router n.to to) neighbours.now ≡ false) (λ number. (list_any (λ n. same_router n.to to) neighbours.now ≡ true) × (number ≡ number_in to neighbours.now) × (number < length neighbours.now)) }
 {

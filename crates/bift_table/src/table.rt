@@ -16,8 +16,8 @@ use wire_base::{First, M, RowSet, Steps};
 /// A bit index forwarding table of 64 W bit positions (RFC 8279, 6.4), seen as the list of the routers of its positions,
 /// from position 1 on: None where a position has no row. W is 1, 2, 4, 8, 16, 32 or 64.
 ///
-/// It holds each router once, as a neighbour with the mask of the positions that lead to it, and for each position the
-/// number of its neighbour, so that a row is read in one step. The routers also stand in a list of their own, which a hop
+/// It holds each router once, as a neighbor with the mask of the positions that lead to it, and for each position the
+/// number of its neighbor, so that a row is read in one step. The routers also stand in a list of their own, which a hop
 /// can hold on to for as long as the table lasts.
 #[derive(Drop)]
 pub struct Table<const W: usize> {
@@ -51,7 +51,7 @@ pub struct Row<'t, const W: usize> {
 
 impl<const W: usize> Table<W> {
     /// The table of a class, below 16: at each position the router at the place `class` modulo the size of the position's
-    /// list, and no row where the list is empty (RFC 8279, 6.7). `rows` has 64 W lists. Memory where memory is refused.
+    /// list, and no row where the list is empty (RFC 8279, 6.7). `rows` has 64 W lists. Memory where memory runs out.
     pub fn build(alloc: Global, rows: &RowSet, class: u8) -> M<Self>
         requires width { IsTrue (is_width W) }
         requires lists { length rows.now.bits ≡ 64 * W }

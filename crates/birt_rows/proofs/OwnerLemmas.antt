@@ -120,7 +120,7 @@ position-within t id p q =
           ]
     ]
 
--- where the subdomains differ, an id is the one of the first entry of the subdomain
+-- where the sub-domains differ, an id is the one of the first entry of the sub-domain
 is_id : Option ViewSub → ℕ → Bool
 is_id None k = false
 is_id (Some s) k = s.id == k

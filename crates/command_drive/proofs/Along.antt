@@ -83,7 +83,7 @@ module _ {T C R : Type 0} (c : sink.Ghosts C) (r : sink.Ghosts R) where
         owed = λ items behind. m.owed items behind ∙ ap (told m.report_part m.frames_part) (n.owed items behind) ∙ told-told m.report_part m.frames_part n.report_part n.frames_part (three items behind);
       }
 
-  -- something was told
+  -- something was reported
   pub moves_told : (old new : Owed T) (texts texts_now : Texts) (frames : C) (report : R) → Told old new texts texts_now → Moves c r (total texts old) (total texts_now new) frames frames report report
   moves_told old new texts texts_now frames report t =
       record {

@@ -263,7 +263,7 @@ pub chunk_less : (room count held held_now room_now : ℕ) (short : Bool) → co
 chunk_less room count held held_now room_now true some room_is held_is less = omega (arith, some, room_is, held_is, less refl)
 chunk_less room count held held_now room_now false some room_is held_is less = omega (arith, some, room_is, held_is)
 
--- ---- a reader on its way to the next line
+-- ---- a reader between records to the next line
 
 module _ (left left_now : Option (List ℕ)) (reads : End → List ℕ → Reads (List ℕ)) (line unread unread_now line_now : List ℕ) (room : ℕ) (over : Bool) (seeks : Seeks left left_now reads (lines_read (line ++ unread) room over)) (plain : HasNoEnd line) where
   -- the line was found

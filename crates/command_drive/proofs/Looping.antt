@@ -18,7 +18,7 @@ use Rattle.command_drive.specs.Doing.{Owed, Concludes, told, nothing_more}
 use Rattle.command_drive.specs.Driving.{Meaning, meaning, SinksQuiet, OneRose, Fronted, total, Moves, Owing, Begun, Fronts, StopsFor, Drives, EndsDecided, EndsCut, Stops}
 use Rattle.command_drive.proofs.Along.{told-told, held_past, front_past, front_more, moves_end, quiet_none, quiet_on}
 
--- The items of what was taken were done, and fronts of both texts were written: whatever follows, what it means is those and what is still owed.
+-- The items of what was taken were done, and prefixes of both outputs were written: whatever follows, what it means is those and what is still owed.
 pub record OnWay {T S C R : Type 0} (s : source.Ghosts S) (c : sink.Ghosts C) (r : sink.Ghosts R) (means : Meaning) (reads : End → List ℕ → Reads T) (owed : Owed T)
     (input_old input_new : S) (frames_old frames_new : C) (report_old report_new : R) : Type 0 where
   pub taken : List ℕ

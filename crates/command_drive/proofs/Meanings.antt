@@ -11,7 +11,7 @@ use Rattle.command_drive.specs.Reading.{End, Ends, Fails, Reads}
 use Rattle.command_drive.specs.Doing.{Owed, Told, told}
 use Rattle.command_drive.specs.Driving.{Meaning, meaning, Drives}
 
--- nothing was told
+-- nothing was reported
 pub told_none : {T : Type 0} (owed : Owed T) (texts : Texts) → Told owed owed texts texts
 told_none owed texts = record {
   report = [];

@@ -20,7 +20,7 @@ nothing_more = record { status = status.ReadFault; report = []; frames = [] }
 abbrev pub Owed : Type 0 → Type 0
 Owed T = List T → Behind → Verdict
 
--- Something was told, and what was owed before is that and what is owed now.
+-- Something was reported, and what was owed before is that and what is owed now.
 pub record Told {T : Type 0} (old new : Owed T) (texts texts_now : Texts) : Type 0 where
   pub report : List ℕ
   pub frames : List ℕ

@@ -109,7 +109,7 @@ abbrev pub Fronts : {T C R : Type 0} → sink.Ghosts C → sink.Ghosts R → Owe
 Fronts {T} c r owed frames_old frames_new report_old report_new =
     (items : List T) (behind : Behind) → AppendsFronts (owed items behind) (r.written report_old) (r.written report_new) (c.written frames_old) (c.written frames_new)
 
--- A run stopped at a fault of a sink, or for want of memory.
+-- A run stopped at a write error, or out of memory.
 abbrev pub StopsFor : {C R : Type 0} → Status → sink.Ghosts C → sink.Ghosts R → (frames_old frames_new : C) → (report_old report_new : R) → Type 0
 StopsFor why c r frames_old frames_new report_old report_new =
     ((why ≡ WriteFault) × OneRose c r frames_old frames_new report_old report_new) ⊎ ((why ≡ Memory) × SinksQuiet c r frames_old frames_new report_old report_new)
@@ -135,7 +135,7 @@ pub record Drives {S C R : Type 0} (s : source.Ghosts S) (c : sink.Ghosts C) (r 
   -- Behind a failed source, what is whole in what was taken is done and told.
   pub stopped : ended ≡ ReadFault → (octets : List ℕ) × Consumes (s.left input_old) (s.left input_new) octets
       × Meets (means Fails octets) ended (r.written report_old) (r.written report_new) (c.written frames_old) (c.written frames_new)
-  -- At a fault of a sink, and at want of memory, a front of each text is written.
+  -- At a write error, and on out of memory, a prefix of each output is written.
   pub front : (ended ≡ WriteFault) ⊎ (ended ≡ Memory) → (octets : List ℕ) × Held (s.left input_old) octets
       × AppendsFronts (means Ends octets) (r.written report_old) (r.written report_new) (c.written frames_old) (c.written frames_new)
 

@@ -24,6 +24,6 @@ pub record Meets (owed : Verdict) (ended : Status) (report_before report_now fra
   pub report : Appends report_before report_now owed.report
   pub frames : Appends frames_before frames_now owed.frames
 
--- a front of each text of a verdict was written
+-- a prefix of each output of a verdict was written
 abbrev pub AppendsFronts : Verdict → (report report_now frames frames_now : Option (List ℕ)) → Type 0
 AppendsFronts owed report report_now frames frames_now = AppendsFront report report_now owed.report × AppendsFront frames frames_now owed.frames

@@ -41,7 +41,7 @@ fn refuse(out: &mut Octets, number: u64, rule: u8, name: &[u8]) -> M<Status>
     Ok(Status::CaptureRefused)
 }
 
-/// Ends a report at a fault of the capture, with so many records done.
+/// Ends a report at an error in the capture, with so many records done.
 pub fn refuse_by(out: &mut Octets, records: u64, why: CaptureFault) -> M<Status>
     requires { records < 2 ^ 63 }
     ensures { IfOk result (λ ended. (ended, out.new) ≡ behind out.old (captured.refused_by records why)) }

@@ -1,4 +1,4 @@
--- Written rows as a forwarding table: each name is a neighbour with a number.
+-- Written rows as a forwarding table: each name is a neighbor with a number.
 use Rattle.std.specs.Prelude.{ℕ, suc, ◌≡◌, ◌≤◌, ◌/◌, ◌%◌, Bool, true, List, [], ◌∷◌, ◌++◌, slice_index_or, Option, Some, None, option_map, unwrap_or, if◌then◌else◌}
 use Rattle.std.specs.List.{list_any, flat_map}
 use Rattle.std.specs.Str.{bytes_eq}
@@ -27,7 +27,7 @@ abbrev pub number_in : List (List ℕ) → List ℕ → ℕ
 number_in [] name = 0
 number_in (other ∷ names) name = if bytes_eq other name then 0 else suc (number_in names name)
 
--- the neighbour with a number, which its system and its end tell
+-- the neighbor with a number, which its system and its end tell
 abbrev pub neighbour : ℕ → First
 neighbour n = record { system = record { 0 = 0 ∷ 0 ∷ 0 ∷ 0 ∷ n / 256 ∷ n % 256 ∷ [] }; direct = Some n }
 
@@ -77,11 +77,11 @@ pub record IsLinked (rows : List HopRow) (names : List (List ℕ)) (table : List
   pub router : router_at table p ≡ leading names (name_of rows p)
   pub known : IsKnown names (name_of rows p)
 
--- each router of a table is a neighbour with a number
+-- each router of a table is a neighbor with a number
 abbrev pub AreNumbered : List (Option First) → Type 0
 AreNumbered table = (p : ℕ) (first : First) → router_at table p ≡ Some first → first ≡ neighbour (number_of first)
 
--- the number of the neighbour to which a position leads
+-- the number of the neighbor to which a position leads
 abbrev pub chosen : List (Option First) → ℕ → Option ℕ
 chosen table p = option_map number_of (router_at table p)
 

@@ -32,7 +32,7 @@ fn begin_line(out: &mut Octets, line: u64, what: &[u8]) -> M<()>
     out.append(what)
 }
 
-/// The name of a neighbour.
+/// The name of a neighbor.
 fn name_of<'n>(names: &'n [Name], to: &First) -> &'n [u8]
     ensures { result.now ≡ name_at names.now (number_of to.now) }
 {

@@ -1,4 +1,4 @@
-//! The forwarding table of written rows: each different name is a neighbour with a number.
+//! The forwarding table of written rows: each different name is a neighbor with a number.
 ghost use Rattle.std.specs.Prelude.{◌≡◌, ◌≤◌, ◌<◌, ◌+◌, ◌-◌, ◌++◌, ℕ, List, [], length, true, false, IfOk, MatchOption, slice_index_or, option_map};
 ghost use Rattle.std.specs.Str.{bytes_eq};
 ghost use Rattle.wire_base.specs.model.Place.{bits_of};
@@ -40,7 +40,7 @@ impl AnyTable {
     }
 }
 
-/// The neighbours' names, each at its number, and the table.
+/// The neighbors' names, each at its number, and the table.
 #[derive(Drop)]
 pub(crate) struct Ways {
     pub names: Rows<Name>,
@@ -87,7 +87,7 @@ fn number_for(alloc: Global, names: &mut Rows<Name>, text: &[u8]) -> M<u16>
     Ok(n)
 }
 
-/// The neighbour with a number.
+/// The neighbor with a number.
 fn neighbour(n: u16) -> First
     ensures { result ≡ spec.neighbour n }
 {
@@ -144,7 +144,7 @@ fn table_of(alloc: Global, rows: &RowSet, bsl: Bsl) -> M<AnyTable>
     })
 }
 
-/// The table of rows, for packets of a length. The neighbours are numbered in the order of their least positions.
+/// The table of rows, for packets of a length. The neighbors are numbered in the order of their least positions.
 pub(crate) fn ways_of(alloc: Global, rows: &[HopRow], bsl: Bsl) -> M<Ways>
     ensures ways { IfOk result (λ ways. spec.AreWays rows.now ways) }
     ensures bsl { IfOk result (λ ways. spec.length_of ways.table ≡ bsl) }

@@ -45,7 +45,7 @@ told_told a b f g v =
     let frames = sym (append_assoc f g v.frames) in
     λ i. record { status = v.status; report = report i; frames = frames i }
 
--- what is told is its texts, and the state behind it
+-- what is reported is its texts, and the state behind it
 apart : (t : Telling) → t ≡ past t.frames t.report (unsaid (state_of t))
 apart t =
     let report = sym (append-nil t.report) in

@@ -1,5 +1,5 @@
 //! The one call that reads a domain file.
-ghost use Rattle.std.specs.Prelude.{◌≤◌, codes, length, map};
+ghost use Rattle.std.specs.Prelude.{◌≡◌, ◌≤◌, codes, length, map};
 ghost use Rattle.std.specs.List.{AllByRecursion};
 ghost use Rattle.toml.specs.Data.{get_member};
 ghost use Rattle.toml.specs.View.{table_view};
@@ -8,6 +8,7 @@ ghost use Rattle.domain_conf.specs.Domain.{document_read, domain_of, domain_of_t
 ghost use Rattle.domain_conf.specs.Fields.{keys_of, unknown_in, refuse_key};
 ghost use Rattle.domain_conf.specs.Reading.{Gives};
 ghost use Rattle.domain_conf.specs.Views.{arrays_view, domain_view};
+ghost use Rattle.wire_base.specs.model.Configuration.{DomainConf, IsValid};
 
 use crate::arrays::{Arrays, arrays_of, member};
 use crate::assemble::{Entries, confs_of, links_of};
@@ -176,9 +177,10 @@ fn read_parts(alloc: Global, bytes: &[u8]) -> Result<Parts, ConfFault>
     parts_of(alloc, &top)
 }
 
-/// The domain that a file says, or the first rule that it breaks.
+/// The domain that a file says, or the first rule that it breaks. No file says a domain that isn't valid.
 pub fn read_domain(alloc: Global, bytes: &[u8]) -> Result<Domain, ConfFault>
-    ensures { Gives (λ d. d) result (domain_of bytes.now) }
+    ensures domain { Gives (λ d. d) result (domain_of bytes.now) }
+    ensures valid { (d : DomainConf) → domain_of bytes.now ≡ Ok d → IsValid d }
 {
     let Parts { routers, links } = read_parts(alloc, bytes)?;
     Ok(Domain { routers, links })

@@ -1,4 +1,4 @@
--- The BFR-ids of frames on their way are those of their items.
+-- The BFR-ids of frames in flight are those of their items.
 use Rattle.std.proofs.Common.{◌≡◌, ℕ, ◌+◌, List, [], ◌∷◌, map, sum_by, refl, sym, ap, ◌∙◌}
 use Rattle.std.proofs.lemmas.List.Sums.{sum_by-cons}
 use Rattle.wire_base.specs.declared.conf.RouterConf.{RouterConf}

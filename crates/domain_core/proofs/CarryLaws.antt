@@ -1,4 +1,4 @@
--- What a router did on octets, put on its way, is what happens in the world.
+-- What a router did on octets, queued, is what happens in the world.
 use Rattle.std.proofs.Common.{◌≡◌, ◌⊎◌, inl, inr, ℕ, zero, suc, ◌+◌, ◌<◌, ◌≤◌, true, List, [], ◌∷◌, length, map, slice_get, slice_set, Option, Some, None, option_map, refl, sym, ap, subst, ◌∙◌}
 use Rattle.std.proofs.lemmas.Option.{same_Some}
 use Rattle.wire_base.specs.declared.limits.TheConstants.{MOST_FRAME}
@@ -44,7 +44,7 @@ set_same {X} (y ∷ ys) (suc i) x h = ap (λ (zs : List X). y ∷ zs) (set_same 
 -- ---- the world afterwards
 
 module _ (n : NetworkState) (a : ℕ) (r : RouterState) (at : slice_get n.routers a ≡ Some r) (i : ℕ) (same : i ≡ a) (next : RouterState) where
-  -- a router has turned, and what it sent is on its way
+  -- a router has turned, and what it sent is in flight
   pub carried_world : (flights : List (List (List Flight))) (c : Control) (m : Made) (h : Happened) → next.control ≡ c → items_seen n.domain.routers flights ≡ push_all (items_seen n.domain.routers n.flights) m.sent → h ≡ makes (with_router (world_of n) a c) m
       → world_of (record n { routers = slice_set n.routers i next; flights = flights }) ≡ h.world
   carried_world flights c m h is seen happened =
@@ -52,7 +52,7 @@ module _ (n : NetworkState) (a : ℕ) (r : RouterState) (at : slice_get n.router
       ∙ ap (λ (xs : List (List (List Item))). record (with_router (world_of n) a c) { flights = xs }) seen
       ∙ sym (ap (λ (x : Happened). x.world) happened)
 
-  -- it has taken a frame, and is as it was
+  -- it has taken a frame, and is unchanged
   pub still_world : next.control ≡ r.control → world_of (record n { routers = slice_set n.routers i next }) ≡ world_of n
   still_world is =
       turned_world n a r at i next r.control same is
@@ -118,7 +118,7 @@ module _ (n : NetworkState) (t : IsTrueNetwork n) (a b link back i : ℕ) (r : R
   true_reply : (p : Pdu) → IsTruePdu n.domain.routers p → IsTrueReply n.domain.routers r.control (on_pdu r.control back p)
   true_reply p says = on_pdu_true n.domain.routers t.truth.valid.few t.truth.valid.sound r.control state.among state.kept.control.links (control_truth.state_of n.domain.routers r.control state) back p says
 
-  -- What a frame does at an end that is up. Where anything is to be told or sent, the router is as it was.
+  -- What a frame does at an end that is up. Where anything is to be told or sent, the router is unchanged.
   pub record IsArrival (next : Control) (e : Effects) : Type 0 where
     pub made : Made
     pub happened : arrives gone b back r.control (item_seen n.domain.routers f) ≡ makes (with_router gone b next) made
@@ -174,7 +174,7 @@ module _ (n : NetworkState) (t : IsTrueNetwork n) (a b link back i : ℕ) (r : R
         by None is = pdu_arrival is
         by (Some note) is = packet_arrival note is
 
-  -- where an answer isn't told or sent, the router is as it was
+  -- where an answer isn't told or sent, the router is unchanged
   pub unmoved : (next : Control) (e : Effects) → ◌≡◌ {A = Next} (record { control = next; effects = e }) (on_frame r.control back f.octets) → (IsSilent e → ⊥) → next ≡ r.control
   unmoved next e done tells = elim ((arrival next e done).still) [ inl silent ↦ absurd (tells silent) | inr same ↦ same ]
 
@@ -194,7 +194,7 @@ module _ (n : NetworkState) (t : IsTrueNetwork n) (a b link back i : ℕ) (r : R
     pub left_world : world_of (record n { flights = flights }) ≡ gone
     left_world = gone_world n flights a link i left
 
-    -- and what the router sent because of it is on its way
+    -- and what the router sent because of it is in flight
     pub record IsTaken (routers : List RouterState) (sent : List (List (List Flight))) (out : StepOut) : Type 0 where
       pub world : world_of (record n { routers = routers; flights = sent }) ≡ (takes_over (world_of n) a b i (link_between n.domain.routers a b) (link_between n.domain.routers b a)).world
       pub frames : AreFramesOver n.domain.routers sent

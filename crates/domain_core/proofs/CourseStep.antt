@@ -65,7 +65,7 @@ step_course (Ok out) w v t e fits allowed next is =
     subst (λ (z : WorldState). KeepsCourse w z e out) (sym next) (subst (λ (o : StepOut). KeepsCourse w (happens w e).world e o) (sym is) (event_course w t e fits allowed))
 step_course (Err f) w v t e fits refused next is = tt
 
--- the same of an answer that isn't made where nothing is told
+-- the same of an answer that isn't made where nothing is reported
 pub over_course : (result : Result (Option StepOut) EventFault) (w v : WorldState) → IsTruthful w → (e : Event) → EventFits (length w.domain.routers) e
     → MatchResult result (λ _. event_fault w e ≡ None) (λ f. Refuses (event_fault w e) f) → OnOk result (v ≡ (happens w e).world) → IfOk result (λ out. outcome out ≡ told w.domain.routers (happens w e).made)
     → IfOk result (λ out. KeepsCourse w v e (outcome out))

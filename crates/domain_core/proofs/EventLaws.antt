@@ -76,7 +76,7 @@ early_is w e f h = by (nat_le most_events w.events) h
     by true k = k
     by false k = ruled_early w e f k
 
--- what is as it was is true still
+-- what is unchanged is true still
 pub still_true : (old new : Network) → state_of new ≡ state_of old → IsTrueNetwork (state_of old) → IsTrueNetwork (state_of new)
 still_true old new same true_before = subst IsTrueNetwork (sym same) true_before
 

@@ -1,4 +1,4 @@
--- What a router does on octets is told in the words of items, where each item that is sent is read off its frame again.
+-- What a router does on octets is reported in the words of items, where each item that is sent is read off its frame again.
 use Rattle.std.proofs.Common.{◌≡◌, ℕ, zero, suc, ◌<◌, Bool, true, false, List, [], ◌∷◌, length, map, slice_get, slice_index_or, Option, Some, refl, sym, ap, subst, ◌∙◌, arith}
 use mathlib.Core.Bool.{false≢true}
 use Rattle.std.specs.List.{AllByRecursion}

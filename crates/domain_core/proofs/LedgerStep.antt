@@ -35,7 +35,7 @@ step_keeps (Ok out) w v t e fits allowed next is =
     subst (λ (z : WorldState). KeepsLedger w z e out) (sym next) (subst (λ (o : StepOut). KeepsLedger w (happens w e).world e o) (sym is) (event_keeps w t e fits allowed))
 step_keeps (Err f) w v t e fits refused next is = tt
 
--- the same of an answer that isn't made where nothing is told
+-- the same of an answer that isn't made where nothing is reported
 pub over_keeps : (result : Result (Option StepOut) EventFault) (w v : WorldState) → IsTruthful w → (e : Event) → EventFits (length w.domain.routers) e
     → MatchResult result (λ _. event_fault w e ≡ None) (λ f. Refuses (event_fault w e) f) → OnOk result (v ≡ (happens w e).world) → IfOk result (λ out. outcome out ≡ told w.domain.routers (happens w e).made)
     → IfOk result (λ out. KeepsLedger w v e (outcome out))

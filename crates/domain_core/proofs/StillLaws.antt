@@ -1,4 +1,4 @@
--- Where flooding answers at once, the router stays as it was; so what it answers can be told and put on its way after that.
+-- Where flooding answers at once, the router is unchanged; so what it answers can be told and queued after that.
 use Rattle.std.proofs.Common.{◌≡◌, ◌⊎◌, inl, inr, ℕ, ◌==◌, ◌&&◌, Bool, List, [], ◌∷◌, map, None, if◌then◌else◌, refl, sym, ap, ◌∙◌}
 use Rattle.std.proofs.lemmas.Bool.{cond_both}
 use Rattle.wire_base.specs.declared.entry.Age.{Age}
@@ -6,7 +6,7 @@ use Rattle.wire_base.specs.declared.entry.Age.TheVariants.{Unknown, Newer, Equal
 use Rattle.wire_base.specs.declared.flood_out.FloodOut.{FloodOut}
 use Rattle.wire_base.specs.declared.flood_out.FloodOut.TheVariants as out
 use Rattle.wire_base.specs.model.Control.{Control, is_full, is_unknown, age_of, entry_in, purge}
-use Rattle.wire_base.specs.model.Flooding.{LspAnswer, Reply, only_says, puts_marked, stores, kept, lsp_aged, is_stray, is_own_ahead, lsp_in, lsp_done, on_lsp, on_pdu}
+use Rattle.wire_base.specs.model.Flooding.{LspAnswer, Reply, only_says, puts_marked, stores, kept, lsp_aged, is_unheld_own, is_own_ahead, lsp_in, lsp_done, on_lsp, on_pdu}
 use Rattle.wire_base.specs.model.OnFrame.{Effects}
 use Rattle.wire_base.specs.model.Pdu.{Head, head_summary, Pdu, LspPdu, CsnpPdu, PsnpPdu, HelloPdu, OtherPdu}
 use Rattle.wire_base.specs.declared.conf.RouterConf.{RouterConf}
@@ -43,14 +43,14 @@ module _ (c : Control) (link : ℕ) (h : Head) (tlvs : List ℕ) where
   strays age = if is_unknown age && is_full c.entries then only_says c.flood c.entries out.Full else puts_marked c.flood c.entries (purge h.id h.seq)
 
   rest : Bool → Age → LspAnswer
-  rest spent age = if is_stray c.flood h age then strays age else lsp_aged c.flood c.entries link h tlvs age
+  rest spent age = if is_unheld_own c.flood h age then strays age else lsp_aged c.flood c.entries link h tlvs age
 
   lsp_still : (spent : Bool) (age : Age) → Done (lsp_in c.flood c.entries link h tlvs spent age)
   unfolding strays rest
   lsp_still spent age =
       cond_both (h.seq == 0) (only_says c.flood c.entries out.Zero) (if is_own_ahead c.flood h.id spent age then only_says c.flood c.entries (out.Reissue h.seq) else rest spent age) Done (λ e. says out.Zero)
       (λ e. cond_both (is_own_ahead c.flood h.id spent age) (only_says c.flood c.entries (out.Reissue h.seq)) (rest spent age) Done (λ g. says (out.Reissue h.seq))
-      (λ g. cond_both (is_stray c.flood h age) (strays age) (lsp_aged c.flood c.entries link h tlvs age) Done
+      (λ g. cond_both (is_unheld_own c.flood h age) (strays age) (lsp_aged c.flood c.entries link h tlvs age) Done
       (λ k. cond_both (is_unknown age && is_full c.entries) (only_says c.flood c.entries out.Full) (puts_marked c.flood c.entries (purge h.id h.seq)) Done (λ l. says out.Full) (λ l. inl refl))
       (λ k. aged age)))
 

@@ -32,7 +32,7 @@ with_err (Err e) A B Q a b f = f a b
 pub router_there : (routers : List RouterState) (i a : ℕ) (r : RouterState) → i ≡ a → a < length routers → r ≡ slice_index_or routers i r → slice_get routers a ≡ Some r
 router_there routers i a r same within read = slice_get_read routers (length routers) a r refl within (read ∙ ap (λ (k : ℕ). slice_index_or routers k r) same)
 
--- nothing is told of it
+-- nothing is reported of it
 pub nothing_told : (confs : List RouterConf) (out : StepOut) (m : Made) → out ≡ record { sent = []; got = []; drops = [] } → m ≡ none_made → out ≡ told confs m
 nothing_told confs out m nothing none = nothing ∙ sym (ap (told confs) none)
 

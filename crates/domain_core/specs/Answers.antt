@@ -10,7 +10,7 @@ use Rattle.domain_model.specs.declared.step_out.StepOut.{StepOut}
 use Rattle.domain_model.specs.Faults.{most_events, first_fault, unless_room, rule_fault}
 use Rattle.domain_model.specs.World.{WorldState}
 
--- A refusal is the first reason that holds, or memory was refused.
+-- A refusal is the first reason that holds, or memory ran out.
 abbrev pub Refuses : Option EventFault → EventFault → Type 0
 Refuses first faults.Events = first ≡ Some faults.Events
 Refuses first faults.NoLink = first ≡ Some faults.NoLink
@@ -21,7 +21,7 @@ Refuses first faults.NotControl = first ≡ Some faults.NotControl
 Refuses first (faults.Edge fault) = first ≡ Some (faults.Edge fault)
 Refuses first faults.Memory = Unit {0}
 
--- a refusal for any other reason than memory leaves all as it was
+-- a refusal for any other reason than memory leaves everything unchanged
 abbrev pub Stays : Type 0 → EventFault → Type 0
 Stays same faults.Events = same
 Stays same faults.NoLink = same
@@ -56,7 +56,7 @@ entry_refused edge.NotBfr = faults.Edge edge.NotBfr
 entry_refused edge.BslUnknown = faults.Edge edge.BslUnknown
 entry_refused edge.Memory = faults.Memory
 
--- what an event is answered with; nothing, where nothing is told of it
+-- what an event is answered with; nothing, where nothing is reported of it
 abbrev pub outcome : Option StepOut → StepOut
 outcome None = record { sent = []; got = []; drops = [] }
 outcome (Some out) = out

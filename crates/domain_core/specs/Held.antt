@@ -23,7 +23,7 @@ state_of n =
 abbrev pub world_in : Network → WorldState
 world_in n = world_of (state_of n)
 
--- What happened in a world is what was done, in frames of its items, and what is told.
+-- What happened in a world is what was done, in frames of its items, and what is reported.
 pub record IsDone (old new : Network) (n : Happened) (out : StepOut) : Type 0 where
   pub world : world_in new ≡ n.world
   pub frames : AreFramesOver old.domain.routers new.flights

@@ -53,7 +53,7 @@ world_of n =
 abbrev pub seen_of : NetworkState → Seen
 seen_of n = record { world = world_of n; heard = map (λ r. r.heard) n.routers }
 
--- What a domain at work keeps: it is truthful, and each frame on its way is that of its item.
+-- What a domain at work keeps: it is truthful, and each frame in flight is that of its item.
 pub record IsTrueNetwork (n : NetworkState) : Type 0 where
   pub truth : IsTruthful (world_of n)
   pub frames : AreFramesOver n.domain.routers n.flights

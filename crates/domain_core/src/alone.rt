@@ -11,7 +11,7 @@ ghost use Rattle.domain_model.specs.World.{link_between};
 
 use crate::network::Network;
 use domain_model::{EventFault, StepOut};
-use frames_in_flight::{carry, confs_of};
+use frames_in_flight::{confs_of, queue_sent};
 use wire_base::{Bsl, EdgeFault, M};
 
 impl Network {
@@ -68,7 +68,7 @@ impl Network {
         Ok(StepOut::nothing(alloc))
     }
 
-    /// A router forgets its database.
+    /// A router forgets its LSDB.
     pub(crate) fn restart(&mut self, at: u16) -> M<StepOut>
         requires truth { IsTrueNetwork (state_of self.old) }
         requires place { at < length self.old.routers.items }
@@ -100,7 +100,7 @@ impl Network {
         if self.owes_nothing(from, link) {
             return Ok(StepOut::nothing(alloc));
         }
-        self.send_over(from, link, to)
+        self.send_on_link(from, link, to)
     }
 
     /// Whether a router owes nothing over an end, as most do most of the time: then nothing happens where it sends there.
@@ -112,9 +112,9 @@ impl Network {
         !self.routers[usize::from(from)].may_owe(link)
     }
 
-    /// A router sends what is due over the end `link`, which is up and leads there. It has sent that only once it is told and
-    /// on its way.
-    pub(crate) fn send_over(&mut self, from: u16, link: u16, to: u16) -> M<StepOut>
+    /// A router sends what is due over the end `link`, which is up and leads there. It has sent that only once it is reported and
+    /// in flight.
+    pub(crate) fn send_on_link(&mut self, from: u16, link: u16, to: u16) -> M<StepOut>
         requires truth { IsTrueNetwork (state_of self.old) }
         requires place { from < length self.old.routers.items }
         requires joined { link_between self.old.domain.routers from to ≡ Some link }
@@ -128,7 +128,7 @@ impl Network {
         let router = &mut self.routers[usize::from(from)];
         let effects = router.due(link)?;
         let known = Some((link, to));
-        let out = carry(&mut self.flights, confs, from, None, known, effects)?;
+        let out = queue_sent(&mut self.flights, confs, from, None, known, effects)?;
         router.sent(link);
         Ok(out)
     }
@@ -162,7 +162,7 @@ impl Network {
             Err(fault) => return Err(entry_refused(fault)),
         };
         let confs = confs_of(&self.domain);
-        let out = carry(&mut self.flights, confs, at, Some(number), None, effects)?;
+        let out = queue_sent(&mut self.flights, confs, at, Some(number), None, effects)?;
         self.injections = number;
         Ok(out)
     }

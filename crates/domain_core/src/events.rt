@@ -13,8 +13,8 @@ use domain_model::{EventFault, StepOut};
 use replay_text::Event;
 
 impl Network {
-    /// Does an event that its own rules allow, and counts it; or a router refuses it, or memory is refused.
-    pub(crate) fn carry_out(&mut self, event: &Event) -> Result<StepOut, EventFault>
+    /// Does an event that its own rules allow, and counts it; or a router refuses it, or memory runs out.
+    pub(crate) fn execute(&mut self, event: &Event) -> Result<StepOut, EventFault>
         requires truth { IsTrueNetwork (state_of self.old) }
         requires fits { EventFits (length self.old.domain.routers) event.now }
         requires allowed { early_fault (world_in self.old) event.now ≡ None }

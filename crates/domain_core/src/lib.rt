@@ -1,7 +1,7 @@
-//! A domain at work, as code: a `World` of routers and of frames on their way, whose every event does what the model of
+//! A domain at work, as code: a `World` of routers and of frames in flight, whose every event does what the model of
 //! `domain_model` says; above `router_core`, whose routers it has take the frames.
 //!
-//! It promises that a world's next state, what it sends, delivers and drops are the model's, and that its databases are truthful.
+//! It promises that a world's next state, what it sends, delivers and drops are the model's, and that its LSDBs are truthful.
 #![tactic(auto)]
 
 mod alone;

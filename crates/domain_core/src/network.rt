@@ -1,4 +1,4 @@
-//! The routers of a domain, and what is on its way between them.
+//! The routers of a domain, and what is in flight between them.
 ghost use Rattle.std.specs.Prelude.{◌≡◌, length, map, IfOk};
 ghost use Rattle.std.specs.List.{AllByRecursion};
 ghost use Rattle.wire_base.specs.model.Configuration.{IsSound};
@@ -11,7 +11,7 @@ use router_core::Router;
 use std::alloc::Global;
 use wire_base::{Domain, M, RouterConf};
 
-/// A domain at work: its routers by place, the frames on their way, how many injections were made, and how many events were
+/// A domain at work: its routers by place, the frames in flight, how many injections were made, and how many events were
 /// done.
 #[derive(Drop)]
 pub(crate) struct Network {
@@ -35,7 +35,7 @@ fn routers_of(alloc: Global, confs: &[RouterConf]) -> M<Vec<Router>>
 }
 
 impl Network {
-    /// Each router has just started, with all its ends up, and nothing is on its way.
+    /// Each router has just started, with all its ends up, and nothing is in flight.
     pub(crate) fn new(alloc: Global, domain: Domain) -> M<Network>
         ensures world { IfOk result (λ n. world_in n ≡ first_world domain) }
         ensures heard { IfOk result (λ n. heard_in n ≡ map (λ r. 0) domain.routers) }
@@ -64,14 +64,14 @@ impl Network {
         link_between(confs_of(&self.domain), from, to)
     }
 
-    /// How many frames are on their way over the end of a router.
+    /// How many frames are in flight over the end of a router.
     pub(crate) fn frames_over(&self, from: u16, link: u16) -> usize
         ensures { result ≡ length (queue_at (world_in self.now).flights from link) }
     {
         self.flights.len(from, link)
     }
 
-    /// How many frames are on their way from one router to another.
+    /// How many frames are in flight from one router to another.
     pub(crate) fn frames(&self, from: u16, to: u16) -> usize
         ensures { result ≡ length (frames_between (world_in self.now) from to) }
     {
@@ -81,7 +81,7 @@ impl Network {
         }
     }
 
-    /// How many BFR-ids are on their way.
+    /// How many BFR-ids are in flight.
     #[tactic(auto, using(crate::proofs::CarriedLaws::ids_are_carried))]
     pub(crate) fn ids_in_flight(&self) -> M<u64>
         ensures { IfOk result (λ count. count ≡ ids_in_flight (world_in self.now).flights) }

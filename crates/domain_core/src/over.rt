@@ -75,7 +75,7 @@ impl Network {
             self.events += 1;
             return Ok(None);
         }
-        let out = self.send_over(from, link, to)?;
+        let out = self.send_on_link(from, link, to)?;
         self.events += 1;
         Ok(Some(out))
     }
@@ -107,7 +107,7 @@ impl Network {
             return Err(fault);
         }
         // An answer is large: where there is none, nothing of it is moved.
-        match self.take_over(from, link, to, back, i) {
+        match self.take_on_link(from, link, to, back, i) {
             Ok(None) => {
                 self.events += 1;
                 Ok(None)

@@ -46,7 +46,7 @@ impl Network {
         }
     }
 
-    /// So much is on its way that nothing more may be sent.
+    /// So many frames are in flight that no more may be sent.
     #[tactic(auto, using(crate::proofs::SeenLaws::seen_count))]
     fn is_full(&self) -> bool
         ensures { result ≡ nat_le most_in_flight (in_flight (world_in self.now).flights) }

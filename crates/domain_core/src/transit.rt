@@ -10,7 +10,7 @@ ghost use Rattle.domain_model.specs.World.{link_between};
 use crate::network::Network;
 use crate::over::or_nothing;
 use domain_model::StepOut;
-use frames_in_flight::{carry_taken, confs_of, drop_flight, is_silent};
+use frames_in_flight::{confs_of, drop_flight, is_silent, queue_taken};
 use wire_base::{Cause, M, Octets};
 
 impl Network {
@@ -73,16 +73,16 @@ impl Network {
         let Some(back) = self.link(to, from) else {
             return Ok(StepOut::nothing(alloc));
         };
-        let taken = self.take_over(from, link, to, back, i)?;
+        let taken = self.take_on_link(from, link, to, back, i)?;
         Ok(or_nothing(alloc, taken))
     }
 
     /// A frame arrives that left over the end `link`, and comes to the end `back`. At an end that is up the router takes it,
-    /// and at one that is down the router drops it. Of most frames nothing is told.
+    /// and at one that is down the router drops it. Of most frames nothing is reported.
     ///
-    /// A router that answers a frame stays as it was, and of one that changes there is nothing to be told. So after the router
-    /// has taken a frame memory may still run out, and the world is as it was; the frame leaves its place only at last.
-    pub(crate) fn take_over(
+    /// A router that answers a frame is unchanged, and of one that changes there is nothing to be told. So after the router
+    /// has taken a frame memory may still run out, and the world is unchanged; the frame leaves its place only at last.
+    pub(crate) fn take_on_link(
         &mut self,
         from: u16,
         link: u16,
@@ -116,6 +116,6 @@ impl Network {
             return Ok(None);
         }
         let known = Some((back, from));
-        carry_taken(&mut self.flights, confs, from, link, i, to, known, effects)
+        queue_taken(&mut self.flights, confs, from, link, i, to, known, effects)
     }
 }

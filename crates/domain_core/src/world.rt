@@ -20,10 +20,10 @@ use std::alloc::Global;
 use std::marker::Model;
 use wire_base::{Domain, M};
 
-/// A domain at work: its routers, and the frames on their way between them. Contracts see the world that it is, with an item
+/// A domain at work: its routers, and the frames in flight between them. Contracts see the world that it is, with an item
 /// for each frame, and how many frames each router has taken.
 ///
-/// It keeps that the world is truthful, and that each frame on its way is that of its item.
+/// It keeps that the world is truthful, and that each frame in flight is that of its item.
 #[derive(Drop)]
 pub struct World {
     network: Network,
@@ -41,7 +41,7 @@ impl Model for World {
 }
 
 impl World {
-    /// Each router has just started, with all its ends up, and nothing is on its way (ISO/IEC 10589, 7.3.17).
+    /// Each router has just started, with all its ends up, and nothing is in flight (ISO/IEC 10589, 7.3.17).
     pub fn new(alloc: Global, domain: Domain) -> M<World>
         ensures world { IfOk result (λ w. w.world ≡ first_world domain) }
         ensures heard { IfOk result (λ w. w.heard ≡ map (λ r. 0) domain.routers) }
@@ -54,7 +54,7 @@ impl World {
 
     /// One event.
     ///
-    /// What is told of it is what was sent, as frames with the places of both routers, what was delivered and what was
+    /// What is reported of it is what was sent, as frames with the places of both routers, what was delivered and what was
     /// dropped, each in order. An event that isn't allowed is refused for the first reason that holds, and changes nothing.
     /// Memory may come in place of any answer, and leaves the world as it was too; only the count of frames that a router has
     /// taken may have risen then. Only a frame that arrives at an end that is up is taken by a router.
@@ -82,12 +82,12 @@ impl World {
         if let Some(fault) = self.network.fault(event) {
             return Err(fault);
         }
-        self.network.carry_out(event)
+        self.network.execute(event)
     }
 
     /// What a router sends over the end `link`, which leads to the other: the event that it sends there, as `step` does it.
-    /// Where nothing is told of it, as of most sends, there is no answer to be made.
-    pub fn send_over(
+    /// Where nothing is reported of it, as of most sends, there is no answer to be made.
+    pub fn send_on_link(
         &mut self,
         from: u16,
         link: u16,
@@ -111,8 +111,8 @@ impl World {
     }
 
     /// The first frame arrives that left over the end `link` and comes to the end `back`: the event that it is taken, as `step`
-    /// does it. Where nothing is told of it, as of most frames, there is no answer to be made.
-    pub fn take_over(
+    /// does it. Where nothing is reported of it, as of most frames, there is no answer to be made.
+    pub fn take_on_link(
         &mut self,
         from: u16,
         link: u16,
@@ -146,21 +146,21 @@ impl World {
         self.network.link(from, to)
     }
 
-    /// How many frames are on their way over the end of a router.
+    /// How many frames are in flight over the end of a router.
     pub fn frames_over(&self, from: u16, link: u16) -> usize
         ensures { result ≡ length (queue_at self.now.world.flights from link) }
     {
         self.network.frames_over(from, link)
     }
 
-    /// How many frames are on their way from one router to another, each named by its place; 0 where no link joins them.
+    /// How many frames are in flight from one router to another, each named by its place; 0 where no link joins them.
     pub fn frames(&self, from: u16, to: u16) -> usize
         ensures { result ≡ length (frames_between self.now.world from to) }
     {
         self.network.frames(from, to)
     }
 
-    /// How many BFR-ids are on their way: those of all copies of packets in flight.
+    /// How many BFR-ids are in flight: those of all copies of packets in flight.
     pub fn ids_in_flight(&self) -> M<u64>
         ensures { IfOk result (λ count. count ≡ ids_in_flight self.now.world.flights) }
     {

@@ -1,4 +1,4 @@
--- What a router does with a PDU, a second, its ends and a restart keeps what its database says true.
+-- What a router does with a PDU, a second, its ends and a restart keeps what its LSDB says true.
 use Rattle.std.proofs.Common.{◌≡◌, ℕ, ◌+◌, ◌<◌, ◌≤◌, ◌==◌, ◌&&◌, nat_lt, not, Bool, true, false, if◌then◌else◌, List, [], ◌∷◌, length, map, replicate, slice_set, length-set, Option, Some, None, refl, sym, ap, subst, ◌∙◌, arith}
 use Rattle.std.specs.List.{AllByRecursion}
 use Rattle.std.proofs.lemmas.List.{length-replicate}
@@ -17,7 +17,7 @@ use Rattle.wire_base.specs.declared.flood_out.FloodOut.TheVariants as out
 use Rattle.wire_base.specs.declared.triple.Summary.{Summary}
 use Rattle.wire_base.specs.model.Configuration.{IsSound}
 use Rattle.wire_base.specs.model.Control.{same_id, AreAscending, entry_in, put_entry, is_full, seq_of, purge, age_of, is_unknown, aged, Flood, Control, fragment_0, own_entry_in}
-use Rattle.wire_base.specs.model.Flooding.{with_row, send_on, ask_on, set_srm, clear_both, mark_all, forget, with_flags, SnpAnswer, wanted, asks, is_live_summary, listed_aged, on_listed, nothing_asked, on_list, lacks, send_lacking, on_lsp, on_csnp, on_psnp, new_flood, send_known, link_up, link_down, Reply, quiet, issue, last_sequence, reissue, reissue_if, reissue_unless_spent, psnp_of, answer_lsp, LspAnswer, only_says, puts_marked, kept, stores, lsp_aged, is_stray, is_own_ahead, lsp_in, snp_done, on_pdu, flags_aged, flood_aged, aged_all, is_stale, refreshed, tick, end_up, end_down, started, first_control, restart}
+use Rattle.wire_base.specs.model.Flooding.{with_row, send_on, ask_on, set_srm, clear_both, mark_all, forget, with_flags, SnpAnswer, wanted, asks, is_live_summary, listed_aged, on_listed, nothing_asked, on_list, lacks, send_lacking, on_lsp, on_csnp, on_psnp, new_flood, send_known, link_up, link_down, Reply, quiet, issue, last_sequence, reissue, reissue_if, reissue_unless_spent, psnp_of, answer_lsp, LspAnswer, only_says, puts_marked, kept, stores, lsp_aged, is_unheld_own, is_own_ahead, lsp_in, snp_done, on_pdu, flags_aged, flood_aged, aged_all, is_stale, refreshed, tick, end_up, end_down, started, first_control, restart}
 use Rattle.wire_base.specs.model.OwnLsp.{own_lsp}
 use Rattle.wire_base.specs.model.Pdu.{Head, head_summary, Pdu, LspPdu, CsnpPdu, PsnpPdu, HelloPdu, OtherPdu}
 use Rattle.wire_base.specs.model.Tlv.{LspIdFits, SummaryFits, rows_of}
@@ -148,7 +148,7 @@ module _ (f : Flood) (es : List Entry) (link : ℕ) (h : Head) (tlvs : List ℕ)
   lsp_links spent age =
       cond_both (h.seq == 0) (only_says f es out.Zero) (if is_own_ahead f h.id spent age then only_says f es (out.Reissue h.seq) else rest) HasLinks (λ e. refl)
       (λ e. cond_both (is_own_ahead f h.id spent age) (only_says f es (out.Reissue h.seq)) rest HasLinks (λ g. refl)
-      (λ g. cond_both (is_stray f h age) strays (lsp_aged f es link h tlvs age) HasLinks
+      (λ g. cond_both (is_unheld_own f h age) strays (lsp_aged f es link h tlvs age) HasLinks
       (λ k. cond_both (is_unknown age && is_full es) (only_says f es out.Full) (puts_marked f es (purge h.id h.seq)) HasLinks (λ l. refl) (λ l. stray_links))
       (λ k. aged_links age)))
     where
@@ -156,7 +156,7 @@ module _ (f : Flood) (es : List Entry) (link : ℕ) (h : Head) (tlvs : List ℕ)
       strays = if is_unknown age && is_full es then only_says f es out.Full else puts_marked f es (purge h.id h.seq)
 
       rest : LspAnswer
-      rest = if is_stray f h age then strays else lsp_aged f es link h tlvs age
+      rest = if is_unheld_own f h age then strays else lsp_aged f es link h tlvs age
 
   on_lsp_links : (spent : Bool) → HasLinks (on_lsp f es link h tlvs spent)
   unfolding on_lsp

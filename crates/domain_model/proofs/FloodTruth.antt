@@ -1,4 +1,4 @@
--- Flooding keeps what databases say true, one rule at a time.
+-- Flooding keeps what LSDBs say true, one rule at a time.
 use Rattle.std.proofs.Common.{◌≡◌, ◌⊎◌, inl, inr, ℕ, zero, suc, ◌+◌, ◌<◌, ◌≤◌, ◌^◌, ◌==◌, ◌&&◌, nat_lt, not, Bool, true, false, if◌then◌else◌, List, [], ◌∷◌, length, slice_index_or, slice_set, Option, Some, None, refl, sym, ap, ◌∙◌, arith}
 use mathlib.Core.Bool.{false≢true}
 use Rattle.std.specs.List.{AllByRecursion}
@@ -13,7 +13,7 @@ use Rattle.wire_base.specs.declared.flood_out.FloodOut.{FloodOut}
 use Rattle.wire_base.specs.declared.flood_out.FloodOut.TheVariants as out
 use Rattle.wire_base.specs.declared.triple.Summary.{Summary}
 use Rattle.wire_base.specs.model.Control.{same_id, AreAscending, ids_of, entry_in, put_entry, is_full, seq_of, purge, age_of, age_by_life, is_unknown, FlagRow, Flood, srm_in, fragment_0}
-use Rattle.wire_base.specs.model.Flooding.{no_links, with_row, send_on, ask_on, set_srm, clear_both, mark_all, LspAnswer, only_says, puts_marked, kept, stores, lsp_aged, is_stray, is_own_ahead, lsp_in, on_lsp, SnpAnswer, with_flags, wanted, asks, is_live_summary, listed_aged, on_listed, nothing_asked, on_list, lacks, send_lacking, on_csnp, on_psnp, last_sequence}
+use Rattle.wire_base.specs.model.Flooding.{no_links, with_row, send_on, ask_on, set_srm, clear_both, mark_all, LspAnswer, only_says, puts_marked, kept, stores, lsp_aged, is_unheld_own, is_own_ahead, lsp_in, on_lsp, SnpAnswer, with_flags, wanted, asks, is_live_summary, listed_aged, on_listed, nothing_asked, on_list, lacks, send_lacking, on_csnp, on_psnp, last_sequence}
 use Rattle.wire_base.specs.model.OwnLsp.{own_lsp, full_life}
 use Rattle.wire_base.specs.model.Pdu.{Head, head_summary}
 use Rattle.wire_base.specs.model.Tlv.{rows_of}
@@ -24,7 +24,7 @@ use Rattle.domain_model.proofs.EachLaws.{fold_keeps}
 use Rattle.domain_model.proofs.FlagLaws.{same_id_is, put_same, put_other, put_each, each_is_found, srm_same, KeepsId, SetsNone, changed_for, changed_off}
 use Rattle.domain_model.proofs.NamedLaws.{never_full}
 
--- a database and flags: all entries are true, in order, and none is sent that only asks
+-- an LSDB and flags: all entries are true, in order, and none is sent that only asks
 pub record IsTrueState (confs : List RouterConf) (f : Flood) (entries : List Entry) : Type 0 where
   pub entries_true : AllByRecursion (IsTrueEntry confs) entries
   pub in_order : AreAscending (ids_of entries)
@@ -155,9 +155,9 @@ unknown_none (Some e) s q = by (e.seq == s.seq) (s.seq == 0) (nat_lt e.seq s.seq
     by false b true x y z q = cc
     by false b false x y z q = cc
 
--- ---- a link state PDU
+-- ---- an LSP
 
--- what is asked for: a database is never full, and no sequence number is 0
+-- what is asked for: an LSDB is never full, and no sequence number is 0
 abbrev pub IsTrueOut : List RouterConf → FloodOut → Type 0
 IsTrueOut confs out.Kept = Unit {0}
 IsTrueOut confs (out.Reissue s) = s ≤ last_sequence
@@ -213,11 +213,11 @@ module _ (confs : List RouterConf) (small : length confs ≤ MOST_ROUTERS) (f : 
       strays = if is_unknown age && is_full es then only_says f es out.Full else puts_marked f es (purge h.id h.seq)
 
       rest : LspAnswer
-      rest = if is_stray f h age then strays else lsp_aged f es link h tlvs age
+      rest = if is_unheld_own f h age then strays else lsp_aged f es link h tlvs age
 
       others : IsTrueAnswer confs rest
       others =
-          cond_both (is_stray f h age) strays (lsp_aged f es link h tlvs age) (IsTrueAnswer confs)
+          cond_both (is_unheld_own f h age) strays (lsp_aged f es link h tlvs age) (IsTrueAnswer confs)
           (λ stray. cond_both (is_unknown age && is_full es) (only_says f es out.Full) (puts_marked f es (purge h.id h.seq)) (IsTrueAnswer confs)
           (λ full. absurd (false≢true (sym room ∙ (and_parts (is_unknown age) (is_full es) full).1))) (λ free. purged))
           (λ no. aged_true age older)

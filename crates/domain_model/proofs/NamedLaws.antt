@@ -1,4 +1,4 @@
--- A database has no more entries than the domain has routers, so that it is never full: each entry is a router's, and no
+-- An LSDB has no more entries than the domain has routers, so that it is never full: each entry is a router's, and no
 -- two are one router's.
 use Rattle.std.proofs.Common.{◌≡◌, ℕ, zero, suc, ◌≤◌, not, Bool, true, false, List, [], ◌∷◌, length, filter, slice_get, Some, refl, sym, ap, ◌∙◌, arith}
 use mathlib.Core.Bool.{false≢true, true≢false}

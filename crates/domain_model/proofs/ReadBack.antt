@@ -68,7 +68,7 @@ blocks_read (suc m) (e ∷ es) few all =
     ∙ ap (λ (ls : List Link). map end_link (take 23 xs) ++ ls) (blocks_read m (drop 23 xs) (omega (arith, l, few)) (each_dropped IsEnd 23 xs all))
     ∙ sym (map_joined end_link (take 23 xs) (drop 23 xs)) ∙ ap (map end_link) (take-append-drop 23 xs)
 
--- ---- subdomains
+-- ---- sub-domains
 
 info_fits : (kinds : List SubKind) (s : OwnSub) → IsOwnSub s → InfoFits (info_of kinds s)
 info_fits kinds s is = by (is_mpls (kind_of kinds s.sd))
@@ -135,7 +135,7 @@ own_links r up sound =
     ∙ append-nil (flat_map links_in (reach_tlvs es))
     ∙ blocks_read (length es) es (omega arith) (picked_all IsEnd up r.ends sound.ends)
 
--- the places in subdomains
+-- the places in sub-domains
 pub own_places : (r : RouterConf) (up : List Bool) → IsSound r → flat_map subs_in (tlvs_before (own_content r up)) ≡ map (λ s. sub_of r.prefix.0 (info_of r.kinds s)) r.subs
 unfolding own_content
 own_places r up sound =
@@ -146,7 +146,7 @@ own_places r up sound =
     ∙ append-nil (subs_in (prefix_tlv r))
     ∙ prefix_read r sound
 
--- whether it is overloaded
+-- whether it has its overload bit set
 pub own_overload : (r : RouterConf) → is_overload_flag (own_flags r) ≡ r.overload
 own_overload r = by r.level r.overload
   where

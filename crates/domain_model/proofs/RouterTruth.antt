@@ -1,4 +1,4 @@
--- What every router keeps, each event at a router of a domain keeps: its database never has more entries than the domain
+-- What every router keeps, each event at a router of a domain keeps: its LSDB never has more entries than the domain
 -- has routers, and its own LSP stands.
 use Rattle.std.proofs.Common.{◌≡◌, ◌⊎◌, inl, inr, ℕ, ◌+◌, ◌-◌, ◌<◌, ◌≤◌, ◌==◌, Bool, true, false, List, [], length, replicate, slice_set, length-set, Option, Some, None, option_and_then, refl, sym, ap, subst, ◌∙◌, arith}
 use mathlib.Core.Bool.{true≢false}
@@ -40,7 +40,7 @@ router_of up c sound long k database = record {
   own = k.stands;
 }
 
--- a database of true entries is one
+-- an LSDB of true entries is one
 database_of : (confs : List RouterConf) (f : Flood) (es : List Entry) → length confs ≤ MOST_ROUTERS → IsTrueState confs f es → IsDatabase es
 database_of confs f es small s = record { few = (let few = entries_few confs es s.in_order s.entries_true in omega (arith, few, small)); in_order = s.in_order }
 

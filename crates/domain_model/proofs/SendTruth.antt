@@ -1,4 +1,4 @@
--- What a router sends on a link is true, and sending keeps what its database says true.
+-- What a router sends on a link is true, and sending keeps what its LSDB says true.
 use Rattle.std.proofs.Common.{◌≡◌, ℕ, zero, suc, ◌+◌, ◌<◌, ◌≤◌, Bool, true, false, List, [], ◌∷◌, ◌++◌, length, map, filter, drop, slice_index_or, Some, refl, sym, ap, ◌∙◌, arith}
 use mathlib.Core.Bool.{false≢true}
 use Rattle.std.specs.List.{AllByRecursion}

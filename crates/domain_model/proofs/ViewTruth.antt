@@ -1,5 +1,5 @@
--- In a view each node is what its router says of itself: its system, whether it is overloaded, and its places in
--- subdomains.
+-- In a view each node is what its router says of itself: its system, whether it has its overload bit set, and its places in
+-- sub-domains.
 use Rattle.std.proofs.Common.{◌≡◌, ◌⊎◌, inl, inr, ℕ, ◌<◌, ◌==◌, ◌&&◌, ◌||◌, not, nat_lt, Bool, true, false, if◌then◌else◌, List, [], ◌∷◌, ◌++◌, length, map, filter, is_some, option_map, Option, Some, None, refl, sym, ap, subst, ◌∙◌, arith}
 use mathlib.Core.Bool.{false≢true}
 use Rattle.std.specs.List.{AllByRecursion, flat_map, list_any}
@@ -150,11 +150,11 @@ claims_read confs r up es sound among ends asc all =
 
 -- ---- which places count: all
 
--- a router's places in subdomains, as a view has them
+-- a router's places in sub-domains, as a view has them
 abbrev pub places_of : RouterConf → List ViewSub
 places_of r = map (λ s. sub_of r.prefix.0 (info_of r.kinds s)) r.subs
 
--- ranges stand in subdomains of labels alone, so that none is left out
+-- ranges stand in sub-domains of labels alone, so that none is left out
 ranges_told : (o : Option Kind) (ranges : List LabelRange) → MayStand o ranges → (if is_mpls o then ranges else []) ≡ ranges
 ranges_told None ranges h = absurd h
 ranges_told (Some Mpls) ranges h = refl

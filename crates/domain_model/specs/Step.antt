@@ -1,6 +1,6 @@
 -- What an event does to a domain: one event at one router (RFC 8279, 6; ISO/IEC 10589, 7.3.15 to 7.3.17).
 --
--- What happens is told for every event, and why an event isn't allowed apart from it; a step joins both. An event that
+-- What happens is reported for every event, and why an event isn't allowed apart from it; a step joins both. An event that
 -- names what isn't there changes nothing.
 use Rattle.std.specs.Prelude.{ℕ, ◌+◌, Bool, false, List, slice_get, slice_set, Option, Some, None, Result, Ok, Err, if◌then◌else◌}
 use Rattle.std.specs.List.{fold}

@@ -1,4 +1,4 @@
--- What a domain keeps over every event: what databases and PDUs say is true of its routers, and each copy of a packet
+-- What a domain keeps over every event: what LSDBs and PDUs say is true of its routers, and each copy of a packet
 -- carries the BIFT-id that its target gives the packet's triple (RFC 8279, 6.4; RFC 8296, 2.1.1 and 2.2.1; RFC 8401, 6;
 -- ISO/IEC 10589, 7.3.7 and 7.3.16).
 --
@@ -31,7 +31,7 @@ use Rattle.domain_model.specs.declared.lines.DropLine.{DropLine}
 use Rattle.domain_model.specs.World.{WorldState, peer_place, queue_at}
 use Rattle.domain_model.specs.Faults.{most_events}
 
--- ---- link state PDUs
+-- ---- LSPs
 
 -- one of the routers
 pub record IsAmong (confs : List RouterConf) (r : RouterConf) : Type 0 where
@@ -70,7 +70,7 @@ pub record IsTrueLsp (confs : List RouterConf) (h : Head) (tlvs : List ℕ) : Ty
   pub seq : h.seq ≤ last_sequence
   pub says : IsOwnLsp confs h tlvs ⊎ IsDeadLsp h tlvs
 
--- ---- databases
+-- ---- LSDBs
 
 abbrev pub head_of : Entry → Head
 head_of e = record { life = e.life; id = e.id; seq = e.seq; sum = e.sum; flags = e.flags }
@@ -223,7 +223,7 @@ EventFits routers (Restart a) = a < routers
 
 -- ---- drops
 
--- No frame is unreadable or means nothing, and no database is full: what is dropped has no row, its TTL or its tunnel's
+-- No frame is unreadable or means nothing, and no LSDB is full: what is dropped has no row, its TTL or its tunnel's
 -- has ended, no route leads on, it was lost, or its link is down.
 abbrev pub IsWorldCause : Cause → Type 0
 IsWorldCause cause.NoRow = Unit {0}

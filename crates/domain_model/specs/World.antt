@@ -98,7 +98,7 @@ ids_in_flight flights = sum_by (λ queues. sum_by (λ queue. sum_by carried queu
 abbrev pub no_flights : List RouterConf → List (List (List Item))
 no_flights confs = map (λ r. map (λ e. []) r.ends) confs
 
--- Each router has just started, with all its ends up: its own link state PDU is all that it knows, which is to be sent
+-- Each router has just started, with all its ends up: its own LSP is all that it knows, which is to be sent
 -- on every link, and a CSNP is due on each (ISO/IEC 10589, 7.3.15 and 7.3.17).
 unfoldable pub first_world : DomainConf → WorldState
 first_world d =

@@ -12,13 +12,13 @@ pub enum EventFault {
     NoLink,
     /// An end that is to come up is up, or one that is to go down or to send is down.
     EndState,
-    /// 500,000 frames or more are on their way, and the event may send more.
+    /// 500,000 frames or more are in flight, and the event may send more.
     InFlight,
     /// That place isn't below the number of frames on the way there, which is the second number.
     NoFrame(u32, usize),
     /// A frame that is to come again carries a packet.
     NotControl,
-    /// The router makes no packets for those BFR-ids, for this reason, which is never want of memory.
+    /// The router makes no packets for those BFR-ids, for this reason, which is never out of memory.
     Edge(EdgeFault),
     /// Memory ran out.
     Memory,

@@ -12,7 +12,7 @@ pub fn a_start_is_truthful()
     ensures { (d : DomainConf) → IsValid d → IsTruthful (first_world d) }
 {}
 
-/// Every event that is allowed keeps what is true: databases and PDUs on the way say what their routers say of themselves,
+/// Every event that is allowed keeps what is true: LSDBs and PDUs on the way say what their routers say of themselves,
 /// and each copy of a packet carries the BIFT-id that its target gives the packet's triple. So nothing is dropped because it
 /// is unreadable, means nothing or finds no room (RFC 8279, 6.4; RFC 8401, 6; ISO/IEC 10589, 7.3.16).
 pub fn events_keep_the_truth()

@@ -1,4 +1,4 @@
--- Runs on their way, as they are told.
+-- Runs in progress, as they are reported.
 use Rattle.std.proofs.Common.{◌≡◌, ℕ, Bool, true, false, List, [], ◌∷◌, ◌++◌, length, Option, Some, None, refl, sym, ap, subst, ◌∙◌, append_assoc}
 use Rattle.std.specs.List.{fold}
 use Rattle.replay_text.specs.declared.event.Event.{Event}
@@ -11,12 +11,12 @@ use Rattle.domain_model.specs.Faults.{event_fault}
 use Rattle.domain_model.specs.Step.{happens}
 use Rattle.domain_model.specs.Run.{Progress, line_done, line_events}
 use Rattle.domain_replay.specs.Courses.{Course, past, IsAt}
-use Rattle.domain_replay.specs.Telling.{Telling, Told, told, sent_records, tells, tells_or, tells_unless, tells_on, tells_all, tells_line, telling_of, at_line, IsEntered, LineEnters, IsToldSo}
+use Rattle.domain_replay.specs.Telling.{Telling, Told, told, sent_records, tells, tells_or, tells_unless, reports_on, tells_all, tells_line, telling_of, at_line, IsEntered, LineEnters, IsToldSo}
 use Rattle.replay_report.specs.Captures.{with_records}
 use Rattle.domain_replay.specs.Texts.{made_text}
 use Rattle.domain_replay.proofs.TellingLaws.{line_told}
 
--- ---- what is told doesn't hang on what stands before both texts
+-- ---- what is reported doesn't hang on what stands before both texts
 
 abbrev pub past_told : (frames report : List ℕ) → Told → Told
 past_told frames report t = record { telling = past frames report t.telling; refused = t.refused }
@@ -37,8 +37,8 @@ or_past : (line : ℕ) (f g : List ℕ) (t : Telling) (e : Event) (o : Option Ev
 or_past line f g t e None = ap told (tells_past line f g t e)
 or_past line f g t e (Some why) = refl
 
-on_past : (line : ℕ) (f g : List ℕ) (t : Told) (e : Event) → tells_on line (past_told f g t) e ≡ past_told f g (tells_on line t e)
-unfolding tells_on
+on_past : (line : ℕ) (f g : List ℕ) (t : Told) (e : Event) → reports_on line (past_told f g t) e ≡ past_told f g (reports_on line t e)
+unfolding reports_on
 on_past line f g t e = by t.refused
   where
     by : (o : Option EventFault) → tells_unless line (past_told f g t) e o ≡ past_told f g (tells_unless line t e o)
@@ -48,7 +48,7 @@ on_past line f g t e = by t.refused
 all_past : (line : ℕ) (f g : List ℕ) (t : Told) (es : List Event) → tells_all line (past_told f g t) es ≡ past_told f g (tells_all line t es)
 unfolding tells_all
 all_past line f g t [] = refl
-all_past line f g t (e ∷ es) = ap (λ (x : Told). fold (tells_on line) x es) (on_past line f g t e) ∙ all_past line f g (tells_on line t e) es
+all_past line f g t (e ∷ es) = ap (λ (x : Told). fold (reports_on line) x es) (on_past line f g t e) ∙ all_past line f g (reports_on line t e) es
 
 pub line_past : (line : ℕ) (f g : List ℕ) (t : Telling) (said : Line) → tells_line line (past f g t) said ≡ past_told f g (tells_line line t said)
 unfolding tells_line

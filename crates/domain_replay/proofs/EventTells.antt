@@ -1,4 +1,4 @@
--- One event that a domain does, or refuses, as it is told.
+-- One event that a domain does, or refuses, as it is reported.
 use Rattle.std.proofs.Common.{◌≡◌, ℕ, Bool, true, false, ◌+◌, List, [], ◌∷◌, ◌++◌, map, Some, None, Err, refl, sym, ap, subst, ◌∙◌, append-nil}
 use Rattle.std.proofs.Math.Nat.{add-zero}
 use Rattle.std.specs.Prelude.{flat_map}
@@ -22,7 +22,7 @@ use Rattle.replay_report.specs.declared.counts.Counts.{Counts}
 use Rattle.replay_report.specs.Captures.{wire_record, with_records}
 use Rattle.replay_report.specs.Counting.{counted}
 use Rattle.replay_report.specs.Lines.{event_text}
-use Rattle.domain_replay.specs.Telling.{Telling, told, tells, tells_or, tells_on, sent_records, ReplayState, with_texts}
+use Rattle.domain_replay.specs.Telling.{Telling, told, tells, tells_or, reports_on, sent_records, ReplayState, with_texts}
 use Rattle.domain_replay.specs.Replaying.{Tells, ends_with}
 use Rattle.domain_replay.proofs.Stays.{happens_domain}
 use Rattle.domain_replay.proofs.TellingLaws.{same_telling}
@@ -35,8 +35,8 @@ records_same routers line (s ∷ sent) = ap (λ (l : List ℕ). wire_record line
 pub event_told : (line : ℕ) (t : Telling) (e : Event) (w : WorldState) (c : Counts) (f r : List ℕ) (made : StepOut) → event_fault t.world e ≡ None → w ≡ (happens t.world e).world →
     made ≡ answer.told t.world.domain.routers (happens t.world e).made → c ≡ counted t.counts e made.got made.drops →
     f ≡ with_records t.captures t.frames (flat_map (wire_record line) made.sent) → (routers : List RouterConf) → routers ≡ t.world.domain.routers → r ≡ t.report ++ event_text routers line made.got made.drops →
-    (b : Bool) → b ≡ t.captures → tells_on line (told t) e ≡ told (record { world = w; counts = c; frames = f; report = r; captures = b })
-unfolding tells_on tells
+    (b : Bool) → b ≡ t.captures → reports_on line (told t) e ≡ told (record { world = w; counts = c; frames = f; report = r; captures = b })
+unfolding reports_on tells
 event_told line t e w c f r made allowed world is counts frames routers same report b captures =
     let n = happens t.world e in
     let out = answer.told t.world.domain.routers n.made in
@@ -52,9 +52,9 @@ event_told line t e w c f r made allowed world is counts frames routers same rep
 pub event_reported : (line : ℕ) (s old new : ReplayState) (texts texts_now : Texts) (e : Event) (w : WorldState) (made : StepOut) → old ≡ s → event_fault old.world e ≡ None → w ≡ (happens old.world e).world →
     made ≡ answer.told old.world.domain.routers (happens old.world e).made → new ≡ record { world = w; counts = counted old.counts e made.got made.drops; captures = old.captures } →
     texts_now.frames ≡ with_records old.captures texts.frames (flat_map (wire_record line) made.sent) → texts_now.report ≡ texts.report ++ event_text w.domain.routers line made.got made.drops →
-    tells_on line (told (with_texts s texts)) e ≡ told (with_texts new texts_now)
+    reports_on line (told (with_texts s texts)) e ≡ told (with_texts new texts_now)
 event_reported line s old new texts texts_now e w made view allowed world is state frames report =
-    ap (λ (x : ReplayState). tells_on line (told (with_texts x texts)) e) (sym view)
+    ap (λ (x : ReplayState). reports_on line (told (with_texts x texts)) e) (sym view)
     ∙ event_told line (with_texts old texts) e w (counted old.counts e made.got made.drops) texts_now.frames texts_now.report made allowed world is refl frames w.domain.routers
     (ap (λ (x : WorldState). x.domain.routers) world ∙ ap (λ (d : DomainConf). d.routers) (happens_domain old.world e)) report old.captures refl
     ∙ ap (λ (x : ReplayState). told (with_texts x texts_now)) (sym state)
@@ -64,14 +64,14 @@ of c f r b s = record { world = s.world; counts = c; frames = f; report = r; cap
 
 -- it was refused
 pub event_refused : (line : ℕ) (t : Telling) (old new : Seen) (c : Counts) (f r : List ℕ) (b : Bool) (e : Event) (why : EventFault) → of c f r b old ≡ t → Refuses (event_fault old.world e) why → Stays (new ≡ old) why →
-    Tells (tells_on line (told t) e) (of c f r b new) (Err why)
-unfolding tells_on
-event_refused line t old new c f r b e why view refuses stays = subst (λ (u : Telling). Tells (tells_on line (told u) e) (of c f r b new) (Err why)) view (by why refuses stays)
+    Tells (reports_on line (told t) e) (of c f r b new) (Err why)
+unfolding reports_on
+event_refused line t old new c f r b e why view refuses stays = subst (λ (u : Telling). Tells (reports_on line (told u) e) (of c f r b new) (Err why)) view (by why refuses stays)
   where
-    because : (why : EventFault) → event_fault old.world e ≡ Some why → new ≡ old → tells_on line (told (of c f r b old)) e ≡ ends_with (of c f r b new) why
+    because : (why : EventFault) → event_fault old.world e ≡ Some why → new ≡ old → reports_on line (told (of c f r b old)) e ≡ ends_with (of c f r b new) why
     because why is same = ap (tells_or line (of c f r b old) e) is ∙ ap (λ (s : Seen). ends_with (of c f r b s) why) (sym same)
 
-    by : (why : EventFault) → Refuses (event_fault old.world e) why → Stays (new ≡ old) why → Tells (tells_on line (told (of c f r b old)) e) (of c f r b new) (Err why)
+    by : (why : EventFault) → Refuses (event_fault old.world e) why → Stays (new ≡ old) why → Tells (reports_on line (told (of c f r b old)) e) (of c f r b new) (Err why)
     by faults.Events r s = because faults.Events r s
     by faults.NoLink r s = because faults.NoLink r s
     by faults.EndState r s = because faults.EndState r s
@@ -81,12 +81,12 @@ event_refused line t old new c f r b e why view refuses stays = subst (λ (u : T
     by (faults.Edge why) r s = because (faults.Edge why) r s
     by faults.Memory r s = tt
 
--- the same of an event that is told in other words
+-- the same of an event that is reported in other words
 pub refused_so : (line : ℕ) (t : Telling) (old new : Seen) (c : Counts) (f r : List ℕ) (b : Bool) (e g : Event) (why : EventFault) → e ≡ g → of c f r b old ≡ t → Refuses (event_fault old.world e) why → Stays (new ≡ old) why →
-    Tells (tells_on line (told t) g) (of c f r b new) (Err why)
-refused_so line t old new c f r b e g why same view refuses stays = subst (λ (x : Event). Tells (tells_on line (told t) x) (of c f r b new) (Err why)) same (event_refused line t old new c f r b e why view refuses stays)
+    Tells (reports_on line (told t) g) (of c f r b new) (Err why)
+refused_so line t old new c f r b e g why same view refuses stays = subst (λ (x : Event). Tells (reports_on line (told t) x) (of c f r b new) (Err why)) same (event_refused line t old new c f r b e why view refuses stays)
 
--- what is as it was is so after any refusal
+-- what is unchanged is so after any refusal
 pub stays_so : (same : Type 0) (why : EventFault) → same → Stays same why
 stays_so same faults.Events s = s
 stays_so same faults.NoLink s = s
@@ -97,7 +97,7 @@ stays_so same faults.NotControl s = s
 stays_so same (faults.Edge why) s = s
 stays_so same faults.Memory s = tt
 
--- it was done, and nothing is told of it
+-- it was done, and nothing is reported of it
 
 same_counts : (c : Counts) → c ≡ record { injected = c.injected + 0; named = c.named + 0; got = c.got + 0; dropped = c.dropped + 0 }
 same_counts c =
@@ -113,11 +113,11 @@ no_records false frames = refl
 -- neither is an injection, and neither names a BFR-id
 
 pub send_untold : (line : ℕ) (t : Telling) (a b : ℕ) (w : WorldState) → event_fault t.world (Send a b) ≡ None → w ≡ (happens t.world (Send a b)).world →
-    outcome None ≡ answer.told t.world.domain.routers (happens t.world (Send a b)).made → tells_on line (told t) (Send a b) ≡ told (record t { world = w })
+    outcome None ≡ answer.told t.world.domain.routers (happens t.world (Send a b)).made → reports_on line (told t) (Send a b) ≡ told (record t { world = w })
 send_untold line t a b w allowed world silent =
     event_told line t (Send a b) w t.counts t.frames t.report (outcome None) allowed world silent (same_counts t.counts) (no_records t.captures t.frames) t.world.domain.routers refl (sym (append-nil t.report)) t.captures refl
 
 pub take_untold : (line : ℕ) (t : Telling) (a b i : ℕ) (w : WorldState) → event_fault t.world (Take a b i) ≡ None → w ≡ (happens t.world (Take a b i)).world →
-    outcome None ≡ answer.told t.world.domain.routers (happens t.world (Take a b i)).made → tells_on line (told t) (Take a b i) ≡ told (record t { world = w })
+    outcome None ≡ answer.told t.world.domain.routers (happens t.world (Take a b i)).made → reports_on line (told t) (Take a b i) ≡ told (record t { world = w })
 take_untold line t a b i w allowed world silent =
     event_told line t (Take a b i) w t.counts t.frames t.report (outcome None) allowed world silent (same_counts t.counts) (no_records t.captures t.frames) t.world.domain.routers refl (sym (append-nil t.report)) t.captures refl

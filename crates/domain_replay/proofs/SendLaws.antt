@@ -13,7 +13,7 @@ use Rattle.domain_model.specs.Faults.{up_over}
 use Rattle.domain_model.specs.World.{WorldState, link_between}
 use Rattle.domain_model.specs.Step.{sends, happens}
 use Rattle.domain_model.specs.Run.{Direction, directions, may_send, world_after}
-use Rattle.domain_replay.specs.Telling.{Telling, told, tells_on, tells_all}
+use Rattle.domain_replay.specs.Telling.{Telling, told, reports_on, tells_all}
 use Rattle.domain_replay.specs.Replaying.{IsJoining, sends_of, sends_in}
 use Rattle.domain_replay.proofs.DirectionLaws.{directions_join}
 use Rattle.domain_replay.proofs.InTurn.{IsInTurn}
@@ -25,13 +25,13 @@ sends_more w d ds = by (may_send w d)
     by true = refl
     by false = refl
 
--- nothing is told of an end that is down, and a send of one that is up
+-- nothing is reported of an end that is down, and a send of one that is up
 
 pub sends_none : (line : ℕ) (t : Telling) (d : Direction) → may_send t.world d ≡ false → tells_all line (told t) (sends_of t.world d) ≡ told t
 unfolding tells_all
 sends_none line t d down = ap (λ (b : Bool). tells_all line (told t) (if b then Send d.from d.to ∷ [] else [])) down
 
-pub sends_one : (line : ℕ) (t : Telling) (d : Direction) → may_send t.world d ≡ true → tells_all line (told t) (sends_of t.world d) ≡ tells_on line (told t) (Send d.from d.to)
+pub sends_one : (line : ℕ) (t : Telling) (d : Direction) → may_send t.world d ≡ true → tells_all line (told t) (sends_of t.world d) ≡ reports_on line (told t) (Send d.from d.to)
 unfolding tells_all
 sends_one line t d up = ap (λ (b : Bool). tells_all line (told t) (if b then Send d.from d.to ∷ [] else [])) up
 

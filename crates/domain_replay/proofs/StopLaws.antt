@@ -7,7 +7,7 @@ use Rattle.domain_model.specs.Step.{happens}
 use Rattle.domain_model.specs.Faults.{event_fault}
 use Rattle.domain_model.specs.Run.{Direction, directions, round_sends, round_takes, round_events, settle_events, world_after}
 use Rattle.run_texts.specs.declared.texts.Texts.{Texts}
-use Rattle.domain_replay.specs.Telling.{Telling, Told, told, tells_on, tells_all, ReplayState, with_texts}
+use Rattle.domain_replay.specs.Telling.{Telling, Told, told, reports_on, tells_all, ReplayState, with_texts}
 use Rattle.domain_replay.specs.Replaying.{NextUntold, StopsIn}
 use Rattle.domain_replay.proofs.TellsLaws.{all_joined, world_told}
 
@@ -31,7 +31,7 @@ step_stops line s old w texts e view same =
     stops_before line (with_texts s texts) (with_texts (in_world old w) texts) (e ∷ [])
     (ap (λ (x : WorldState). with_texts (in_world old x) texts) same ∙ ap (λ (x : ReplayState). with_texts x texts) view)
 
--- the event was done, and memory was refused as it was told
+-- the event was done, and memory ran out as it was reported
 pub tell_stops : (line : ℕ) (s old new : ReplayState) (w : WorldState) (texts texts_now : Texts) (e : Event) → old ≡ s → event_fault old.world e ≡ None → w ≡ (happens old.world e).world →
     (new ≡ in_world old w) × (texts_now ≡ texts) → StopsIn line (with_texts s texts) (e ∷ []) (with_texts new texts_now)
 tell_stops line s old new w texts texts_now e view allowed is same =
@@ -56,7 +56,7 @@ stops_first line t now xs ys s = record {
   stands = still_stands s.so_far now s.left ys s.stands;
 }
 
--- within the part behind what was told
+-- within the part behind what was reported
 pub stops_behind : (line : ℕ) (t mid now : Telling) (xs ys : List Event) → tells_all line (told t) xs ≡ told mid → StopsIn line mid ys now → StopsIn line t (xs ++ ys) now
 stops_behind line t mid now xs ys h s = record {
   done = xs ++ s.done;
@@ -80,7 +80,7 @@ alike_split e n i within = let k : n - i ≡ suc (n - (i + 1)) = omega arith in 
 pub alike_first : (line : ℕ) (t now : Telling) (e : Event) (n i : ℕ) → i < n → StopsIn line t (e ∷ []) now → StopsIn line t (replicate (n - i) e) now
 alike_first line t now e n i within s = subst (λ (l : List Event). StopsIn line t l now) (sym (alike_split e n i within)) (stops_first line t now (e ∷ []) (replicate (n - (i + 1)) e) s)
 
-pub alike_behind : (line : ℕ) (t mid now : Telling) (e : Event) (n i : ℕ) → i < n → tells_on line (told t) e ≡ told mid → StopsIn line mid (replicate (n - (i + 1)) e) now → StopsIn line t (replicate (n - i) e) now
+pub alike_behind : (line : ℕ) (t mid now : Telling) (e : Event) (n i : ℕ) → i < n → reports_on line (told t) e ≡ told mid → StopsIn line mid (replicate (n - (i + 1)) e) now → StopsIn line t (replicate (n - i) e) now
 unfolding tells_all
 alike_behind line t mid now e n i within h s = subst (λ (l : List Event). StopsIn line t l now) (sym (alike_split e n i within)) (stops_behind line t mid now (e ∷ []) (replicate (n - (i + 1)) e) h s)
 

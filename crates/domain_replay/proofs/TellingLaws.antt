@@ -1,4 +1,4 @@
--- What is told of a run is told event by event.
+-- What is reported of a run is reported event by event.
 use Rattle.std.proofs.Common.{◌≡◌, ℕ, Bool, zero, suc, ◌+◌, filter, List, [], ◌∷◌, ◌++◌, length, Option, Some, None, refl, sym, ap, subst, ◌∙◌, append_assoc, append-nil, length-append, arith}
 use Rattle.std.proofs.lemmas.List.{length-map}
 use Rattle.std.specs.Prelude.{flat_map, sum_by}
@@ -24,7 +24,7 @@ use Rattle.replay_report.specs.declared.counts.Counts.{Counts}
 use Rattle.replay_report.specs.Captures.{sending_record}
 use Rattle.replay_report.specs.Counting.{injected_by, named_by, dropped_ids, counted, counts_of}
 use Rattle.domain_replay.specs.Texts.{world_after_all, made_text, events_text, capture_text, run_text}
-use Rattle.domain_replay.specs.Telling.{Telling, first_telling, sent_records, tells, Told, told, tells_on, tells_all, tells_line, telling_of, IsRunOf, IsEntered, LineEnters, tells_or, tells_unless, at_line, IsToldSo}
+use Rattle.domain_replay.specs.Telling.{Telling, first_telling, sent_records, tells, Told, told, reports_on, tells_all, tells_line, telling_of, IsRunOf, IsEntered, LineEnters, tells_or, tells_unless, at_line, IsToldSo}
 use Rattle.domain_replay.proofs.Stays.{Stays, happens_stays}
 
 -- ---- one event more
@@ -100,8 +100,8 @@ tries_so : (d : DomainConf) (line : ℕ) (r : Run) (e : Event) → IsRunOf d r �
 tries_so d line r e is there None = record { run = goes_further d r line e is there; telling = told_more d r line e is there; refused = refl }
 tries_so d line r e is there (Some why) = record { run = is; telling = refl; refused = refl }
 
-told_on : (d : DomainConf) (line : ℕ) (e : Event) → IsEntered (length d.routers) e → (p : Progress) (t : Told) → IsToldSo d line p t → IsToldSo d line (does line p e) (tells_on line t e)
-unfolding does tells_on
+told_on : (d : DomainConf) (line : ℕ) (e : Event) → IsEntered (length d.routers) e → (p : Progress) (t : Told) → IsToldSo d line p t → IsToldSo d line (does line p e) (reports_on line t e)
+unfolding does reports_on
 told_on d line e there p t so = by p.refused t.refused so.refused
   where
     by : (o : Option (ℕ × EventFault)) (q : Option EventFault) → o ≡ at_line line q → IsToldSo d line (goes_unless p line e o) (tells_unless line t e q)
@@ -115,7 +115,7 @@ told_on d line e there p t so = by p.refused t.refused so.refused
 told_all : (d : DomainConf) (line : ℕ) (es : List Event) → AllByRecursion (IsEntered (length d.routers)) es → (p : Progress) (t : Told) → IsToldSo d line p t → IsToldSo d line (fold (does line) p es) (tells_all line t es)
 unfolding tells_all
 told_all d line [] each p t so = so
-told_all d line (e ∷ es) each p t so = told_all d line es each.1 (does line p e) (tells_on line t e) (told_on d line e each.0 p t so)
+told_all d line (e ∷ es) each p t so = told_all d line es each.1 (does line p e) (reports_on line t e) (told_on d line e each.0 p t so)
 
 -- what rounds are enters nowhere
 

@@ -10,17 +10,17 @@ use Rattle.domain_model.specs.World.{WorldState, frames_between}
 use Rattle.domain_model.specs.Step.{happens}
 use Rattle.domain_model.specs.Faults.{event_fault}
 use Rattle.domain_model.specs.Run.{Direction, taken_now, directions, round_sends, round_takes, round_events, settle_events, world_after}
-use Rattle.domain_replay.specs.Telling.{Telling, Told, told, tells, tells_or, tells_on, tells_all}
+use Rattle.domain_replay.specs.Telling.{Telling, Told, told, tells, tells_or, reports_on, tells_all}
 use Rattle.domain_replay.specs.Replaying.{ends_with, Tells}
 
 pub all_joined : (line : ℕ) (t : Told) (xs ys : List Event) → tells_all line t (xs ++ ys) ≡ tells_all line (tells_all line t xs) ys
 unfolding tells_all
-all_joined line t xs ys = fold-append (tells_on line) t xs ys
+all_joined line t xs ys = fold-append (reports_on line) t xs ys
 
 -- after a refusal nothing is done
 
 pub all_ended : (line : ℕ) (t : Telling) (why : EventFault) (es : List Event) → tells_all line (ends_with t why) es ≡ ends_with t why
-unfolding tells_all tells_on
+unfolding tells_all reports_on
 all_ended line t why [] = refl
 all_ended line t why (e ∷ es) = all_ended line t why es
 
@@ -41,18 +41,18 @@ err_at line whole part rest now why is h = by why h
     by (faults.Edge edge) k = ends (faults.Edge edge) k
     by faults.Memory k = tt
 
-pub all_first : (line : ℕ) (t : Told) (e : Event) (es : List Event) → tells_all line t (e ∷ es) ≡ tells_all line (tells_on line t e) es
+pub all_first : (line : ℕ) (t : Told) (e : Event) (es : List Event) → tells_all line t (e ∷ es) ≡ tells_all line (reports_on line t e) es
 unfolding tells_all
 all_first line t e es = refl
 
-pub times_first : (line : ℕ) (t : Told) (e : Event) (n i : ℕ) → i < n → tells_all line t (replicate (n - i) e) ≡ tells_all line (tells_on line t e) (replicate (n - (i + 1)) e)
+pub times_first : (line : ℕ) (t : Told) (e : Event) (n i : ℕ) → i < n → tells_all line t (replicate (n - i) e) ≡ tells_all line (reports_on line t e) (replicate (n - (i + 1)) e)
 times_first line t e n i within = let k : n - i ≡ suc (n - (i + 1)) = omega arith in ap (λ (m : ℕ). tells_all line t (replicate m e)) k ∙ all_first line t e (replicate (n - (i + 1)) e)
 
 pub times_none : (line : ℕ) (t : Told) (e : Event) (n i : ℕ) → n ≤ i → tells_all line t (replicate (n - i) e) ≡ t
 unfolding tells_all
 times_none line t e n i past = let k : n - i ≡ 0 = omega arith in ap (λ (m : ℕ). tells_all line t (replicate m e)) k
 
--- ---- as many frames as are on their way in a direction
+-- ---- as many frames as are in flight in a direction
 
 pub as_waiting : (w : WorldState) (d : Direction) (n : ℕ) → n ≡ length (frames_between w d.from d.to) → replicate n (Take d.from d.to 0) ≡ taken_now w d
 as_waiting w d n is = ap (λ (m : ℕ). replicate m (Take d.from d.to 0)) is
@@ -61,10 +61,10 @@ pub none_waiting : (line : ℕ) (t : Telling) (d : Direction) (n : ℕ) → n �
 unfolding tells_all
 none_waiting line t d n is none = ap (λ (m : ℕ). tells_all line (told t) (replicate m (Take d.from d.to 0))) (sym is ∙ none)
 
--- what was told to its end leads to the world after it
+-- what was reported to its end leads to the world after it
 
-one_told : (line : ℕ) (t now : Telling) (e : Event) → tells_on line (told t) e ≡ told now → now.world ≡ (happens t.world e).world
-unfolding tells tells_on
+one_told : (line : ℕ) (t now : Telling) (e : Event) → reports_on line (told t) e ≡ told now → now.world ≡ (happens t.world e).world
+unfolding tells reports_on
 one_told line t now e = by (event_fault t.world e)
   where
     by : (o : Option EventFault) → tells_or line t e o ≡ told now → now.world ≡ (happens t.world e).world
@@ -77,18 +77,18 @@ one_told line t now e = by (event_fault t.world e)
 pub world_told : (line : ℕ) (es : List Event) (t now : Telling) → tells_all line (told t) es ≡ told now → now.world ≡ world_after t.world es
 unfolding tells_all
 world_told line [] t now h = sym (ap (λ (u : Told). u.telling.world) h)
-world_told line (e ∷ es) t now h = by (tells_on line (told t) e) refl (tells_on line (told t) e).refused refl (λ next k. world_told line es next now k)
+world_told line (e ∷ es) t now h = by (reports_on line (told t) e) refl (reports_on line (told t) e).refused refl (λ next k. world_told line es next now k)
   where
     some_none : (why : EventFault) → Some why ≡ None → ⊥
     some_none why k = cc
 
-    by : (u : Told) → tells_on line (told t) e ≡ u → (o : Option EventFault) → u.refused ≡ o → ((next : Telling) → tells_all line (told next) es ≡ told now → now.world ≡ world_after next.world es) → now.world ≡ world_after (happens t.world e).world es
+    by : (u : Told) → reports_on line (told t) e ≡ u → (o : Option EventFault) → u.refused ≡ o → ((next : Telling) → tells_all line (told next) es ≡ told now → now.world ≡ world_after next.world es) → now.world ≡ world_after (happens t.world e).world es
     by u is None none more =
-        let first : tells_on line (told t) e ≡ told u.telling = is ∙ ap (λ (q : Option EventFault). record { telling = u.telling; refused = q }) none in
-        more u.telling (ap (λ (x : Told). fold (tells_on line) x es) (sym first) ∙ h) ∙ ap (λ (w : WorldState). world_after w es) (one_told line t u.telling e first)
+        let first : reports_on line (told t) e ≡ told u.telling = is ∙ ap (λ (q : Option EventFault). record { telling = u.telling; refused = q }) none in
+        more u.telling (ap (λ (x : Told). fold (reports_on line) x es) (sym first) ∙ h) ∙ ap (λ (w : WorldState). world_after w es) (one_told line t u.telling e first)
     by u is (Some why) some more =
-        let first : tells_on line (told t) e ≡ ends_with u.telling why = is ∙ ap (λ (q : Option EventFault). record { telling = u.telling; refused = q }) some in
-        absurd (some_none why (ap (λ (x : Told). x.refused) (sym (all_ended line u.telling why es) ∙ ap (λ (x : Told). fold (tells_on line) x es) (sym first) ∙ h)))
+        let first : reports_on line (told t) e ≡ ends_with u.telling why = is ∙ ap (λ (q : Option EventFault). record { telling = u.telling; refused = q }) some in
+        absurd (some_none why (ap (λ (x : Told). x.refused) (sym (all_ended line u.telling why es) ∙ ap (λ (x : Told). fold (reports_on line) x es) (sym first) ∙ h)))
 
 -- ---- rounds
 

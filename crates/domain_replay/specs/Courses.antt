@@ -1,21 +1,21 @@
--- Runs on their way.
+-- Runs in progress.
 use Rattle.std.specs.Prelude.{ℕ, ◌≡◌, List, ◌++◌}
 use Rattle.wire_base.specs.model.Configuration.{DomainConf}
 use Rattle.domain_model.specs.Run.{Run}
 use Rattle.domain_replay.specs.Telling.{Telling, telling_of, IsRunOf}
 
--- A run on its way: the run of a domain so far, and the fronts of its texts that are written out.
+-- A run in progress: the run of a domain so far, and the fronts of its texts that are written out.
 pub record Course : Type 0 where
   pub domain : DomainConf
   pub run : Run
   pub frames : List ℕ
   pub report : List ℕ
 
--- what is told, with those fronts before both texts
+-- what is reported, with those fronts before both texts
 abbrev pub past : (frames report : List ℕ) → Telling → Telling
 past frames report t = record { world = t.world; counts = t.counts; frames = frames ++ t.frames; report = report ++ t.report; captures = t.captures }
 
--- A replay stands at a run on its way: with the fronts that are written out its texts are the run's.
+-- A replay stands at a run in progress: with the fronts that are written out its texts are the run's.
 pub record IsAt (course : Course) (now : Telling) : Type 0 where
   pub run : IsRunOf course.domain course.run
   pub telling : telling_of course.domain course.run ≡ past course.frames course.report now

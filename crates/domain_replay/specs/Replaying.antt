@@ -33,16 +33,16 @@ Tells all now (Err faults.Memory) = Unit {0}
 
 -- ---- where a call stops
 
--- The next of the events that are left was done, and nothing of it is told: the world has gone on, counts and texts haven't.
+-- The next of the events that are left was done, and nothing of it is reported: the world has gone on, counts and texts haven't.
 abbrev pub NextUntold : Telling → List Event → Telling → Type 0
 NextUntold t [] now = ⊥
 NextUntold t (e ∷ es) now = (event_fault t.world e ≡ None) × (now ≡ record t { world = (happens t.world e).world })
 
--- What stands where a call stopped within some events, for want of memory as well: the first ones were done and told, each of
+-- What stands where a call stopped within some events, for out of memory as well: the first ones were done and told, each of
 -- them whole, and those after them weren't begun; only the next one may be done too, with nothing told of it.
 --
--- Two routers settle by `send A B`, `send B A`, `take A B 0`, `take B A 0`. Memory is refused as A's frame arrives: done are both
--- sends, and the frame is still on its way. Memory is refused as that take is told: done are both sends, the capture holds the
+-- Two routers settle by `send A B`, `send B A`, `take A B 0`, `take B A 0`. Memory runs out as A's frame arrives: done are both
+-- sends, and the frame is still in flight. Memory runs out as that take is reported: done are both sends, the capture holds the
 -- records of both, and the world alone is further, where B has taken the frame; what B would drop by it is in no line and no count.
 pub record StopsIn (line : ℕ) (before : Telling) (events : List Event) (now : Telling) : Type 0 where
   pub done : List Event

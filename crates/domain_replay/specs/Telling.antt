@@ -1,4 +1,4 @@
--- A run as it is told: event by event the world goes on, the counts grow, and both texts gain what the event made.
+-- A run as it is reported: event by event the world goes on, the counts grow, and both texts gain what the event made.
 use Rattle.std.specs.Prelude.{ℕ, Bool, true, false, ◌≡◌, ◌<◌, ◌++◌, List, [], flat_map, length, Option, Some, None, option_map}
 use Rattle.std.specs.List.{fold}
 use Rattle.wire_base.specs.declared.conf.RouterConf.{RouterConf}
@@ -73,7 +73,7 @@ with_texts s texts = record { world = s.world; counts = s.counts; frames = texts
 
 -- ---- lines
 
--- What was told, and why the event after it isn't allowed, where one isn't.
+-- What was reported, and why the event after it isn't allowed, where one isn't.
 pub record Told : Type 0 where
   pub telling : Telling
   pub refused : Option EventFault
@@ -90,11 +90,11 @@ tells_unless line t e None = tells_or line t.telling e (event_fault t.telling.wo
 tells_unless line t e (Some why) = t
 
 -- one event more; after one that isn't allowed nothing is done
-unfoldable pub tells_on : ℕ → Told → Event → Told
-tells_on line t e = tells_unless line t e t.refused
+unfoldable pub reports_on : ℕ → Told → Event → Told
+reports_on line t e = tells_unless line t e t.refused
 
 unfoldable pub tells_all : ℕ → Told → List Event → Told
-tells_all line t es = fold (tells_on line) t es
+tells_all line t es = fold (reports_on line) t es
 
 -- the events of a line
 unfoldable pub tells_line : ℕ → Telling → Line → Told
@@ -102,7 +102,7 @@ tells_line line t said = tells_all line (told t) (line_events t.world said)
 
 -- ---- of a run
 
--- what is told of a run: its world, its counts and its texts
+-- what is reported of a run: its world, its counts and its texts
 abbrev pub telling_of : DomainConf → Run → Telling
 telling_of d r = record { world = r.world; counts = counts_of r; frames = capture_text d r; report = run_text d r; captures = true }
 
@@ -139,7 +139,7 @@ LineNamesOnce (line.Settle rounds) = Unit {0}
 abbrev pub at_line : ℕ → Option EventFault → Option (ℕ × EventFault)
 at_line line refused = option_map (λ why. (line, why)) refused
 
--- A line that is told is a line that is done: as far, and refused for the same reason.
+-- A line that is reported is a line that is done: as far, and refused for the same reason.
 pub record IsToldSo (d : DomainConf) (line : ℕ) (p : Progress) (t : Told) : Type 0 where
   pub run : IsRunOf d p.run
   pub telling : t.telling ≡ telling_of d p.run

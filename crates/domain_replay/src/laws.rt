@@ -1,4 +1,4 @@
-//! What is told of a run. The bodies are empty: the contracts are the laws.
+//! What is reported of a run. The bodies are empty: the contracts are the laws.
 ghost use Rattle.std.specs.Prelude.{◌≡◌, ℕ, None, length};
 ghost use Rattle.wire_base.specs.model.Configuration.{DomainConf};
 ghost use Rattle.replay_text.specs.declared.event.Line.{Line};
@@ -12,7 +12,7 @@ pub fn a_start_is_told()
     ensures told { (d : DomainConf) → first_telling d ≡ telling_of d (first_run d) }
 {}
 
-/// A line that is told event by event is the line as the run does it: the world, the counts and both texts are those of the run,
+/// A line that is reported event by event is the line as the run does it: the world, the counts and both texts are those of the run,
 /// and it is refused where the run is, for the same reason.
 #[tactic(auto, using(crate::proofs::TellingLaws::line_told))]
 pub fn each_line_is_told()

@@ -7,7 +7,7 @@
 mod asked;
 mod laws;
 mod replay;
-mod told_world;
+mod reported_world;
 
 pub use laws::{a_start_is_told, each_line_is_told};
 pub use replay::Replay;

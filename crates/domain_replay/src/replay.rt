@@ -8,7 +8,7 @@ ghost use Rattle.replay_report.specs.Lines.{done_text};
 ghost use Rattle.domain_replay.specs.Telling.{first_state, with_texts, told, tells_line, LineNamesOnce};
 ghost use Rattle.domain_replay.specs.Replaying.{StopsIn};
 
-use crate::told_world::ToldWorld;
+use crate::reported_world::ReportedWorld;
 use domain_model::EventFault;
 use replay_report::{Direction, push_done};
 use replay_text::Line;
@@ -23,7 +23,7 @@ use wire_base::{Domain, M, Octets, Rows};
 /// It keeps the directions of the domain's links, which no event changes.
 #[derive(Drop)]
 pub struct Replay {
-    told: ToldWorld,
+    told: ReportedWorld,
     directions: Rows<Direction>,
 }
 
@@ -42,7 +42,7 @@ impl Replay {
     fn start(alloc: Global, domain: Domain, captures: bool) -> M<Self>
         ensures { IfOk result (λ replay. replay ≡ first_state captures domain) }
     {
-        let told = ToldWorld::new(alloc, domain, captures)?;
+        let told = ReportedWorld::new(alloc, domain, captures)?;
         let directions = told.directions(alloc)?;
         Ok(Replay { told, directions })
     }

@@ -73,7 +73,7 @@ router_sound letter n overload subs peers s =
       peer_macs = s.macs_differ;
     }
 
--- a place in subdomain 0 with one label
+-- a place in sub-domain 0 with one label
 pub sub_fits : (id label : ℕ) → id < 65536 → 16 ≤ label → label ≤ 1048575 → IsOwnSub (sub id label)
 sub_fits id label a b c =
     record { sd = omega arith; id = a; few = omega arith; each = (record { max_si = omega arith; first = b; last = omega arith }, tt); lengths = (tt, tt) }

@@ -1,4 +1,4 @@
--- Small domains of one MPLS subdomain, on which the definitions are tried: level 2, area 49.0001, metrics of 10, and
+-- Small domains of one MPLS sub-domain, on which the definitions are tried: level 2, area 49.0001, metrics of 10, and
 -- bit strings of 64 bits. Routers are numbered from 1, and so are their systems and prefixes.
 use Rattle.std.specs.Prelude.{ℕ, ◌-◌, Bool, true, false, List, [], ◌∷◌, map}
 use Rattle.wire_base.specs.declared.addresses.SystemId.{SystemId}
@@ -31,7 +31,7 @@ mac n peer = record { 0 = 2 ∷ 0 ∷ 0 ∷ (n - 1) ∷ 0 ∷ (peer - 1) ∷ [] 
 abbrev pub end : ℕ → ℕ → End
 end n peer = record { peer = system peer; peer_mac = mac peer n; own_mac = mac n peer; metric = 10 }
 
--- a router's place in subdomain 0: its BFR-id, and one label
+-- a router's place in sub-domain 0: its BFR-id, and one label
 abbrev pub sub : ℕ → ℕ → OwnSub
 sub id label = record { sd = 0; id = id; ranges = record { bsl = B64; max_si = 0; label = label } ∷ [] }
 
@@ -99,7 +99,7 @@ fork_d = router 68 4 false (sub 4 400 ∷ []) (2 ∷ [])
 abbrev pub fork : DomainConf
 fork = record { routers = fork_a ∷ fork_p ∷ fork_c ∷ fork_d ∷ []; links = link 1 2 ∷ link 2 3 ∷ link 2 4 ∷ [] }
 
--- A, the overloaded B, and C in a line
+-- A, the with its overload bit set B, and C in a line
 abbrev pub line_a : RouterConf
 line_a = router 65 1 false (sub 1 100 ∷ []) (2 ∷ [])
 

@@ -91,7 +91,7 @@ copy entropy label ids outer =
 abbrev pub from_a : ℕ → ℕ → Option Outer
 from_a n ttl = Some (record { src = address 1; dst = address n; ttl = ttl })
 
--- a router with all its ends up, and a database
+-- a router with all its ends up, and an LSDB
 abbrev pub settled : RouterConf → List Entry → Control
 settled r entries =
     record {

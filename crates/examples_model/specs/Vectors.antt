@@ -2,7 +2,7 @@
 use Rattle.std.specs.Prelude.{ℕ, List, [], ◌∷◌, ◌++◌}
 
 -- the TLVs of A's LSP in the pair, where its link is up: area, protocols, name, the link to B, and its prefix with
--- the BIER Info of subdomain 0
+-- the BIER Info of sub-domain 0
 abbrev pub pair_a_content : List ℕ
 pair_a_content =
     1 ∷ 4 ∷ 3 ∷ 73 ∷ 0 ∷ 1
@@ -12,7 +12,7 @@ pair_a_content =
     ∷ 135 ∷ 23 ∷ 0 ∷ 0 ∷ 0 ∷ 0 ∷ 96 ∷ 10 ∷ 0 ∷ 0 ∷ 1 ∷ 13 ∷ 32 ∷ 11 ∷ 0 ∷ 0 ∷ 0 ∷ 0 ∷ 1 ∷ 1 ∷ 4 ∷ 0 ∷ 16 ∷ 0 ∷ 100
     ∷ []
 
--- A's first LSP, of level 2: 77 octets, a life of 1200, sequence number 1, checksum 55 4e, not overloaded
+-- A's first LSP, of level 2: 77 octets, a life of 1200, sequence number 1, checksum 55 4e, not with its overload bit set
 abbrev pub pair_a_lsp : List ℕ
 pair_a_lsp =
     131 ∷ 27 ∷ 1 ∷ 0 ∷ 20 ∷ 1 ∷ 0 ∷ 0

@@ -1,4 +1,4 @@
--- Views of the small domains, and databases on which single rules of the view are tried.
+-- Views of the small domains, and LSDBs on which single rules of the view are tried.
 use Rattle.std.specs.Prelude.{ℕ, Bool, true, false, List, [], ◌∷◌}
 use Rattle.std.specs.List.{flat_map}
 use Rattle.wire_base.specs.declared.conf.LabelRange.{LabelRange}

@@ -30,7 +30,7 @@ pub fn labels_that_touch()
     ensures shared { share_label (record { bsl = B64; max_si = 10; label = 100 }) (record { bsl = B128; max_si = 0; label = 110 }) ≡ true }
 {}
 
-/// A's one label means the first set of its one subdomain, and no other number means anything.
+/// A's one label means the first set of its one sub-domain, and no other number means anything.
 #[tactic(auto, unfolding(wire_base::specs::model::Place::means))]
 pub fn what_labels_mean()
     ensures label { means pair_a Mpls 100 ≡ Some (record { sd = 0; bsl = B64; si = 0 }) }

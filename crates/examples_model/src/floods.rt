@@ -15,7 +15,7 @@ ghost use Rattle.examples_model.specs.Entries.{told};
 ghost use Rattle.examples_model.specs.Floods.{no_flag, flags, head, summary, content, heard, told_by, told_whole, entry, flapped, aging, b_after_five};
 ghost use Rattle.examples_model.specs.Vectors.{pair_b_psnp};
 
-/// What an LSP on the first of two links asks for, and what the database is then.
+/// What an LSP on the first of two links asks for, and what the LSDB is then.
 #[tactic(auto, unfolding(wire_base::specs::model::Flooding::on_lsp, wire_base::specs::model::Flooding::mark_all))]
 pub fn what_an_lsp_asks()
     ensures sequence_0 { (heard (entry 1 7 1200 500 ∷ []) false (head 1 0 1200 500)).answer ≡ out.Zero }
@@ -40,7 +40,7 @@ pub fn which_flags_an_lsp_sets()
     ensures older { (heard (entry 1 7 1200 500 ∷ []) false (head 1 6 30 500)).flood.rows ≡ flags 1 (true ∷ false ∷ []) (false ∷ false ∷ []) ∷ [] }
 {}
 
-/// In a full database an unknown LSP finds no room, and is not acknowledged.
+/// In a full LSDB an unknown LSP finds no room, and is not acknowledged.
 #[tactic(auto, unfolding(wire_base::specs::model::Flooding::on_lsp))]
 pub fn a_full_database_takes_no_unknown_lsp()
     ensures { (entries : List Entry) → entry_in entries (lsp 1) ≡ None → is_full entries ≡ true → on_lsp no_flag entries 0 (head 1 7 1200 500) content false ≡ record { flood = no_flag; entries = entries; answer = out.Full } }

@@ -13,7 +13,7 @@ ghost use Rattle.examples_model.specs.Domains.{lsp, end, pair_a, pair_b, ring_b,
 ghost use Rattle.examples_model.specs.Views.{ring_lsps};
 ghost use Rattle.examples_model.specs.Frames.{ring_a_to_b, ring_a_to_d, fork_a_to_c, fork_p_to_c, fork_a_to_d, pair_lsp_frame, pair_csnp_frame, copy, from_a, settled, fork_lsps, ending, set_0, onward, got_3, at_1, down};
 
-/// The frames of items: copies to a neighbour and in tunnels, and a PDU.
+/// The frames of items: copies to a neighbor and in tunnels, and a PDU.
 #[tactic(auto, unfolding(wire_base::specs::model::Item::frame_of, wire_base::specs::model::Item::ingress_header, wire_base::specs::model::Tunnel::tunnel_head, wire_base::specs::model::BitSet::octets_of, wire_base::specs::model::OwnLsp::own_lsp, wire_base::specs::model::OwnLsp::own_content, wire_base::specs::model::Checksum::check_sum))]
 pub fn frames_of_items()
     ensures to_b { frame_of Two (end 1 2) (PacketItem (copy 0 200 (3 ∷ []) None)) ≡ ring_a_to_b }

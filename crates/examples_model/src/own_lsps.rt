@@ -25,7 +25,7 @@ pub fn pair_first_csnp()
     ensures { map (pdu Two) (send_of (first_control pair_a) 0) ≡ pair_a_csnp ∷ pair_a_lsp ∷ [] }
 {}
 
-/// A router that is in no subdomain says so by a prefix without sub-TLVs.
+/// A router that is in no sub-domain says so by a prefix without sub-TLVs.
 pub fn plain_router_lsp()
     ensures control { (own_prefix fork_p).control ≡ 32 }
     ensures subs { (own_prefix fork_p).subs ≡ [] }

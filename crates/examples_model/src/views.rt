@@ -6,14 +6,14 @@ ghost use Rattle.examples_model.specs.Domains.{lsp, pair_a, pair_b, ring_a, ring
 ghost use Rattle.examples_model.specs.Floods.{a_heard, b_settled};
 ghost use Rattle.examples_model.specs.Views.{edge, sub, node, all_up, first_lsp, ring_lsps, ring_view, line_view, lsp_with, seen, reach_to, links, prefix_with, prefixes, info, two_labels, a_alone};
 
-/// In the settled ring every router has the view of four nodes, each with its two neighbours.
+/// In the settled ring every router has the view of four nodes, each with its two neighbors.
 #[tactic(auto, unfolding(wire_base::specs::model::View::view_of, wire_base::specs::model::View::claims_of, wire_base::specs::model::OwnLsp::own_lsp, wire_base::specs::model::OwnLsp::own_content, wire_base::specs::model::Tlv::entries_of, wire_base::specs::model::Tlv::entries_within, wire_base::specs::model::Tlv::reach_at, wire_base::specs::model::Tlv::prefix_at, wire_base::specs::model::BierInfo::info_at, wire_base::specs::model::BierInfo::parts_within, wire_base::specs::model::BierInfo::take_part, wire_base::specs::model::BierInfo::any_overlap))]
 pub fn ring_settled_view()
     ensures a { view_of ring_a all_up ring_lsps ≡ ring_view }
     ensures c { view_of ring_c all_up ring_lsps ≡ ring_view }
 {}
 
-/// In the line the router in the middle is overloaded, and stays a node with its edges.
+/// In the line the router in the middle has its overload bit set, and stays a node with its edges.
 #[tactic(auto, unfolding(wire_base::specs::model::View::view_of, wire_base::specs::model::View::claims_of, wire_base::specs::model::OwnLsp::own_lsp, wire_base::specs::model::OwnLsp::own_content, wire_base::specs::model::Tlv::entries_of, wire_base::specs::model::Tlv::entries_within, wire_base::specs::model::Tlv::reach_at, wire_base::specs::model::Tlv::prefix_at, wire_base::specs::model::BierInfo::info_at, wire_base::specs::model::BierInfo::parts_within, wire_base::specs::model::BierInfo::take_part, wire_base::specs::model::BierInfo::any_overlap))]
 pub fn line_settled_view()
     ensures { view_of line_a all_up (first_lsp line_a ∷ first_lsp line_b ∷ first_lsp line_c ∷ []) ≡ line_view }
@@ -40,7 +40,7 @@ pub fn which_links_are_read()
     ensures cut { seen (record { code = 22; value = 0 ∷ 0 ∷ 0 ∷ 0 ∷ 0 ∷ 1 ∷ 0 ∷ 0 ∷ 0 ∷ 7 ∷ 1 ∷ [] } ∷ []) ≡ a_alone ∷ node 2 false [] [] ∷ [] }
 {}
 
-/// Which places in subdomains count: none of a system whose labels overlap, those of known subdomains, the first of each,
+/// Which places in sub-domains count: none of a system whose labels overlap, those of known sub-domains, the first of each,
 /// and no prefix of two systems.
 #[tactic(auto, unfolding(wire_base::specs::model::View::view_of, wire_base::specs::model::View::claims_of, wire_base::specs::model::OwnLsp::own_lsp, wire_base::specs::model::OwnLsp::own_content, wire_base::specs::model::Tlv::entries_of, wire_base::specs::model::Tlv::entries_within, wire_base::specs::model::Tlv::reach_at, wire_base::specs::model::Tlv::prefix_at, wire_base::specs::model::BierInfo::info_at, wire_base::specs::model::BierInfo::parts_within, wire_base::specs::model::BierInfo::take_part, wire_base::specs::model::BierInfo::any_overlap))]
 pub fn which_places_count()

@@ -24,7 +24,7 @@ ingress_there : slice_get (run_of pair settled_by).world.routers 0 ≡ Some ingr
 unfolding views_on_literals hops_on_literals floods_on_literals runs_on_literals
 ingress_there = refl
 
--- where no router's database changed, all agree
+-- where no router's LSDB changed, all agree
 agrees : (w : WorldState) → w.routers ≡ (run_of pair settled_by).world.routers → HasAgreed w 0 (control_view ingress)
 agrees w same = record {
   router = ingress;
@@ -33,7 +33,7 @@ agrees w same = record {
   agreed = λ b n c at reached. each_got (λ (d : Control). control_view d ≡ control_view ingress) (run_of pair settled_by).world.routers b c views_same (ap (λ (cs : List Control). slice_get cs b) (sym same) ∙ at);
 }
 
--- no event after them changes a database
+-- no event after them changes an LSDB
 stay_1 : (goes_on (run_of pair settled_by) enters).world.routers ≡ (run_of pair settled_by).world.routers
 unfolding views_on_literals hops_on_literals floods_on_literals runs_on_literals
 stay_1 = refl

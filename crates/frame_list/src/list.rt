@@ -8,7 +8,7 @@ use std::collections::VecDeque;
 use std::marker::Model;
 use wire_base::M;
 
-/// The room that a first frame takes for itself and those that follow: a few link state PDUs.
+/// The room that a first frame takes for itself and those that follow: a few LSPs.
 const FIRST_OCTETS: usize = 1024;
 
 const FIRST_FRAMES: usize = 8;
@@ -99,7 +99,7 @@ impl<N: Copy + Drop> FrameList<N> {
         self.append(note, octets)
     }
 
-    /// Appends the frames of another list, all with that note, their octets at once; nothing changes where memory is refused.
+    /// Appends the frames of another list, all with that note, their octets at once; nothing changes where memory runs out.
     #[tactic(auto, using(crate::proofs::SpanLaws::frames_joined, crate::proofs::SpanLaws::within_joined))]
     pub fn append_all<O: Copy + Drop>(&mut self, note: N, others: &FrameList<O>) -> M<()>
         ensures ok { OnOk result (self.new ≡ self.old ++ map (noted_as note) others.now) }
@@ -143,7 +143,7 @@ impl<N: Copy + Drop> FrameList<N> {
         Ok(())
     }
 
-    /// Appends a frame, however many octets are of frames that are gone. Where memory is refused for the span, octets of no frame
+    /// Appends a frame, however many octets are of frames that are gone. Where memory runs out for the span, octets of no frame
     /// are left.
     #[tactic(auto, using(crate::proofs::SpanLaws::frames_added, crate::proofs::SpanLaws::within_added, crate::proofs::SpanLaws::frames_kept, crate::proofs::SpanLaws::within_kept))]
     fn append(&mut self, note: N, octets: &[u8]) -> M<()>

@@ -1,4 +1,4 @@
--- Frames on their way, read off the list that they are kept in, and frames that are sent one after the other.
+-- Frames in flight, read off the list that they are kept in, and frames that are sent one after the other.
 use Rattle.std.proofs.Common.{◌≡◌, ◌∙◌, ◌≤◌, ◌+◌, ℕ, zero, suc, List, [], ◌∷◌, ◌++◌, length, map, take, drop, sum_by, slice_get, option_map, Option, Some, None, refl, ap, sym, arith}
 use Rattle.std.specs.List.{remove}
 use Rattle.std.proofs.lemmas.List.{map-append}

@@ -1,4 +1,4 @@
--- What is told of nothing.
+-- What is reported of nothing.
 use Rattle.std.proofs.Common.{◌≡◌, ◌∙◌, ℕ, List, [], map, Option, sym, ap}
 use Rattle.wire_base.specs.declared.conf.RouterConf.{RouterConf}
 use Rattle.wire_base.specs.declared.effects.Got.{Got}

@@ -1,4 +1,4 @@
--- Frames on their way: for each router and each of its ends those that go over that end, the oldest first, each with what
+-- Frames in flight: for each router and each of its ends those that go over that end, the oldest first, each with what
 -- its octets don't tell. And the items that they are.
 use Rattle.std.specs.Prelude.{◌≡◌, ℕ, List, [], ◌∷◌, ◌++◌, length, map, slice_index_or, slice_set, sum_by, Option, Some, None, option_map}
 use Rattle.std.specs.List.{fold, remove}

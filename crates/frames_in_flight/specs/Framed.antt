@@ -42,11 +42,11 @@ frame_over confs a link x = frame_from (slice_get confs a) link x
 abbrev pub sent_of : List RouterConf → Sending → Sent
 sent_of confs s = record { link = s.link; octets = frame_over confs s.from s.link s.item }
 
--- and what is told of it
+-- and what is reported of it
 abbrev pub wire_of : List RouterConf → Sending → WireFrame
 wire_of confs s = record { from = s.from; to = s.to; octets = frame_over confs s.from s.link s.item }
 
--- a frame that the router at place a sends, as it is told
+-- a frame that the router at place a sends, as it is reported
 abbrev pub wire_from : List RouterConf → ℕ → Sent → WireFrame
 wire_from confs a s = record { from = a; to = peer_place confs a s.link; octets = s.octets }
 

@@ -73,7 +73,7 @@ packet_carried confs to (Ok (IsisPdu octets)) = None
 packet_carried confs to (Ok OtherFrame) = None
 packet_carried confs to (Err fault) = None
 
--- The packet in a frame on its way to the router at a place.
+-- The packet in a frame in flight to the router at a place.
 abbrev pub packet_in : List RouterConf → ℕ → List ℕ → Option Packet
 packet_in confs to octets = packet_carried confs to (frame_at octets)
 

@@ -1,4 +1,4 @@
--- What is told of what happened.
+-- What is reported of what happened.
 use Rattle.std.specs.Prelude.{◌≡◌, ℕ, ◌<◌, List, [], length, map, Option}
 use Rattle.wire_base.specs.declared.conf.RouterConf.{RouterConf}
 use Rattle.wire_base.specs.model.OnFrame.{Effects}
@@ -11,7 +11,7 @@ use Rattle.frames_in_flight.specs.Framed.{wire_of, wire_from, got_line, drop_lin
 abbrev pub told : List RouterConf → Made → StepOut
 told confs m = record { sent = map (wire_of confs) m.sent; got = m.got; drops = m.drops }
 
--- nothing was sent, delivered or dropped, so nothing is told
+-- nothing was sent, delivered or dropped, so nothing is reported
 pub record IsSilent (e : Effects) : Type 0 where
   pub sent : e.sent ≡ []
   pub got : e.got ≡ []

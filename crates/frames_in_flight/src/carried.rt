@@ -1,4 +1,4 @@
-//! How many BFR-ids frames on their way have.
+//! How many BFR-ids frames in flight have.
 ghost use Rattle.std.specs.Prelude.{◌≡◌, ◌+◌, ◌≤◌, ℕ, length, Option, IfOk};
 ghost use Rattle.std.specs.List.{AllByRecursion};
 ghost use Rattle.wire_base.specs.model.Configuration.{IsSound};

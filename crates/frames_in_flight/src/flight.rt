@@ -1,4 +1,4 @@
-//! A frame on its way.
+//! A frame in flight.
 use std::marker::Model;
 use wire_base::Octets;
 
@@ -10,7 +10,7 @@ pub struct Note {
     pub to: u16,
 }
 
-/// A frame on its way, as contracts see it. It carries a packet where there is a note, and else a PDU of IS-IS.
+/// A frame in flight, as contracts see it. It carries a packet where there is a note, and else a PDU of IS-IS.
 #[derive(Drop)]
 pub struct Flight {
     pub octets: Octets,

@@ -1,4 +1,4 @@
-//! Frames on their way: a queue for each end of each router.
+//! Frames in flight: a queue for each end of each router.
 ghost use Rattle.std.specs.Prelude.{◌≡◌, ◌+◌, ◌≤◌, ◌∷◌, ◌++◌, ◌<◌, Some, [], nat_lt, List, length, map, slice_get, slice_index_or, slice_set, sum_by, OnOk, OnErr, IfOk};
 ghost use Rattle.std.specs.List.{AllByRecursion, remove};
 ghost use Rattle.wire_base.specs.model.Configuration.{IsSound};
@@ -14,7 +14,7 @@ use std::marker::Model;
 use wire_base::limits::MOST_ROUTERS;
 use wire_base::{End, M, Memory, RouterConf};
 
-/// The frames on their way over one end, the oldest first.
+/// The frames in flight over one end, the oldest first.
 #[derive(Drop)]
 struct Queue {
     frames: FrameList<Option<Note>>,
@@ -135,7 +135,7 @@ impl Queues {
         Ok(Queues { ends: queues })
     }
 
-    /// How many frames are on their way over an end; 0 where there is no such end.
+    /// How many frames are in flight over an end; 0 where there is no such end.
     fn len(&self, link: usize) -> usize
         ensures { result ≡ length (slice_index_or self.now link []) }
     {
@@ -170,7 +170,7 @@ impl Queues {
         }
     }
 
-    /// Puts a frame behind those on their way over an end, and says whether there is such an end.
+    /// Puts a frame behind those in flight over an end, and says whether there is such an end.
     fn push(&mut self, link: usize, octets: &[u8], note: Option<Note>) -> M<bool>
         ensures ok { OnOk result (self.new ≡ slice_set self.old link (slice_index_or self.old link [] ++ flight_with octets.now note ∷ [])) }
         ensures added { IfOk result (λ added. added ≡ nat_lt link (length self.old)) }
@@ -184,7 +184,7 @@ impl Queues {
         Ok(false)
     }
 
-    /// Puts frames behind those on their way over an end, all with that note, and says whether there is such an end.
+    /// Puts frames behind those in flight over an end, all with that note, and says whether there is such an end.
     fn push_all(&mut self, link: usize, frames: &FrameList<u16>, note: Option<Note>) -> M<bool>
         ensures ok { OnOk result (self.new ≡ slice_set self.old link (slice_index_or self.old link [] ++ map (flight_as note) frames.now)) }
         ensures added { IfOk result (λ added. added ≡ nat_lt link (length self.old)) }
@@ -212,7 +212,7 @@ impl Queues {
     }
 }
 
-/// All frames on their way. A direction of a link is named by the place of the router that sends there and its end.
+/// All frames in flight. A direction of a link is named by the place of the router that sends there and its end.
 ///
 /// Their number is kept, so that nothing is counted when it is asked for.
 #[derive(Drop)]
@@ -234,7 +234,7 @@ impl Model for Flights {
 }
 
 impl Flights {
-    /// Nothing is on its way in a domain of those routers.
+    /// Nothing is in flight in a domain of those routers.
     pub fn new(alloc: Global, confs: &[RouterConf]) -> M<Flights>
         ensures { IfOk result (λ flights. flights ≡ no_frames confs.now) }
     {
@@ -261,7 +261,7 @@ impl Flights {
         ids_in(self.routers.as_slice(), confs)
     }
 
-    /// How many are on their way in a direction; 0 where there is no such direction.
+    /// How many are in flight in a direction; 0 where there is no such direction.
     pub fn len(&self, place: u16, link: u16) -> usize
         ensures { result ≡ length (frames_at self.now place link) }
     {

@@ -1,4 +1,4 @@
-//! The packet in a frame on its way, which is read as the router reads it that it is for (RFC 8296, 2 and 3; RFC 2784, 2).
+//! The packet in a frame in flight, which is read as the router reads it that it is for (RFC 8296, 2 and 3; RFC 2784, 2).
 ghost use Rattle.std.specs.Prelude.{◌≡◌, ◌≤◌, Ok, length, slice_get};
 ghost use Rattle.std.specs.List.{AllByRecursion};
 ghost use Rattle.wire_base.specs.model.Configuration.{IsSound};
@@ -14,7 +14,7 @@ use link_frame::{Class, classify};
 use wire_base::limits::MOST_ROUTERS;
 use wire_base::{Kind, RouterConf};
 
-/// The packet in a frame on its way to the router at a place; none where it carries none.
+/// The packet in a frame in flight to the router at a place; none where it carries none.
 pub(crate) fn packet_in<'a>(confs: &[RouterConf], to: u16, octets: &'a [u8]) -> Option<Incoming<'a>>
     requires few { length confs.now ≤ MOST_ROUTERS }
     requires sound { AllByRecursion IsSound confs.now }

@@ -1,4 +1,4 @@
-//! What a router sends is put on its way.
+//! What a router sends is queued.
 ghost use Rattle.std.specs.Prelude.{◌≡◌, ◌≤◌, [], length, drop, OnOk, OnErr, OnSome, IfOk, IfSome};
 ghost use Rattle.std.specs.List.{AllByRecursion};
 ghost use Rattle.wire_base.specs.model.Configuration.{IsSound};
@@ -10,15 +10,15 @@ ghost use Rattle.domain_model.specs.World.{peer_place};
 use crate::flight::Note;
 use crate::flights::Flights;
 use crate::places::peer_place;
-use crate::told::{lines_of, with_sent};
+use crate::told::{reported_by, with_sent};
 use bier_forward::{Effects, SentFrames};
 use domain_model::StepOut;
 use wire_base::limits::MOST_ROUTERS;
 use wire_base::{M, RouterConf};
 
-/// What the router at a place did by itself, for that injection or for none, is told, and what it sent is put on its way; or
-/// all is as it was. Where one of its ends leads may be known.
-pub fn carry(
+/// What the router at a place did by itself, for that injection or for none, is reported, and what it sent is queued; or
+/// nothing has changed. Where one of its ends leads may be known.
+pub fn queue_sent(
     flights: &mut Flights,
     confs: &[RouterConf],
     at: u16,
@@ -33,7 +33,7 @@ pub fn carry(
     ensures ok { OnOk result (flights.new ≡ push_all_sent confs.now at number flights.old effects.sent) }
     ensures err { OnErr result (flights.new ≡ flights.old) }
 {
-    let lines = lines_of(effects.allocator(), confs, at, number, None, &effects)?;
+    let lines = reported_by(effects.allocator(), confs, at, number, None, &effects)?;
     send_all(flights, confs, at, number, &effects.sent)?;
     Ok(with_sent(lines, confs, at, known, effects.sent))
 }

@@ -9,7 +9,7 @@ ghost use Rattle.domain_model.specs.World.{peer_place};
 
 use crate::flights::Flights;
 use crate::sent::send_all;
-use crate::told::{lines_of, lost, number_of, with_sent};
+use crate::told::{lost, number_of, reported_by, with_sent};
 use bier_forward::Effects;
 use domain_model::StepOut;
 use std::alloc::Global;
@@ -17,7 +17,7 @@ use wire_base::limits::MOST_ROUTERS;
 use wire_base::{Cause, M, RouterConf};
 
 /// The frame at a place of those in a direction is dropped as a whole by the router at the place `at`, and is gone; or all is as
-/// it was. Nothing is told where there is no such frame.
+/// it was. Nothing is reported where there is no such frame.
 pub fn drop_flight(
     alloc: Global,
     flights: &mut Flights,
@@ -42,11 +42,11 @@ pub fn drop_flight(
     Ok(Some(out))
 }
 
-/// What the router at the place `at` did that took the frame at a place of those in a direction is told, and what it sent is put
-/// on its way; the frame is gone then. Or all is as it was. Nothing is told where there is no such frame.
+/// What the router at the place `at` did that took the frame at a place of those in a direction is reported, and what it sent is put
+/// in flight; the frame is gone then. Or nothing has changed. Nothing is reported where there is no such frame.
 ///
 /// Where one of its ends leads may be known.
-pub fn carry_taken(
+pub fn queue_taken(
     flights: &mut Flights,
     confs: &[RouterConf],
     place: u16,
@@ -69,7 +69,7 @@ pub fn carry_taken(
     };
     let number = number_of(&flight);
     let alloc = effects.allocator();
-    let lines = lines_of(alloc, confs, at, number, Some(&flight), &effects)?;
+    let lines = reported_by(alloc, confs, at, number, Some(&flight), &effects)?;
     send_all(flights, confs, at, number, &effects.sent)?;
     flights.remove(place, link, i as usize);
     Ok(Some(with_sent(lines, confs, at, known, effects.sent)))

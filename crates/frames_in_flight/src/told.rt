@@ -1,4 +1,4 @@
-//! What is told of what a router does.
+//! What is reported of what a router does.
 ghost use Rattle.std.specs.Prelude.{◌≡◌, ◌↔◌, ◌≤◌, IsTrue, ◌++◌, ◌∷◌, [], ℕ, length, map, filter, Option, option_map, IfOk, IfSome, OnOk, OnErr};
 ghost use Rattle.std.specs.List.{AllByRecursion};
 ghost use Rattle.wire_base.specs.model.BitSet.{has_member};
@@ -27,9 +27,9 @@ use std::alloc::Global;
 use wire_base::limits::MOST_ROUTERS;
 use wire_base::{Cause, Got, M, RouterConf, Rows, Triple};
 
-/// What is told of what the router at a place delivered and dropped, for that injection or for none, having taken that frame or
+/// What is reported of what the router at a place delivered and dropped, for that injection or for none, having taken that frame or
 /// none. Where it did neither, no memory is taken.
-pub fn lines_of(
+pub fn reported_by(
     alloc: Global,
     confs: &[RouterConf],
     at: u16,
@@ -250,7 +250,7 @@ fn push_id(ids: &mut Rows<u16>, triple: Triple, bits: &AnyBits, position: u16) -
     Ok(())
 }
 
-/// What is told of a frame that the router at a place drops as a whole.
+/// What is reported of a frame that the router at a place drops as a whole.
 #[tactic(auto, unfolding(crate::specs::Read::item_in))]
 pub fn lost(
     alloc: Global,

@@ -70,7 +70,7 @@ routers_are n few = record {
   prefixes = all_apart n few of_prefix router_entry prefixes_differ;
 }
 
--- ---- their subdomains
+-- ---- their sub-domains
 
 -- entries of different routers
 other_router : (i j : ℕ) (b : Bool) → eqb i j ≡ false → (eqb j i && b) ≡ false

@@ -36,7 +36,7 @@ area = 73 ∷ 0 ∷ 1 ∷ []
 abbrev pub range : LabelRange
 range = record { bsl = B256; max_si = 0; label = 16000 }
 
--- subdomain 0, with the BFR-id i + 1
+-- sub-domain 0, with the BFR-id i + 1
 abbrev pub own_sub : ℕ → OwnSub
 own_sub i = record { sd = 0; id = i + 1; ranges = range ∷ [] }
 

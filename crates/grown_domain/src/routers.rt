@@ -89,7 +89,7 @@ fn ends_of(alloc: Global, links: &[Link], place: u16) -> M<Rows<End>>
     Ok(ends)
 }
 
-/// The subdomain of all routers, with the router's own BFR-id.
+/// The sub-domain of all routers, with the router's own BFR-id.
 fn subs_of(alloc: Global, place: u16) -> M<Rows<OwnSub>>
     requires { place < 250 }
     ensures { IfOk result (λ subs. subs ≡ spec.own_sub place ∷ []) }

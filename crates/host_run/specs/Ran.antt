@@ -6,17 +6,17 @@ use Rattle.wire_base.specs.declared.status.Status.TheVariants.{ReadFault, WriteF
 use Rattle.command_line.specs.CommandLine.{CommandLine}
 use Rattle.command_line.specs.Words.{form_of, router_of}
 use Rattle.tool_host.specs.Named.{conf_path, input_path, frames_path}
-use Rattle.tool_host.specs.declared.files.WriterSink.{WriterSink}
+use Rattle.tool_host.specs.declared.files.StdoutSink.{StdoutSink}
 use Rattle.command_drive.specs.Answer.{IsDecided}
 use Rattle.replay_run.specs.Endings.{ComesOn}
 use Rattle.replay_run.specs.Verdict.{verdict}
 
--- the octets of the file at a path, where there is a path and they are told
+-- the octets of the file at a path, where there is a path and they are known
 abbrev pub held : (List ℕ → Option (List ℕ)) → Option (List ℕ) → Option (List ℕ)
 held at None = None
 held at (Some path) = at path
 
-pub record Ran {W : Type 0} (at : List ℕ → Option (List ℕ)) (contents : W → Option (List ℕ)) (line : CommandLine) (ended : Status) (old new : WriterSink W) : Type 0 where
+pub record Ran {W : Type 0} (at : List ℕ → Option (List ℕ)) (contents : W → Option (List ℕ)) (line : CommandLine) (ended : Status) (old new : StdoutSink W) : Type 0 where
   -- the status and the report are the verdict on the files at the paths that the command line gives
   pub verdict : IsDecided ended → IfSome (verdict (form_of line) (router_of line) (held at (conf_path line)) (held at (input_path line)))
       (λ owed. (ended ≡ owed.status) × Appends (contents old.out) (contents new.out) owed.report)

@@ -8,7 +8,7 @@ use crate::files::run_over;
 use command_line::parse;
 use std::alloc::{AllocError, Global};
 use std::io::Write;
-use tool_host::{FileSystem, Objects, WriterSink, words_of};
+use tool_host::{FileSystem, Objects, StdoutSink, words_of};
 use wire_base::Status;
 
 /// All that the program does on the arguments behind its name.
@@ -16,7 +16,7 @@ pub fn run_words<F: FileSystem, W: Write>(
     alloc: Global,
     words: &[&str],
     files: &F,
-    report: &mut WriterSink<W>,
+    report: &mut StdoutSink<W>,
 ) -> Status
     requires { IsFresh report.old }
     ensures { Ran (F.at files.now) W.contents (command_line_in words.now) result report.old report.new }
@@ -30,7 +30,7 @@ pub fn run_arguments<F: FileSystem, W: Write>(
     alloc: Global,
     args: &[String],
     files: &F,
-    report: &mut WriterSink<W>,
+    report: &mut StdoutSink<W>,
 ) -> Result<Status, AllocError>
     requires { IsFresh report.old }
     ensures ran { IfOk result (λ ended. Ran (F.at files.now) W.contents (command_line (map string_bytes (drop 1 args.now))) ended report.old report.new) }

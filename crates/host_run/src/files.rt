@@ -12,7 +12,7 @@ ghost use Rattle.tool_host.specs.Named.{AreNamed};
 use replay_run::run;
 use std::alloc::Global;
 use std::io::Write;
-use tool_host::{FileSink, FileSource, FileSystem, Objects, WriterSink};
+use tool_host::{FileSink, FileSource, FileSystem, Objects, StdoutSink};
 use wire_base::{Sink, Source, Status};
 
 /// Runs on those words over the files that they name, none of which was opened yet.
@@ -20,7 +20,7 @@ pub(crate) fn run_over<'a, F: FileSystem, W: Write>(
     alloc: Global,
     words: &[&str],
     objects: &mut Objects<'a, F>,
-    report: &mut WriterSink<W>,
+    report: &mut StdoutSink<W>,
 ) -> Status
     requires named { AreNamed (command_line_in words.now) objects.old }
     requires fresh { AreFresh objects.old }
@@ -30,7 +30,7 @@ pub(crate) fn run_over<'a, F: FileSystem, W: Write>(
         (λ owed. Meets owed result (W.contents report.old.out) (W.contents report.new.out)
         (⟦<FileSink<'a, F> as Sink>⟧.written objects.old.frames) (⟦<FileSink<'a, F> as Sink>⟧.written objects.new.frames)) }
     ensures statuses { ComesOn (form_in words.now) result }
-    ensures faults { CountsFaults ⟦<FileSource<'a, F> as Source>⟧ ⟦<FileSource<'a, F> as Source>⟧ ⟦<FileSink<'a, F> as Sink>⟧ ⟦<WriterSink<W> as Sink>⟧ result
+    ensures faults { CountsFaults ⟦<FileSource<'a, F> as Source>⟧ ⟦<FileSource<'a, F> as Source>⟧ ⟦<FileSink<'a, F> as Sink>⟧ ⟦<StdoutSink<W> as Sink>⟧ result
         objects.old.conf objects.new.conf objects.old.input objects.new.input objects.old.frames objects.new.frames report.old report.new }
     ensures alone { LeavesAlone (form_in words.now) result objects.old.conf objects.new.conf objects.old.input objects.new.input objects.old.frames objects.new.frames }
 {

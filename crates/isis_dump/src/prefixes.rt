@@ -4,6 +4,7 @@ use crate::tlvs::{show_fault, show_unknown};
 use bier_subtlv::{Info, read_info};
 use isis_tlv::{PrefixEntry, PrefixWalk, Tlv, TlvWalk};
 use std::fmt::Write;
+use wire_base::codepoints::SUB_TLV_BIER_INFO;
 use wire_base::{Ipv4, LabelRange, M};
 
 /// Appends the entries of a TLV 135, to its end or to the first that can't be read.
@@ -32,7 +33,7 @@ fn show_prefix(text: &mut String, prefix: &PrefixEntry<'_>) -> M<()> {
 }
 
 fn show_sub(text: &mut String, sub: Tlv<'_>) -> M<()> {
-    if sub.code != 32 {
+    if sub.code != SUB_TLV_BIER_INFO {
         return show_unknown(text, "    ", "sub", sub.code, sub.value);
     }
     match read_info(sub.value) {

@@ -3,7 +3,11 @@ use crate::octets::{show_area, show_hex, show_name, show_refused};
 use crate::prefixes::show_prefixes;
 use isis_tlv::{Reach, ReachWalk, SummaryWalk, Tlv, TlvFault, TlvWalk};
 use std::fmt::Write;
-use wire_base::fields::counted_of;
+use wire_base::codepoints::{
+    TLV_AREA_ADDRESSES, TLV_DYNAMIC_HOSTNAME, TLV_EXTENDED_IP_REACH, TLV_EXTENDED_IS_REACH,
+    TLV_LSP_ENTRIES, TLV_PROTOCOLS_SUPPORTED,
+};
+use wire_base::fields::read_counted;
 use wire_base::{M, Summary};
 
 /// Appends the lines of all TLVs.
@@ -24,12 +28,12 @@ pub fn show_fault(text: &mut String, indent: &str, what: &str, fault: TlvFault) 
 
 fn show_tlv(text: &mut String, tlv: Tlv<'_>) -> M<()> {
     match tlv.code {
-        1 => show_areas(text, tlv.value),
-        9 => show_summaries(text, tlv.value),
-        22 => show_reaches(text, tlv.value),
-        129 => show_protocols(text, tlv.value),
-        135 => show_prefixes(text, tlv.value),
-        137 => show_host_name(text, tlv.value),
+        TLV_AREA_ADDRESSES => show_areas(text, tlv.value),
+        TLV_LSP_ENTRIES => show_summaries(text, tlv.value),
+        TLV_EXTENDED_IS_REACH => show_reaches(text, tlv.value),
+        TLV_PROTOCOLS_SUPPORTED => show_protocols(text, tlv.value),
+        TLV_EXTENDED_IP_REACH => show_prefixes(text, tlv.value),
+        TLV_DYNAMIC_HOSTNAME => show_host_name(text, tlv.value),
         code => show_unknown(text, "  ", "tlv", code, tlv.value),
     }
 }
@@ -46,7 +50,7 @@ pub fn show_unknown(text: &mut String, indent: &str, what: &str, code: u8, value
 fn show_areas(text: &mut String, value: &[u8]) -> M<()> {
     let mut rest = value;
     'areas: while !rest.is_empty() {
-        match counted_of(TlvFault::EntryShort, rest) {
+        match read_counted(TlvFault::EntryShort, rest) {
             Ok((area, after)) => {
                 text.push_str("  area ")?;
                 show_area(text, area)?;

@@ -17,7 +17,7 @@ use Rattle.wire_base.specs.declared.memory.Memory.{Memory}
 use Rattle.wire_base.specs.declared.triple.Summary.{Summary}
 use Rattle.wire_base.specs.model.Control.{same_system, same_id, id_order, entry_in, put_entry, purge, is_full, is_unknown, is_newer_or_confused, age_of, age_by_life, seq_of, Flood, fragment_0}
 use Rattle.wire_base.specs.model.Pdu.{Head, head_summary}
-use Rattle.wire_base.specs.model.Flooding.{LspAnswer, SnpAnswer, mark_all, kept, on_lsp, lsp_in, lsp_aged, is_own_ahead, is_stray, wanted, is_live_summary, listed_aged, on_listed, on_list, lacks, send_lacking, nothing_asked, with_row, set_srm}
+use Rattle.wire_base.specs.model.Flooding.{LspAnswer, SnpAnswer, mark_all, kept, on_lsp, lsp_in, lsp_aged, is_own_ahead, is_unheld_own, wanted, is_live_summary, listed_aged, on_listed, on_list, lacks, send_lacking, nothing_asked, with_row, set_srm}
 use Rattle.lsp_store.proofs.OrderLaws.{id_total, tie_is_same, above_differs}
 use Rattle.isis_flood.specs.Answers.{LspDone, SnpDone, csnp_listed}
 use Rattle.isis_flood.specs.Kept.{IsAtMost, Stays, NotLowered}
@@ -132,7 +132,7 @@ pub unknown_stays : (o : Option Entry) (s : Summary) (new : Entry) → age_of o 
 unknown_stays None s new h = tt
 unknown_stays (Some e) s new h = absurd (true≢false (sym (ap is_unknown h) ∙ unknown_is_none (Some e) s))
 
--- ---- a link state PDU
+-- ---- an LSP
 
 -- what a PDU leaves as it was, and never takes back
 pub record Keeps (f : Flood) (es : List Entry) (g : Flood) (new : List Entry) : Type 0 where
@@ -197,7 +197,7 @@ lsp_keeps f es link h tlvs spent = aged (age_of (entry_in es h.id) (head_summary
     aged a is =
         lsp_if f es (h.seq == 0) _ _ (λ _. same_keeps f es f refl refl) (λ _.
         lsp_if f es (is_own_ahead f h.id spent a) _ _ (λ _. same_keeps f es f refl refl) (λ _.
-        lsp_if f es (is_stray f h a) _ _ (λ stray.
+        lsp_if f es (is_unheld_own f h a) _ _ (λ stray.
         lsp_if f es (is_unknown a && is_full es) _ _ (λ _. same_keeps f es f refl refl) (λ _.
         puts_keeps f es h.id (head_summary h) (ap (λ (a : Age). is_unknown a || is_newer_or_confused a) is ∙ (and_parts (nat_lt 0 h.life) (is_unknown a || is_newer_or_confused a) (and_parts (same_system h.id.system f.own) (nat_lt 0 h.life && (is_unknown a || is_newer_or_confused a)) stray).1).1)))
         (λ _. aged_keeps f es link h tlvs a is)))
@@ -348,7 +348,7 @@ all_pass p (e ∷ es) = cases (all_pass p es) (p e)
     cases again true = omega (arith, again)
     cases again false = omega (arith, again)
 
--- A CSNP lacks at most as many entries as there were before it: those that it makes the database wait for are dead.
+-- A CSNP lacks at most as many entries as there were before it: those that it makes the LSDB wait for are dead.
 pub lacking_few : (link : ℕ) (start last : LspId) (listed rows : List Summary) (spent : Bool) (a b : SnpAnswer) → b ≡ fold (on_listed link spent) a rows → length (filter (lacks start last listed) b.entries) ≤ length a.entries
 lacking_few link start last listed rows spent a b is =
     let fewer = filter_fewer (lacks start last listed) live (λ e h. (and_parts _ _ h).0) b.entries in

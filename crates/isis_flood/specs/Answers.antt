@@ -13,7 +13,7 @@ abbrev pub LspDone : Result FloodOut Memory → Flood → List Entry → Flood �
 LspDone (Ok answer) f entries new_f new_entries rules = rules ≡ record { flood = new_f; entries = new_entries; answer = answer }
 LspDone (Err memory) f entries new_f new_entries rules = (new_f ≡ f) × (new_entries ≡ entries)
 
--- a state of flooding, a database and what is asked for
+-- a state of flooding, an LSDB and what is asked for
 abbrev pub state_of : Flood → List Entry → SnpOut → SnpAnswer
 state_of f entries answer = record { flood = f; entries = entries; answer = answer }
 

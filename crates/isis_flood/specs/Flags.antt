@@ -7,7 +7,7 @@ use Rattle.wire_base.specs.model.Control.{FlagRow}
 abbrev pub has_flag : (FlagRow → List Bool) → List FlagRow → ℕ → Bool
 has_flag flags rows link = list_any (λ row. slice_index_or (flags row) link false) rows
 
--- whether the link state PDU of some identifier is to be sent on a link
+-- whether the LSP of some identifier is to be sent on a link
 abbrev pub has_srm : List FlagRow → ℕ → Bool
 has_srm rows link = has_flag (λ row. row.srm) rows link
 

@@ -14,6 +14,6 @@ Stays None now = Unit {0}
 Stays (Some e) None = ⊥
 Stays (Some e) (Some now) = IsAtMost e now
 
--- each entry of a database stays, and none is lowered
+-- each entry of an LSDB stays, and none is lowered
 pub record NotLowered (old new : List Entry) : Type 0 where
   pub each : (id : LspId) → Stays (entry_in old id) (entry_in new id)

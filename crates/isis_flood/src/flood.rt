@@ -11,8 +11,8 @@ use std::alloc::Global;
 use std::marker::Model;
 use wire_base::{LspId, M, SystemId};
 
-/// What flooding keeps beside the database: which links are up, on which of them a CSNP is due, and for each identifier
-/// the links on which its link state PDU is to be sent (SRM) and on which it is to be acknowledged or asked for (SSN).
+/// What flooding keeps beside the LSDB: which links are up, on which of them a CSNP is due, and for each identifier
+/// the links on which its LSP is to be sent (SRM) and on which it is to be acknowledged or asked for (SSN).
 /// Contracts see these, and for how many more identifiers it has the memory already (ISO/IEC 10589, 7.3.15).
 #[derive(Drop)]
 pub struct Flood {
@@ -65,21 +65,21 @@ impl Flood {
         has_of(self.due, self.links, link)
     }
 
-    /// Whether the link state PDU of an identifier is to be sent on a link.
+    /// Whether the LSP of an identifier is to be sent on a link.
     pub fn srm(&self, id: LspId, link: u16) -> bool
         ensures { result ≡ srm_in self.now.flood.rows id link }
     {
         has_of(self.table.get(&id).srm, self.links, link)
     }
 
-    /// Whether the link state PDU of an identifier is to be acknowledged or asked for on a link.
+    /// Whether the LSP of an identifier is to be acknowledged or asked for on a link.
     pub fn ssn(&self, id: LspId, link: u16) -> bool
         ensures { result ≡ ssn_in self.now.flood.rows id link }
     {
         has_of(self.table.get(&id).ssn, self.links, link)
     }
 
-    /// Whether the link state PDU of some identifier may be to be sent on a link: false only where none is. It reads no
+    /// Whether the LSP of some identifier may be to be sent on a link: false only where none is. It reads no
     /// row, and is false where none was to be sent there when `sent` or `link_down` was last called, and none came since.
     pub fn may_send(&self, link: u16) -> bool
         ensures { result ≡ false → has_srm self.now.flood.rows link ≡ false }
@@ -90,7 +90,7 @@ impl Flood {
         self.table.may_send(link)
     }
 
-    /// Whether the link state PDU of some identifier may be to be acknowledged or asked for on a link: false only where
+    /// Whether the LSP of some identifier may be to be acknowledged or asked for on a link: false only where
     /// none is. It reads no row, and is false after `sent` and `link_down` until one comes.
     pub fn may_ask(&self, link: u16) -> bool
         ensures { result ≡ false → has_ssn self.now.flood.rows link ≡ false }
@@ -116,7 +116,7 @@ impl Flood {
         self.table.id_at(place)
     }
 
-    /// The place of the first row from a place on whose link state PDU is to be sent on a link, or the number of rows.
+    /// The place of the first row from a place on whose LSP is to be sent on a link, or the number of rows.
     pub fn next_sent(&self, from: usize, link: u16) -> usize
         requires { link < length self.now.flood.up }
         ensures { result ≡ from + position_or_len (λ row. slice_index_or row.srm link false) (drop from self.now.flood.rows) }
@@ -124,7 +124,7 @@ impl Flood {
         self.table.next_sent(from, link)
     }
 
-    /// The place of the first row from a place on whose link state PDU is to be acknowledged or asked for on a link, or the
+    /// The place of the first row from a place on whose LSP is to be acknowledged or asked for on a link, or the
     /// number of rows.
     pub fn next_asked(&self, from: usize, link: u16) -> usize
         requires { link < length self.now.flood.up }
@@ -165,7 +165,7 @@ impl Flood {
         self.table.remove(&id);
     }
 
-    /// Where the row of an identifier stands, or would stand. Its entry mostly stands at the same place of the database.
+    /// Where the row of an identifier stands, or would stand. Its entry mostly stands at the same place of the LSDB.
     pub(crate) fn place_of(&self, id: &LspId) -> usize {
         self.table.find(id).place
     }
@@ -302,7 +302,7 @@ impl Flood {
     }
 
     /// All that was due on a link was sent: no CSNP is due there, and nothing is to be acknowledged or asked for. An
-    /// acknowledgement alone ends the sending of a link state PDU (ISO/IEC 10589, 7.3.15.4).
+    /// acknowledgement alone ends the sending of an LSP (ISO/IEC 10589, 7.3.15.4).
     pub fn sent(&mut self, link: u16)
         ensures flood { self.new.flood ≡ sent_on self.old.flood link }
         ensures spare { self.new.spare ≡ self.old.spare }

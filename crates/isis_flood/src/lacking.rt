@@ -73,7 +73,7 @@ impl Flood {
     }
 
     /// A complete sequence numbers PDU from `start` to `last` that came on a link, with the octets of its TLVs. The
-    /// answer is that of a partial one (ISO/IEC 10589, 7.3.15.2). Where memory runs out, all is as it was.
+    /// answer is that of a partial one (ISO/IEC 10589, 7.3.15.2). Where memory runs out, nothing has changed.
     #[tactic(auto, unfolding(wire_base::specs::model::Flooding::on_csnp))]
     pub fn on_csnp(
         &mut self,
@@ -88,7 +88,7 @@ impl Flood {
         requires tlvs { length tlvs.now ≤ 65535 }
         ensures done { SnpDone result self.old.flood store.old.entries self.new.flood store.new.entries (on_csnp self.old.flood store.old.entries link start last tlvs.now spent) }
         ensures kept { NotLowered store.old.entries store.new.entries }
-        // An entry that the PDU makes the database wait for is none that the PDU lacks.
+        // An entry that the PDU makes the LSDB wait for is none that the PDU lacks.
         ensures spare { self.old.spare ≤ self.new.spare + (length (rows_of tlvs.now) + length store.old.entries) }
         ensures links { length self.new.flood.up ≡ length self.old.flood.up }
     {

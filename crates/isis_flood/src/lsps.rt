@@ -1,7 +1,7 @@
-//! Link state PDUs that are received (ISO/IEC 10589, 7.3.15.1 and 7.3.16).
+//! LSPs that are received (ISO/IEC 10589, 7.3.15.1 and 7.3.16).
 ghost use Rattle.std.specs.Prelude.{◌≡◌, ◌<◌, ◌≤◌, ◌+◌, ◌&&◌, not, length, true, false, if◌then◌else◌, IfOk, OnOk, OnErr};
 ghost use Rattle.wire_base.specs.model.Control.{entry_in, put_entry, age_of, is_full, is_unknown, is_newer_or_confused, purge};
-ghost use Rattle.wire_base.specs.model.Flooding.{mark_all, pass_on, kept, on_lsp, lsp_aged, stores, only_says, puts_marked, is_own_ahead, is_stray};
+ghost use Rattle.wire_base.specs.model.Flooding.{mark_all, pass_on, kept, on_lsp, lsp_aged, stores, only_says, puts_marked, is_own_ahead, is_unheld_own};
 ghost use Rattle.wire_base.specs.declared.entry.Age.TheVariants.{Unknown};
 ghost use Rattle.wire_base.specs.declared.flood_out.FloodOut.TheVariants as out;
 ghost use Rattle.wire_base.specs.model.Pdu.{head_summary};
@@ -17,7 +17,7 @@ use std::alloc::Global;
 use wire_base::limits::MOST_ENTRIES;
 use wire_base::{Age, Entry, FloodOut, LspId, M, Memory, Octets, Summary};
 
-/// What a sequence numbers PDU says of a link state PDU.
+/// What a sequence numbers PDU says of an LSP.
 fn summary_of(head: &LspHead) -> Summary
     ensures { result ≡ head_summary (head_of head.now) }
 {
@@ -29,7 +29,7 @@ fn summary_of(head: &LspHead) -> Summary
     }
 }
 
-/// What a database keeps of a link state PDU: of a dead one a purge.
+/// What an LSDB keeps of an LSP: of a dead one a purge.
 fn kept(alloc: Global, head: &LspHead, tlvs: &[u8]) -> M<Entry>
     ensures entry { IfOk result (λ e. e ≡ kept (head_of head.now) tlvs.now) }
     ensures id { IfOk result (λ e. e.id ≡ head.now.id) }
@@ -60,7 +60,7 @@ fn put_into(store: &mut Store, e: Entry, guess: usize) -> M<()>
     }
 }
 
-/// Whether a database takes no new identifier.
+/// Whether an LSDB takes no new identifier.
 pub(crate) fn is_full(store: &Store) -> bool
     ensures { result ≡ is_full store.now.entries }
 {
@@ -126,9 +126,9 @@ impl Flood {
         is_same_id(*id, LspId::fragment_0(self.own()))
     }
 
-    /// A live link state PDU of the own system that the router doesn't have.
-    fn is_stray(&self, head: &LspHead, age: Age) -> bool
-        ensures { result ≡ is_stray self.now.flood (head_of head.now) age }
+    /// A live LSP of the own system that the router doesn't have.
+    fn is_unheld_own(&self, head: &LspHead, age: Age) -> bool
+        ensures { result ≡ is_unheld_own self.now.flood (head_of head.now) age }
     {
         if head.life == 0 || !(is_unknown(age) || is_newer_or_confused(age)) {
             return false;
@@ -192,7 +192,7 @@ impl Flood {
         self.keep(store, link, head, tlvs, guess)
     }
 
-    /// By how new it is, where it isn't a matter of the own link state PDUs. Where its row and its entry stand may be guessed.
+    /// By how new it is, where it isn't a matter of the own LSPs. Where its row and its entry stand may be guessed.
     fn on_aged(
         &mut self,
         store: &mut Store,
@@ -226,10 +226,10 @@ impl Flood {
         }
     }
 
-    /// A link state PDU that came on a link. `spent` says that the router issues no link state PDU of its own. The
+    /// An LSP that came on a link. `spent` says that the router issues no LSP of its own. The
     /// answer is what is asked for beside what is done here: that the own one be issued anew, that this one be
-    /// acknowledged at once, or that it was dropped, because the database is full or its sequence number is 0
-    /// (ISO/IEC 10589, 7.3.15.1 and 7.3.16). Where memory runs out, all is as it was.
+    /// acknowledged at once, or that it was dropped, because the LSDB is full or its sequence number is 0
+    /// (ISO/IEC 10589, 7.3.15.1 and 7.3.16). Where memory runs out, nothing has changed.
     pub fn on_lsp(
         &mut self,
         store: &mut Store,
@@ -247,7 +247,7 @@ impl Flood {
         self.apply_lsp(store, link, head, tlvs, spent)
     }
 
-    /// The rules for a link state PDU, the first that holds.
+    /// The rules for an LSP, the first that holds.
     #[tactic(auto, unfolding(wire_base::specs::model::Flooding::on_lsp))]
     fn apply_lsp(
         &mut self,
@@ -270,7 +270,7 @@ impl Flood {
         if self.is_own_ahead(&head.id, spent, age) {
             return Ok(FloodOut::Reissue(head.seq));
         }
-        if self.is_stray(head, age) {
+        if self.is_unheld_own(head, age) {
             return self.on_stray(store, head, age);
         }
         self.on_aged(store, link, head, tlvs, age, guess)

@@ -16,7 +16,7 @@ use std::alloc::Global;
 use wire_base::limits::PURGE_HOLD;
 use wire_base::{Age, Entry, LspId, M, Memory, Octets, SnpOut, Summary};
 
-/// The empty entry that asks for an unknown link state PDU until it comes.
+/// The empty entry that asks for an unknown LSP until it comes.
 fn wanted(alloc: Global, s: &Summary) -> Entry
     ensures { result ≡ wanted s.now }
 {
@@ -32,8 +32,8 @@ fn wanted(alloc: Global, s: &Summary) -> Entry
 }
 
 impl Flood {
-    /// Asks for an unknown one, where the database has room.
-    fn want_it(
+    /// Asks for an unknown one, where the LSDB has room.
+    fn request(
         &mut self,
         store: &mut Store,
         link: u16,
@@ -115,7 +115,7 @@ impl Flood {
         match age {
             Age::Unknown => {
                 if s.is_live() {
-                    self.want_it(store, link, s, guess, answer)
+                    self.request(store, link, s, guess, answer)
                 } else {
                     Ok(())
                 }
@@ -189,8 +189,8 @@ impl Flood {
     }
 
     /// A partial sequence numbers PDU that came on a link, with the octets of its TLVs. The answer is the sequence
-    /// number past which the own link state PDU must be issued, if one was listed that is at odds with it, and how many
-    /// entries found no room (ISO/IEC 10589, 7.3.15.2). Where memory runs out, all is as it was.
+    /// number past which the own LSP must be issued, if one was listed that is at odds with it, and how many
+    /// entries found no room (ISO/IEC 10589, 7.3.15.2). Where memory runs out, nothing has changed.
     #[tactic(auto, unfolding(wire_base::specs::model::Flooding::on_psnp))]
     pub fn on_psnp(&mut self, store: &mut Store, link: u16, tlvs: &[u8], spent: bool) -> M<SnpOut>
         requires link { link < length self.old.flood.up }

@@ -11,7 +11,7 @@ use std::alloc::Global;
 use std::marker::Model;
 use wire_base::{LspId, M};
 
-/// On which links a link state PDU is to be sent, and on which it is to be acknowledged or asked for: bit i of a mask
+/// On which links an LSP is to be sent, and on which it is to be acknowledged or asked for: bit i of a mask
 /// is the link at place i.
 #[derive(Clone, Copy)]
 pub(crate) struct Bits {

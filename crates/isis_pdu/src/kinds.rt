@@ -1,6 +1,6 @@
 use wire_base::{LspId, SystemId};
 
-/// The head of a link state PDU: the seconds that it has to live, 0 where it is dead, its identifier, its sequence
+/// The head of an LSP: the seconds that it has to live, 0 where it is dead, its identifier, its sequence
 /// number, its checksum and its flags octet (ISO/IEC 10589, 9.8).
 #[derive(Clone, Copy)]
 pub struct LspHead {
@@ -15,7 +15,7 @@ pub struct LspHead {
 /// octet (ISO/IEC 10589, 9.5 to 9.13).
 #[derive(Clone, Copy)]
 pub enum Pdu<'a> {
-    /// A link state PDU.
+    /// An LSP.
     Lsp {
         head: LspHead,
         tlvs: &'a [u8],

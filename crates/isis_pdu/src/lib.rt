@@ -1,4 +1,4 @@
-//! IS-IS PDUs, read and written, and the checksum of link state PDUs (ISO/IEC 10589, 7.3.11 and 9.8 to 9.13).
+//! IS-IS PDUs, read and written, and the checksum of LSPs (ISO/IEC 10589, 7.3.11 and 9.8 to 9.13).
 //!
 //! It stands on `isis_tlv`, and promises the PDU or the first broken rule for all octets, and one spelling that is read again.
 #![tactic(auto)]

@@ -8,10 +8,11 @@ ghost use Rattle.isis_pdu.specs.Views.{covered_at, pdu_of};
 use crate::checksum::right_sum;
 use crate::kinds::{LspHead, Pdu};
 use isis_tlv::{Tlv, TlvWalk, lsp_id_of};
-use wire_base::fields::{four_of, octet_of, octets_of, six_of, two_of};
+use wire_base::codepoints::TLV_LSP_ENTRIES;
+use wire_base::fields::{read_octets, read_six, read_u8, read_u16, read_u32};
 use wire_base::{Level, PduFault, SystemId};
 
-/// The type of a level's link state PDUs (ISO/IEC 10589, 9.8 and 9.9).
+/// The type of a level's LSPs (ISO/IEC 10589, 9.8 and 9.9).
 pub fn lsp_number(level: Level) -> u8
     ensures { result ≡ lsp_type level }
 {
@@ -44,7 +45,7 @@ pub fn psnp_number(level: Level) -> u8
 fn tlv_passes(rows: bool, tlv: Tlv<'_>) -> bool
     ensures { result ≡ passes rows (item tlv.entry) }
 {
-    !rows || tlv.code != 9 || tlv.value.len() % 16 == 0
+    !rows || tlv.code != TLV_LSP_ENTRIES || tlv.value.len() % 16 == 0
 }
 
 /// Whether the TLVs end where the octets end and, where entries are listed, each TLV 9 is whole entries.
@@ -71,21 +72,21 @@ fn sized(size: u16, bytes: &[u8]) -> Result<(&[u8], &[u8]), PduFault>
     requires { 10 < size }
     ensures { Gives (λ x. (x.0.now, x.1.now)) result (sized_at size bytes.now) }
 {
-    let (n, rest) = two_of(PduFault::PduLength, bytes)?;
+    let (n, rest) = read_u16(PduFault::PduLength, bytes)?;
     if n < size {
         return Err(PduFault::PduLength);
     }
-    octets_of(PduFault::PduLength, usize::from(n - 10), rest)
+    read_octets(PduFault::PduLength, usize::from(n - 10), rest)
 }
 
-/// A link state PDU from its identifier on, which its checksum covers.
+/// An LSP from its identifier on, which its checksum covers.
 fn read_covered(life: u16, covered: &[u8]) -> Result<Pdu<'_>, PduFault>
     ensures { Gives pdu_of result (covered_at life covered.now) }
 {
     let (id, rest) = lsp_id_of(PduFault::PduLength, covered)?;
-    let (seq, rest) = four_of(PduFault::PduLength, rest)?;
-    let (sum, rest) = two_of(PduFault::PduLength, rest)?;
-    let (flags, tlvs) = octet_of(PduFault::PduLength, rest)?;
+    let (seq, rest) = read_u32(PduFault::PduLength, rest)?;
+    let (sum, rest) = read_u16(PduFault::PduLength, rest)?;
+    let (flags, tlvs) = read_u8(PduFault::PduLength, rest)?;
     if life > 0 && !right_sum(covered) {
         return Err(PduFault::Checksum);
     }
@@ -109,7 +110,7 @@ fn read_lsp(bytes: &[u8]) -> Result<Pdu<'_>, PduFault>
     ensures { Gives pdu_of result (lsp_at bytes.now) }
 {
     let (body, _) = sized(27, bytes)?;
-    let (life, covered) = two_of(PduFault::PduLength, body)?;
+    let (life, covered) = read_u16(PduFault::PduLength, body)?;
     read_covered(life, covered)
 }
 
@@ -118,8 +119,8 @@ fn read_csnp(bytes: &[u8]) -> Result<Pdu<'_>, PduFault>
     ensures { Gives pdu_of result (csnp_at bytes.now) }
 {
     let (body, _) = sized(33, bytes)?;
-    let (source, rest) = six_of(PduFault::PduLength, body)?;
-    let (_circuit, rest) = octet_of(PduFault::PduLength, rest)?;
+    let (source, rest) = read_six(PduFault::PduLength, body)?;
+    let (_circuit, rest) = read_u8(PduFault::PduLength, rest)?;
     let (start, rest) = lsp_id_of(PduFault::PduLength, rest)?;
     let (last, tlvs) = lsp_id_of(PduFault::PduLength, rest)?;
     if !tlvs_are_whole(true, tlvs) {
@@ -138,8 +139,8 @@ fn read_psnp(bytes: &[u8]) -> Result<Pdu<'_>, PduFault>
     ensures { Gives pdu_of result (psnp_at bytes.now) }
 {
     let (body, _) = sized(17, bytes)?;
-    let (source, rest) = six_of(PduFault::PduLength, body)?;
-    let (_circuit, tlvs) = octet_of(PduFault::PduLength, rest)?;
+    let (source, rest) = read_six(PduFault::PduLength, body)?;
+    let (_circuit, tlvs) = read_u8(PduFault::PduLength, rest)?;
     if !tlvs_are_whole(true, tlvs) {
         return Err(PduFault::Tlv);
     }

@@ -12,10 +12,11 @@ use arrayvec::ArrayVec;
 use isis_tlv::fixed::put;
 use isis_tlv::push_summary;
 use std::alloc::Global;
+use wire_base::codepoints::TLV_LSP_ENTRIES;
 use wire_base::limits::{MOST_CONTENT, MOST_LISTED};
 use wire_base::{Level, LspId, M, Octets, Summary, SystemId};
 
-/// How many octets stand before the TLVs of a link state PDU.
+/// How many octets stand before the TLVs of an LSP.
 pub const LSP_FRONT: usize = 27;
 
 /// How many stand before those of a complete sequence numbers PDU.
@@ -43,7 +44,7 @@ fn id_octets(id: LspId) -> [u8; 8]
     [a, b, c, d, e, f, id.pseudonode, id.fragment]
 }
 
-/// The octets before the TLVs of a link state PDU of that length.
+/// The octets before the TLVs of an LSP of that length.
 fn lsp_front(level: Level, head: &LspHead, size: u16) -> ArrayVec<u8, LSP_FRONT>
     ensures spelled { result.items ≡ common 27 (lsp_type level) ++ (big_bytes 2 size ++ (big_bytes 2 head.now.life ++ (lsp_id head.now.id ++ (big_bytes 4 head.now.seq ++ (big_bytes 2 head.now.sum ++ (head.now.flags ∷ [])))))) }
     ensures long { length result.items ≡ 27 }
@@ -67,7 +68,7 @@ fn lsp_front(level: Level, head: &LspHead, size: u16) -> ArrayVec<u8, LSP_FRONT>
     front
 }
 
-/// Appends a link state PDU, with the checksum that the head has (ISO/IEC 10589, 9.8 and 9.9). At most 1,470 octets of
+/// Appends an LSP, with the checksum that the head has (ISO/IEC 10589, 9.8 and 9.9). At most 1,470 octets of
 /// TLVs.
 pub fn append_lsp(out: &mut Octets, level: Level, head: &LspHead, tlvs: &[u8]) -> M<()>
     requires { length tlvs.now ≤ MOST_CONTENT }
@@ -91,7 +92,7 @@ fn lsp_octets(alloc: Global, level: Level, head: &LspHead, tlvs: &[u8]) -> M<Oct
     Ok(out)
 }
 
-/// A link state PDU, with the checksum that the head has (ISO/IEC 10589, 9.8 and 9.9). At most 1,470 octets of TLVs.
+/// An LSP, with the checksum that the head has (ISO/IEC 10589, 9.8 and 9.9). At most 1,470 octets of TLVs.
 pub fn write_lsp(alloc: Global, level: Level, head: &LspHead, tlvs: &[u8]) -> M<Octets>
     requires { length tlvs.now ≤ MOST_CONTENT }
     // The one spelling.
@@ -111,7 +112,7 @@ fn append_block(out: &mut Octets, entries: &[Summary]) -> M<()>
     ensures err { OnErr result (take (length out.old) out.new ≡ out.old) }
     ensures fits { OnOk result (AllByRecursion SummaryFits entries.now) }
 {
-    out.append(&[9, 16 * entries.len() as u8])?;
+    out.append(&[TLV_LSP_ENTRIES, 16 * entries.len() as u8])?;
     for s in entries {
         push_summary(out, s)?;
     }

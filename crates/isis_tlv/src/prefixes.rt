@@ -7,7 +7,7 @@ ghost use Rattle.isis_tlv.specs.Views.{prefix_of};
 
 use crate::fixed::put;
 use arrayvec::ArrayVec;
-use wire_base::fields::{counted_of, four_of, octet_of, octets_of};
+use wire_base::fields::{read_counted, read_octets, read_u8, read_u32};
 use wire_base::{M, Octets, TlvFault};
 
 /// An entry of TLV 135 (RFC 5305, 4): a metric, the whole control octet, the length of the prefix in bits, which is
@@ -35,7 +35,7 @@ fn subs_of(follow: bool, bytes: &[u8]) -> Result<(&[u8], &[u8]), TlvFault>
     ensures { Gives (λ x. (x.0.now, x.1.now)) result (subs_if_at follow bytes.now) }
 {
     if follow {
-        counted_of(TlvFault::EntryShort, bytes)
+        read_counted(TlvFault::EntryShort, bytes)
     } else {
         Ok((&[], bytes))
     }
@@ -55,10 +55,10 @@ fn prefix_front(bytes: &[u8]) -> Result<(PrefixEntry<'_>, &[u8]), TlvFault>
     ensures exact { Gives (λ x. (prefix_of x.0, x.1.now)) result (prefix_at bytes.now) }
     ensures bits { IfOk result (λ x. x.0.length ≡ prefix_bits x.0.control) }
 {
-    let (metric, rest) = four_of(TlvFault::EntryShort, bytes)?;
-    let (control, rest) = octet_of(TlvFault::EntryShort, rest)?;
+    let (metric, rest) = read_u32(TlvFault::EntryShort, bytes)?;
+    let (control, rest) = read_u8(TlvFault::EntryShort, rest)?;
     let bits = bits_of(control)?;
-    let (bare, rest) = octets_of(TlvFault::EntryShort, (bits + 7) / 8, rest)?;
+    let (bare, rest) = read_octets(TlvFault::EntryShort, (bits + 7) / 8, rest)?;
     let (subs, rest) = subs_of(control / 64 % 2 == 1, rest)?;
     let octets = padded_to_four(bare);
     Ok((

@@ -8,10 +8,10 @@ ghost use Rattle.isis_tlv.specs.Views.{reach_of};
 use crate::fixed::put;
 use arrayvec::ArrayVec;
 use byteorder::{BigEndian, ByteOrder};
-use wire_base::fields::{counted_of, octet_of, six_of, three_of};
+use wire_base::fields::{read_counted, read_six, read_u8, read_u24};
 use wire_base::{M, Octets, SystemId, TlvFault};
 
-/// An entry of TLV 22: a neighbour that the issuing system reaches, its pseudonode octet, the metric of the link in
+/// An entry of TLV 22: a neighbor that the issuing system reaches, its pseudonode octet, the metric of the link in
 /// 24 bits, and the octets of the sub-TLVs (RFC 5305, 3).
 #[derive(Clone, Copy, Debug)]
 pub struct Reach<'a> {
@@ -26,10 +26,10 @@ fn reach_front(bytes: &[u8]) -> Result<(Reach<'_>, &[u8]), TlvFault>
     ensures exact { Gives (λ x. (reach_of x.0, x.1.now)) result (reach_at bytes.now) }
     ensures fault { IfErr result (λ e. e ≡ TlvFault.EntryShort) }
 {
-    let (system, rest) = six_of(TlvFault::EntryShort, bytes)?;
-    let (pseudonode, rest) = octet_of(TlvFault::EntryShort, rest)?;
-    let (metric, rest) = three_of(TlvFault::EntryShort, rest)?;
-    let (subs, rest) = counted_of(TlvFault::EntryShort, rest)?;
+    let (system, rest) = read_six(TlvFault::EntryShort, bytes)?;
+    let (pseudonode, rest) = read_u8(TlvFault::EntryShort, rest)?;
+    let (metric, rest) = read_u24(TlvFault::EntryShort, rest)?;
+    let (subs, rest) = read_counted(TlvFault::EntryShort, rest)?;
     Ok((
         Reach {
             neighbour: SystemId(system),

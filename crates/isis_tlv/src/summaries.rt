@@ -6,17 +6,17 @@ ghost use Rattle.wire_base.specs.declared.triple.Summary.{Summary as Entry};
 
 use crate::fixed::put;
 use arrayvec::ArrayVec;
-use wire_base::fields::{four_of, octet_of, six_of, two_of};
+use wire_base::fields::{read_six, read_u8, read_u16, read_u32};
 use wire_base::{LspId, M, Octets, Summary, SystemId, TlvFault};
 
-/// The identifier of a link state PDU at the front, and the octets after it; the given fault where there are fewer
+/// The identifier of an LSP at the front, and the octets after it; the given fault where there are fewer
 /// than eight octets (ISO/IEC 10589, 9.8).
 pub fn lsp_id_of<E: Copy>(fault: E, bytes: &[u8]) -> Result<(LspId, &[u8]), E>
     ensures { Gives (λ x. (x.0, x.1.now)) result (lsp_id_at fault bytes.now) }
 {
-    let (system, rest) = six_of(fault, bytes)?;
-    let (pseudonode, rest) = octet_of(fault, rest)?;
-    let (fragment, rest) = octet_of(fault, rest)?;
+    let (system, rest) = read_six(fault, bytes)?;
+    let (pseudonode, rest) = read_u8(fault, rest)?;
+    let (fragment, rest) = read_u8(fault, rest)?;
     Ok((
         LspId {
             system: SystemId(system),
@@ -32,10 +32,10 @@ pub fn lsp_id_of<E: Copy>(fault: E, bytes: &[u8]) -> Result<(LspId, &[u8]), E>
 pub(crate) fn summary_front(bytes: &[u8]) -> Result<(Summary, &[u8]), TlvFault>
     ensures { Gives (λ x. (x.0, x.1.now)) result (row_at bytes.now) }
 {
-    let (life, rest) = two_of(TlvFault::EntryShort, bytes)?;
+    let (life, rest) = read_u16(TlvFault::EntryShort, bytes)?;
     let (id, rest) = lsp_id_of(TlvFault::EntryShort, rest)?;
-    let (seq, rest) = four_of(TlvFault::EntryShort, rest)?;
-    let (sum, rest) = two_of(TlvFault::EntryShort, rest)?;
+    let (seq, rest) = read_u32(TlvFault::EntryShort, rest)?;
+    let (sum, rest) = read_u16(TlvFault::EntryShort, rest)?;
     Ok((Summary { life, id, seq, sum }, rest))
 }
 

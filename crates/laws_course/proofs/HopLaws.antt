@@ -51,7 +51,7 @@ pub class_is : (x : DataItem) → class_of (packet_of x) ≡ x.entropy % 16
 unfolding ingress_header
 class_is x = refl
 
--- a node that supports a triple gives it a BIFT-id, and has a place in its subdomain
+-- a node that supports a triple gives it a BIFT-id, and has a place in its sub-domain
 pub covered : (kinds : List SubKind) (table : List TableRow) (t : Triple) (n : ViewNode) → covers kinds table t n ≡ true → ((b : ℕ) × (node_bift kinds table t n ≡ Some b)) × (is_some (place_in n.subs t.sd) ≡ true)
 unfolding covers node_bift
 covered kinds table t n h = (by (bift_of kinds table (option_map (λ (s : ViewSub). s.ranges) (place_in n.subs t.sd)) t) h, at (place_in n.subs t.sd) h)

@@ -155,7 +155,7 @@ module _ (d : DomainConf) (valid : IsValid d) (g : List ViewNode) (graph : IsGra
       by true e h more = e
       by false e h more = more h
 
-  -- a node that is in some subdomain has its router's prefix
+  -- a node that is in some sub-domain has its router's prefix
   some_prefix : (q : RouterConf) (subs : List OwnSub) (sd : ℕ) → is_some (place_in (map (λ s. sub_of q.prefix.0 (info_of q.kinds s)) subs) sd) ≡ true → has_prefix q.prefix (map (λ s. sub_of q.prefix.0 (info_of q.kinds s)) subs) ≡ true
   some_prefix q [] sd h = absurd (false≢true h)
   some_prefix q (s ∷ subs) sd h = ap (λ (b : Bool). b || has_prefix q.prefix (map (λ s. sub_of q.prefix.0 (info_of q.kinds s)) subs)) (bytes_from q.prefix.0 q.prefix.0 refl)

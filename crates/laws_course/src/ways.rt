@@ -10,7 +10,7 @@ ghost use Rattle.domain_model.specs.Truth.{IsTruthful};
 ghost use Rattle.laws_course.specs.Course.{own_node};
 
 /// A copy to a router that was chosen for a BFR-id is always sent, whether views agree or not: where the definitions drop a copy
-/// to which no way leads, none ever is in a domain whose databases are true.
+/// to which no way leads, none ever is in a domain whose LSDBs are true.
 pub fn chosen_copies_are_sent()
     ensures { (w : WorldState) (a : ℕ) (c : Control) (x : DataItem) (y k : ℕ) (ks : List ℕ) (ttl : ℕ) → IsTruthful w → slice_get w.routers a ≡ Some c → choice_of c.conf (control_view c) (own_node c) (packet_of x) k ≡ Some y → (item_copied w.domain.routers a c.conf (control_view c) (own_node c) x y ks ttl).drops ≡ [] }
 {}

@@ -134,7 +134,7 @@ sized_takes size octets x ten fits e =
       small = omega (arith, n, t0.1);
     }
 
--- ---- a link state PDU
+-- ---- an LSP
 
 live_test : (life : ℕ) (b : Bool) → (0 < life → b ≡ true) → (ltb 0 life && not b) ≡ false
 live_test zero b h = refl
@@ -477,7 +477,7 @@ csnp_once level sa sb fa fb la lb ta tb a b e = ok_is {E = PduFault} (CsnpPdu sa
 pub psnp_once : (level : Level) (sa sb : SystemId) (ta tb : List ℕ) → PsnpFits sa ta → PsnpFits sb tb → psnp level sa ta ≡ psnp level sb tb → PsnpPdu sa ta ≡ PsnpPdu sb tb
 psnp_once level sa sb ta tb a b e = ok_is {E = PduFault} (PsnpPdu sa ta) (PsnpPdu sb tb) (sym (psnp_read level sa ta [] a) ∙ ap (λ (l : List ℕ). pdu_at level (l ++ [])) e ∙ psnp_read level sb tb [] b)
 
--- ---- the checksum of a link state PDU
+-- ---- the checksum of an LSP
 
 get_or_at : (front back : List ℕ) (n i : ℕ) → length front ≡ n → get_or (front ++ back) (n + i) 0 ≡ get_or back i 0
 get_or_at front back n i len = sym (get_or-drop n (front ++ back) i 0) ∙ ap (λ (l : List ℕ). get_or l i 0) (drop_at front back n len)
@@ -531,7 +531,7 @@ lsp_sum_fits head tlvs = let e = check_sum_is (lsp_covered (record head { sum = 
 pub lsp_sum_some : (head : Head) (tlvs : List ℕ) → 257 ≤ lsp_sum head tlvs
 lsp_sum_some head tlvs = let e = check_sum_is (lsp_covered (record head { sum = 0 }) tlvs) 12 in omega (arith, e)
 
--- a link state PDU with that sum is one that a reader gives
+-- an LSP with that sum is one that a reader gives
 pub lsp_with_sum : (head : Head) (tlvs : List ℕ) → HeadFits head → 27 + length tlvs < 256 ^ 2 → AreTlvs false tlvs → LspFits (record head { sum = lsp_sum head tlvs }) tlvs
 lsp_with_sum head tlvs fits size are = record {
   head_fits = record { life = fits.life; id = fits.id; seq = fits.seq; sum = lsp_sum_fits head tlvs; flags = fits.flags };

@@ -15,7 +15,7 @@ system_of n = record { 0 = 0 ∷ 0 ∷ 0 ∷ 0 ∷ 0 ∷ n ∷ [] }
 abbrev pub fragment_of : ℕ → LspId
 fragment_of n = record { system = system_of n; pseudonode = 0; fragment = 0 }
 
--- A's BFR-id in subdomain 0 is 1, and its label for bit strings of 64 is 100
+-- A's BFR-id in sub-domain 0 is 1, and its label for bit strings of 64 is 100
 abbrev pub a_info : Info
 a_info = record { sd = 0; id = 1; ranges = record { bsl = B64; max_si = 0; label = 100 } ∷ [] }
 
@@ -27,7 +27,7 @@ a_reach = record { neighbour = system_of 2; pseudonode = 0; metric = 10; subs = 
 abbrev pub a_prefix : Prefix
 a_prefix = record { metric = 0; control = 96; octets = 10 ∷ 0 ∷ 0 ∷ 1 ∷ []; subs = tlv (info_tlv a_info) }
 
--- area, protocol IPv4, name A, neighbour and prefix
+-- area, protocol IPv4, name A, neighbor and prefix
 abbrev pub a_tlvs : List Tlv
 a_tlvs = record { code = 1; value = 3 ∷ 73 ∷ 0 ∷ 1 ∷ [] } ∷ record { code = 129; value = 204 ∷ [] } ∷ record { code = 137; value = 65 ∷ [] } ∷ record { code = 22; value = reach a_reach } ∷ record { code = 135; value = prefix a_prefix } ∷ []
 
@@ -37,7 +37,7 @@ a_head = record { life = 1200; id = fragment_of 1; seq = 1; sum = 21838; flags =
 abbrev pub a_lsp_tlvs : List ℕ
 a_lsp_tlvs = 1 ∷ 4 ∷ 3 ∷ 73 ∷ 0 ∷ 1 ∷ 129 ∷ 1 ∷ 204 ∷ 137 ∷ 1 ∷ 65 ∷ 22 ∷ 11 ∷ 0 ∷ 0 ∷ 0 ∷ 0 ∷ 0 ∷ 2 ∷ 0 ∷ 0 ∷ 0 ∷ 10 ∷ 0 ∷ 135 ∷ 23 ∷ 0 ∷ 0 ∷ 0 ∷ 0 ∷ 96 ∷ 10 ∷ 0 ∷ 0 ∷ 1 ∷ 13 ∷ 32 ∷ 11 ∷ 0 ∷ 0 ∷ 0 ∷ 0 ∷ 1 ∷ 1 ∷ 4 ∷ 0 ∷ 16 ∷ 0 ∷ 100 ∷ []
 
--- A's first link state PDU
+-- A's first LSP
 abbrev pub a_lsp : List ℕ
 a_lsp = 131 ∷ 27 ∷ 1 ∷ 0 ∷ 20 ∷ 1 ∷ 0 ∷ 0 ∷ 0 ∷ 77 ∷ 4 ∷ 176 ∷ 0 ∷ 0 ∷ 0 ∷ 0 ∷ 0 ∷ 1 ∷ 0 ∷ 0 ∷ 0 ∷ 0 ∷ 0 ∷ 1 ∷ 85 ∷ 78 ∷ 3 ∷ a_lsp_tlvs
 
@@ -54,7 +54,7 @@ last_id = record { system = record { 0 = 255 ∷ 255 ∷ 255 ∷ 255 ∷ 255 ∷
 abbrev pub a_csnp : List ℕ
 a_csnp = 131 ∷ 33 ∷ 1 ∷ 0 ∷ 25 ∷ 1 ∷ 0 ∷ 0 ∷ 0 ∷ 51 ∷ 0 ∷ 0 ∷ 0 ∷ 0 ∷ 0 ∷ 1 ∷ 0 ∷ 0 ∷ 0 ∷ 0 ∷ 0 ∷ 0 ∷ 0 ∷ 0 ∷ 0 ∷ 255 ∷ 255 ∷ 255 ∷ 255 ∷ 255 ∷ 255 ∷ 255 ∷ 255 ∷ 9 ∷ 16 ∷ 4 ∷ 176 ∷ 0 ∷ 0 ∷ 0 ∷ 0 ∷ 0 ∷ 1 ∷ 0 ∷ 0 ∷ 0 ∷ 0 ∷ 0 ∷ 1 ∷ 85 ∷ 78 ∷ []
 
--- a BIER Info of subdomain 0 and BFR-id 1 with a range for bit strings of 256, and a second sub-sub-TLV
+-- a BIER Info of sub-domain 0 and BFR-id 1 with a range for bit strings of 256, and a second sub-sub-TLV
 abbrev pub info_with : List ℕ → List ℕ
 info_with second = 0 ∷ 0 ∷ 0 ∷ 0 ∷ 1 ∷ 1 ∷ 4 ∷ 0 ∷ 48 ∷ 0 ∷ 100 ∷ second
 

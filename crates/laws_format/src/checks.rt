@@ -1,4 +1,4 @@
-//! The checksum of link state PDUs.
+//! The checksum of LSPs.
 ghost use Rattle.std.specs.Prelude.{◌≡◌, ◌≤◌, ◌<◌, ◌+◌, ◌*◌, ◌^◌, ℕ, List, length, slice_index, true, false};
 ghost use Rattle.wire_base.specs.model.Tlv.{LspIdFits};
 ghost use Rattle.wire_base.specs.model.Checksum.{IsRight, is_right, IsCheck, check_first, check_second, check_sum};
@@ -13,11 +13,11 @@ pub fn checksum_law()
     ensures tested { (octets : List ℕ) → IsRight octets → is_right octets ≡ true }
 {}
 
-/// The sum that is computed for a link state PDU is two octets, neither of them 0, and makes it right.
+/// The sum that is computed for an LSP is two octets, neither of them 0, and makes it right.
 pub fn lsp_sum_law()
     ensures right { (head : Head) (tlvs : List ℕ) → LspIdFits head.id → IsRight (lsp_covered (record head { sum = lsp_sum head tlvs }) tlvs) }
     ensures fits { (head : Head) (tlvs : List ℕ) → lsp_sum head tlvs < 256 ^ 2 }
     ensures some { (head : Head) (tlvs : List ℕ) → 257 ≤ lsp_sum head tlvs }
-    // A link state PDU with that sum is one that a reader gives.
+    // An LSP with that sum is one that a reader gives.
     ensures whole { (head : Head) (tlvs : List ℕ) → HeadFits head → 27 + length tlvs < 256 ^ 2 → AreTlvs false tlvs → LspFits (record head { sum = lsp_sum head tlvs }) tlvs }
 {}

@@ -8,7 +8,7 @@ ghost use Rattle.wire_base.specs.model.Pdu.{LspPdu, CsnpPdu, lsp, csnp, lsp_sum,
 ghost use Rattle.wire_base.specs.model.Tlv.{tlv, tlvs_of, rows_of};
 ghost use Rattle.laws_format.specs.Examples.{system_of, a_tlvs, a_head, a_lsp_tlvs, a_lsp, a_summary, first_id, last_id, a_csnp, info_with, first_range, second_range};
 
-/// A link state PDU of 77 octets: its TLVs, its checksum 554E, its spelling, and what is read of it.
+/// An LSP of 77 octets: its TLVs, its checksum 554E, its spelling, and what is read of it.
 pub fn example_lsp()
     ensures tlvs { flat_map tlv a_tlvs ≡ a_lsp_tlvs }
     ensures walked { tlvs_of a_lsp_tlvs ≡ Ok a_tlvs }
@@ -17,7 +17,7 @@ pub fn example_lsp()
     ensures read { pdu_at Two a_lsp ≡ Ok (LspPdu a_head a_lsp_tlvs) }
 {}
 
-/// A complete sequence numbers PDU with that link state PDU's entry.
+/// A complete sequence numbers PDU with that LSP's entry.
 pub fn example_csnp()
     ensures spelled { csnp Two (system_of 1) first_id last_id (row_tlvs (a_summary ∷ [])) ≡ a_csnp }
     ensures read { pdu_at Two a_csnp ≡ Ok (CsnpPdu (system_of 1) first_id last_id (row_tlvs (a_summary ∷ []))) }

@@ -15,7 +15,7 @@ pub fn pdu_law()
     ensures one { (level : Level) (octets : List ℕ) (p q : Pdu) → IsPdu level octets p → IsPdu level octets q → p ≡ q }
 {}
 
-/// Link state PDUs (ISO/IEC 10589, 9.8 and 9.9).
+/// LSPs (ISO/IEC 10589, 9.8 and 9.9).
 pub fn lsp_law()
     // The spelling is in the grammar, and is read again, whatever follows it.
     ensures spelled { (level : Level) (head : Head) (tlvs rest : List ℕ) → LspFits head tlvs → IsPdu level (lsp level head tlvs ++ rest) (LspPdu head tlvs) }

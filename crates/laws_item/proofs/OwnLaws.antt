@@ -1,4 +1,4 @@
--- The entry of a router's own link state PDU can be sent, and so can a dead one.
+-- The entry of a router's own LSP can be sent, and so can a dead one.
 use Rattle.std.proofs.Common.{◌≡◌, ℕ, ◌+◌, ◌^◌, ◌<◌, ◌≤◌, Bool, true, false, cond, List, [], length, refl, sym, ap, subst, ◌∙◌, arith}
 use Rattle.wire_base.specs.declared.conf.Level.{Level}
 use Rattle.wire_base.specs.declared.conf.Level.TheVariants.{One, Two}

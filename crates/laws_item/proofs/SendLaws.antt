@@ -1,4 +1,4 @@
--- What flooding sends is sendable, where the entries of the database are.
+-- What flooding sends is sendable, where the entries of the LSDB are.
 use Rattle.std.proofs.Common.{◌≡◌, ℕ, ◌+◌, ◌==◌, ◌&&◌, Bool, true, false, cond, List, [], ◌∷◌, length, map, filter, get_or, refl, sym, subst, arith}
 use Rattle.std.specs.List.{AllByRecursion}
 use Rattle.byteorder.specs.Endian.{big_bytes, big_number}
@@ -10,7 +10,7 @@ use Rattle.wire_base.specs.declared.flood_out.FloodOut.{FloodOut}
 use Rattle.wire_base.specs.declared.flood_out.FloodOut.TheVariants as out
 use Rattle.wire_base.specs.declared.triple.Summary.{Summary}
 use Rattle.wire_base.specs.model.Control.{Control, Flood, purge, summary_of, entry_in, age_of, is_full, srm, ssn, is_unknown}
-use Rattle.wire_base.specs.model.Flooding.{LspAnswer, only_says, lsp_aged, lsp_in, on_lsp, is_own_ahead, is_stray, kept, puts_marked, stores, on_pdu, answer_lsp, psnp_of, csnp_of, csnps, zero_id, last_id, id_from, id_after, last_listed, most_listed, is_known, due_csnps, lsp_of, send_of}
+use Rattle.wire_base.specs.model.Flooding.{LspAnswer, only_says, lsp_aged, lsp_in, on_lsp, is_own_ahead, is_unheld_own, kept, puts_marked, stores, on_pdu, answer_lsp, psnp_of, csnp_of, csnps, zero_id, last_id, id_from, id_after, last_listed, most_listed, is_known, due_csnps, lsp_of, send_of}
 use Rattle.wire_base.specs.model.Lists.{blocks}
 use Rattle.wire_base.specs.model.Pdu.{Head, Pdu, LspPdu, CsnpPdu, PsnpPdu, HelloPdu, OtherPdu, HeadFits, head_summary, row_tlvs}
 use Rattle.wire_base.specs.model.Tlv.{LspIdFits, lsp_id, SummaryFits}
@@ -112,7 +112,7 @@ in_acks f entries link h tlvs spent age =
     let s = head_summary h in
     either s (h.seq == 0) (only_says f entries out.Zero) _ tt
     (either s (is_own_ahead f h.id spent age) (only_says f entries (out.Reissue h.seq)) _ tt
-    (either s (is_stray f h age) _ (lsp_aged f entries link h tlvs age)
+    (either s (is_unheld_own f h age) _ (lsp_aged f entries link h tlvs age)
     (either s (is_unknown age && is_full entries) (only_says f entries out.Full) (puts_marked f entries (purge h.id h.seq)) tt tt)
     (aged_acks f entries link h tlvs age)))
 

@@ -1,4 +1,4 @@
--- What makes a PDU, an entry of a database and a copy of a packet such that the octets which stand for them are read
+-- What makes a PDU, an entry of an LSDB and a copy of a packet such that the octets which stand for them are read
 -- again (ISO/IEC 10589, 8.4 and 9.8 to 9.13; RFC 8296, 2).
 use Rattle.std.specs.Prelude.{◌≡◌, ℕ, ◌+◌, ◌*◌, ◌<◌, ◌≤◌, ◌^◌, Bool, List, length, Option, Some, None}
 use Rattle.wire_base.specs.declared.limits.TheConstants.{MOST_CONTENT}
@@ -33,7 +33,7 @@ pub record EntryFits (e : Entry) : Type 0 where
   pub lsp : LspFits (head_of e) e.content
   pub short : length e.content ≤ MOST_CONTENT
 
--- What a router's fragment 0 is in any database: its own content where some of its ends are up, its own flags, the right
+-- What a router's fragment 0 is in any LSDB: its own content where some of its ends are up, its own flags, the right
 -- checksum, and any sequence number and lifetime.
 pub record IsOwn (r : RouterConf) (up : List Bool) (e : Entry) : Type 0 where
   pub id : e.id ≡ fragment_0 r.system

@@ -28,15 +28,15 @@ pub fn control_frames_law()
 
 /// What flooding sends can be sent and read again.
 pub fn sent_pdus_law()
-    // What is due on a link, where the entries of the database can be sent.
+    // What is due on a link, where the entries of the LSDB can be sent.
     ensures due { (c : Control) (link : ℕ) → length c.conf.system.0 ≡ 6 → AllByRecursion EntryFits c.entries → AllByRecursion IsSendable (send_of c link) }
     // What is answered at once.
     ensures answered { (c : Control) (link : ℕ) (p : Pdu) → length c.conf.system.0 ≡ 6 → IsSendable p → AllByRecursion IsSendable (on_pdu c link p).sent }
 {}
 
-/// Entries of a database that can be sent.
+/// Entries of an LSDB that can be sent.
 pub fn entries_law()
-    // A router's own fragment 0, in any database (ISO/IEC 10589, 7.3.7; RFC 8401, 6.1).
+    // A router's own fragment 0, in any LSDB (ISO/IEC 10589, 7.3.7; RFC 8401, 6.1).
     ensures own { (r : RouterConf) (up : List Bool) (e : Entry) → IsSound r → IsOwn r up e → e.seq < 2 ^ 32 → e.life < 2 ^ 16 → EntryFits e }
     // One that is dead, or stands for one that is asked for (ISO/IEC 10589, 7.3.15.2 and 7.3.16.4).
     ensures dead { (e : Entry) → LspIdFits e.id → e.seq < 2 ^ 32 → e.life ≡ 0 → e.sum < 2 ^ 16 → e.flags < 256 → e.content ≡ [] → EntryFits e }

@@ -106,7 +106,7 @@ numbered_last is i = ap (numbered (is ++ i ∷ [])) (plus_one (length is)) ∙ b
     by [] = refl
     by (j ∷ is) = by is
 
--- ---- what was told on lines
+-- ---- what was reported on lines
 
 no_lines : {X : Type 0} (line : ℕ) (xs : List X) → map (λ (x : ℕ × X). x.1) (on_line line xs) ≡ xs
 no_lines line [] = refl

@@ -43,7 +43,7 @@ IfPacket Q (PacketItem x) = Q x
 abbrev pub AllCopies : (DataItem → Type 0) → List (List (List Item)) → Type 0
 AllCopies Q flights = AllQueues (λ a link. IfPacket Q) flights
 
--- a delivery is made of a copy, at a router whose own id in the copy's subdomain is the one delivered
+-- a delivery is made of a copy, at a router whose own id in the copy's sub-domain is the one delivered
 pub record IsGotFrom (confs : List RouterConf) (Q : DataItem → Type 0) (g : GotLine) : Type 0 where
   pub item : DataItem
   pub holds : Q item

@@ -119,14 +119,14 @@ Balances w e n k =
 abbrev pub triple_for : Injection → ℕ → Triple
 triple_for i k = record { sd = i.sd; bsl = i.bsl; si = set_identifier (bits_of i.bsl) k }
 
--- a copy is one of this injection: of its subdomain, of the set of each BFR-id that it has, with its payload and entropy
+-- a copy is one of this injection: of its sub-domain, of the set of each BFR-id that it has, with its payload and entropy
 pub record IsCopyOf (i : Injection) (x : DataItem) : Type 0 where
   pub sd : x.triple.sd ≡ i.sd
   pub triple : (k : ℕ) → has x.ids k ≡ true → x.triple ≡ triple_for i k
   pub payload : x.payload ≡ i.payload
   pub entropy : x.entropy ≡ i.entropy
 
--- a delivery is at a router whose own BFR-id in the injection's subdomain is the one delivered, and has its payload
+-- a delivery is at a router whose own BFR-id in the injection's sub-domain is the one delivered, and has its payload
 pub record IsDeliveryOf (confs : List RouterConf) (i : Injection) (g : GotLine) : Type 0 where
   pub router : RouterConf
   pub there : slice_get confs g.router ≡ Some router

@@ -16,8 +16,8 @@ pub fn an_event_balances()
     ensures total { (w : WorldState) (e : Event) → IsTruthful w → EventFits (length w.domain.routers) e → event_fault w e ≡ None → ids_in_flight w.flights + named_in (injection_of e) ≡ ids_in_flight (happens w e).world.flights + (length (happens w e).made.got + sum_by (λ d. length d.ids) (happens w e).made.drops) }
 {}
 
-/// All copies of an injection have its subdomain, its payload and its entropy, from its event on; and so each delivery has its
-/// payload, at a router whose own BFR-id in its subdomain is the one delivered.
+/// All copies of an injection have its sub-domain, its payload and its entropy, from its event on; and so each delivery has its
+/// payload, at a router whose own BFR-id in its sub-domain is the one delivered.
 pub fn copies_and_deliveries_are_of_their_injection()
     ensures first_copies { (w : WorldState) (e : Event) (n : ℕ) (i : Injection) → IsTruthful w → entered w.injections e n ≡ Some i → AreCopiesOf i n (happens w e).world.flights }
     ensures first_deliveries { (w : WorldState) (e : Event) (n : ℕ) (i : Injection) → IsTruthful w → entered w.injections e n ≡ Some i → AreDeliveriesOf w.domain.routers i n (happens w e).made.got }

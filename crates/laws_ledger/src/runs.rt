@@ -10,7 +10,7 @@ ghost use Rattle.laws_ledger.specs.Ledger.{deliveries};
 ghost use Rattle.laws_ledger.specs.Runs.{AreAllowed, unlined, IsAccounted, delivered_at, DeliversNamed};
 
 /// The accounts of a valid domain are right when it starts, each event that is allowed keeps them, and so they are right in
-/// every run: while databases disagree, with tunnels, restarts, repeated PDUs, and BFR-ids that several routers have.
+/// every run: while LSDBs disagree, with tunnels, restarts, repeated PDUs, and BFR-ids that several routers have.
 pub fn runs_are_accounted()
     ensures start { (d : DomainConf) → IsValid d → IsAccounted (first_run d) }
     ensures event { (r : Run) (e : ℕ × Event) → IsTruthful r.world → EventFits (length r.world.domain.routers) e.1 → event_fault r.world e.1 ≡ None → IsAccounted r → IsAccounted (goes_on r e) }

@@ -29,7 +29,7 @@ pub record HasLedger (d : DomainConf) (r : Run) (j : ℕ) : Type 0 where
   pub named : (n k : ℕ) → is_named r j n k ≡ true → ledger n k (moment d r j) ≡ 1
   -- no other BFR-id is in any
   pub others : (n k : ℕ) → is_named r j n k ≡ false → ledger n k (moment d r j) ≡ 0
-  -- each delivery is of an injection so far, with its payload, at a router whose own BFR-id in the injection's subdomain
+  -- each delivery is of an injection so far, with its payload, at a router whose own BFR-id in the injection's sub-domain
   -- is the one that is delivered
   pub owned : AllByRecursion (λ g. IsDeliveryIn (moment d r j) g.1) (moment d r j).got
   -- each drop has its cause: no row, the TTL, a tunnel's TTL, no route, lost, or a link that is down

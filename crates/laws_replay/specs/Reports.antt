@@ -38,7 +38,7 @@ pub record IsReported (d : DomainConf) (r : Run) : Type 0 where
   -- the `got` lines are the run's deliveries, and the `drop` lines its drops, each in order
   pub gots : filter_map got_on lines ≡ r.got
   pub drops : filter_map drop_on lines ≡ r.drops
-  -- each `got` line is at a router whose own BFR-id in the injection's subdomain is the one on the line, with the
+  -- each `got` line is at a router whose own BFR-id in the injection's sub-domain is the one on the line, with the
   -- injection's payload
   pub owned : AllByRecursion (λ g. IsDeliveryIn r g.1) r.got
   -- in the numbers of the last line, `named` is `got` and `dropped` and `flight` together

@@ -1,4 +1,4 @@
--- Small domains, on which the definitions are tried. All have subdomain 0 with labels, bit strings of 64 bits, and metrics
+-- Small domains, on which the definitions are tried. All have sub-domain 0 with labels, bit strings of 64 bits, and metrics
 -- of 10 where nothing else is said; a node's place is one less than the last octet of its system.
 use Rattle.std.specs.Prelude.{ℕ, ◌*◌, ◌==◌, Bool, true, false, List, [], ◌∷◌, Option, Some, None, if◌then◌else◌}
 use Rattle.wire_base.specs.declared.bsl.Bsl.TheVariants.{B64}
@@ -13,7 +13,7 @@ use Rattle.wire_base.specs.model.Graph.{covers_at}
 abbrev pub edge : ℕ → ℕ → ViewEdge
 edge to metric = record { to = to; metric = metric }
 
--- a router's place in subdomain 0, with labels from a hundred times its BFR-id on
+-- a router's place in sub-domain 0, with labels from a hundred times its BFR-id on
 abbrev pub sub : ℕ → ViewSub
 sub id = record {
   sd = 0;
@@ -61,7 +61,7 @@ fork =
     ∷ node 4 false (edge 1 10 ∷ []) (sub 4 ∷ [])
     ∷ []
 
--- A, an overloaded router B, and C
+-- A, a router with its overload bit set B, and C
 abbrev pub line : List ViewNode
 line =
     node 1 false (edge 1 10 ∷ []) (sub 1 ∷ [])

@@ -32,7 +32,7 @@ pub fn fork_needs_a_tunnel()
     ensures hops { hops fork kinds [] triple 5 3 0 ≡ Some 1 }
 {}
 
-/// In the line no walk passes the overloaded router, and walks end there and begin there.
+/// In the line no walk passes the router with its overload bit set, and walks end there and begin there.
 #[tactic(auto, unfolding(wire_base::specs::model::Walk::dist, wire_base::specs::model::Graph::owner, wire_base::specs::model::Graph::covers, wire_base::specs::model::Tight::tight_from, wire_base::specs::model::Supporting::firsts, wire_base::specs::model::Choice::candidates, wire_base::specs::model::Choice::choice, wire_base::specs::model::HopCount::hops))]
 pub fn line_is_not_passed()
     ensures over { dist line 0 2 ≡ None }

@@ -1,4 +1,4 @@
--- What a database has of an identifier after an entry is put, and after a second.
+-- What an LSDB has of an identifier after an entry is put, and after a second.
 use Rattle.std.proofs.Common.{◌≡◌, ◌∙◌, ℕ, Bool, true, false, List, [], ◌∷◌, Option, Some, if◌then◌else◌, refl, sym, ap}
 use Rattle.std.proofs.lemmas.Bool.{false≢true, true≢false, and_from, eq-eqb}
 use Rattle.std.specs.declared.cmp.Ordering.{Ordering}

@@ -1,5 +1,5 @@
--- What every event keeps of flags and database: flags at links that are up alone, and at entries that are there; contents
--- that fit a frame; and the router's own link state PDU, live.
+-- What every event keeps of flags and LSDB: flags at links that are up alone, and at entries that are there; contents
+-- that fit a frame; and the router's own LSP, live.
 use Rattle.std.proofs.Common.{◌≡◌, ◌∙◌, ℕ, ◌+◌, ◌<◌, ◌≤◌, ◌&&◌, ◌||◌, not, ◌==◌, nat_lt, Bool, true, false, List, [], ◌∷◌, length, set, get_or, Option, Some, None, if◌then◌else◌, refl, sym, ap, subst, arith}
 use Rattle.std.proofs.lemmas.Bool.{false≢true, true≢false}
 use Rattle.std.specs.List.{AllByRecursion, fold}
@@ -14,7 +14,7 @@ use Rattle.wire_base.specs.declared.flood_out.FloodOut.TheVariants as out
 use Rattle.wire_base.specs.declared.triple.Summary.{Summary}
 use Rattle.wire_base.specs.model.Pdu.{Head, head_summary}
 use Rattle.wire_base.specs.model.Control.{same_id, same_system, fragment_0, entry_in, put_entry, purge, seq_of, age_of, age_by_life, is_unknown, is_newer_or_confused, is_full, FlagRow, no_flags, Flood, IsFlagRow, HasEntry}
-use Rattle.wire_base.specs.model.Flooding.{with_row, no_links, send_on, ask_on, set_srm, mark_all, kept, stores, puts_marked, only_says, flags_alone, lsp_aged, is_stray, is_own_ahead, lsp_in, on_lsp, LspAnswer, SnpAnswer, with_flags, wanted, asks, is_live_summary, listed_aged, on_listed, on_list, lacks, send_lacking, on_csnp, on_psnp}
+use Rattle.wire_base.specs.model.Flooding.{with_row, no_links, send_on, ask_on, set_srm, mark_all, kept, stores, puts_marked, only_says, flags_alone, lsp_aged, is_unheld_own, is_own_ahead, lsp_in, on_lsp, LspAnswer, SnpAnswer, with_flags, wanted, asks, is_live_summary, listed_aged, on_listed, on_list, lacks, send_lacking, on_csnp, on_psnp}
 use Rattle.wire_base.specs.model.Tlv.{rows_of}
 use Rattle.isis_flood.specs.Answers.{csnp_listed}
 use Rattle.laws_router.specs.State.{IsShort}
@@ -91,14 +91,14 @@ has_aged : (o : Option Entry) (s : Summary) (age : Age) → age ≡ age_of o s �
 has_aged None s age is known = absurd (true≢false (sym (ap is_unknown is) ∙ known))
 has_aged (Some e) s age is known = (e, refl)
 
--- the own link state PDU of a router that isn't spent isn't unknown
+-- the own LSP of a router that isn't spent isn't unknown
 own_known : (own : SystemId) (spent : Bool) (es : List Entry) (id : LspId) (s : Summary) (age : Age) → (spent ≡ false → OwnStands own es) → age ≡ age_of (entry_in es id) s → spent ≡ false → same_id id (fragment_0 own) ≡ true → is_unknown age ≡ false
 own_known own spent es id s age stands is unspent same = read (stands unspent)
   where
     read : OwnStands own es → is_unknown age ≡ false
     read (e, (there, more)) = ap is_unknown (is ∙ ap (λ (i : LspId). age_of (entry_in es i) s) (same_is id (fragment_0 own) same) ∙ ap (λ (o : Option Entry). age_of o s) there) ∙ known_age e s
 
--- ---- a link state PDU
+-- ---- an LSP
 
 pub record LspKept (own : SystemId) (up : List Bool) (spent : Bool) (a : LspAnswer) : Type 0 where
   pub kept : Kept own up spent a.flood a.entries
@@ -175,9 +175,9 @@ module _ (own : SystemId) (up : List Bool) (spent : Bool) (f : Flood) (es : List
       ahead_unspent false u age h = absurd (false≢true h)
 
       pub lsp_in_kept : (age : Age) → age ≡ age_of (entry_in es h.id) (head_summary h) → LspKept own up spent (lsp_in f es link h tlvs spent age)
-      lsp_in_kept age is = cases (h.seq == 0) (is_own_ahead f h.id spent age) (is_stray f h age) (is_unknown age && is_full es) refl refl
+      lsp_in_kept age is = cases (h.seq == 0) (is_own_ahead f h.id spent age) (is_unheld_own f h age) (is_unknown age && is_full es) refl refl
         where
-          cases : (none ahead stray full : Bool) → is_own_ahead f h.id spent age ≡ ahead → is_stray f h age ≡ stray
+          cases : (none ahead stray full : Bool) → is_own_ahead f h.id spent age ≡ ahead → is_unheld_own f h age ≡ stray
               → LspKept own up spent (if none then only_says f es out.Zero else if ahead then only_says f es (out.Reissue h.seq) else if stray then (if full then only_says f es out.Full else puts_marked f es (purge h.id h.seq)) else lsp_aged f es link h tlvs age)
           cases true ahead stray full p q = says_kept out.Zero (λ s r. cc)
           cases false true stray full p q = says_kept (out.Reissue h.seq) (λ s r. ahead_unspent (same_id h.id (fragment_0 f.own)) spent age p)

@@ -1,4 +1,4 @@
--- What links that come up and go down, a second, a start and the router's own link state PDU keep.
+-- What links that come up and go down, a second, a start and the router's own LSP keep.
 use Rattle.std.proofs.Common.{◌≡◌, ◌∙◌, ℕ, ◌-◌, ◌<◌, ◌≤◌, Bool, true, false, List, [], ◌∷◌, ◌++◌, length, set, get_or, Option, Some, None, if◌then◌else◌, nat_lt, refl, sym, ap, subst, append_assoc, length-set, arith}
 use Rattle.std.specs.Prelude.{option_to_list}
 use Rattle.std.proofs.lemmas.Bool.{false≢true, true≢false}
@@ -85,7 +85,7 @@ sent_kept own up spent f es link k =
       stands = k.stands;
     }
 
--- ---- the own link state PDU
+-- ---- the own LSP
 
 -- it is put and marked; where the router isn't spent then, it is live
 pub issue_kept : (own : SystemId) (up : List Bool) (spent now : Bool) (f : Flood) (es : List Entry) (e : Entry)

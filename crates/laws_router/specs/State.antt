@@ -14,14 +14,14 @@ pub record RouterState : Type 0 where
   pub control : Control
   pub heard : ℕ
 
--- a link state PDU of that content fits a frame of IS-IS, whose length counts at most 1,500 octets
+-- an LSP of that content fits a frame of IS-IS, whose length counts at most 1,500 octets
 abbrev pub most_content : ℕ
 most_content = MOST_CONTENT
 
 abbrev pub IsShort : Entry → Type 0
 IsShort e = length e.content ≤ most_content
 
--- A router that isn't spent has its own link state PDU, live, and with more than the seconds at which it is issued anew.
+-- A router that isn't spent has its own LSP, live, and with more than the seconds at which it is issued anew.
 abbrev pub HasOwn : Control → Type 0
 HasOwn c = c.spent ≡ false → (e : Entry) × ((own_entry_in c ≡ Some e) × (REFRESH_LIFE < e.life))
 
@@ -40,7 +40,7 @@ pub record IsIssued (r : RouterConf) (up : List Bool) (spent : Bool) (id : LspId
   pub flags : e.flags ≡ own_flags r
   pub content : e.content ≡ own_content r up
 
--- whatever stands in the database for the router's own system and is live, the router issued as it is now
+-- whatever stands in the LSDB for the router's own system and is live, the router issued as it is now
 pub record AreIssued (r : RouterConf) (up : List Bool) (spent : Bool) (entries : List Entry) : Type 0 where
   pub each : (id : LspId) (e : Entry) → entry_in entries id ≡ Some e → 0 < e.life → same_system id.system r.system ≡ true → IsIssued r up spent id e
 

@@ -1,4 +1,4 @@
-//! What events keep of a database and its flags. The bodies are empty: the contracts are the laws.
+//! What events keep of an LSDB and its flags. The bodies are empty: the contracts are the laws.
 ghost use Rattle.std.specs.Prelude.{◌≡◌, ℕ, ◌≤◌, ◌<◌, [], Bool, List, true, false, length, set, slice_index_or};
 ghost use Rattle.std.specs.List.{filter_map, fold};
 ghost use Rattle.wire_base.specs.declared.addresses.SystemId.{SystemId};
@@ -11,8 +11,8 @@ ghost use Rattle.wire_base.specs.model.Pdu.{Head};
 ghost use Rattle.laws_router.specs.State.{IsShort};
 ghost use Rattle.laws_router.specs.Kept.{Kept};
 
-/// What is kept of a database holds of an empty one, and stays true when a link comes up or goes down, when what is due is sent,
-/// when the router issues its link state PDU, and when a second passes, which may spend the router's own.
+/// What is kept of an LSDB holds of an empty one, and stays true when a link comes up or goes down, when what is due is sent,
+/// when the router issues its LSP, and when a second passes, which may spend the router's own.
 pub fn a_database_is_kept()
     ensures new { (own : SystemId) (up : List Bool) → length up ≤ 64 → Kept own up true (new_flood own up) [] }
     ensures up { (own : SystemId) (up : List Bool) (spent : Bool) (f : Flood) (es : List Entry) (link : ℕ) → Kept own up spent f es → link < length up → Kept own (set up link true) spent (link_up f es link) es }

@@ -1,4 +1,4 @@
-//! What a router's control state is to contracts, and what each event keeps of its flags and its database. Definitions and laws;
+//! What a router's control state is to contracts, and what each event keeps of its flags and its LSDB. Definitions and laws;
 //! no code that runs. The model of a domain stands on it, and so does the router itself.
 #![tactic(auto)]
 

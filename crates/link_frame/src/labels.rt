@@ -6,7 +6,7 @@ ghost use Rattle.link_frame.specs.Stacks.{entry, entries, read_entries};
 
 use arrayvec::ArrayVec;
 use wire_base::StackFault;
-use wire_base::fields::four_of;
+use wire_base::fields::read_u32;
 
 /// How many entries of a stack are looked at.
 const MOST_LABELS: usize = 8;
@@ -51,7 +51,7 @@ fn stack_of(bytes: &[u8]) -> Result<ArrayVec<Label, 8>, StackFault>
     let mut labels = ArrayVec::new();
     let mut rest = bytes;
     'entry: while labels.len() < MOST_LABELS {
-        let (word, after) = four_of(StackFault::NoBottom, rest)?;
+        let (word, after) = read_u32(StackFault::NoBottom, rest)?;
         labels.push(label_from(word));
         if word / 256 % 2 == 1 {
             return Ok(labels);

@@ -1,4 +1,4 @@
--- The parts of a router's own link state PDU: how they are put together, that they fit, and how long they are.
+-- The parts of a router's own LSP: how they are put together, that they fit, and how long they are.
 use Rattle.std.proofs.Common.{◌≡◌, ℕ, zero, suc, ◌+◌, ◌*◌, ◌<◌, ◌≤◌, min, Bool, true, false, ◌&&◌, leb, if◌then◌else◌, List, [], ◌∷◌, ◌++◌, length, get_or, take, drop, map, eq-eqb, refl, sym, ap, ◌∙◌, append_assoc, arith, inl, inr}
 use mathlib.Core.Bool.{false≢true, true≢false}
 use Rattle.byteorder.specs.Endian.{big_bytes}
@@ -146,7 +146,7 @@ links_within (suc m) (e ∷ es) all =
     let d = length-drop 23 xs in
     omega (arith, l, more, front, t, d)
 
--- ---- subdomains
+-- ---- sub-domains
 
 codes_apart : (rs : List LabelRange) → AreApart same_length rs → LengthsApart (map (λ r. r.bsl) rs)
 codes_apart [] apart = tt
@@ -165,7 +165,7 @@ sub_fits s is = record {
   apart = codes_apart s.ranges is.lengths;
 }
 
--- the same subdomain without ranges
+-- the same sub-domain without ranges
 pub bare_fits : (s b : OwnSub) → IsOwnSub s → b.sd ≡ s.sd → b.id ≡ s.id → b.ranges ≡ [] → InfoFits (own_of b)
 bare_fits s b is sd id none = record {
   sd = rw sd is.sd;

@@ -7,10 +7,10 @@ use crate::links::append_links;
 use crate::subdomains::append_prefix;
 use isis_tlv::push_tlv;
 use std::alloc::Global;
+use wire_base::codepoints::{
+    NLPID_IPV4, TLV_AREA_ADDRESSES, TLV_DYNAMIC_HOSTNAME, TLV_PROTOCOLS_SUPPORTED,
+};
 use wire_base::{M, Octets, RouterConf};
-
-/// The protocol identifier of IPv4 (ISO/IEC 10589, 9.8; RFC 1195, 5.3.1).
-const IPV4: u8 = 0xCC;
 
 /// A TLV 1 with one area address (ISO/IEC 10589, 9.8).
 fn append_area(out: &mut Octets, area: &[u8]) -> M<()>
@@ -18,7 +18,7 @@ fn append_area(out: &mut Octets, area: &[u8]) -> M<()>
     ensures { OnOk result (out.new ≡ out.old ++ tlv (area_tlv area.now)) }
 {
     let size = area.len() as u8;
-    out.append_two(&[1, size + 1, size], area)
+    out.append_two(&[TLV_AREA_ADDRESSES, size + 1, size], area)
 }
 
 /// What the router is: its area, its protocols and its name (RFC 1195, 5.3; RFC 5301, 3).
@@ -27,11 +27,11 @@ fn append_identity(out: &mut Octets, conf: &RouterConf) -> M<()>
     ensures { OnOk result (out.new ≡ out.old ++ (tlv (area_tlv conf.now.area) ++ (tlv protocols_tlv ++ tlv (name_tlv conf.now.name)))) }
 {
     append_area(out, conf.area.as_slice())?;
-    push_tlv(out, 129, &[IPV4])?;
-    push_tlv(out, 137, conf.name.as_slice())
+    push_tlv(out, TLV_PROTOCOLS_SUPPORTED, &[NLPID_IPV4])?;
+    push_tlv(out, TLV_DYNAMIC_HOSTNAME, conf.name.as_slice())
 }
 
-/// The TLVs of the router's own link state PDU, where those ends are up.
+/// The TLVs of the router's own LSP, where those ends are up.
 pub(crate) fn own_content(alloc: Global, conf: &RouterConf, up: &[bool]) -> M<Octets>
     requires sound { IsSound conf.now }
     requires up { length up.now ≡ length conf.now.ends }

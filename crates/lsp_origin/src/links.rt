@@ -6,6 +6,7 @@ ghost use Rattle.wire_base.specs.model.Tlv.{tlv, reach};
 
 use isis_tlv::{Reach, push_reach};
 use std::alloc::Global;
+use wire_base::codepoints::TLV_EXTENDED_IS_REACH;
 use wire_base::{End, M, Octets, Rows};
 
 /// How many links find room in a TLV.
@@ -48,7 +49,7 @@ fn append_block(out: &mut Octets, ends: &[End]) -> M<()>
     requires ends { AllByRecursion IsEnd ends.now }
     ensures { OnOk result (out.new ≡ out.old ++ tlv (reach_tlv ends.now)) }
 {
-    out.append(&[22, 11 * ends.len() as u8])?;
+    out.append(&[TLV_EXTENDED_IS_REACH, 11 * ends.len() as u8])?;
     append_ends(out, ends)
 }
 

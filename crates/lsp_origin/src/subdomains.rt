@@ -8,9 +8,10 @@ ghost use Rattle.std.specs.List.{AllByRecursion};
 use bier_subtlv::push_info;
 use isis_tlv::{PrefixEntry, push_prefix, push_tlv};
 use std::alloc::Global;
+use wire_base::codepoints::TLV_EXTENDED_IP_REACH;
 use wire_base::{Kind, M, Octets, OwnSub, RouterConf, Rows, SubKind, kind_of};
 
-/// The same subdomain without label ranges.
+/// The same sub-domain without label ranges.
 fn bare(sub: &OwnSub) -> OwnSub
     ensures { (result.sd ≡ sub.now.sd) × (result.id ≡ sub.now.id) × (result.ranges ≡ []) }
 {
@@ -21,7 +22,7 @@ fn bare(sub: &OwnSub) -> OwnSub
     }
 }
 
-/// The BIER Info of a subdomain, with label ranges where BIFT-ids are labels there (RFC 8401, 6.1 and 6.2).
+/// The BIER Info of a sub-domain, with label ranges where BIFT-ids are labels there (RFC 8401, 6.1 and 6.2).
 fn append_sub(out: &mut Octets, kinds: &[SubKind], sub: &OwnSub) -> M<()>
     requires { IsOwnSub sub.now }
     ensures { OnOk result (out.new ≡ out.old ++ tlv (info_tlv (info_of kinds.now sub.now))) }
@@ -33,7 +34,7 @@ fn append_sub(out: &mut Octets, kinds: &[SubKind], sub: &OwnSub) -> M<()>
     }
 }
 
-/// The BIER Infos of the router's subdomains, in their order.
+/// The BIER Infos of the router's sub-domains, in their order.
 fn sub_infos(alloc: Global, kinds: &[SubKind], subs: &[OwnSub]) -> M<Octets>
     requires { AllByRecursion IsOwnSub subs.now }
     ensures { IfOk result (λ o. o ≡ infos_of kinds.now subs.now) }
@@ -68,5 +69,5 @@ pub(crate) fn append_prefix(alloc: Global, out: &mut Octets, conf: &RouterConf) 
     };
     let mut value = Octets::new(alloc);
     push_prefix(&mut value, &entry)?;
-    push_tlv(out, 135, value.as_slice())
+    push_tlv(out, TLV_EXTENDED_IP_REACH, value.as_slice())
 }

@@ -207,7 +207,7 @@ ids_set [] i e x at h = refl
 ids_set (y ∷ ys) zero e x at h = ap (λ (id : LspId). id ∷ ids_of ys) (h ∙ ap (λ (z : Entry). z.id) at)
 ids_set (y ∷ ys) (suc i) e x at h = ap (λ (ids : List LspId). y.id ∷ ids) (ids_set ys i e x at h)
 
--- ---- a database stays one
+-- ---- an LSDB stays one
 
 moved : {es now : List Entry} {id : LspId} {there : Bool} {p : ℕ} → es ≡ now → IsPlace now id there p → IsPlace es id there p
 moved {es} {now} {id} {there} {p} same at = subst (λ (xs : List Entry). IsPlace xs id there p) (sym same) at

@@ -37,7 +37,7 @@ abbrev pub AnswersWhere : Bool → List Entry → ℕ → LspId → Result (Unit
 AnswersWhere true entries spare id answer = answer ≡ Err (Full (length entries))
 AnswersWhere false entries spare id answer = IfErr answer (λ fault. (fault ≡ Memory) × (is_new entries id ≡ true) × (spare ≡ 0))
 
--- Which answers there are to a put: Full exactly where the identifier is new and the database is full; else memory may
+-- Which answers there are to a put: Full exactly where the identifier is new and the LSDB is full; else memory may
 -- be missing, where the identifier is new and there is none to spare.
 abbrev pub PutAnswers : List Entry → ℕ → LspId → Result (Unit {0}) PutFault → Type 0
 PutAnswers entries spare id answer = AnswersWhere (is_refused entries id) entries spare id answer

@@ -1,4 +1,4 @@
--- What contracts see of a database.
+-- What contracts see of an LSDB.
 use Rattle.std.specs.Prelude.{ℕ, List}
 use Rattle.wire_base.specs.declared.entry.Entry.{Entry}
 

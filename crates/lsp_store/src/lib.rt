@@ -1,4 +1,4 @@
-//! A router's link state database: entries in the order of their identifiers, and what a second makes of them
+//! A router's LSDB: entries in the order of their identifiers, and what a second makes of them
 //! (ISO/IEC 10589, 7.3.15 and 7.3.16).
 //!
 //! It stands on `wire_base` alone, and promises that a store is the list of its entries, which each call changes as it says.

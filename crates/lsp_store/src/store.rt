@@ -11,7 +11,7 @@ use std::marker::Model;
 use wire_base::limits::MOST_ENTRIES;
 use wire_base::{Age, Aged, Entry, LspId, M, PutFault, Summary};
 
-/// A link state database: at most 4,096 entries in the order of their identifiers, none twice. Contracts see these, and
+/// An LSDB: at most 4,096 entries in the order of their identifiers, none twice. Contracts see these, and
 /// how many entries of new identifiers it has the memory for already.
 #[derive(Drop)]
 pub struct Store {
@@ -54,7 +54,7 @@ fn age_of(entry: Option<&Entry>, s: &Summary) -> Age
 }
 
 impl Store {
-    /// A database without entries.
+    /// An LSDB without entries.
     pub fn new(alloc: Global) -> Store
         ensures { result.entries ≡ [] }
     {
@@ -79,7 +79,7 @@ impl Store {
         self.items.len()
     }
 
-    /// The allocator that the database keeps.
+    /// The allocator that the LSDB keeps.
     pub fn allocator(&self) -> Global {
         *self.items.allocator()
     }

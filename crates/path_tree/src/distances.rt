@@ -8,7 +8,7 @@ use crate::ways::turned_round;
 use std::alloc::Global;
 use wire_base::{M, Rows, View};
 
-/// For each node the sum of the metrics of a shortest walk to `d` that goes through no overloaded node between its ends
+/// For each node the sum of the metrics of a shortest walk to `d` that goes through no node with its overload bit set between its ends
 /// (ISO/IEC 10589, 7.2.6 and 7.2.8.1). None exactly where there is no walk.
 pub fn distances_to(alloc: Global, v: &View, d: u16) -> M<Rows<Option<u64>>>
     requires node { d < length v.now.nodes }
@@ -21,7 +21,7 @@ pub fn distances_to(alloc: Global, v: &View, d: u16) -> M<Rows<Option<u64>>>
     Ok(Rows::from_vec(found))
 }
 
-/// For each node the sum of the metrics of a shortest walk from `u` to it that goes through no overloaded node between its
+/// For each node the sum of the metrics of a shortest walk from `u` to it that goes through no node with its overload bit set between its
 /// ends. None exactly where there is no walk.
 pub fn distances_from(alloc: Global, v: &View, u: u16) -> M<Rows<Option<u64>>>
     requires node { u < length v.now.nodes }

@@ -1,7 +1,7 @@
 //! Shortest walks of a view: the distances to a router and from one, the steps that lead nearer to a router, and a search
 //! along the steps that lead away from one.
 //!
-//! It stands on `wire_base` alone, and promises the least lengths of walks that pass no overloaded router.
+//! It stands on `wire_base` alone, and promises the least lengths of walks that pass no router with its overload bit set.
 #![tactic(auto)]
 
 mod distances;

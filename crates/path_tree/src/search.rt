@@ -11,7 +11,7 @@ use std::alloc::Global;
 use wire_base::{M, ViewEdge, ViewNode};
 
 /// The length of a shortest walk from `start` to each node, where a walk goes on from `start` and from nodes that aren't
-/// overloaded.
+/// with its overload bit set.
 pub(crate) fn search(alloc: Global, nodes: &[ViewNode], start: u16) -> M<Vec<Option<u64>>>
     requires few { length nodes.now ≤ 65536 }
     requires within { start < length nodes.now }
@@ -61,7 +61,7 @@ fn next_waiting(queue: &mut Queue, settled: &[bool]) -> Option<(u64, u16)>
     None
 }
 
-/// The ways on from a node: none from an overloaded one, unless the search starts there.
+/// The ways on from a node: none from a one with its overload bit set, unless the search starts there.
 fn ways_on(nodes: &[ViewNode], start: u16, node: u16) -> &[ViewEdge]
     requires within { node < length nodes.now }
     ensures { result.now ≡ (if may_enter nodes.now start node then edges_of nodes.now node else []) }

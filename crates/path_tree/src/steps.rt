@@ -8,7 +8,7 @@ use std::alloc::Global;
 use wire_base::{M, Rows, View, ViewEdge, ViewNode};
 
 /// Where the tight steps from `u` toward `d` lead, in the order of the nodes: those over an edge whose metric and the
-/// distance from its end make up the distance from `u`, to `d` itself or to a node that isn't overloaded. `dist` has the
+/// distance from its end make up the distance from `u`, to `d` itself or to a node that doesn't have its overload bit set. `dist` has the
 /// distances to `d`.
 pub fn tight_steps(
     alloc: Global,

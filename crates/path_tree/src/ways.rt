@@ -6,7 +6,7 @@ ghost use Rattle.path_tree.specs.Ways.{AreIncoming, IsTurned, put, turned};
 use std::alloc::Global;
 use wire_base::{EdgeList, M, SubList, ViewEdge, ViewNode};
 
-/// The nodes with each edge turned round, and with no places in subdomains.
+/// The nodes with each edge turned round, and with no places in sub-domains.
 pub(crate) fn turned_round(alloc: Global, nodes: &[ViewNode]) -> M<Vec<ViewNode>>
     requires graph { IsGraph nodes.now }
     ensures turned { IfOk result (λ turned. IsTurned nodes.now turned.items) }
@@ -16,7 +16,7 @@ pub(crate) fn turned_round(alloc: Global, nodes: &[ViewNode]) -> M<Vec<ViewNode>
     with_edges(alloc, nodes, ways)
 }
 
-/// The nodes with those edges in place of their own, and with no places in subdomains.
+/// The nodes with those edges in place of their own, and with no places in sub-domains.
 fn with_edges(alloc: Global, nodes: &[ViewNode], ways: Vec<EdgeList>) -> M<Vec<ViewNode>>
     requires rows { length ways.items ≡ length nodes.now }
     ensures edges { IfOk result (λ made. map (λ n. n.edges) made.items ≡ ways.items) }

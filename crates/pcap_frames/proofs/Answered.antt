@@ -1,4 +1,4 @@
--- An answer that isn't want of memory is the one that reading gives.
+-- An answer that isn't out of memory is the one that reading gives.
 use Rattle.std.proofs.Common.{◌≡◌, ◌≢◌, Result, Err, refl}
 use Rattle.wire_base.specs.declared.faults.CaptureFault.{CaptureFault}
 use Rattle.wire_base.specs.declared.faults.CaptureFault.TheVariants as faults

@@ -19,7 +19,7 @@ stage_seen steps.Header = HeaderToCome
 stage_seen (steps.Records form) = HeaderRead (form_seen form)
 stage_seen (steps.Refused fault) = Refused fault
 
--- What a call that takes memory returned, seen by view, is what reading gives; want of memory may come in its place.
+-- What a call that takes memory returned, seen by view, is what reading gives; out of memory may come in its place.
 abbrev pub Answers : {X Y : Type 0} → (X → Y) → Result X CaptureFault → Result Y CaptureFault → Type 0
 Answers view (Ok x) read = read ≡ Ok (view x)
 Answers view (Err faults.Memory) read = Unit {0}
@@ -30,7 +30,7 @@ Answers view (Err faults.CutHeader) read = read ≡ Err faults.CutHeader
 Answers view (Err faults.CutRecord) read = read ≡ Err faults.CutRecord
 Answers view (Err faults.LongRecord) read = read ≡ Err faults.LongRecord
 
--- what stands after an answer: after want of memory all is as before
+-- what stands after an answer: after out of memory all is as before
 abbrev pub after_answer : {X Y : Type 0} → Result X CaptureFault → Y → Y → Y
 after_answer (Ok x) before now = now
 after_answer (Err faults.Memory) before now = before

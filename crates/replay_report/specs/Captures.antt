@@ -11,7 +11,7 @@ use Rattle.frames_in_flight.specs.Framed.{frame_over}
 unfoldable pub frame_record : ℕ → List ℕ → List ℕ
 frame_record line octets = written_record line 0 octets
 
--- the record of a frame that is told
+-- the record of a frame that is reported
 abbrev pub wire_record : ℕ → WireFrame → List ℕ
 wire_record line f = frame_record line f.octets
 

@@ -70,7 +70,7 @@ edge_values edge.Memory = []
 abbrev pub edge_fault : EdgeFault → List ℕ
 edge_fault why = rule_text (edge_number why) (edge_name why) ++ edge_values why
 
--- the number and the name of the reason why an event isn't allowed, with its values; want of memory is no reason
+-- the number and the name of the reason why an event isn't allowed, with its values; out of memory is no reason
 abbrev pub event_fault : EventFault → List ℕ
 event_fault event.Events = rule_text 1 (codes "Events")
 event_fault event.NoLink = rule_text 2 (codes "NoLink")

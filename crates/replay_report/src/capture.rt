@@ -16,7 +16,7 @@ fn push_frame(out: &mut Octets, line: u32, octets: &[u8]) -> M<()>
     write_cap_record(out, line, 0, octets)
 }
 
-/// The same as `push_frames`, but for what stands behind the old end where memory is refused.
+/// The same as `push_frames`, but for what stands behind the old end where memory runs out.
 #[tactic(auto, using(replay_text::proofs::Appended::front, replay_text::proofs::Appended::front_of_front, crate::proofs::RecordLaws::is_short))]
 fn push_each(out: &mut Octets, line: u32, frames: &WireFrames) -> M<()>
     requires { AreShort frames.now }
@@ -29,7 +29,7 @@ fn push_each(out: &mut Octets, line: u32, frames: &WireFrames) -> M<()>
     Ok(())
 }
 
-/// Appends a record of each frame, in order, with the line of the event that sent it as the second. Where memory is refused,
+/// Appends a record of each frame, in order, with the line of the event that sent it as the second. Where memory runs out,
 /// nothing is appended.
 pub fn push_frames(out: &mut Octets, line: u32, frames: &WireFrames) -> M<()>
     requires { AreShort frames.now }

@@ -1,4 +1,4 @@
-//! What is told of a domain at work, as texts: its frames in a capture, its deliveries and drops in the lines of a report, and how
+//! What is reported of a domain at work, as texts: its frames in a capture, its deliveries and drops in the lines of a report, and how
 //! much was done; and the directions of its links.
 //!
 //! It stands on `domain_model` and `frames_in_flight`, and promises that the texts of an event are those of its definitions.

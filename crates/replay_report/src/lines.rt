@@ -90,7 +90,7 @@ fn lines_of(alloc: Global, routers: &[RouterConf], line: u32, made: &StepOut) ->
 
 /// Appends the lines of an event that stands in a line of the schedule: its deliveries, as
 /// `LINE got ROUTER INJECTION ID PAYLOAD`, and then its drops, as `LINE drop ROUTER INJECTION CAUSE IDS`, where the injection is
-/// `-` for what carries no packet. Where memory is refused, nothing is appended.
+/// `-` for what carries no packet. Where memory runs out, nothing is appended.
 pub fn push_event(
     alloc: Global,
     out: &mut Octets,
@@ -134,7 +134,7 @@ fn done_line(alloc: Global, lines: u64, counts: &Counts, flight: u64) -> M<Octet
 
 /// Appends the last line of a report on a schedule of so many lines, all of which were done:
 /// `done lines L injected I named N got G dropped D flight F`, with the counts of the run and the number of BFR-ids that are on
-/// the way. Where memory is refused, nothing is appended.
+/// the way. Where memory runs out, nothing is appended.
 pub fn push_done(alloc: Global, out: &mut Octets, lines: u64, counts: &Counts, flight: u64) -> M<()>
     ensures ok { OnOk result (out.new ≡ out.old ++ spec.done_text lines counts.now flight) }
     ensures err { OnErr result (out.new ≡ out.old) }

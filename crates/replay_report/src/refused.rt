@@ -26,7 +26,7 @@ fn text_line(alloc: Global, line: u64, number: u8, name: &[u8]) -> M<Octets>
 }
 
 /// Appends the line of a schedule's line that isn't in the grammar: `refused LINE text N NAME`. Want of memory is passed on, and
-/// then, or where memory is refused, nothing is appended.
+/// then, or where memory runs out, nothing is appended.
 pub fn push_text_refused(alloc: Global, out: &mut Octets, line: u64, why: TextFault) -> M<()>
     ensures known { OnOk result (why ≢ texts.Memory) }
     ensures ok { OnOk result (out.new ≡ out.old ++ spec.text_refused_text line (fault_text why)) }
@@ -119,7 +119,7 @@ fn event_line(alloc: Global, line: u64, why: EventFault) -> M<Octets>
 }
 
 /// Appends the line of an event that isn't allowed: `refused LINE event N NAME`, with the reason's values, as `5 NoFrame 5 3` or
-/// `7 Edge 3 SiLarge 65535`. Want of memory is passed on, and then, or where memory is refused, nothing is appended.
+/// `7 Edge 3 SiLarge 65535`. Want of memory is passed on, and then, or where memory runs out, nothing is appended.
 pub fn push_event_refused(alloc: Global, out: &mut Octets, line: u64, why: EventFault) -> M<()>
     ensures known { OnOk result (why ≢ events.Memory) }
     ensures ok { OnOk result (out.new ≡ out.old ++ spec.event_refused_text line why) }

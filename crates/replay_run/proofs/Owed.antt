@@ -208,7 +208,7 @@ grow_done m n form result before now writes writes_now takes takes_now is_m is_n
       | inr memory ↦ inr memory
     ]
 
--- ---- words of no form
+-- ---- unknown arguments
 
 pub usage_holds : (router : List ℕ) (conf left : Option (List ℕ)) (Holds : Verdict → Type 0) → Holds (reported (Usage, usage_text)) → OnHeld Unknown router conf left Holds
 unfolding verdict

@@ -27,7 +27,7 @@ DoneOrMemory ended = (ended ≡ Done) ⊎ (ended ≡ Memory)
 -- a status that comes on words of that form
 pub record ComesOn (form : Form) (ended : Status) : Type 0 where
   pub done : ended ≡ Done → form ≢ Unknown
-  -- a status that words and octets decide is `Usage` exactly on words of no form
+  -- a status that words and octets decide is `Usage` exactly on unknown arguments
   pub usage : IsDecided ended → ((ended ≡ Usage) ↔ (form ≡ Unknown))
   pub usage_or_fault : form ≡ Unknown → (ended ≡ Usage) ⊎ (ended ≡ WriteFault)
   pub conf_refused : ended ≡ ConfRefused → (form ≡ Replay) ⊎ (form ≡ Node)

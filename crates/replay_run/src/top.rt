@@ -107,7 +107,7 @@ pub fn run<D: Source, S: Source, C: Sink, R: Sink>(
     ensures some_held { IsDecided result → OnHeld (form_in words.now) (router_in words.now) (D.left conf.old) (S.left input.old)
         (λ owed. Meets owed result (R.written report.old) (R.written report.new) (C.written frames.old) (C.written frames.new)) }
 
-    // Where no count rose, the answer is the verdict's or want of memory.
+    // Where no count rose, the answer is the verdict's or out of memory.
     ensures decided { NoneRose D.Source S.Source C.Sink R.Sink conf.old conf.new input.old input.new frames.old frames.new report.old report.new
         → IsDecided result ⊎ (result ≡ status.Memory) }
 
@@ -145,7 +145,7 @@ pub fn run<D: Source, S: Source, C: Sink, R: Sink>(
     ensures grow_complete { (n : ℕ) → form_in words.now ≡ form.Grow n → GoesThrough n → SinkIsQuiet R.Sink report.old report.new → DoneOrMemory result }
 
     // What a stop leaves: what was written is finished; behind a failed source, what is whole in what was taken is done and reported;
-    // at a fault of a sink, and at want of memory, a front of each text is written.
+    // at a write error, and on out of memory, a prefix of each output is written.
     ensures finished { IsDecided result → R.unfinished report.new ≡ false }
     ensures frames_finished { result ≢ status.WriteFault → result ≢ status.Memory → (frames.new ≡ frames.old) ⊎ (C.unfinished frames.new ≡ false) }
     ensures replay_leaves { form_in words.now ≡ form.Replay → ReplayLeaves D.Source S.Source C.Sink R.Sink result

@@ -4,7 +4,7 @@ use Rattle.std.specs.Fmt.{decimal}
 use Rattle.replay_text.specs.declared.fault.TextFault.{TextFault}
 use Rattle.replay_text.specs.declared.fault.TextFault.TheVariants.{Word, Number, Name, Hex, LineLong, Memory}
 
--- the rules are numbered from 1; want of memory is none of them
+-- the rules are numbered from 1; out of memory is none of them
 abbrev pub number_of : TextFault → ℕ
 number_of Word = 1
 number_of Number = 2

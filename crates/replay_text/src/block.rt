@@ -42,8 +42,8 @@ pub fn put_number(block: &mut Block, number: u16)
     }
 }
 
-/// Appends a block to a text and empties it, where it has no room for a comma and four digits. Where memory is refused, the
-/// text is as it was.
+/// Appends a block to a text and empties it, where it has no room for a comma and four digits. Where memory runs out, the
+/// text is unchanged.
 pub fn make_room(out: &mut Octets, block: &mut Block) -> M<()>
     ensures same { OnOk result (out.new ++ block.new.items ≡ out.old ++ block.old.items) }
     ensures front { (text : List ℕ) → take (length text) out.old ≡ text → take (length text) out.new ≡ text }

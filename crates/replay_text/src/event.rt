@@ -5,7 +5,7 @@ use wire_base::{Bsl, Octets, Rows};
 /// routers that it joins, and has a direction: from the first to the second.
 #[derive(Drop)]
 pub enum Event {
-    /// A payload enters at a router, for BFR-ids of a subdomain (RFC 8279, 3). The TTL is above 0, the entropy has 20
+    /// A payload enters at a router, for BFR-ids of a sub-domain (RFC 8279, 3). The TTL is above 0, the entropy has 20
     /// bits.
     Inject {
         router: u16,
@@ -53,7 +53,7 @@ pub enum Event {
     Tick {
         router: u16,
     },
-    /// A router forgets its database; its ends keep their state.
+    /// A router forgets its LSDB; its ends keep their state.
     Restart {
         router: u16,
     },

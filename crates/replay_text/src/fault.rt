@@ -37,7 +37,7 @@ impl From<wire_base::Memory> for TextFault {
 }
 
 impl TextFault {
-    /// The number of the rule, from 1; 0 for want of memory, which is no rule.
+    /// The number of the rule, from 1; 0 for out of memory, which is no rule.
     pub fn number(self) -> u8
         ensures { result ≡ number_of self }
     {

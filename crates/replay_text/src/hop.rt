@@ -2,7 +2,7 @@
 use bier_bits::AnyBits;
 use wire_base::{Bsl, Name, Rows};
 
-/// A row: packets for the BFR-id go to the neighbour of that name.
+/// A row: packets for the BFR-id go to the neighbor of that name.
 #[derive(Drop)]
 pub struct HopRow {
     pub id: u16,

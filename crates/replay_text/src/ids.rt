@@ -53,7 +53,7 @@ fn read_pieces(text: &[u8], bsl: Bsl) -> Option<AnyBits>
 }
 
 /// Appends the ids with commas between them, or `-` for none. Ascending ids from 1 on are read again as what they
-/// are. Where memory is refused, nothing is appended.
+/// are. Where memory runs out, nothing is appended.
 #[tactic(auto, using(crate::proofs::Again::are_read_again))]
 pub fn push_ids(out: &mut Octets, ids: &[u16]) -> M<()>
     ensures ok { OnOk result (out.new ≡ out.old ++ ids_text ids.now) }
@@ -68,7 +68,7 @@ pub fn push_ids(out: &mut Octets, ids: &[u16]) -> M<()>
     pushed
 }
 
-/// The same, but for what stands behind the old end where memory is refused.
+/// The same, but for what stands behind the old end where memory runs out.
 #[tactic(auto, using(crate::proofs::Appended::front, crate::proofs::Appended::front_of_front))]
 fn push_each(out: &mut Octets, ids: &[u16]) -> M<()>
     ensures ok { OnOk result (out.new ≡ out.old ++ ids_text ids.now) }

@@ -53,7 +53,7 @@ fn push_octet(out: &mut Octets, octet: u8) -> M<()>
     out.append(&[DIGITS[(octet / 16) as usize], DIGITS[(octet % 16) as usize]])
 }
 
-/// Appends the two digits of each octet. Where memory is refused, some may stand behind the old end.
+/// Appends the two digits of each octet. Where memory runs out, some may stand behind the old end.
 #[tactic(auto, using(crate::proofs::Appended::front, crate::proofs::Appended::front_of_front))]
 fn push_octets(out: &mut Octets, octets: &[u8]) -> M<()>
     ensures ok { OnOk result (out.new ≡ out.old ++ flat_map digits_of octets.now) }
@@ -66,7 +66,7 @@ fn push_octets(out: &mut Octets, octets: &[u8]) -> M<()>
 }
 
 /// Appends a payload as lower-case hexadecimal digits, two for each octet, or `-` for none. The text of at most 2,000 octets
-/// is read again as what they are. Where memory is refused, nothing is appended.
+/// is read again as what they are. Where memory runs out, nothing is appended.
 #[tactic(auto, using(crate::proofs::PayloadLemmas::is_read_again))]
 pub fn push_payload(out: &mut Octets, payload: &[u8]) -> M<()>
     ensures ok { OnOk result (out.new ≡ out.old ++ payload_text payload.now) }

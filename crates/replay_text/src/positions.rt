@@ -10,7 +10,7 @@ use crate::block::{Block, make_room, put_number};
 use bier_bits::{AnyBits, BitString};
 use wire_base::{M, Octets};
 
-/// Appends the positions of a bit string with commas between them, or `-` for none. Where memory is refused, nothing is
+/// Appends the positions of a bit string with commas between them, or `-` for none. Where memory runs out, nothing is
 /// appended.
 pub fn push_positions(out: &mut Octets, bits: &AnyBits) -> M<()>
     ensures ok { OnOk result (out.new ≡ out.old ++ ids_text (positions_of bits.now)) }
@@ -41,7 +41,7 @@ pub fn push_set<const W: usize>(out: &mut Octets, set: &BitString<W>) -> M<()>
     pushed
 }
 
-/// The same, but for what stands behind the old end where memory is refused.
+/// The same, but for what stands behind the old end where memory runs out.
 #[tactic(auto, using(crate::proofs::Appended::front, bier_bits::proofs::Widths::width_le))]
 fn push_members<const W: usize>(out: &mut Octets, set: &BitString<W>) -> M<()>
     requires { IsTrue (is_width W) }

@@ -8,7 +8,7 @@ use crate::ids::push_ids;
 use itoa::Buffer;
 use wire_base::{Cause, M, Octets};
 
-/// Appends what names a reader, and the number of the rule by which it refused octets; or nothing, where memory is refused.
+/// Appends what names a reader, and the number of the rule by which it refused octets; or nothing, where memory runs out.
 fn push_rule_of(out: &mut Octets, reader: &[u8], rule: u8) -> M<()>
     ensures ok { OnOk result (out.new ≡ out.old ++ (reader.now ++ decimal rule)) }
     ensures err { OnErr result (out.new ≡ out.old) }
@@ -40,7 +40,7 @@ pub fn push_cause(out: &mut Octets, cause: &Cause) -> M<()>
     }
 }
 
-/// Appends a number, with a blank behind; or nothing, where memory is refused.
+/// Appends a number, with a blank behind; or nothing, where memory runs out.
 pub fn push_number(out: &mut Octets, number: u32) -> M<()>
     ensures ok { OnOk result (out.new ≡ out.old ++ (decimal number ++ 32 ∷ [])) }
     ensures err { OnErr result (out.new ≡ out.old) }
@@ -49,7 +49,7 @@ pub fn push_number(out: &mut Octets, number: u32) -> M<()>
     out.append_two(digits.format(number).as_bytes(), b" ")
 }
 
-/// The same as `push_loss`, but for what stands behind the old end where memory is refused.
+/// The same as `push_loss`, but for what stands behind the old end where memory runs out.
 #[tactic(auto, using(crate::proofs::Appended::front, crate::proofs::Appended::front_of_front))]
 fn push_parts(out: &mut Octets, cause: &Cause, ids: &[u16]) -> M<()>
     ensures ok { OnOk result (out.new ≡ out.old ++ (cause_text cause.now ++ 32 ∷ (ids_text ids.now ++ 10 ∷ []))) }
@@ -61,7 +61,7 @@ fn push_parts(out: &mut Octets, cause: &Cause, ids: &[u16]) -> M<()>
     out.push(b'\n')
 }
 
-/// Appends a cause and BFR-ids, which end a line; or nothing, where memory is refused.
+/// Appends a cause and BFR-ids, which end a line; or nothing, where memory runs out.
 pub fn push_loss(out: &mut Octets, cause: &Cause, ids: &[u16]) -> M<()>
     ensures ok { OnOk result (out.new ≡ out.old ++ (cause_text cause.now ++ 32 ∷ (ids_text ids.now ++ 10 ∷ []))) }
     ensures err { OnErr result (out.new ≡ out.old) }

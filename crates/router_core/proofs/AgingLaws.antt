@@ -1,4 +1,4 @@
--- A database that ages by a second, entry by entry.
+-- An LSDB that ages by a second, entry by entry.
 use Rattle.std.proofs.Common.{◌≡◌, ◌∙◌, ℕ, zero, suc, ◌+◌, ◌-◌, ◌<◌, ◌≤◌, List, [], ◌∷◌, ◌++◌, length, take, drop, Option, Some, None, IfSome, slice_get, refl, sym, ap, subst, append_assoc, length-append, length-drop, arith}
 use Rattle.std.proofs.lemmas.List.{length-take-le, take_all, drop_all, append-nil}
 use Rattle.std.proofs.Math.Seq.{drop-append-add, drop-append_seam, take-append-add, take-append_seam}

@@ -25,7 +25,7 @@ use Rattle.wire_base.specs.declared.view.ViewNode.{ViewNode}
 use Rattle.wire_base.specs.model.BierHeader.{BierHeader, header_at, header_length}
 use Rattle.wire_base.specs.model.Control.{Control, Flood, entry_in, is_full, is_unknown, age_of, purge}
 use Rattle.wire_base.specs.model.Ethernet.{Carried, IsisPdu, MplsPacket, BierPacket, IpPacket, OtherFrame, frame_at}
-use Rattle.wire_base.specs.model.Flooding.{LspAnswer, SnpAnswer, only_says, puts_marked, stores, lsp_aged, is_own_ahead, is_stray, on_lsp, answer_lsp, snp_done, on_csnp, on_psnp, on_pdu, kept}
+use Rattle.wire_base.specs.model.Flooding.{LspAnswer, SnpAnswer, only_says, puts_marked, stores, lsp_aged, is_own_ahead, is_unheld_own, on_lsp, answer_lsp, snp_done, on_csnp, on_psnp, on_pdu, kept}
 use Rattle.wire_base.specs.model.Hop.{Outcome, Local, Copy, Expired, NoRow, has, is_this, distinct, forward, local, unless_empty, hop}
 use Rattle.wire_base.specs.model.OnFrame.{Effects, Next, Packet, nothing, dropped, joined, unchanged, framed, pdu_read, outcome_done, link_to, next_link, node_place, bift_at, prefix_of, copy_of, tunnel_for, copy_sent, direct_copy, sent_on, or_drop, choice_of, ids_in, hop_at, header_read, meaning_read, is_not_last, on_packet, forwarded, node_with, or_no_route, in_transit, tunnel_read, on_tunnel, frame_read, on_frame}
 use Rattle.wire_base.specs.model.Pdu.{Head, head_summary, Pdu, LspPdu, CsnpPdu, PsnpPdu, HelloPdu, OtherPdu, pdu_at}
@@ -60,7 +60,7 @@ aged_zero f es link h tlvs Confused = λ q. cc
 
 lsp_zero : (f : Flood) (es : List Entry) (link : ℕ) (h : Head) (tlvs : List ℕ) (spent : Bool) → ZeroSame f es (on_lsp f es link h tlvs spent)
 unfolding on_lsp
-lsp_zero f es link h tlvs spent = cases (h.seq == 0) (is_own_ahead f h.id spent age) (is_stray f h age) (is_unknown age && is_full es)
+lsp_zero f es link h tlvs spent = cases (h.seq == 0) (is_own_ahead f h.id spent age) (is_unheld_own f h age) (is_unknown age && is_full es)
   where
     age : Age
     age = age_of (entry_in es h.id) (head_summary h)

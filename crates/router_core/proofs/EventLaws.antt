@@ -88,7 +88,7 @@ module _ (r : RouterConf) (f : Flood) (es : List Entry) (spent : Bool) (k : IsRo
   unfolding end_down reissue_unless_spent
   down_unspent h = ap (λ (b : Bool). if b then control_of r (link_down f link) es spent else reissue (control_of r (link_down f link) es spent) (seq_of (entry_in es (fragment_0 r.system)))) h
 
-  -- the own link state PDU was made for the links that are up then, and is issued
+  -- the own LSP was made for the links that are up then, and is issued
   module _ (s : ℕ) (ups : List Bool) (own : Entry) (is : own ≡ own_past r ups s) (f' : Flood) (es' : List Entry) (now : Bool) (put : es' ≡ put_entry own es) (now_is : now ≡ spent_past spent s) (database : IsDatabase es') where
     pub up_issued_keeps : f' ≡ mark_all (link_up f es link) own.id → link < length r.ends → IsRouter (control_of r f' es' now)
     up_issued_keeps marked lt =

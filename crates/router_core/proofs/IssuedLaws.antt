@@ -1,4 +1,4 @@
--- What stands in the database for the router's own system and is live, the router issued as it is now: kept by every event.
+-- What stands in the LSDB for the router's own system and is live, the router issued as it is now: kept by every event.
 use Rattle.std.proofs.Common.{◌≡◌, ◌∙◌, ℕ, ◌+◌, ◌-◌, ◌<◌, set, ◌==◌, ◌&&◌, ◌||◌, not, nat_lt, nat_le, Bool, true, false, List, [], ◌∷◌, Option, Some, None, if◌then◌else◌, refl, sym, ap, subst, arith}
 use Rattle.std.specs.Prelude.{option_and_then}
 use Rattle.std.proofs.lemmas.Bool.{false≢true, true≢false, eqb-true}
@@ -15,7 +15,7 @@ use Rattle.wire_base.specs.declared.flood_out.FloodOut.{FloodOut}
 use Rattle.wire_base.specs.declared.flood_out.FloodOut.TheVariants as out
 use Rattle.wire_base.specs.declared.triple.Summary.{Summary}
 use Rattle.wire_base.specs.model.Control.{Flood, AreAscending, ids_of, same_id, same_system, fragment_0, entry_in, put_entry, purge, age_of, is_unknown, is_newer_or_confused, is_full, seq_of, aged_to, after_second}
-use Rattle.wire_base.specs.model.Flooding.{LspAnswer, SnpAnswer, only_says, puts_marked, kept, lsp_aged, is_own_ahead, is_stray, lsp_in, on_lsp, wanted, is_live_summary, listed_aged, on_listed, on_list, mark_all, last_sequence, started, new_flood, link_up, link_down, sent_on, send_known, set_srm, with_row, flood_aged}
+use Rattle.wire_base.specs.model.Flooding.{LspAnswer, SnpAnswer, only_says, puts_marked, kept, lsp_aged, is_own_ahead, is_unheld_own, lsp_in, on_lsp, wanted, is_live_summary, listed_aged, on_listed, on_list, mark_all, last_sequence, started, new_flood, link_up, link_down, sent_on, send_known, set_srm, with_row, flood_aged}
 use Rattle.wire_base.specs.model.OwnLsp.{own_lsp}
 use Rattle.wire_base.specs.model.Pdu.{Head, head_summary}
 use Rattle.router_core.specs.Own.{own_past, spent_past}
@@ -48,7 +48,7 @@ module _ (r : RouterConf) (up : List Bool) (spent : Bool) where
   pub dead_issued : (e : Entry) (es : List Entry) → AreIssued r up spent es → e.life ≡ 0 → AreIssued r up spent (put_entry e es)
   dead_issued e es all dead = put_issued e es all (λ live own. absurd (omega (arith, live, dead)))
 
--- ---- the own link state PDU
+-- ---- the own LSP
 
 past_new : (r : RouterConf) (up : List Bool) (spent : Bool) (s : ℕ) (id : LspId) (x : Entry) → spent ≡ false → id ≡ fragment_0 r.system → own_past r up s ≡ x → 0 < x.life → IsIssued r up (spent_past spent s) id x
 unfolding own_past own_lsp
@@ -75,7 +75,7 @@ past_issued r up ups before spent s es unspent all =
         let old = all.each id x there live own in
         absurd (true≢false (sym (ap (λ (i : LspId). same_id i id) (past_id r up s) ∙ ap (λ (i : LspId). same_id i id) (sym old.fragment) ∙ id_self id) ∙ same))
 
--- ---- a link state PDU
+-- ---- an LSP
 
 module _ (r : RouterConf) (up : List Bool) (spent : Bool) (f : Flood) (es : List Entry) (system : f.own ≡ r.system) (all : AreIssued r up spent es) where
   lsp_if : (b : Bool) (x y : LspAnswer) → AreIssued r up spent x.entries → AreIssued r up spent y.entries → AreIssued r up spent (if b then x else y).entries
@@ -84,7 +84,7 @@ module _ (r : RouterConf) (up : List Bool) (spent : Bool) (f : Flood) (es : List
 
   module _ (link : ℕ) (h : Head) (tlvs : List ℕ) where
     -- what is stored is dead, or of another system
-    stored : (age : Age) → (is_unknown age || is_newer_or_confused age) ≡ true → is_stray f h age ≡ false → AreIssued r up spent (put_entry (kept h tlvs) es)
+    stored : (age : Age) → (is_unknown age || is_newer_or_confused age) ≡ true → is_unheld_own f h age ≡ false → AreIssued r up spent (put_entry (kept h tlvs) es)
     stored age new stray = put_issued r up spent (kept h tlvs) es all (λ live own. absurd (by (h.life == 0) (nat_lt 0 h.life) refl refl live own))
       where
         ours : same_system h.id.system r.system ≡ true → same_system h.id.system f.own ≡ true
@@ -98,7 +98,7 @@ module _ (r : RouterConf) (up : List Bool) (spent : Bool) (f : Flood) (es : List
             true≢false (sym (ap (λ (b : Bool). b && (nat_lt 0 h.life && (is_unknown age || is_newer_or_confused age))) (ours own) ∙ ap (λ (b : Bool). b && (is_unknown age || is_newer_or_confused age)) q ∙ new) ∙ stray)
         by false false p q lt own = grind (arith, nat_tests)
 
-    aged_issued : (age : Age) → is_stray f h age ≡ false → AreIssued r up spent (lsp_aged f es link h tlvs age).entries
+    aged_issued : (age : Age) → is_unheld_own f h age ≡ false → AreIssued r up spent (lsp_aged f es link h tlvs age).entries
     aged_issued Unknown stray = lsp_if (h.life == 0) _ _ all (lsp_if (is_full es) _ _ all (stored Unknown refl stray))
     aged_issued Newer stray = stored Newer refl stray
     aged_issued Confused stray = dead_issued r up spent (purge h.id h.seq) es all refl
@@ -110,9 +110,9 @@ module _ (r : RouterConf) (up : List Bool) (spent : Bool) (f : Flood) (es : List
     lsp_issued = by (age_of (entry_in es h.id) (head_summary h))
       where
         by : (age : Age) → AreIssued r up spent (lsp_in f es link h tlvs spent age).entries
-        by age = cases (is_stray f h age) refl
+        by age = cases (is_unheld_own f h age) refl
           where
-            cases : (stray : Bool) → is_stray f h age ≡ stray
+            cases : (stray : Bool) → is_unheld_own f h age ≡ stray
                 → AreIssued r up spent (if h.seq == 0 then only_says f es out.Zero else if is_own_ahead f h.id spent age then only_says f es (out.Reissue h.seq) else if stray then (if is_unknown age && is_full es then only_says f es out.Full else puts_marked f es (purge h.id h.seq)) else lsp_aged f es link h tlvs age).entries
             cases true q = lsp_if (h.seq == 0) _ _ all (lsp_if (is_own_ahead f h.id spent age) _ _ all (lsp_if (is_unknown age && is_full es) _ _ all (dead_issued r up spent (purge h.id h.seq) es all refl)))
             cases false q = lsp_if (h.seq == 0) _ _ all (lsp_if (is_own_ahead f h.id spent age) _ _ all (aged_issued age q))
@@ -185,7 +185,7 @@ none_issued r up spent = record { each = λ id e there live own. cc }
 
 -- ---- of what the code makes
 
--- the own link state PDU was made for the ends that are up now, and is put
+-- the own LSP was made for the ends that are up now, and is put
 pub issued_now : (r : RouterConf) (ups up before_up : List Bool) (before spent now : Bool) (s : ℕ) (own : Entry) (es es' : List Entry) → own ≡ own_past r ups s → es' ≡ put_entry own es → now ≡ spent_past spent s → spent ≡ false → ups ≡ up → AreIssued r before_up before es → AreIssued r up now es'
 issued_now r ups up before_up before spent now s own es es' is put now_is unspent ups_are all =
     let one : AreIssued r ups (spent_past spent s) (put_entry (own_past r ups s) es) = past_issued r ups before_up before spent s es unspent all in

@@ -21,10 +21,10 @@ use Rattle.view_graph.proofs.HeardLaws.{said_heard}
 use Rattle.view_graph.proofs.SystemLaws.{same_turned}
 use Rattle.bier_forward.specs.Kept.{AreRoutes}
 use Rattle.bier_forward.specs.declared.routes.Routes.{Routes}
-use Rattle.router_core.specs.Forecast.{is_confusing}
+use Rattle.router_core.specs.SnpNeeds.{is_confusing}
 use Rattle.router_core.specs.declared.kept.Kept.{Kept}
 use Rattle.router_core.specs.Keeping.{IsKept, IsCurrent, IsNow, MayKeep, SaysSame, StaysKept, StaysOwn, is_last}
-use Rattle.router_core.proofs.NotingLaws.{but_says, says_itself, lsp_but, csnp_but, psnp_but, tick_but, up_but, down_but}
+use Rattle.router_core.proofs.StalenessLaws.{but_says, says_itself, lsp_but, csnp_but, psnp_but, tick_but, up_but, down_but}
 
 -- ---- what may have changed is noted
 
@@ -155,7 +155,7 @@ module _ (c : Control) (tlvs : List ℕ) (k : Option Kept) (all : (next : Contro
 
 -- ---- sending
 
--- where view, configuration and database are the same, what is kept stays
+-- where view, configuration and LSDB are the same, what is kept stays
 moved : (c c' : Control) (k : Option Kept) → control_view c' ≡ control_view c → c'.conf ≡ c.conf → c'.entries ≡ c.entries → MayKeep c k → MayKeep c' k
 moved c c' None view conf entries kept = tt
 moved c c' (Some k) view conf entries kept =

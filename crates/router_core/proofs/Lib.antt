@@ -2,12 +2,12 @@ pub mod AgingLaws
 pub mod BoundLaws
 pub mod CountLaws
 pub mod EventLaws
-pub mod ForecastLaws
+pub mod SnpNeedsLaws
 pub mod IdleLaws
 pub mod IssuedLaws
 pub mod KeepLaws
 pub mod MergeLaws
-pub mod NotingLaws
+pub mod StalenessLaws
 pub mod OwnLaws
 pub mod ReceivedLaws
 pub mod SaidLaws

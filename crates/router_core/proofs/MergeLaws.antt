@@ -1,4 +1,4 @@
--- What the rows of flags find in a database, in their order, is what its entries find among the rows.
+-- What the rows of flags find in an LSDB, in their order, is what its entries find among the rows.
 use Rattle.std.proofs.Common.{◌≡◌, ◌∙◌, ℕ, zero, suc, ◌+◌, ◌<◌, Bool, true, false, not, List, [], ◌∷◌, ◌++◌, length, drop, slice_get, ◌≤◌, get_or, map, filter, Option, Some, None, IfSome, option_map, if◌then◌else◌, refl, sym, ap, subst, append_assoc, arith}
 use Rattle.std.proofs.lemmas.List.{append-nil, drop_all}
 use Rattle.std.specs.List.{AllByRecursion, flat_map, position_or_len}

@@ -1,4 +1,4 @@
--- The router's own link state PDU, as it is issued.
+-- The router's own LSP, as it is issued.
 use Rattle.std.proofs.Common.{◌≡◌, ◌∙◌, ℕ, ◌+◌, ◌<◌, ◌≤◌, ◌==◌, ◌&&◌, ◌||◌, Bool, true, false, List, length, Option, is_none, Result, Ok, Err, IsOk, rules, if◌then◌else◌, refl, sym, ap, subst, arith}
 use Rattle.std.proofs.lemmas.Bool.{true≢false}
 use Rattle.wire_base.specs.declared.addresses.SystemId.{SystemId}

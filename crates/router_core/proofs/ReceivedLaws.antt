@@ -19,17 +19,17 @@ use Rattle.wire_base.specs.declared.flood_out.FloodOut.TheVariants as out
 use Rattle.wire_base.specs.declared.triple.Summary.{Summary}
 use Rattle.wire_base.specs.model.Control.{Control, Flood, IsDatabase, entry_in, age_of, is_full, is_unknown}
 use Rattle.wire_base.specs.model.Ethernet.{IsFrame, IsisPdu}
-use Rattle.wire_base.specs.model.Flooding.{on_lsp, lsp_in, lsp_aged, is_own_ahead, is_stray, snp_done, reissue_if, LspAnswer, SnpAnswer}
+use Rattle.wire_base.specs.model.Flooding.{on_lsp, lsp_in, lsp_aged, is_own_ahead, is_unheld_own, snp_done, reissue_if, LspAnswer, SnpAnswer}
 use Rattle.wire_base.specs.model.OnFrame.{Drop, Effects, nothing, framed}
 use Rattle.wire_base.specs.model.Pdu.{Head, head_summary, Pdu, LspPdu, CsnpPdu, PsnpPdu, HelloPdu, OtherPdu, IsPdu, lsp_type, csnp_type, psnp_type, shaped, shape, lsp_body, csnp_body, psnp_body, lsp_covered}
 use Rattle.wire_base.specs.model.Tlv.{lsp_id}
 use Rattle.lsp_store.specs.Places.{is_new}
-use Rattle.router_core.specs.declared.forecast.Ready.{Ready}
-use Rattle.router_core.specs.Forecast.{spent_if, flags_issued, entries_issued, count_full, past_of, IsReady}
+use Rattle.router_core.specs.declared.snp_needs.Ready.{Ready}
+use Rattle.router_core.specs.SnpNeeds.{spent_if, flags_issued, entries_issued, count_full, past_of, IsReady}
 use Rattle.router_core.specs.Own.{own_past}
 use Rattle.router_core.specs.Received.{HasRoom, full_drop, is_kept, list_taken}
 use Rattle.laws_router.specs.State.{IsRouter, AreIssued, is_up, control_of}
-use Rattle.router_core.proofs.ForecastLaws.{past_is, full_is}
+use Rattle.router_core.proofs.SnpNeedsLaws.{past_is, full_is}
 use Rattle.router_core.proofs.IssuedLaws.{issued_now, marked_up}
 use Rattle.laws_router.specs.Kept.{Kept, OwnStands}
 use Rattle.laws_router.proofs.KeptLaws.{LspKept, SnpKept, lsp_kept, range_kept, list_kept}
@@ -95,7 +95,7 @@ lsp_changes f es link h tlvs spent = by_age (age_of (entry_in es h.id) (head_sum
     by_age age =
         lsp_if f es (h.seq == 0) _ _ (λ _. (refl, refl))
         (lsp_if f es (is_own_ahead f h.id spent age) _ _ (λ _. (refl, refl))
-        (lsp_if f es (is_stray f h age) _ _ (lsp_if f es (is_unknown age && is_full es) _ _ (λ _. (refl, refl)) (λ q. absurd (true≢false q)))
+        (lsp_if f es (is_unheld_own f h age) _ _ (lsp_if f es (is_unknown age && is_full es) _ _ (λ _. (refl, refl)) (λ q. absurd (true≢false q)))
         (aged_changes f es link h tlvs age)))
 
 module _ (r : RouterConf) (f : Flood) (es : List Entry) (spent : Bool) (k : IsRouter (control_of r f es spent)) (link : ℕ) (open_ : get_or f.up link false ≡ true) where
@@ -125,7 +125,7 @@ module _ (r : RouterConf) (f : Flood) (es : List Entry) (spent : Bool) (k : IsRo
 
 -- ---- lists of entries
 
--- what a list of entries leaves of a router, and what it asks for, is what was told of it
+-- what a list of entries leaves of a router, and what it asks for, is what was reported of it
 pub record IsListed (c : Control) (rows : List Summary) (a : SnpAnswer) : Type 0 where
   pub kept : SnpKept c.conf.system c.flood.up c.spent a
   pub asked : a.answer.reissue ≡ past_of c rows

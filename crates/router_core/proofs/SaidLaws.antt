@@ -1,4 +1,4 @@
--- What a system says in a database is told by its live entries, and which changes of a database leave that as it was.
+-- What a system says in an LSDB is reported by its live entries, and which changes of an LSDB leave that as it was.
 use Rattle.std.proofs.Common.{◌≡◌, ◌∙◌, ◌-◌, ◌==◌, ◌&&◌, ◌||◌, nat_lt, nat_le, Bool, true, false, List, [], ◌∷◌, ◌++◌, map, filter, Some, None, slice_get, if◌then◌else◌, refl, sym, ap, arith}
 use Rattle.std.proofs.lemmas.Bool.{true≢false}
 use Rattle.std.proofs.lemmas.Bool.Decides.{nat_tests}

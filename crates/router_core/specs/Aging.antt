@@ -1,4 +1,4 @@
--- A database that ages by a second, entry by entry, and which entry is to be issued anew after it.
+-- An LSDB that ages by a second, entry by entry, and which entry is to be issued anew after it.
 use Rattle.std.specs.Prelude.{◌≡◌, ℕ, suc, ◌+◌, ◌==◌, Bool, false, List, ◌++◌, length, take, drop, fold, option_to_list, Option, Some, None}
 use Rattle.std.specs.List.{filter_map}
 use Rattle.wire_base.specs.declared.entry.Aged.{Aged}

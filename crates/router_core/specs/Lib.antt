@@ -1,6 +1,6 @@
 pub mod Aging
 pub mod Bounds
-pub mod Forecast
+pub mod SnpNeeds
 pub mod Keeping
 pub mod Own
 pub mod Received

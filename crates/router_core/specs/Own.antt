@@ -1,4 +1,4 @@
--- A router's own link state PDU past a sequence number (ISO/IEC 10589, 7.3.16.1).
+-- A router's own LSP past a sequence number (ISO/IEC 10589, 7.3.16.1).
 use Rattle.std.specs.Prelude.{ℕ, ◌+◌, ◌==◌, ◌||◌, Bool, List, if◌then◌else◌}
 use Rattle.wire_base.specs.declared.conf.RouterConf.{RouterConf}
 use Rattle.wire_base.specs.declared.entry.Entry.{Entry}

@@ -25,7 +25,7 @@ HasRoom (OtherPdu number) = Unit {0}
 abbrev pub full_drop : Cause → Drop
 full_drop why = record { cause = why; set = None }
 
--- whether flooding has done all that a link state PDU asks for; else it has changed nothing
+-- whether flooding has done all that an LSP asks for; else it has changed nothing
 abbrev pub is_kept : FloodOut → Bool
 is_kept out.Kept = true
 is_kept (out.Reissue s) = false

@@ -9,7 +9,7 @@ use std::marker::Model;
 use view_graph::view;
 use wire_base::{M, RouterConf, Summary, View};
 
-/// The control state of a router: its configuration, its database and what flooding keeps beside it, and whether it has
+/// The control state of a router: its configuration, its LSDB and what flooding keeps beside it, and whether it has
 /// used the last sequence number.
 #[derive(Drop)]
 pub(crate) struct Control {
@@ -61,7 +61,7 @@ impl Control {
         view(self.allocator(), &self.conf, up.as_slice(), &self.store)
     }
 
-    /// The allocator that the database keeps.
+    /// The allocator that the LSDB keeps.
     pub(crate) fn allocator(&self) -> Global {
         self.store.allocator()
     }

@@ -14,7 +14,7 @@ use lsp_store::Store;
 use std::alloc::Global;
 use wire_base::{Entry, LspId, M, RouterConf};
 
-/// A link comes up, and the own link state PDU is issued; or all is as it was.
+/// A link comes up, and the own LSP is issued; or nothing has changed.
 fn link_up_issuing(store: &mut Store, flood: &mut Flood, link: u16, own: Entry) -> M<()>
     requires link { link < length flood.old.flood.up }
     requires known { is_refused store.old.entries own.id ≡ false }
@@ -29,7 +29,7 @@ fn link_up_issuing(store: &mut Store, flood: &mut Flood, link: u16, own: Entry) 
     Ok(())
 }
 
-/// A link goes down, and the own link state PDU is issued; or all is as it was.
+/// A link goes down, and the own LSP is issued; or nothing has changed.
 fn link_down_issuing(store: &mut Store, flood: &mut Flood, link: u16, own: Entry) -> M<()>
     requires link { link < length flood.old.flood.up }
     requires known { is_refused store.old.entries own.id ≡ false }
@@ -44,7 +44,7 @@ fn link_down_issuing(store: &mut Store, flood: &mut Flood, link: u16, own: Entry
     Ok(())
 }
 
-/// The database and the flags of a router that has just started.
+/// The LSDB and the flags of a router that has just started.
 #[tactic(auto, unfolding(wire_base::specs::model::Flooding::started))]
 fn started(alloc: Global, conf: &RouterConf, up: &[bool]) -> M<(Store, Flood)>
     requires sound { IsSound conf.now }
@@ -71,7 +71,7 @@ fn all_up(alloc: Global, ends: usize) -> M<Vec<bool>>
     Ok(up)
 }
 
-/// The database and the flags of a router that has just started, with all its ends up.
+/// The LSDB and the flags of a router that has just started, with all its ends up.
 fn first_started(alloc: Global, conf: &RouterConf) -> M<(Store, Flood)>
     requires { IsSound conf.now }
     ensures entries { IfOk result (λ s. s.0.entries ≡ (started conf.now (replicate (length conf.now.ends) true)).entries) }
@@ -98,7 +98,7 @@ impl Control {
         })
     }
 
-    /// Starts again; or all is as it was.
+    /// Starts again; or nothing has changed.
     pub(crate) fn restart(&mut self) -> M<()>
         ensures ok { OnOk result (self.new ≡ (restart self.old).control) }
         ensures err { OnErr result (self.new ≡ self.old) }
@@ -111,7 +111,7 @@ impl Control {
         Ok(())
     }
 
-    /// The end at a place comes up; or all is as it was.
+    /// The end at a place comes up; or nothing has changed.
     pub(crate) fn end_up(&mut self, link: u16) -> M<()>
         requires { link < length self.old.conf.ends }
         ensures ok { OnOk result (self.new ≡ (end_up self.old link).control) }
@@ -129,7 +129,7 @@ impl Control {
         Ok(())
     }
 
-    /// The end at a place goes down; or all is as it was.
+    /// The end at a place goes down; or nothing has changed.
     pub(crate) fn end_down(&mut self, link: u16) -> M<()>
         requires { is_up self.old link ≡ true }
         ensures ok { OnOk result (self.new ≡ (end_down self.old link).control) }

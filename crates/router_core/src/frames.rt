@@ -14,7 +14,7 @@ ghost use Rattle.laws_router.specs.State.{is_up};
 use crate::control::Control;
 use crate::kept::{Kept, keep_if};
 use crate::pdus::{drop_frame, pass_over};
-use bier_forward::{Effects, Incoming, carry_on, hop_packet, read_packet};
+use bier_forward::{Effects, Incoming, forward_tunnel, hop_packet, read_packet};
 use gre_ip::{Tunnel, read_tunnel};
 use link_frame::{Class, classify};
 use wire_base::limits::MOST_FRAME;
@@ -62,7 +62,7 @@ impl Control {
     }
 
     /// Sends a tunnel packet for another router on, by the view that the router has now.
-    fn carry(&self, kept: &mut Option<Kept>, octets: &[u8], tunnel: &Tunnel) -> M<Effects>
+    fn forward_tunnel(&self, kept: &mut Option<Kept>, octets: &[u8], tunnel: &Tunnel) -> M<Effects>
         requires places { HasTunnel octets.now tunnel.now }
         requires elsewhere { bytes_eq tunnel.now.dst.0 self.now.conf.prefix.0 ≡ false }
         requires kept { MayKeep self.now kept.old }
@@ -73,7 +73,7 @@ impl Control {
         match kept {
             // Something is kept now.
             None => Err(Memory),
-            Some(now) => carry_on(
+            Some(now) => forward_tunnel(
                 self.allocator(),
                 &self.conf,
                 now.view.view(),
@@ -95,7 +95,7 @@ impl Control {
         if tunnel.dst == self.conf.prefix {
             return self.on_packet(kept, tunnel.inner, &octets[tunnel.from..tunnel.to]);
         }
-        let effects = self.carry(kept, octets, tunnel);
+        let effects = self.forward_tunnel(kept, octets, tunnel);
         keep_if(kept, effects.is_ok());
         effects
     }
@@ -144,7 +144,7 @@ impl Control {
         Ok(())
     }
 
-    /// What a frame carries, by its class; or all is as it was.
+    /// What a frame carries, by its class; or nothing has changed.
     fn take_class(
         &mut self,
         kept: &mut Option<Kept>,
@@ -177,7 +177,7 @@ impl Control {
         }
     }
 
-    /// A frame that came on a link; or all is as it was. What it does to the outside is written in place, since to most
+    /// A frame that came on a link; or nothing has changed. What it does to the outside is written in place, since to most
     /// frames it is nothing.
     #[tactic(auto, unfolding(wire_base::specs::model::OnFrame::on_frame))]
     pub(crate) fn frame(

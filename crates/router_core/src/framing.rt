@@ -22,7 +22,7 @@ const ALL_ROUTERS: Mac = Mac([0x09, 0x00, 0x2b, 0x00, 0x00, 0x05]);
 /// The octets before the PDU: the Ethernet header and that of the logical link control, FE FE 03.
 const HEAD: usize = 17;
 
-/// The room that a first frame takes at least: that of most link state PDUs.
+/// The room that a first frame takes at least: that of most LSPs.
 const FIRST_ROOM: usize = 256;
 
 /// Frames to be sent. Each is built in the same octets before it is put behind the others, so that a frame takes no memory of
@@ -97,7 +97,7 @@ fn begin_on(frame: &mut Octets, conf: &RouterConf, link: u16, size: usize) -> M<
     begin(frame, conf.ends.as_slice()[usize::from(link)].own_mac, size)
 }
 
-/// Appends the frame of an entry's link state PDU.
+/// Appends the frame of an entry's LSP.
 pub(crate) fn push_lsp(out: &mut FramesOut, conf: &RouterConf, link: u16, e: &Entry) -> M<()>
     requires link { link < length conf.now.ends }
     requires short { length e.now.content ≤ MOST_CONTENT }

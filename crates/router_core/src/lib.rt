@@ -8,17 +8,17 @@
 mod control;
 mod ends;
 mod entering;
-mod forecast;
 mod frames;
 mod framing;
 mod kept;
-mod noting;
 mod own;
 mod pdus;
 mod pending;
 mod router;
 mod seconds;
 mod sending;
+mod snp_needs;
+mod staleness;
 
 pub use bfr_edge::{EdgeFault, Packet};
 pub use bier_forward::{DropNote, Effects, SentFrames};

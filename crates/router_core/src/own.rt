@@ -1,4 +1,4 @@
-//! The router's own link state PDU (ISO/IEC 10589, 7.3.6 and 7.3.16.1).
+//! The router's own LSP (ISO/IEC 10589, 7.3.6 and 7.3.16.1).
 ghost use Rattle.std.specs.Prelude.{◌≡◌, ◌<◌, ◌≤◌, true, false, length, slice_set, IfOk, OnOk, OnErr};
 ghost use Rattle.wire_base.specs.model.Configuration.{IsSound};
 ghost use Rattle.wire_base.specs.model.Control.{IsDatabase, put_entry};
@@ -16,7 +16,7 @@ use wire_base::{Entry, LspId, M, RouterConf};
 /// The last sequence number.
 const LAST_SEQUENCE: u32 = u32::MAX;
 
-/// The own link state PDU past a sequence number; past the last one, its purge.
+/// The own LSP past a sequence number; past the last one, its purge.
 #[tactic(auto, unfolding(crate::specs::Own::own_past))]
 pub(crate) fn own_past(alloc: Global, conf: &RouterConf, up: &[bool], seq: u32) -> M<Entry>
     requires sound { IsSound conf.now }
@@ -29,7 +29,7 @@ pub(crate) fn own_past(alloc: Global, conf: &RouterConf, up: &[bool], seq: u32) 
     originate(alloc, conf, up, seq + 1)
 }
 
-/// Whether a router is spent that has issued its own link state PDU past a sequence number.
+/// Whether a router is spent that has issued its own LSP past a sequence number.
 pub(crate) fn spent_past(spent: bool, seq: u32) -> bool
     ensures { result ≡ spent_past spent seq }
 {
@@ -48,7 +48,7 @@ pub(crate) fn ends_up(alloc: Global, flood: &Flood, ends: u16) -> M<Vec<bool>>
     Ok(up)
 }
 
-/// The own link state PDU past a sequence number, by the ends that are up.
+/// The own LSP past a sequence number, by the ends that are up.
 pub(crate) fn own_now(alloc: Global, conf: &RouterConf, flood: &Flood, seq: u32) -> M<Entry>
     requires sound { IsSound conf.now }
     requires ends { length flood.now.flood.up ≡ length conf.now.ends }
@@ -77,7 +77,7 @@ pub(crate) fn own_with(
     own_past(alloc, conf, up.as_slice(), seq)
 }
 
-/// Puts the own link state PDU, and marks it on all links that are up; or all is as it was.
+/// Puts the own LSP, and marks it on all links that are up; or nothing has changed.
 pub(crate) fn issue(store: &mut Store, flood: &mut Flood, own: Entry) -> M<()>
     requires { is_refused store.old.entries own.id ≡ false }
     ensures ok { OnOk result ((flood.new.flood ≡ mark_all flood.old.flood own.id) × (store.new.entries ≡ put_entry own store.old.entries)) }
@@ -90,8 +90,8 @@ pub(crate) fn issue(store: &mut Store, flood: &mut Flood, own: Entry) -> M<()>
     Ok(())
 }
 
-/// Puts the own link state PDU, and marks it on all links that are up, where there is the memory for it already. It needs
-/// none in the database where it stands there.
+/// Puts the own LSP, and marks it on all links that are up, where there is the memory for it already. It needs
+/// none in the LSDB where it stands there.
 #[tactic(auto, using(crate::proofs::OwnLaws::put_is_ok))]
 pub(crate) fn issue_within(store: &mut Store, flood: &mut Flood, own: Entry)
     requires known { is_refused store.old.entries own.id ≡ false }
@@ -114,7 +114,7 @@ impl Control {
         ends_up(self.allocator(), &self.flood, self.conf.ends.len() as u16)
     }
 
-    /// Issues the own link state PDU past a sequence number; or all is as it was.
+    /// Issues the own LSP past a sequence number; or nothing has changed.
     pub(crate) fn reissue(&mut self, seq: u32) -> M<()>
         requires { self.old.spent ≡ false }
         ensures ok { OnOk result (self.new ≡ reissue self.old seq) }

@@ -13,9 +13,9 @@ ghost use Rattle.isis_flood.specs.Answers.{SnpDone};
 ghost use Rattle.laws_router.specs.State.{is_up};
 
 use crate::control::Control;
-use crate::forecast::issue_ready;
 use crate::framing::{FramesOut, push_psnp};
 use crate::kept::Kept;
+use crate::snp_needs::issue_ready;
 use bier_forward::{DropNote, Effects};
 use isis_flood::{Flood, append_listed, listed};
 use isis_pdu::{LspHead, Pdu, read_pdu};
@@ -92,7 +92,7 @@ impl Control {
         Ok(())
     }
 
-    /// What a link state PDU asks for beside what flooding has done; or all is as it was, and flooding has done nothing.
+    /// What an LSP asks for beside what flooding has done; or nothing has changed, and flooding has done nothing.
     #[tactic(auto, unfolding(wire_base::specs::model::OnFrame::framed))]
     fn answer_lsp(&mut self, link: u16, answer: FloodOut, effects: &mut Effects) -> M<()>
         requires link { link < length self.old.conf.ends }
@@ -110,7 +110,7 @@ impl Control {
         }
     }
 
-    /// A link state PDU; or all is as it was. Where flooding has changed something, nothing is asked for that takes memory.
+    /// An LSP; or nothing has changed. Where flooding has changed something, nothing is asked for that takes memory.
     #[tactic(auto, unfolding(wire_base::specs::model::Flooding::on_pdu))]
     fn on_lsp(&mut self, link: u16, head: &LspHead, tlvs: &[u8], effects: &mut Effects) -> M<()>
         requires up { is_up self.old link ≡ true }
@@ -126,7 +126,7 @@ impl Control {
         self.answer_lsp(link, answer, effects)
     }
 
-    /// The entries that a sequence numbers PDU lists; or all is as it was. What they ask for is made ready before anything
+    /// The entries that a sequence numbers PDU lists; or nothing has changed. What they ask for is made ready before anything
     /// changes.
     fn take_list(
         &mut self,
@@ -158,7 +158,7 @@ impl Control {
         Ok(())
     }
 
-    /// A complete sequence numbers PDU; or all is as it was.
+    /// A complete sequence numbers PDU; or nothing has changed.
     #[tactic(auto, unfolding(wire_base::specs::model::Flooding::on_pdu, wire_base::specs::model::Flooding::on_csnp))]
     fn on_csnp(
         &mut self,
@@ -192,7 +192,7 @@ impl Control {
         Ok(rows)
     }
 
-    /// A partial sequence numbers PDU; or all is as it was.
+    /// A partial sequence numbers PDU; or nothing has changed.
     #[tactic(auto, unfolding(wire_base::specs::model::Flooding::on_pdu, wire_base::specs::model::Flooding::on_psnp))]
     fn on_psnp(&mut self, link: u16, tlvs: &[u8], effects: &mut Effects) -> M<()>
         requires up { is_up self.old link ≡ true }
@@ -207,7 +207,7 @@ impl Control {
         done
     }
 
-    /// A PDU that floods; hellos and other types are passed over. Or all is as it was.
+    /// A PDU that floods; hellos and other types are passed over. Or nothing has changed.
     fn flood_pdu(&mut self, link: u16, pdu: Pdu<'_>, effects: &mut Effects) -> M<()>
         requires up { is_up self.old link ≡ true }
         requires short { HasRoom (pdu_of pdu) }
@@ -231,7 +231,7 @@ impl Control {
         }
     }
 
-    /// A PDU, which may change what systems say: that is noted first. Or all else is as it was.
+    /// A PDU, which may change what systems say: that is noted first. Or everything else is unchanged.
     fn take_pdu(
         &mut self,
         kept: &mut Option<Kept>,
@@ -251,7 +251,7 @@ impl Control {
         self.flood_pdu(link, pdu, effects)
     }
 
-    /// The octets of a PDU, as a frame of IS-IS carries them; or all is as it was.
+    /// The octets of a PDU, as a frame of IS-IS carries them; or nothing has changed.
     pub(crate) fn on_pdu(
         &mut self,
         kept: &mut Option<Kept>,

@@ -11,7 +11,7 @@ ghost use Rattle.laws_router.specs.State.{IsRouter, IssuesAlone, is_up, counted}
 
 use crate::control::Control;
 use crate::kept::Kept;
-use crate::noting::note_own;
+use crate::staleness::note_own;
 use bier_forward::Effects;
 use lsp_store::Store;
 use std::alloc::Global;
@@ -19,7 +19,7 @@ use std::marker::Model;
 use wire_base::limits::{MOST_ENTRIES, MOST_FRAME, MOST_PAYLOAD};
 use wire_base::{Bsl, EdgeFault, M, Memory, RouterConf, View};
 
-/// One router: its configuration, its database and what flooding keeps beside it, and how many frames it has taken.
+/// One router: its configuration, its LSDB and what flooding keeps beside it, and how many frames it has taken.
 /// Contracts see its control state and that count.
 ///
 /// It also keeps the view by which it forwarded the last packet, with rows, tables and ways of that view, and which systems
@@ -44,7 +44,7 @@ impl Model for Router {
 }
 
 impl Router {
-    /// A router that has just started, with all its ends up: its own link state PDU of sequence number 1 is all that it
+    /// A router that has just started, with all its ends up: its own LSP of sequence number 1 is all that it
     /// knows, and it and a CSNP are to be sent on every link (ISO/IEC 10589, 7.3.17).
     pub fn new(alloc: Global, conf: RouterConf) -> M<Router>
         requires { IsSound conf }
@@ -58,7 +58,7 @@ impl Router {
         })
     }
 
-    /// Its configuration. What its database has of its own system and is live is its fragment 0, with the content and the
+    /// Its configuration. What its LSDB has of its own system and is live is its fragment 0, with the content and the
     /// flags that it issues by this configuration and its ends that are up; one that isn't spent has it, and one that is
     /// spent has none.
     pub fn conf(&self) -> &RouterConf
@@ -83,7 +83,7 @@ impl Router {
         self.control.is_up(link)
     }
 
-    /// Its database. It takes no memory.
+    /// Its LSDB. It takes no memory.
     pub fn store(&self) -> &Store
         ensures { result.now.entries ≡ self.now.control.entries }
     {
@@ -101,11 +101,11 @@ impl Router {
     /// cause. An IS-IS PDU is flooded, and a BIER packet is delivered and forwarded by the view that the router has now. A
     /// tunnel packet to the router's own prefix has such a packet inside; another one is sent on toward its destination. A
     /// frame of another class, a hello and a PDU of another type are passed over (ISO/IEC 10589, 7.3.15; RFC 8279, 6;
-    /// RFC 2784). Where memory runs out, all is as it was.
+    /// RFC 2784). Where memory runs out, nothing has changed.
     ///
-    /// Whatever the octets are, a drop of any cause but a full database leaves the control state as it was; a packet that is
+    /// Whatever the octets are, a drop of any cause but a full LSDB leaves the control state as it was; a packet that is
     /// hopped here makes the router send at most one frame for each of its positions, and any other frame at most one; and
-    /// the database has at most 4,096 entries.
+    /// the LSDB has at most 4,096 entries.
     pub fn frame(&mut self, link: u16, bytes: &[u8]) -> M<Effects>
         requires link { link < length self.old.control.conf.ends }
         requires short { length bytes.now ≤ MOST_FRAME }
@@ -125,7 +125,7 @@ impl Router {
         Ok(effects)
     }
 
-    /// One second: each entry of the database ages, and the router's own one is issued anew when 300 seconds of its life
+    /// One second: each entry of the LSDB ages, and the router's own one is issued anew when 300 seconds of its life
     /// are left (ISO/IEC 10589, 7.3.16.3 and 7.3.16.4).
     pub fn tick(&mut self) -> M<Effects>
         ensures control { OnOk result (self.new.control ≡ (tick self.old.control).control) }
@@ -138,8 +138,8 @@ impl Router {
         Ok(Effects::nothing(self.control.allocator()))
     }
 
-    /// Sends what is due on a link that is up: CSNPs, link state PDUs, and a PSNP with what is acknowledged or asked for.
-    /// A link state PDU stays to be sent until it is acknowledged (ISO/IEC 10589, 7.3.15.4 and 7.3.17).
+    /// Sends what is due on a link that is up: CSNPs, LSPs, and a PSNP with what is acknowledged or asked for.
+    /// An LSP stays to be sent until it is acknowledged (ISO/IEC 10589, 7.3.15.4 and 7.3.17).
     pub fn send(&mut self, link: u16) -> M<Effects>
         requires { is_up self.old.control link ≡ true }
         ensures next { IfOk result (λ e. record { control = self.new.control; effects = e } ≡ framed link (send self.old.control link)) }
@@ -150,7 +150,7 @@ impl Router {
     }
 
     /// Whether [`Router::send`] may have anything to send on a link. False only where it would send nothing, and leave the
-    /// router as it is. It reads no entry of the database and no row of flags, so that a router that owes nothing, as most do
+    /// router as it is. It reads no entry of the LSDB and no row of flags, so that a router that owes nothing, as most do
     /// most of the time, is passed over at once.
     pub fn may_owe(&self, link: u16) -> bool
         ensures { result ≡ false → send self.now.control link ≡ record { control = self.now.control; sent = []; drops = [] } }
@@ -185,7 +185,7 @@ impl Router {
     }
 
     /// The end at a place, which is down, comes up: a CSNP and all that is known are to be sent there, and the router
-    /// issues its own link state PDU anew (ISO/IEC 10589, 7.3.6 and 7.3.17).
+    /// issues its own LSP anew (ISO/IEC 10589, 7.3.6 and 7.3.17).
     pub fn end_up(&mut self, link: u16) -> M<()>
         requires link { link < length self.old.control.conf.ends }
         requires down { is_up self.old.control link ≡ false }
@@ -198,7 +198,7 @@ impl Router {
     }
 
     /// The end at a place, which is up, goes down: nothing is to be sent there any more, and the router issues its own
-    /// link state PDU anew (ISO/IEC 10589, 7.3.6).
+    /// LSP anew (ISO/IEC 10589, 7.3.6).
     pub fn end_down(&mut self, link: u16) -> M<()>
         requires { is_up self.old.control link ≡ true }
         ensures control { OnOk result (self.new.control ≡ (end_down self.old.control link).control) }
@@ -219,11 +219,11 @@ impl Router {
         self.control.restart()
     }
 
-    /// A payload enters here for the routers of a list of BFR-ids in a subdomain, in bit strings of that length. Its copies
+    /// A payload enters here for the routers of a list of BFR-ids in a sub-domain, in bit strings of that length. Its copies
     /// carry that TTL (RFC 8279, 3; RFC 8296, 3).
     ///
     /// Refused is, in this order: a list without ids, the id 0 in it, an id whose set identifier is above 255, a router
-    /// without a BFR-id in the subdomain, and one that supports no triple of the subdomain and the length. Memory may come
+    /// without a BFR-id in the sub-domain, and one that supports no triple of the sub-domain and the length. Memory may come
     /// in place of any answer.
     pub fn inject(
         &mut self,

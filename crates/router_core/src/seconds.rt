@@ -69,7 +69,7 @@ fn age_all(store: &mut Store, flood: &mut Flood)
     }
 }
 
-/// Each entry is a second older; or all is as it was.
+/// Each entry is a second older; or nothing has changed.
 fn age(store: &mut Store, flood: &mut Flood) -> M<()>
     ensures ok { OnOk result ((flood.new.flood ≡ fold flood_aged flood.old.flood store.old.entries) × (store.new.entries ≡ filter_map after_second store.old.entries)) }
     ensures err { OnErr result ((flood.new.flood ≡ flood.old.flood) × (store.new.entries ≡ store.old.entries)) }
@@ -80,7 +80,7 @@ fn age(store: &mut Store, flood: &mut Flood) -> M<()>
     Ok(())
 }
 
-/// Each entry is a second older, and then the own link state PDU is issued; or all is as it was.
+/// Each entry is a second older, and then the own LSP is issued; or nothing has changed.
 fn age_issuing(store: &mut Store, flood: &mut Flood, own: Entry) -> M<()>
     requires { is_refused (filter_map after_second store.old.entries) own.id ≡ false }
     ensures ok { OnOk result ((flood.new.flood ≡ mark_all (fold flood_aged flood.old.flood store.old.entries) own.id) × (store.new.entries ≡ put_entry own (filter_map after_second store.old.entries))) }
@@ -105,7 +105,7 @@ fn is_near(store: &Store, id: &LspId) -> bool
 }
 
 impl Control {
-    /// One second; or all is as it was.
+    /// One second; or nothing has changed.
     pub(crate) fn tick(&mut self) -> M<()>
         ensures ok { OnOk result (self.new ≡ (tick self.old).control) }
         ensures err { OnErr result (self.new ≡ self.old) }

@@ -1,4 +1,4 @@
-//! Sending on a link: the CSNPs that are due, link state PDUs, and PSNPs (ISO/IEC 10589, 7.3.15.4 and 7.3.17).
+//! Sending on a link: the CSNPs that are due, LSPs, and PSNPs (ISO/IEC 10589, 7.3.15.4 and 7.3.17).
 ghost use Rattle.std.specs.Prelude.{◌≡◌, ◌<◌, ◌≤◌, ◌++◌, Bool, true, false, length, map, filter, slice_index_or, option_map, IfOk, IfSome, OnOk, OnErr};
 ghost use Rattle.std.specs.List.{AllByRecursion, flat_map};
 ghost use Rattle.wire_base.specs.model.Control.{AreAscending, HasEntry, entry_in, ssn_in, summary_of};
@@ -266,7 +266,7 @@ impl Control {
         self.flood.sent(link);
     }
 
-    /// Sends what is due on a link that is up; or all is as it was.
+    /// Sends what is due on a link that is up; or nothing has changed.
     #[tactic(auto, unfolding(wire_base::specs::model::OnFrame::framed))]
     pub(crate) fn send(&mut self, link: u16) -> M<Effects>
         requires { is_up self.old link ≡ true }

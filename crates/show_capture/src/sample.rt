@@ -5,6 +5,10 @@ use isis_tlv::{PrefixEntry, Reach, push_prefix, push_reach, push_tlv};
 use link_frame::write_eth;
 use pcap_frames::{write_cap_header, write_cap_record};
 use std::alloc::Global;
+use wire_base::codepoints::{
+    NLPID_IPV4, TLV_AREA_ADDRESSES, TLV_DYNAMIC_HOSTNAME, TLV_EXTENDED_IP_REACH,
+    TLV_EXTENDED_IS_REACH, TLV_PROTOCOLS_SUPPORTED,
+};
 use wire_base::{Bsl, LabelRange, Level, LspId, M, Mac, Octets, OwnSub, Rows, Summary, SystemId};
 
 /// Where IS-IS frames go (ISO/IEC 10589, 8.4).
@@ -42,7 +46,7 @@ fn info(alloc: Global, n: u8) -> M<Octets> {
     Ok(out)
 }
 
-/// The links of a router to its two neighbours.
+/// The links of a router to its two neighbors.
 fn links(alloc: Global, neighbours: [u8; 2]) -> M<Octets> {
     let mut out = Octets::new(alloc);
     for neighbour in neighbours {
@@ -83,12 +87,12 @@ fn tlvs(alloc: Global, n: u8, neighbours: [u8; 2]) -> M<Octets> {
     let links = links(alloc, neighbours)?;
     let prefix = prefix(alloc, n)?;
     let mut out = Octets::new(alloc);
-    push_tlv(&mut out, 1, &[3, 0x49, 0, 1])?;
-    push_tlv(&mut out, 129, &[0xcc])?;
-    push_tlv(&mut out, 137, b"router".as_slice())?;
+    push_tlv(&mut out, TLV_AREA_ADDRESSES, &[3, 0x49, 0, 1])?;
+    push_tlv(&mut out, TLV_PROTOCOLS_SUPPORTED, &[NLPID_IPV4])?;
+    push_tlv(&mut out, TLV_DYNAMIC_HOSTNAME, b"router".as_slice())?;
     if links.len() <= 255 && prefix.len() <= 255 {
-        push_tlv(&mut out, 22, links.as_slice())?;
-        push_tlv(&mut out, 135, prefix.as_slice())?;
+        push_tlv(&mut out, TLV_EXTENDED_IS_REACH, links.as_slice())?;
+        push_tlv(&mut out, TLV_EXTENDED_IP_REACH, prefix.as_slice())?;
     }
     Ok(out)
 }

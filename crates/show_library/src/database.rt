@@ -1,4 +1,4 @@
-//! The database that a capture makes.
+//! The LSDB that a capture makes.
 
 use isis_pdu::{LspHead, Pdu, read_pdu};
 use link_frame::{Class, classify};
@@ -44,7 +44,7 @@ fn put_frame(alloc: Global, store: &mut Store, level: Level, frame: &[u8]) -> M<
     }
 }
 
-/// Puts an LSP that is newer than the entry of its identifier (ISO/IEC 10589, 7.3.16.2). A database that is full takes no
+/// Puts an LSP that is newer than the entry of its identifier (ISO/IEC 10589, 7.3.16.2). An LSDB that is full takes no
 /// new identifier.
 fn put_lsp(alloc: Global, store: &mut Store, head: &LspHead, tlvs: &[u8]) -> M<()> {
     let summary = Summary {
@@ -62,7 +62,7 @@ fn put_lsp(alloc: Global, store: &mut Store, head: &LspHead, tlvs: &[u8]) -> M<(
     }
 }
 
-/// What a database keeps of an LSP: of a dead one a purge.
+/// What an LSDB keeps of an LSP: of a dead one a purge.
 fn entry_of(alloc: Global, head: &LspHead, tlvs: &[u8]) -> M<Entry> {
     if head.life == 0 {
         return Ok(purge(alloc, head.id, head.seq));

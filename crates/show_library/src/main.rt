@@ -1,7 +1,7 @@
-//! Reads a capture of IS-IS from standard input, builds the database and the view that a router makes of it, and says how
+//! Reads a capture of IS-IS from standard input, builds the LSDB and the view that a router makes of it, and says how
 //! far each router is and where each bit goes. `docs/library.md` quotes it.
 //!
-//! It stands on the codecs, the database, the view and the routes.
+//! It stands on the codecs, the LSDB, the view and the routes.
 #![tactic(auto)]
 
 mod conf;

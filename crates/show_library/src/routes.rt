@@ -24,7 +24,7 @@ pub fn show_distances(alloc: Global, text: &mut String, seen: &View) -> M<()> {
     Ok(())
 }
 
-/// A line for each bit position of set 0 of 64 bits in subdomain 0 that has a row at the view's first router: the routers
+/// A line for each bit position of set 0 of 64 bits in sub-domain 0 that has a row at the view's first router: the routers
 /// to which its bit may be sent, and the end where each is reached directly.
 pub fn show_rows(alloc: Global, text: &mut String, seen: &View, conf: &RouterConf) -> M<()>
     requires { length conf.now.ends ≤ 65536 }

@@ -1,5 +1,5 @@
 //! The rules of flooding, case by case, at a router with two links that are up and one that is down. It has its own
-//! link state PDU and one of another system, which is to be sent on link 1 and acknowledged on link 0.
+//! LSP and one of another system, which is to be sent on link 1 and acknowledged on link 0.
 ghost use Rattle.std.specs.Prelude.{◌≡◌, ◌≤◌, length, IfOk};
 
 use isis_flood::{Flood, FloodOut, SnpOut};
@@ -203,7 +203,7 @@ fn what_a_list_lacks(rt: HostRuntime) {
     );
 }
 
-/// Where the database is full, what is new is dropped, and no flag is set for it.
+/// Where the LSDB is full, what is new is dropped, and no flag is set for it.
 #[test]
 fn a_full_database(rt: HostRuntime) {
     let dropped = SnpOut {
@@ -222,7 +222,7 @@ fn links(rt: HostRuntime) {
     assert_eq!(rt; on_links(rt.alloc()), Ok(LINKS));
 }
 
-/// What is answered to a link state PDU that comes on link 1, and what is left.
+/// What is answered to an LSP that comes on link 1, and what is left.
 fn after_lsp(alloc: Global, said: Said, spent: bool) -> M<(FloodOut, Flags, Left)> {
     let mut flood = no_flags(alloc)?;
     let mut store = Store::new(alloc);
@@ -391,7 +391,7 @@ fn no_flags(alloc: Global) -> M<Flood>
     Flood::new(alloc, SystemId([0, 0, 0, 0, 0, 1]), 3, &[true, true, false])
 }
 
-/// Puts both systems' link state PDUs, and sets the flags of the other one's.
+/// Puts both systems' LSPs, and sets the flags of the other one's.
 fn start(flood: &mut Flood, store: &mut Store) -> M<()>
     requires { length flood.old.flood.up ≡ 3 }
     ensures { length flood.new.flood.up ≡ 3 }

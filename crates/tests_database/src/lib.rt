@@ -1,4 +1,4 @@
-//! A router's database, its flooding, its own link state PDU and the view that it takes of them, case by case. There is nothing
+//! A router's LSDB, its flooding, its own LSP and the view that it takes of them, case by case. There is nothing
 //! here but tests, and what several of them build.
 #![tactic(auto)]
 

@@ -14,7 +14,7 @@ const CONTENT: &[u8] =
 /// Whether the content is that; sequence number, life and hold; checksum and flags.
 type Told = (bool, (u32, u16, u16), (u16, u8));
 
-/// The first link state PDU of a router with one link and one label range, octet by octet, and its purge.
+/// The first LSP of a router with one link and one label range, octet by octet, and its purge.
 #[test]
 fn issues_its_first_pdu(rt: HostRuntime) {
     assert_eq!(rt;

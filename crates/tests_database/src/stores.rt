@@ -20,7 +20,7 @@ const AGES: [(Said, Age); 5] = [
     ((5, 0, 7), Age::Newer),
 ];
 
-/// A database that is full takes each identifier that it has, and no other.
+/// An LSDB that is full takes each identifier that it has, and no other.
 #[test]
 fn takes_no_new_identifier_when_full(rt: HostRuntime) {
     let wanted: Full = (

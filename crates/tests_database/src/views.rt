@@ -85,7 +85,7 @@ static ALONE: [(&[u8], &[ViewEdge], usize, usize); 10] = [
         0,
         1,
     ),
-    // a place; one of an unknown subdomain; two whose labels overlap; the prefix of A
+    // a place; one of an unknown sub-domain; two whose labels overlap; the prefix of A
     (
         b"\x87\x17\0\0\0\0\x60\x0a\0\0\x02\x0d\x20\x0b\0\0\0\0\x02\x01\x04\0\x10\0\xc8",
         &[],
@@ -152,7 +152,7 @@ static RENEWALS: [(Option<&[u8]>, Option<&[u8]>, bool, bool, &[ViewEdge]); 9] = 
     (None, Some(B_SAYS), true, true, BOTH),
 ];
 
-/// In the settled ring each router has an edge to both neighbours and one label; an end that is down takes its edge away
+/// In the settled ring each router has an edge to both neighbors and one label; an end that is down takes its edge away
 /// at both ends.
 #[test]
 fn the_settled_ring(rt: HostRuntime) {

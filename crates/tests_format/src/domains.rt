@@ -9,7 +9,7 @@ use wire_base::{Domain, End, OwnSub, RouterConf};
 const ROUTERS: &str =
     "router = [{name='A',system='0000.0000.000a',prefix='10.0.0.1'},{name='B',system='0000.0000.0002',prefix='10.0.0.2'},{name='C-d_3',system='00FF.0000.0003',prefix='223.255.0.3',overload=true}]";
 
-// And three subdomains.
+// And three sub-domains.
 const BASE: &str =
     "subdomain = [{sd=0,kind='mpls'},{sd=1,kind='configured'},{sd=2,kind='mpls'}]\nrouter = [{name='A',system='0000.0000.000a',prefix='10.0.0.1'},{name='B',system='0000.0000.0002',prefix='10.0.0.2'},{name='C-d_3',system='00FF.0000.0003',prefix='223.255.0.3',overload=true}]";
 
@@ -231,7 +231,7 @@ fn star(alloc: Global, links: usize) -> Result<String, AllocError> {
     Ok(text)
 }
 
-// A router in that many subdomains, in the first five of them with labels of each length.
+// A router in that many sub-domains, in the first five of them with labels of each length.
 fn member(alloc: Global, subdomains: usize) -> Result<String, AllocError> {
     let mut text = String::new(alloc);
     text.push_str("[[router]]\nname='A'\nsystem='0000.0000.0000'\nprefix='9.0.0.1'\n")?;

@@ -3,7 +3,7 @@ use crate::disk::{Call, Disk, OpenCalls};
 use std::fs;
 use std::io::ErrorKind;
 use std::test::Fail;
-use tool_host::{FileSink, FileSource, SystemFiles, WriterSink};
+use tool_host::{FileSink, FileSource, StdoutSink, SystemFiles};
 use wire_base::{Failed, Octets, QuietSink, QuietSource, Sink, Source};
 
 /// What a file at that path is read from, or written to.
@@ -35,6 +35,7 @@ const WRITTEN: Disk = Disk {
 #[test]
 fn reads_fail_as_the_file_does(rt: HostRuntime) -> Result<(), Fail> {
     let files = SystemFiles::new(&READ);
+    let to_write = SystemFiles::new(&WRITTEN);
     let mut source = FileSource::new(&files, "domain.toml");
     let mut into = [0; 4];
     assert_eq!(rt; source.read(&mut into), Ok(2));
@@ -49,7 +50,7 @@ fn reads_fail_as_the_file_does(rt: HostRuntime) -> Result<(), Fail> {
         Err(Failed)
     );
     assert_eq!(rt;
-        FileSource::new(&SystemFiles::new(&WRITTEN), "frames.pcap").read(&mut into),
+        FileSource::new(&to_write, "frames.pcap").read(&mut into),
         Err(Failed)
     );
     Ok(())
@@ -59,6 +60,7 @@ fn reads_fail_as_the_file_does(rt: HostRuntime) -> Result<(), Fail> {
 #[test]
 fn writes_fail_as_the_file_does(rt: HostRuntime) -> Result<(), Fail> {
     let files = SystemFiles::new(&WRITTEN);
+    let to_read = SystemFiles::new(&READ);
     let mut sink = FileSink::new(&files, "frames.pcap");
     assert_eq!(rt; sink.finish(), Ok(()));
     assert_eq!(rt; sink.write(b"abc"), Ok(2));
@@ -71,16 +73,16 @@ fn writes_fail_as_the_file_does(rt: HostRuntime) -> Result<(), Fail> {
         Err(Failed)
     );
     assert_eq!(rt;
-        FileSink::new(&SystemFiles::new(&READ), "domain.toml").write(b"ab"),
+        FileSink::new(&to_read, "domain.toml").write(b"ab"),
         Err(Failed)
     );
     Ok(())
 }
 
-/// What a writer as standard output is told to write is what the sink was given, as far as it takes it, and a finish flushes it.
+/// What a writer is asked to write as standard output is what the sink was given, as far as it takes it, and a finish flushes it.
 #[test]
 fn a_writer_takes_two_of_five_octets(rt: HostRuntime) -> Result<(), Fail> {
-    let mut sink = WriterSink::new(OpenCalls::new(&[
+    let mut sink = StdoutSink::new(OpenCalls::new(&[
         Call::Moves(b"ab"),
         Call::Moves(b"cde"),
         Call::Flushes,

@@ -2,7 +2,7 @@
 use std::alloc::Global;
 use wire_base::{M, Octets};
 
-// A's own link state PDU, as it sends it first.
+// A's own LSP, as it sends it first.
 pub const LSP_OF_A: &str =
     "09002b0000050200000000010050fefe03831b010014010000004d04b0000000000001000000000001554e030104034900018101cc890141160b0000000000020000000a00871700000000600a0000010d200b0000000001010400100064";
 
@@ -63,13 +63,13 @@ pub fn push_record(out: &mut Octets, second: u32, frame: &[u8]) -> M<()> {
     out.append(frame)
 }
 
-/// Octets by their digits; none where those are no digits, or for want of memory.
+/// Octets by their digits; none where those are no digits, or out of memory.
 pub fn octets_of(alloc: Global, digits: &str) -> Option<Octets> {
     let octets = hex::decode(alloc, digits).ok()?;
     Some(Octets::from_vec(octets))
 }
 
-/// Appends a record of a frame by its digits, where `A` is A's own link state PDU.
+/// Appends a record of a frame by its digits, where `A` is A's own LSP.
 fn push_digits(out: &mut Octets, alloc: Global, second: &str, frame: &str) -> Option<()> {
     let digits = if frame == "A" { LSP_OF_A } else { frame };
     let frame = octets_of(alloc, digits)?;
@@ -93,7 +93,7 @@ fn capture_of(alloc: Global, records: &str) -> Option<Octets> {
     Some(out)
 }
 
-/// What a command reads: records for `node`, digits for `headers`, else lines. None where it isn't that, or for want of memory.
+/// What a command reads: records for `node`, digits for `headers`, else lines. None where it isn't that, or out of memory.
 pub fn input_of(alloc: Global, words: &str, text: &str) -> Option<Octets> {
     if words.starts_with("node") {
         capture_of(alloc, text)

@@ -80,7 +80,7 @@ replay ring schedule frames | inject A 0 64 16385 8 0 00 => 4 | refused 1 event 
 replay ring schedule frames | inject A 9 64 3 8 0 00 => 4 | refused 1 event 7 Edge 4 NotBfr
 replay pair schedule frames | restart A / settle 1 => 0 | done lines 2 injected 0 named 0 got 0 dropped 0 flight 0";
 
-// The router, and what it heard: a second and a frame each. Behind them stand a router that isn't there, and link state PDUs of B's own
+// The router, and what it heard: a second and a frame each. Behind them stand a router that isn't there, and LSPs of B's own
 // that B didn't send, with sequence number 9 and with the last one; then frames that are dropped, each by another rule of another
 // reader or for another cause; then a packet of which one copy goes on and one arrives.
 const NODES: &str = "\

@@ -1,11 +1,11 @@
-//! More systems than a database has room for.
+//! More systems than an LSDB has room for.
 use crate::inputs::{no_records, push_record};
 use crate::runs::{FREE, run_on};
 use isis_pdu::checksum_at;
 use std::alloc::Global;
 use wire_base::{M, Octets};
 
-// A frame of A with a link state PDU of 27 octets, which has no TLVs and lives 1,200 seconds, up to its LSP ID.
+// A frame of A with an LSP of 27 octets, which has no TLVs and lives 1,200 seconds, up to its LSP ID.
 const FRONT_OF_LSP: [u8; 29] = [
     9, 0, 43, 0, 0, 5, 2, 0, 0, 0, 0, 1, 0, 30, 254, 254, 3, 131, 27, 1, 0, 20, 1, 0, 0, 0, 27, 4,
     176,

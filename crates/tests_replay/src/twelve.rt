@@ -2,7 +2,7 @@
 use crate::runs::{FREE, holds, run_row};
 use std::alloc::Global;
 
-// Subdomain 0 has labels, and subdomain 1 a written table.
+// Sub-domain 0 has labels, and sub-domain 1 a written table.
 pub const TWELVE: &str = "\
 subdomain = [{ sd = 0, kind = 'mpls' }, { sd = 1, kind = 'configured' }]
 row = [{ sd = 1, bsl = 64, si = 0, bift = 5000 }]
@@ -67,7 +67,7 @@ link = [
 ]
 ";
 
-// Ten routers inject for all twelve, in the one subdomain and then in the other.
+// Ten routers inject for all twelve, in the one sub-domain and then in the other.
 const GIVEN: &str = "\
 replay twelve schedule frames | settle 40 / \
 inject r0 0 256 1,2,3,4,5,6,7,8,9,10,11,12 64 0 00 / \

@@ -1,6 +1,6 @@
 -- Files that no call was made of.
 use Rattle.std.specs.Prelude.{◌≡◌, None, false}
-use Rattle.tool_host.specs.declared.files.WriterSink.{WriterSink}
+use Rattle.tool_host.specs.declared.files.StdoutSink.{StdoutSink}
 use Rattle.tool_host.specs.declared.objects.Objects.{Objects}
 
 -- none is open, and nothing was counted
@@ -15,7 +15,7 @@ pub record AreFresh {F D : Type 0} (objects : Objects F D) : Type 0 where
   pub finished : objects.frames.tally.unfinished ≡ false
 
 -- nothing was counted, and nothing is to be finished
-pub record IsFresh {W : Type 0} (report : WriterSink W) : Type 0 where
+pub record IsFresh {W : Type 0} (report : StdoutSink W) : Type 0 where
   pub faults : report.tally.faults ≡ 0
   pub taken : report.tally.zeros ≡ 0
   pub finished : report.tally.unfinished ≡ false

@@ -27,17 +27,17 @@ pub trait FileSystem {
 
 /// The files of a runtime, which tell nothing.
 #[derive(Drop)]
-pub struct SystemFiles<'a, R: Files> {
-    rt: &'a R,
+pub struct SystemFiles<R: Files> {
+    rt: R,
 }
 
-impl<'a, R: Files> SystemFiles<'a, R> {
-    pub fn new(rt: &'a R) -> Self {
+impl<R: Files> SystemFiles<R> {
+    pub fn new(rt: R) -> Self {
         SystemFiles { rt }
     }
 }
 
-impl<'a, R: Files> FileSystem for SystemFiles<'a, R> {
+impl<R: Files> FileSystem for SystemFiles<R> {
     type File = R::File;
 
     ghost at = { λ _ _. None };
@@ -45,10 +45,10 @@ impl<'a, R: Files> FileSystem for SystemFiles<'a, R> {
     ghost made = { λ _. None };
 
     fn open(&self, path: &str) -> io::Result<R::File> {
-        fs::open(self.rt, path)
+        fs::open(&self.rt, path)
     }
 
     fn create(&self, path: &str) -> io::Result<R::File> {
-        fs::create(self.rt, path)
+        fs::create(&self.rt, path)
     }
 }

@@ -1,5 +1,5 @@
-//! Sources and sinks over the files of a file system, and a sink over a writer. Each tells of its octets what that file system or
-//! writer tells.
+//! Sources and sinks over the files of a file system, and a sink over the writer of standard output. Each tells of its octets what
+//! that file system or writer tells.
 ghost use Rattle.std.specs.Prelude.{◌≡◌, ℕ, List, Option, None, false};
 ghost use Rattle.std.specs.Io.{ReadsAtMost, WritesAtMost};
 ghost use Rattle.std.specs.Io.KnownBytes.{ReadConsumes, WriteAppends, Keeps};
@@ -149,27 +149,27 @@ impl<'a, F: FileSystem> Sink for FileSink<'a, F> {
     }
 }
 
-/// A writer as a sink, as standard output.
+/// Standard output as a sink: the writer that the runtime has for it.
 #[derive(Drop)]
-pub struct WriterSink<W: Write> {
+pub struct StdoutSink<W: Write> {
     out: W,
     tally: Tally,
 }
 
-impl<W: Write> WriterSink<W> {
+impl<W: Write> StdoutSink<W> {
     /// A sink into that writer, to which it has written nothing yet.
     pub fn new(out: W) -> Self
         ensures out { result.out ≡ out }
         ensures fresh { IsFresh result }
     {
-        WriterSink {
+        StdoutSink {
             out,
             tally: Tally::new(),
         }
     }
 }
 
-impl<W: Write> Sink for WriterSink<W> {
+impl<W: Write> Sink for StdoutSink<W> {
     ghost written = { λ s. W.contents s.out };
 
     ghost faults = { λ s. s.tally.faults };

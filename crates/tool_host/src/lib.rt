@@ -13,6 +13,6 @@ mod objects;
 mod words;
 
 pub use file_system::{FileSystem, SystemFiles};
-pub use files::{FileSink, FileSource, WriterSink};
+pub use files::{FileSink, FileSource, StdoutSink};
 pub use objects::Objects;
 pub use words::{exit_code, is_no_text, words_of};

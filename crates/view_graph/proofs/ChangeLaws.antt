@@ -10,7 +10,7 @@ use Rattle.wire_base.specs.declared.view.ViewNode.{ViewNode}
 use Rattle.wire_base.specs.model.View.{Claim}
 use Rattle.view_graph.specs.Edges.{leads_to, place_in}
 use Rattle.view_graph.specs.Keep.{is_named}
-use Rattle.view_graph.specs.Renewal.{has, seats, Stays, IsNoted, AreNoted}
+use Rattle.view_graph.specs.Renewal.{has, node_claims, Stays, IsNoted, AreNoted}
 use Rattle.view_graph.proofs.HeardLaws.{named_step}
 use Rattle.view_graph.proofs.ListLaws.{take_one}
 
@@ -24,7 +24,7 @@ noted_later said nodes before now s stays n =
       system = n.system;
       subs = n.subs;
       ends = λ i away. n.ends i (stays i away);
-      own = λ away. n.own (stays (place_in s (seats nodes)) away);
+      own = λ away. n.own (stays (place_in s (node_claims nodes)) away);
     }
 
 noted_more : (said : SystemId → Option Claim) (nodes : List ViewNode) (own : SystemId) (changed : List SystemId) (k : ℕ) (x : SystemId) (before now : List ℕ) → k < length changed → x ≡ get_or changed k x → Stays before now → AreNoted said nodes (own ∷ take k changed) before → IsNoted said nodes now x

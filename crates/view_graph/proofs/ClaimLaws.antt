@@ -199,7 +199,7 @@ info_apart value i e =
     let parts : IsParts c.0 = parts_keep (length (drop 5 value)) no_parts c.0 (drop 5 value) c.1 start in
     subst (λ (x : Info). AllPairs BslDiffer x.ranges) (ok_is {E = InfoFault} _ i c.2) (pairs_apart c.0.ranges parts.apart)
 
--- ---- places in subdomains
+-- ---- places in sub-domains
 
 sub_good : (prefix : List ℕ) (t : Tlv) (s : ViewSub) → sub_at prefix t ≡ Some s → HasApart s
 sub_good prefix t s e = by (t.code == 32) refl (info_at t.value) refl e

@@ -228,7 +228,7 @@ edges_rise c p (d ∷ ds) = by (lists d c.system) refl (metric_to c.links d.syst
         let above : AllByRecursion (λ (e : ViewEdge). p < e.to) (edges_from c (p + 1) ds) = all_weaker _ _ (λ (e : ViewEdge) q. omega (arith, q)) (edges_from c (p + 1) ds) (edges_above c (p + 1) ds) in
         rw (b, f) (AllPairs-cons (λ (a b : ViewEdge). a.to < b.to) (record { to = p; metric = m }) (edges_from c (p + 1) ds) (all_from (λ (e : ViewEdge). p < e.to) (edges_from c (p + 1) ds) above) more)
 
--- ---- places in subdomains
+-- ---- places in sub-domains
 
 first_apart : (xs : List ViewSub) → AllPairs (λ (a b : ViewSub). a.sd ≡ b.sd → ⊥) (first_each xs)
 first_apart [] = no_pairs (λ (a b : ViewSub). a.sd ≡ b.sd → ⊥)

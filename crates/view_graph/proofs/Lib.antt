@@ -15,6 +15,6 @@ pub mod OwnerLaws
 pub mod PatchLaws
 pub mod RenewalLaws
 pub mod SameLaws
-pub mod SeatLaws
+pub mod NodeClaimLaws
 pub mod SystemLaws
 pub mod ViewLaws

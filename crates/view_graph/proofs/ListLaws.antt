@@ -39,7 +39,7 @@ picked_more (c ∷ cs) [] b x same = absurd (omega (arith, same))
 picked_more {X} (true ∷ cs) (y ∷ ys) b x same = ap (λ (zs : List X). y ∷ zs) (picked_more cs ys b x (omega (arith, same)))
 picked_more (false ∷ cs) (y ∷ ys) b x same = picked_more cs ys b x (omega (arith, same))
 
--- ---- the first place in each subdomain
+-- ---- the first place in each sub-domain
 
 abbrev pub is_elsewhere : ℕ → ViewSub → Bool
 is_elsewhere sd x = not (x.sd == sd)
@@ -53,7 +53,7 @@ eqb-flip a b = by (a == b) refl (b == a) refl
     by true e false f = sym (eq-eqb b a (sym (eqb-true a b e))) ∙ f
     by false e true f = sym e ∙ eq-eqb a b (sym (eqb-true b a f))
 
--- to leave out another subdomain changes nothing
+-- to leave out another sub-domain changes nothing
 has_sd-filter : (sd other : ℕ) (subs : List ViewSub) → (other == sd) ≡ false → has_sd sd (filter (is_elsewhere other) subs) ≡ has_sd sd subs
 has_sd-filter sd other [] apart = refl
 has_sd-filter sd other (x ∷ xs) apart = by (x.sd == other) refl (has_sd-filter sd other xs apart)
@@ -104,7 +104,7 @@ pub first_step : (p : ViewSub → Bool) (xs : List ViewSub) (i : ℕ) (s : ViewS
 first_step p xs i s kept next lt at before step =
     step ∙ ap (λ k. if p s && not (has_sd s.sd k) then k ++ s ∷ [] else k) before ∙ sym (first_more p xs i s lt at)
 
--- a place that is known, and the first in its subdomain, after others that are
+-- a place that is known, and the first in its sub-domain, after others that are
 pub first_kept : (p : ViewSub → Bool) (xs : List ViewSub) (i : ℕ) (s : ViewSub) → i < length xs → s ≡ get_or xs i s → (p s && not (has_sd s.sd (take i xs))) ≡ true → take i xs ≡ first_each (filter p (take i xs)) → take (i + 1) xs ≡ first_each (filter p (take (i + 1) xs))
 first_kept p xs i s lt at here before =
     let one : i + 1 ≡ suc i = omega arith in

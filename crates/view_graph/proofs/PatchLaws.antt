@@ -17,7 +17,7 @@ use Rattle.wire_base.specs.model.View.{Claim, Link, metric_to, lists, edge_to, e
 use Rattle.view_graph.specs.declared.patch.NewNode.{NewNode}
 use Rattle.view_graph.specs.Edges.{is_before, AreInOrder, place_in, metrics_to, half_edges, leads_to}
 use Rattle.view_graph.specs.Keep.{is_named, said_by}
-use Rattle.view_graph.specs.Renewal.{seats, has, AreNoted, is_listed_by, said_of, lists_at, edges_now, halves_now, IsMade, IsPatch, is_made, IsAt, AreTurning}
+use Rattle.view_graph.specs.Renewal.{node_claims, has, AreNoted, is_listed_by, said_of, lists_at, edges_now, halves_now, IsMade, IsPatch, is_made, IsAt, AreTurning}
 use Rattle.view_graph.proofs.EdgeLaws.{all_read, edges_whole, from_start, get_map}
 use Rattle.view_graph.proofs.FragmentLaws.{same_is}
 use Rattle.view_graph.proofs.GraphLaws.{all_weaker}
@@ -25,7 +25,7 @@ use Rattle.view_graph.proofs.KeepLaws.{same_claims, said_head}
 use Rattle.view_graph.proofs.AnewLaws.{place_self, put_turns}
 use Rattle.view_graph.proofs.SystemLaws.{before_differs}
 
--- ---- what depends on the systems and their places in subdomains alone
+-- ---- what depends on the systems and their places in sub-domains alone
 
 abbrev stripped : SystemId → List ViewSub → Claim
 stripped s subs = record { system = s; overload = false; links = []; subs = subs }
@@ -99,23 +99,23 @@ none_like cs ds i all at = by (slice_get ds i) refl
 
 -- ---- seats
 
-all_seats : (P : SystemId → Type 0) (k cs : List Claim) → AllByRecursion (λ d. P d.system) cs → AllByRecursion (λ d. P d.system) (seats (map (node_of k) cs))
+all_seats : (P : SystemId → Type 0) (k cs : List Claim) → AllByRecursion (λ d. P d.system) cs → AllByRecursion (λ d. P d.system) (node_claims (map (node_of k) cs))
 all_seats P k [] all = tt
 all_seats P k (c ∷ cs) all = (all.0, all_seats P k cs all.1)
 
-order_seats : (k cs : List Claim) → AreInOrder cs → AreInOrder (seats (map (node_of k) cs))
+order_seats : (k cs : List Claim) → AreInOrder cs → AreInOrder (node_claims (map (node_of k) cs))
 order_seats k [] order = tt
 order_seats k (c ∷ cs) order = (all_seats (λ t. is_before c.system t ≡ true) k cs order.0, order_seats k cs order.1)
 
 -- the nodes of claims in order are in order
-pub seats_order : (claims : List Claim) (nodes : List ViewNode) → nodes ≡ nodes_of claims → AreInOrder claims → AreInOrder (seats nodes)
-seats_order claims nodes made order = subst (λ (ns : List ViewNode). AreInOrder (seats ns)) (sym made) (order_seats claims claims order)
+pub seats_order : (claims : List Claim) (nodes : List ViewNode) → nodes ≡ nodes_of claims → AreInOrder claims → AreInOrder (node_claims nodes)
+seats_order claims nodes made order = subst (λ (ns : List ViewNode). AreInOrder (node_claims ns)) (sym made) (order_seats claims claims order)
 
-place_seats : (s : SystemId) (k cs : List Claim) → place_in s (seats (map (node_of k) cs)) ≡ place_in s cs
+place_seats : (s : SystemId) (k cs : List Claim) → place_in s (node_claims (map (node_of k) cs)) ≡ place_in s cs
 place_seats s k [] = refl
 place_seats s k (c ∷ cs) = ap (λ n. match_ordering (system_order s c.system) 0 0 (suc n)) (place_seats s k cs)
 
-metrics_seats : (links : List Link) (k cs : List Claim) → metrics_to links (seats (map (node_of k) cs)) ≡ metrics_to links cs
+metrics_seats : (links : List Link) (k cs : List Claim) → metrics_to links (node_claims (map (node_of k) cs)) ≡ metrics_to links cs
 metrics_seats links k [] = refl
 metrics_seats links k (c ∷ cs) = ap (λ (ms : List (Option ℕ)). metric_to links c.system ∷ ms) (metrics_seats links k cs)
 
@@ -215,7 +215,7 @@ lead_at x p (suc i) (y ∷ ys) d at = by (lists y x.system) (metric_to x.links y
 
 -- ---- what is known where a view is renewed
 
--- The nodes are those by what was said before, with all places in subdomains; systems that are not named say the same now.
+-- The nodes are those by what was said before, with all places in sub-domains; systems that are not named say the same now.
 pub record IsBase (claims now : List Claim) (nodes : List ViewNode) (said : SystemId → Option Claim) (systems : List SystemId) : Type 0 where
   pub order : AreInOrder claims
   pub order_now : AreInOrder now
@@ -235,7 +235,7 @@ whole_at claims nodes i n c whole node claim =
     some_is n.subs c.subs
     (sym (slice_get-map (λ (m : ViewNode). m.subs) nodes i ∙ ap (option_map (λ (m : ViewNode). m.subs)) node) ∙ ap (λ (l : List (List ViewSub)). slice_get l i) whole ∙ slice_get-map (λ (d : Claim). d.subs) claims i ∙ ap (option_map (λ (d : Claim). d.subs)) claim)
 
--- the systems, and their places in subdomains, are as before
+-- the systems, and their places in sub-domains, are as before
 same_strips : (claims now : List Claim) (nodes : List ViewNode) (said : SystemId → Option Claim) (systems : List SystemId) (places : List ℕ) → IsBase claims now nodes said systems → AreNoted said nodes systems places → map strip claims ≡ map strip now
 same_strips claims now nodes said systems places base noted =
     same_claims (map strip claims) (map strip now) (order_strip claims base.order) (order_strip now base.order_now) (λ s. said_strip claims s ∙ by s (is_named systems s) refl ∙ sym (said_strip now s))
@@ -244,11 +244,11 @@ same_strips claims now nodes said systems places base noted =
     by s false e = ap (option_map strip) (base.unnamed s e ∙ sym (base.said_now s))
     by s true e =
         let n = noted s e in
-        let x = node_at claims nodes (place_in s (seats nodes)) n.node base.made n.at_place in
+        let x = node_at claims nodes (place_in s (node_claims nodes)) n.node base.made n.at_place in
         let system : x.claim.system ≡ s = sym (ap (λ (m : ViewNode). m.system) x.made) ∙ n.system in
-        let before : said_by claims s ≡ Some x.claim = ap (said_by claims) (sym system) ∙ said_place claims (place_in s (seats nodes)) x.claim base.order x.at_place in
+        let before : said_by claims s ≡ Some x.claim = ap (said_by claims) (sym system) ∙ said_place claims (place_in s (node_claims nodes)) x.claim base.order x.at_place in
         let now_said : said_by now s ≡ Some n.claim = base.said_now s ∙ n.says in
-        let subs : x.claim.subs ≡ n.claim.subs = sym (whole_at claims nodes (place_in s (seats nodes)) n.node x.claim base.whole n.at_place x.at_place) ∙ n.subs in
+        let subs : x.claim.subs ≡ n.claim.subs = sym (whole_at claims nodes (place_in s (node_claims nodes)) n.node x.claim base.whole n.at_place x.at_place) ∙ n.subs in
         let alike : strip x.claim ≡ strip n.claim = ap (λ (t : SystemId). stripped t x.claim.subs) (system ∙ sym (said_own now s n.claim now_said)) ∙ ap (stripped n.claim.system) subs in
         ap (option_map strip) before ∙ ap (λ (c : Claim). Some c) alike ∙ sym (ap (option_map strip) now_said)
 
@@ -257,21 +257,21 @@ same_strips claims now nodes said systems places base noted =
 abbrev built : Claim → List ViewEdge → List ViewSub → ViewNode
 built x edges subs = record { system = x.system; overload = x.overload; edges = edges; subs = subs }
 
-place_is : (claims now : List Claim) (nodes : List ViewNode) (said : SystemId → Option Claim) (systems : List SystemId) (i : ℕ) (x : Claim) → IsBase claims now nodes said systems → slice_get claims i ≡ Some x → place_in x.system (seats nodes) ≡ i
-place_is claims now nodes said systems i x base at = ap (λ (ns : List ViewNode). place_in x.system (seats ns)) base.made ∙ place_seats x.system claims claims ∙ place_self claims i x base.order at
+place_is : (claims now : List Claim) (nodes : List ViewNode) (said : SystemId → Option Claim) (systems : List SystemId) (i : ℕ) (x : Claim) → IsBase claims now nodes said systems → slice_get claims i ≡ Some x → place_in x.system (node_claims nodes) ≡ i
+place_is claims now nodes said systems i x base at = ap (λ (ns : List ViewNode). place_in x.system (node_claims ns)) base.made ∙ place_seats x.system claims claims ∙ place_self claims i x base.order at
 
 abbrev whole : SystemId → Bool → List ViewEdge → List ViewSub → ViewNode
 whole s o edges subs = record { system = s; overload = o; edges = edges; subs = subs }
 
 -- metrics to the nodes are those to the systems now
-metrics_now : (claims now : List Claim) (nodes : List ViewNode) (said : SystemId → Option Claim) (systems : List SystemId) (links : List Link) → IsBase claims now nodes said systems → map strip claims ≡ map strip now → metrics_to links (seats nodes) ≡ metrics_to links now
+metrics_now : (claims now : List Claim) (nodes : List ViewNode) (said : SystemId → Option Claim) (systems : List SystemId) (links : List Link) → IsBase claims now nodes said systems → map strip claims ≡ map strip now → metrics_to links (node_claims nodes) ≡ metrics_to links now
 metrics_now claims now nodes said systems links base strips =
-    ap (λ (ns : List ViewNode). metrics_to links (seats ns)) base.made ∙ metrics_seats links claims claims ∙ sym (metrics_strip links claims) ∙ ap (metrics_to links) strips ∙ metrics_strip links now
+    ap (λ (ns : List ViewNode). metrics_to links (node_claims ns)) base.made ∙ metrics_seats links claims claims ∙ sym (metrics_strip links claims) ∙ ap (metrics_to links) strips ∙ metrics_strip links now
 
 -- a system lists itself an edge to those that it lists
 half_at : (claims : List Claim) (nodes : List ViewNode) (links : List Link) (i : ℕ) (x : Claim) → nodes ≡ nodes_of claims → slice_get claims i ≡ Some x → leads_to i (halves_now nodes links) ≡ is_some (metric_to links x.system)
 half_at claims nodes links i x made at =
-    ap (λ (ns : List ViewNode). leads_to i (half_edges 0 (metrics_to links (seats ns)))) made ∙ ap (λ ms. leads_to i (half_edges 0 ms)) (metrics_seats links claims claims) ∙ from_start i (metrics_to links claims) ∙ ap is_some (get_map (λ (c : Claim). metric_to links c.system) claims i x None at)
+    ap (λ (ns : List ViewNode). leads_to i (half_edges 0 (metrics_to links (node_claims ns)))) made ∙ ap (λ ms. leads_to i (half_edges 0 ms)) (metrics_seats links claims claims) ∙ from_start i (metrics_to links claims) ∙ ap is_some (get_map (λ (c : Claim). metric_to links c.system) claims i x None at)
 
 -- edges of which all pass
 all_pass : (g : ℕ → Bool) (x : Claim) (p : ℕ) (cs : List Claim) → ((k : ℕ) (c : Claim) → slice_get cs k ≡ Some c → lists c x.system ≡ true → lists x c.system ≡ true → g (p + k) ≡ true) → filter (λ (e : ViewEdge). g e.to) (edges_from x p cs) ≡ edges_from x p cs
@@ -367,7 +367,7 @@ made_right claims now nodes said systems n base strips m =
     claim : m.claim ≡ y.claim
     claim = some_is m.claim y.claim (sym m.says ∙ ap said system ∙ sym (base.said_now y.claim.system) ∙ said_place now n.place y.claim base.order_now y.at_place)
 
-    metrics : metrics_to y.claim.links (seats nodes) ≡ metrics_to y.claim.links now
+    metrics : metrics_to y.claim.links (node_claims nodes) ≡ metrics_to y.claim.links now
     metrics = metrics_now claims now nodes said systems y.claim.links base strips
 
     listed : (k : ℕ) (d : Claim) → slice_get now k ≡ Some d → lists_at said nodes k y.claim.system ≡ lists d y.claim.system
@@ -425,7 +425,7 @@ patch_turns claims now nodes said systems anew base patch =
             ∙ ap (λ (n : ViewNode). Some n) (unmade claims now nodes said systems (map (λ (n : NewNode). n.place) anew) i x y.claim base patch.noted strips (has_made anew i ∙ away) e y.at_place y.like)
             ∙ sym (ap (option_map (node_of now)) y.at_place)
 
--- ---- that no place in a subdomain is left out
+-- ---- that no place in a sub-domain is left out
 
 own_all : (k cs : List Claim) → map (λ (n : ViewNode). n.subs) (map (node_of k) cs) ≡ map (own_subs (map strip k)) (map strip cs)
 own_all k [] = refl

@@ -14,7 +14,7 @@ use Rattle.wire_base.specs.declared.view.ViewSub.{ViewSub}
 use Rattle.wire_base.specs.model.Control.{same_system}
 use Rattle.wire_base.specs.model.View.{Claim, own_subs}
 
--- a prefix of a place in a subdomain, and the system whose place it is
+-- a prefix of a place in a sub-domain, and the system whose place it is
 pub record Prefix : Type 0 where
   pub prefix : Ipv4
   pub system : SystemId
@@ -69,7 +69,7 @@ AreAlone owners = (p : Ipv4) → is_several (owner_at owners p) ≡ false
 abbrev pub AreTold : List Claim → BTreeMap Ipv4 (Option SystemId) → Type 0
 AreTold claims owners = (i : ℕ) (c : Claim) → slice_get claims i ≡ Some c → filter (λ s. not (is_several (owner_at owners s.prefix))) c.subs ≡ own_subs claims c
 
--- the node of a system with all places in subdomains that it tells
+-- the node of a system with all places in sub-domains that it tells
 abbrev pub whole_node : List ViewEdge → Claim → ViewNode
 whole_node edges c = record { system = c.system; overload = c.overload; edges = edges; subs = c.subs }
 

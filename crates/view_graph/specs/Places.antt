@@ -14,7 +14,7 @@ abbrev pub place_before : SystemId → List Claim → ℕ
 place_before s [] = 0
 place_before s (c ∷ cs) = if is_lt (system_order s c.system) then 0 else suc (place_before s cs)
 
--- whether one of them is in that subdomain
+-- whether one of them is in that sub-domain
 abbrev pub has_sd : ℕ → List ViewSub → Bool
 has_sd sd subs = list_any (λ s. s.sd == sd) subs
 

@@ -12,7 +12,7 @@ use Rattle.view_graph.specs.declared.patch.NewNode.{NewNode}
 use Rattle.view_graph.specs.Edges.{half_edges, leads_to, metrics_to, place_in}
 use Rattle.view_graph.specs.Keep.{is_named, said_in}
 
--- what a system says now: the router by its configuration and its ends that are up, another one in a database
+-- what a system says now: the router by its configuration and its ends that are up, another one in an LSDB
 unfoldable pub said_now : RouterConf → List Bool → List Entry → SystemId → Option Claim
 said_now r up entries s = if same_system s r.system then Some (with_known r.kinds (own_claim r up)) else said_in r.kinds entries s
 
@@ -20,8 +20,8 @@ said_now r up entries s = if same_system s r.system then Some (with_known r.kind
 abbrev pub seat : ViewNode → Claim
 seat n = record { system = n.system; overload = n.overload; links = []; subs = n.subs }
 
-abbrev pub seats : List ViewNode → List Claim
-seats nodes = map seat nodes
+abbrev pub node_claims : List ViewNode → List Claim
+node_claims nodes = map seat nodes
 
 -- ---- the places of the nodes that may be other ones
 
@@ -39,24 +39,24 @@ pub record IsAdded (place : ℕ) (before now : List ℕ) : Type 0 where
 
 -- the edges that a system lists itself
 abbrev pub halves_now : List ViewNode → List Link → List ViewEdge
-halves_now nodes links = half_edges 0 (metrics_to links (seats nodes))
+halves_now nodes links = half_edges 0 (metrics_to links (node_claims nodes))
 
--- a node has all edges that its system lists, and no others, and is overloaded where it says so
+-- a node has all edges that its system lists, and no others, and has its overload bit set where it says so
 pub record IsAsListed (nodes : List ViewNode) (n : ViewNode) (c : Claim) : Type 0 where
   pub overload : n.overload ≡ c.overload
   pub edges : n.edges ≡ halves_now nodes c.links
 
--- A system has a node, with the places in subdomains that it tells now. There are the node's place, unless it is as the system
+-- A system has a node, with the places in sub-domains that it tells now. There are the node's place, unless it is as the system
 -- lists itself, and the places of all systems to which one of its edges leads or its links now lead, but not both.
 pub record IsNoted (said : SystemId → Option Claim) (nodes : List ViewNode) (places : List ℕ) (s : SystemId) : Type 0 where
   pub claim : Claim
   pub node : ViewNode
   pub says : said s ≡ Some claim
-  pub at_place : slice_get nodes (place_in s (seats nodes)) ≡ Some node
+  pub at_place : slice_get nodes (place_in s (node_claims nodes)) ≡ Some node
   pub system : node.system ≡ s
   pub subs : node.subs ≡ claim.subs
   pub ends : (i : ℕ) → has places i ≡ false → leads_to i node.edges ≡ leads_to i (halves_now nodes claim.links)
-  pub own : has places (place_in s (seats nodes)) ≡ false → IsAsListed nodes node claim
+  pub own : has places (place_in s (node_claims nodes)) ≡ false → IsAsListed nodes node claim
 
 abbrev pub AreNoted : (SystemId → Option Claim) → List ViewNode → List SystemId → List ℕ → Type 0
 AreNoted said nodes systems places = (s : SystemId) → is_named systems s ≡ true → IsNoted said nodes places s
@@ -80,7 +80,7 @@ lists_at said nodes place s = is_listed_by (said_of said (slice_get nodes place)
 abbrev pub edges_now : (SystemId → Option Claim) → List ViewNode → SystemId → List Link → List ViewEdge
 edges_now said nodes s links = filter (λ e. lists_at said nodes e.to s) (halves_now nodes links)
 
--- a node made of the one at its place by what its system says, with the places in subdomains as before
+-- a node made of the one at its place by what its system says, with the places in sub-domains as before
 pub record IsMade (said : SystemId → Option Claim) (nodes : List ViewNode) (n : NewNode) : Type 0 where
   pub before : ViewNode
   pub claim : Claim

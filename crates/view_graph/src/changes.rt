@@ -3,13 +3,13 @@ ghost use Rattle.std.specs.Prelude.{◌≡◌, ◌≤◌, ◌∷◌, ℕ, true, 
 ghost use Rattle.wire_base.specs.model.Control.{AreAscending, ids_of};
 ghost use Rattle.wire_base.specs.model.View.{Claim as ClaimItem};
 ghost use Rattle.view_graph.specs.Edges.{AreInOrder, leads_to};
-ghost use Rattle.view_graph.specs.Renewal.{AreNoted, IsAdded, IsAsListed, IsNoted, Stays, halves_now, has, said_now, seats};
+ghost use Rattle.view_graph.specs.Renewal.{AreNoted, IsAdded, IsAsListed, IsNoted, Stays, halves_now, has, said_now, node_claims};
 
 use crate::claims::Claim;
 use crate::edges::leads_to;
+use crate::node_index::{half_edges, index_of, is_at};
 use crate::renewal::said_now;
 use crate::same::{are_same_edges, are_same_subs};
-use crate::seats::{half_edges, seat_of, sits_at};
 use wire_base::{Entry, M, RouterConf, SystemId, ViewEdge, ViewNode};
 
 fn has(places: &[usize], place: usize) -> bool
@@ -42,7 +42,7 @@ fn add_ends(places: &mut Vec<usize>, edges: &[ViewEdge], others: &[ViewEdge]) ->
     Ok(())
 }
 
-/// Whether a node has all edges that its system lists, and no others, and is overloaded where it says so.
+/// Whether a node has all edges that its system lists, and no others, and has its overload bit set where it says so.
 fn is_as_listed(node: &ViewNode, claim: &Claim, halves: &[ViewEdge]) -> bool
     ensures { result ≡ true → (node.now.overload ≡ claim.now.overload) × (node.now.edges ≡ halves.now) }
 {
@@ -59,7 +59,7 @@ fn add_all(
     node: &ViewNode,
     claim: &Claim,
 ) -> M<()>
-    requires order { AreInOrder (seats nodes.now) }
+    requires order { AreInOrder (node_claims nodes.now) }
     requires few { length nodes.now ≤ 65536 }
     ensures stays { OnOk result (Stays places.old.items places.new.items) }
     ensures ends { OnOk result ((i : ℕ) → has places.new.items i ≡ false → leads_to i node.now.edges ≡ leads_to i (halves_now nodes.now claim.now.links)) }
@@ -90,7 +90,7 @@ fn add_unlike(
 }
 
 /// Adds the places of the nodes that may be other ones for what a system says now. False where that cannot be told: where
-/// the system has no node or says nothing, or tells other places in subdomains than its node has.
+/// the system has no node or says nothing, or tells other places in sub-domains than its node has.
 fn add_changed(
     places: &mut Vec<usize>,
     nodes: &[ViewNode],
@@ -99,7 +99,7 @@ fn add_changed(
     entries: &[Entry],
     system: &SystemId,
 ) -> M<bool>
-    requires order { AreInOrder (seats nodes.now) }
+    requires order { AreInOrder (node_claims nodes.now) }
     requires few { length nodes.now ≤ 65536 }
     requires one_each { length up.now ≡ length conf.now.ends }
     requires ascending { AreAscending (ids_of entries.now) }
@@ -119,13 +119,13 @@ fn add_said(
     system: &SystemId,
     claim: &Claim,
 ) -> M<bool>
-    requires order { AreInOrder (seats nodes.now) }
+    requires order { AreInOrder (node_claims nodes.now) }
     requires few { length nodes.now ≤ 65536 }
     ensures stays { OnOk result (Stays places.old.items places.new.items) }
     ensures noted { IfOk result (λ told. told ≡ true → (said : SystemId → Option ClaimItem) → said system.now ≡ Some claim.now → IsNoted said nodes.now places.new.items system.now) }
 {
-    let place = seat_of(nodes, system);
-    if !sits_at(nodes, place, system) {
+    let place = index_of(nodes, system);
+    if !is_at(nodes, place, system) {
         return Ok(false);
     }
     let node = &nodes[place];
@@ -145,7 +145,7 @@ pub(crate) fn changed_places(
     entries: &[Entry],
     changed: &[SystemId],
 ) -> M<Option<Vec<usize>>>
-    requires order { AreInOrder (seats nodes.now) }
+    requires order { AreInOrder (node_claims nodes.now) }
     requires few { length nodes.now ≤ 65536 }
     requires one_each { length up.now ≡ length conf.now.ends }
     requires ascending { AreAscending (ids_of entries.now) }

@@ -1,4 +1,4 @@
-//! What each system claims of itself: its links, and its places in subdomains.
+//! What each system claims of itself: its links, and its places in sub-domains.
 ghost use Rattle.std.specs.Prelude.{◌≡◌, ◌++◌, ◌≤◌, ◌∷◌, [], true, map, filter, length, IfOk, OnOk, if◌then◌else◌};
 ghost use Rattle.std.specs.List.{flat_map};
 ghost use Rattle.wire_base.specs.model.Control.{AreAscending, ids_of, same_system, system_order};
@@ -17,12 +17,13 @@ use isis_tlv::{Tlv, TlvWalk};
 use lsp_store::is_system_above;
 use std::alloc::Global;
 use std::marker::Model;
+use wire_base::codepoints::{TLV_EXTENDED_IP_REACH, TLV_EXTENDED_IS_REACH};
 use wire_base::{
     End, Entry, Kind, M, OwnSub, RangeList, RouterConf, SubKind, SubList, SystemId, ViewSub,
     kind_of,
 };
 
-/// A system: whether it is overloaded, its links, and its places in subdomains, in the order of its LSPs.
+/// A system: whether it has its overload bit set, its links, and its places in sub-domains, in the order of its LSPs.
 #[derive(Drop)]
 pub(crate) struct Claim {
     pub(crate) system: SystemId,
@@ -58,8 +59,8 @@ fn add_tlv(claim: &mut Claim, tlv: Tlv<'_>) -> M<()>
     ensures overload { claim.new.overload ≡ claim.old.overload }
 {
     match tlv.code {
-        22 => append_links(&mut claim.links, tlv.value),
-        135 => append_places(&mut claim.subs, tlv.value),
+        TLV_EXTENDED_IS_REACH => append_links(&mut claim.links, tlv.value),
+        TLV_EXTENDED_IP_REACH => append_places(&mut claim.subs, tlv.value),
         _ => Ok(()),
     }
 }
@@ -128,7 +129,7 @@ fn add_fragments(claim: &mut Claim, entries: &[Entry]) -> M<()>
     Ok(())
 }
 
-/// A claim of the system of a fragment 0, to which nothing was added; it is overloaded where that fragment says so.
+/// A claim of the system of a fragment 0, to which nothing was added; it has its overload bit set where that fragment says so.
 fn bare_claim(alloc: Global, entry: &Entry) -> Claim
     ensures { result ≡ bare_claim entry.now }
 {
@@ -146,7 +147,7 @@ pub(crate) fn claim_of(alloc: Global, entries: &[Entry], entry: &Entry) -> M<Cla
     Ok(claim)
 }
 
-/// A claim with the places alone that count by what the router knows of subdomains.
+/// A claim with the places alone that count by what the router knows of sub-domains.
 pub(crate) fn with_known(kinds: &[SubKind], mut claim: Claim) -> M<Claim>
     ensures { IfOk result (λ c. c ≡ with_known kinds.now claim) }
 {
@@ -181,7 +182,7 @@ fn append_end(links: &mut LinkList, is_up: bool, end: &End) -> M<()>
     }
 }
 
-/// The label ranges of a subdomain that gives its BIFT-ids by labels; none of another.
+/// The label ranges of a sub-domain that gives its BIFT-ids by labels; none of another.
 fn own_ranges(kinds: &[SubKind], sub: &OwnSub) -> M<RangeList>
     ensures { IfOk result (λ ranges. ranges ≡ (info_of kinds.now sub.now).ranges) }
 {
@@ -192,7 +193,7 @@ fn own_ranges(kinds: &[SubKind], sub: &OwnSub) -> M<RangeList>
     }
 }
 
-/// One of the router's own places in subdomains.
+/// One of the router's own places in sub-domains.
 fn own_sub(conf: &RouterConf, sub: &OwnSub) -> M<ViewSub>
     ensures { IfOk result (λ s. s ≡ sub_of conf.now.prefix.0 (info_of conf.now.kinds sub.now)) }
 {
@@ -204,7 +205,7 @@ fn own_sub(conf: &RouterConf, sub: &OwnSub) -> M<ViewSub>
     })
 }
 
-/// The router's own places in subdomains.
+/// The router's own places in sub-domains.
 fn own_subs(alloc: Global, conf: &RouterConf) -> M<SubList>
     ensures { IfOk result (λ subs. subs ≡ map (λ s. sub_of conf.now.prefix.0 (info_of conf.now.kinds s)) conf.now.subs) }
 {
@@ -235,7 +236,7 @@ fn is_other(own: &SystemId, entry: &Entry) -> bool
     entry.id.system != *own && entry.id.pseudonode == 0 && entry.id.fragment == 0 && entry.life > 0
 }
 
-/// Fills a claim to which nothing was added, with the places alone that count by what the router knows of subdomains.
+/// Fills a claim to which nothing was added, with the places alone that count by what the router knows of sub-domains.
 fn fill(claim: &mut Claim, kinds: &[SubKind], entries: &[Entry], entry: &Entry) -> M<()>
     requires ascending { AreAscending (ids_of entries.now) }
     requires begins { Begins entry.now.id.system entries.now }

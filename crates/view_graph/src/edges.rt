@@ -217,7 +217,7 @@ fn all_lead_back(halves: &[EdgeList]) -> bool
     true
 }
 
-/// For each system the edges that the systems at their other ends list too. Once a database is settled these are all that it
+/// For each system the edges that the systems at their other ends list too. Once an LSDB is settled these are all that it
 /// lists, and its list is taken as it is.
 pub(crate) fn all_whole_edges(alloc: Global, halves: Vec<EdgeList>) -> M<Vec<EdgeList>>
     requires few { length halves.items ≤ 65536 }

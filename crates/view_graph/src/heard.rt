@@ -1,4 +1,4 @@
-//! What a system says in a database.
+//! What a system says in an LSDB.
 ghost use Rattle.std.specs.Prelude.{◌≡◌, IfOk};
 ghost use Rattle.wire_base.specs.model.Control.{AreAscending, ids_of};
 ghost use Rattle.view_graph.specs.Keep.{is_first_of, said_in};
@@ -18,7 +18,7 @@ fn is_first_of(system: &SystemId, entry: &Entry) -> bool
         && entry.life > 0
 }
 
-/// What a system says in a database. None where it has no live fragment 0.
+/// What a system says in an LSDB. None where it has no live fragment 0.
 pub(crate) fn said_in(
     alloc: Global,
     kinds: &[SubKind],

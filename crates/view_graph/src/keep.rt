@@ -20,18 +20,18 @@ use std::alloc::Global;
 use std::marker::Model;
 use wire_base::{Entry, M, RouterConf, Rows, SubKind, SystemId, View};
 
-/// The view of a router, which is renewed without reading the whole database: a renewal reads what the systems that changed
+/// The view of a router, which is renewed without reading the whole LSDB: a renewal reads what the systems that changed
 /// say, and those that they list.
 ///
-/// Contracts see the view, the router's system and kinds of subdomains, and for each other system with a live fragment 0
-/// what its LSPs say: whether it is overloaded, its links before both ends are compared, and its places in subdomains before
+/// Contracts see the view, the router's system and kinds of sub-domains, and for each other system with a live fragment 0
+/// what its LSPs say: whether it has its overload bit set, its links before both ends are compared, and its places in sub-domains before
 /// prefixes of two systems are compared.
 #[derive(Drop)]
 pub struct ViewKeep {
     system: SystemId,
     kinds: Rows<SubKind>,
     others: Others,
-    /// Whether no node lacks a place in a subdomain because another system has its prefix.
+    /// Whether no node lacks a place in a sub-domain because another system has its prefix.
     is_whole: bool,
     view: View,
 }
@@ -69,7 +69,7 @@ fn turn(view: &mut View, anew: Vec<NewNode>)
 }
 
 impl ViewKeep {
-    /// The view by a configuration, which of its ends are up, one truth value for each end, and a database.
+    /// The view by a configuration, which of its ends are up, one truth value for each end, and an LSDB.
     #[tactic(auto, unfolding(wire_base::specs::model::View::view_of), using(crate::proofs::ViewLaws::made_graph))]
     pub fn new(alloc: Global, conf: &RouterConf, up: &[bool], store: &Store) -> M<ViewKeep>
         requires one_each { length up.now ≡ length conf.now.ends }
@@ -90,8 +90,8 @@ impl ViewKeep {
         })
     }
 
-    /// Renews the view by a configuration of the same system and kinds of subdomains, by its ends that are up and by a
-    /// database. `changed` names each other system of which the database says something else than what is kept; systems of
+    /// Renews the view by a configuration of the same system and kinds of sub-domains, by its ends that are up and by a
+    /// LSDB. `changed` names each other system of which the LSDB says something else than what is kept; systems of
     /// which it says the same may be named too. True exactly where the view changed. After Memory all is as before.
     pub fn renew(
         &mut self,

@@ -1,4 +1,4 @@
-//! Which places in subdomains count.
+//! Which places in sub-domains count.
 ghost use Rattle.std.specs.Prelude.{◌≡◌, ◌&&◌, ◌++◌, ◌∷◌, [], true, false, not, is_some, filter, IfOk, OnOk, if◌then◌else◌};
 ghost use Rattle.std.specs.List.{list_any};
 ghost use Rattle.std.specs.Str.{bytes_eq};
@@ -69,7 +69,7 @@ pub(crate) fn copy_subs(alloc: Global, subs: &[ViewSub]) -> M<SubList>
     Ok(copied)
 }
 
-/// Whether the place is in a subdomain that the router knows, and the first there.
+/// Whether the place is in a sub-domain that the router knows, and the first there.
 fn is_first_known(kinds: &[SubKind], kept: &[ViewSub], sub: &ViewSub) -> bool
     ensures { result ≡ (is_some (kind_of kinds.now sub.now.sd) && not (has_sd sub.now.sd kept.now)) }
 {
@@ -86,7 +86,7 @@ fn keep_first(kept: &mut SubList, kinds: &[SubKind], sub: &ViewSub) -> M<()>
     }
 }
 
-/// Whether each place is the first in its subdomain, and the router knows that one.
+/// Whether each place is the first in its sub-domain, and the router knows that one.
 fn are_first_known(kinds: &[SubKind], subs: &[ViewSub]) -> bool
     ensures { result ≡ true → first_each (filter (λ s. is_some (kind_of kinds.now s.sd)) subs.now) ≡ subs.now }
 {
@@ -98,7 +98,7 @@ fn are_first_known(kinds: &[SubKind], subs: &[ViewSub]) -> bool
     true
 }
 
-/// The first place in each subdomain that the router knows.
+/// The first place in each sub-domain that the router knows.
 fn first_known(alloc: Global, kinds: &[SubKind], subs: &[ViewSub]) -> M<SubList>
     ensures { IfOk result (λ kept. kept ≡ first_each (filter (λ s. is_some (kind_of kinds.now s.sd)) subs.now)) }
 {
@@ -120,8 +120,8 @@ fn does_one_count(kinds: &[SubKind], subs: &[ViewSub]) -> bool
     }
 }
 
-/// Keeps the places that count by what the router knows of subdomains: none where two label ranges of the system share a
-/// label, else the first in each subdomain that is known.
+/// Keeps the places that count by what the router knows of sub-domains: none where two label ranges of the system share a
+/// label, else the first in each sub-domain that is known.
 pub(crate) fn keep_known(kinds: &[SubKind], subs: &mut SubList) -> M<()>
     ensures { OnOk result (subs.new ≡ known_subs kinds.now subs.old) }
 {

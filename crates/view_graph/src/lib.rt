@@ -1,7 +1,7 @@
-//! The view of a router: the nodes and edges that its configuration, its ends that are up and its database make up
+//! The view of a router: the nodes and edges that its configuration, its ends that are up and its LSDB make up
 //! (ISO/IEC 10589, 7.2.5 and 7.2.8; RFC 5305, 3 and 4; RFC 8401, 4 and 5).
 //!
-//! It stands on `lsp_store` and the codecs, and promises the view of every database, which is a graph.
+//! It stands on `lsp_store` and the codecs, and promises the view of every LSDB, which is a graph.
 #![tactic(auto)]
 
 mod changes;
@@ -11,15 +11,15 @@ mod heard;
 mod keep;
 mod known;
 mod links;
+mod node_index;
 mod nodes;
 mod others;
 mod owners;
 mod patch;
 mod places;
-mod remade;
+mod rebuilt;
 mod renewal;
 mod same;
-mod seats;
 
 pub use keep::ViewKeep;
 pub use nodes::{supports, view};

@@ -9,7 +9,7 @@ use isis_tlv::{Reach, ReachWalk};
 use std::marker::Model;
 use wire_base::{Few, M, SystemId};
 
-/// A link to a neighbour, with its metric.
+/// A link to a neighbor, with its metric.
 #[derive(Default, Drop)]
 pub(crate) struct Link {
     pub(crate) neighbour: SystemId,

@@ -17,7 +17,7 @@ use std::collections::BTreeMap;
 use std::mem;
 use wire_base::{EdgeList, Entry, Ipv4, M, RouterConf, Rows, SystemId, Triple, View, ViewNode};
 
-/// The node of a system with all places in subdomains that it tells.
+/// The node of a system with all places in sub-domains that it tells.
 fn whole_node(edges: EdgeList, claim: Claim) -> ViewNode
     ensures { result ≡ whole_node edges claim }
 {
@@ -69,7 +69,7 @@ fn all_nodes(
     Ok(Rows::from_vec(nodes))
 }
 
-/// The nodes, and whether each has all places in subdomains that its system tells.
+/// The nodes, and whether each has all places in sub-domains that its system tells.
 pub(crate) fn nodes_of(alloc: Global, claims: Vec<Claim>) -> M<(Rows<ViewNode>, bool)>
     requires order { AreInOrder claims.items }
     requires few { length claims.items ≤ 65536 }
@@ -94,13 +94,13 @@ fn viewed(alloc: Global, conf: &RouterConf, up: &[bool], entries: &[Entry]) -> M
     Ok(nodes)
 }
 
-/// The view of a router: by its configuration, which of its ends are up, one truth value for each end, and its database
+/// The view of a router: by its configuration, which of its ends are up, one truth value for each end, and its LSDB
 /// (ISO/IEC 10589, 7.2.5 and 7.2.8; RFC 5305, 3 and 4; RFC 8401, 4 and 5).
 ///
 /// It has a node for the router itself and one for each other system whose fragment 0 is live. Of a system its live
 /// fragments count, in order. A link is one to a router with a metric below 16,777,215, where 0 counts as 1, and it
 /// counts where both systems list each other, with the least metric of several. Where two label ranges of a system share
-/// a label, none of its places in subdomains counts; else the first in each subdomain that `conf` knows, unless another
+/// a label, none of its places in sub-domains counts; else the first in each sub-domain that `conf` knows, unless another
 /// system has such a place with the same prefix.
 #[tactic(auto, using(crate::proofs::ViewLaws::view_is_graph))]
 pub fn view(alloc: Global, conf: &RouterConf, up: &[bool], store: &Store) -> M<View>
@@ -113,8 +113,8 @@ pub fn view(alloc: Global, conf: &RouterConf, up: &[bool], store: &Store) -> M<V
     Ok(View { nodes })
 }
 
-/// Whether a node forwards packets of a triple: in a subdomain with labels it has a range of that length up to the set
-/// identifier; in one with a written table it is in the subdomain and the table has the triple's row (RFC 8279, 6.9;
+/// Whether a node forwards packets of a triple: in a sub-domain with labels it has a range of that length up to the set
+/// identifier; in one with a written table it is in the sub-domain and the table has the triple's row (RFC 8279, 6.9;
 /// RFC 8401, 6.2).
 pub fn supports(conf: &RouterConf, node: &ViewNode, t: Triple) -> bool
     ensures { result ≡ covers conf.now.kinds conf.now.table t node.now }

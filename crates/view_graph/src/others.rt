@@ -19,7 +19,7 @@ impl Model for Others {
 }
 
 impl Others {
-    /// What they say in a database.
+    /// What they say in an LSDB.
     pub(crate) fn heard(_conf: &RouterConf, _store: &Store) -> Others
         ensures { result.claims ≡ heard _conf.now.system _conf.now.kinds _store.now.entries }
     {

@@ -1,4 +1,4 @@
-//! The places in subdomains that a system tells in its TLVs 135.
+//! The places in sub-domains that a system tells in its TLVs 135.
 ghost use Rattle.std.specs.Prelude.{◌≡◌, ◌++◌, ◌∷◌, [], OnOk, IfOk, option_to_list};
 ghost use Rattle.std.specs.List.{filter_map, flat_map};
 ghost use Rattle.wire_base.specs.model.Tlv.{entries_of, prefix_at, prefix_bits, tlvs_before};
@@ -9,6 +9,7 @@ ghost use Rattle.bier_subtlv.specs.Views.{info_of};
 use bier_subtlv::{Info, read_info};
 use isis_tlv::{PrefixEntry, PrefixWalk, Tlv, TlvWalk};
 use std::alloc::Global;
+use wire_base::codepoints::SUB_TLV_BIER_INFO;
 use wire_base::{Ipv4, M, RangeList, SubList, ViewSub};
 
 fn sub_of(alloc: Global, prefix: [u8; 4], info: &Info) -> M<ViewSub>
@@ -26,7 +27,7 @@ fn sub_of(alloc: Global, prefix: [u8; 4], info: &Info) -> M<ViewSub>
 fn append_sub(subs: &mut SubList, prefix: [u8; 4], tlv: Tlv<'_>) -> M<()>
     ensures { OnOk result (subs.new ≡ subs.old ++ option_to_list (sub_at prefix (item tlv.entry))) }
 {
-    if tlv.code != 32 {
+    if tlv.code != SUB_TLV_BIER_INFO {
         return Ok(());
     }
     match read_info(tlv.value) {

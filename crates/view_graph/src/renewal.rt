@@ -2,13 +2,13 @@
 ghost use Rattle.std.specs.Prelude.{◌≡◌, ◌≤◌, ◌∷◌, length, IfOk, IfSome};
 ghost use Rattle.wire_base.specs.model.Control.{AreAscending, ids_of};
 ghost use Rattle.view_graph.specs.Edges.{AreInOrder};
-ghost use Rattle.view_graph.specs.Renewal.{IsPatch, said_now, seats};
+ghost use Rattle.view_graph.specs.Renewal.{IsPatch, said_now, node_claims};
 
 use crate::changes::changed_places;
 use crate::claims::{Claim, own_claim, with_known};
 use crate::heard::said_in;
 use crate::patch::NewNode;
-use crate::remade::nodes_now;
+use crate::rebuilt::nodes_now;
 use wire_base::{Entry, M, RouterConf, SystemId, ViewNode};
 
 /// What a system says now.
@@ -41,7 +41,7 @@ pub(crate) fn patch_of(
     entries: &[Entry],
     changed: &[SystemId],
 ) -> M<Option<Vec<NewNode>>>
-    requires order { AreInOrder (seats nodes.now) }
+    requires order { AreInOrder (node_claims nodes.now) }
     requires few { length nodes.now ≤ 65536 }
     requires one_each { length up.now ≡ length conf.now.ends }
     requires ascending { AreAscending (ids_of entries.now) }

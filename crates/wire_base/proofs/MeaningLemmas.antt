@@ -147,7 +147,7 @@ no_meaning sd (x ∷ xs) b e =
       | inr h ↦ cond-false _ _ _ h ∙ no_meaning sd xs b (false_from_ne_true _ (λ k. false≢true (sym e ∙ or_right _ _ k)))
     ]
 
--- ---- the lists of two subdomains
+-- ---- the lists of two sub-domains
 
 all_left : {X : Type 0} (P : X → Type 0) (xs ys : List X) → AllByRecursion P (xs ++ ys) → AllByRecursion P xs
 all_left P [] ys a = tt
@@ -183,7 +183,7 @@ any_left (x ∷ xs) ys b e =
       | inr h ↦ or_right (is_label_of b x) (list_any (is_label_of b) (xs ++ ys)) (any_left xs ys b h)
     ]
 
--- the ranges of a subdomain are among all ranges
+-- the ranges of a sub-domain are among all ranges
 any_in_all : (subs : List OwnSub) (sd : ℕ) (s : OwnSub) (b : ℕ) → sub_in subs sd ≡ Some s → list_any (is_label_of b) s.ranges ≡ true → list_any (is_label_of b) (all_ranges subs) ≡ true
 any_in_all [] sd s b e h = absurd (no_None s e)
 any_in_all (x ∷ subs) sd s b e h =
@@ -194,7 +194,7 @@ any_in_all (x ∷ subs) sd s b e h =
       | inr k ↦ any_right x.ranges (all_ranges subs) b (any_in_all subs sd s b (sym (cond-false _ _ _ k) ∙ e) h)
     ]
 
--- ---- subdomains
+-- ---- sub-domains
 
 is_mpls_is : (k : Option Kind) → is_mpls k ≡ true → k ≡ Some Mpls
 is_mpls_is None e = absurd (false≢true e)
@@ -207,7 +207,7 @@ pub record IsLabel (kinds : List SubKind) (subs : List OwnSub) (b : ℕ) (t : Tr
   pub sub_is : sub_in subs t.sd ≡ Some sub
   pub label_is : label_in sub.ranges t ≡ Some b
 
--- a subdomain that comes later is another one
+-- a sub-domain that comes later is another one
 sub_differs : (x : OwnSub) (subs : List OwnSub) (sd : ℕ) (s : OwnSub) → AllByRecursion (λ y. same_sub x y ≡ false) subs → sub_in subs sd ≡ Some s → (x.sd == sd) ≡ false
 sub_differs x [] sd s apart e = absurd (no_None s e)
 sub_differs x (y ∷ subs) sd s apart e =

@@ -29,7 +29,7 @@ pub struct Mac(pub [u8; 6]);
 #[derive(Clone, Copy, Debug, Default, PartialEq, Eq, PartialOrd, Ord)]
 pub struct Ipv4(pub [u8; 4]);
 
-/// The identifier of a link state PDU: the system that issued it, the number of its pseudonode, 0 for the system
+/// The identifier of an LSP: the system that issued it, the number of its pseudonode, 0 for the system
 /// itself, and the number of the fragment (ISO/IEC 10589, 9.8). The order is that of its eight octets.
 #[derive(Clone, Copy, Debug, Default, PartialEq, Eq, PartialOrd, Ord)]
 pub struct LspId {

@@ -44,7 +44,7 @@ impl Unread {
     }
 }
 
-/// A source in memory, which fails at the calls that it is told, and at no other.
+/// A source in memory, which fails at the calls that it is given, and at no other.
 #[derive(Drop)]
 pub struct BytesSource {
     unread: Unread,
@@ -157,7 +157,7 @@ impl Room {
     }
 }
 
-/// A sink in memory, which fails at the calls that it is told, of writing and finishing alike, and at no other. The
+/// A sink in memory, which fails at the calls that it is given, of writing and finishing alike, and at no other. The
 /// memory for its room is taken when it is made.
 #[derive(Drop)]
 pub struct BytesSink {

@@ -26,8 +26,8 @@ pub enum Cause {
     Lost,
     /// The end of the link at which the frame came is down.
     Link,
-    /// A link state PDU with the sequence number 0.
+    /// An LSP with the sequence number 0.
     Sequence,
-    /// The database has no room for another entry.
+    /// The LSDB has no room for another entry.
     Full,
 }

@@ -14,7 +14,7 @@ pub enum Level {
     Two,
 }
 
-/// How a subdomain gives its BIFT-ids: by MPLS labels that each router advertises, or by a table that all routers
+/// How a sub-domain gives its BIFT-ids: by MPLS labels that each router advertises, or by a table that all routers
 /// have (RFC 8296, 2.1.1 and 2.2.1).
 #[derive(Clone, Copy, Debug, PartialEq, Eq)]
 pub enum Kind {
@@ -31,7 +31,7 @@ pub struct LabelRange {
     pub label: u32,
 }
 
-/// A router's place in a subdomain: its BFR-id, 0 for a router that only passes packets on, and its label ranges
+/// A router's place in a sub-domain: its BFR-id, 0 for a router that only passes packets on, and its label ranges
 /// (RFC 8401, 6.1).
 #[derive(Drop)]
 pub struct OwnSub {
@@ -40,14 +40,14 @@ pub struct OwnSub {
     pub ranges: Rows<LabelRange>,
 }
 
-/// A row of the written table: the BIFT-id of a triple in a configured subdomain.
+/// A row of the written table: the BIFT-id of a triple in a configured sub-domain.
 #[derive(Clone, Copy, Debug, PartialEq, Eq)]
 pub struct TableRow {
     pub triple: Triple,
     pub bift: u32,
 }
 
-/// A subdomain, and how it gives its BIFT-ids.
+/// A sub-domain, and how it gives its BIFT-ids.
 #[derive(Clone, Copy, Debug, PartialEq, Eq)]
 pub struct SubKind {
     pub sd: u8,

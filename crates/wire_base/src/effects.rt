@@ -8,7 +8,7 @@ pub struct Sent {
     pub octets: Octets,
 }
 
-/// A packet delivered here: the subdomain and the BFR-id for which it came, and from its header the ingress's BFR-id, the
+/// A packet delivered here: the sub-domain and the BFR-id for which it came, and from its header the ingress's BFR-id, the
 /// entropy and the protocol of the payload (RFC 8296, 2.1.2).
 #[derive(Drop)]
 pub struct Got {

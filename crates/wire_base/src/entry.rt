@@ -1,8 +1,8 @@
-//! What a router's database holds of each link state PDU, and how new a received one is.
+//! What a router's LSDB holds of each LSP, and how new a received one is.
 use crate::addresses::LspId;
 use crate::lists::Octets;
 
-/// An entry of the database. A live one has `life` seconds to live and a `hold` of 0. A dead one, a purge, has a
+/// An entry of the LSDB. A live one has `life` seconds to live and a `hold` of 0. A dead one, a purge, has a
 /// `life` of 0 and stays for `hold` seconds more; it has no content (ISO/IEC 10589, 7.3.16).
 #[derive(Drop)]
 pub struct Entry {
@@ -16,7 +16,7 @@ pub struct Entry {
     pub content: Octets,
 }
 
-/// How new a link state PDU is beside the entry of its identifier (ISO/IEC 10589, 7.3.16.2).
+/// How new an LSP is beside the entry of its identifier (ISO/IEC 10589, 7.3.16.2).
 #[derive(Clone, Copy, Debug, PartialEq, Eq)]
 pub enum Age {
     /// There is no such entry.

@@ -59,7 +59,7 @@ pub enum IpFault {
     GreType,
 }
 
-/// Why octets are no capture file, or want of memory.
+/// Why octets are no capture file, or out of memory.
 #[derive(Clone, Copy, Debug, PartialEq, Eq)]
 pub enum CaptureFault {
     /// The first four octets are no known magic number.
@@ -125,13 +125,13 @@ pub enum PduFault {
     HeaderLength,
     /// The PDU's length is below its header's, or above the octets that are there.
     PduLength,
-    /// The checksum of a live link state PDU is wrong.
+    /// The checksum of a live LSP is wrong.
     Checksum,
     /// A TLV passes the end, or the entries of a sequence number PDU aren't whole.
     Tlv,
 }
 
-/// Why a database doesn't take an entry.
+/// Why an LSDB doesn't take an entry.
 #[derive(Clone, Copy, Debug, PartialEq, Eq)]
 pub enum PutFault {
     /// Its identifier is new, and so many entries are there already, which is the most.
@@ -159,9 +159,9 @@ pub enum EdgeFault {
     IdZero,
     /// The set identifier of this one, the first such in the list, is above 255.
     SiLarge(u16),
-    /// The router has no BFR-id in the subdomain.
+    /// The router has no BFR-id in the sub-domain.
     NotBfr,
-    /// The router supports no triple of the subdomain and the length.
+    /// The router supports no triple of the sub-domain and the length.
     BslUnknown,
     /// Memory ran out.
     Memory,

@@ -52,7 +52,7 @@ impl<T: MadeWith<Global> + Drop, const N: usize> Few<T, N> {
         }
     }
 
-    /// Appends one value; where memory is refused, the value is dropped.
+    /// Appends one value; where memory runs out, the value is dropped.
     pub fn push(&mut self, item: T) -> M<()>
         ensures ok { OnOk result (self.new ≡ self.old ++ item ∷ []) }
         ensures err { OnErr result (self.new ≡ self.old) }
@@ -61,7 +61,7 @@ impl<T: MadeWith<Global> + Drop, const N: usize> Few<T, N> {
         Ok(())
     }
 
-    /// Puts a value before the one at a place, or behind the last; where memory is refused, the value is dropped.
+    /// Puts a value before the one at a place, or behind the last; where memory runs out, the value is dropped.
     pub fn insert(&mut self, place: usize, item: T) -> M<()>
         requires { place ≤ length self.old }
         ensures ok { OnOk result (self.new ≡ insert self.old place item) }

@@ -6,7 +6,7 @@ ghost use Rattle.wire_base.specs.model.Fields.{Gives, octet_at, octets_at, numbe
 use byteorder::{BigEndian, ByteOrder};
 
 /// So many octets.
-pub fn octets_of<E: Copy>(fault: E, n: usize, bytes: &[u8]) -> Result<(&[u8], &[u8]), E>
+pub fn read_octets<E: Copy>(fault: E, n: usize, bytes: &[u8]) -> Result<(&[u8], &[u8]), E>
     ensures { Gives (λ x. (x.0.now, x.1.now)) result (octets_at fault n bytes.now) }
 {
     if bytes.len() < n {
@@ -16,7 +16,7 @@ pub fn octets_of<E: Copy>(fault: E, n: usize, bytes: &[u8]) -> Result<(&[u8], &[
 }
 
 /// One octet.
-pub fn octet_of<E: Copy>(fault: E, bytes: &[u8]) -> Result<(u8, &[u8]), E>
+pub fn read_u8<E: Copy>(fault: E, bytes: &[u8]) -> Result<(u8, &[u8]), E>
     ensures { Gives (λ x. (x.0, x.1.now)) result (octet_at fault bytes.now) }
 {
     match bytes {
@@ -26,7 +26,7 @@ pub fn octet_of<E: Copy>(fault: E, bytes: &[u8]) -> Result<(u8, &[u8]), E>
 }
 
 /// A number of two octets, the highest first.
-pub fn two_of<E: Copy>(fault: E, bytes: &[u8]) -> Result<(u16, &[u8]), E>
+pub fn read_u16<E: Copy>(fault: E, bytes: &[u8]) -> Result<(u16, &[u8]), E>
     ensures { Gives (λ x. (x.0, x.1.now)) result (number_at fault 2 bytes.now) }
 {
     if bytes.len() < 2 {
@@ -36,7 +36,7 @@ pub fn two_of<E: Copy>(fault: E, bytes: &[u8]) -> Result<(u16, &[u8]), E>
 }
 
 /// A number of three octets, the highest first.
-pub fn three_of<E: Copy>(fault: E, bytes: &[u8]) -> Result<(u32, &[u8]), E>
+pub fn read_u24<E: Copy>(fault: E, bytes: &[u8]) -> Result<(u32, &[u8]), E>
     ensures { Gives (λ x. (x.0, x.1.now)) result (number_at fault 3 bytes.now) }
 {
     if bytes.len() < 3 {
@@ -46,7 +46,7 @@ pub fn three_of<E: Copy>(fault: E, bytes: &[u8]) -> Result<(u32, &[u8]), E>
 }
 
 /// A number of four octets, the highest first.
-pub fn four_of<E: Copy>(fault: E, bytes: &[u8]) -> Result<(u32, &[u8]), E>
+pub fn read_u32<E: Copy>(fault: E, bytes: &[u8]) -> Result<(u32, &[u8]), E>
     ensures { Gives (λ x. (x.0, x.1.now)) result (number_at fault 4 bytes.now) }
 {
     if bytes.len() < 4 {
@@ -56,21 +56,21 @@ pub fn four_of<E: Copy>(fault: E, bytes: &[u8]) -> Result<(u32, &[u8]), E>
 }
 
 /// Six octets, as an address.
-pub fn six_of<E: Copy>(fault: E, bytes: &[u8]) -> Result<([u8; 6], &[u8]), E>
+pub fn read_six<E: Copy>(fault: E, bytes: &[u8]) -> Result<([u8; 6], &[u8]), E>
     ensures { Gives (λ x. (x.0, x.1.now)) result (octets_at fault 6 bytes.now) }
 {
-    let (front, rest) = octets_of(fault, 6, bytes)?;
+    let (front, rest) = read_octets(fault, 6, bytes)?;
     let mut six = [0; 6];
     six.copy_from_slice(front);
     Ok((six, rest))
 }
 
 /// One octet with a count, and so many octets.
-pub fn counted_of<E: Copy>(fault: E, bytes: &[u8]) -> Result<(&[u8], &[u8]), E>
+pub fn read_counted<E: Copy>(fault: E, bytes: &[u8]) -> Result<(&[u8], &[u8]), E>
     ensures { Gives (λ x. (x.0.now, x.1.now)) result (counted_at fault bytes.now) }
 {
-    let (n, rest) = octet_of(fault, bytes)?;
-    octets_of(fault, usize::from(n), rest)
+    let (n, rest) = read_u8(fault, bytes)?;
+    read_octets(fault, usize::from(n), rest)
 }
 
 /// The number of four octets at a place, the highest first.

@@ -1,7 +1,7 @@
 //! What a received IS-IS PDU asks for beside what flooding does itself.
 use crate::triple::Summary;
 
-/// What a link state PDU asks for.
+/// What an LSP asks for.
 #[derive(Clone, Copy, Debug, PartialEq, Eq)]
 pub enum FloodOut {
     /// Nothing: all is done.
@@ -10,7 +10,7 @@ pub enum FloodOut {
     Reissue(u32),
     /// This summary must be acknowledged at once.
     Ack(Summary),
-    /// The database has no room for it.
+    /// The LSDB has no room for it.
     Full,
     /// Its sequence number is 0.
     Zero,

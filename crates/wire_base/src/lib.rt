@@ -8,6 +8,7 @@ mod addresses;
 mod bsl;
 mod bytes;
 mod cause;
+pub mod codepoints;
 mod conf;
 mod domain;
 mod effects;

@@ -241,7 +241,7 @@ impl<T: Copy> Rows<T> {
 }
 
 impl<T: Drop> Rows<T> {
-    /// Appends one value; where memory is refused, the value is dropped.
+    /// Appends one value; where memory runs out, the value is dropped.
     pub fn push(&mut self, item: T) -> M<()>
         ensures ok { OnOk result (self.new ≡ self.old ++ item ∷ []) }
         ensures err { OnErr result (self.new ≡ self.old) }

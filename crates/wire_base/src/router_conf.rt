@@ -1,4 +1,4 @@
-//! What a router's configuration says of its subdomains and BIFT-ids, and copies of it.
+//! What a router's configuration says of its sub-domains and BIFT-ids, and copies of it.
 ghost use Rattle.std.specs.Prelude.{◌≡◌, ◌+◌, ◌*◌, ◌<◌, ◌≤◌, ◌&&◌, ℕ, length, sum_by, is_some, Some, IfOk, IfSome, if◌then◌else◌};
 ghost use Rattle.std.specs.List.{AllByRecursion};
 ghost use Rattle.wire_base.specs.model.Place.{kind_of, is_mpls, is_configured, sub_in, is_label_of, meaning_in, labelled, tells, written, means, IsMeaning};
@@ -24,7 +24,7 @@ impl OwnSub {
 }
 
 impl RouterConf {
-    /// How many octets the router's subdomains take in its own link state PDU: 7 for each, and 6 for each of its
+    /// How many octets the router's sub-domains take in its own LSP: 7 for each, and 6 for each of its
     /// label ranges.
     #[tactic(auto, unfolding(crate::specs::model::Configuration::sub_octets))]
     pub fn sub_octets(&self) -> usize
@@ -35,7 +35,7 @@ impl RouterConf {
         octets_of_subs(self.subs.as_slice())
     }
 
-    /// What a BIFT-id of that kind stands for at this router: the one triple of a subdomain of the kind that has it,
+    /// What a BIFT-id of that kind stands for at this router: the one triple of a sub-domain of the kind that has it,
     /// by the router's label ranges or by the written table (RFC 8279, 6.4). None exactly where there is none.
     #[tactic(auto, using(crate::proofs::MeaningLemmas::means_found, crate::proofs::MeaningLemmas::means_only))]
     pub fn means(&self, kind: Kind, bift: u32) -> Option<Triple>
@@ -100,7 +100,7 @@ fn copy_of_subs(alloc: Global, subs: &[OwnSub]) -> M<Rows<OwnSub>>
     Ok(copied)
 }
 
-/// How a subdomain gives its BIFT-ids. None exactly where it isn't among those.
+/// How a sub-domain gives its BIFT-ids. None exactly where it isn't among those.
 pub fn kind_of(kinds: &[SubKind], sd: u8) -> Option<Kind>
     ensures { result ≡ kind_of kinds.now sd }
 {

@@ -116,7 +116,7 @@ impl IpFault {
 }
 
 impl CaptureFault {
-    /// The number of the rule that is broken, from 1 in the order of the variants; 0 for want of memory, which is no rule.
+    /// The number of the rule that is broken, from 1 in the order of the variants; 0 for out of memory, which is no rule.
     pub fn number(self) -> u8
         ensures { result ≡ capture_number self }
     {
@@ -230,7 +230,7 @@ impl PduFault {
 }
 
 impl EdgeFault {
-    /// The number of the rule that is broken, from 1 in the order of the variants; 0 for want of memory, which is no rule.
+    /// The number of the rule that is broken, from 1 in the order of the variants; 0 for out of memory, which is no rule.
     pub fn number(self) -> u8
         ensures { result ≡ edge_number self }
     {

@@ -5,7 +5,7 @@ ghost use Rattle.wire_base.specs.model.Place.{position_in};
 use crate::addresses::LspId;
 use crate::bsl::Bsl;
 
-/// What a BIFT-id stands for: a subdomain, a length of bit strings and a set identifier (RFC 8279, 6.4).
+/// What a BIFT-id stands for: a sub-domain, a length of bit strings and a set identifier (RFC 8279, 6.4).
 #[derive(Clone, Copy, Debug, Default, PartialEq, Eq)]
 pub struct Triple {
     pub sd: u8,
@@ -26,7 +26,7 @@ impl Triple {
     }
 }
 
-/// What a sequence number PDU says of a link state PDU: the seconds that it still has to live, 0 where it is
+/// What a sequence number PDU says of an LSP: the seconds that it still has to live, 0 where it is
 /// dead, its identifier, its sequence number and its checksum (ISO/IEC 10589, 9.10).
 #[derive(Clone, Copy, Debug, Default, PartialEq, Eq)]
 pub struct Summary {
@@ -37,7 +37,7 @@ pub struct Summary {
 }
 
 impl Summary {
-    /// Whether it is of a live link state PDU: one that has time, a sequence number and a checksum (ISO/IEC 10589, 7.3.15.2).
+    /// Whether it is of a live LSP: one that has time, a sequence number and a checksum (ISO/IEC 10589, 7.3.15.2).
     pub fn is_live(&self) -> bool
         ensures { result ≡ is_live_summary self.now }
     {

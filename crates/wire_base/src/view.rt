@@ -24,10 +24,10 @@ pub struct ViewEdge {
 /// The edges of a node; most routers have two or three.
 pub type EdgeList = Few<ViewEdge, 4>;
 
-/// The label ranges of a place in a subdomain; most routers have bit strings of one length.
+/// The label ranges of a place in a sub-domain; most routers have bit strings of one length.
 pub type RangeList = Few<LabelRange, 1>;
 
-/// What a router says of its place in a subdomain: its BFR-id, 0 for none, its BFR-prefix and its label ranges
+/// What a router says of its place in a sub-domain: its BFR-id, 0 for none, its BFR-prefix and its label ranges
 /// (RFC 8401, 6.1 and 6.2).
 #[derive(Drop)]
 pub struct ViewSub {
@@ -48,7 +48,7 @@ impl MadeWith<Global> for ViewSub {
     }
 }
 
-/// The places of a router in subdomains; most domains have one subdomain.
+/// The places of a router in sub-domains; most domains have one sub-domain.
 pub type SubList = Few<ViewSub, 1>;
 
 /// A router of a view.
@@ -62,7 +62,7 @@ pub struct ViewNode {
 
 /// The routers that a router knows of, in the order of their systems. Its type keeps that no system comes twice, that the
 /// edges of a node stand in the order of the nodes that they lead to, none twice, and that each names a node and has a
-/// metric above 0; that the subdomains of a node differ, and the lengths of the ranges of one; that no two nodes share a
+/// metric above 0; that the sub-domains of a node differ, and the lengths of the ranges of one; that no two nodes share a
 /// BFR-prefix; and that there are at most 65,536 nodes.
 #[derive(Drop)]
 pub struct View {
@@ -107,8 +107,8 @@ pub struct RowSet {
 }
 
 impl ViewNode {
-    /// Whether the node forwards packets of a triple: in a subdomain with labels it has a range of that length up to the
-    /// set identifier; in one with a written table it is in the subdomain and the table has the triple's row
+    /// Whether the node forwards packets of a triple: in a sub-domain with labels it has a range of that length up to the
+    /// set identifier; in one with a written table it is in the sub-domain and the table has the triple's row
     /// (RFC 8279, 6.9; RFC 8401, 6.2).
     #[tactic(auto, unfolding(crate::specs::model::Graph::covers))]
     pub fn covers(&self, kinds: &Rows<SubKind>, table: &Rows<TableRow>, t: Triple) -> bool
@@ -121,7 +121,7 @@ impl ViewNode {
         }
     }
 
-    /// The node's place in a subdomain: its BFR-id there, its prefix and its label ranges.
+    /// The node's place in a sub-domain: its BFR-id there, its prefix and its label ranges.
     pub fn place_in(&self, sd: u8) -> Option<&ViewSub>
         ensures { option_map (λ s. s.now) result ≡ place_in self.now.subs sd }
     {

@@ -43,7 +43,7 @@ pub fn push_frames(out: &mut Octets, sec: u32, usec: u32, sent: &SentFrames) -> 
     Ok(())
 }
 
-/// Appends the number of a record, and what is told of it.
+/// Appends the number of a record, and what is reported of it.
 fn push_front(out: &mut Octets, number: u64, what: &[u8]) -> M<()>
     ensures { OnOk result (out.new ≡ out.old ++ (decimal number ++ what.now)) }
 {

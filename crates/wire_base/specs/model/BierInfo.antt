@@ -2,6 +2,7 @@
 use Rattle.std.specs.Prelude.{◌≡◌, ℕ, zero, suc, ◌+◌, ◌-◌, ◌*◌, ◌/◌, ◌%◌, ◌^◌, ◌<◌, ◌≤◌, Bool, true, false, not, ◌&&◌, ◌||◌, List, [], ◌∷◌, ◌++◌, length, map, drop, replicate, slice_index, get_or, set, Option, Some, None, Result, Ok, Err, nat_lt, nat_le, ◌==◌, slice_get, IsSomeAnd, if◌then◌else◌}
 use Rattle.std.specs.List.{flat_map, filter_map, list_any, AllByRecursion}
 use Rattle.byteorder.specs.Endian.{big_bytes, big_number}
+use Rattle.wire_base.specs.declared.codepoints.TheConstants.{SUB_SUB_TLV_BIER_MPLS, SUB_TLV_BIER_INFO}
 use Rattle.wire_base.specs.declared.limits.TheConstants.{LAST_LABEL}
 use Rattle.wire_base.specs.declared.faults.TlvFault.{TlvFault}
 use Rattle.wire_base.specs.declared.faults.InfoFault.{InfoFault}
@@ -12,7 +13,7 @@ use Rattle.wire_base.specs.model.Fields.{◌>>=◌}
 use Rattle.wire_base.specs.model.Place.{code_of, bsl_coded}
 use Rattle.wire_base.specs.model.Tlv.{Tlv, tlv, tlv_at}
 
--- A subdomain, the BFR-id there, and the label ranges.
+-- A sub-domain, the BFR-id there, and the label ranges.
 pub record Info : Type 0 where
   pub sd : ℕ
   pub id : ℕ
@@ -25,17 +26,17 @@ abbrev pub range_word : LabelRange → ℕ
 range_word r = r.max_si * 16777216 + code_of r.bsl * 1048576 + r.label
 
 abbrev pub range_tlv : LabelRange → Tlv
-range_tlv r = record { code = 1; value = big_bytes 4 (range_word r) }
+range_tlv r = record { code = SUB_SUB_TLV_BIER_MPLS; value = big_bytes 4 (range_word r) }
 
 abbrev pub range : LabelRange → List ℕ
 range r = tlv (range_tlv r)
 
--- algorithms 0 and 0, subdomain, BFR-id, and the ranges
+-- algorithms 0 and 0, sub-domain, BFR-id, and the ranges
 abbrev pub info : Info → List ℕ
 info i = 0 ∷ 0 ∷ i.sd ∷ (big_bytes 2 i.id ++ flat_map range i.ranges)
 
 abbrev pub info_tlv : Info → Tlv
-info_tlv i = record { code = 32; value = info i }
+info_tlv i = record { code = SUB_TLV_BIER_INFO; value = info i }
 
 -- The last label of a range is one of 20 bits.
 pub record RangeFits (r : LabelRange) : Type 0 where
@@ -66,7 +67,7 @@ range_with None word = None
 range_with (Some bsl) word = if nat_lt LAST_LABEL (word % 1048576 + word / 16777216) then None else Some (record { bsl = bsl; max_si = word / 16777216; label = word % 1048576 })
 
 abbrev pub is_range : Tlv → Bool
-is_range t = t.code == 1
+is_range t = t.code == SUB_SUB_TLV_BIER_MPLS
 
 -- the length that a sub-sub-TLV names, and the range that it gives
 abbrev pub length_named : Tlv → Option Bsl

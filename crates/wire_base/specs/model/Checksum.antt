@@ -1,4 +1,4 @@
--- The checksum of a link state PDU (ISO/IEC 10589, 7.3.11): two sums of the octets are 0 modulo 255.
+-- The checksum of an LSP (ISO/IEC 10589, 7.3.11): two sums of the octets are 0 modulo 255.
 use Rattle.std.specs.Prelude.{◌≡◌, ℕ, ◌+◌, ◌-◌, ◌*◌, ◌%◌, ◌≤◌, Bool, ◌&&◌, ◌==◌, List, [], ◌∷◌, ◌++◌, length, sum, take, drop}
 
 -- each octet times the number of octets from it to the end

@@ -35,7 +35,7 @@ is_length (Some n) m = n == m
 unfoldable pub is_direct : List ViewNode → ℕ → ℕ → Bool
 is_direct g u x = list_any (λ e. (e.to == x) && is_length (dist g u x) e.metric) (edges_of g u)
 
--- where u sends the id k in packets of a triple: none where no node, or more than one, has k in the triple's subdomain
+-- where u sends the id k in packets of a triple: none where no node, or more than one, has k in the triple's sub-domain
 abbrev pub choose : List ViewNode → List SubKind → List TableRow → Triple → ℕ → ℕ → ℕ → Option ℕ
 choose g kinds table t class u k = option_and_then (λ d. choice g (covers_at kinds table t g) d class u) (owner g t.sd k)
 

@@ -103,11 +103,11 @@ same_peer_mac e f = bytes_eq e.peer_mac.0 f.peer_mac.0
 
 -- ---- a router
 
--- the octets that a router's subdomains take in its own link state PDU, beside the prefix
+-- the octets that a router's sub-domains take in its own LSP, beside the prefix
 unfoldable pub sub_octets : List OwnSub → ℕ
 sub_octets subs = sum_by (λ s. 7 + 6 * length s.ranges) subs
 
--- a router in a subdomain
+-- a router in a sub-domain
 pub record IsOwnSub (s : OwnSub) : Type 0 where
   pub sd : s.sd < 256
   pub id : s.id < 65536
@@ -119,7 +119,7 @@ abbrev pub all_ranges : List OwnSub → List LabelRange
 all_ranges subs = flat_map (λ s. s.ranges) subs
 
 -- When a configuration is sound: each value has its range and form; what must differ does; no two label ranges
--- share a label, also not those of two subdomains; and the router's own link state PDU has room for its subdomains.
+-- share a label, also not those of two sub-domains; and the router's own LSP has room for its sub-domains.
 pub record IsSound (r : RouterConf) : Type 0 where
   pub area : IsArea r.area
   pub name : is_name r.name ≡ true
@@ -167,13 +167,13 @@ abbrev pub AreAlike : List RouterConf → Type 0
 AreAlike [] = Unit {0}
 AreAlike (r ∷ rs) = AllByRecursion (IsAlike r) rs
 
--- label ranges stand only in a subdomain of kind mpls
+-- label ranges stand only in a sub-domain of kind mpls
 abbrev pub MayStand : Option Kind → List LabelRange → Type 0
 MayStand None ranges = ⊥
 MayStand (Some Mpls) ranges = Unit {0}
 MayStand (Some Configured) ranges = ranges ≡ []
 
--- each subdomain that a router is in has a kind, and rows stand only in configured ones
+-- each sub-domain that a router is in has a kind, and rows stand only in configured ones
 pub record KeepsKinds (r : RouterConf) : Type 0 where
   pub subs : AllByRecursion (λ s. MayStand (kind_of r.kinds s.sd) s.ranges) r.subs
   pub rows : AllByRecursion (λ row. kind_of r.kinds row.triple.sd ≡ Some Configured) r.table

@@ -1,4 +1,4 @@
--- The control state of one router: its database, and which parts of it are to be sent or acknowledged on which links
+-- The control state of one router: its LSDB, and which parts of it are to be sent or acknowledged on which links
 -- (ISO/IEC 10589, 7.3.14 to 7.3.17).
 use Rattle.std.specs.Prelude.{◌≡◌, ℕ, ◌-◌, ◌≤◌, ◌==◌, ◌&&◌, nat_lt, nat_le, Bool, true, false, List, [], ◌∷◌, length, map, replicate, slice_index_or, Option, Some, None, if◌then◌else◌}
 use Rattle.std.specs.declared.cmp.Ordering.{Ordering}
@@ -29,7 +29,7 @@ same_id a b = same_system a.system b.system && ((a.pseudonode == b.pseudonode) &
 abbrev pub system_order : SystemId → SystemId → Ordering
 system_order a b = slice_cmp nat_cmp a.0 b.0
 
--- the order of link state PDUs is that of the eight octets of their identifiers
+-- the order of LSPs is that of the eight octets of their identifiers
 abbrev pub id_order : LspId → LspId → Ordering
 id_order a b = ordering_then (system_order a.system b.system) (ordering_then (nat_cmp a.pseudonode b.pseudonode) (nat_cmp a.fragment b.fragment))
 
@@ -41,7 +41,7 @@ abbrev pub AreAscending : List LspId → Type 0
 AreAscending [] = Unit {0}
 AreAscending (x ∷ xs) = AllByRecursion (λ y. is_below x y ≡ true) xs × AreAscending xs
 
--- ---- the database: entries in the order of their identifiers, none twice
+-- ---- the LSDB: entries in the order of their identifiers, none twice
 
 abbrev pub most_entries : ℕ
 most_entries = MOST_ENTRIES
@@ -157,7 +157,7 @@ abbrev pub ssn_in : List FlagRow → LspId → ℕ → Bool
 ssn_in [] id link = false
 ssn_in (row ∷ rows) id link = if same_id row.id id then slice_index_or row.ssn link false else ssn_in rows id link
 
--- What flooding keeps beside the database: the own system, which links are up, on which of them a CSNP is due, and
+-- What flooding keeps beside the LSDB: the own system, which links are up, on which of them a CSNP is due, and
 -- the flags, in the order of their identifiers, none twice. An identifier without a row has no flag.
 pub record Flood : Type 0 where
   pub own : SystemId
@@ -207,7 +207,7 @@ pub record IsFlood (f : Flood) : Type 0 where
   pub rows : AllByRecursion (IsFlagRow f.up) f.rows
   pub in_order : AreAscending (map (λ row. row.id) f.rows)
 
--- what every database keeps
+-- what every LSDB keeps
 pub record IsDatabase (entries : List Entry) : Type 0 where
   pub few : length entries ≤ most_entries
   pub in_order : AreAscending (ids_of entries)

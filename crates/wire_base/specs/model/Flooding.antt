@@ -1,7 +1,7 @@
 -- Flooding on point-to-point links: what a control state becomes, what is sent, and what is dropped
 -- (ISO/IEC 10589, 7.3.15 to 7.3.17).
 --
--- A flood state and a database change together; what is asked of the router beside that, as to issue its own LSP
+-- A flood state and an LSDB change together; what is asked of the router beside that, as to issue its own LSP
 -- again, is an answer, and the control state does it. All links here are up, unless it is said otherwise.
 use Rattle.std.specs.Prelude.{ℕ, ◌+◌, ◌==◌, ◌&&◌, ◌||◌, not, nat_lt, Bool, true, false, List, [], ◌∷◌, ◌++◌, length, map, filter, fold, take, replicate, slice_index, slice_index_or, slice_set, Option, Some, None, if◌then◌else◌}
 use Rattle.std.specs.List.{filter_map, list_any}
@@ -65,7 +65,7 @@ pass_on f id link = with_row f id (λ row. record row { srm = slice_set f.up lin
 unfoldable pub forget : Flood → LspId → Flood
 forget f id = record f { rows = without_row id f.rows }
 
--- ---- a link state PDU on a link (ISO/IEC 10589, 7.3.15.1 and 7.3.16)
+-- ---- an LSP on a link (ISO/IEC 10589, 7.3.15.1 and 7.3.16)
 
 pub record LspAnswer : Type 0 where
   pub flood : Flood
@@ -84,7 +84,7 @@ flags_alone f entries = record { flood = f; entries = entries; answer = out.Kept
 abbrev pub puts_marked : Flood → List Entry → Entry → LspAnswer
 puts_marked f entries e = record { flood = mark_all f e.id; entries = put_entry e entries; answer = out.Kept }
 
--- what a database keeps of an LSP: of a dead one a purge
+-- what an LSDB keeps of an LSP: of a dead one a purge
 abbrev pub kept : Head → List ℕ → Entry
 kept h tlvs =
     if h.life == 0
@@ -109,8 +109,8 @@ lsp_aged f entries link h tlvs Equal = flags_alone (with_row f h.id (ask_on link
 lsp_aged f entries link h tlvs Older = flags_alone (with_row f h.id (send_on link)) entries
 
 -- an LSP of the own system that the router didn't issue, or issued before it restarted
-abbrev pub is_stray : Flood → Head → Age → Bool
-is_stray f h age = same_system h.id.system f.own && (nat_lt 0 h.life && (is_unknown age || is_newer_or_confused age))
+abbrev pub is_unheld_own : Flood → Head → Age → Bool
+is_unheld_own f h age = same_system h.id.system f.own && (nat_lt 0 h.life && (is_unknown age || is_newer_or_confused age))
 
 -- the own LSP, at another sequence number or another content than the router's
 abbrev pub is_own_ahead : Flood → LspId → Bool → Age → Bool
@@ -120,7 +120,7 @@ abbrev pub lsp_in : Flood → List Entry → ℕ → Head → List ℕ → Bool 
 lsp_in f entries link h tlvs spent age =
     if h.seq == 0 then only_says f entries out.Zero
     else if is_own_ahead f h.id spent age then only_says f entries (out.Reissue h.seq)
-    else if is_stray f h age then (if is_unknown age && is_full entries then only_says f entries out.Full else puts_marked f entries (purge h.id h.seq))
+    else if is_unheld_own f h age then (if is_unknown age && is_full entries then only_says f entries out.Full else puts_marked f entries (purge h.id h.seq))
     else lsp_aged f entries link h tlvs age
 
 -- an LSP on a link; spent says that the router issues none itself
@@ -388,6 +388,6 @@ started r up =
 unfoldable pub first_control : RouterConf → Control
 first_control r = started r (replicate (length r.ends) true)
 
--- a restart forgets the database; each end keeps its state
+-- a restart forgets the LSDB; each end keeps its state
 unfoldable pub restart : Control → Reply
 restart c = quiet (started c.conf c.flood.up)

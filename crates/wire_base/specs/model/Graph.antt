@@ -23,7 +23,7 @@ edges_at (Some n) = n.edges
 abbrev pub edges_of : List ViewNode → ℕ → List ViewEdge
 edges_of g u = edges_at (slice_get g u)
 
--- whether a node is overloaded: walks may begin or end there, and none goes through it (ISO/IEC 10589, 7.2.8.1)
+-- whether a node has its overload bit set: walks may begin or end there, and none goes through it (ISO/IEC 10589, 7.2.8.1)
 abbrev pub overload_at : Option ViewNode → Bool
 overload_at None = false
 overload_at (Some n) = n.overload
@@ -64,7 +64,7 @@ pub record IsGraph (g : List ViewNode) : Type 0 where
   pub nodes : All (λ n. IsNode (length g) n) g
   pub prefixes_differ : AllPairs ShareNoPrefix g
 
--- what a node says of itself in a subdomain
+-- what a node says of itself in a sub-domain
 abbrev pub place_in : List ViewSub → ℕ → Option ViewSub
 place_in [] sd = None
 place_in (s ∷ subs) sd = if s.sd == sd then Some s else place_in subs sd
@@ -85,7 +85,7 @@ node_covers kinds table t (Some n) = covers kinds table t n
 abbrev pub covers_at : List SubKind → List TableRow → Triple → List ViewNode → ℕ → Bool
 covers_at kinds table t g u = node_covers kinds table t (slice_get g u)
 
--- whether a node has that BFR-id in that subdomain
+-- whether a node has that BFR-id in that sub-domain
 abbrev pub has_id : ℕ → ℕ → ViewNode → Bool
 has_id sd k n = list_any (λ s. (s.sd == sd) && (s.id == k)) n.subs
 
@@ -102,7 +102,7 @@ only [] = None
 only (x ∷ []) = Some x
 only (x ∷ y ∷ ys) = None
 
--- the node that owns a BFR-id in a subdomain: the only one that has it (RFC 8279, 5). 0 and numbers above 65,535 are no
+-- the node that owns a BFR-id in a sub-domain: the only one that has it (RFC 8279, 5). 0 and numbers above 65,535 are no
 -- BFR-ids.
 unfoldable pub owner : List ViewNode → ℕ → ℕ → Option ℕ
 owner g sd k = if (k == 0) || nat_lt 65535 k then None else only (filter (has_id_at g sd k) (range_with_len 0 (length g)))

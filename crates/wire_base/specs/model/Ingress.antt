@@ -50,7 +50,7 @@ packets_for sd bsl ids = map (packet_for sd bsl ids) (sets_of bsl ids)
 abbrev pub is_large : Bsl → ℕ → Bool
 is_large bsl k = nat_lt 255 (set_identifier (bits_of bsl) k)
 
--- whether a router with those ranges in a subdomain of that kind has a BIFT-id for some set of that length
+-- whether a router with those ranges in a sub-domain of that kind has a BIFT-id for some set of that length
 abbrev pub has_length : Option Kind → List TableRow → ℕ → Bsl → Option (List LabelRange) → Bool
 has_length kind table sd bsl None = false
 has_length None table sd bsl (Some ranges) = false

@@ -41,7 +41,7 @@ pub record Outer : Type 0 where
   pub ttl : ℕ
 
 -- A copy of a packet: the number of the injection that it comes of, the entropy, the ingress's BFR-id and the payload;
--- its triple, how the subdomain gives BIFT-ids, and the BIFT-id of its target; its BFR-ids, ascending, and its TTL; and
+-- its triple, how the sub-domain gives BIFT-ids, and the BIFT-id of its target; its BFR-ids, ascending, and its TTL; and
 -- the tunnel that it is in.
 pub record DataItem : Type 0 where
   pub number : ℕ

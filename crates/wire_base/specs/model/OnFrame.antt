@@ -127,7 +127,7 @@ link_to r g x = option_and_then (λ n. end_toward r.ends n.system) (slice_get g 
 abbrev pub next_link : RouterConf → List ViewNode → ℕ → ℕ → Option ℕ
 next_link r g u x = option_and_then (link_to r g) (next_step g x u)
 
--- the BIFT-id that a node gives a triple, and its BFR-prefix in the subdomain
+-- the BIFT-id that a node gives a triple, and its BFR-prefix in the sub-domain
 abbrev pub bift_at : RouterConf → List ViewNode → Triple → ℕ → Option ℕ
 bift_at r g t x = option_and_then (node_bift r.kinds r.table t) (slice_get g x)
 
@@ -136,7 +136,7 @@ prefix_of g sd x = option_and_then (λ n. option_map (λ s. s.prefix) (place_in 
 
 -- ---- a BIER packet
 
--- A packet that is hopped: its triple, how its subdomain gives BIFT-ids, its header, and what follows.
+-- A packet that is hopped: its triple, how its sub-domain gives BIFT-ids, its header, and what follows.
 pub record Packet : Type 0 where
   pub triple : Triple
   pub kind : Kind

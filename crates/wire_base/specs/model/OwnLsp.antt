@@ -1,7 +1,8 @@
--- The link state PDU that a router issues of itself: fragment 0 alone (ISO/IEC 10589, 7.3.7 and 9.8; RFC 5301, 3;
+-- The LSP that a router issues of itself: fragment 0 alone (ISO/IEC 10589, 7.3.7 and 9.8; RFC 5301, 3;
 -- RFC 5305, 3 and 4; RFC 8401, 6.1 and 6.2).
 use Rattle.std.specs.Prelude.{ℕ, ◌+◌, Bool, true, false, List, [], ◌∷◌, ◌++◌, length, map, if◌then◌else◌}
 use Rattle.std.specs.List.{flat_map}
+use Rattle.wire_base.specs.declared.codepoints.TheConstants.{NLPID_IPV4, TLV_AREA_ADDRESSES, TLV_DYNAMIC_HOSTNAME, TLV_EXTENDED_IP_REACH, TLV_EXTENDED_IS_REACH, TLV_PROTOCOLS_SUPPORTED}
 use Rattle.wire_base.specs.declared.limits.TheConstants.{FULL_LIFE}
 use Rattle.wire_base.specs.declared.conf.Level.{Level}
 use Rattle.wire_base.specs.declared.conf.Level.TheVariants.{One, Two}
@@ -26,14 +27,14 @@ picked (false ∷ bs) (x ∷ xs) = picked bs xs
 
 -- area addresses
 abbrev pub area_tlv : List ℕ → Tlv
-area_tlv area = record { code = 1; value = length area ∷ area }
+area_tlv area = record { code = TLV_AREA_ADDRESSES; value = length area ∷ area }
 
 -- the protocols that the router routes: IPv4, 0xCC
 abbrev pub protocols_tlv : Tlv
-protocols_tlv = record { code = 129; value = 204 ∷ [] }
+protocols_tlv = record { code = TLV_PROTOCOLS_SUPPORTED; value = NLPID_IPV4 ∷ [] }
 
 abbrev pub name_tlv : List ℕ → Tlv
-name_tlv name = record { code = 137; value = name }
+name_tlv name = record { code = TLV_DYNAMIC_HOSTNAME; value = name }
 
 -- a link that is up
 abbrev pub reach_of : End → Reach
@@ -44,19 +45,19 @@ abbrev pub most_in_tlv : ℕ
 most_in_tlv = 23
 
 abbrev pub reach_tlv : List End → Tlv
-reach_tlv ends = record { code = 22; value = flat_map (λ e. reach (reach_of e)) ends }
+reach_tlv ends = record { code = TLV_EXTENDED_IS_REACH; value = flat_map (λ e. reach (reach_of e)) ends }
 
 abbrev pub reach_tlvs : List End → List Tlv
 reach_tlvs ends = map reach_tlv (blocks most_in_tlv ends)
 
--- label ranges stand only in subdomains that give their BIFT-ids by labels
+-- label ranges stand only in sub-domains that give their BIFT-ids by labels
 abbrev pub info_of : List SubKind → OwnSub → Info
 info_of kinds s = record { sd = s.sd; id = s.id; ranges = if is_mpls (kind_of kinds s.sd) then s.ranges else [] }
 
 abbrev pub infos_of : List SubKind → List OwnSub → List ℕ
 infos_of kinds subs = flat_map (λ s. tlv (info_tlv (info_of kinds s))) subs
 
--- a prefix of 32 bits; bit 64 says that sub-TLVs follow, which a router in no subdomain doesn't have
+-- a prefix of 32 bits; bit 64 says that sub-TLVs follow, which a router in no sub-domain doesn't have
 abbrev pub control_for : List OwnSub → ℕ
 control_for [] = 32
 control_for (s ∷ subs) = 96
@@ -65,7 +66,7 @@ abbrev pub own_prefix : RouterConf → Prefix
 own_prefix r = record { metric = 0; control = control_for r.subs; octets = r.prefix.0; subs = infos_of r.kinds r.subs }
 
 abbrev pub prefix_tlv : RouterConf → Tlv
-prefix_tlv r = record { code = 135; value = prefix (own_prefix r) }
+prefix_tlv r = record { code = TLV_EXTENDED_IP_REACH; value = prefix (own_prefix r) }
 
 -- the TLVs of a router's own LSP, where those ends are up
 abbrev pub own_tlvs : RouterConf → List Bool → List Tlv
@@ -75,7 +76,7 @@ own_tlvs r up = area_tlv r.area ∷ protocols_tlv ∷ name_tlv r.name ∷ (reach
 unfoldable pub own_content : RouterConf → List Bool → List ℕ
 own_content r up = flat_map tlv (own_tlvs r up)
 
--- the type of the system, and whether it is overloaded
+-- the type of the system, and whether it has its overload bit set
 abbrev pub level_bits : Level → ℕ
 level_bits One = 1
 level_bits Two = 3

@@ -3,6 +3,7 @@
 use Rattle.std.specs.Prelude.{◌≡◌, ℕ, zero, suc, ◌+◌, ◌-◌, ◌*◌, ◌%◌, ◌<◌, ◌^◌, ◌⊎◌, Bool, true, false, not, ◌&&◌, ◌||◌, List, [], ◌∷◌, ◌++◌, length, take, drop, slice_index, Result, Ok, Err, nat_lt, nat_le, ◌==◌, if◌then◌else◌}
 use Rattle.std.specs.List.{list_all, flat_map}
 use Rattle.byteorder.specs.Endian.{big_bytes}
+use Rattle.wire_base.specs.declared.codepoints.TheConstants.{TLV_LSP_ENTRIES}
 use Rattle.wire_base.specs.declared.addresses.SystemId.{SystemId}
 use Rattle.wire_base.specs.declared.addresses.LspId.{LspId}
 use Rattle.wire_base.specs.declared.triple.Summary.{Summary}
@@ -39,7 +40,7 @@ pub data Pdu : Type 0 where
 
 -- Where entries are listed, a TLV 9 is so many entries of 16 octets.
 abbrev pub passes : Bool → Tlv → Bool
-passes rows t = if rows && (t.code == 9) then length t.value % 16 == 0 else true
+passes rows t = if rows && (t.code == TLV_LSP_ENTRIES) then length t.value % 16 == 0 else true
 
 -- the octets are TLVs one after the other, each of which passes
 pub record AreTlvs (rows : Bool) (octets : List ℕ) : Type 0 where
@@ -73,7 +74,7 @@ psnp_type Two = 27
 abbrev pub common : ℕ → ℕ → List ℕ
 common size number = 131 ∷ size ∷ 1 ∷ 0 ∷ number ∷ 1 ∷ 0 ∷ 0 ∷ []
 
--- what the checksum of a link state PDU covers
+-- what the checksum of an LSP covers
 abbrev pub lsp_covered : Head → List ℕ → List ℕ
 lsp_covered head tlvs = lsp_id head.id ++ (big_bytes 4 head.seq ++ (big_bytes 2 head.sum ++ (head.flags ∷ tlvs)))
 
@@ -104,7 +105,7 @@ pdu level (PsnpPdu source tlvs) = psnp level source tlvs
 pdu level HelloPdu = []
 pdu level (OtherPdu number) = []
 
--- the checksum that a live link state PDU carries
+-- the checksum that a live LSP carries
 abbrev pub lsp_sum : Head → List ℕ → ℕ
 lsp_sum head tlvs = check_sum (lsp_covered (record head { sum = 0 }) tlvs) 12
 
@@ -119,7 +120,7 @@ abbrev pub blocks : List Summary → List (List Summary)
 blocks rows = blocks_within (length rows) rows
 
 abbrev pub row_tlv : List Summary → Tlv
-row_tlv block = record { code = 9; value = flat_map row block }
+row_tlv block = record { code = TLV_LSP_ENTRIES; value = flat_map row block }
 
 unfoldable pub row_tlvs : List Summary → List ℕ
 row_tlvs rows = flat_map (λ block. tlv (row_tlv block)) (blocks rows)

@@ -81,12 +81,12 @@ id_at t p = t.si * bits_of t.bsl + p
 abbrev pub same_triple : Triple → Triple → Bool
 same_triple a b = (a.sd == b.sd) && ((code_of a.bsl == code_of b.bsl) && (a.si == b.si))
 
--- how a subdomain gives its BIFT-ids
+-- how a sub-domain gives its BIFT-ids
 abbrev pub kind_of : List SubKind → ℕ → Option Kind
 kind_of [] sd = None
 kind_of (k ∷ kinds) sd = if k.sd == sd then Some k.kind else kind_of kinds sd
 
--- what a router says of itself in a subdomain, where it is in it
+-- what a router says of itself in a sub-domain, where it is in it
 abbrev pub sub_in : List OwnSub → ℕ → Option OwnSub
 sub_in [] sd = None
 sub_in (s ∷ subs) sd = if s.sd == sd then Some s else sub_in subs sd
@@ -105,20 +105,20 @@ abbrev pub row_in : List TableRow → Triple → Option ℕ
 row_in [] t = None
 row_in (row ∷ rows) t = if same_triple row.triple t then Some row.bift else row_in rows t
 
--- in a subdomain of that kind, at a router with those ranges in it
+-- in a sub-domain of that kind, at a router with those ranges in it
 abbrev pub bift_by : Option Kind → List TableRow → List LabelRange → Triple → Option ℕ
 bift_by None table ranges t = None
 bift_by (Some Mpls) table ranges t = label_in ranges t
 bift_by (Some Configured) table ranges t = row_in table t
 
--- The BIFT-id of a triple at a router: in an MPLS subdomain the label of its set, in a configured one that of the
--- written table. The kinds and the table are the domain's; the ranges are the router's in the triple's subdomain,
+-- The BIFT-id of a triple at a router: in an MPLS sub-domain the label of its set, in a configured one that of the
+-- written table. The kinds and the table are the domain's; the ranges are the router's in the triple's sub-domain,
 -- none where it isn't in it. Where there is no BIFT-id the router doesn't cover the triple.
 abbrev pub bift_of : List SubKind → List TableRow → Option (List LabelRange) → Triple → Option ℕ
 bift_of kinds table None t = None
 bift_of kinds table (Some ranges) t = bift_by (kind_of kinds t.sd) table ranges t
 
--- whether a router with those ranges in the triple's subdomain covers the triple
+-- whether a router with those ranges in the triple's sub-domain covers the triple
 abbrev pub covers : List SubKind → List TableRow → Option (List LabelRange) → Triple → Bool
 covers kinds table ranges t = is_some (bift_of kinds table ranges t)
 
@@ -140,7 +140,7 @@ abbrev pub meaning_in : ℕ → List LabelRange → ℕ → Option Triple
 meaning_in sd [] label = None
 meaning_in sd (x ∷ xs) label = if is_label_of label x then Some (record { sd = sd; bsl = x.bsl; si = label - x.label }) else meaning_in sd xs label
 
--- whether a subdomain is of that kind
+-- whether a sub-domain is of that kind
 abbrev pub is_mpls : Option Kind → Bool
 is_mpls None = false
 is_mpls (Some Mpls) = true
@@ -151,12 +151,12 @@ is_configured None = false
 is_configured (Some Mpls) = false
 is_configured (Some Configured) = true
 
--- the triple of a label of a router that is in those subdomains
+-- the triple of a label of a router that is in those sub-domains
 abbrev pub labelled : List SubKind → List OwnSub → ℕ → Option Triple
 labelled kinds [] label = None
 labelled kinds (s ∷ subs) label = or_else (if is_mpls (kind_of kinds s.sd) then meaning_in s.sd s.ranges label else None) (labelled kinds subs label)
 
--- whether a row of the written table says what that BIFT-id stands for at a router that is in those subdomains
+-- whether a row of the written table says what that BIFT-id stands for at a router that is in those sub-domains
 abbrev pub tells : List SubKind → List OwnSub → ℕ → TableRow → Bool
 tells kinds subs bift row = (row.bift == bift) && (is_configured (kind_of kinds row.triple.sd) && is_some (sub_in subs row.triple.sd))
 
@@ -170,11 +170,11 @@ unfoldable pub means : RouterConf → Kind → ℕ → Option Triple
 means r Mpls bift = labelled r.kinds r.subs bift
 means r Configured bift = written r.kinds r.subs r.table bift
 
--- the BFR-id of a router that is in those subdomains; the id 0 is none (RFC 8279, 2)
+-- the BFR-id of a router that is in those sub-domains; the id 0 is none (RFC 8279, 2)
 abbrev pub id_of : Option OwnSub → Option ℕ
 id_of None = None
 id_of (Some s) = if s.id == 0 then None else Some s.id
 
--- a router's own BFR-id in a subdomain
+-- a router's own BFR-id in a sub-domain
 abbrev pub own_id : RouterConf → ℕ → Option ℕ
 own_id r sd = id_of (sub_in r.subs sd)

@@ -1,4 +1,4 @@
--- The first supporting routers toward a router: how a packet comes over routers that don't know BIER (RFC 8279, 6.9).
+-- The first supporting routers toward a router: how a packet comes over non-BFRs (RFC 8279, 6.9).
 use Rattle.std.specs.Prelude.{◌≡◌, ℕ, zero, suc, Bool, true, false, ◌==◌, List, length, filter, if◌then◌else◌}
 use Rattle.std.specs.List.{range_with_len, list_any}
 use Rattle.wire_base.specs.declared.view.ViewNode.{ViewNode}

@@ -6,7 +6,7 @@ use Rattle.wire_base.specs.model.Graph.{edges_of, is_overloaded}
 use Rattle.wire_base.specs.model.Walk.{dist, may_enter}
 
 -- a step from u to v is tight toward d where the metric of the edge and the distance from v make up the distance from u,
--- and v is d or isn't overloaded: it begins a shortest walk to d
+-- and v is d or doesn't have its overload bit set: it begins a shortest walk to d
 pub record IsTight (g : List ViewNode) (d u v : ℕ) : Type 0 where
   pub edge : ViewEdge
   pub leaves : Contains (edges_of g u) edge

@@ -3,6 +3,7 @@
 use Rattle.std.specs.Prelude.{◌≡◌, ℕ, zero, suc, ◌+◌, ◌-◌, ◌/◌, ◌%◌, ◌<◌, ◌≤◌, ◌^◌, Bool, true, false, List, [], ◌∷◌, ◌++◌, length, take, drop, replicate, Option, Some, None, Result, Ok, Err, nat_lt, ◌==◌, if◌then◌else◌}
 use Rattle.std.specs.List.{flat_map}
 use Rattle.byteorder.specs.Endian.{big_bytes}
+use Rattle.wire_base.specs.declared.codepoints.TheConstants.{TLV_LSP_ENTRIES}
 use Rattle.wire_base.specs.declared.addresses.SystemId.{SystemId}
 use Rattle.wire_base.specs.declared.addresses.LspId.{LspId}
 use Rattle.wire_base.specs.declared.triple.Summary.{Summary}
@@ -52,7 +53,7 @@ tlvs_within (suc n) octets = tlv_at octets >>= λ o. then_tlvs o (tlvs_within n)
 unfoldable pub tlvs_of : List ℕ → Result (List Tlv) TlvFault
 tlvs_of octets = tlvs_within (length octets) octets
 
--- ---- an entry of TLV 22: a neighbour that is reached (RFC 5305, 3)
+-- ---- an entry of TLV 22: a neighbor that is reached (RFC 5305, 3)
 
 pub record Reach : Type 0 where
   pub neighbour : SystemId
@@ -136,7 +137,7 @@ prefix_at octets = do
   subs ← subs_if_at (has_subs control.0) bare.1
   Ok (record { metric = metric.0; control = control.0; octets = padded bare.0; subs = subs.0 }, subs.1)
 
--- ---- an identifier of a link state PDU (ISO/IEC 10589, 9.8)
+-- ---- an identifier of an LSP (ISO/IEC 10589, 9.8)
 
 pub record LspIdFits (id : LspId) : Type 0 where
   pub system : length id.system.0 ≡ 6
@@ -200,7 +201,7 @@ tlvs_before octets = entries_of one_tlv_at octets
 
 -- the entries that TLVs 9 list
 abbrev pub rows_in : Tlv → List Summary
-rows_in t = if t.code == 9 then entries_of row_at t.value else []
+rows_in t = if t.code == TLV_LSP_ENTRIES then entries_of row_at t.value else []
 
 abbrev pub rows_of : List ℕ → List Summary
 rows_of octets = flat_map rows_in (tlvs_before octets)

@@ -1,4 +1,4 @@
--- The view of a router: the nodes and edges that its configuration and its database make up (ISO/IEC 10589, 7.2.5 and
+-- The view of a router: the nodes and edges that its configuration and its LSDB make up (ISO/IEC 10589, 7.2.5 and
 -- 7.2.8; RFC 5305, 3 and 4; RFC 8401, 4 and 5).
 --
 -- First stands what each system claims, then which of it counts beside what the others claim.
@@ -6,6 +6,7 @@ use Rattle.std.specs.Prelude.{ℕ, ◌+◌, ◌/◌, ◌%◌, ◌==◌, ◌&&◌
 use Rattle.std.specs.List.{flat_map, filter_map, list_any}
 use Rattle.std.specs.Ordering.{is_lt}
 use Rattle.std.specs.Str.{bytes_eq}
+use Rattle.wire_base.specs.declared.codepoints.TheConstants.{SUB_TLV_BIER_INFO, TLV_EXTENDED_IP_REACH, TLV_EXTENDED_IS_REACH}
 use Rattle.wire_base.specs.declared.addresses.SystemId.{SystemId}
 use Rattle.wire_base.specs.declared.addresses.Ipv4.{Ipv4}
 use Rattle.wire_base.specs.declared.conf.End.{End}
@@ -25,12 +26,12 @@ use Rattle.wire_base.specs.model.OwnLsp.{picked, info_of}
 
 -- ---- what a system claims
 
--- a link to a neighbour
+-- a link to a neighbor
 pub record Link : Type 0 where
   pub neighbour : SystemId
   pub metric : ℕ
 
--- A system: whether it is overloaded, its links, and its places in subdomains, in the order of its LSPs.
+-- A system: whether it has its overload bit set, its links, and its places in sub-domains, in the order of its LSPs.
 pub record Claim : Type 0 where
   pub system : SystemId
   pub overload : Bool
@@ -50,7 +51,7 @@ link_of r =
 
 -- an entry that can't be read ends its TLV
 abbrev pub links_in : Tlv → List Link
-links_in t = if t.code == 22 then filter_map link_of (entries_of reach_at t.value) else []
+links_in t = if t.code == TLV_EXTENDED_IS_REACH then filter_map link_of (entries_of reach_at t.value) else []
 
 abbrev pub sub_of : List ℕ → Info → ViewSub
 sub_of prefix i = record { sd = i.sd; id = i.id; prefix = record { 0 = prefix }; ranges = i.ranges }
@@ -61,14 +62,14 @@ accepted prefix (Err fault) = None
 
 -- a BIER Info, where its reader takes it
 abbrev pub sub_at : List ℕ → Tlv → Option ViewSub
-sub_at prefix t = if t.code == 32 then accepted prefix (info_at t.value) else None
+sub_at prefix t = if t.code == SUB_TLV_BIER_INFO then accepted prefix (info_at t.value) else None
 
 -- of a prefix of 32 bits; an overrun ends the sub-TLVs
 abbrev pub subs_of : Prefix → List ViewSub
 subs_of p = if prefix_bits p.control == 32 then filter_map (sub_at p.octets) (tlvs_before p.subs) else []
 
 abbrev pub subs_in : Tlv → List ViewSub
-subs_in t = if t.code == 135 then flat_map subs_of (entries_of prefix_at t.value) else []
+subs_in t = if t.code == TLV_EXTENDED_IP_REACH then flat_map subs_of (entries_of prefix_at t.value) else []
 
 -- a live entry of a system itself, not of one of its pseudonodes
 abbrev pub is_part_of : SystemId → Entry → Bool
@@ -81,7 +82,7 @@ tlvs_of entries s = flat_map (λ e. tlvs_before e.content) (filter (is_part_of s
 abbrev pub is_overload_flag : ℕ → Bool
 is_overload_flag flags = flags / 4 % 2 == 1
 
--- what the system of a fragment 0 claims; it is overloaded where that fragment says so
+-- what the system of a fragment 0 claims; it has its overload bit set where that fragment says so
 abbrev pub claim_of : List Entry → Entry → Claim
 claim_of entries e =
     record {
@@ -116,7 +117,7 @@ put_claim c (x ∷ xs) = if is_lt (system_order c.system x.system) then c ∷ x 
 unfoldable pub claims_of : RouterConf → List Bool → List Entry → List Claim
 claims_of r up entries = put_claim (own_claim r up) (map (claim_of entries) (filter (is_other r.system) entries))
 
--- ---- which places in subdomains count
+-- ---- which places in sub-domains count
 
 abbrev pub all_ranges : List ViewSub → List LabelRange
 all_ranges subs = flat_map (λ s. s.ranges) subs
@@ -125,12 +126,12 @@ all_ranges subs = flat_map (λ s. s.ranges) subs
 abbrev pub unless_overlap : List ViewSub → List ViewSub
 unless_overlap subs = if any_overlap (all_ranges subs) then [] else subs
 
--- the first place in each subdomain
+-- the first place in each sub-domain
 abbrev pub first_each : List ViewSub → List ViewSub
 first_each [] = []
 first_each (s ∷ subs) = s ∷ filter (λ x. not (x.sd == s.sd)) (first_each subs)
 
--- of the subdomains that the router knows
+-- of the sub-domains that the router knows
 abbrev pub known_subs : List SubKind → List ViewSub → List ViewSub
 known_subs kinds subs = first_each (filter (λ s. is_some (kind_of kinds s.sd)) (unless_overlap subs))
 
@@ -179,7 +180,7 @@ node_of claims c = record { system = c.system; overload = c.overload; edges = ed
 abbrev pub nodes_of : List Claim → List ViewNode
 nodes_of claims = map (node_of claims) claims
 
--- The view by a configuration, the ends that are up, and a database, in the order of the systems.
+-- The view by a configuration, the ends that are up, and an LSDB, in the order of the systems.
 unfoldable pub view_of : RouterConf → List Bool → List Entry → List ViewNode
 view_of r up entries = nodes_of (map (with_known r.kinds) (claims_of r up entries))
 

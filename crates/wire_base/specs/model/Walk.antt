@@ -1,10 +1,10 @@
--- Walks of a graph and the lengths of the shortest (ISO/IEC 10589, 7.2.6): no walk goes through an overloaded router.
+-- Walks of a graph and the lengths of the shortest (ISO/IEC 10589, 7.2.6): no walk goes through a router with its overload bit set.
 use Rattle.std.specs.Prelude.{◌≡◌, ℕ, zero, suc, ◌+◌, ◌-◌, ◌<◌, ◌≤◌, ◌⊎◌, Bool, false, ◌==◌, ◌||◌, not, List, [], ◌∷◌, length, slice_index_or, Contains, Option, Some, None, min, option_map, if◌then◌else◌}
 use Rattle.wire_base.specs.declared.view.ViewEdge.{ViewEdge}
 use Rattle.wire_base.specs.declared.view.ViewNode.{ViewNode}
 use Rattle.wire_base.specs.model.Graph.{edges_of, is_overloaded}
 
--- the edges lead from u to d one after another, and no node between the two is overloaded
+-- the edges lead from u to d one after another, and no node between the two has its overload bit set
 abbrev pub Leads : List ViewNode → ℕ → ℕ → List ViewEdge → Type 0
 Leads g u d [] = u ≡ d
 Leads g u d (e ∷ es) = Contains (edges_of g u) e × ((es ≡ []) ⊎ (is_overloaded g e.to ≡ false)) × Leads g e.to d es

@@ -28,13 +28,13 @@ returns-clause-done c =
     let there = router_there n.routers c.from.result c.args.at r c.from.ensures c.requires.place c.index_mut-router.ensures.value in
     let k = inject_carried n c.requires.truth c.args.at r there c.args.sd c.args.bsl c.args.ids.now c.args.ttl c.args.entropy c.args.payload.now c.requires.fits c.in-Ok.ensures.refused c.in-Ok.effects c.in-Ok.ensures.effects in
     let happened = inject_is n c.requires.truth c.args.at r there c.args.sd c.args.bsl c.args.ids.now c.args.ttl c.args.entropy c.args.payload.now in
-    let sent : c.carry.new.flights ≡ push_all_sent n.domain.routers c.args.at (Some (n.injections + 1)) n.flights c.in-Ok.effects.sent =
+    let sent : c.queue_sent.new.flights ≡ push_all_sent n.domain.routers c.args.at (Some (n.injections + 1)) n.flights c.in-Ok.effects.sent =
     c.in_ok-out.ensures.ok ∙ ap (λ (cs : List RouterConf). push_all_sent cs c.args.at (Some (n.injections + 1)) n.flights c.in-Ok.effects.sent) c.confs_of-confs.ensures.confs in
     let routers : slice_set n.routers c.from.result c.inject-entered.new.self ≡ n.routers =
     ap (slice_set n.routers c.from.result) c.in-Ok.ensures.state ∙ ap (λ (i : ℕ). slice_set n.routers i r) c.from.ensures ∙ set_same n.routers c.args.at r there in
     record {
-      world = inject_world n c.requires.truth c.args.at r there c.args.sd c.args.bsl c.args.ids.now c.args.ttl c.args.entropy c.args.payload.now _ c.carry.new.flights _ _ routers (ap (items_seen n.domain.routers) sent ∙ k.seen) happened;
-      frames = same_frames n.domain.routers c.carry.new.flights _ sent k.frames;
+      world = inject_world n c.requires.truth c.args.at r there c.args.sd c.args.bsl c.args.ids.now c.args.ttl c.args.entropy c.args.payload.now _ c.queue_sent.new.flights _ _ routers (ap (items_seen n.domain.routers) sent ∙ k.seen) happened;
+      frames = same_frames n.domain.routers c.queue_sent.new.flights _ sent k.frames;
       answer = c.in_ok-out.ensures.out ∙ ap (λ (cs : List RouterConf). told_of cs c.args.at (Some (n.injections + 1)) [] c.in-Ok.effects) c.confs_of-confs.ensures.confs
           ∙ k.out ∙ sym (ap (λ (h : Happened). told n.domain.routers h.made) happened);
     }

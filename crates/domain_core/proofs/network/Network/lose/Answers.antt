@@ -16,7 +16,7 @@ use Rattle.domain_core.proofs.TransitLaws.{gone_world, lost_world, none_lost, so
 use Rattle.domain_core.proofs.TurnLaws.{nothing_told}
 use Rattle.domain_core.proofs.network.Network.lose.Goals as goal
 
--- what is told of the frame, where there is one
+-- what is reported of the frame, where there is one
 told_of_it : (c : goal.After-or_nothing) (o : Option Flight) → o ≡ slice_get (frames_at c.args.self.now.flights c.args.from c.in-Some.link) c.args.i
     → c.or_nothing.result ≡ outcome (option_map (λ (g : Flight). told c.args.self.now.domain.routers (item_lost c.args.to cause.Lost (item_seen c.args.self.now.domain.routers g))) o)
 told_of_it c o is =

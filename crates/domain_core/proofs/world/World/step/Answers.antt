@@ -18,17 +18,17 @@ returns-in-Some-clause-refused c =
 
 pub returns-clause-short : goal.returns-clause-short
 returns-clause-short c =
-    step_short c.carry_out.result (world_in c.self.inside.network) c.self.invariant.truth c.args.event.now
-    (subst (λ (s : Seen). EventFits (length s.world.domain.routers) c.args.event.now) (sym c.self.view_is) c.requires) c.carry_out.ensures.refused c.carry_out.ensures.told
+    step_short c.execute.result (world_in c.self.inside.network) c.self.invariant.truth c.args.event.now
+    (subst (λ (s : Seen). EventFits (length s.world.domain.routers) c.args.event.now) (sym c.self.view_is) c.requires) c.execute.ensures.refused c.execute.ensures.told
 
 pub returns-clause-ledger : goal.returns-clause-ledger
 returns-clause-ledger c =
-    subst (λ (s : Seen). IfOk c.carry_out.result (λ out. KeepsLedger s.world (world_in c.carry_out.new.self) c.args.event.now out)) c.self.view_is
-    (step_keeps c.carry_out.result (world_in c.self.inside.network) (world_in c.carry_out.new.self) c.self.invariant.truth c.args.event.now
-    (subst (λ (s : Seen). EventFits (length s.world.domain.routers) c.args.event.now) (sym c.self.view_is) c.requires) c.carry_out.ensures.refused c.carry_out.ensures.world c.carry_out.ensures.told)
+    subst (λ (s : Seen). IfOk c.execute.result (λ out. KeepsLedger s.world (world_in c.execute.new.self) c.args.event.now out)) c.self.view_is
+    (step_keeps c.execute.result (world_in c.self.inside.network) (world_in c.execute.new.self) c.self.invariant.truth c.args.event.now
+    (subst (λ (s : Seen). EventFits (length s.world.domain.routers) c.args.event.now) (sym c.self.view_is) c.requires) c.execute.ensures.refused c.execute.ensures.world c.execute.ensures.told)
 
 pub returns-clause-course : goal.returns-clause-course
 returns-clause-course c =
-    subst (λ (s : Seen). IfOk c.carry_out.result (λ out. KeepsCourse s.world (world_in c.carry_out.new.self) c.args.event.now out)) c.self.view_is
-    (step_course c.carry_out.result (world_in c.self.inside.network) (world_in c.carry_out.new.self) c.self.invariant.truth c.args.event.now
-    (subst (λ (s : Seen). EventFits (length s.world.domain.routers) c.args.event.now) (sym c.self.view_is) c.requires) c.carry_out.ensures.refused c.carry_out.ensures.world c.carry_out.ensures.told)
+    subst (λ (s : Seen). IfOk c.execute.result (λ out. KeepsCourse s.world (world_in c.execute.new.self) c.args.event.now out)) c.self.view_is
+    (step_course c.execute.result (world_in c.self.inside.network) (world_in c.execute.new.self) c.self.invariant.truth c.args.event.now
+    (subst (λ (s : Seen). EventFits (length s.world.domain.routers) c.args.event.now) (sym c.self.view_is) c.requires) c.execute.ensures.refused c.execute.ensures.world c.execute.ensures.told)

@@ -3,7 +3,7 @@ use Rattle.std.specs.List.{fold}
 use Rattle.wire_base.specs.model.Flooding.{send_known}
 use Rattle.isis_flood.proofs.flood.Flood.send_known.Given as goal
 
--- what is done so far, and then the rest, is the whole database
+-- what is done so far, and then the rest, is the whole LSDB
 abbrev pub invariant-entries : goal.invariant-entries
 invariant-entries l = record {
   so : fold (send_known l.link) l.self.flood l.rest ≡ fold (send_known l.link) l.fn.self.flood l.store.entries;

@@ -3,7 +3,7 @@ use Rattle.std.specs.List.{fold}
 use Rattle.wire_base.specs.model.Flooding.{lacks, send_lacking}
 use Rattle.isis_flood.proofs.flood.Flood.send_lacking.Given as goal
 
--- what is done so far, and then the rest, is the whole database
+-- what is done so far, and then the rest, is the whole LSDB
 abbrev pub invariant-entries : goal.invariant-entries
 invariant-entries l = record {
   so : fold (send_lacking l.link l.start l.last l.rows) l.self.flood l.rest ≡ fold (send_lacking l.link l.start l.last l.rows) l.fn.self.flood l.store.entries;

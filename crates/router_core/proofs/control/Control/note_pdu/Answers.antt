@@ -4,7 +4,7 @@ use Rattle.isis_pdu.specs.declared.kinds.Pdu.{Pdu}
 use Rattle.isis_pdu.specs.Views.{head_of, pdu_of}
 use Rattle.router_core.specs.Keeping.{MayKeep}
 use Rattle.router_core.proofs.KeepLaws.{lsp_keeps, list_keeps, csnp_keeps, psnp_keeps}
-use Rattle.router_core.proofs.NotingLaws.{says_itself}
+use Rattle.router_core.proofs.StalenessLaws.{says_itself}
 use Rattle.router_core.proofs.control.Control.note_pdu.Goals as goal
 
 pub returns-in-Lsp-clause-now : goal.returns-in-Lsp-clause-now

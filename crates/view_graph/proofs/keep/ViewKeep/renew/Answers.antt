@@ -7,7 +7,7 @@ use Rattle.wire_base.specs.model.View.{nodes_of}
 use Rattle.view_graph.specs.declared.patch.NewNode.{NewNode}
 use Rattle.view_graph.specs.Edges.{AreInOrder}
 use Rattle.view_graph.specs.Keep.{Keep}
-use Rattle.view_graph.specs.Renewal.{IsAt, IsPatch, put_all, said_now, seats}
+use Rattle.view_graph.specs.Renewal.{IsAt, IsPatch, put_all, said_now, node_claims}
 use Rattle.view_graph.proofs.AnewLaws.{turned_answer}
 use Rattle.view_graph.proofs.PatchLaws.{seats_order}
 use Rattle.view_graph.proofs.RenewalLaws.{base_now, claims_now, kept_now, nodes_now, turned_now}
@@ -15,7 +15,7 @@ use Rattle.view_graph.proofs.ViewLaws.{made_graph}
 use Rattle.view_graph.proofs.keep.ViewKeep.renew.Goals as goal
 
 pub patch_of-requires-clause-order : goal.patch_of-requires-clause-order
-patch_of-requires-clause-order c = subst (λ (ns : List ViewNode). AreInOrder (seats ns)) (sym c.as_slice.ensures.nodes) (seats_order c.self.invariant.claims c.self.inside.view.nodes c.self.invariant.made c.self.invariant.in_order)
+patch_of-requires-clause-order c = subst (λ (ns : List ViewNode). AreInOrder (node_claims ns)) (sym c.as_slice.ensures.nodes) (seats_order c.self.invariant.claims c.self.inside.view.nodes c.self.invariant.made c.self.invariant.in_order)
 
 pub turn-requires-clause-within : goal.turn-requires-clause-within
 turn-requires-clause-within c =

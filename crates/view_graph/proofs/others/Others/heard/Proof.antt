@@ -1,4 +1,4 @@
--- The ghost value is what the other systems say in the database. Assumes `Logic`.
+-- The ghost value is what the other systems say in the LSDB. Assumes `Logic`.
 use Rattle.std.proofs.Common.{List, [], ◌∷◌, ◌++◌, refl}
 use seplogic.Ra.Ura.{Ura}
 use mir.Syntax.{Fn}

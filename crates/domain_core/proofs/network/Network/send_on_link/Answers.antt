@@ -1,0 +1,55 @@
+use Rattle.std.proofs.Common.{◌≡◌, ◌∙◌, List, [], None, sym, ap}
+use Rattle.wire_base.specs.declared.conf.RouterConf.{RouterConf}
+use Rattle.wire_base.specs.model.Flooding.{send}
+use Rattle.frames_in_flight.specs.Told.{told, told_of}
+use Rattle.frames_in_flight.specs.Flights.{items_seen, push_all_sent}
+use Rattle.domain_core.specs.Held.{state_of, world_in}
+use Rattle.domain_model.specs.Moves.{replied}
+use Rattle.domain_model.specs.Step.{Happened}
+use Rattle.domain_core.proofs.CarryLaws.{carried_world, same_next, send_is, send_control, send_carried}
+use Rattle.domain_core.proofs.RefusalLaws.{up_at_send, link_within, leads_to}
+use Rattle.domain_core.proofs.TransitLaws.{same_frames}
+use Rattle.domain_core.proofs.TurnLaws.{router_there, control_at, same_heard}
+use Rattle.domain_core.proofs.network.Network.send_on_link.Goals as goal
+
+pub due-requires : goal.due-requires
+due-requires c =
+    let n = state_of c.args.self.now in
+    let r = c.index_mut-router.result.now in
+    let there = router_there n.routers c.from.result c.args.from r c.from.ensures c.requires.place c.index_mut-router.ensures.value in
+    up_at_send (world_in c.args.self.now) c.args.from c.args.to c.args.link r.control (control_at n c.args.from r there) c.requires.joined c.requires.allowed
+
+pub queue_sent-requires-clause-known : goal.queue_sent-requires-clause-known
+queue_sent-requires-clause-known c = leads_to (world_in c.args.self.now) c.args.from c.args.to c.args.link c.requires.truth.truth c.requires.joined c.confs_of-confs.result.now c.confs_of-confs.ensures.confs
+
+pub sent-requires : goal.sent-requires
+sent-requires c =
+    let n = state_of c.args.self.now in
+    let r = c.index_mut-router.result.now in
+    let there = router_there n.routers c.from.result c.args.from r c.from.ensures c.requires.place c.index_mut-router.ensures.value in
+    up_at_send (world_in c.args.self.now) c.args.from c.args.to c.args.link r.control (control_at n c.args.from r there) c.requires.joined c.requires.allowed
+
+pub returns-clause-done : goal.returns-clause-done
+returns-clause-done c =
+    let n = state_of c.args.self.now in
+    let r = c.index_mut-router.result.now in
+    let there = router_there n.routers c.from.result c.args.from r c.from.ensures c.requires.place c.index_mut-router.ensures.value in
+    let within = link_within (world_in c.args.self.now) c.args.from c.args.to c.args.link r.control (control_at n c.args.from r there) c.requires.joined c.requires.truth.truth in
+    let next = same_next c.args.link (send r.control c.args.link) c.sent.new.self.control c.in_ok-effects.effects c.sent.ensures.control c.in_ok-effects.ensures in
+    let k = send_carried n c.requires.truth c.args.from c.args.to c.args.link r there within c.sent.new.self.control c.in_ok-effects.effects next in
+    let turned = send_control n c.requires.truth c.args.from c.args.to c.args.link r there within c.sent.new.self.control c.in_ok-effects.effects next in
+    let happened = send_is n c.requires.truth c.args.from c.args.to c.args.link r there c.requires.joined in
+    let sent : c.queue_sent.new.flights ≡ push_all_sent n.domain.routers c.args.from None n.flights c.in_ok-effects.effects.sent =
+    c.in_ok-out.ensures.ok ∙ ap (λ (cs : List RouterConf). push_all_sent cs c.args.from None n.flights c.in_ok-effects.effects.sent) c.confs_of-confs.ensures.confs in
+    record {
+      world = carried_world n c.args.from r there c.from.result c.from.ensures c.sent.new.self c.queue_sent.new.flights (send r.control c.args.link).control (replied n.domain.routers c.args.from c.args.link (send r.control c.args.link)) _ turned (ap (items_seen n.domain.routers) sent ∙ k.seen) happened;
+      frames = same_frames n.domain.routers c.queue_sent.new.flights _ sent k.frames;
+      answer = c.in_ok-out.ensures.out ∙ ap (λ (cs : List RouterConf). told_of cs c.args.from None [] c.in_ok-effects.effects) c.confs_of-confs.ensures.confs
+          ∙ k.out ∙ sym (ap (λ (h : Happened). told n.domain.routers h.made) happened);
+    }
+
+pub returns-clause-heard : goal.returns-clause-heard
+returns-clause-heard c =
+    let n = state_of c.args.self.now in
+    let r = c.index_mut-router.result.now in
+    same_heard n c.args.from r (router_there n.routers c.from.result c.args.from r c.from.ensures c.requires.place c.index_mut-router.ensures.value) c.from.result c.sent.new.self c.from.ensures c.sent.ensures.heard

@@ -1,0 +1,327 @@
+//! A domain at work, whose events are reported as they are done.
+ghost use Rattle.std.specs.Prelude.{◌≡◌, ◌≢◌, ◌∷◌, ◌++◌, length, Some, None, IfOk, OnOk, OnErr, [], flat_map};
+ghost use Rattle.std.specs.List.{AllByRecursion};
+ghost use Rattle.replay_text.specs.Events.{LineFits};
+ghost use Rattle.replay_text.specs.declared.event.Event.TheVariants as events;
+ghost use Rattle.domain_model.specs.World.{link_between, frames_between};
+ghost use Rattle.domain_model.specs.Run as run;
+ghost use Rattle.domain_model.specs.Run.{taken_now, round_events, line_events};
+ghost use Rattle.replay_report.specs.Captures.{wire_record, with_records, AreShort};
+ghost use Rattle.replay_report.specs.Counting.{counted, NamesOnce};
+ghost use Rattle.replay_report.specs.Lines.{event_text};
+ghost use Rattle.domain_replay.specs.Telling.{first_state, with_texts, told, reports_on, tells_all, tells_line, LineNamesOnce};
+ghost use Rattle.domain_replay.specs.Replaying.{Tells, StopsIn, IsAsked, IsJoining, sends_of, sends_in};
+
+use crate::asked::numbers_fit;
+use domain_core::{EventFault, World, confs_of};
+use domain_model::StepOut;
+use replay_report::{Counts, Direction, directions, push_made};
+use replay_text::{Event, Line};
+use run_texts::Texts;
+use std::alloc::Global;
+use std::marker::Model;
+use wire_base::{Domain, M, Rows};
+
+/// A domain at work, what was counted, and whether what is sent goes into a capture.
+#[derive(Drop)]
+pub struct ReportedWorld {
+    pub world: World,
+    pub counts: Counts,
+    pub captures: bool,
+}
+
+impl Model for ReportedWorld {
+    ghost use Rattle.domain_replay.specs.Telling.{ReplayState};
+
+    ghost Value = { ReplayState };
+
+    ghost view = { λ t. record { world = t.world.world; counts = t.counts; captures = t.captures } };
+}
+
+impl ReportedWorld {
+    /// Nothing is done yet.
+    pub(crate) fn new(alloc: Global, domain: Domain, captures: bool) -> M<Self>
+        ensures { IfOk result (λ told. told ≡ first_state captures domain) }
+    {
+        Ok(ReportedWorld {
+            world: World::new(alloc, domain)?,
+            counts: Counts::none(),
+            captures,
+        })
+    }
+
+    /// Reports an event of a line, which names no BFR-id twice, and what it made; or nothing, where an allocation fails.
+    fn tell(
+        &mut self,
+        alloc: Global,
+        texts: &mut Texts,
+        line: u32,
+        event: &Event,
+        made: &StepOut,
+    ) -> M<()>
+        requires once { NamesOnce event.now }
+        requires short { AreShort made.now.sent }
+        ensures state { OnOk result (self.new ≡ record self.old { counts = counted self.old.counts event.now made.now.got made.now.drops }) }
+        ensures frames { OnOk result (texts.new.frames ≡ with_records self.old.captures texts.old.frames (flat_map (wire_record line) made.now.sent)) }
+        ensures report { OnOk result (texts.new.report ≡ texts.old.report ++ event_text self.old.world.domain.routers line made.now.got made.now.drops) }
+        ensures err { OnErr result ((self.new ≡ self.old) × (texts.new ≡ texts.old)) }
+    {
+        let counts = self.counts.with(event, made)?;
+        let routers = self.world.domain().routers.as_slice();
+        push_made(alloc, texts, self.captures, routers, line, made)?;
+        self.counts = counts;
+        Ok(())
+    }
+
+    /// One event, of a line.
+    fn do_event(
+        &mut self,
+        alloc: Global,
+        texts: &mut Texts,
+        line: u32,
+        event: &Event,
+    ) -> Result<(), EventFault>
+        requires { IsAsked (length self.old.world.domain.routers) event.now }
+        ensures told { Tells (reports_on line (told (with_texts self.old texts.old)) event.now) (with_texts self.new texts.new) result }
+        ensures domain { OnOk result (self.new.world.domain ≡ self.old.world.domain) }
+        ensures stops { OnErr result (StopsIn line (with_texts self.old texts.old) (event.now ∷ []) (with_texts self.new texts.new)) }
+    {
+        let made = self.world.step(event)?;
+        self.tell(alloc, texts, line, event, &made)?;
+        Ok(())
+    }
+
+    /// The directions of the domain's links, each of which joins two routers.
+    pub(crate) fn directions(&self, alloc: Global) -> M<Rows<Direction>>
+        ensures value { IfOk result (λ all. all ≡ run.directions self.now.world.domain.routers) }
+        ensures joins { IfOk result (λ all. AllByRecursion (IsJoining self.now.world.domain.routers) all) }
+    {
+        let domain = self.world.domain();
+        // The domain is valid, so the routers are there.
+        let _routers = domain.routers.as_slice();
+        directions(alloc, confs_of(domain))
+    }
+
+    /// Whether the end is up over which a direction leaves.
+    fn may_send(&self, direction: Direction) -> bool
+        requires { IsJoining self.now.world.domain.routers direction }
+        ensures { result ≡ run.may_send self.now.world direction }
+    {
+        self.world.router(direction.from).is_up(direction.link)
+    }
+
+    /// A send over the end at which a direction leaves. Of most sends nothing is reported.
+    fn send_one(
+        &mut self,
+        alloc: Global,
+        texts: &mut Texts,
+        line: u32,
+        direction: Direction,
+    ) -> Result<(), EventFault>
+        requires { IsJoining self.old.world.domain.routers direction }
+        ensures told { Tells (reports_on line (told (with_texts self.old texts.old)) (events.Send direction.from direction.to)) (with_texts self.new texts.new) result }
+        ensures domain { OnOk result (self.new.world.domain ≡ self.old.world.domain) }
+        ensures stops { OnErr result (StopsIn line (with_texts self.old texts.old) (events.Send direction.from direction.to ∷ []) (with_texts self.new texts.new)) }
+    {
+        let Direction { from, link, to } = direction;
+        let made = match self.world.send_on_link(from, link, to) {
+            Ok(None) => return Ok(()),
+            Ok(Some(made)) => made,
+            Err(fault) => return Err(fault),
+        };
+        let event = Event::Send { from, to };
+        self.tell(alloc, texts, line, &event, &made)?;
+        Ok(())
+    }
+
+    /// What the end sends over which a direction leaves, where it is up.
+    fn send_now(
+        &mut self,
+        alloc: Global,
+        texts: &mut Texts,
+        line: u32,
+        direction: Direction,
+    ) -> Result<(), EventFault>
+        requires { IsJoining self.old.world.domain.routers direction }
+        ensures told { Tells (tells_all line (told (with_texts self.old texts.old)) (sends_of self.old.world direction)) (with_texts self.new texts.new) result }
+        ensures domain { OnOk result (self.new.world.domain ≡ self.old.world.domain) }
+        ensures stops { OnErr result (StopsIn line (with_texts self.old texts.old) (sends_of self.old.world direction) (with_texts self.new texts.new)) }
+    {
+        if !self.may_send(direction) {
+            return Ok(());
+        }
+        self.send_one(alloc, texts, line, direction)
+    }
+
+    /// Each end that is up sends, direction by direction. No end comes up or goes down by that.
+    fn do_sends(
+        &mut self,
+        alloc: Global,
+        texts: &mut Texts,
+        line: u32,
+        all: &[Direction],
+    ) -> Result<(), EventFault>
+        requires { AllByRecursion (IsJoining self.old.world.domain.routers) all.now }
+        ensures told { Tells (tells_all line (told (with_texts self.old texts.old)) (sends_in self.old.world all.now)) (with_texts self.new texts.new) result }
+        ensures domain { OnOk result (self.new.world.domain ≡ self.old.world.domain) }
+        ensures stops { OnErr result (StopsIn line (with_texts self.old texts.old) (sends_in self.old.world all.now) (with_texts self.new texts.new)) }
+    {
+        for direction in all {
+            self.send_now(alloc, texts, line, *direction)?;
+        }
+        Ok(())
+    }
+
+    /// How many frames are in flight in a direction.
+    fn waiting(&self, direction: Direction) -> usize
+        requires { IsJoining self.now.world.domain.routers direction }
+        ensures { result ≡ length (frames_between self.now.world direction.from direction.to) }
+    {
+        self.world.frames_over(direction.from, direction.link)
+    }
+
+    /// The end at which a direction arrives: a link has two.
+    fn facing(&self, direction: Direction) -> Option<u16>
+        requires { IsJoining self.now.world.domain.routers direction }
+        ensures link { result ≡ link_between self.now.world.domain.routers direction.to direction.from }
+        ensures some { result ≢ None }
+    {
+        self.world.link(direction.to, direction.from)
+    }
+
+    /// The first frame in a direction arrives, at the end `back`. Of most frames nothing is reported.
+    fn take_one(
+        &mut self,
+        alloc: Global,
+        texts: &mut Texts,
+        line: u32,
+        direction: Direction,
+        back: u16,
+    ) -> Result<(), EventFault>
+        requires joins { IsJoining self.old.world.domain.routers direction }
+        requires facing { link_between self.old.world.domain.routers direction.to direction.from ≡ Some back }
+        ensures told { Tells (reports_on line (told (with_texts self.old texts.old)) (events.Take direction.from direction.to 0)) (with_texts self.new texts.new) result }
+        ensures domain { OnOk result (self.new.world.domain ≡ self.old.world.domain) }
+        ensures stops { OnErr result (StopsIn line (with_texts self.old texts.old) (events.Take direction.from direction.to 0 ∷ []) (with_texts self.new texts.new)) }
+    {
+        let Direction { from, link, to } = direction;
+        let made = match self.world.take_on_link(from, link, to, back) {
+            Ok(None) => return Ok(()),
+            Ok(Some(made)) => made,
+            Err(fault) => return Err(fault),
+        };
+        let event = Event::Take { from, to, i: 0 };
+        self.tell(alloc, texts, line, &event, &made)?;
+        Ok(())
+    }
+
+    /// As many frames arrive as are in flight in a direction now.
+    fn take_now(
+        &mut self,
+        alloc: Global,
+        texts: &mut Texts,
+        line: u32,
+        direction: Direction,
+    ) -> Result<(), EventFault>
+        requires { IsJoining self.old.world.domain.routers direction }
+        ensures told { Tells (tells_all line (told (with_texts self.old texts.old)) (taken_now self.old.world direction)) (with_texts self.new texts.new) result }
+        ensures domain { OnOk result (self.new.world.domain ≡ self.old.world.domain) }
+        ensures stops { OnErr result (StopsIn line (with_texts self.old texts.old) (taken_now self.old.world direction) (with_texts self.new texts.new)) }
+    {
+        let count = self.waiting(direction);
+        if count == 0 {
+            return Ok(());
+        }
+        let Some(back) = self.facing(direction) else {
+            return Ok(());
+        };
+        for _time in 0..count {
+            self.take_one(alloc, texts, line, direction, back)?;
+        }
+        Ok(())
+    }
+
+    /// All routers take what is in flight to them, direction by direction.
+    fn do_takes(
+        &mut self,
+        alloc: Global,
+        texts: &mut Texts,
+        line: u32,
+        all: &[Direction],
+    ) -> Result<(), EventFault>
+        requires { AllByRecursion (IsJoining self.old.world.domain.routers) all.now }
+        ensures told { Tells (tells_all line (told (with_texts self.old texts.old)) (run.round_takes self.old.world all.now)) (with_texts self.new texts.new) result }
+        ensures domain { OnOk result (self.new.world.domain ≡ self.old.world.domain) }
+        ensures stops { OnErr result (StopsIn line (with_texts self.old texts.old) (run.round_takes self.old.world all.now) (with_texts self.new texts.new)) }
+    {
+        for direction in all {
+            self.take_now(alloc, texts, line, *direction)?;
+        }
+        Ok(())
+    }
+
+    /// All routers send what is due, and then all take.
+    fn do_round(
+        &mut self,
+        alloc: Global,
+        texts: &mut Texts,
+        line: u32,
+        all: &[Direction],
+    ) -> Result<(), EventFault>
+        requires value { all.now ≡ run.directions self.old.world.domain.routers }
+        requires joins { AllByRecursion (IsJoining self.old.world.domain.routers) all.now }
+        ensures told { Tells (tells_all line (told (with_texts self.old texts.old)) (round_events self.old.world)) (with_texts self.new texts.new) result }
+        ensures domain { OnOk result (self.new.world.domain ≡ self.old.world.domain) }
+        ensures stops { OnErr result (StopsIn line (with_texts self.old texts.old) (round_events self.old.world) (with_texts self.new texts.new)) }
+    {
+        self.do_sends(alloc, texts, line, all)?;
+        self.do_takes(alloc, texts, line, all)
+    }
+
+    /// So many rounds.
+    fn do_rounds(
+        &mut self,
+        alloc: Global,
+        texts: &mut Texts,
+        line: u32,
+        all: &[Direction],
+        rounds: u32,
+    ) -> Result<(), EventFault>
+        requires value { all.now ≡ run.directions self.old.world.domain.routers }
+        requires joins { AllByRecursion (IsJoining self.old.world.domain.routers) all.now }
+        ensures told { Tells (tells_all line (told (with_texts self.old texts.old)) (run.settle_events self.old.world rounds)) (with_texts self.new texts.new) result }
+        ensures stops { OnErr result (StopsIn line (with_texts self.old texts.old) (run.settle_events self.old.world rounds) (with_texts self.new texts.new)) }
+    {
+        for _round in 0..rounds {
+            self.do_round(alloc, texts, line, all)?;
+        }
+        Ok(())
+    }
+
+    /// The events of what a line says.
+    #[tactic(auto, using(crate::proofs::LineTells::event_asked), unfolding(crate::specs::Telling::tells_line, crate::specs::Telling::tells_all))]
+    pub(crate) fn do_line(
+        &mut self,
+        alloc: Global,
+        texts: &mut Texts,
+        line: u32,
+        all: &[Direction],
+        said: &Line,
+    ) -> Result<(), EventFault>
+        requires value { all.now ≡ run.directions self.old.world.domain.routers }
+        requires joins { AllByRecursion (IsJoining self.old.world.domain.routers) all.now }
+        requires fits { LineFits (length self.old.world.domain.routers) said.now }
+        requires once { LineNamesOnce said.now }
+        ensures told { Tells (tells_line line (with_texts self.old texts.old) said.now) (with_texts self.new texts.new) result }
+        ensures stops { OnErr result (StopsIn line (with_texts self.old texts.old) (line_events self.old.world said.now) (with_texts self.new texts.new)) }
+    {
+        match said {
+            Line::Empty => Ok(()),
+            Line::One(event) => {
+                numbers_fit(event);
+                self.do_event(alloc, texts, line, event)
+            }
+            Line::Settle(rounds) => self.do_rounds(alloc, texts, line, all, *rounds),
+        }
+    }
+}

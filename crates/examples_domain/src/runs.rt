@@ -1,0 +1,27 @@
+ghost use Rattle.std.specs.Prelude.{◌≡◌, map, true, false, [], ◌∷◌, Some, None};
+ghost use Rattle.wire_base.specs.model.OwnLsp.{own_lsp};
+ghost use Rattle.replay_text.specs.declared.event.Event.TheVariants.{Take, Send, Tick};
+ghost use Rattle.replay_text.specs.declared.event.Line.TheVariants.{Empty, One, Settle};
+ghost use Rattle.examples_model.specs.Domains.{pair, pair_a, pair_b};
+ghost use Rattle.domain_model.specs.declared.fault.EventFault.TheVariants as faults;
+ghost use Rattle.domain_model.specs.World.{first_world};
+ghost use Rattle.domain_model.specs.Run.{line_events, schedule_done};
+ghost use Rattle.examples_domain.specs.Worlds.{pair_lsps, pair_settled, mixed_lines};
+
+/// A round of the pair: both send, and both take what has come; after two rounds each has the other's LSP.
+#[tactic(auto, unfolding(domain_model::specs::World::first_world, domain_model::specs::Step::happens, wire_base::specs::model::Flooding::first_control, wire_base::specs::model::Flooding::started, wire_base::specs::model::Flooding::new_flood, wire_base::specs::model::Flooding::mark_all, wire_base::specs::model::Flooding::forget, wire_base::specs::model::Flooding::send, wire_base::specs::model::Flooding::send_of, wire_base::specs::model::Flooding::sent_on, wire_base::specs::model::Flooding::on_pdu, wire_base::specs::model::Flooding::on_lsp, wire_base::specs::model::Flooding::on_csnp, wire_base::specs::model::Flooding::on_psnp, wire_base::specs::model::Flooding::on_list, wire_base::specs::model::Flooding::on_listed, wire_base::specs::model::Flooding::reissue, wire_base::specs::model::Flooding::reissue_unless_spent, wire_base::specs::model::Flooding::end_up, wire_base::specs::model::Flooding::end_down, wire_base::specs::model::Flooding::link_up, wire_base::specs::model::Flooding::link_down, wire_base::specs::model::Flooding::tick, wire_base::specs::model::Flooding::aged_all, wire_base::specs::model::Flooding::id_after, wire_base::specs::model::Flooding::restart, wire_base::specs::model::OwnLsp::own_lsp, wire_base::specs::model::OwnLsp::own_content, wire_base::specs::model::Checksum::check_sum, wire_base::specs::model::Pdu::row_tlvs, wire_base::specs::model::Pdu::blocks_within, wire_base::specs::model::Tlv::entries_of, wire_base::specs::model::Tlv::entries_within, wire_base::specs::model::Tlv::row_at, domain_model::specs::Faults::event_fault, domain_model::specs::World::in_flight, domain_model::specs::Run::directions, domain_model::specs::Run::round_events, domain_model::specs::Run::settle_events, domain_model::specs::Run::first_run, domain_model::specs::Run::goes_on, domain_model::specs::Run::does, domain_model::specs::Run::line_done, domain_model::specs::Run::lines_done, domain_model::specs::Run::schedule_done))]
+pub fn pair_settles_in_two_rounds()
+    ensures round { line_events (first_world pair) (Settle 1) ≡ Send 0 1 ∷ Send 1 0 ∷ Take 0 1 0 ∷ Take 0 1 0 ∷ Take 1 0 0 ∷ Take 1 0 0 ∷ [] }
+    ensures none { line_events (first_world pair) (Settle 0) ≡ [] }
+    ensures settled { map (λ c. c.entries) pair_settled.run.world.routers ≡ pair_lsps ∷ pair_lsps ∷ [] }
+    ensures all { pair_settled.refused ≡ None }
+    ensures drops { pair_settled.run.drops ≡ [] }
+{}
+
+/// A refused line ends a schedule: what stands before it was done.
+#[tactic(auto, unfolding(domain_model::specs::World::first_world, domain_model::specs::Step::happens, wire_base::specs::model::Flooding::first_control, wire_base::specs::model::Flooding::started, wire_base::specs::model::Flooding::new_flood, wire_base::specs::model::Flooding::mark_all, wire_base::specs::model::Flooding::forget, wire_base::specs::model::Flooding::send, wire_base::specs::model::Flooding::send_of, wire_base::specs::model::Flooding::sent_on, wire_base::specs::model::Flooding::on_pdu, wire_base::specs::model::Flooding::on_lsp, wire_base::specs::model::Flooding::on_csnp, wire_base::specs::model::Flooding::on_psnp, wire_base::specs::model::Flooding::on_list, wire_base::specs::model::Flooding::on_listed, wire_base::specs::model::Flooding::reissue, wire_base::specs::model::Flooding::reissue_unless_spent, wire_base::specs::model::Flooding::end_up, wire_base::specs::model::Flooding::end_down, wire_base::specs::model::Flooding::link_up, wire_base::specs::model::Flooding::link_down, wire_base::specs::model::Flooding::tick, wire_base::specs::model::Flooding::aged_all, wire_base::specs::model::Flooding::id_after, wire_base::specs::model::Flooding::restart, wire_base::specs::model::OwnLsp::own_lsp, wire_base::specs::model::OwnLsp::own_content, wire_base::specs::model::Checksum::check_sum, wire_base::specs::model::Pdu::row_tlvs, wire_base::specs::model::Pdu::blocks_within, wire_base::specs::model::Tlv::entries_of, wire_base::specs::model::Tlv::entries_within, wire_base::specs::model::Tlv::row_at, domain_model::specs::Faults::event_fault, domain_model::specs::World::in_flight, domain_model::specs::Run::directions, domain_model::specs::Run::round_events, domain_model::specs::Run::settle_events, domain_model::specs::Run::first_run, domain_model::specs::Run::goes_on, domain_model::specs::Run::does, domain_model::specs::Run::line_done, domain_model::specs::Run::lines_done, domain_model::specs::Run::schedule_done))]
+pub fn refused_lines_end_a_schedule()
+    ensures line { (schedule_done pair mixed_lines).refused ≡ Some (3, faults.NoFrame 5 2) }
+    ensures events { (schedule_done pair mixed_lines).run.events ≡ (2, Send 0 1) ∷ [] }
+    ensures sent { map (λ s. s.0) (schedule_done pair mixed_lines).run.sent ≡ 2 ∷ 2 ∷ [] }
+{}

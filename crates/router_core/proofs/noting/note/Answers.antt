@@ -1,5 +1,0 @@
-use Rattle.router_core.proofs.KeepLaws.{noted_keeps}
-use Rattle.router_core.proofs.noting.note.Goals as goal
-
-pub returns : goal.returns
-returns c = noted_keeps c.args.system c.args.kept.now c.may_note-stays.new.kept c.keep_if.new.kept c.may_note-stays.result c.may_note-stays.ensures c.keep_if.ensures

@@ -1,0 +1,174 @@
+//! Nodes made anew, by what systems say now.
+ghost use Rattle.std.specs.Prelude.{◌≡◌, ◌≤◌, length, map, filter, IfOk, IfSome};
+ghost use Rattle.std.specs.List.{AllByRecursion, list_any};
+ghost use Rattle.wire_base.specs.model.Control.{AreAscending, ids_of, same_system};
+ghost use Rattle.wire_base.specs.model.View.{lists};
+ghost use Rattle.view_graph.specs.Edges.{AreInOrder};
+ghost use Rattle.view_graph.specs.Renewal.{IsMade, edges_now, is_listed_by, lists_at, said_now, node_claims};
+
+use crate::claims::Claim;
+use crate::known::copy_subs;
+use crate::links::Link;
+use crate::node_index::half_edges;
+use crate::patch::NewNode;
+use crate::renewal::said_now;
+use wire_base::{EdgeList, Entry, M, RouterConf, SystemId, ViewEdge, ViewNode};
+
+fn leads(links: &[Link], system: &SystemId) -> bool
+    ensures { result ≡ list_any (λ l. same_system l.neighbour system.now) links.now }
+{
+    links.iter().any(|link| link.neighbour == *system)
+}
+
+/// Whether a system lists a link to that one.
+fn lists(claim: &Claim, system: &SystemId) -> bool
+    ensures { result ≡ lists claim.now system.now }
+{
+    leads(claim.links.as_slice(), system)
+}
+
+/// The same of what a system says, if anything.
+fn is_listed_by(said: &Option<Claim>, system: &SystemId) -> bool
+    ensures { result ≡ is_listed_by said.now system.now }
+{
+    match said {
+        Some(claim) => lists(claim, system),
+        None => false,
+    }
+}
+
+/// The same of the system of the node at a place.
+fn lists_at(
+    nodes: &[ViewNode],
+    conf: &RouterConf,
+    up: &[bool],
+    entries: &[Entry],
+    place: usize,
+    system: &SystemId,
+) -> M<bool>
+    requires one_each { length up.now ≡ length conf.now.ends }
+    requires ascending { AreAscending (ids_of entries.now) }
+    ensures { IfOk result (λ b. b ≡ lists_at (said_now conf.now up.now entries.now) nodes.now place system.now) }
+{
+    let Some(node) = nodes.get(place) else {
+        return Ok(false);
+    };
+    let said = said_now(conf, up, entries, &node.system)?;
+    Ok(is_listed_by(&said, system))
+}
+
+/// The edges of a system with those links.
+fn edges_now(
+    nodes: &[ViewNode],
+    conf: &RouterConf,
+    up: &[bool],
+    entries: &[Entry],
+    system: &SystemId,
+    links: &[Link],
+) -> M<EdgeList>
+    requires order { AreInOrder (node_claims nodes.now) }
+    requires few { length nodes.now ≤ 65536 }
+    requires one_each { length up.now ≡ length conf.now.ends }
+    requires ascending { AreAscending (ids_of entries.now) }
+    ensures { IfOk result (λ edges. edges ≡ edges_now (said_now conf.now up.now entries.now) nodes.now system.now links.now) }
+{
+    let halves = half_edges(conf.kinds.allocator(), nodes, links)?;
+    both_ways(nodes, conf, up, entries, system, halves.as_slice())
+}
+
+/// Those of its edges that the systems at their other ends list too.
+fn both_ways(
+    nodes: &[ViewNode],
+    conf: &RouterConf,
+    up: &[bool],
+    entries: &[Entry],
+    system: &SystemId,
+    halves: &[ViewEdge],
+) -> M<EdgeList>
+    requires one_each { length up.now ≡ length conf.now.ends }
+    requires ascending { AreAscending (ids_of entries.now) }
+    ensures { IfOk result (λ edges. edges ≡ filter (λ e. lists_at (said_now conf.now up.now entries.now) nodes.now e.to system.now) halves.now) }
+{
+    let mut edges = EdgeList::new(conf.kinds.allocator());
+    'edges: for edge in halves {
+        if lists_at(nodes, conf, up, entries, edge.to as usize, system)? {
+            edges.push(*edge)?;
+        }
+    }
+    Ok(edges)
+}
+
+/// A node made anew by what its system says, with the places in sub-domains as before.
+fn made_of(
+    nodes: &[ViewNode],
+    conf: &RouterConf,
+    up: &[bool],
+    entries: &[Entry],
+    before: &ViewNode,
+    claim: &Claim,
+) -> M<ViewNode>
+    requires order { AreInOrder (node_claims nodes.now) }
+    requires few { length nodes.now ≤ 65536 }
+    requires one_each { length up.now ≡ length conf.now.ends }
+    requires ascending { AreAscending (ids_of entries.now) }
+    ensures { IfOk result (λ node. node ≡ record { system = before.now.system; overload = claim.now.overload; edges = edges_now (said_now conf.now up.now entries.now) nodes.now before.now.system claim.now.links; subs = before.now.subs }) }
+{
+    let subs = copy_subs(conf.kinds.allocator(), before.subs.as_slice())?;
+    let links = claim.links.as_slice();
+    Ok(ViewNode {
+        system: before.system,
+        overload: claim.overload,
+        edges: edges_now(nodes, conf, up, entries, &before.system, links)?,
+        subs,
+    })
+}
+
+/// The node at a place made anew. None where there is none, or its system says nothing.
+fn node_now(
+    nodes: &[ViewNode],
+    conf: &RouterConf,
+    up: &[bool],
+    entries: &[Entry],
+    place: usize,
+) -> M<Option<NewNode>>
+    requires order { AreInOrder (node_claims nodes.now) }
+    requires few { length nodes.now ≤ 65536 }
+    requires one_each { length up.now ≡ length conf.now.ends }
+    requires ascending { AreAscending (ids_of entries.now) }
+    ensures place { IfOk result (λ found. IfSome found (λ n. n.place ≡ place)) }
+    ensures made { IfOk result (λ found. IfSome found (IsMade (said_now conf.now up.now entries.now) nodes.now)) }
+{
+    let Some(before) = nodes.get(place) else {
+        return Ok(None);
+    };
+    let Some(claim) = said_now(conf, up, entries, &before.system)? else {
+        return Ok(None);
+    };
+    let node = made_of(nodes, conf, up, entries, before, &claim)?;
+    Ok(Some(NewNode { place, node }))
+}
+
+/// The same of all those places.
+pub(crate) fn nodes_now(
+    nodes: &[ViewNode],
+    conf: &RouterConf,
+    up: &[bool],
+    entries: &[Entry],
+    places: &[usize],
+) -> M<Option<Vec<NewNode>>>
+    requires order { AreInOrder (node_claims nodes.now) }
+    requires few { length nodes.now ≤ 65536 }
+    requires one_each { length up.now ≡ length conf.now.ends }
+    requires ascending { AreAscending (ids_of entries.now) }
+    ensures made { IfOk result (λ found. IfSome found (λ anew. AllByRecursion (IsMade (said_now conf.now up.now entries.now) nodes.now) anew.items)) }
+    ensures places { IfOk result (λ found. IfSome found (λ anew. map (λ n. n.place) anew.items ≡ places.now)) }
+{
+    let mut anew = Vec::with_capacity(conf.kinds.allocator(), places.len())?;
+    'places: for at in 0..places.len() {
+        match node_now(nodes, conf, up, entries, places[at])? {
+            Some(new) => anew.push(new)?,
+            None => return Ok(None),
+        }
+    }
+    Ok(Some(anew))
+}

@@ -1,0 +1,262 @@
+"""What a line `refused ..` of a report means: file and line, the value there, and what is expected."""
+import os
+import re
+import tomllib
+
+from . import places  # sets where the independent program is found
+from .lines import lines_of
+from .trouble import Trouble, read_octets
+
+import replay as independent
+
+LENGTHS = "64, 128, 256, 512, 1024, 2048 or 4096"
+NAME = "the name of a [[router]]"
+MAC = "an Ethernet address as 02:00:00:00:00:01, its first octet even"
+EXPECTED = {
+    "level": "1 or 2",
+    "area": "1 to 13 octets in hexadecimal digits, in quotes",
+    "subdomain.sd": "a number from 0 to 255",
+    "subdomain.kind": '"mpls" or "configured"',
+    "row.sd": 'the sd of a [[subdomain]] of kind "configured"',
+    "row.bsl": LENGTHS,
+    "row.si": "a number from 0 to 255",
+    "row.bift": "a number from 1 to 1048575",
+    "router.name": "a letter, and at most 31 letters, digits, _ and -",
+    "router.system": "a system identifier as 0000.0000.0001, in quotes",
+    "router.prefix": "an address as 10.0.0.1, the first number 1 to 223, no leading zeros, in quotes",
+    "router.overload": "true or false",
+    "bier.router": NAME,
+    "bier.sd": "the sd of a [[subdomain]]",
+    "bier.id": "a BFR-id from 0 to 65535",
+    "labels.router": NAME,
+    "labels.sd": 'the sd of a [[subdomain]] of kind "mpls" of which the router has a [[bier]] entry',
+    "labels.bsl": LENGTHS,
+    "labels.max_si": "a number from 0 to 255",
+    "labels.label": "a label from 16 to 1048575",
+    "link.a": NAME,
+    "link.b": "the name of another [[router]]",
+    "link.metric_ab": "a metric from 1 to 16777214",
+    "link.metric_ba": "a metric from 1 to 16777214",
+    "link.mac_a": MAC,
+    "link.mac_b": MAC,
+}
+OPTIONAL = ("router.overload", "link.mac_a", "link.mac_b")
+ARRAYS = sorted({key.split(".")[0] for key in EXPECTED if "." in key})
+LIMITS = {"subdomain": 8, "row": 2048, "router": 250, "bier": 2000, "labels": 14000, "link": 8000}
+# The keys that must not be the same in two entries, by the key that is named.
+TOGETHER = {
+    "row.si": ("sd", "bsl", "si"),
+    "bier.sd": ("router", "sd"),
+    "labels.bsl": ("router", "sd", "bsl"),
+}
+TEXTS = {
+    1: "an unknown first word, or a wrong number of words",
+    2: "a number that isn't one, or is out of its range",
+    3: "no router has that name",
+    4: "the payload isn't an even number of hexadecimal digits, at most 4,000, or -",
+    5: "the line has more than 16,384 octets",
+    6: "the input has more than 67,108,864 octets",
+}
+EVENTS = {
+    1: "1,000,000 events were done",
+    2: "no link joins the two routers",
+    3: "`up` needs an interface that is down, `down` and `send` one that is up",
+    4: "500,000 frames are in flight",
+    5: "no frame has that index",
+    6: "only IS-IS frames can be repeated",
+}
+EDGES = {
+    1: "the packet is for no BFR-id",
+    2: "0 is no BFR-id",
+    3: "the set identifier of the BFR-id is above 255 at that BitString length",
+    4: "the router has no BFR-id in the sub-domain",
+    5: "the router doesn't support that BitString length in the sub-domain",
+}
+
+
+# Domain files
+
+
+class Conf:
+    """A domain file that was rejected."""
+
+    def __init__(self, path):
+        self.path, self.octets = path, read_octets(path)
+        self.text = self.octets.decode("utf-8-sig", "replace")
+        try:
+            self.document, self.fault = independent.read_toml(self.octets), None
+        except independent.ConfFault:
+            self.document, self.fault = {}, toml_fault(self.octets)
+        self.lines = lines_of(self.text) if self.document else {}
+
+    def entries(self, array):
+        found = self.document.get(array, [])
+        return found if isinstance(found, list) else []
+
+    def at(self, path):
+        """The file, and the line of a key or of its entry where that is known."""
+        line = self.lines.get(path) or self.lines.get(path.rpartition(".")[0])
+        return f"{self.path}:{line}" if line else self.path
+
+
+def toml_fault(octets):
+    try:
+        tomllib.loads(octets.decode("utf-8-sig"))
+    except UnicodeDecodeError as error:
+        return f"not UTF-8 at octet {error.start}"
+    except (tomllib.TOMLDecodeError, RecursionError) as error:
+        return str(error) or "nested too deeply"
+    return "not TOML"
+
+
+def conf(path, refusal):
+    """A rejected domain file, by what follows `refused conf` in the report: number, name and place."""
+    number, _, place = refusal.split(" ", 2)
+    it = Conf(path)
+    if number == "1":
+        return f"{path}: not TOML: {it.fault or 'a reader of TOML 1.1 accepts it'}"
+    found = re.fullmatch(r"(\w+)\[(\d+)\](?:\.(.+))?", place)
+    array, at, key = (found.group(1), int(found.group(2)), found.group(3)) if found else (place, None, None)
+    entries = it.entries(array)
+    entry = entries[at] if at is not None and at < len(entries) and isinstance(entries[at], dict) else {}
+    where = f"{it.at(place)}: "
+    if number == "7":
+        return where + limit_text(it, array, at, entry)
+    name = f"{array}.{key}" if key else place
+    if name not in EXPECTED and name not in ARRAYS:
+        known = [it.split(".")[1] for it in EXPECTED if it.startswith(array + ".")] if key else ["level", "area", *LIMITS]
+        return f"{where}unknown key `{key or place}`; expected {', '.join(known)}"
+    table = entry if key else it.document
+    if (key or place) not in table:
+        return f"{where}[[{array}]] has no `{key}`; expected {EXPECTED[name]}" if key else f"{where}no `{place}`"
+    if name in ARRAYS:
+        return f"{where}`{place}` isn't an array of tables, [[{place}]]"
+    value = f"`{key or place} = {toml_value(table[key or place])}`"
+    return f"{where}{value}: {why(it, number, array, at, key, entry, name)}"
+
+
+def why(it, number, array, at, key, entry, name):
+    if number == "3":
+        other = earlier(it, array, at, key, entry, name)
+        beside = " and ".join(it for it in TOGETHER.get(name, ()) if it != key)
+        return "stands twice" + (f" for the same {beside}" if beside else "") + (f", first in {it.at(other)}" if other else "")
+    if number == "5":
+        return labels_text(it, at, entry)
+    if number == "6":
+        return reference_text(it, array, key, entry, name)
+    return f"expected {EXPECTED[name]}"
+
+
+def toml_value(value):
+    if isinstance(value, bool):
+        return str(value).lower()
+    return f'"{value}"' if isinstance(value, str) else str(value)[:60]
+
+
+def same(entry, other, keys):
+    return all(str(entry.get(key)).lower() == str(other.get(key)).lower() for key in keys)
+
+
+def earlier(it, array, at, key, entry, name):
+    """The path of the first entry that has the same."""
+    for place, other in enumerate(it.entries(array)[:at]):
+        if name == "link.b":
+            is_same = {entry.get("a"), entry.get("b")} == {other.get("a"), other.get("b")}
+        else:
+            is_same = same(entry, other, TOGETHER.get(name, (key,)))
+        if is_same:
+            return f"{array}[{place}].{key}"
+    return None
+
+
+def labels_text(it, at, entry):
+    last = entry["label"] + entry["max_si"]
+    if last > 1048575:
+        return f"the last label, {last}, is above 1048575"
+    for place, other in enumerate(it.entries("labels")[:at]):
+        if other["router"] == entry["router"] and other["label"] <= last and entry["label"] <= other["label"] + other["max_si"]:
+            where = it.at(f"labels[{place}].label")
+            return f"labels {entry['label']} to {last} overlap {other['label']} to {other['label'] + other['max_si']} ({where})"
+    return f"expected {EXPECTED['labels.label']}"
+
+
+def reference_text(it, array, key, entry, name):
+    names = [router.get("name") for router in it.entries("router")]
+    value = entry[key]
+    if EXPECTED[name] == NAME or array == "link":
+        return "no [[router]] has that name" if value not in names else "the link joins a router to itself"
+    kinds = {sub["sd"]: sub["kind"] for sub in it.entries("subdomain")}
+    if value not in kinds:
+        return f"no [[subdomain]] has that sd; expected {EXPECTED[name]}"
+    wanted = {"row": "configured", "labels": "mpls"}.get(array, kinds[value])
+    if kinds[value] != wanted:
+        return f'the sub-domain is of kind "{kinds[value]}"; expected {EXPECTED[name]}'
+    return f"{entry['router']} has no [[bier]] entry in that sub-domain"
+
+
+def limit_text(it, array, at, entry):
+    if array == "-":
+        return f"the file has {len(it.octets):,} octets; at most 4,194,304 are read"
+    count = len(it.entries(array))
+    if at is None:
+        if not count:
+            return f"there is no [[{array}]]"
+        return f"there are {count:,} [[{array}]]; at most {LIMITS[array]:,} are allowed"
+    name = entry.get("name")
+    links = sum(name in (link.get("a"), link.get("b")) for link in it.entries("link"))
+    if links > 64:
+        return f"{name} has {links} links; at most 64 are allowed"
+    return f"the sub-domains and label ranges of {name} take more than 245 octets of its LSP: 7 for each, and 6 for each range"
+
+
+# Captures
+
+CAPTURES = {
+    1: "not a classic pcap file; `editcap -F pcap` converts pcapng, and a compressed file is to be unpacked",
+    2: "the version of its format isn't 2.4",
+    3: "its link type isn't Ethernet",
+    4: "it ends within its file header",
+    5: "it ends within that record",
+    6: "that record has more than 262,144 octets",
+    7: "that record's time is more than 65,535 seconds ahead",
+    8: "it has more than 268,435,456 octets",
+}
+
+
+def record(path, refusal):
+    """A rejected capture, by what follows `refused record` in the report."""
+    number, code, *_ = refusal.split(" ")
+    where = f"{path}, record {number}" if number != "0" else path
+    return f"{where}: {CAPTURES.get(int(code), refusal)}"
+
+
+# Lines of a schedule, and of an input of `hop`
+
+
+def line(path, refusal):
+    """A rejected line, by what follows `refused` in the report; None where that isn't a line."""
+    words = refusal.split(" ")
+    if len(words) < 4 or words[1] not in ("text", "event"):
+        return None
+    number, code = int(words[0]), int(words[2])
+    reason = TEXTS.get(code) if words[1] == "text" else event_text(code, words)
+    text = line_text(path, number)
+    return f"{path}:{number}: {f'`{text}`: ' if text else ''}{reason or ' '.join(words[3:])}"
+
+
+def event_text(code, words):
+    if code == 5:
+        return f"there is no frame {words[4]}; {words[5]} are in flight there, counted from 0"
+    return EDGES.get(int(words[4])) if code == 7 else EVENTS.get(code)
+
+
+def line_text(path, number):
+    """The text of a line; empty where the file can't be read again."""
+    try:
+        if not os.path.isfile(path):
+            return ""
+        rows = read_octets(path).decode("utf-8", "replace").split("\n")
+    except Trouble:
+        return ""
+    text = rows[number - 1].strip() if number <= len(rows) else ""
+    return text if len(text) <= 120 else text[:119] + "…"
