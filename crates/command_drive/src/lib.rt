@@ -23,4 +23,4 @@ pub use line_reader::LineReader;
 pub use nowhere::{NoSink, NoSource};
 pub use record_reader::RecordReader;
 pub use run_texts::Texts;
-pub use whole::{PIECE, buffer, deliver, flush, write_all, write_whole};
+pub use whole::{buffer, deliver};

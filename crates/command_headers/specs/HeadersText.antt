@@ -1,5 +1,5 @@
 -- A capture's headers: the report of them, and how it ends.
-use Rattle.std.specs.Prelude.{ℕ, ◌+◌, ◌≤◌, Bool, true, false, nat_le, List, [], ◌∷◌, ◌++◌, length, take, Option, Some, None, codes}
+use Rattle.std.specs.Prelude.{ℕ, ◌+◌, ◌≤◌, Bool, true, false, List, [], ◌∷◌, ◌++◌, length, Option, Some, None, codes}
 use Rattle.std.specs.Fmt.{decimal}
 use Rattle.wire_base.specs.declared.limits.TheConstants.{CAPTURE_LIMIT}
 use Rattle.wire_base.specs.declared.status.Status.{Status}
