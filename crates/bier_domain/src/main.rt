@@ -3,10 +3,9 @@
 
 use host_run::{run_arguments, run_words};
 use std::alloc::AllocError;
-use std::env;
-use std::io;
 use std::process::ExitCode;
-use tool_host::{SystemFiles, StdoutSink, exit_code, is_no_text};
+use std::{env, io};
+use tool_host::{StdoutSink, SystemFiles, exit_code, is_no_text};
 use wire_base::Status;
 
 /// Runs on the arguments of the system.

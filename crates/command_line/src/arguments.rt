@@ -6,7 +6,7 @@ ghost use Rattle.command_line.specs.declared.arguments.Arguments.TheVariants as 
 
 use itoa::Buffer;
 
-/// What the arguments ask for. Paths are as they were given.
+/// What the arguments ask for. Paths are as given.
 #[derive(Clone, Copy, Debug, PartialEq, Eq)]
 pub enum Arguments<'a> {
     /// `replay CONF SCHEDULE FRAMES`

@@ -28,7 +28,7 @@ ReadsAs left octets = (file : List ℕ) × Held left file × (domain_of octets �
 abbrev pub IsRefused : Option (List ℕ) → List ℕ → Type 0
 IsRefused left line = (file : List ℕ) × Held left file × ((why : ConfFault) × (domain_of file ≡ Err why) × (line ≡ conf_refused_text why))
 
--- A call stopped short of the whole text, at a fault of its source or for want of memory.
+-- A call stopped short of the whole text, at a read error or out of memory.
 abbrev pub StoppedBy : (faults faults_now : ℕ) → Status → Type 0
 StoppedBy faults faults_now why = ((why ≡ status.ReadFault) × (faults < faults_now)) ⊎ ((why ≡ status.Memory) × (faults_now ≡ faults))
 

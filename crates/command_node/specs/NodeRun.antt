@@ -143,7 +143,7 @@ counts_record n = record n { tally = record n.tally { records = n.tally.records 
 abbrev pub passes : Node → Node
 passes n = record n { tally = record n.tally { passed = n.tally.passed + 1 } }
 
--- what the router did with a frame is told: what it sent has the record's time
+-- what the router did with a frame is reported: what it sent has the record's time
 abbrev pub tells : CaptureRecord → Effects → Node → Node
 tells read e n =
     goes_out read.sec read.usec e.sent

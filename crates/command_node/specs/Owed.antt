@@ -51,7 +51,7 @@ nothing_cut n = refl
 
 -- ---- on all octets of a capture, and on those behind which a read failed
 
--- A gap that is too long, or a fault of the capture, ends the report all the same.
+-- A gap that is too long, or an error in the capture, ends the report all the same.
 abbrev pub cut_end : Stage → Tally → Option (ℕ × ℕ) → Status × List ℕ
 cut_end stage t (Some gap) = gap_refused t.records gap
 cut_end HeaderToCome t None = (ReadFault, [])

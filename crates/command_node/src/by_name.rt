@@ -13,8 +13,8 @@ ghost use Rattle.command_node.specs.Named.{node_by};
 ghost use Rattle.command_node.specs.Routers.{has_name, router_named};
 
 use crate::node_command::node;
-use std::alloc::Global;
 use command_drive::deliver;
+use std::alloc::Global;
 use wire_base::{Domain, RouterConf, Sink, Source, Status};
 
 /// The line that is reported where the word that names the router names none.
@@ -45,7 +45,7 @@ fn place_of(domain: &Domain, name: &[u8]) -> Option<u16>
 /// What is done on the words of `node` once the domain file is read: where the domain has a router of that name, it runs on the
 /// capture; else the report says that there is none, and capture and frames are as before. Each fault is answered only where its
 /// count rose. Behind a capture whose source failed, the records that are whole in what was taken are done and reported; at a fault
-/// of a sink, and at want of memory, a front of each text is written.
+/// of a sink, and on out of memory, a prefix of each output is written.
 pub fn node_in<S: Source, C: Sink, R: Sink>(
     alloc: Global,
     domain: &Domain,

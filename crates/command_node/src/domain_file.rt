@@ -7,9 +7,9 @@ ghost use Rattle.domain_conf.specs.declared.fault.ConfFault.TheVariants as fault
 ghost use Rattle.command_node.specs.declared.domain_file.NoDomain.TheVariants as no;
 ghost use Rattle.command_node.specs.DomainFile.{Says, ReadsAs, StoppedBy, HasNone, conf_refused_text};
 
+use command_drive::buffer;
 use domain_conf::{ConfFault, read_domain};
 use std::alloc::Global;
-use command_drive::buffer;
 use wire_base::limits::DOMAIN_FILE_LIMIT;
 use wire_base::{Domain, M, Memory, Octets, Source, Status};
 
@@ -80,7 +80,7 @@ fn refused_line(alloc: Global, why: &ConfFault) -> M<Octets>
 }
 
 /// The domain that a source's file says; or the line that refuses the file, at the first rule that it breaks; or the fault of the
-/// source or want of memory that stopped the reading. What is accepted was read to its end.
+/// source or out of memory that stopped the reading. What is accepted was read to its end.
 pub fn domain_in<D: Source>(alloc: Global, conf: &mut D) -> Result<Domain, NoDomain>
     requires faults { D.faults conf.old < last_count }
     ensures domain { IfOk result (λ domain. Says (D.left conf.old) domain) }

@@ -11,9 +11,7 @@ mod standing;
 mod tally;
 mod texts;
 
-use command_drive::{
-    Close, Command, Flow, RecordReader, Texts, drive, refuse_by, refuse_length,
-};
+use command_drive::{Close, Command, Flow, RecordReader, Texts, drive, refuse_by, refuse_length};
 use pcap_frames::CapRecord;
 use standing::Node;
 use std::alloc::Global;

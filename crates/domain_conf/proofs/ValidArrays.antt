@@ -75,7 +75,7 @@ of_system r q = has_system r.system.0 q
 abbrev pub of_prefix : RouterEntry → RouterEntry → Bool
 of_prefix r q = has_prefix r.prefix.0 q
 
--- one router in one subdomain
+-- one router in one sub-domain
 abbrev pub of_sub : BierEntry → BierEntry → Bool
 of_sub b c = is_member b.router b.sd c
 

@@ -206,7 +206,7 @@ module _ (level : Level) (area : List ℕ) (area_is : IsArea area) (e : Entries)
       let n = length_confs 0 e.routers in
       record { a = subst (λ (n : ℕ). l.a < n) (sym n) h.a; b = subst (λ (n : ℕ). l.b < n) (sym n) h.b; differ = h.differ })
 
-  -- what is counted of a router's subdomains stays within bounds
+  -- what is counted of a router's sub-domains stays within bounds
   pub confs_few : AllByRecursion HasFewSubs (confs_from level area e 0 e.routers)
   unfolding confs
   confs_few = all_from HasFewSubs confs (λ c i.

@@ -35,7 +35,7 @@ use Rattle.domain_conf.proofs.ValidForms.{number_ok, field_ok, name_ok, system_o
 
 -- ---- references
 
--- the subdomain is one of the file's
+-- the sub-domain is one of the file's
 pub sd_ok : (kinds : List SubKind) (at : List ℕ → List ℕ) (d : Data) (sd : ℕ) → known_sd kinds at d ≡ Ok sd → (sd ≤ 255) × (is_none (kind_of kinds sd) ≡ false)
 sd_ok kinds at d sd e =
     let p = bind_ok (number 0 255 at (codes "sd") d) _ sd e in
@@ -43,7 +43,7 @@ sd_ok kinds at d sd e =
     let n = number_ok 0 255 at (codes "sd") d p.0 p.1 in
     subst (λ (k : ℕ). (k ≤ 255) × (is_none (kind_of kinds k) ≡ false)) (ok_is p.0 sd q.1) (n.1, q.0)
 
--- ---- subdomains
+-- ---- sub-domains
 
 pub record SubdomainPassed (earlier : List SubKind) (k : SubKind) : Type 0 where
   pub sd : k.sd ≤ 255
@@ -121,7 +121,7 @@ router_passed at earlier d r e =
       new_prefix = z.0;
     })
 
--- ---- places in subdomains
+-- ---- places in sub-domains
 
 pub record BierPassed (kinds : List SubKind) (earlier : List BierEntry) (b : BierEntry) : Type 0 where
   pub sd : b.sd ≤ 255

@@ -1,4 +1,4 @@
--- The subdomains of a router of a domain file are sound.
+-- The sub-domains of a router of a domain file are sound.
 use Rattle.std.proofs.Common.{◌≡◌, ℕ, ◌+◌, ◌<◌, ◌≤◌, Bool, true, false, ◌&&◌, ◌||◌, inl, inr, cond, eqb, List, [], ◌∷◌, ◌++◌, length, map, Option, Some, None, refl, sym, ap, subst, ◌∙◌, arith}
 use mathlib.Core.Bool.{true≢false, false≢true}
 use Rattle.std.proofs.lemmas.Bool.{and_parts, eqb-true, eq-eqb, eqb-false}
@@ -27,7 +27,7 @@ and_last : (a b : Bool) → a ≡ true → (a && b) ≡ false → b ≡ false
 and_last true b h e = e
 and_last false b h e = absurd (false≢true h)
 
--- an entry of a router and a subdomain
+-- an entry of a router and a sub-domain
 pub record LabelsOf (labels : List LabelsEntry) (router sd : ℕ) (l : LabelsEntry) : Type 0 where
   pub entry : IsIn l labels
   pub router_is : l.router ≡ router
@@ -66,7 +66,7 @@ seven_codes = refl
 few_lengths : (xs : List LabelRange) → AreApart same_length xs → length xs ≤ 7
 few_lengths xs apart = subst (λ (n : ℕ). length xs ≤ n) seven_codes (as_many (λ (x : LabelRange). code_of x.bsl) xs codes_are apart (λ x i. code_in x.bsl))
 
--- a subdomain that has a kind is among those of the file
+-- a sub-domain that has a kind is among those of the file
 kind_in : (kinds : List SubKind) (sd : ℕ) → is_none (kind_of kinds sd) ≡ false → IsIn sd (map (λ (k : SubKind). k.sd) kinds)
 kind_in [] sd e = absurd (true≢false e)
 kind_in (k ∷ kinds) sd e = by (eqb k.sd sd) refl e (λ f. kind_in kinds sd f)
@@ -76,7 +76,7 @@ kind_in (k ∷ kinds) sd e = by (eqb k.sd sd) refl e (λ f. kind_in kinds sd f)
     by false is e more = inr (more e)
 
 module _ (kinds : List SubKind) (biers : List BierEntry) (labels : List LabelsEntry) (kinds_are : AreSubdomains kinds) (biers_are : AreBiers kinds biers) (labels_are : AreLabels kinds labels) where
-  -- ---- the ranges of a router in a subdomain
+  -- ---- the ranges of a router in a sub-domain
 
   ranges_each : (router sd : ℕ) → AllByRecursion IsLabelRange (ranges_of labels router sd)
   ranges_each router sd = all_map IsLabelRange (λ (l : LabelsEntry). l.range) (filter (is_labels_of router sd) labels) (λ l i. let k = kept_labels labels router sd l i in let h = all_in (IsLabelsEntry kinds) labels l labels_are.each k.entry in h.range)
@@ -100,7 +100,7 @@ module _ (kinds : List SubKind) (biers : List BierEntry) (labels : List LabelsEn
           let q = kept_labels labels router sd m j in
           and_last (eqb m.router l.router) (share_label l.range m.range) (eq-eqb m.router l.router (q.router_is ∙ sym p.router_is)) e
 
-  -- ---- the subdomains of a router
+  -- ---- the sub-domains of a router
 
   member_of : (router : ℕ) (b : BierEntry) → IsIn b (filter (λ b. eqb b.router router) biers) → IsIn b biers × (b.router ≡ router)
   member_of router b i = let p = in_filter (λ (b : BierEntry). eqb b.router router) biers b i in (p.0, eqb-true b.router router p.1)
@@ -124,7 +124,7 @@ module _ (kinds : List SubKind) (biers : List BierEntry) (labels : List LabelsEn
           let q = member_of router c j in
           eqb_turned b.sd c.sd ∙ and_last (eqb c.router b.router) (eqb c.sd b.sd) (eq-eqb c.router b.router (q.1 ∙ sym p.1)) e
 
-  -- a router is in no more subdomains than there are
+  -- a router is in no more sub-domains than there are
   pub subs_few : (router : ℕ) → length (subs_of biers labels router) ≤ length kinds
   unfolding subs_of
   subs_few router = subst (λ (n : ℕ). length (subs_of biers labels router) ≤ n) (length-map kinds (λ (k : SubKind). k.sd)) (as_many (λ (s : OwnSub). s.sd) (subs_of biers labels router) (map (λ (k : SubKind). k.sd) kinds) (subs_apart router) one)
@@ -135,7 +135,7 @@ module _ (kinds : List SubKind) (biers : List BierEntry) (labels : List LabelsEn
           let h = all_in (IsBierEntry kinds) biers m.0 biers_are.each (member_of router m.0 m.1).0 in
           subst (λ (k : ℕ). IsIn k (map (λ (k : SubKind). k.sd) kinds)) (ap (λ (s : OwnSub). s.sd) m.2) (kind_in kinds m.0.sd h.kind)
 
-  -- no two ranges of a router share a label, in whatever subdomains they are
+  -- no two ranges of a router share a label, in whatever sub-domains they are
   pub labels_apart : (router : ℕ) → AreApart share_label (all_ranges (subs_of biers labels router))
   unfolding subs_of
   labels_apart router = apart_flat_map share_label (λ (s : OwnSub). s.ranges) same_sub (subs_of biers labels router) own two (subs_apart router)

@@ -24,19 +24,19 @@ use Rattle.domain_conf.specs.Fields.{place_path}
 use Rattle.domain_conf.specs.Forms.{system_of}
 use Rattle.domain_conf.specs.Links.{link_of}
 
--- ---- subdomains of a router
+-- ---- sub-domains of a router
 
 abbrev pub is_labels_of : ℕ → ℕ → LabelsEntry → Bool
 is_labels_of router sd l = (l.router == router) && (l.sd == sd)
 
--- the label ranges of a router in a subdomain, in the order of the file
+-- the label ranges of a router in a sub-domain, in the order of the file
 abbrev pub ranges_of : List LabelsEntry → ℕ → ℕ → List LabelRange
 ranges_of labels router sd = map (λ l. l.range) (filter (is_labels_of router sd) labels)
 
 abbrev pub sub_of : List LabelsEntry → BierEntry → OwnSub
 sub_of labels b = record { sd = b.sd; id = b.id; ranges = ranges_of labels b.router b.sd }
 
--- the subdomains of a router, in the order of the file
+-- the sub-domains of a router, in the order of the file
 unfoldable pub subs_of : List BierEntry → List LabelsEntry → ℕ → List OwnSub
 subs_of biers labels router = map (sub_of labels) (filter (λ b. b.router == router) biers)
 
@@ -84,12 +84,12 @@ abbrev pub confs_from : Level → List ℕ → Entries → ℕ → List RouterEn
 confs_from level area e i [] = []
 confs_from level area e i (r ∷ rs) = conf_of level area e i r ∷ confs_from level area e (i + 1) rs
 
--- the bounds under which the octets of a router's subdomains can be counted
+-- the bounds under which the octets of a router's sub-domains can be counted
 pub record HasFewSubs (r : RouterConf) : Type 0 where
   pub subs : length r.subs ≤ 8
   pub ranges : AllByRecursion (λ s. length s.ranges ≤ 7) r.subs
 
--- a router has at most 64 links, and its subdomains have room in its own link state PDU
+-- a router has at most 64 links, and its sub-domains have room in its own LSP
 abbrev pub is_too_large : RouterConf → Bool
 is_too_large r = nat_lt MOST_ENDS (length r.ends) || nat_lt MOST_SUB_OCTETS (sub_octets r.subs)
 

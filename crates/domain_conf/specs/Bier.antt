@@ -1,4 +1,4 @@
--- The entries of `bier`: which routers are in which subdomains.
+-- The entries of `bier`: which routers are in which sub-domains.
 use Rattle.std.specs.Prelude.{ℕ, Bool, ◌==◌, ◌&&◌, List, [], ◌∷◌, Result, Ok, Err, codes}
 use Rattle.std.specs.List.{list_any}
 use Rattle.toml.specs.Data.{Data}
@@ -13,11 +13,11 @@ use Rattle.domain_conf.specs.Fields.{entry_path, known_keys, number}
 use Rattle.domain_conf.specs.Subdomains.{known_sd}
 use Rattle.domain_conf.specs.Routers.{known_router}
 
--- whether an entry puts that router into that subdomain
+-- whether an entry puts that router into that sub-domain
 abbrev pub is_member : ℕ → ℕ → BierEntry → Bool
 is_member router sd b = (b.router == router) && (b.sd == sd)
 
--- a router is in a subdomain once
+-- a router is in a sub-domain once
 abbrev pub new_bier : (List ℕ → List ℕ) → List BierEntry → BierEntry → Result BierEntry ConfFault
 new_bier at earlier b = do
   _ ← refuse_if (list_any (is_member b.router b.sd) earlier) (fault.Duplicate (at (codes "sd")))

@@ -1,4 +1,4 @@
--- The entries of `labels`: the label ranges of routers in subdomains of kind mpls.
+-- The entries of `labels`: the label ranges of routers in sub-domains of kind mpls.
 use Rattle.std.specs.Prelude.{ℕ, ◌+◌, Bool, not, ◌==◌, ◌&&◌, ◌||◌, nat_lt, List, [], ◌∷◌, Result, Ok, Err, codes}
 use Rattle.std.specs.List.{list_any}
 use Rattle.toml.specs.Data.{Data}
@@ -19,15 +19,15 @@ use Rattle.domain_conf.specs.Subdomains.{known_sd}
 use Rattle.domain_conf.specs.Routers.{known_router}
 use Rattle.domain_conf.specs.Bier.{is_member}
 
--- whether a router may have labels in a subdomain: it is in it, and the kind is mpls
+-- whether a router may have labels in a sub-domain: it is in it, and the kind is mpls
 abbrev pub takes_labels : List SubKind → List BierEntry → ℕ → ℕ → Bool
 takes_labels kinds biers router sd = list_any (is_member router sd) biers && is_mpls (kind_of kinds sd)
 
--- whether another entry has that router, subdomain and length of bit strings
+-- whether another entry has that router, sub-domain and length of bit strings
 abbrev pub same_labels : LabelsEntry → LabelsEntry → Bool
 same_labels l m = (m.router == l.router) && ((m.sd == l.sd) && same_length l.range m.range)
 
--- whether another entry of the router, in whatever subdomain, has one of those labels
+-- whether another entry of the router, in whatever sub-domain, has one of those labels
 abbrev pub takes_label : LabelsEntry → LabelsEntry → Bool
 takes_label l m = (m.router == l.router) && share_label l.range m.range
 

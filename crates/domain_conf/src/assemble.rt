@@ -60,7 +60,7 @@ fn subs_in(alloc: Global, biers: &[BierEntry], labels: &ByRouter<LabelsEntry>) -
     Ok(subs)
 }
 
-/// The subdomains of a router, in the order of the file.
+/// The sub-domains of a router, in the order of the file.
 #[tactic(auto, unfolding(crate::specs::Assembled::subs_of), using(crate::proofs::GroupLemmas::biers_in_group))]
 fn subs_of(
     alloc: Global,

@@ -28,7 +28,7 @@ pub enum ConfFault {
     /// What the value refers to isn't there.
     #[error("a reference to what isn't there")]
     Reference(Octets),
-    /// There are too many octets, entries, links or subdomains, or no router.
+    /// There are too many octets, entries, links or sub-domains, or no router.
     #[error("too many entries, or none")]
     Limit(Octets),
     /// Memory ran out.
@@ -51,7 +51,7 @@ impl From<wire_base::Memory> for ConfFault {
 }
 
 impl ConfFault {
-    /// The number of the rule, from 1; 0 for want of memory, which is no rule.
+    /// The number of the rule, from 1; 0 for out of memory, which is no rule.
     pub fn number(&self) -> u8
         ensures { result ≡ number_of self.now }
     {

@@ -20,7 +20,7 @@ use toml::Value;
 use wire_base::limits::LAST_LABEL;
 use wire_base::{Kind, LabelRange, SubKind, kind_of};
 
-/// A label range of a router in a subdomain; the router is named by its place in the file.
+/// A label range of a router in a sub-domain; the router is named by its place in the file.
 #[derive(Clone, Copy)]
 pub struct LabelsEntry {
     pub router: u16,

@@ -24,7 +24,7 @@ fn is_too_large(router: &RouterConf) -> bool
     router.ends.len() > MOST_ENDS || router.sub_octets() > MOST_SUB_OCTETS
 }
 
-/// That no router has more than 64 links, or more subdomains than its own link state PDU has room for.
+/// That no router has more than 64 links, or more sub-domains than its own LSP has room for.
 #[tactic(auto, unfolding(crate::specs::Assembled::within_limits))]
 pub fn within_limits(alloc: Global, routers: &[RouterConf]) -> Result<(), ConfFault>
     requires { AllByRecursion spec.HasFewSubs routers.now }

@@ -74,7 +74,7 @@ fn subdomain_at(
     subdomain_in(&entry, earlier.as_slice())
 }
 
-/// The subdomains that a file has.
+/// The sub-domains that a file has.
 pub fn read_subdomains(alloc: Global, values: &[Value]) -> Result<Rows<SubKind>, ConfFault>
     ensures { Gives (λ ks. ks) result (entries_from spec.subdomain_at [] 0 (map view values.now)) }
 {
@@ -86,7 +86,7 @@ pub fn read_subdomains(alloc: Global, values: &[Value]) -> Result<Rows<SubKind>,
     Ok(earlier)
 }
 
-/// The number of a subdomain that the file has, at the key `sd` of an entry.
+/// The number of a sub-domain that the file has, at the key `sd` of an entry.
 pub fn known_sd(entry: &Entry, kinds: &[SubKind]) -> Result<u8, ConfFault>
     ensures { Gives (λ sd. sd) result (spec.known_sd kinds.now (entry_path entry.now.array.now entry.now.place) (view entry.now.value.now)) }
 {

@@ -1,6 +1,6 @@
 ghost use Rattle.std.specs.Prelude.{◌≡◌, ◌++◌, ◌∷◌, [], codes};
 ghost use Rattle.replay_text.specs.declared.event.Event.TheVariants.{Take, Lose};
-ghost use Rattle.examples_world.specs.Worlds.{ring_at_rest, fork_at_rest, enters, for_b_and_c, for_c};
+ghost use Rattle.examples_domain.specs.Worlds.{ring_at_rest, fork_at_rest, enters, for_b_and_c, for_c};
 ghost use Rattle.domain_replay.specs.Texts.{events_text};
 ghost use Rattle.domain_model.specs.World.{ids_in_flight};
 ghost use Rattle.examples_replay.specs.Schedules.{said};

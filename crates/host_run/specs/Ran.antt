@@ -11,7 +11,7 @@ use Rattle.command_drive.specs.Answer.{IsDecided}
 use Rattle.replay_run.specs.Endings.{ComesOn}
 use Rattle.replay_run.specs.Verdict.{verdict}
 
--- the octets of the file at a path, where there is a path and they are told
+-- the octets of the file at a path, where there is a path and they are known
 abbrev pub held : (List ℕ → Option (List ℕ)) → Option (List ℕ) → Option (List ℕ)
 held at None = None
 held at (Some path) = at path

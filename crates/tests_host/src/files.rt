@@ -79,7 +79,7 @@ fn writes_fail_as_the_file_does(rt: HostRuntime) -> Result<(), Fail> {
     Ok(())
 }
 
-/// What a writer as standard output is told to write is what the sink was given, as far as it takes it, and a finish flushes it.
+/// What a writer is asked to write as standard output is what the sink was given, as far as it takes it, and a finish flushes it.
 #[test]
 fn a_writer_takes_two_of_five_octets(rt: HostRuntime) -> Result<(), Fail> {
     let mut sink = StdoutSink::new(OpenCalls::new(&[

@@ -1,12 +1,12 @@
 -- Files that are opened at their first call, and what their calls answer.
 use Rattle.std.specs.Prelude.{ℕ, ◌≡◌, List, Option, None, Some, Result, Ok, MatchResult, IsErr}
 
--- what is told is so; where nothing is told, anything may be
+-- what is known is so; where nothing is known, anything may be
 abbrev pub Tells : Option (List ℕ) → Option (List ℕ) → Type 0
 Tells None known = Unit {0}
 Tells (Some octets) known = known ≡ Some octets
 
--- the octets that a file tells of itself; before it is opened, those that are told of it
+-- the octets that a file tells of itself; before it is opened, those that are known of it
 abbrev pub told : {F : Type 0} → (F → Option (List ℕ)) → Option (List ℕ) → Option F → Option (List ℕ)
 told tells before None = before
 told tells before (Some file) = tells file

@@ -129,7 +129,7 @@ impl Node {
         Ok(())
     }
 
-    /// One second passes: the router's database ages, and after every fifth second the router sends.
+    /// One second passes: the router's LSDB ages, and after every fifth second the router sends.
     #[tactic(auto, unfolding(crate::specs::NodeRun::second_passes))]
     fn pass_second(&mut self, sec: u32) -> M<()>
         ensures { OnOk result (self.new ≡ run.second_passes sec self.old) }
@@ -188,7 +188,7 @@ impl Node {
         Ok(())
     }
 
-    /// What the router did with a frame is told.
+    /// What the router did with a frame is reported.
     fn tell(&mut self, alloc: Global, captured: &CapRecord, effects: &Effects) -> M<()>
         ensures { OnOk result (self.new ≡ run.tells (record_seen captured.now) effects.now self.old) }
     {

@@ -12,11 +12,11 @@ ghost use Rattle.command_node.specs.NodeRun as run;
 
 use super::tally::Tally;
 use bier_bits::AnyBits;
+use command_drive::push_refused;
 use pcap_frames::write_cap_record;
 use replay_text::{push_loss, push_number, push_payload};
 use router_core::{DropNote, Effects, Got, Packet, SentFrames};
 use std::alloc::Global;
-use command_drive::push_refused;
 use wire_base::{M, Memory, Octets, Rows, Status, Triple};
 
 /// The most octets of a frame in a record of a capture.
@@ -43,7 +43,7 @@ pub fn push_frames(out: &mut Octets, sec: u32, usec: u32, sent: &SentFrames) -> 
     Ok(())
 }
 
-/// Appends the number of a record, and what is told of it.
+/// Appends the number of a record, and what is reported of it.
 fn push_front(out: &mut Octets, number: u64, what: &[u8]) -> M<()>
     ensures { OnOk result (out.new ≡ out.old ++ (decimal number ++ what.now)) }
 {

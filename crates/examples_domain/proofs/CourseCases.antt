@@ -2,7 +2,7 @@
 use Rattle.std.proofs.Common.{◌≡◌, inl, inr, ℕ, ◌+◌, ◌<◌, Some, refl, sym, subst, ◌∙◌, arith}
 use Rattle.std.proofs.lemmas.Option.{same_Some}
 use Rattle.laws_course.specs.Course.{IsOnCourse}
-use Rattle.examples_course.specs.Branch.{branch, branch_a, branch_view, for_c}
+use Rattle.examples_domain.specs.Branch.{branch, branch_a, branch_view, for_c}
 use Rattle.wire_base.specs.model.Walk.{dist}
 use Rattle.wire_base.specs.model.Graph.{owner, covers, node_bift}
 use Rattle.wire_base.specs.model.Tight.{IsTight, tight_from, next_step}

@@ -1,5 +1,5 @@
 ghost use Rattle.laws_course.specs.Course.{IsOnCourse};
-ghost use Rattle.examples_course.specs.Branch.{branch, branch_a, branch_view, for_c};
+ghost use Rattle.examples_domain.specs.Branch.{branch, branch_a, branch_view, for_c};
 
 /// A copy for C is on its course from A to P, in a tunnel with 255 hops, and from P to C, with 254.
 pub fn a_copy_on_its_course()

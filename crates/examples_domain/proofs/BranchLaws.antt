@@ -14,7 +14,7 @@ use Rattle.domain_model.specs.World.{peer_place}
 use Rattle.domain_model.proofs.FloodTruth.{own_true}
 use Rattle.examples_model.proofs.Validity.{router_sound, two_links, one_link}
 use Rattle.laws_ledger.proofs.RunLaws.{none_queued}
-use Rattle.examples_course.specs.Branch.{branch_a, branch_b, branch_p, branch_c, branch, lsp_of, lsps, rest, at_rest}
+use Rattle.examples_domain.specs.Branch.{branch_a, branch_b, branch_p, branch_c, branch, lsp_of, lsps, rest, at_rest}
 
 -- ---- the domain
 

@@ -1,5 +1,5 @@
-use Rattle.examples_course.proofs.CarriedLaws.{carried_own, carried_b, carried_c}
-use Rattle.examples_course.proofs.once.premises_can_be_met.Goals as goal
+use Rattle.examples_domain.proofs.CarriedLaws.{carried_own, carried_b, carried_c}
+use Rattle.examples_domain.proofs.once.premises_can_be_met.Goals as goal
 
 pub returns-clause-own : goal.returns-clause-own
 returns-clause-own _ = carried_own

@@ -1,5 +1,5 @@
-use Rattle.examples_course.proofs.CourseCases.{off_aside, off_back, off_spent}
-use Rattle.examples_course.proofs.courses.copies_off_their_course.Goals as goal
+use Rattle.examples_domain.proofs.CourseCases.{off_aside, off_back, off_spent}
+use Rattle.examples_domain.proofs.courses.copies_off_their_course.Goals as goal
 
 pub returns-clause-aside : goal.returns-clause-aside
 returns-clause-aside _ i = off_aside i

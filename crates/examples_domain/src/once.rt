@@ -2,7 +2,7 @@ ghost use Rattle.std.specs.Prelude.{◌≡◌, [], ◌∷◌, map};
 ghost use Rattle.laws_ledger.specs.Ledger.{deliveries, drops};
 ghost use Rattle.laws_ledger.specs.Weights.{copies_in};
 ghost use Rattle.laws_course.specs.Course.{IsCarried, carried_on};
-ghost use Rattle.examples_course.specs.Branch.{branch_a, rest, begun, enters, taken, the_injection};
+ghost use Rattle.examples_domain.specs.Branch.{branch_a, rest, begun, enters, taken, the_injection};
 
 /// All that a packet's arrival rests on holds of a run: A injects for itself, for B, and for C behind a router without BIER, and
 /// all views agree.

@@ -13,11 +13,11 @@ use Rattle.laws_ledger.specs.Runs.{AreAllowed, unlined}
 use Rattle.laws_ledger.proofs.RunLaws.{nothing_done}
 use Rattle.laws_course.specs.Course.{own_node, IsCovered, HasAgreed, IsSteady, IsCarried}
 use Rattle.laws_course.proofs.OnceLaws.{small_fit}
-use Rattle.examples_course.specs.Branch.{branch_a, branch_b, branch_p, branch_c, branch, rest, at_rest, branch_view, begun, the_injection, enters, taken}
-use Rattle.examples_course.proofs.BranchLaws.{rest_true}
+use Rattle.examples_domain.specs.Branch.{branch_a, branch_b, branch_p, branch_c, branch, rest, at_rest, branch_view, begun, the_injection, enters, taken}
+use Rattle.examples_domain.proofs.BranchLaws.{rest_true}
 use Rattle.domain_model.specs.Run.{goes_on}
 use Rattle.wire_base.specs.model.Graph.{covers}
-use Rattle.examples_course.proofs.OnLiterals.{views_on_literals, hops_on_literals, runs_on_literals}
+use Rattle.examples_domain.proofs.OnLiterals.{views_on_literals, hops_on_literals, runs_on_literals}
 
 -- ---- the view
 
