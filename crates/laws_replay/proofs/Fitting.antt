@@ -22,6 +22,7 @@ use Rattle.replay_text.specs.Schedule.{schedule_line}
 use Rattle.replay_text.specs.ScheduleGrammar.{IsEvent, IsSaid, IsScheduleLine}
 use Rattle.replay_text.proofs.PayloadLemmas.{half_as_long}
 use Rattle.replay_text.proofs.ScheduleSpelled.{found}
+use Rattle.laws_replay.specs.Promises.{LineFits}
 use Rattle.domain_model.specs.World.{WorldState, frames_between}
 use Rattle.domain_model.specs.Step.{happens}
 use Rattle.domain_model.specs.Run.{Direction, directions, may_send, round_sends, taken_now, round_takes, round_events, settle_events, line_events, world_after}
@@ -103,11 +104,6 @@ payload_within word octets is = by (bytes_eq word (45 ∷ [])) is
     by false e = some (ltb 4000 (length word)) refl e
 
 -- ---- lines
-
-abbrev pub LineFits : ℕ → Line → Type 0
-LineFits count line.Empty = Unit {0}
-LineFits count (line.One e) = EventFits count e
-LineFits count (line.Settle rounds) = Unit {0}
 
 event_fits : (names words : List (List ℕ)) (e : Event) → IsEvent names words e → EventFits (length names) e
 event_fits names words (event.Inject router sd bsl ids ttl entropy payload) is =

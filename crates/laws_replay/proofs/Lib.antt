@@ -3,3 +3,5 @@ pub mod Reached
 pub mod MomentLaws
 pub mod ReportLaws
 pub mod Arriving
+pub mod Ending
+pub mod Holding

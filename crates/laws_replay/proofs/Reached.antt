@@ -13,13 +13,14 @@ use Rattle.domain_model.specs.declared.fault.EventFault.{EventFault}
 use Rattle.domain_model.specs.World.{WorldState, first_world}
 use Rattle.domain_model.specs.Step.{happens}
 use Rattle.domain_model.specs.Faults.{event_fault}
-use Rattle.domain_model.specs.Run.{Run, Progress, first_run, goes_on, run_of, tries, goes_unless, does, line_done, line_events, world_after}
+use Rattle.domain_model.specs.Run.{Run, Progress, first_run, goes_on, run_of, tries, goes_unless, does, line_done, lines_done, schedule_done, line_events, world_after}
 use Rattle.domain_model.specs.Truth.{IsTruthful, EventFits}
 use Rattle.domain_model.proofs.WorldTruth.{happens_true, first_true}
 use Rattle.laws_ledger.specs.Runs.{AreAllowed, unlined}
 use Rattle.laws_course.proofs.OnceLaws.{unlined-join, run_world}
 use Rattle.domain_replay.specs.Texts.{Refusal, Reached, reached_so, reached_by, and_further, line_reaches, goes_further, lines_reach, names_of, schedule_reaches}
-use Rattle.laws_replay.proofs.Fitting.{LineFits, line_fits, events_fit}
+use Rattle.laws_replay.specs.Promises.{LineFits}
+use Rattle.laws_replay.proofs.Fitting.{line_fits, events_fit}
 
 -- A run from the start of a domain over its events, each of them allowed.
 pub record IsReached (d : DomainConf) (r : Run) : Type 0 where
@@ -122,3 +123,14 @@ module _ (d : DomainConf) (valid : IsValid d) where
   pub schedule_reached : (lines : List (List ℕ)) → IsReached d (schedule_reaches d lines).run
   unfolding schedule_reaches
   schedule_reached lines = lines_reached lines 1 (first_run d) start_reached
+
+  -- lines that are made, and not read
+  made_reached : (lines : List Line) (line : ℕ) (p : Progress) → IsReached d p.run → AllByRecursion (LineFits count) lines → IsReached d (lines_done line p lines).run
+  unfolding lines_done line_done
+  made_reached [] line p is fits = is
+  made_reached (said ∷ more) line p is fits =
+      made_reached more (line + 1) (line_done line p said) (all_reached line (line_events p.run.world said) p is (events_fit d valid p.run.world is.domain said fits.0)) fits.1
+
+  pub schedule_made : (lines : List Line) → AllByRecursion (LineFits count) lines → IsReached d (schedule_done d lines).run
+  unfolding schedule_done
+  schedule_made lines fits = made_reached lines 1 (record { run = first_run d; refused = None }) start_reached fits

@@ -2,3 +2,4 @@
 pub mod Moments
 pub mod Reports
 pub mod Once
+pub mod Promises

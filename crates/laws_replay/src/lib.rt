@@ -5,4 +5,4 @@
 
 mod runs;
 
-pub use runs::{replays_are_accounted, replays_arrive_once};
+pub use runs::replays_keep_promises;

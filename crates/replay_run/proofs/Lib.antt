@@ -3,3 +3,4 @@ pub mod Replays
 pub mod Nodes
 pub mod Quiet
 pub mod RunsDone
+pub mod Grown

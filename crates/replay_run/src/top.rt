@@ -6,7 +6,8 @@ ghost use Rattle.wire_base.specs.declared.status.Status.TheVariants as status;
 ghost use Rattle.command_line.specs.Form as form;
 ghost use Rattle.replay_run.specs.Endings.{DoneOrMemory, ComesOn, ReplayLeaves, NodeLeaves, HopLeaves, HeadersLeaves, LeavesAlone};
 ghost use Rattle.replay_run.specs.Faults.{SourceIsQuiet, SinkIsQuiet, NoneRose, CountsFaults};
-ghost use Rattle.command_grow.specs.Grow.{GoesThrough};
+ghost use Rattle.command_grow.specs.Grow.{GoesThrough, grown_run};
+ghost use Rattle.grown_domain.specs.Domain.{grown_domain};
 ghost use Rattle.replay_run.specs.Judged.{OnHeld};
 ghost use Rattle.replay_run.specs.Replayed.{IsReplayed};
 ghost use Rattle.command_node.specs.Routers.{HasRouter};
@@ -19,9 +20,7 @@ ghost use Rattle.command_hop.specs.HopText.{IsAllowed};
 ghost use Rattle.command_node.specs.NodeRun.{IsReplayable};
 ghost use Rattle.command_drive.specs.Outside.{Meets, AppendsFronts};
 ghost use Rattle.command_hop.specs.Partition.{Reports};
-ghost use Rattle.laws_replay.specs.Moments.{HasLedgerThroughout, DeliversOnce};
-ghost use Rattle.laws_replay.specs.Reports.{IsReported};
-ghost use Rattle.laws_replay.specs.Once.{ArriveOnce};
+ghost use Rattle.laws_replay.specs.Promises.{KeepsPromises};
 
 use crate::node::node;
 use command_drive::deliver;
@@ -31,7 +30,7 @@ use command_hop::{packets_are_parted, run_hop};
 use command_line::{Arguments, USAGE, parse};
 use command_node::{NoDomain, domain_in};
 use command_replay::play;
-use laws_replay::{replays_are_accounted, replays_arrive_once};
+use laws_replay::replays_keep_promises;
 use std::alloc::Global;
 use wire_base::{Sink, Source, Status};
 
@@ -158,25 +157,21 @@ pub fn run<D: Source, S: Source, C: Sink, R: Sink>(
         (S.left input.old) (λ owed. AppendsFronts owed (R.written report.old) (R.written report.new) (C.written frames.old) (C.written frames.new)) }
 
     // The run of the model that `replay` did, of which status and texts are: over all lines of the schedule up to one that is refused,
-    // and where the schedule's source failed, over the lines that are whole in what was taken. At every moment of it each BFR-id that
-    // an injection names is in one copy, one delivery or one drop; the report says its deliveries and drops, and the numbers of its
-    // last line add up; no router delivers an injection twice, no BFR-id is delivered twice, and none that wasn't named; and a
-    // reachable BFR-id is never dropped, and arrives exactly once, while views agree, no copy is lost and the TTL covers its path.
-    ensures ledger { form_in words.now ≡ form.Replay → HasRun result → D.faults conf.new ≡ D.faults conf.old
-        → RunDone D.Source S.Source C.Sink R.Sink result conf.old input.old input.new frames.old frames.new report.old report.new HasLedgerThroughout }
-    ensures reported { form_in words.now ≡ form.Replay → HasRun result → D.faults conf.new ≡ D.faults conf.old
-        → RunDone D.Source S.Source C.Sink R.Sink result conf.old input.old input.new frames.old frames.new report.old report.new IsReported }
-    ensures delivered_once { form_in words.now ≡ form.Replay → HasRun result → D.faults conf.new ≡ D.faults conf.old
-        → RunDone D.Source S.Source C.Sink R.Sink result conf.old input.old input.new frames.old frames.new report.old report.new (λ d r. DeliversOnce r) }
-    ensures exactly_once { form_in words.now ≡ form.Replay → HasRun result → D.faults conf.new ≡ D.faults conf.old
-        → RunDone D.Source S.Source C.Sink R.Sink result conf.old input.old input.new frames.old frames.new report.old report.new ArriveOnce }
+    // and where the schedule's source failed, over the lines that are whole in what was taken. Of this one run, as of the one that
+    // `grow` did, all holds that is promised of runs, a field a promise: at every moment each BFR-id that an injection names is in
+    // one copy, one delivery or one drop; the report says its deliveries and drops, and the numbers of its last line add up; no router
+    // delivers an injection twice, no BFR-id is delivered twice, and none that wasn't named; so many takes end an injection's copies;
+    // and a reachable BFR-id is never dropped, and arrives exactly once, while topologies agree, no copy is lost and the TTL covers its
+    // path.
+    ensures replay_run { form_in words.now ≡ form.Replay → HasRun result → D.faults conf.new ≡ D.faults conf.old
+        → RunDone D.Source S.Source C.Sink R.Sink result conf.old input.old input.new frames.old frames.new report.old report.new KeepsPromises }
+    ensures grow_run { (n : ℕ) → form_in words.now ≡ form.Grow n → KeepsPromises (grown_domain n) (grown_run n).run }
 
     // What the words don't name is as before, and so are schedule or capture and the frames where the domain file is refused.
     ensures alone { LeavesAlone (form_in words.now) result conf.old conf.new input.old input.new frames.old frames.new }
 {
     packets_are_parted();
-    replays_are_accounted();
-    replays_arrive_once();
+    replays_keep_promises();
     match parse(words) {
         Arguments::Replay { .. } => replay(alloc, conf, input, frames, report),
         Arguments::Node { router, .. } => {

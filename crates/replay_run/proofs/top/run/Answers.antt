@@ -9,9 +9,8 @@ use Rattle.replay_run.proofs.Quiet.{read_not_write, read_not_memory, no_fault_of
 use Rattle.replay_run.proofs.Replays.{replay_done, in_replay}
 use Rattle.replay_run.proofs.RunsDone.{run_done}
 use Rattle.replay_run.proofs.Nodes.{in_node, node_run_done}
-use Rattle.laws_replay.specs.Moments.{HasLedgerThroughout, DeliversOnce}
-use Rattle.laws_replay.specs.Reports.{IsReported}
-use Rattle.laws_replay.specs.Once.{ArriveOnce}
+use Rattle.laws_replay.specs.Promises.{KeepsPromises}
+use Rattle.replay_run.proofs.Grown.{grown_from}
 use Rattle.replay_run.proofs.top.run.Goals as goal
 
 -- ---- words of the form Replay
@@ -38,25 +37,10 @@ returns-in-Replay-clause-replay_complete g c is =
     replay_done (g.D.Source.left c.args.conf.now) (g.S.Source.left c.args.input.now) (g.R.Sink.written c.args.report.now) (g.R.Sink.written c.replay.new.report) (g.C.Sink.written c.args.frames.now) (g.C.Sink.written c.replay.new.frames) c.replay.result
     _ (returns-in-Replay-clause-decided g c) c.replay.ensures.answer
 
-pub returns-in-Replay-clause-ledger : goal.returns-in-Replay-clause-ledger
-returns-in-Replay-clause-ledger g c is =
+pub returns-in-Replay-clause-replay_run : goal.returns-in-Replay-clause-replay_run
+returns-in-Replay-clause-replay_run g c is =
     run_done g.D.Source g.S.Source g.C.Sink g.R.Sink c.args.conf.now c.replay.new.conf c.args.input.now c.replay.new.input c.args.frames.now c.replay.new.frames c.args.report.now c.replay.new.report
-    HasLedgerThroughout c.replays_are_accounted.ensures.moments c.replay.result c.replay.ensures.answer c.replay.ensures.leaves
-
-pub returns-in-Replay-clause-reported : goal.returns-in-Replay-clause-reported
-returns-in-Replay-clause-reported g c is =
-    run_done g.D.Source g.S.Source g.C.Sink g.R.Sink c.args.conf.now c.replay.new.conf c.args.input.now c.replay.new.input c.args.frames.now c.replay.new.frames c.args.report.now c.replay.new.report
-    IsReported c.replays_are_accounted.ensures.reported c.replay.result c.replay.ensures.answer c.replay.ensures.leaves
-
-pub returns-in-Replay-clause-delivered_once : goal.returns-in-Replay-clause-delivered_once
-returns-in-Replay-clause-delivered_once g c is =
-    run_done g.D.Source g.S.Source g.C.Sink g.R.Sink c.args.conf.now c.replay.new.conf c.args.input.now c.replay.new.input c.args.frames.now c.replay.new.frames c.args.report.now c.replay.new.report
-    (λ d r. DeliversOnce r) c.replays_are_accounted.ensures.delivered c.replay.result c.replay.ensures.answer c.replay.ensures.leaves
-
-pub returns-in-Replay-clause-exactly_once : goal.returns-in-Replay-clause-exactly_once
-returns-in-Replay-clause-exactly_once g c is =
-    run_done g.D.Source g.S.Source g.C.Sink g.R.Sink c.args.conf.now c.replay.new.conf c.args.input.now c.replay.new.input c.args.frames.now c.replay.new.frames c.args.report.now c.replay.new.report
-    ArriveOnce c.replays_arrive_once.ensures c.replay.result c.replay.ensures.answer c.replay.ensures.leaves
+    KeepsPromises c.replays_keep_promises.ensures.read c.replay.result c.replay.ensures.answer c.replay.ensures.leaves
 
 -- ---- words of the form Node
 
@@ -166,6 +150,10 @@ pub returns-in-Grow-clause-grow_complete : goal.returns-in-Grow-clause-grow_comp
 returns-in-Grow-clause-grow_complete g c n is goes quiet =
     grow_done c.in-Grow.routers n _ c.grow.result (g.R.Sink.written c.args.report.now) (g.R.Sink.written c.grow.new.report) _ _ _ _ (form_known _ _ _ c.parse.ensures.value c.in-Grow.is) is
     (λ decided. (c.grow.ensures.answer decided).2) (λ read. let rose = c.grow.ensures.read read in absurd (omega (arith, rose))) c.grow.ensures.write goes quiet.faults quiet.zeros
+
+pub returns-in-Grow-clause-grow_run : goal.returns-in-Grow-clause-grow_run
+returns-in-Grow-clause-grow_run g c n is =
+    grown_from c.replays_keep_promises.ensures.made _ c.in-Grow.routers n (form_known _ _ _ c.parse.ensures.value c.in-Grow.is) (c.parse.ensures.some c.in-Grow.routers c.in-Grow.is) (c.parse.ensures.few c.in-Grow.routers c.in-Grow.is) is
 
 -- ---- words of the form Unknown
 
