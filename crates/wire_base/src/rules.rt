@@ -1,4 +1,4 @@
-//! The number and the name of the rule that octets break, as reports say them.
+//! Numbers and names of the parsers' rules, as reports print them.
 ghost use Rattle.std.specs.Prelude.{◌≡◌};
 ghost use Rattle.wire_base.specs.model.Faults.{head_number, head_name, frame_number, frame_name, stack_number, stack_name, ip_number, ip_name, capture_number, capture_name, tlv_number, tlv_name, info_number, info_name, pdu_number, pdu_name, edge_number, edge_name};
 

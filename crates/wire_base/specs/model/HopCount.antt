@@ -1,4 +1,4 @@
--- How many routers a bit passes until the router that owns it, and how many links a tunnel has.
+-- How many routers a bit passes until it reaches its owner, and how many links a tunnel has.
 use Rattle.std.specs.Prelude.{◌≡◌, ℕ, zero, suc, ◌+◌, ◌≤◌, ◌==◌, Bool, List, length, Option, Some, None, option_map, option_and_then, if◌then◌else◌}
 use Rattle.wire_base.specs.declared.conf.SubKind.{SubKind}
 use Rattle.wire_base.specs.declared.conf.TableRow.{TableRow}
@@ -23,6 +23,6 @@ pub record CoversPath (g : List ViewNode) (kinds : List SubKind) (table : List T
   pub is : hops g kinds table t class k u ≡ Some count
   pub enough : count ≤ ttl
 
--- how many tight steps of least system lead from u to x
+-- how many tight steps with the least system ID lead from u to x
 unfoldable pub tunnel_links : List ViewNode → ℕ → ℕ → Option ℕ
 tunnel_links g x u = follow (next_step g x) (λ z. z == x) (length g) u

@@ -1,4 +1,4 @@
--- Where a packet enters the domain: the packets that a list of BFR-ids makes, one for each set identifier, and what the
+-- Where a packet enters the domain: the packets for a list of BFR-ids, one for each set identifier, and what the
 -- router does with them (RFC 8279, 3 and 6.5; RFC 8296, 3).
 use Rattle.std.specs.Prelude.{ℕ, ◌+◌, ◌==◌, ◌&&◌, nat_lt, Bool, false, List, [], ◌∷◌, map, filter, find, is_none, Option, Some, None, unwrap_or, if◌then◌else◌}
 use Rattle.std.specs.List.{list_any}
@@ -45,7 +45,7 @@ packet_for sd bsl ids si = record { triple = record { sd = sd; bsl = bsl; si = s
 unfoldable pub packets_for : ℕ → Bsl → List ℕ → List IngressPacket
 packets_for sd bsl ids = map (packet_for sd bsl ids) (sets_of bsl ids)
 
--- ---- refusals
+-- ---- rejections
 
 abbrev pub is_large : Bsl → ℕ → Bool
 is_large bsl k = nat_lt 255 (set_identifier (bits_of bsl) k)
@@ -89,7 +89,7 @@ entering r ttl entropy payload p =
       payload = payload;
     }
 
--- A payload enters for a list of BFR-ids: each packet is hopped with one more than the given TTL, so that its copies
--- carry that TTL.
+-- A payload enters for a list of BFR-ids: each packet is processed with one more than the given TTL, so that its copies
+-- have that TTL.
 unfoldable pub inject : Control → ℕ → Bsl → List ℕ → ℕ → ℕ → List ℕ → Effects
 inject c sd bsl ids ttl entropy payload = joined (map (λ p. hop_in c (entering c.conf ttl entropy payload p) (ttl + 1)) (packets_for sd bsl ids))
