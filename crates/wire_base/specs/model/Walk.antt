@@ -1,4 +1,5 @@
--- Walks (paths) in a graph and the costs of the shortest (ISO/IEC 10589, 7.2.6): no walk goes through a router with its overload bit set.
+-- Walks (paths) in a graph and the costs of the shortest (ISO/IEC 10589, 7.2.6). No walk goes through a router with its overload
+-- bit set.
 use Rattle.std.specs.Prelude.{◌≡◌, ℕ, zero, suc, ◌+◌, ◌-◌, ◌<◌, ◌≤◌, ◌⊎◌, Bool, false, ◌==◌, ◌||◌, not, List, [], ◌∷◌, length, slice_index_or, Contains, Option, Some, None, min, option_map, if◌then◌else◌}
 use Rattle.wire_base.specs.declared.view.ViewEdge.{ViewEdge}
 use Rattle.wire_base.specs.declared.view.ViewNode.{ViewNode}
