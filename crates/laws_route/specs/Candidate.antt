@@ -1,4 +1,4 @@
--- The nodes to which a router may send what is for an owner.
+-- The nodes to which a router may send a bit for an owner.
 use Rattle.std.specs.Prelude.{◌≡◌, ℕ, Bool, true, List}
 use Rattle.wire_base.specs.declared.view.ViewNode.{ViewNode}
 use Rattle.wire_base.specs.model.Supporting.{IsFirst}
