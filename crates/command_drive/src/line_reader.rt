@@ -98,7 +98,7 @@ impl LineReader {
         Ok(count)
     }
 
-    /// Completes the line once its end was found after its first part.
+    /// Makes the collected octets the current line, once the end of the line was found.
     fn give(&mut self)
         ensures line { self.new.line ≡ self.old.front }
         ensures front { self.new.front ≡ [] }
