@@ -1,4 +1,4 @@
-//! Output written whole, or a chunk at a time.
+//! Output that is written whole, or a chunk at a time.
 ghost use Rattle.std.specs.Prelude.{◌≡◌, ◌⊎◌, ◌<◌, ◌++◌, ℕ, List, [], false, nat_le, length, IfOk, OnOk, OnErr, if◌then◌else◌};
 ghost use Rattle.std.specs.Io.KnownBytes.{Appends};
 ghost use Rattle.wire_base.specs.Causes.{last_count};
@@ -9,17 +9,17 @@ ghost use Rattle.command_drive.specs.Answer.{IsDecided};
 use std::alloc::Global;
 use wire_base::{Failed, M, Octets, Sink, Status};
 
-/// How many octets are read at a time, and from how many on output is written.
+/// The size in octets of a read, and the amount of pending output from which on output is written.
 pub const PIECE: usize = 65_536;
 
-/// Room for a chunk of an input.
+/// Returns a buffer for a chunk of an input.
 pub fn buffer(alloc: Global) -> M<Vec<u8>>
     ensures { IfOk result (λ bytes. 0 < length bytes.items) }
 {
     Ok(vec![in alloc; 0u8; PIECE]?)
 }
 
-/// Writes octets whole. It fails where the sink takes none of what is left.
+/// Writes all octets. It fails if the sink accepts none of those that remain.
 pub fn write_all<R: Sink>(sink: &mut R, text: &[u8]) -> Result<(), Failed>
     requires faults { R.faults sink.old < last_count }
     requires zeros { R.zeros sink.old < last_count }
@@ -40,7 +40,7 @@ pub fn write_all<R: Sink>(sink: &mut R, text: &[u8]) -> Result<(), Failed>
     Ok(())
 }
 
-/// Writes output, once there is a chunk of it. Less than a chunk is left.
+/// Writes output once there is a chunk of it. Less than a chunk remains.
 pub fn flush<R: Sink>(report: &mut R, lines: &mut Octets) -> Result<(), Failed>
     requires faults { R.faults report.old < last_count }
     requires zeros { R.zeros report.old < last_count }
@@ -59,7 +59,7 @@ pub fn flush<R: Sink>(report: &mut R, lines: &mut Octets) -> Result<(), Failed>
     Ok(())
 }
 
-/// Writes octets whole and finishes the sink.
+/// Writes all octets and finishes the sink.
 pub fn write_whole<R: Sink>(sink: &mut R, text: &[u8]) -> Result<(), Failed>
     requires faults { R.faults sink.old < last_count }
     requires zeros { R.zeros sink.old < last_count }
@@ -74,7 +74,7 @@ pub fn write_whole<R: Sink>(sink: &mut R, text: &[u8]) -> Result<(), Failed>
     sink.finish()
 }
 
-/// Writes a report whole, finishes the sink and returns the status, or `WriteFault` where the sink fails.
+/// Writes a whole report, finishes the sink and returns the status, or `WriteFault` if the sink fails.
 pub fn deliver<R: Sink>(report: &mut R, status: Status, text: &[u8]) -> Status
     requires decided { IsDecided status }
     requires faults { R.faults report.old < last_count }

@@ -1,7 +1,7 @@
-//! What a domain did over a schedule, as texts: the capture of what its routers sent, and the report of what they delivered and
-//! dropped.
+//! What a domain did in a schedule, as text: the capture of what its routers sent, and the report of what they
+//! delivered and dropped.
 //!
-//! It stands on `domain_core`, and promises that the texts are those of the model's run, line by line.
+//! It depends on `domain_core`, and promises that the texts are those of the model's run, line by line.
 #![tactic(auto)]
 
 mod asked;

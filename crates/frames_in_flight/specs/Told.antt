@@ -21,7 +21,8 @@ pub record IsSilent (e : Effects) : Type 0 where
 abbrev pub IsShortFrame : WireFrame → Type 0
 IsShortFrame f = length f.octets < 65536
 
--- the same of what the router at place a did for that injection or for none, having taken a packet with those BFR-ids
+-- the same for what the router at index a did for that injection or for none, after it received a packet with those
+-- BFR-ids
 abbrev pub told_of : List RouterConf → ℕ → Option ℕ → List ℕ → Effects → StepOut
 told_of confs a number ids e =
     record {

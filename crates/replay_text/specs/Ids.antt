@@ -28,6 +28,6 @@ abbrev pub ids_text : List ℕ → List ℕ
 ids_text [] = 45 ∷ []
 ids_text (id ∷ ids) = decimal id ++ flat_map (λ next. 44 ∷ decimal next) ids
 
--- Where ids ascend from 1 to a bound of 16 bits, their text is read as them.
+-- If ids ascend from 1 to a bound of 16 bits, parsing their text returns them.
 abbrev pub AreReadAgain : List ℕ → Type 0
 AreReadAgain ids = (bound : ℕ) → bound < 2 ^ 16 → IsWithin 0 bound ids → ids_of bound (ids_text ids) ≡ Some ids

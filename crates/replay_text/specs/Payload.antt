@@ -13,6 +13,6 @@ abbrev pub payload_text : List ℕ → List ℕ
 payload_text [] = 45 ∷ []
 payload_text (octet ∷ octets) = flat_map digits_of (octet ∷ octets)
 
--- The text of at most 2,000 octets is read as them.
+-- Parsing the text of at most 2,000 octets returns them.
 abbrev pub IsPayloadReadAgain : List ℕ → Type 0
 IsPayloadReadAgain octets = ((i : ℕ) → slice_index octets i < 256) → length octets ≤ MOST_PAYLOAD → payload_of (payload_text octets) ≡ Some octets
