@@ -9,7 +9,7 @@ mod laws;
 mod replay;
 mod reported_world;
 
-pub use laws::{a_start_is_told, each_line_is_told};
+pub use laws::{a_start_is_told, each_line_is_told, each_line_is_told_uncaptured};
 pub use replay::Replay;
 pub use replay_report::{
     Counts, push_done, push_event, push_event_refused, push_frames, push_made, push_text_refused,
