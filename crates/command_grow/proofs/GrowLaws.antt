@@ -25,12 +25,12 @@ use Rattle.replay_report.specs.declared.counts.Counts.{Counts}
 use Rattle.domain_replay.specs.Counting.{counts_of}
 use Rattle.domain_replay.specs.Lines.{done_text}
 use Rattle.domain_replay.specs.Telling as telling
-use Rattle.domain_replay.specs.Telling.{Telling, ReplayState, first_state, with_texts, uncaptured, tells_line, telling_of, IsRunOf, at_line, LineEnters, LineNamesOnce, IsToldSo}
+use Rattle.domain_replay.specs.Telling.{Telling, ReplayState, first_state, with_texts, uncaptured, uncaptured_told, tells_line, telling_of, IsRunOf, at_line, LineEnters, LineNamesOnce, IsToldSo}
 use Rattle.domain_replay.specs.Texts.{run_text}
 use Rattle.domain_replay.specs.Courses.{past}
 use Rattle.domain_replay.proofs.TellingLaws.{line_told, start_told}
 use Rattle.domain_replay.proofs.CourseLaws.{past_told, line_past}
-use Rattle.domain_replay.proofs.UncapturedLaws.{uncaptured_told, line_uncaptured}
+use Rattle.domain_replay.proofs.UncapturedLaws.{line_uncaptured}
 use Rattle.command_drive.specs.declared.items.Close.TheVariants as close
 use Rattle.command_drive.specs.Answer.{Verdict}
 use Rattle.command_drive.specs.Reading.{Behind, Closed, Reads, first}

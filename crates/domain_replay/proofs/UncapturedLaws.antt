@@ -6,10 +6,7 @@ use Rattle.replay_text.specs.declared.event.Line.{Line}
 use Rattle.domain_model.specs.declared.fault.EventFault.{EventFault}
 use Rattle.domain_model.specs.Faults.{event_fault}
 use Rattle.domain_model.specs.Run.{line_events}
-use Rattle.domain_replay.specs.Telling.{Telling, uncaptured, Told, told, tells, tells_or, tells_unless, reports_on, tells_all, tells_line}
-
-abbrev pub uncaptured_told : Told → Told
-uncaptured_told t = record { telling = uncaptured t.telling; refused = t.refused }
+use Rattle.domain_replay.specs.Telling.{Telling, uncaptured, uncaptured_told, Told, told, tells, tells_or, tells_unless, reports_on, tells_all, tells_line}
 
 tells_uncaptured : (line : ℕ) (t : Telling) (e : Event) → tells line (uncaptured t) e ≡ uncaptured (tells line t e)
 unfolding tells

@@ -79,6 +79,10 @@ pub record Told : Type 0 where
   pub telling : Telling
   pub refused : Option EventFault
 
+-- the same without a capture
+abbrev pub uncaptured_told : Told → Told
+uncaptured_told t = record { telling = uncaptured t.telling; refused = t.refused }
+
 abbrev pub told : Telling → Told
 told t = record { telling = t; refused = None }
 

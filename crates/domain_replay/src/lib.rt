@@ -9,6 +9,6 @@ mod laws;
 mod replay;
 mod reported_world;
 
-pub use laws::{a_start_is_told, each_line_is_told};
+pub use laws::{a_start_is_told, each_line_is_told, each_line_is_told_uncaptured};
 pub use replay::Replay;
 pub use replay_report::{push_event_refused, push_text_refused, push_too_long};

@@ -11,7 +11,6 @@ use Rattle.laws_course.specs.Course.{HasAgreed, IsSteady, loses_copy}
 use Rattle.laws_replay.specs.Once.{IsUndisturbed}
 use Rattle.examples_replay.specs.Arrival.{settled_by, enters, taken, ingress, the_injection}
 use Rattle.domain_model.specs.Run.{goes_on, run_of}
-use Rattle.wire_base.specs.model.Graph.{covers}
 use Rattle.examples_replay.proofs.OnLiterals.{views_on_literals, hops_on_literals, floods_on_literals, runs_on_literals}
 
 -- ---- views

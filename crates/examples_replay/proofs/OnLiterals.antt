@@ -28,6 +28,10 @@ use Rattle.replay_text.specs.Tokens.{number_of}
 use Rattle.domain_replay.specs.Texts.{events_text, capture_text, run_text, report_text, lines_reach, schedule_reaches}
 use Rattle.replay_report.specs.Captures.{frame_record}
 use Rattle.std.specs.Fmt.{digits}
+use Rattle.hex.specs.Hex.{decode_pairs}
+use Rattle.replay_text.specs.Arguments.{listed_ids, numbers_to, payload_of}
+use Rattle.replay_text.specs.Ids.{id_of}
+use Rattle.replay_text.specs.Schedule.{settle_line, inject_event}
 
 -- the views of control states
 unfoldable pub views_on_literals : ⊤
@@ -53,3 +57,8 @@ runs_on_literals = tt
 unfoldable pub texts_on_literals : ⊤
 unfolding router_named link_named frame_named event_line schedule_words schedule_line words_of number_of events_text capture_text run_text report_text lines_reach schedule_reaches frame_record frame_of digits
 texts_on_literals = tt
+
+-- the arguments of lines
+unfoldable pub lines_on_literals : ⊤
+unfolding settle_line inject_event listed_ids numbers_to id_of payload_of decode_pairs
+lines_on_literals = tt

@@ -1,5 +1,5 @@
 -- A run of the pair: it settles, and a packet is injected and arrives.
-use Rattle.std.specs.Prelude.{ℕ, List, [], ◌∷◌, slice_index_or}
+use Rattle.std.specs.Prelude.{ℕ, List, [], ◌∷◌, ◌++◌, codes, slice_index_or}
 use Rattle.wire_base.specs.declared.bsl.Bsl.TheVariants.{B64}
 use Rattle.wire_base.specs.model.Control.{Control}
 use Rattle.replay_text.specs.declared.event.Event.{Event}
@@ -26,3 +26,11 @@ the_injection = record { router = 0; sd = 0; bsl = B64; ids = 1 ∷ 2 ∷ []; tt
 -- the state of A then
 abbrev pub ingress : Control
 ingress = slice_index_or (run_of pair settled_by).world.routers 0 (settled pair_a [])
+
+-- all of its events
+abbrev pub whole : List (ℕ × Event)
+whole = settled_by ++ enters ∷ taken
+
+-- the same as lines of a schedule
+abbrev pub lines : List (List ℕ)
+lines = codes "settle 1" ∷ codes "inject A 0 64 1,2 8 0 00ff" ∷ codes "take A B 0" ∷ []

@@ -1,10 +1,9 @@
 //! A disk with one file, whose calls return the results of a list.
+ghost use Rattle.std.specs.Prelude.{None};
 ghost use Rattle.std.specs.Io.{ReadsAtMost, WritesAtMost};
 
-use std::alloc::Allocator;
-use std::fs::{Metadata, OpenFile, OpenOptions};
-use std::io::{Error, ErrorKind, Read, Result, Seek, SeekFrom, Write};
-use std::rt::Files;
+use std::io::{Error, ErrorKind, Read, Result, Write};
+use tool_host::FileSystem;
 
 /// The result of a call of a file.
 #[derive(Clone, Copy)]
@@ -103,93 +102,29 @@ impl Write for OpenCalls {
     }
 }
 
-impl Seek for OpenCalls {
-    fn seek(&mut self, _to: SeekFrom) -> Result<u64> {
-        Err(missing())
-    }
-}
-
-impl OpenFile for OpenCalls {
-    fn metadata(&self) -> Result<Metadata> {
-        Err(missing())
-    }
-
-    fn set_len(&self, _size: u64) -> Result<()> {
-        Err(missing())
-    }
-
-    fn sync_all(&self) -> Result<()> {
-        Err(missing())
-    }
-
-    fn sync_data(&self) -> Result<()> {
-        Err(missing())
-    }
-}
-
 impl Disk {
-    /// Returns whether a file is opened as this one should be.
-    fn opens(&self, how: &OpenOptions, path: &str) -> bool {
-        let makes = how.asks_create()
-            && how.asks_truncate()
-            && !how.asks_append()
-            && !how.asks_create_new();
-        let reads = how.asks_read() && !how.asks_write() && !how.asks_append();
-        path == self.path
-            && if self.written {
-                how.asks_write() && makes
-            } else {
-                reads
-            }
-    }
-}
-
-impl Files for Disk {
-    type File = OpenCalls;
-
-    type Dir = OpenCalls;
-
-    fn open_file(&self, how: &OpenOptions, path: &str) -> Result<OpenCalls> {
-        if self.opens(how, path) {
+    /// Returns the file, if it is at that path and is opened as it should be.
+    fn opened(&self, path: &str, written: bool) -> Result<OpenCalls> {
+        if path == self.path && written == self.written {
             Ok(OpenCalls::new(self.calls))
         } else {
             Err(missing())
         }
     }
+}
 
-    fn open_dir(&self, _path: &str) -> Result<OpenCalls> {
-        Err(missing())
+impl FileSystem for Disk {
+    type File = OpenCalls;
+
+    ghost at = { λ _ _. None };
+
+    ghost made = { λ _. None };
+
+    fn open(&self, path: &str) -> Result<OpenCalls> {
+        self.opened(path, false)
     }
 
-    fn metadata(&self, _path: &str) -> Result<Metadata> {
-        Err(missing())
-    }
-
-    fn symlink_metadata(&self, _path: &str) -> Result<Metadata> {
-        Err(missing())
-    }
-
-    fn copy(&self, _from: &str, _to: &str) -> Result<u64> {
-        Err(missing())
-    }
-
-    fn rename(&self, _from: &str, _to: &str) -> Result<()> {
-        Err(missing())
-    }
-
-    fn remove_file(&self, _path: &str) -> Result<()> {
-        Err(missing())
-    }
-
-    fn create_dir(&self, _path: &str) -> Result<()> {
-        Err(missing())
-    }
-
-    fn remove_dir(&self, _path: &str) -> Result<()> {
-        Err(missing())
-    }
-
-    fn remove_dir_all<B: Allocator>(&self, _alloc: B, _path: &str) -> Result<()> {
-        Err(missing())
+    fn create(&self, path: &str) -> Result<OpenCalls> {
+        self.opened(path, true)
     }
 }

@@ -34,9 +34,7 @@ const WRITTEN: Disk = Disk {
 /// A read is an error exactly where the file's is, interrupted or not, and the end exactly where nothing was read.
 #[test]
 fn reads_fail_as_the_file_does(rt: HostRuntime) -> Result<(), Fail> {
-    let files = SystemFiles::new(&READ);
-    let to_write = SystemFiles::new(&WRITTEN);
-    let mut source = FileSource::new(&files, "domain.toml");
+    let mut source = FileSource::new(&READ, "domain.toml");
     let mut into = [0; 4];
     assert_eq!(rt; source.read(&mut into), Ok(2));
     assert_eq!(rt; &into[..2], b"ab".as_slice());
@@ -45,37 +43,27 @@ fn reads_fail_as_the_file_does(rt: HostRuntime) -> Result<(), Fail> {
     assert_eq!(rt; &into[..1], b"c".as_slice());
     assert_eq!(rt; source.read(&mut into), Err(Failed));
     assert_eq!(rt; source.read(&mut into), Ok(0));
-    assert_eq!(rt;
-        FileSource::new(&files, "other").read(&mut into),
-        Err(Failed)
-    );
-    assert_eq!(rt;
-        FileSource::new(&to_write, "frames.pcap").read(&mut into),
-        Err(Failed)
-    );
+    let mut absent = FileSource::new(&READ, "other");
+    assert_eq!(rt; absent.read(&mut into), Err(Failed));
+    let mut written = FileSource::new(&WRITTEN, "frames.pcap");
+    assert_eq!(rt; written.read(&mut into), Err(Failed));
     Ok(())
 }
 
 /// A write and a finish fail exactly where the file's write and flush do. A finish with nothing written opens no file.
 #[test]
 fn writes_fail_as_the_file_does(rt: HostRuntime) -> Result<(), Fail> {
-    let files = SystemFiles::new(&WRITTEN);
-    let to_read = SystemFiles::new(&READ);
-    let mut sink = FileSink::new(&files, "frames.pcap");
+    let mut sink = FileSink::new(&WRITTEN, "frames.pcap");
     assert_eq!(rt; sink.finish(), Ok(()));
     assert_eq!(rt; sink.write(b"abc"), Ok(2));
     assert_eq!(rt; sink.write(b"c"), Err(Failed));
     assert_eq!(rt; sink.write(b"c"), Ok(0));
     assert_eq!(rt; sink.finish(), Err(Failed));
     assert_eq!(rt; sink.finish(), Ok(()));
-    assert_eq!(rt;
-        FileSink::new(&files, "schedule.txt").write(b"ab"),
-        Err(Failed)
-    );
-    assert_eq!(rt;
-        FileSink::new(&to_read, "domain.toml").write(b"ab"),
-        Err(Failed)
-    );
+    let mut elsewhere = FileSink::new(&WRITTEN, "schedule.txt");
+    assert_eq!(rt; elsewhere.write(b"ab"), Err(Failed));
+    let mut read = FileSink::new(&READ, "domain.toml");
+    assert_eq!(rt; read.write(b"ab"), Err(Failed));
     Ok(())
 }
 
