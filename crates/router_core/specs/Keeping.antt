@@ -18,12 +18,12 @@ pub record IsKept (c : Control) (k : Kept) : Type 0 where
   pub current : k.is_current ≡ true → k.view.nodes ≡ control_view c
   pub routes : AreRoutes c.conf k.view.nodes k.routes
 
--- what is cached, if anything is, meets this
+-- `IsKept`, if anything is cached
 abbrev pub MayKeep : Control → Option Kept → Type 0
 MayKeep c None = Unit {0}
 MayKeep c (Some k) = IsKept c k
 
--- what is cached meets this, and its topology is that of the control state
+-- `IsKept`, and the topology is that of the control state
 pub record IsCurrent (c : Control) (k : Kept) : Type 0 where
   pub kept : IsKept c k
   pub view : k.view.nodes ≡ control_view c
