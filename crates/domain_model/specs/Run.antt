@@ -48,7 +48,7 @@ with_happened r e n =
 unfoldable pub goes_on : Run → ℕ × Event → Run
 goes_on r e = with_happened r e (happens r.world e.1)
 
--- the run of a domain over those events
+-- the run of a domain with those events
 unfoldable pub run_of : DomainConf → List (ℕ × Event) → Run
 run_of d es = fold goes_on (first_run d) es
 
