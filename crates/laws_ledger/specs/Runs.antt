@@ -31,7 +31,7 @@ named_in (Some i) = length (distinct i.ids)
 abbrev pub named_total : Run → ℕ
 named_total r = sum_by (λ (e : ℕ × Event). named_in (injection_of e.1)) r.events
 
--- how many its drops list
+-- how many BFR-ids its drops list
 abbrev pub dropped_total : Run → ℕ
 dropped_total r = sum_by (λ d. length d.1.ids) r.drops
 
