@@ -21,7 +21,7 @@ pub record KeepsLedger (old new : WorldState) (e : Event) (out : StepOut) : Type
   pub first_deliveries : (n : ℕ) (i : Injection) → entered old.injections e n ≡ Some i → AreDeliveriesOf old.domain.routers i n out.got
   pub copies : (n : ℕ) (i : Injection) → n ≤ old.injections → AreCopiesOf i n old.flights → AreCopiesOf i n new.flights
   pub deliveries : (n : ℕ) (i : Injection) → n ≤ old.injections → AreCopiesOf i n old.flights → AreDeliveriesOf old.domain.routers i n out.got
-  -- each receipt of a copy lowers the weight of the copies of its injection, and no event but the injection raises it
+  -- each `take` of a copy lowers the weight of the copies of its injection, and no event but the injection raises it
   pub first_weight_is : (n : ℕ) (i : Injection) → entered old.injections e n ≡ Some i → weights n new.flights ≤ first_weight i
   pub take_lowers : (n : ℕ) → takes_copy old n e ≡ true → weights n new.flights < weights n old.flights
   pub none_raises : (n : ℕ) → entered old.injections e n ≡ None → weights n new.flights ≤ weights n old.flights
