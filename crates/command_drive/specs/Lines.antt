@@ -41,7 +41,7 @@ HasNoEnd octets = All (λ octet. (octet == 10) ≡ false) octets
 unfoldable pub kept : List ℕ → List ℕ
 kept line = take (LINE_LIMIT + 2) line
 
--- the effect on the octets up to the first LF, or on all if there is none, and on the part of the line that is kept
+-- what becomes of the octets up to the first LF, or of all if there is none, and of the part of the line that is kept
 abbrev pub TakesPart : Bool → (unread line unread_now line_now : List ℕ) → Type 0
 TakesPart true unread line unread_now line_now = (part : List ℕ) × HasNoEnd part × (unread ≡ part ++ 10 ∷ unread_now) × (line_now ≡ kept (line ++ part))
 TakesPart false unread line unread_now line_now = HasNoEnd unread × (unread_now ≡ []) × (line_now ≡ kept (line ++ unread))
