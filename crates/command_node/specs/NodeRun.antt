@@ -73,7 +73,7 @@ sends_all sec n = fold (sends_on sec) n (range_with_len 0 (length n.control.conf
 abbrev pub every_fifth : ℕ → Node → Node
 every_fifth sec n = if n.ticks % 5 == 0 then sends_all sec n else n
 
--- one second passes, and the clock shows this one
+-- one second passes, and the clock is set to it
 unfoldable pub second_passes : ℕ → Node → Node
 second_passes sec n = every_fifth sec (record n { control = (tick n.control).control; clock = Some sec; ticks = n.ticks + 1 })
 
