@@ -8,7 +8,7 @@ use Rattle.view_graph.specs.Keep.{IsUnchanged, said_in}
 use Rattle.bier_forward.specs.Kept.{AreRoutes}
 use Rattle.router_core.specs.declared.kept.Kept.{Kept}
 
--- Each system advertises still what it did when the topology was renewed, except the router itself and those that are
+-- Each system still advertises what it did when the topology was renewed, except the router itself and those that are
 -- noted. All that is cached with the topology belongs to it. If nothing has changed since, the topology is that of the
 -- control state.
 pub record IsKept (c : Control) (k : Kept) : Type 0 where
