@@ -21,7 +21,7 @@ pub record IsRefusal (refusal : Status) : Type 0 where
   pub decided : IsDecided refusal
   pub other : refusal ≢ Done
 
--- the verdict of a command on the items that a reader finds in the octets, after output that is still to be written
+-- the verdict of a command on the items that a reader finds in the octets, with pending output before it
 abbrev pub meaning : {T : Type 0} → (reads : End → List ℕ → Reads T) → Owed T → Texts → Meaning
 meaning reads owes texts end octets = told texts.report texts.frames (owes (reads end octets).items (reads end octets).behind)
 
@@ -69,7 +69,7 @@ pub record Fronted {C R : Type 0} (c : sink.Ghosts C) (r : sink.Ghosts R) (texts
   pub report_front : AppendsFront (r.written report_old) (r.written report_new) texts.report
   pub frames_front : AppendsFront (c.written frames_old) (c.written frames_new) texts.frames
 
--- what remains to be produced, with the output that is still to be written
+-- what remains to be produced, with the pending output before it
 abbrev pub total : {T : Type 0} → Texts → Owed T → Owed T
 total texts owed items behind = told texts.report texts.frames (owed items behind)
 

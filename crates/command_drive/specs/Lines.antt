@@ -21,8 +21,8 @@ abbrev pub whole_read : End → List ℕ → Reads (List ℕ)
 whole_read Ends text = record { items = lines_shown true text; behind = Closed close.Ended }
 whole_read Fails text = record { items = lines_shown false text; behind = Cut }
 
--- What a reader returns that holds the prefix of a text, of whose octets that many more may be read, or that found more
--- than may be read.
+-- The items that a reader returns from further octets. It holds the octets `held` of the text and may read `room` more;
+-- with `over` it has found more octets than it may read.
 abbrev pub lines_read : (held : List ℕ) → (room : ℕ) → (over : Bool) → End → List ℕ → Reads (List ℕ)
 lines_read held room true end octets = cut_read held
 lines_read held room false end octets = if nat_lt room (length octets) then cut_read (held ++ take room octets) else whole_read end (held ++ octets)
