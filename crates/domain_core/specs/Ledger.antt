@@ -16,7 +16,8 @@ pub record KeepsLedger (old new : WorldState) (e : Event) (out : StepOut) : Type
   pub balanced : (n k : ℕ) → copies_of n k old.flights + one_if (names (entered old.injections e n) k) ≡ copies_of n k new.flights + (deliveries_of n k out.got + drops_of n k out.drops)
   -- the same is true of all BFR-ids together
   pub total : ids_in_flight old.flights + named_in (injection_of e) ≡ ids_in_flight new.flights + (length out.got + sum_by (λ d. length d.ids) out.drops)
-  -- the copies of an injection have its sub-domain, payload and entropy, and each delivery is at a router whose own BFR-id it is
+  -- the copies of an injection have its sub-domain, payload and entropy, and each delivery is at a router whose own
+  -- BFR-id is the one delivered
   pub first_copies : (n : ℕ) (i : Injection) → entered old.injections e n ≡ Some i → AreCopiesOf i n new.flights
   pub first_deliveries : (n : ℕ) (i : Injection) → entered old.injections e n ≡ Some i → AreDeliveriesOf old.domain.routers i n out.got
   pub copies : (n : ℕ) (i : Injection) → n ≤ old.injections → AreCopiesOf i n old.flights → AreCopiesOf i n new.flights
