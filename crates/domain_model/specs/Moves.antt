@@ -1,5 +1,5 @@
--- What one router does with what arrives, in terms of items: what it sends over its interfaces, delivers and drops (RFC
--- 8279, 6; RFC 8296, 2 and 3; RFC 2784; ISO/IEC 10589, 7.3.15).
+-- What one router does with what arrives, in terms of items: what it sends over its interfaces, delivers and drops
+-- (RFC 8279, 6; RFC 8296, 2 and 3; RFC 2784; ISO/IEC 10589, 7.3.15).
 --
 -- These definitions follow those of a router on octets, with an item in place of a frame. A router's index is called a,
 -- its configuration r, its topology g, and its node of that topology u.
