@@ -49,7 +49,7 @@ first_node r = record { control = first_control r; clock = None; ticks = 0; tall
 unfoldable pub frame_record : (sec usec : ℕ) → Sent → List ℕ
 frame_record sec usec s = written_record sec usec s.octets
 
--- frames are sent at a time
+-- the records of frames that are sent at a given time
 abbrev pub frames_text : (sec usec : ℕ) → List Sent → List ℕ
 frames_text sec usec sent = flat_map (frame_record sec usec) sent
 
