@@ -21,7 +21,7 @@ pub record IsRefusal (refusal : Status) : Type 0 where
   pub decided : IsDecided refusal
   pub other : refusal ≢ Done
 
--- the verdict of a command on the items that a reader finds in the octets, after output that is still to be written
+-- the verdict of a command on the items that a reader finds in the octets, with pending output before it
 abbrev pub meaning : {T : Type 0} → (reads : End → List ℕ → Reads T) → Owed T → Texts → Meaning
 meaning reads owes texts end octets = told texts.report texts.frames (owes (reads end octets).items (reads end octets).behind)
 
@@ -69,7 +69,7 @@ pub record Fronted {C R : Type 0} (c : sink.Ghosts C) (r : sink.Ghosts R) (texts
   pub report_front : AppendsFront (r.written report_old) (r.written report_new) texts.report
   pub frames_front : AppendsFront (c.written frames_old) (c.written frames_new) texts.frames
 
--- what remains to be produced, with the output that is still to be written
+-- what remains to be produced, with the pending output before it
 abbrev pub total : {T : Type 0} → Texts → Owed T → Owed T
 total texts owed items behind = told texts.report texts.frames (owed items behind)
 
@@ -129,13 +129,13 @@ pub record Drives {S C R : Type 0} (s : source.Ghosts S) (c : sink.Ghosts C) (r 
   pub write : ended ≡ WriteFault → OneRose c r frames_old frames_new report_old report_new
   pub input_quiet : ended ≢ ReadFault → ended ≢ WriteFault → s.faults input_new ≡ s.faults input_old
   pub sinks_quiet : ended ≢ WriteFault → SinksQuiet c r frames_old frames_new report_old report_new
-  -- What was written is flushed.
+  -- Neither sink is left unfinished.
   pub frames_finished : ended ≢ WriteFault → ended ≢ Memory → c.unfinished frames_new ≡ false
   pub report_finished : ended ≢ WriteFault → ended ≢ Memory → r.unfinished report_new ≡ false
   -- After a read error, what is complete in the octets that were read is processed and reported.
   pub stopped : ended ≡ ReadFault → (octets : List ℕ) × Consumes (s.left input_old) (s.left input_new) octets
       × Meets (means Fails octets) ended (r.written report_old) (r.written report_new) (c.written frames_old) (c.written frames_new)
-  -- At a write error, and on out of memory, a prefix of each output is written.
+  -- After a write error, or out of memory, a prefix of each output is written.
   pub front : (ended ≡ WriteFault) ⊎ (ended ≡ Memory) → (octets : List ℕ) × Held (s.left input_old) octets
       × AppendsFronts (means Ends octets) (r.written report_old) (r.written report_new) (c.written frames_old) (c.written frames_new)
 

@@ -21,8 +21,8 @@ abbrev pub whole_read : End → List ℕ → Reads (List ℕ)
 whole_read Ends text = record { items = lines_shown true text; behind = Closed close.Ended }
 whole_read Fails text = record { items = lines_shown false text; behind = Cut }
 
--- What a reader returns that holds the prefix of a text, of whose octets that many more may be read, or that found more
--- than may be read.
+-- The items that a reader returns from further octets. It holds the octets `held` of the text and may read `room` more;
+-- with `over` it has found more octets than it may read.
 abbrev pub lines_read : (held : List ℕ) → (room : ℕ) → (over : Bool) → End → List ℕ → Reads (List ℕ)
 lines_read held room true end octets = cut_read held
 lines_read held room false end octets = if nat_lt room (length octets) then cut_read (held ++ take room octets) else whole_read end (held ++ octets)
@@ -41,7 +41,7 @@ HasNoEnd octets = All (λ octet. (octet == 10) ≡ false) octets
 unfoldable pub kept : List ℕ → List ℕ
 kept line = take (LINE_LIMIT + 2) line
 
--- the effect on the octets up to the first LF, or on all if there is none, and on the part of the line that is kept
+-- what becomes of the octets up to the first LF, or of all if there is none, and of the part of the line that is kept
 abbrev pub TakesPart : Bool → (unread line unread_now line_now : List ℕ) → Type 0
 TakesPart true unread line unread_now line_now = (part : List ℕ) × HasNoEnd part × (unread ≡ part ++ 10 ∷ unread_now) × (line_now ≡ kept (line ++ part))
 TakesPart false unread line unread_now line_now = HasNoEnd unread × (unread_now ≡ []) × (line_now ≡ kept (line ++ unread))

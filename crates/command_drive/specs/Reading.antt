@@ -23,7 +23,7 @@ pub record Reads (T : Type 0) : Type 0 where
 abbrev pub first : {T : Type 0} → T → Reads T → Reads T
 first item rest = record { items = item ∷ rest.items; behind = rest.behind }
 
--- that is what a source has left, if the source specifies it; otherwise no condition
+-- that is what a source has left, if the source specifies it; otherwise it is empty
 abbrev pub Left : Option (List ℕ) → List ℕ → Type 0
 Left None more = more ≡ []
 Left (Some left) more = left ≡ more

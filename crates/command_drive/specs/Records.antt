@@ -32,7 +32,8 @@ behind_records (Refused why) open_end = Closed (close.Broken why)
 abbrev pub capture_read : Bool → End → List CaptureRecord × Reading → Reads CapRecord
 capture_read over end read = record { items = map record_given read.0; behind = behind_records read.1.stage (behind_open over end read.1) }
 
--- What a reader returns from there on, of whose octets that many more may be read, or that found more than may be read.
+-- The items that a reader returns from further octets. It may read `room` more; with `over` it has found more octets
+-- than it may read.
 abbrev pub records_read : Reading → (room : ℕ) → (over : Bool) → End → List ℕ → Reads CapRecord
 records_read reading room true end octets = capture_read true end (drained reading)
 records_read reading room false end octets = capture_read (nat_lt room (length octets)) end (drained (fed reading (take room octets)))

@@ -92,6 +92,9 @@ fn next_item<T, I: Items<T, S>, S: Source>(
 }
 
 /// Processes the items of an input, and returns how the run ends. The end of the output remains in `texts`.
+///
+/// Output is written once there is a chunk of it. All pending output is written before the next call that may wait for
+/// the input.
 fn do_items<T, I: Items<T, S>, K: Command<T>, S: Source, C: Sink, R: Sink>(
     alloc: Global,
     items: &mut I,

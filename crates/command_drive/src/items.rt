@@ -10,7 +10,7 @@ use wire_base::{CaptureFault, M, Source};
 /// Why there is no further item, if no read failed.
 #[derive(Clone, Copy, Debug, PartialEq, Eq)]
 pub enum Close {
-    /// The source ended after the last item.
+    /// The source ended, and there is no further item.
     Ended,
     /// The input exceeds its size limit.
     TooLong,

@@ -14,7 +14,7 @@ use std::mem;
 use wire_base::limits::CAPTURE_LIMIT;
 use wire_base::{CaptureFault, M, Memory, Octets, Source};
 
-/// Checks that an error is one of the capture; otherwise it was out of memory.
+/// Returns out of memory if that is the error; an error of the capture is accepted.
 fn known(why: CaptureFault) -> M<()>
     ensures { OnOk result (why ≢ fault.Memory) }
 {

@@ -14,7 +14,7 @@ use Rattle.wire_base.specs.model.BierHeader.{BierHeader, coded_header_at}
 use Rattle.replay_text.specs.Fault.{rule_text}
 use Rattle.replay_text.specs.Ids.{ids_text}
 
--- What a frame contains: no BIER packet, a header, or octets of a BIER packet that are not a header, and why.
+-- What a frame contains: no BIER packet, a header, or octets of a BIER packet that are not a valid header, and why.
 pub data Sight : Type 0 where
   Passed : Sight
   Seen : (kind : Kind) → (header : BierHeader) → Sight

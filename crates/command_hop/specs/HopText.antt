@@ -92,8 +92,8 @@ ending Ended lines packets None = (Done, done_text lines packets)
 ending Longer lines packets None = (InputRefused, refused_text (lines + 1) (rule_text 6 (codes "TooLong")))
 ending Cut lines packets None = (ReadFault, [])
 
--- The status and the report of lines that follow n others with k packets, in a state: the lines of each packet in order, and
--- a last line.
+-- The status and the report for lines that follow n others with k packets, in a state: the lines of each packet in
+-- order, and a last line.
 abbrev pub answer_from : Close → HopState → (n k : ℕ) → List (List ℕ) → Status × List ℕ
 answer_from close state n k lines =
     behind (flat_map packet_text (packets_from state n lines))

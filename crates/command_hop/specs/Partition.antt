@@ -19,7 +19,8 @@ times_in id (outcome ∷ more) = (if has_member id (ids_in outcome) then 1 else 
 abbrev pub IsParted : Packet → Type 0
 IsParted packet = (id : ℕ) → times_in id (outcomes_of packet) ≡ (if has_member id packet.ids then 1 else 0)
 
--- The report gained the lines of the input's packets, in order, and one more line; and each packet is partitioned.
+-- The report gained the lines of the input's packets, in order, and one more line; and `IsParted` is true of each
+-- packet.
 pub record Reports (input : List ℕ) (before now : Option (List ℕ)) : Type 0 where
   pub lines : (ending : List ℕ) × Appends before now (flat_map packet_text (packets_of input) ++ ending)
   pub parted : All IsParted (packets_of input)

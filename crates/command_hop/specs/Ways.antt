@@ -95,7 +95,7 @@ pub record AreWays (rows : List HopRow) (ways : Ways) : Type 0 where
 abbrev pub name_at : List (List ℕ) → ℕ → List ℕ
 name_at names n = slice_index_or names n []
 
--- an outcome of forwarding by the table, by names
+-- an outcome of forwarding by the table, with neighbors shown by name
 abbrev pub seen : List (List ℕ) → model.Outcome → Outcome
 seen names (model.Local p) = Local p
 seen names (model.Copy to ids ttl) = Copy (name_at names to) ids

@@ -70,7 +70,7 @@ fn grow_by<'a>(word: &[u8]) -> Arguments<'a>
     }
 }
 
-/// Returns the command with one argument that the words name.
+/// Returns the command with one argument that the first word selects.
 fn with_one<'a>(command: &str, argument: &'a str) -> Arguments<'a>
     ensures value { meaning result ≡ command_of_one command.now argument.now }
     ensures some { (n : ℕ) → result ≡ arguments.Grow n → 3 ≤ n }

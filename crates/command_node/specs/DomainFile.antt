@@ -20,7 +20,7 @@ conf_refused_text why = line_of (codes "refused" ∷ codes "conf" ∷ decimal (c
 abbrev pub Says : Option (List ℕ) → DomainConf → Type 0
 Says left domain = (file : List ℕ) × Held left file × (domain_of file ≡ Ok domain)
 
--- What it may have held is read as those octets are.
+-- As a domain file, what it may have held means the same as those octets.
 abbrev pub ReadsAs : Option (List ℕ) → List ℕ → Type 0
 ReadsAs left octets = (file : List ℕ) × Held left file × (domain_of octets ≡ domain_of file)
 

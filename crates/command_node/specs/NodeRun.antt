@@ -49,7 +49,7 @@ first_node r = record { control = first_control r; clock = None; ticks = 0; tall
 unfoldable pub frame_record : (sec usec : ℕ) → Sent → List ℕ
 frame_record sec usec s = written_record sec usec s.octets
 
--- frames are sent at a time
+-- the records of frames that are sent at a given time
 abbrev pub frames_text : (sec usec : ℕ) → List Sent → List ℕ
 frames_text sec usec sent = flat_map (frame_record sec usec) sent
 
@@ -73,7 +73,7 @@ sends_all sec n = fold (sends_on sec) n (range_with_len 0 (length n.control.conf
 abbrev pub every_fifth : ℕ → Node → Node
 every_fifth sec n = if n.ticks % 5 == 0 then sends_all sec n else n
 
--- one second passes, and the clock shows this one
+-- one second passes, and the clock is set to it
 unfoldable pub second_passes : ℕ → Node → Node
 second_passes sec n = every_fifth sec (record n { control = (tick n.control).control; clock = Some sec; ticks = n.ticks + 1 })
 

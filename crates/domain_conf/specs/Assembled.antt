@@ -100,7 +100,7 @@ within_limits i (r ∷ rs) = do
   _ ← refuse_if (is_too_large r) (fault.Limit (place_path (codes "router") i))
   within_limits (i + 1) rs
 
--- the domain of those routers
+-- the domain with those routers
 abbrev pub with_limits : List RouterConf → Entries → Result DomainConf ConfFault
 with_limits confs e = do
   _ ← within_limits 0 confs

@@ -119,7 +119,7 @@ digit_of c = if is_between 48 57 c then Some (c - 48) else None
 abbrev pub first_digit_of : ℕ → Option ℕ
 first_digit_of c = if is_between 49 57 c then Some (c - 48) else None
 
--- a further digit
+-- another digit
 abbrev pub then_digit : Option ℕ → ℕ → Option ℕ
 then_digit so_far c = option_and_then (λ n. option_map (λ d. 10 * n + d) (digit_of c)) so_far
 

@@ -31,7 +31,7 @@ same_labels l m = (m.router == l.router) && ((m.sd == l.sd) && same_length l.ran
 abbrev pub takes_label : LabelsEntry → LabelsEntry → Bool
 takes_label l m = (m.router == l.router) && share_label l.range m.range
 
--- A range exceeds neither the last label of 20 bits (RFC 3032, 2.1), nor does it overlap another range of its router.
+-- A range does not exceed the last label of 20 bits (RFC 3032, 2.1), and does not overlap another range of its router.
 abbrev pub new_labels : (List ℕ → List ℕ) → List SubKind → List BierEntry → List LabelsEntry → LabelsEntry → Result LabelsEntry ConfFault
 new_labels at kinds biers earlier l = do
   _ ← refuse_if (not (takes_labels kinds biers l.router l.sd)) (fault.Reference (at (codes "sd")))

@@ -158,7 +158,7 @@ pub fn system_octets(text: &[u8]) -> Option<[u8; 6]>
     ])
 }
 
-/// Returns whether the text has 17 octets, with a colon after every second one of the first 15.
+/// Returns whether the text has 17 octets, with a colon at the indices 2, 5, 8, 11 and 14.
 fn has_colons(text: &[u8]) -> bool
     ensures { result ≡ forms.is_parted 17 58 (2 ∷ 5 ∷ 8 ∷ 11 ∷ 14 ∷ []) text.now }
 {

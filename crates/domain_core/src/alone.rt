@@ -104,7 +104,8 @@ impl Network {
         self.send_on_link(from, link, to)
     }
 
-    /// Returns whether nothing is due at a router on an interface, the usual case. If so, a send there has no effect.
+    /// Returns true only if nothing is due at a router on an interface, the usual case. A send there then has no
+    /// effect.
     pub(crate) fn owes_nothing(&self, from: u16, link: u16) -> bool
         requires truth { IsTrueNetwork (state_of self.now) }
         requires place { from < length self.now.routers.items }

@@ -23,9 +23,9 @@ pub fn frames_do_what_items_do()
         → link_between w.domain.routers a b ≡ Some link → slice_get (queue_at w.flights a link) i ≡ Some (ControlItem p) → is_up c back ≡ true
         → (next : Control) (e : Effects) → ◌≡◌ {A = Next} (record { control = next; effects = e }) (on_frame c back (frame_over w.domain.routers a link (ControlItem p)))
         → IsFlooded w.domain.routers b back c (on_pdu c back p) next e }
-    // A copy of a packet is forwarded, or sent on in its tunnel: it is delivered, copied on and dropped, each copy is
-    // parsed from its frame again, and its BIFT-id selects its triple at the router that it is for (RFC 8279, 6.5; RFC
-    // 8296, 3).
+    // A copy of a packet is forwarded, or sent on in its tunnel: it is delivered, replicated and dropped, each copy is
+    // parsed from its frame again, and its BIFT-id selects its triple at the router that it is for (RFC 8279, 6.5;
+    // RFC 8296, 3).
     ensures packet { (w : WorldState) (a b link back i : ℕ) (c : Control) (x : DataItem) → IsTruthful w → slice_get w.routers b ≡ Some c
         → link_between w.domain.routers a b ≡ Some link → slice_get (queue_at w.flights a link) i ≡ Some (PacketItem x) → is_up c back ≡ true
         → (next : Control) (e : Effects) → ◌≡◌ {A = Next} (record { control = next; effects = e }) (on_frame c back (frame_over w.domain.routers a link (PacketItem x)))

@@ -11,8 +11,7 @@ use router_core::Router;
 use std::alloc::Global;
 use wire_base::{Domain, M, RouterConf};
 
-/// A running domain: its routers by index, the frames in flight, how many injections were made, and how many events
-/// occurred.
+/// A running domain: its routers by index, the frames in flight, and the numbers of injections and events so far.
 #[derive(Drop)]
 pub(crate) struct Network {
     pub(crate) domain: Domain,

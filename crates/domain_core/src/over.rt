@@ -50,7 +50,7 @@ impl Network {
         self.take_fault_over(from, link, i)
     }
 
-    /// Executes and counts the event that a router sends on the interface `link` toward another, if it is allowed.
+    /// Executes and counts the event in which a router sends on the interface `link` toward another, if it is allowed.
     pub(crate) fn step_send(
         &mut self,
         from: u16,
@@ -80,8 +80,8 @@ impl Network {
         Ok(Some(out))
     }
 
-    /// Executes and counts the event that the frame at an index is delivered, which was sent on the interface `link`
-    /// and arrives at the interface `back`, if it is allowed.
+    /// Executes and counts the event that delivers the frame at an index, which was sent on the interface `link` and
+    /// arrives at the interface `back`, if it is allowed.
     pub(crate) fn step_take(
         &mut self,
         from: u16,

@@ -63,8 +63,8 @@ impl World {
     ///
     /// Each BFR-id of a packet that is in flight before the event, or is injected by it, is afterwards in one copy, one
     /// delivery or one drop (RFC 8279, 6.5). While topologies agree, a copy for a BFR-id that is reachable over a path
-    /// that its TTL covers is on a shortest path to the id's owner, and no event drops it except one that loses it (RFC
-    /// 8279, 6.9).
+    /// that its TTL covers is on a shortest path to the id's owner, and no event drops it except one that loses it
+    /// (RFC 8279, 6.9).
     pub fn step(&mut self, event: &Event) -> Result<StepOut, EventFault>
         requires { EventFits (length self.old.world.domain.routers) event.now }
         ensures refused { MatchResult result (λ _. event_fault self.old.world event.now ≡ None) (λ e. Refuses (event_fault self.old.world event.now) e) }

@@ -1,5 +1,5 @@
--- What one router does with what arrives, in terms of items: what it sends over its interfaces, delivers and drops (RFC
--- 8279, 6; RFC 8296, 2 and 3; RFC 2784; ISO/IEC 10589, 7.3.15).
+-- What one router does with what arrives, in terms of items: what it sends over its interfaces, delivers and drops
+-- (RFC 8279, 6; RFC 8296, 2 and 3; RFC 2784; ISO/IEC 10589, 7.3.15).
 --
 -- These definitions follow those of a router on octets, with an item in place of a frame. A router's index is called a,
 -- its configuration r, its topology g, and its node of that topology u.
@@ -59,7 +59,7 @@ abbrev pub packet_lost : ℕ → DataItem → Cause → List ℕ → Made
 packet_lost a x why ks =
     record none_made { drops = record { router = a; injection = Some x.number; cause = why; ids = listed ks } ∷ [] }
 
--- what carries no packet has no injection and no ids
+-- a drop of a frame without a packet has no injection and no ids
 abbrev pub control_lost : ℕ → Cause → DropLine
 control_lost a why = record { router = a; injection = None; cause = why; ids = [] }
 
@@ -162,7 +162,7 @@ packet_taken confs a c x (Some o) = out_of_tunnel confs a c x o
 
 -- ---- injections
 
--- a packet of an injection, before its first hop
+-- a packet of an injection, before it is first forwarded
 abbrev pub entering_item : RouterConf → ℕ → ℕ → ℕ → List ℕ → IngressPacket → DataItem
 entering_item r number ttl entropy payload p =
     record {

@@ -48,7 +48,7 @@ with_happened r e n =
 unfoldable pub goes_on : Run → ℕ × Event → Run
 goes_on r e = with_happened r e (happens r.world e.1)
 
--- the run of a domain over those events
+-- the run of a domain with those events
 unfoldable pub run_of : DomainConf → List (ℕ × Event) → Run
 run_of d es = fold goes_on (first_run d) es
 
@@ -126,7 +126,7 @@ goes_unless p line e (Some refused) = p
 unfoldable pub does : ℕ → Progress → Event → Progress
 does line p e = goes_unless p line e p.refused
 
--- a line: its events; those before one that is rejected were done
+-- a line: its events; if one is rejected, those before it were executed
 unfoldable pub line_done : ℕ → Progress → Line → Progress
 line_done line p l = fold (does line) p (line_events p.run.world l)
 

@@ -131,7 +131,7 @@ doing w (Send a b) = sends w a (slice_get w.routers a) (link_between w.domain.ro
 doing w (Tick a) = changes w a tick (slice_get w.routers a)
 doing w (Restart a) = changes w a restart (slice_get w.routers a)
 
--- one more event has occurred
+-- the count of events, increased by one
 abbrev pub counted : Happened → Happened
 counted n = record n { world = record n.world { events = n.world.events + 1 } }
 

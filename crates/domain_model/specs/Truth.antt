@@ -104,7 +104,7 @@ pub record IsTrueList (confs : List RouterConf) (tlvs : List ℕ) : Type 0 where
   pub few : length rows ≤ most_listed
   pub each : AllByRecursion (IsTrueRow confs) rows
 
--- the source is one of the routers
+-- the source system is one of the routers
 pub record IsSource (confs : List RouterConf) (system : SystemId) : Type 0 where
   pub router : RouterConf
   pub among : IsAmong confs router

@@ -38,7 +38,7 @@ first_telling d = record { world = first_world d; counts = no_counts; frames = w
 abbrev pub uncaptured : Telling → Telling
 uncaptured t = record { world = t.world; counts = t.counts; frames = []; report = t.report; captures = false }
 
--- the records of what an event sent
+-- the capture records of what an event sent
 abbrev pub sent_records : List RouterConf → ℕ → List Sending → List ℕ
 sent_records routers line sendings = flat_map (sending_record routers) (on_line line sendings)
 

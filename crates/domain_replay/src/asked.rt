@@ -13,7 +13,7 @@ fn ids_fit(ids: &[u16])
     }
 }
 
-/// The numbers of an event fit their types.
+/// Proves that the numbers of an event fit their types.
 pub(crate) fn numbers_fit(event: &Event)
     ensures { NumbersFit event.now }
 {

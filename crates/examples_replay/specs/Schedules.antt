@@ -1,4 +1,4 @@
--- Schedules as they are written, and lines of reports.
+-- Schedules as text, and lines of reports.
 use Rattle.std.specs.Prelude.{ℕ, List, [], ◌∷◌, ◌++◌, codes}
 
 -- a line with its LF

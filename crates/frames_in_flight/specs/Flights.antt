@@ -59,7 +59,7 @@ with_frames flights place link queue = slice_set flights place (slice_set (slice
 abbrev pub push_frame : List (List (List Flight)) → ℕ → ℕ → Flight → List (List (List Flight))
 push_frame flights place link f = with_frames flights place link (frames_at flights place link ++ f ∷ [])
 
--- the same of several
+-- the same for several frames
 abbrev pub push_frames : List (List (List Flight)) → ℕ → ℕ → List Flight → List (List (List Flight))
 push_frames flights place link fs = with_frames flights place link (frames_at flights place link ++ fs)
 

@@ -22,7 +22,7 @@ pub(crate) fn sum(count: u64, more: u64) -> M<u64>
     }
 }
 
-/// Returns how many BFR-ids the packet carries in a frame to the router at an index.
+/// Returns how many BFR-ids there are in the packet of a frame to the router at an index.
 fn count_in(confs: &[RouterConf], to: u16, octets: &[u8]) -> u16
     requires few { length confs.now ≤ MOST_ROUTERS }
     requires sound { AllByRecursion IsSound confs.now }

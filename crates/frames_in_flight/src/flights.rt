@@ -215,7 +215,7 @@ impl Queues {
 
 /// All frames in flight. A direction of a link is named by the index of the router that sends there and its interface.
 ///
-/// The number of frames is stored, so that reading it is a constant-time operation.
+/// The number of frames is stored, so that it is not counted on each call.
 #[derive(Drop)]
 pub struct Flights {
     routers: Vec<Queues>,

@@ -116,7 +116,7 @@ fn wire_frames(
 }
 
 /// Sets the note of each frame to the router at the far end instead of the link. Frames that are sent together usually
-/// share their link, so the index that was found last is kept at hand.
+/// share their link, so the index that was found last is kept.
 fn note_peers(confs: &[RouterConf], at: u16, known: Option<(u16, u16)>, frames: &mut FrameList<u16>)
     requires few { length confs.now ≤ MOST_ROUTERS }
     requires known { IfSome known (λ k. k.1 ≡ peer_place confs.now at k.0) }

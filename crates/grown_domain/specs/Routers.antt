@@ -16,7 +16,7 @@ use Rattle.domain_conf.specs.Forms.{system_of, prefix_of}
 use Rattle.domain_conf.specs.Links.{made_mac}
 use Rattle.grown_domain.specs.declared.links.Link.{Link}
 
--- r0, r1 and on
+-- r0, r1, and so on
 abbrev pub name : ℕ → List ℕ
 name i = 114 ∷ decimal i
 
@@ -24,11 +24,11 @@ name i = 114 ∷ decimal i
 abbrev pub system : ℕ → SystemId
 system i = system_of (big_bytes 6 (i + 1))
 
--- 10.0.0.1, 10.0.0.2 and on
+-- 10.0.0.1, 10.0.0.2, and so on
 abbrev pub prefix : ℕ → Ipv4
 prefix i = prefix_of (10 ∷ 0 ∷ 0 ∷ (i + 1) ∷ [])
 
--- the area of a domain file that names none, 49.0001
+-- the area of a domain file that has none, 49.0001
 abbrev pub area : List ℕ
 area = 73 ∷ 0 ∷ 1 ∷ []
 

@@ -1,4 +1,4 @@
--- The schedule for that domain: it settles, router 0 sends to all, and it settles again.
+-- The schedule for that domain: it settles, router 0 injects packets for all routers, and it settles again.
 use Rattle.std.specs.Prelude.{ℕ, ◌+◌, ◌-◌, ◌/◌, ◌==◌, if◌then◌else◌, List, [], ◌∷◌, ◌++◌, map}
 use Rattle.std.specs.List.{range_with_len}
 use Rattle.wire_base.specs.declared.bsl.Bsl.TheVariants.{B256}

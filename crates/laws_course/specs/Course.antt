@@ -185,7 +185,7 @@ pub record IsCarried (r : Run) (e : ℕ × Event) (fs : List (ℕ × Event)) (c 
   pub covered : IsCovered c.conf (control_view c) (own_node c) i k
   pub steady : IsSteady (goes_on r e) i.router (control_view c) n fs
 
--- the run with them
+-- the run extended by that event and those after it
 abbrev pub carried_on : Run → ℕ × Event → List (ℕ × Event) → Run
 carried_on r e fs = fold goes_on (goes_on r e) fs
 

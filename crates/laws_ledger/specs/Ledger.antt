@@ -142,6 +142,6 @@ IsOneOf i n (PacketItem x) = x.number ≡ n → IsCopyOf i x
 abbrev pub AreCopiesOf : Injection → ℕ → List (List (List Item)) → Type 0
 AreCopiesOf i n flights = (a link : ℕ) → AllByRecursion (IsOneOf i n) (queue_at flights a link)
 
--- and so are all deliveries of injection n
+-- and all deliveries of injection n are of that injection
 abbrev pub AreDeliveriesOf : List RouterConf → Injection → ℕ → List GotLine → Type 0
 AreDeliveriesOf confs i n gots = AllByRecursion (λ g. g.injection ≡ n → IsDeliveryOf confs i g) gots

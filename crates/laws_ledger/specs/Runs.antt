@@ -31,7 +31,7 @@ named_in (Some i) = length (distinct i.ids)
 abbrev pub named_total : Run → ℕ
 named_total r = sum_by (λ (e : ℕ × Event). named_in (injection_of e.1)) r.events
 
--- how many its drops list
+-- how many BFR-ids its drops list
 abbrev pub dropped_total : Run → ℕ
 dropped_total r = sum_by (λ d. length d.1.ids) r.drops
 
@@ -53,7 +53,7 @@ pub record IsDeliveryIn (r : Run) (g : GotLine) : Type 0 where
   pub there : injected r g.injection ≡ Some injection
   pub is : IsDeliveryOf r.world.domain.routers injection g
 
--- ---- the balance
+-- ---- the accounts
 
 -- The injections are those among the events. The ledger of an injection and a BFR-id is 1 if the injection names it,
 -- and otherwise 0. Each copy in flight and each delivery is one of an injection. All BFR-ids that are named were

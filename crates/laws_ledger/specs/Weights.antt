@@ -1,4 +1,4 @@
--- How far copies can still go: each receipt of a copy lowers the weight of the copies of its injection.
+-- How far copies can still go: each `take` of a copy lowers the weight of the copies of its injection.
 use Rattle.std.specs.Prelude.{ℕ, ◌+◌, ◌*◌, ◌==◌, Bool, false, List, [], ◌∷◌, length, slice_get, Option, Some, None, if◌then◌else◌}
 use Rattle.wire_base.specs.model.Hop.{distinct, one_if}
 use Rattle.wire_base.specs.model.Item.{Item, ControlItem, PacketItem, DataItem, Outer}
@@ -46,12 +46,12 @@ abbrev pub is_one_of : ℕ → Option Item → Bool
 is_one_of n None = false
 is_one_of n (Some x) = is_of n x
 
--- whether an event delivers a copy of injection n
+-- whether an event is a `take` of a copy of injection n
 abbrev pub takes_copy : WorldState → ℕ → Event → Bool
 takes_copy w n (Take a b i) = is_one_of n (slice_get (frames_between w a b) i)
 takes_copy w n e = false
 
--- how many events of a list do
+-- how many events of a list are
 abbrev pub takes_in : ℕ → WorldState → List Event → ℕ
 takes_in n w [] = 0
 takes_in n w (e ∷ es) = one_if (takes_copy w n e) + takes_in n (happens w e).world es

@@ -1,5 +1,5 @@
 //! The ledger of a domain. At every moment of every run, each BFR-id that an injection names is in one copy in flight,
-//! one delivery at a router that owns it, or one drop. Each receipt of a copy lowers a bound on how far the copies of
+//! one delivery at a router that owns it, or one drop. Each `take` of a copy lowers a bound on how far the copies of
 //! its injection can still go. This crate has definitions and laws only, and no code that runs.
 #![tactic(auto)]
 

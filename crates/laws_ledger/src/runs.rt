@@ -9,8 +9,8 @@ ghost use Rattle.domain_model.specs.Truth.{IsTruthful, EventFits};
 ghost use Rattle.laws_ledger.specs.Ledger.{deliveries};
 ghost use Rattle.laws_ledger.specs.Runs.{AreAllowed, unlined, IsAccounted, delivered_at, DeliversNamed};
 
-/// The ledger of a valid domain balances when the domain starts, and each event that is allowed preserves this. So it
-/// balances in every run: while LSDBs disagree, with tunnels, restarts, duplicated PDUs, and BFR-ids that several
+/// The accounts of a valid domain balance when the domain starts, and each event that is allowed preserves this. So
+/// they balance in every run: while LSDBs disagree, with tunnels, restarts, duplicated PDUs, and BFR-ids that several
 /// routers have.
 pub fn runs_are_accounted()
     ensures start { (d : DomainConf) → IsValid d → IsAccounted (first_run d) }
@@ -18,7 +18,7 @@ pub fn runs_are_accounted()
     ensures whole { (d : DomainConf) (es : List (ℕ × Event)) → IsValid d → AreAllowed (first_world d) (unlined es) → IsAccounted (run_of d es) }
 {}
 
-/// If the ledger balances, no egress delivers an injection twice, no BFR-id of it is delivered twice, even if several
+/// If the accounts balance, no egress delivers an injection twice, no BFR-id of it is delivered twice, even if several
 /// routers have it, and no router delivers a BFR-id that the injection does not name.
 pub fn each_egress_delivers_once()
     ensures egress { (r : Run) (a n : ℕ) → IsAccounted r → delivered_at a n r ≤ 1 }

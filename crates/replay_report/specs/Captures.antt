@@ -7,7 +7,7 @@ use Rattle.domain_model.specs.declared.step_out.WireFrame.{WireFrame}
 use Rattle.domain_model.specs.Moves.{Sending}
 use Rattle.frames_in_flight.specs.Framed.{frame_over}
 
--- The timestamp of a frame's record is the line of its event, in seconds, with no microseconds.
+-- The timestamp of a frame's record, in seconds, is the line number of its event, with no microseconds.
 unfoldable pub frame_record : ℕ → List ℕ → List ℕ
 frame_record line octets = written_record line 0 octets
 

@@ -29,8 +29,8 @@ fn push_each(out: &mut Octets, line: u32, frames: &WireFrames) -> M<()>
     Ok(())
 }
 
-/// Appends a record of each frame, in order. The timestamp of a record is the line of the event that sent the frame, in
-/// seconds. If an allocation fails, nothing is appended.
+/// Appends a record of each frame, in order. The timestamp of a record, in seconds, is the line number of the event
+/// that sent the frame. If an allocation fails, nothing is appended.
 pub fn push_frames(out: &mut Octets, line: u32, frames: &WireFrames) -> M<()>
     requires { AreShort frames.now }
     ensures ok { OnOk result (out.new ≡ out.old ++ flat_map (wire_record line) frames.now) }

@@ -132,9 +132,9 @@ fn done_line(alloc: Global, lines: u64, counts: &Counts, flight: u64) -> M<Octet
     Ok(text)
 }
 
-/// Appends the last line of a report on a schedule with that many lines, all of which were done: `done lines L injected
-/// I named N got G dropped D flight F`, with the counts of the run and the number of BFR-ids that are in flight. If an
-/// allocation fails, nothing is appended.
+/// Appends the last line of a report on a schedule with that many lines, all of which were done:
+/// `done lines L injected I named N got G dropped D flight F`, with the counts of the run and the number of BFR-ids
+/// that are in flight. If an allocation fails, nothing is appended.
 pub fn push_done(alloc: Global, out: &mut Octets, lines: u64, counts: &Counts, flight: u64) -> M<()>
     ensures ok { OnOk result (out.new ≡ out.old ++ spec.done_text lines counts.now flight) }
     ensures err { OnErr result (out.new ≡ out.old) }

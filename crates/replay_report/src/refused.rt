@@ -118,8 +118,8 @@ fn event_line(alloc: Global, line: u64, why: EventFault) -> M<Octets>
     Ok(text)
 }
 
-/// Appends the line for an event that is not allowed: `refused LINE event N NAME`, with the reason's values, such as `5
-/// NoFrame 5 3` or `7 Edge 3 SiLarge 65535`. If `why` is out of memory, that is returned. In this case, and if an
+/// Appends the line for an event that is not allowed: `refused LINE event N NAME`, with the reason's values, such as
+/// `5 NoFrame 5 3` or `7 Edge 3 SiLarge 65535`. If `why` is out of memory, that is returned. In this case, and if an
 /// allocation fails, nothing is appended.
 pub fn push_event_refused(alloc: Global, out: &mut Octets, line: u64, why: EventFault) -> M<()>
     ensures known { OnOk result (why ≢ events.Memory) }

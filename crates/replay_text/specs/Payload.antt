@@ -4,7 +4,7 @@ use Rattle.std.specs.List.{flat_map}
 use Rattle.replay_text.specs.Arguments.{payload_of}
 use Rattle.wire_base.specs.declared.limits.TheConstants.{MOST_PAYLOAD}
 
--- an octet as two hexadecimal digits, with lower-case letters
+-- an octet as two lower-case hexadecimal digits
 abbrev pub digits_of : ℕ → List ℕ
 digits_of octet = slice_index (codes "0123456789abcdef") (octet / 16) ∷ slice_index (codes "0123456789abcdef") (octet % 16) ∷ []
 

@@ -44,7 +44,7 @@ pub enum Event {
         from: u16,
         to: u16,
     },
-    /// The first router sends what is due toward the second.
+    /// The first router sends what is due on its interface toward the second.
     Send {
         from: u16,
         to: u16,

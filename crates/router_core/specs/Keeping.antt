@@ -8,7 +8,7 @@ use Rattle.view_graph.specs.Keep.{IsUnchanged, said_in}
 use Rattle.bier_forward.specs.Kept.{AreRoutes}
 use Rattle.router_core.specs.declared.kept.Kept.{Kept}
 
--- Each system advertises still what it did when the topology was renewed, except the router itself and those that are
+-- Each system still advertises what it did when the topology was renewed, except the router itself and those that are
 -- noted. All that is cached with the topology belongs to it. If nothing has changed since, the topology is that of the
 -- control state.
 pub record IsKept (c : Control) (k : Kept) : Type 0 where
@@ -18,12 +18,12 @@ pub record IsKept (c : Control) (k : Kept) : Type 0 where
   pub current : k.is_current ≡ true → k.view.nodes ≡ control_view c
   pub routes : AreRoutes c.conf k.view.nodes k.routes
 
--- what is cached, if anything is, meets this
+-- `IsKept`, if anything is cached
 abbrev pub MayKeep : Control → Option Kept → Type 0
 MayKeep c None = Unit {0}
 MayKeep c (Some k) = IsKept c k
 
--- what is cached meets this, and its topology is that of the control state
+-- `IsKept`, and the topology is that of the control state
 pub record IsCurrent (c : Control) (k : Kept) : Type 0 where
   pub kept : IsKept c k
   pub view : k.view.nodes ≡ control_view c

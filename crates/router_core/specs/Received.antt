@@ -21,7 +21,7 @@ HasRoom (PsnpPdu source tlvs) = length tlvs ≤ 1497
 HasRoom HelloPdu = Unit {0}
 HasRoom (OtherPdu number) = Unit {0}
 
--- a drop that concerns no bit positions
+-- a drop that has no bit positions
 abbrev pub full_drop : Cause → Drop
 full_drop why = record { cause = why; set = None }
 

@@ -52,7 +52,7 @@ entries_issued (Some e) entries = put_entry e entries
 
 -- ---- entries that do not fit
 
--- live, unknown to the LSDB, and not yet among what the list made it wait for
+-- live, unknown to the LSDB, and not among the entries that the list already made it wait for
 abbrev pub is_wanted : List Entry → List LspId → Summary → Bool
 is_wanted entries added s = is_live_summary s && (is_new entries s.id && not (list_any (λ id. same_id id s.id) added))
 

@@ -152,7 +152,7 @@ impl Router {
 
     /// Returns whether [`Router::send`] may have anything to send on a link. If it returns false, `send` would send
     /// nothing and leave the router unchanged. It reads no LSDB entry and no row of flags, so that an idle router, the
-    /// usual case, costs almost nothing.
+    /// usual case, can be skipped at once.
     pub fn may_owe(&self, link: u16) -> bool
         ensures { result ≡ false → send self.now.control link ≡ record { control = self.now.control; sent = []; drops = [] } }
     {

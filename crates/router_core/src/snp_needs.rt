@@ -72,7 +72,7 @@ fn any_at_odds(store: &Store, id: &LspId, rows: &[Summary]) -> bool
     rows.iter().any(|s| is_at_odds(store, id, s))
 }
 
-/// Returns the sequence number after which a list requires the own LSP to be originated again.
+/// Returns the sequence number after which a list requires the own LSP to be originated again, if it requires that.
 fn past_asked(store: &Store, own: &LspId, rows: &[Summary], spent: bool) -> Option<u32>
     ensures { result ≡ past_asked spent store.now.entries own.now rows.now }
 {

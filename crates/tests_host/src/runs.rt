@@ -90,7 +90,7 @@ const RUNS: &[Run] = &[
 ];
 
 /// Returns how a run ends on files that are written for it. The report's writer receives exactly the report, and a
-/// flush.
+/// finish.
 fn ended(rt: &HostRuntime, run: &Run) -> Result<Status, Fail> {
     fs::write(rt, "run.conf", run.conf)?;
     fs::write(rt, "run.input", run.input)?;

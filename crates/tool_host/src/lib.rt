@@ -2,8 +2,8 @@
 //! sinks, the arguments, and the exit status.
 //!
 //! It promises that each object is the file at its own path, that octets are neither invented nor lost, that an I/O
-//! error is counted where the file's call failed, and that the status is the exit number. For `SystemFiles` only memory
-//! safety is proved: no contract states what the system's files contain, and at which paths.
+//! error is counted where the file's call failed, and that the status is the exit number. For `SystemFiles` only safety
+//! is proved: no contract states what the system's files contain, and at which paths.
 #![tactic(auto)]
 
 mod counts;

@@ -94,7 +94,7 @@ impl Node {
         }
     }
 
-    /// Sends frames at a time.
+    /// Adds frames to the capture, as sent at a given time.
     #[tactic(auto, unfolding(crate::specs::NodeRun::goes_out))]
     fn go_out(&mut self, sec: u32, usec: u32, sent: &SentFrames) -> M<()>
         ensures { OnOk result (self.new ≡ run.goes_out sec usec sent.now self.old) }
@@ -143,7 +143,7 @@ impl Node {
         Ok(())
     }
 
-    /// Lets the seconds after one pass, up to another.
+    /// Lets the seconds that follow a given one pass, up to another.
     #[tactic(auto, unfolding(crate::specs::NodeRun::seconds_pass))]
     fn pass_seconds(&mut self, from: u32, to: u32) -> M<()>
         ensures { OnOk result (self.new ≡ run.seconds_pass (to - from) from self.old) }

@@ -19,7 +19,7 @@ use router_core::{DropNote, Effects, Got, Packet, SentFrames};
 use std::alloc::Global;
 use wire_base::{M, Memory, Octets, Rows, Status, Triple};
 
-/// The most octets of a frame in a record of a capture.
+/// The greatest number of octets of a frame in a record of a capture.
 const MOST_RECORDED: usize = 65_535;
 
 /// Appends the record of a frame. A frame that does not fit a record is reported as out of memory, and a router sends
@@ -44,7 +44,7 @@ pub fn push_frames(out: &mut Octets, sec: u32, usec: u32, sent: &SentFrames) -> 
     Ok(())
 }
 
-/// Appends the number of a record, and what is reported of it.
+/// Appends the number of a record, and the keyword of what is reported of it.
 fn push_front(out: &mut Octets, number: u64, what: &[u8]) -> M<()>
     ensures { OnOk result (out.new ≡ out.old ++ (decimal number ++ what.now)) }
 {
