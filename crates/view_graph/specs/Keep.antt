@@ -9,7 +9,7 @@ use Rattle.wire_base.specs.model.Control.{same_system}
 use Rattle.wire_base.specs.model.View.{Claim, claim_of, is_other, with_known, nodes_of}
 use Rattle.view_graph.specs.Edges.{AreInOrder}
 
--- How contracts model a kept view: the view, its router's system ID and kinds of sub-domains, and what each other system advertises.
+-- How contracts model a kept view: the view, its router's system ID and kinds of sub-domains, and each other system's claim.
 pub record Keep : Type 0 where
   pub nodes : List ViewNode
   pub system : SystemId
