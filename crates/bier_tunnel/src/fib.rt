@@ -79,9 +79,9 @@ impl Fib {
         self.prefix_to(target, sd)
     }
 
-    /// Returns what the router with the BFR-prefix `own` does with a tunnel packet. The first of these that applies: the tunnel ends
-    /// here; the TTL expires, if it is at most 1; there is no route, if no path leads to another router with the destination's
-    /// prefix; or the packet is forwarded with a TTL one lower.
+    /// Returns what the router with the BFR-prefix `own` does with a tunnel packet. The first of these that applies: the tunnel
+    /// ends here; the TTL expires, if it is at most 1; there is no route, if no path leads to another router with the
+    /// destination's prefix; or the packet is forwarded with a TTL one lower.
     pub fn transit(&self, own: Ipv4, t: &Tunnel) -> Next
         ensures kept { result ≡ next_of own t.now (link_with self.now t.now.dst) }
         ensures next { (r : RouterConf) (g : List ViewNode) (u : ℕ) → AreWays r g u self.now
