@@ -16,8 +16,9 @@ pub record Keep : Type 0 where
   pub kinds : List SubKind
   pub others : List Claim
 
--- What the other systems with a live fragment 0 advertise in an LSDB, in the order of the systems: whether the overload bit is set,
--- their links before both sides are compared, and their memberships of sub-domains before prefixes of two systems are compared.
+-- What the other systems with a live fragment 0 advertise in an LSDB, in the order of the systems: whether the overload bit
+-- is set, their links before both sides are compared, and their memberships of sub-domains before prefixes of two systems are
+-- compared.
 unfoldable pub heard : SystemId → List SubKind → List Entry → List Claim
 heard system kinds entries = map (with_known kinds) (map (claim_of entries) (filter (is_other system) entries))
 
