@@ -38,8 +38,8 @@ impl Model for Fib {
 }
 
 impl Fib {
-    /// Builds the routes from the node `u`, which must be the node of the configuration `conf`. Each route uses the first step of a
-    /// shortest path. If there are several, it uses the step to the router with the least system ID.
+    /// Builds the routes from the node `u`, which must be the node of the configuration `conf`. Each route uses the first step
+    /// of a shortest path. If there are several, it uses the step to the router with the least system ID.
     pub fn build(alloc: Global, v: &View, conf: &RouterConf, u: u16) -> M<Fib>
         requires ends { length conf.now.ends ≤ 65536 }
         requires node { u < length v.now.nodes }
