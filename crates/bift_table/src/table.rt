@@ -50,9 +50,9 @@ pub struct Row<'t, const W: usize> {
 }
 
 impl<const W: usize> Table<W> {
-    /// Builds the table of an entropy class, below 16. Each position leads to the router at index `class` modulo the size of the
-    /// position's list; it has no entry if the list is empty (RFC 8279, 6.7). `rows` must have 64 W lists. Errors with Memory if an
-    /// allocation fails.
+    /// Builds the table of an entropy class, below 16. Each position leads to the router at index `class` modulo the size of
+    /// the position's list; it has no entry if the list is empty (RFC 8279, 6.7). `rows` must have 64 W lists. Errors with
+    /// Memory if an allocation fails.
     pub fn build(alloc: Global, rows: &RowSet, class: u8) -> M<Self>
         requires width { IsTrue (is_width W) }
         requires lists { length rows.now.bits ≡ 64 * W }
