@@ -57,7 +57,8 @@ pub record IsReadable (t : Triple) (h : Header) : Type 0 where
 
 -- ---- the hop
 
--- Each edge of the router's own node in a view leads to the peer of one of its interfaces. A view of its own control state has this.
+-- Each edge of the router's own node in a view leads to the peer of one of its interfaces. This holds for the view of its own
+-- control state.
 abbrev pub LeadsToEnds : RouterConf → List ViewNode → Type 0
 LeadsToEnds r g = AllByRecursion (λ e. is_some (link_to r g e.to) ≡ true) (edges_of g (node_place g r.system))
 
