@@ -80,7 +80,7 @@ reach_at octets = do
 
 -- ---- an entry of TLV 135: a reachable prefix (RFC 5305, 4)
 
--- The octets are four, 0 after those of the prefix.
+-- The prefix is stored in four octets, 0 after those of the prefix length.
 pub record Prefix : Type 0 where
   pub metric : ℕ
   pub control : ℕ
