@@ -76,7 +76,7 @@ pub(crate) fn hop_onto(
     hop_counted::<Brand>(conf, view, routes, packet, ttl, Blank::new(1), effects)
 }
 
-/// The same, with a ledger for the steps over the table, which nobody reads.
+/// The same, with a ledger for the steps over the table, whose count is not used.
 fn hop_counted<L: Ledger>(
     conf: &RouterConf,
     view: &View,
