@@ -30,7 +30,7 @@ members_of w words = filter (λ p. has_place words (p - 1)) (up_to (64 * w))
 abbrev pub places_in : List ℕ → List ℕ
 places_in words = members_of (length words) words
 
--- each is a word of 64 bits
+-- each is a 64-bit word
 abbrev pub AreWords : List ℕ → Type 0
 AreWords words = (k : ℕ) → slice_index words k < 2 ^ 64
 

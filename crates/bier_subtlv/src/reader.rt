@@ -132,7 +132,7 @@ pub fn read_info(value: &[u8]) -> Result<Info, InfoFault>
     // What is in the grammar is parsed.
     ensures only { (i : InfoItem) → IsInfo value.now i → Gives info_of result (Ok i) }
     ensures fits { IfOk result (λ i. InfoFits (info_of i)) }
-    // Which of these it is.
+    // The exact result.
     ensures exact { Gives info_of result (info_at value.now) }
 {
     whole_info(value)

@@ -38,8 +38,8 @@ impl Model for Fib {
 }
 
 impl Fib {
-    /// Builds the routes from the node `u`, which must be the node of the configuration `conf`. Each route uses the first step of a
-    /// shortest path. If there are several, it uses the step to the router with the least system ID.
+    /// Builds the routes from the node `u`, which must be the node of the configuration `conf`. Each route uses the first step
+    /// of a shortest path. If there are several, it uses the step to the router with the least system ID.
     pub fn build(alloc: Global, v: &View, conf: &RouterConf, u: u16) -> M<Fib>
         requires ends { length conf.now.ends ≤ 65536 }
         requires node { u < length v.now.nodes }
@@ -79,9 +79,9 @@ impl Fib {
         self.prefix_to(target, sd)
     }
 
-    /// Returns what the router with the BFR-prefix `own` does with a tunnel packet. The first of these that applies: the tunnel ends
-    /// here; the TTL expires, if it is at most 1; there is no route, if no path leads to another router with the destination's
-    /// prefix; or the packet is forwarded with a TTL one lower.
+    /// Returns what the router with the BFR-prefix `own` does with a tunnel packet. The first of these that applies: the tunnel
+    /// ends here; the TTL expires, if it is at most 1; there is no route, if no path leads to another router with the
+    /// destination's prefix; or the packet is forwarded with a TTL one lower.
     pub fn transit(&self, own: Ipv4, t: &Tunnel) -> Next
         ensures kept { result ≡ next_of own t.now (link_with self.now t.now.dst) }
         ensures next { (r : RouterConf) (g : List ViewNode) (u : ℕ) → AreWays r g u self.now

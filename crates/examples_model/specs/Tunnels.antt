@@ -29,7 +29,7 @@ abbrev pub of_22_octets : List ℕ
 of_22_octets =
     69 ∷ 0 ∷ 0 ∷ 22 ∷ 0 ∷ 0 ∷ 64 ∷ 0 ∷ 255 ∷ 47 ∷ 103 ∷ 181 ∷ 10 ∷ 0 ∷ 0 ∷ 1 ∷ 10 ∷ 0 ∷ 0 ∷ 3 ∷ []
 
--- shorter than itself
+-- with a total length below the header's
 abbrev pub of_19_octets : List ℕ
 of_19_octets =
     69 ∷ 0 ∷ 0 ∷ 19 ∷ 0 ∷ 0 ∷ 64 ∷ 0 ∷ 255 ∷ 47 ∷ 103 ∷ 184 ∷ 10 ∷ 0 ∷ 0 ∷ 1 ∷ 10 ∷ 0 ∷ 0 ∷ 3 ∷ []
@@ -52,6 +52,6 @@ inside =
 abbrev pub whole : List ℕ
 whole = plain ++ (gre_mpls ++ inside)
 
--- what it is
+-- its tunnel packet
 abbrev pub packet : TunnelPacket
 packet = record { src = address 1; dst = address 3; ttl = 255; inner = Mpls; carried = inside }

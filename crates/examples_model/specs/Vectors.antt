@@ -22,7 +22,7 @@ pair_a_lsp =
     ∷ 85 ∷ 78 ∷ 3
     ∷ pair_a_content
 
--- A's first CSNP: it covers all identifiers and lists that LSP
+-- A's first CSNP: it covers all LSP IDs and lists that LSP
 abbrev pub pair_a_csnp : List ℕ
 pair_a_csnp =
     131 ∷ 33 ∷ 1 ∷ 0 ∷ 25 ∷ 1 ∷ 0 ∷ 0
@@ -33,7 +33,7 @@ pair_a_csnp =
     ∷ 9 ∷ 16 ∷ 4 ∷ 176 ∷ 0 ∷ 0 ∷ 0 ∷ 0 ∷ 0 ∷ 1 ∷ 0 ∷ 0 ∷ 0 ∷ 0 ∷ 0 ∷ 1 ∷ 85 ∷ 78
     ∷ []
 
--- B's acknowledgement of it, five seconds after it came
+-- B's acknowledgement of it, five seconds after its receipt
 abbrev pub pair_b_psnp : List ℕ
 pair_b_psnp =
     131 ∷ 17 ∷ 1 ∷ 0 ∷ 27 ∷ 1 ∷ 0 ∷ 0 ∷ 0 ∷ 35 ∷ 0 ∷ 0 ∷ 0 ∷ 0 ∷ 0 ∷ 2

@@ -14,7 +14,7 @@ pub fn one_packet_for_each_set()
     ensures { packets_for 0 B256 (257 ∷ 256 ∷ 257 ∷ []) ≡ record { triple = record { sd = 0; bsl = B256; si = 0 }; ids = 256 ∷ [] } ∷ record { triple = record { sd = 0; bsl = B256; si = 1 }; ids = 257 ∷ [] } ∷ [] }
 {}
 
-/// The first reason for which nothing enters.
+/// The first reason for which no packet enters.
 #[tactic(auto, unfolding(wire_base::specs::model::Ingress::edge_fault))]
 pub fn why_nothing_enters()
     ensures empty { edge_fault ring_a 0 B64 [] ≡ Some NoEgress }

@@ -13,7 +13,7 @@ pub fn pair_first_lsp_content()
     ensures up { own_content pair_a (true ∷ []) ≡ pair_a_content }
 {}
 
-/// The octets of A's first LSP, its checksum among them.
+/// The octets of A's first LSP, including its checksum.
 #[tactic(auto, unfolding(wire_base::specs::model::OwnLsp::own_content, wire_base::specs::model::OwnLsp::own_lsp, wire_base::specs::model::Checksum::check_sum))]
 pub fn pair_first_lsp()
     ensures { pdu Two (lsp_of (own_lsp pair_a (true ∷ []) 1)) ≡ pair_a_lsp }

@@ -15,7 +15,7 @@ pub fn tunnels_are_read()
     ensures grammar { IsTunnel (whole ++ 7 ∷ 7 ∷ []) packet }
 {}
 
-/// The first rule that octets break.
+/// The first rule that invalid octets break.
 #[tactic(auto, unfolding(wire_base::specs::model::Tunnel::tunnel_at))]
 pub fn what_is_no_tunnel()
     ensures short { tunnel_at (take 19 whole) ≡ Err Short }

@@ -18,14 +18,14 @@ noted_anew [] i note = []
 noted_anew (f ∷ frames) zero note = noted_as note f ∷ frames
 noted_anew (f ∷ frames) (suc i) note = f ∷ noted_anew frames i note
 
--- the frame that a span cuts out
+-- the frame in the range of a span
 abbrev pub cut_out : {N : Type 0} → List ℕ → Span N → Noted N
 cut_out octets s = record { note = s.note; octets = take (s.end - s.start) (drop s.start octets) }
 
 abbrev pub frames_in : {N : Type 0} → List ℕ → List (Span N) → List (Noted N)
 frames_in octets spans = map (cut_out octets) spans
 
--- a span's octets are there
+-- a span is within the octets
 pub record IsWithin {N : Type 0} (octets : List ℕ) (s : Span N) : Type 0 where
   pub ordered : s.start ≤ s.end
   pub there : s.end ≤ length octets

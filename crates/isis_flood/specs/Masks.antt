@@ -49,7 +49,7 @@ joined_rows (id ∷ ids) [] ssn = []
 joined_rows (id ∷ ids) (a ∷ srm) [] = []
 joined_rows (id ∷ ids) (a ∷ srm) (b ∷ ssn) = record { id = id; srm = a; ssn = b } ∷ joined_rows ids srm ssn
 
--- three lists are of one length
+-- three lists have one length
 pub record AreEven (ids : List LspId) (srm ssn : List ℕ) : Type 0 where
   pub sent : length srm ≡ length ids
   pub asked : length ssn ≡ length ids

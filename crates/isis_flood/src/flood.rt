@@ -12,7 +12,7 @@ use std::marker::Model;
 use wire_base::{LspId, M, SystemId};
 
 /// The state of flooding beside the LSDB: which links are up, on which of them a CSNP is due, and for each LSP ID the links with
-/// its SRM flag (the LSP is to be sent) and its SSN flag (it is to be acknowledged or requested). Contracts model it as this state,
+/// its SRM flag (the LSP is to be sent) and its SSN flag (it is to be acknowledged or requested). Contracts model it as this state
 /// and the number of further LSP IDs for which memory is already allocated (ISO/IEC 10589, 7.3.15).
 #[derive(Drop)]
 pub struct Flood {

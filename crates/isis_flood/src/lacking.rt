@@ -96,7 +96,7 @@ impl Flood {
         self.on_csnp_listed(store, link, &start, &last, rows.as_slice(), spent)
     }
 
-    /// The same, given the LSP entries.
+    /// Like `on_csnp`, given the LSP entries.
     pub fn on_csnp_listed(
         &mut self,
         store: &mut Store,

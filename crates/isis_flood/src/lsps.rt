@@ -228,8 +228,9 @@ impl Flood {
 
     /// Processes an LSP that was received on a link. `spent` means that the router originates no LSP of its own.
     ///
-    /// Returns what the router must do in addition: originate its own LSP again, acknowledge this one at once, or drop it, because
-    /// the LSDB is full or its sequence number is 0 (ISO/IEC 10589, 7.3.15.1 and 7.3.16). If an allocation fails, nothing has changed.
+    /// Returns what the router must do in addition: originate its own LSP again, acknowledge this one at once, or drop it,
+    /// because the LSDB is full or its sequence number is 0 (ISO/IEC 10589, 7.3.15.1 and 7.3.16). If an allocation fails,
+    /// nothing has changed.
     pub fn on_lsp(
         &mut self,
         store: &mut Store,

@@ -189,9 +189,9 @@ impl Flood {
         }
     }
 
-    /// Processes a PSNP that was received on a link, given the octets of its TLVs. Returns the sequence number past which the router
-    /// must originate its own LSP, if a listed one was in LSP confusion with it, and the number of entries for which there was no
-    /// room (ISO/IEC 10589, 7.3.15.2). If an allocation fails, nothing has changed.
+    /// Processes a PSNP that was received on a link, given the octets of its TLVs. Returns the sequence number past which the
+    /// router must originate its own LSP, if a listed one was in LSP confusion with it, and the number of entries for which there
+    /// was no room (ISO/IEC 10589, 7.3.15.2). If an allocation fails, nothing has changed.
     #[tactic(auto, unfolding(wire_base::specs::model::Flooding::on_psnp))]
     pub fn on_psnp(&mut self, store: &mut Store, link: u16, tlvs: &[u8], spent: bool) -> M<SnpOut>
         requires link { link < length self.old.flood.up }
@@ -205,7 +205,7 @@ impl Flood {
         self.on_psnp_listed(store, link, rows.as_slice(), spent)
     }
 
-    /// The same, given the LSP entries.
+    /// Like `on_psnp`, given the LSP entries.
     pub fn on_psnp_listed(
         &mut self,
         store: &mut Store,

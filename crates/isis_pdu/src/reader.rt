@@ -208,7 +208,7 @@ pub fn read_pdu(level: Level, bytes: &[u8]) -> Result<Pdu<'_>, PduFault>
     ensures found { IfOk result (λ p. IsPdu level bytes.now (pdu_of p)) }
     // What is in the grammar is parsed, whatever follows it.
     ensures only { (p : PduItem) → IsPdu level bytes.now p → Gives pdu_of result (Ok p) }
-    // Which of these it is.
+    // The exact result.
     ensures exact { Gives pdu_of result (pdu_at level bytes.now) }
 {
     read_front(level, bytes)

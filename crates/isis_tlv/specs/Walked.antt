@@ -10,7 +10,7 @@ abbrev pub then_walked : {X E : Type 0} → Result (X × List ℕ) E → (List �
 then_walked (Ok x) more = Ok x.0 ∷ more x.1
 then_walked (Err e) more = Err e ∷ []
 
--- Each entry takes an octet or more, so that there are no more than the octets: the number only makes this a recursion.
+-- Each entry has an octet or more, so there are no more entries than octets; the number only bounds the recursion.
 unfoldable pub walked_within : {X E : Type 0} → (List ℕ → Result (X × List ℕ) E) → ℕ → List ℕ → List (Result X E)
 walked_within read zero octets = []
 walked_within read (suc n) [] = []

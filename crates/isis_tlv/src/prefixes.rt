@@ -92,7 +92,7 @@ pub fn read_prefix(bytes: &[u8]) -> Result<(PrefixEntry<'_>, usize), TlvFault>
     // An encoded entry is parsed, whatever follows it.
     ensures only { (p : PrefixItem) (rest : List ℕ) → PrefixFits p → bytes.now ≡ prefix p ++ rest
         → Gives {Y = PrefixItem × List ℕ} (λ x. (prefix_of x.0, drop x.1 bytes.now)) result (Ok (p, rest)) }
-    // Which of these it is.
+    // The exact result.
     ensures exact { Gives (λ x. (prefix_of x.0, drop x.1 bytes.now)) result (prefix_at bytes.now) }
 {
     prefix_sized(bytes)

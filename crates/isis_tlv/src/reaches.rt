@@ -60,7 +60,7 @@ pub fn read_reach(bytes: &[u8]) -> Result<(Reach<'_>, usize), TlvFault>
     ensures only { (r : ReachItem) (rest : List ℕ) → ReachFits r → bytes.now ≡ reach r ++ rest
         → Gives {Y = ReachItem × List ℕ} (λ x. (reach_of x.0, drop x.1 bytes.now)) result (Ok (r, rest)) }
     ensures fault { IfErr result (λ e. e ≡ TlvFault.EntryShort) }
-    // Which of these it is.
+    // The exact result.
     ensures exact { Gives (λ x. (reach_of x.0, drop x.1 bytes.now)) result (reach_at bytes.now) }
 {
     reach_sized(bytes)

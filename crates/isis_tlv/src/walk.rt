@@ -49,7 +49,7 @@ impl<'a> TlvWalk<'a> {
         ensures fault { IfErr result (λ e. e ≡ TlvFault.Overrun) }
         ensures overrun { IsErr result ↔ IsOverrun self.old }
         ensures stays { OnErr result (self.new ≡ self.old) }
-        // Which of these it is.
+        // The exact result.
         ensures exact { Walks self.old result self.new }
     {
         self.step()

@@ -10,7 +10,7 @@ ghost use Rattle.wire_base.specs.declared.triple.Summary.{Summary};
 pub fn tlv_law()
     // An encoded TLV is parsed again, whatever follows it.
     ensures again { (t : Tlv) (rest : List ℕ) → tlv_at (tlv t ++ rest) ≡ Ok (Some (t, rest)) }
-    // A parsed TLV is encoded as it was.
+    // The encoding of a parsed TLV is the octets that it was parsed from.
     ensures read { (octets : List ℕ) (t : Tlv) (rest : List ℕ) → tlv_at octets ≡ Ok (Some (t, rest)) → octets ≡ tlv t ++ rest }
     // TLVs with the same encoding are equal.
     ensures one { (a b : Tlv) → tlv a ≡ tlv b → a ≡ b }
@@ -41,7 +41,7 @@ pub fn row_law()
 pub fn tlvs_law()
     // TLVs that are written one after the other are parsed as those TLVs.
     ensures again { (ts : List Tlv) → tlvs_of (flat_map tlv ts) ≡ Ok ts }
-    // What is parsed to its end is encoded as it was.
+    // Octets that are parsed to their end are the encoding of the resulting TLVs.
     ensures read { (octets : List ℕ) (ts : List Tlv) → tlvs_of octets ≡ Ok ts → octets ≡ flat_map tlv ts }
     // Without an overrun, the TLVs before an overrun are all of them.
     ensures before { (octets : List ℕ) (ts : List Tlv) → tlvs_of octets ≡ Ok ts → tlvs_before octets ≡ ts }

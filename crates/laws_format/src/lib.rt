@@ -1,5 +1,5 @@
-//! Laws of the IS-IS formats: an encoded value is parsed again, a parsed value is encoded as it was, each value has one
-//! encoding, and the checksum is unique. Each function does nothing; its contract is the law.
+//! Laws of the IS-IS formats: an encoded value is parsed again, the encoding of a parsed value is the octets that it was parsed
+//! from, each value has one encoding, and the checksum is unique. Each function does nothing; its contract is the law.
 #![tactic(auto)]
 
 mod checks;

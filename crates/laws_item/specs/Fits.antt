@@ -51,7 +51,7 @@ pub record ItemFits (x : DataItem) : Type 0 where
   pub bfir : x.bfir < 2 ^ 16
   pub ids : IsWithin (x.triple.si * bits_of x.triple.bsl) (x.triple.si * bits_of x.triple.bsl + bits_of x.triple.bsl) x.ids
 
--- the packet that a copy is
+-- the packet of a copy
 abbrev pub packet_of : DataItem → Packet
 packet_of x = record { triple = x.triple; kind = x.kind; header = item_header x; payload = x.payload }
 

@@ -9,7 +9,7 @@ use Rattle.wire_base.specs.declared.faults.PutFault.{PutFault}
 use Rattle.wire_base.specs.declared.faults.PutFault.TheVariants.{Full, Memory}
 use Rattle.wire_base.specs.model.Control.{id_order, same_id, ids_of, entry_in, is_full, aged, after_second}
 
--- how many are below it: the index of the first that isn't
+-- how many are below it: the index of the first that is not
 abbrev pub place_in : List LspId → LspId → ℕ
 place_in [] id = 0
 place_in (x ∷ xs) id = match_ordering (id_order id x) 0 0 (suc (place_in xs id))

@@ -30,12 +30,12 @@ marks xs x = slice_index_or xs x true
 abbrev pub lengths : List (Option ℕ) → ℕ → Option ℕ
 lengths xs x = slice_index_or xs x None
 
--- whether n is below a length, or the first
+-- whether n is below a length, or there is no length yet
 abbrev pub is_shorter : ℕ → Option ℕ → Bool
 is_shorter n None = true
 is_shorter n (Some m) = nat_lt n m
 
--- an edge of the list leads to y, and the length n is over it
+-- an edge of the list leads to y, and the length n is that over this edge
 pub record Over (es : List ViewEdge) (m y n : ℕ) : Type 0 where
   pub edge : ViewEdge
   pub there : Contains es edge

@@ -18,7 +18,7 @@ abbrev pub turned : List ViewNode → ℕ → List (List ViewEdge)
 turned g zero = replicate (length g) []
 turned g (suc k) = fold (put k) (turned g k) (edges_of g k)
 
--- the ways of x lead back over each edge that leads into x
+-- the edges of x lead back over each edge that leads into x
 pub record AreIncoming (g : List ViewNode) (ways : List (List ViewEdge)) : Type 0 where
   pub rows : length ways ≡ length g
   pub each : (x : ℕ) (e : ViewEdge) → x < length g → (Contains (ways_of ways x) e ↔ Contains (edges_of g e.to) (record { to = x; metric = e.metric }))

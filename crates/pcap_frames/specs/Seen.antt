@@ -45,7 +45,7 @@ after_answer (Err faults.LongRecord) before now = now
 abbrev pub IsLasting : CaptureFault → Type 0
 IsLasting fault = (fault ≡ faults.Memory) → ⊥
 
--- the form, and the octets after the header
+-- the format, and the octets after the header
 abbrev pub opened : List ℕ → Option Form → Option (CaptureForm × List ℕ)
 opened octets = option_map (λ form. (form_seen form, drop 24 octets))
 

@@ -49,7 +49,7 @@ stands_at (c ∷ cs) (suc i) s = stands_at cs i s
 abbrev pub metrics_to : List Link → List Claim → List (Option ℕ)
 metrics_to links claims = map (λ c. metric_to links c.system) claims
 
--- the same with one link more
+-- the same with one more link
 abbrev pub counted : Link → List Claim → List (Option ℕ) → List (Option ℕ)
 counted l [] ms = ms
 counted l (c ∷ cs) [] = []

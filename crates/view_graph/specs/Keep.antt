@@ -9,15 +9,16 @@ use Rattle.wire_base.specs.model.Control.{same_system}
 use Rattle.wire_base.specs.model.View.{Claim, claim_of, is_other, with_known, nodes_of}
 use Rattle.view_graph.specs.Edges.{AreInOrder}
 
--- How contracts model a kept view: the view, its router's system ID and kinds of sub-domains, and what each other system advertises.
+-- How contracts model a kept view: the view, its router's system ID and kinds of sub-domains, and each other system's claim.
 pub record Keep : Type 0 where
   pub nodes : List ViewNode
   pub system : SystemId
   pub kinds : List SubKind
   pub others : List Claim
 
--- What the other systems with a live fragment 0 advertise in an LSDB, in the order of the systems: whether the overload bit is set,
--- their links before both sides are compared, and their memberships of sub-domains before prefixes of two systems are compared.
+-- What the other systems with a live fragment 0 advertise in an LSDB, in the order of the systems: whether the overload bit
+-- is set, their links before both sides are compared, and their memberships of sub-domains before prefixes of two systems are
+-- compared.
 unfoldable pub heard : SystemId → List SubKind → List Entry → List Claim
 heard system kinds entries = map (with_known kinds) (map (claim_of entries) (filter (is_other system) entries))
 

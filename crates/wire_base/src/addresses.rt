@@ -4,7 +4,7 @@ ghost use Rattle.std.specs.Prelude.{◌≡◌};
 ghost use Rattle.std.specs.Str.{bytes_eq};
 ghost use Rattle.wire_base.specs.model.Control.{fragment_0};
 
-/// The system identifier of an IS-IS router: six octets (ISO/IEC 10589, 7.1).
+/// The system ID of an IS-IS router: six octets (ISO/IEC 10589, 7.1).
 #[derive(Clone, Copy, Debug, Default, Eq, PartialOrd, Ord)]
 pub struct SystemId(pub [u8; 6]);
 

@@ -76,7 +76,7 @@ impl Octets {
         self.items.len()
     }
 
-    /// Appends one octet.
+    /// Appends one octet. If an allocation fails, the list is unchanged.
     pub fn push(&mut self, octet: u8) -> M<()>
         ensures ok { OnOk result (self.new ≡ self.old ++ octet ∷ []) }
         ensures err { OnErr result (self.new ≡ self.old) }
@@ -85,7 +85,7 @@ impl Octets {
         Ok(())
     }
 
-    /// Appends a slice of octets.
+    /// Appends a slice of octets. If an allocation fails, the list is unchanged.
     pub fn append(&mut self, octets: &[u8]) -> M<()>
         ensures ok { OnOk result (self.new ≡ self.old ++ octets.now) }
         ensures err { OnErr result (self.new ≡ self.old) }

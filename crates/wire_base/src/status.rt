@@ -3,7 +3,7 @@ ghost use Rattle.wire_base.specs.Status.{number_of};
 
 use crate::memory::Memory;
 
-/// How a run of the program ended.
+/// The result of a run of the program.
 #[derive(Clone, Copy, Debug, PartialEq, Eq)]
 pub enum Status {
     /// The input was read to its end, and every line or record was processed.

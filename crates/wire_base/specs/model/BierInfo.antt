@@ -148,7 +148,7 @@ info_at value =
 abbrev pub last_label : LabelRange → ℕ
 last_label r = r.label + r.max_si
 
--- the label is one of the range's
+-- the label belongs to the range
 pub record HasLabel (r : LabelRange) (label : ℕ) : Type 0 where
   pub above : r.label ≤ label
   pub below : label ≤ last_label r

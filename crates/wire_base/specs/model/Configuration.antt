@@ -188,7 +188,7 @@ pub record IsLink (routers : ℕ) (l : LinkConf) : Type 0 where
 abbrev pub same_pair : LinkConf → LinkConf → Bool
 same_pair l m = ((l.a == m.a) && (l.b == m.b)) || ((l.a == m.b) && (l.b == m.a))
 
--- the other end of a link, where one end is at that router
+-- the router at the other side of a link, where one side is that router
 abbrev pub other_end : ℕ → LinkConf → Option ℕ
 other_end i l = if l.a == i then Some l.b else if l.b == i then Some l.a else None
 

@@ -72,7 +72,7 @@ pub record LspAnswer : Type 0 where
   pub entries : List Entry
   pub answer : FloodOut
 
--- nothing is changed
+-- nothing changes
 abbrev pub only_says : Flood → List Entry → FloodOut → LspAnswer
 only_says f entries answer = record { flood = f; entries = entries; answer = answer }
 
@@ -127,7 +127,7 @@ lsp_in f entries link h tlvs spent age =
 unfoldable pub on_lsp : Flood → List Entry → ℕ → Head → List ℕ → Bool → LspAnswer
 on_lsp f entries link h tlvs spent = lsp_in f entries link h tlvs spent (age_of (entry_in entries h.id) (head_summary h))
 
--- ---- a sequence number PDU on a link (ISO/IEC 10589, 7.3.15.2)
+-- ---- a CSNP or PSNP on a link (ISO/IEC 10589, 7.3.15.2)
 
 pub record SnpAnswer : Type 0 where
   pub flood : Flood
@@ -173,7 +173,7 @@ on_listed link spent a s =
 abbrev pub nothing_asked : SnpOut
 nothing_asked = record { reissue = None; full = 0 }
 
--- the entries of a sequence number PDU, in order
+-- the LSP entries of a CSNP or PSNP, in order
 unfoldable pub on_list : Flood → List Entry → ℕ → List Summary → Bool → SnpAnswer
 on_list f entries link rows spent = fold (on_listed link spent) (record { flood = f; entries = entries; answer = nothing_asked }) rows
 
@@ -268,7 +268,7 @@ answer_lsp c out.Zero = record { control = c; sent = []; drops = cause.Sequence 
 abbrev pub lsp_done : Control → LspAnswer → Reply
 lsp_done c a = answer_lsp (record c { flood = a.flood; entries = a.entries }) a.answer
 
--- one drop for each entry that found no room
+-- one drop for each entry for which there was no room
 abbrev pub snp_done : Control → SnpAnswer → Reply
 snp_done c a =
     record {

@@ -31,7 +31,7 @@ overload_at (Some n) = n.overload
 abbrev pub is_overloaded : List ViewNode → ℕ → Bool
 is_overloaded g u = overload_at (slice_get g u)
 
--- the order of system identifiers: the first octet that differs decides
+-- the order of system IDs: the first octet that differs decides
 abbrev pub octets_before : List ℕ → List ℕ → Bool
 octets_before xs [] = false
 octets_before [] (y ∷ ys) = true

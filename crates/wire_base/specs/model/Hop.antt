@@ -14,14 +14,14 @@ pub data Outcome : Type 0 where
 abbrev pub has : List ℕ → ℕ → Bool
 has ids k = list_any (λ j. j == k) ids
 
--- the ids that an outcome is about
+-- the ids of an outcome
 abbrev pub ids_of : Outcome → List ℕ
 ids_of (Local id) = id ∷ []
 ids_of (Copy to ids ttl) = ids
 ids_of (Expired ids) = ids
 ids_of (NoRow ids) = ids
 
--- each element once, in the order in which it first comes
+-- each element once, in the order of first occurrence
 abbrev pub distinct : List ℕ → List ℕ
 distinct [] = []
 distinct (x ∷ xs) = x ∷ filter (λ y. not (y == x)) (distinct xs)

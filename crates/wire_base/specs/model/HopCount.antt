@@ -8,12 +8,12 @@ use Rattle.wire_base.specs.model.Graph.{has_id_at}
 use Rattle.wire_base.specs.model.Tight.{next_step}
 use Rattle.wire_base.specs.model.Choice.{choose}
 
--- how often next is followed from u until a node that passes the test, at most k times
+-- how many times next is followed from u until a node that passes the test, at most k times
 abbrev pub follow : (ℕ → Option ℕ) → (ℕ → Bool) → ℕ → ℕ → Option ℕ
 follow next ends zero u = if ends u then Some 0 else None
 follow next ends (suc k) u = if ends u then Some 0 else option_and_then (λ x. option_map (λ n. n + 1) (follow next ends k x)) (next u)
 
--- how often the choice is followed from u until the owner of k: 0 where u has k itself
+-- how many times the choice is followed from u until the owner of k: 0 where u has k itself
 unfoldable pub hops : List ViewNode → List SubKind → List TableRow → Triple → ℕ → ℕ → ℕ → Option ℕ
 hops g kinds table t class k u = follow (λ x. choose g kinds table t class x k) (has_id_at g t.sd k) (length g) u
 

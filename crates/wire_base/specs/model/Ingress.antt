@@ -50,7 +50,7 @@ packets_for sd bsl ids = map (packet_for sd bsl ids) (sets_of bsl ids)
 abbrev pub is_large : Bsl → ℕ → Bool
 is_large bsl k = nat_lt 255 (set_identifier (bits_of bsl) k)
 
--- whether a router with those ranges in a sub-domain of that kind has a BIFT-id for some set of that length
+-- whether a router with those ranges in a sub-domain of that kind has a BIFT-id for some set of that BSL
 abbrev pub has_length : Option Kind → List TableRow → ℕ → Bsl → Option (List LabelRange) → Bool
 has_length kind table sd bsl None = false
 has_length None table sd bsl (Some ranges) = false
@@ -70,7 +70,7 @@ large_fault r sd bsl None = router_fault r sd bsl
 abbrev pub ids_fault : RouterConf → ℕ → Bsl → List ℕ → Option EdgeFault
 ids_fault r sd bsl ids = if list_any (λ k. k == 0) ids then Some IdZero else large_fault r sd bsl (find (is_large bsl) ids)
 
--- The first reason for which a router makes no packets for a list of BFR-ids.
+-- The first reason for which a router sends no packets to a list of BFR-ids.
 unfoldable pub edge_fault : RouterConf → ℕ → Bsl → List ℕ → Option EdgeFault
 edge_fault r sd bsl [] = Some NoEgress
 edge_fault r sd bsl (k ∷ ks) = ids_fault r sd bsl (k ∷ ks)

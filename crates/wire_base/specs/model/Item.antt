@@ -118,6 +118,6 @@ outer_target routers b (Some o) = router_with 0 routers o.dst
 abbrev pub target_of : List RouterConf → ℕ → DataItem → Option ℕ
 target_of routers b x = outer_target routers b x.outer
 
--- an item that is in no tunnel
+-- an item that is not in a tunnel
 abbrev pub IsDirect : DataItem → Type 0
 IsDirect x = x.outer ≡ None

@@ -18,6 +18,6 @@ blocks_within zero n xs = []
 blocks_within (suc more) n [] = []
 blocks_within (suc more) n (x ∷ xs) = take n (x ∷ xs) ∷ blocks_within more n (drop n (x ∷ xs))
 
--- the list cut into blocks of n, above 0, of which the last may be shorter
+-- the list split into blocks of n, above 0; the last block may be shorter
 abbrev pub blocks : {X : Type 0} → ℕ → List X → List (List X)
 blocks n xs = blocks_within (length xs) n xs

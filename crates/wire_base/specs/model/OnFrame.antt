@@ -175,7 +175,7 @@ outer_ttl = 255
 abbrev pub tunnel_for : RouterConf → Packet → List ℕ → Ipv4 → TunnelPacket
 tunnel_for r p octets dst = record { src = r.prefix; dst = dst; ttl = outer_ttl; inner = p.kind; carried = octets }
 
--- a copy to any other router goes in a tunnel to its BFR-prefix
+-- a copy to any other router is sent in a tunnel to its BFR-prefix
 abbrev pub tunnel_copy : RouterConf → List ViewNode → ℕ → Packet → ℕ → List ℕ → Option Effects
 tunnel_copy r g u p x octets =
     option_and_then
@@ -269,7 +269,7 @@ abbrev pub tunnel_read : Control → List ℕ → Result TunnelPacket IpFault �
 tunnel_read c octets (Ok t) = tunnel_taken c octets t
 tunnel_read c octets (Err fault) = dropped (cause.Ip fault)
 
--- A packet that came in IPv4.
+-- A packet received in IPv4.
 unfoldable pub on_tunnel : Control → List ℕ → Effects
 on_tunnel c octets = tunnel_read c octets (tunnel_at octets)
 
@@ -286,7 +286,7 @@ abbrev pub frame_read : Control → ℕ → Result Carried FrameFault → Next
 frame_read c link (Ok carried) = carried_taken c link carried
 frame_read c link (Err fault) = unchanged c (dropped (cause.Frame fault))
 
--- A frame on a link of a router.
+-- A frame received on a link of a router.
 unfoldable pub on_frame : Control → ℕ → List ℕ → Next
 on_frame c link octets =
     if slice_index_or c.flood.up link false

@@ -18,7 +18,7 @@ use Rattle.wire_base.specs.model.BierInfo.{Info, info_tlv}
 use Rattle.wire_base.specs.model.Pdu.{Head, lsp_sum}
 use Rattle.wire_base.specs.model.Control.{fragment_0}
 
--- the elements at which a list of truth values has true
+-- the elements at whose index a list of truth values has true
 abbrev pub picked : {X : Type 0} → List Bool → List X → List X
 picked [] xs = []
 picked (b ∷ bs) [] = []

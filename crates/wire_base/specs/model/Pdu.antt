@@ -164,8 +164,8 @@ pub record IsOther (level : Level) (number : ℕ) : Type 0 where
   pub no_psnp : number ≡ psnp_type level → ⊥
   pub no_hello : is_hello number ≡ false
 
--- what a reader lets stand as it is: a length of system identifiers of 0 or 6, the high bits of the type, the octets
--- 6 and 7, the last octet of a source; and of a hello or another type the length of the header and the type
+-- the fields that a reader does not fix: an ID length of 0 or 6, the high bits of the type, the octets 6 and 7, the last
+-- octet of a source; and for a hello or another type the header length and the type
 pub record Free : Type 0 where
   pub id_length : ℕ
   pub high : ℕ

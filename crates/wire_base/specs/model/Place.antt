@@ -23,7 +23,7 @@ bits_of B1024 = 1024
 bits_of B2048 = 2048
 bits_of B4096 = 4096
 
--- the length with that many bits
+-- the BSL with that many bits
 abbrev pub bsl_with : ℕ → Option Bsl
 bsl_with n =
     if n == 64 then Some B64 else
@@ -35,7 +35,7 @@ bsl_with n =
     if n == 4096 then Some B4096 else
     None
 
--- the code of a length in headers and advertisements (RFC 8296, 2.1.2; RFC 8401, 6.2)
+-- the code of a BSL in headers and advertisements (RFC 8296, 2.1.2; RFC 8401, 6.2)
 abbrev pub code_of : Bsl → ℕ
 code_of B64 = 1
 code_of B128 = 2
@@ -45,7 +45,7 @@ code_of B1024 = 5
 code_of B2048 = 6
 code_of B4096 = 7
 
--- the length with that code
+-- the BSL with that code
 abbrev pub bsl_coded : ℕ → Option Bsl
 bsl_coded n =
     if n == 1 then Some B64 else

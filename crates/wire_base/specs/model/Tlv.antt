@@ -44,7 +44,7 @@ then_tlvs (Some x) more = do
   ts ← more x.1
   Ok (x.0 ∷ ts)
 
--- Each TLV takes two octets or more, so that there are fewer than the octets: the number only makes this a recursion.
+-- Each TLV has two octets or more, so there are fewer TLVs than octets; the number only bounds the recursion.
 unfoldable pub tlvs_within : ℕ → List ℕ → Result (List Tlv) TlvFault
 tlvs_within zero octets = Ok []
 tlvs_within (suc n) octets = tlv_at octets >>= λ o. then_tlvs o (tlvs_within n)
@@ -80,7 +80,7 @@ reach_at octets = do
 
 -- ---- an entry of TLV 135: a reachable prefix (RFC 5305, 4)
 
--- The octets are four, 0 after those of the prefix.
+-- The prefix is stored in four octets, 0 after those of the prefix length.
 pub record Prefix : Type 0 where
   pub metric : ℕ
   pub control : ℕ

@@ -163,7 +163,7 @@ metric_to (l ∷ links) s = if same_system l.neighbour s then Some (least_of l.m
 abbrev pub lists : Claim → SystemId → Bool
 lists c s = is_some (metric_to c.links s)
 
--- A link counts where both systems list each other.
+-- A link counts if both systems list each other.
 abbrev pub edge_to : Claim → ℕ → Claim → Option ViewEdge
 edge_to c place d = if lists d c.system then option_map (λ m. record { to = place; metric = m }) (metric_to c.links d.system) else None
 
