@@ -5,3 +5,4 @@ pub mod ReportLaws
 pub mod Arriving
 pub mod Ending
 pub mod Holding
+pub mod UpLaws

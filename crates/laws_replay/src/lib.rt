@@ -3,6 +3,8 @@
 //! laws; no code that runs.
 #![tactic(auto)]
 
+mod paths;
 mod runs;
 
+pub use paths::paths_are_up;
 pub use runs::replays_keep_promises;
