@@ -6,3 +6,4 @@ pub mod Arriving
 pub mod Ending
 pub mod Holding
 pub mod UpLaws
+pub mod SmallViews

@@ -6,5 +6,5 @@
 mod paths;
 mod runs;
 
-pub use paths::paths_are_up;
+pub use paths::{paths_are_up, topologies_are_small};
 pub use runs::replays_keep_promises;
