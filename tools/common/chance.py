@@ -5,7 +5,7 @@ A schedule may only name frames that are in flight: those that the capture has, 
 import itertools
 import random
 
-from . import course, frames
+from . import frames
 from .layout import hops_from
 from .trouble import Trouble
 
@@ -45,13 +45,12 @@ class Rule:
     def failure_name(self, run):
         return self.case(run)[0].name
 
-    def settle_lines(self, cut):
-        """Lines after which the domain without those links is at rest: in each round LSPs and packets go one link further."""
+    def rounds_to_rest(self, cut):
+        """Rounds after which the domain without those links is at rest: in each one LSPs and packets go a link further."""
         cut = frozenset(cut)
         if cut not in self.rounds:
             self.rounds[cut] = min(MOST_ROUNDS, 2 * self.longest_path(cut) + 6)
-        # The second line does nothing, or the domain wasn't at rest.
-        return [f"settle {self.rounds[cut]}", "settle 1"]
+        return self.rounds[cut]
 
     def longest_path(self, cut):
         """The most links of a shortest path, without those that are cut."""
@@ -88,8 +87,11 @@ def router_failure(domain, router, links):
     return Failure(f"router {router.name}", own, (router.place,))
 
 
-def first_lines(rule, comment):
-    return ["# " + comment, *rule.settle_lines(())]
+def echo_line(domain, options):
+    """A packet from a router to itself."""
+    ingress = options["ingresses"][0]
+    bfr_id = domain.routers[ingress].id_in(options["sd"])
+    return f"inject {domain.name(ingress)} {options['sd']} {options['bsl']} {bfr_id} 1 0 -"
 
 
 class Writer:
@@ -107,14 +109,14 @@ class Writer:
         self.ways = [(a, end["peer_at"]) for a in range(len(self.domain.routers)) for end in self.domain.ends(a)]
         self.in_flight = {way: [] for way in self.ways}  # whether each frame is a packet
         self.down, self.packets, self.is_cut, self.has_failed = set(), 0, False, False
-        self.events = []  # of the lines that the driver hasn't done yet
         rates = f"lose {self.lose}, reorder {self.reorder}, repeat {self.repeat}, seed {seed}"
-        driver.skip(first_lines(rule, f"Run {run}: failing {self.failure.name}; {rates}."))
+        self.lines = [f"# Run {run}: failing {self.failure.name}; {rates}."]  # that are done
+        self.pending = []  # lines that aren't, each with its event
 
     # Lines
 
     def add(self, line, *event):
-        self.events.append((line, event))
+        self.pending.append((line, event))
 
     def event(self, name, *places):
         """The line of an event; the first words of an event are indexes of routers."""
@@ -122,62 +124,59 @@ class Writer:
         self.add(" ".join([name, *named, *map(str, places[2:])]), name, *places)
 
     def inject(self):
-        """A packet for all receivers that haven't failed, from an ingress that hasn't failed; False where there is none."""
+        """A packet for all receivers that haven't failed, from an ingress that hasn't failed; nothing where there is none."""
         options, gone = self.rule.options, self.failure.routers if self.has_failed else ()
         ingresses = [place for place in options["ingresses"] if place not in gone]
         ids = [bfr_id for bfr_id in options["ids"] if not gone or not self.is_gone(bfr_id, gone)]
         if not ingresses or not ids:
-            return False
+            return
         ingress, entropy = self.chance.choice(ingresses), self.chance.randrange(1 << 20)
         payload = f"{self.packets:04x}"
         self.packets += 1
         words = [options["sd"], options["bsl"], ",".join(map(str, ids)), options["ttl"], entropy, payload]
         self.add(" ".join(["inject", self.domain.name(ingress), *map(str, words)]), "inject", ingress)
-        return True
 
     def is_gone(self, bfr_id, gone):
         owners = self.domain.owners(self.rule.options["sd"], bfr_id)
         return bool(owners) and all(router.place in gone for router in owners)
 
     def settle(self):
-        for line in self.rule.settle_lines(self.cut if self.down else ()):
-            self.add(line, "settle")
+        """The domain comes to rest, which a further round must not change."""
+        self.look()
+        line = f"settle {self.rule.rounds_to_rest(self.cut if self.down else ())}"
+        self.driver.skip([line])
+        self.lines.append(line)
+        self.in_flight = {way: [] for way in self.ways}
+        self.add("settle 1", "settle")
 
     # What the driver makes of them
 
     def look(self):
         """Has the driver do the lines, and counts what is in flight after each of them."""
-        first, events = len(self.driver.lines) + 1, self.events
-        sent, self.events = {}, []
-        for record in self.driver.do([line for line, _ in events]):
-            sent.setdefault(record.second, []).append(record)
-        for number, (line, event) in enumerate(events, first):
-            self.follow(line, event, sent.get(number, []))
-        # A router that owes nothing on a link sends nothing, and nothing changes.
-        idle = {number for number, (_, event) in enumerate(events, first) if event[0] == "send" and number not in sent}
-        self.driver.lines = [line for number, line in enumerate(self.driver.lines, 1) if number not in idle]
+        pending, self.pending = self.pending, []
+        sent = self.driver.do([line for line, _ in pending])
+        for place, (line, event) in enumerate(pending):
+            self.follow(event, sent.get(place, []))
+            # A router that owes nothing on a link sends nothing, and nothing changes.
+            if event[0] != "send" or place in sent:
+                self.lines.append(line)
 
-    def follow(self, line, event, sent):
-        if event[0] == "settle":
-            if sent and line == "settle 1":
-                raise Trouble("the domain doesn't come to rest")
-            self.in_flight = {way: [] for way in self.ways}
-            return
+    def follow(self, event, sent):
+        if event[0] == "settle" and sent:
+            raise Trouble("the domain doesn't come to rest")
         if event[0] in ("take", "lose"):
             self.in_flight[event[1:3]].pop(event[3])
         elif event[0] == "again":
             self.in_flight[event[1:3]].append(False)
-        for record in sent:
-            self.in_flight[self.way_of(event, record)].append(not frames.is_isis(record.octets))
+        for octets in sent:
+            self.in_flight[self.way_of(event, octets)].append(not frames.is_isis(octets))
 
-    def way_of(self, event, record):
+    def way_of(self, event, octets):
         """The sender and the receiver of a frame that an event sent."""
         if event[0] == "send":
             return event[1:3]
         sender = event[2] if event[0] == "take" else event[1]
-        if frames.is_isis(record.octets):
-            return sender, event[1]
-        return sender, self.domain.peer_of(sender, record.octets)
+        return sender, event[1] if frames.is_isis(octets) else self.domain.peer_of(sender, octets)
 
     # A run
 
@@ -186,6 +185,10 @@ class Writer:
         self.chance.shuffle(ends)
         for a, b in ends:
             self.event("send", a, b)
+        self.arrivals()
+
+    def arrivals(self):
+        """What is in flight arrives, or is lost."""
         self.look()
         ways = [way for way, queue in self.in_flight.items() if queue]
         self.chance.shuffle(ways)
@@ -209,41 +212,10 @@ class Writer:
         """Packets before the routers at a cut link notice: what they send over it is lost."""
         self.is_cut = self.has_failed = self.rule.options["unseen"] > 0
         for _ in range(self.rule.options["unseen"] if self.cut else 0):
-            if self.inject():
-                self.follow_packet()
-
-    def follow_packet(self):
-        """Forwards a packet through the domain, which is at rest, up to the links that are cut.
-
-        Its copies are those that it has in the domain with all links, except those beyond a cut."""
-        lines = [line for line, _ in self.events]
-        injected = len(self.driver.lines) + len(lines)
-        records = self.driver.look_ahead([*lines, *self.rule.settle_lines(())])
-        items = [item for item in (self.item_of(record) for record in records if record.second >= injected) if item]
-        self.deliver_uncut(items)
-
-    def deliver_uncut(self, items):
-        """Delivers a packet's copies, each of which comes from the last one with the same BFR-ids, or loses them at a cut."""
-        holder, children = {}, {None: []}
-        for item in items:
-            children.setdefault(holder.get(item.ids[0]), []).append(item)
-            holder.update(dict.fromkeys(item.ids, item))
-        queues, todo = {}, list(children[None])
-        for item in todo:
-            queues.setdefault((item.a, item.b), []).append(item)
-        while todo:
-            item = todo.pop(0)
-            queue = queues[item.a, item.b]
-            is_lost = (item.a, item.b) in self.cut
-            self.event("lose" if is_lost else "take", item.a, item.b, queue.index(item))
-            queue.remove(item)
-            for child in [] if is_lost else children.get(item, []):
-                queues.setdefault((child.a, child.b), []).append(child)
-                todo.append(child)
-
-    def item_of(self, record):
-        found, ends = frames.data_of(record.octets), self.domain.sender_of(record.octets)
-        return course.data_item(self.domain, record, *ends, *found) if found and ends else None
+            self.inject()
+            self.arrivals()
+            while self.pending:
+                self.arrivals()
 
     def ends_of_links(self):
         ends = sorted(self.cut)
@@ -253,6 +225,7 @@ class Writer:
     def write(self):
         """Packets before a cut is noticed; a packet that is in flight while it is noticed; packets during convergence, and one
         after it."""
+        self.settle()
         self.unseen()
         self.inject()
         for _ in range(self.chance.randrange(3)):
@@ -271,7 +244,7 @@ class Writer:
         if self.cut and self.rule.options["mend"]:
             self.mend()
         self.look()
-        return "".join(line + "\n" for line in self.driver.lines)
+        return self.lines
 
     def mend(self):
         self.has_failed = False

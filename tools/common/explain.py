@@ -109,42 +109,69 @@ def toml_fault(octets):
     return "not TOML"
 
 
+class Place:
+    """A place in a rejected domain file, as `link[16].b`, with the entry and the kind of the key."""
+
+    def __init__(self, conf, path):
+        found = re.fullmatch(r"(\w+)\[(\d+)\](?:\.(.+))?", path)
+        self.conf, self.path = conf, path
+        self.array, self.at, self.key = (found.group(1), int(found.group(2)), found.group(3)) if found else (path, None, None)
+        entries = conf.entries(self.array)
+        is_entry = self.at is not None and self.at < len(entries) and isinstance(entries[self.at], dict)
+        self.entry = entries[self.at] if is_entry else {}
+        self.kind = f"{self.array}.{self.key}" if self.key else path
+        # The key's own name, and the table that it is in.
+        self.name, self.table = (self.key, self.entry) if self.key else (path, conf.document)
+
+    def earlier(self):
+        """The path of the first entry that has the same."""
+        for at, other in enumerate(self.conf.entries(self.array)[: self.at]):
+            if self.kind == "link.b":
+                is_same = {self.entry.get("a"), self.entry.get("b")} == {other.get("a"), other.get("b")}
+            else:
+                is_same = same(self.entry, other, TOGETHER.get(self.kind, (self.key,)))
+            if is_same:
+                return f"{self.array}[{at}].{self.key}"
+        return None
+
+
+def same(entry, other, keys):
+    return all(str(entry.get(key)).lower() == str(other.get(key)).lower() for key in keys)
+
+
 def conf(path, refusal):
     """A rejected domain file, by what follows `refused conf` in the report: number, name and place."""
-    number, _, place = refusal.split(" ", 2)
+    number, _, text = refusal.split(" ", 2)
     it = Conf(path)
     if number == "1":
         return f"{path}: not TOML: {it.fault or 'a reader of TOML 1.1 accepts it'}"
-    found = re.fullmatch(r"(\w+)\[(\d+)\](?:\.(.+))?", place)
-    array, at, key = (found.group(1), int(found.group(2)), found.group(3)) if found else (place, None, None)
-    entries = it.entries(array)
-    entry = entries[at] if at is not None and at < len(entries) and isinstance(entries[at], dict) else {}
-    where = f"{it.at(place)}: "
-    if number == "7":
-        return where + limit_text(it, array, at, entry)
-    name = f"{array}.{key}" if key else place
-    if name not in EXPECTED and name not in ARRAYS:
-        known = [it.split(".")[1] for it in EXPECTED if it.startswith(array + ".")] if key else ["level", "area", *LIMITS]
-        return f"{where}unknown key `{key or place}`; expected {', '.join(known)}"
-    table = entry if key else it.document
-    if (key or place) not in table:
-        return f"{where}[[{array}]] has no `{key}`; expected {EXPECTED[name]}" if key else f"{where}no `{place}`"
-    if name in ARRAYS:
-        return f"{where}`{place}` isn't an array of tables, [[{place}]]"
-    value = f"`{key or place} = {toml_value(table[key or place])}`"
-    return f"{where}{value}: {why(it, number, array, at, key, entry, name)}"
+    place = Place(it, text)
+    return f"{it.at(text)}: {limit_text(place) if number == '7' else key_text(number, place)}"
 
 
-def why(it, number, array, at, key, entry, name):
+def key_text(number, place):
+    if place.kind not in EXPECTED and place.kind not in ARRAYS:
+        own = [kind.split(".")[1] for kind in EXPECTED if kind.startswith(place.array + ".")]
+        return f"unknown key `{place.name}`; expected {', '.join(own if place.key else ['level', 'area', *LIMITS])}"
+    if place.name not in place.table:
+        return f"[[{place.array}]] has no `{place.name}`; expected {EXPECTED[place.kind]}"
+    if place.kind in ARRAYS:
+        return f"`{place.name}` isn't an array of tables, [[{place.name}]]"
+    return f"`{place.name} = {toml_value(place.table[place.name])}`: {reason(number, place)}"
+
+
+def reason(number, place):
     if number == "3":
-        other = earlier(it, array, at, key, entry, name)
-        beside = " and ".join(it for it in TOGETHER.get(name, ()) if it != key)
-        return "stands twice" + (f" for the same {beside}" if beside else "") + (f", first in {it.at(other)}" if other else "")
+        other, beside = place.earlier(), " and ".join(key for key in TOGETHER.get(place.kind, ()) if key != place.key)
+        first = f", first in {place.conf.at(other)}" if other else ""
+        if place.kind == "link.b":
+            return f"the second link between these routers{first}"
+        return "stands twice" + (f" for the same {beside}" if beside else "") + first
     if number == "5":
-        return labels_text(it, at, entry)
+        return labels_text(place)
     if number == "6":
-        return reference_text(it, array, key, entry, name)
-    return f"expected {EXPECTED[name]}"
+        return reference_text(place)
+    return f"expected {EXPECTED[place.kind]}"
 
 
 def toml_value(value):
@@ -153,57 +180,42 @@ def toml_value(value):
     return f'"{value}"' if isinstance(value, str) else str(value)[:60]
 
 
-def same(entry, other, keys):
-    return all(str(entry.get(key)).lower() == str(other.get(key)).lower() for key in keys)
-
-
-def earlier(it, array, at, key, entry, name):
-    """The path of the first entry that has the same."""
-    for place, other in enumerate(it.entries(array)[:at]):
-        if name == "link.b":
-            is_same = {entry.get("a"), entry.get("b")} == {other.get("a"), other.get("b")}
-        else:
-            is_same = same(entry, other, TOGETHER.get(name, (key,)))
-        if is_same:
-            return f"{array}[{place}].{key}"
-    return None
-
-
-def labels_text(it, at, entry):
+def labels_text(place):
+    entry = place.entry
     last = entry["label"] + entry["max_si"]
     if last > 1048575:
         return f"the last label, {last}, is above 1048575"
-    for place, other in enumerate(it.entries("labels")[:at]):
-        if other["router"] == entry["router"] and other["label"] <= last and entry["label"] <= other["label"] + other["max_si"]:
-            where = it.at(f"labels[{place}].label")
-            return f"labels {entry['label']} to {last} overlap {other['label']} to {other['label'] + other['max_si']} ({where})"
+    for at, other in enumerate(place.conf.entries("labels")[: place.at]):
+        top = other["label"] + other["max_si"]
+        if other["router"] == entry["router"] and other["label"] <= last and entry["label"] <= top:
+            where = place.conf.at(f"labels[{at}].label")
+            return f"labels {entry['label']} to {last} overlap {other['label']} to {top} ({where})"
     return f"expected {EXPECTED['labels.label']}"
 
 
-def reference_text(it, array, key, entry, name):
-    names = [router.get("name") for router in it.entries("router")]
-    value = entry[key]
-    if EXPECTED[name] == NAME or array == "link":
+def reference_text(place):
+    value, expected = place.entry[place.key], EXPECTED[place.kind]
+    if expected == NAME or place.array == "link":
+        names = [router.get("name") for router in place.conf.entries("router")]
         return "no [[router]] has that name" if value not in names else "the link joins a router to itself"
-    kinds = {sub["sd"]: sub["kind"] for sub in it.entries("subdomain")}
+    kinds = {sub["sd"]: sub["kind"] for sub in place.conf.entries("subdomain")}
     if value not in kinds:
-        return f"no [[subdomain]] has that sd; expected {EXPECTED[name]}"
-    wanted = {"row": "configured", "labels": "mpls"}.get(array, kinds[value])
-    if kinds[value] != wanted:
-        return f'the sub-domain is of kind "{kinds[value]}"; expected {EXPECTED[name]}'
-    return f"{entry['router']} has no [[bier]] entry in that sub-domain"
+        return f"no [[subdomain]] has that sd; expected {expected}"
+    if kinds[value] != {"row": "configured", "labels": "mpls"}.get(place.array, kinds[value]):
+        return f'the sub-domain is of kind "{kinds[value]}"; expected {expected}'
+    return f"{place.entry['router']} has no [[bier]] entry in that sub-domain"
 
 
-def limit_text(it, array, at, entry):
-    if array == "-":
-        return f"the file has {len(it.octets):,} octets; at most 4,194,304 are read"
-    count = len(it.entries(array))
-    if at is None:
-        if not count:
-            return f"there is no [[{array}]]"
-        return f"there are {count:,} [[{array}]]; at most {LIMITS[array]:,} are allowed"
-    name = entry.get("name")
-    links = sum(name in (link.get("a"), link.get("b")) for link in it.entries("link"))
+def limit_text(place):
+    if place.path == "-":
+        return f"the file has {len(place.conf.octets):,} octets; at most 4,194,304 are read"
+    count = len(place.conf.entries(place.array))
+    if place.at is None and not count:
+        return f"there is no [[{place.array}]]"
+    if place.at is None:
+        return f"there are {count:,} [[{place.array}]]; at most {LIMITS[place.array]:,} are allowed"
+    name = place.entry.get("name")
+    links = sum(name in (link.get("a"), link.get("b")) for link in place.conf.entries("link"))
     if links > 64:
         return f"{name} has {links} links; at most 64 are allowed"
     return f"the sub-domains and label ranges of {name} take more than 245 octets of its LSP: 7 for each, and 6 for each range"

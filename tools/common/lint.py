@@ -26,10 +26,6 @@ def entry_line(conf, array, **wanted):
     return conf.path
 
 
-def sub_of(router, subdomain):
-    return next((sub for sub in router.subs if sub["sd"] == subdomain), None)
-
-
 def mpls(domain):
     return [subdomain for subdomain, kind in domain.kinds.items() if kind == "mpls"]
 

@@ -9,7 +9,7 @@ import tempfile
 
 from . import chance, driver, texts
 from .domain import Domain, independent
-from .trouble import Trouble, write_octets
+from .trouble import Trouble
 
 GOT, IN_FLIGHT = "got", "flight"
 TITLES = {GOT: "delivered", IN_FLIGHT: "in flight"}
@@ -35,7 +35,7 @@ def is_whole(result):
 def fates(report, schedule):
     """What became of each BFR-id: how often it was named, delivered, and dropped by each cause."""
     counts = collections.defaultdict(collections.Counter)
-    for line in schedule.splitlines():
+    for line in schedule:
         if line.startswith("inject "):
             for bfr_id in set(line.split(" ")[4].split(",")):
                 counts[bfr_id]["named"] += 1
@@ -59,14 +59,14 @@ def fault_of(counts, report):
     return f"its lines and its last line differ in {', '.join(wrong)}" if wrong else None
 
 
-def one(job, rule, seen, number, folder):
+def one(job, rule, number, folder):
     """The result of one run, whose files go to the folder: fates, or why it broke."""
     result = {"run": number, "host": socket.gethostname()}
     try:
-        run = driver.Driver(job["program"], folder, job["domain"], job["limit"], seen)
-        schedule = chance.Writer(rule, run, number).write()
-        write_octets(run.at("report"), run.report)
-        report = run.whole_report()
+        echo = chance.echo_line(rule.domain, rule.options)
+        with driver.Driver(job["program"], folder, job["domain"], echo, job["limit"]) as run:
+            schedule = chance.Writer(rule, run, number).write()
+            report = run.replay(schedule)
         counts = fates(report, schedule)
         fault = fault_of(counts, report)
         if fault:
@@ -82,14 +82,15 @@ def one(job, rule, seen, number, folder):
         return {**result, "broken": "its capture isn't of its schedule"}
 
 
-def settled(job, rule):
-    """The size of the capture of the domain's first settling, with which all runs begin."""
+def check_program(job, rule):
+    """Trouble where the program doesn't answer a line from a pipe before its input ends."""
+    echo = chance.echo_line(rule.domain, rule.options)
     with tempfile.TemporaryDirectory() as folder:
-        run = driver.Driver(job["program"], folder, job["domain"], job["limit"])
-        lines = chance.first_lines(rule, "The domain settles.")
-        if any(record.second == len(lines) for record in run.do(lines)):
-            raise Trouble("the domain doesn't come to rest")
-        return run.seen
+        try:
+            with driver.Driver(job["program"], folder, job["domain"], echo, min(job["limit"], 20)) as run:
+                run.skip([])
+        except subprocess.TimeoutExpired:
+            raise Trouble(f"{job['program']}: doesn't answer a line of a schedule from a pipe before the schedule ends")
 
 
 def rule_of(job):
@@ -98,30 +99,20 @@ def rule_of(job):
 
 def work(lines, out):
     """A worker: for each line, a job with its runs, one line for each result. The status is 1 where one broke."""
-    last, rule, seen, status, parent = None, None, None, 0, os.getppid()
+    last, rule, status, parent = None, None, 0, os.getppid()
     for line in lines:
         job = json.loads(line)
         if last != (job["domain"], job["rule"]):
-            last, rule, seen = (job["domain"], job["rule"]), rule_of(job), None
+            last, rule = (job["domain"], job["rule"]), rule_of(job)
         for number in job["runs"]:
             if os.getppid() != parent:
                 return 1  # nobody reads the results
-            result = one_of(job, rule, number, seen)
-            seen = result.pop("seen", seen)
+            with tempfile.TemporaryDirectory() as folder:
+                result = one(job, rule, number, folder)
             status = status if is_whole(result) else 1
             out.write(json.dumps(result) + "\n")
             out.flush()
     return status
-
-
-def one_of(job, rule, number, seen):
-    """A run in a temporary folder; its result also has `seen`, the size of the first settling."""
-    try:
-        seen = seen or settled(job, rule)
-    except (Trouble, OSError, subprocess.TimeoutExpired) as trouble:
-        return {"run": number, "host": socket.gethostname(), "broken": f"the domain's first settling: {trouble}"}
-    with tempfile.TemporaryDirectory() as folder:
-        return {**one(job, rule, seen, number, folder), "seen": seen}
 
 
 # All runs

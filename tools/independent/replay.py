@@ -855,15 +855,12 @@ class Replay:
         if w[0] not in forms or len(w) - 1 != len(forms[w[0]]): raise ValueError("1 Word")
         return (w[0].decode(), *[f(x) for f, x in zip(forms[w[0]], w[1:])])
 
-    def run(self, text):
-        lines = text.split(b"\n")
-        if lines[-1] == b"": lines.pop()
-        else: lines[-1:] = [lines[-1]]
-        ended = text.endswith(b"\n")
-        count = 0
+    def run(self, lines):
+        """Does the lines of a schedule; the status."""
+        count = n = 0
         for n, raw in enumerate(lines, 1):
-            has_lf = n < len(lines) or ended
-            count += len(raw) + has_lf
+            has_lf = raw.endswith(b"\n")
+            count += len(raw); raw = raw.removesuffix(b"\n")
             if count > 67108864: self.report.append(f"refused {n} text 6 TooLong"); return 4
             if has_lf and raw.endswith(b"\r"): raw = raw[:-1]
             if len(raw) > 16384: self.report.append(f"refused {n} text 5 LineLong"); return 4
@@ -880,7 +877,7 @@ class Replay:
             except Refused as e:
                 self.report.append(f"refused {n} event {e}"); return 4
         fl = sum(len([k for k in n[1] if k <= 65535]) for q in self.q.values() for _, n in q if n)
-        self.report.append(f"done lines {len(lines)} injected {self.injections} named {self.named} got {self.got} dropped {self.dropped} flight {fl}")
+        self.report.append(f"done lines {n} injected {self.injections} named {self.named} got {self.got} dropped {self.dropped} flight {fl}")
         return 0
 
 # ---------------------------------------------------------------- one router on a capture
@@ -968,24 +965,45 @@ def read(path):
         sys.exit(f"replay.py: {path}: {error.strerror}")
 
 def begun(words):
-    """The run that the arguments ask for, and its input."""
+    """The run that the arguments ask for."""
     routers = read_domain(read(words[1]))
-    if words[0] == "replay": return Replay(routers), read(words[2])
+    if words[0] == "replay": return Replay(routers)
     conf = next((r for r in routers if r["name"] == words[2]), None)
     if conf is None: fault(6, "Reference", "words[2]")
-    return Node(conf), read(words[3])
+    return Node(conf)
+
+class Output:
+    """What a run has made, written out bit by bit."""
+    def __init__(self, run, path):
+        self.run, self.file, self.lines, self.octets = run, open(path, "wb", buffering=0), 0, 0
+
+    def write(self):
+        self.file.write(self.run.cap[self.octets:]); self.octets = len(self.run.cap)
+        sys.stdout.write("".join(line + "\n" for line in self.run.report[self.lines:])); self.lines = len(self.run.report)
+        sys.stdout.flush()
+
+    def before_each(self, lines):
+        """The lines, before each of which all is written: from a pipe they come one by one, and each is answered at once."""
+        for line in lines:
+            yield line
+            self.write()
 
 def main():
     words = sys.argv[1:]
     if words in (["--help"], ["-h"]): print(__doc__.strip()); return 0
     if not words or {"replay": 4, "node": 5}.get(words[0]) != len(words): print(USAGE); return 2
     try:
-        run, octets = begun(words)
+        run = begun(words)
     except ConfFault as why:
         print(f"refused conf {why}"); return 3
-    status = run.run(octets)
-    with open(words[-1], "wb") as file: file.write(run.cap)
-    sys.stdout.write("".join(line + "\n" for line in run.report))
+    output = Output(run, words[-1])
+    if isinstance(run, Replay):
+        try:
+            with open(words[2], "rb") as lines: status = run.run(output.before_each(lines))
+        except OSError as error:
+            sys.exit(f"replay.py: {words[2]}: {error.strerror}")
+    else: status = run.run(read(words[3]))
+    output.write()
     return status
 
 if __name__ == "__main__":

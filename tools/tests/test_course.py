@@ -39,7 +39,7 @@ def replay_of(text, schedule):
     """The parts of a replay by the independent program, and that program's world at its end."""
     confs = independent.read_domain(text.encode())
     world = independent.Replay(confs)
-    world.run(schedule.encode())
+    world.run(schedule.encode().splitlines(keepends=True))
     report = texts.report_of("report", "".join(line + "\n" for line in world.report))
     records = capture.read_capture(write("course.pcap", bytes(world.cap)))
     return (domain.Domain(confs), schedule.splitlines(), report, records), world

@@ -28,7 +28,7 @@ REJECTED = [
     ("sd = 0", "sd = ", "not TOML: Invalid value (at line 4, column 6)"),
     (None, LABELS.format("A", 0, 128, 1, 99), "`label = 99`: labels 99 to 100 overlap 100 to 100 ("),
     (None, LABELS.format("A", 7, 128, 1, 9999), "`sd = 7`: no [[subdomain]] has that sd"),
-    (None, LINK.format("B", "A"), '`b = "A"`: stands twice, first in '),
+    (None, LINK.format("B", "A"), '`b = "A"`: the second link between these routers, first in '),
     (None, ROUTER_E + LABELS.format("E", 0, 64, 0, 77), "`sd = 0`: E has no [[bier]] entry in that sub-domain"),
     (None, "[[row]]\nsd = 0\nbsl = 64\nsi = 0\nbift = 7\n", '`sd = 0`: the sub-domain is of kind "mpls"'),
 ]

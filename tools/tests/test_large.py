@@ -66,7 +66,7 @@ class Large(unittest.TestCase):
             self.assertIn(">down<", file.read())
 
     def test_sweep(self):
-        """A run at 250 routers takes the program most of its time."""
+        """A sweep of two runs at 250 routers."""
         before = resource.getrusage(resource.RUSAGE_CHILDREN).ru_utime
         domain = replayed(250).domain
         done = tool("sweep", domain, "--out", scratch("large"), "--fail", "1", "--fail-count", "2", "--seeds", "1", "--program", program())

@@ -15,22 +15,27 @@ from common import spread
 
 RING = os.path.join(EXAMPLES, "ring", "domain.toml")
 RULE = ["--lose", "0,0.2", "--reorder", "0.5", "--repeat", "0.1", "--seeds", "2", "--packets", "2", "--mend"]
-# Programs that break: each run the first time; one run always; a report without one of its lines. And an ssh to machines that are this one, are dead,
+# Programs that break: on the schedule of each run the first time; of one run always; a report without one of its lines. And an ssh to machines that are this one, are dead,
 # have nothing, or answer nothing.
 AT_TIMES = """#!/bin/sh
-[ $# = 0 ] && exec {program}
+[ "$3" = schedule ] || exec {program} "$@"
 mark={mark}/$(head -n 1 schedule | cksum | tr " " -)
 [ -e $mark ] || {{ touch $mark; exit 9; }}
 exec {program} "$@"
 """
 ALWAYS = """#!/bin/sh
-[ $# = 0 ] && exec {program}
+[ "$3" = schedule ] || exec {program} "$@"
 grep -q "Run 3:" schedule && {{ echo "refused 1 text 1 Word"; exit 4; }}
 exec {program} "$@"
 """
 WRONG = """#!/bin/sh
-[ $# = 0 ] && exec {program}
+[ "$3" = schedule ] || exec {program} "$@"
 {program} "$@" | sed "0,/^[0-9]* got /{{/^[0-9]* got /d}}"
+"""
+LATE = """#!/bin/sh
+[ "$3" = /dev/stdin ] || exec {program} "$@"
+cat > all
+exec {program} replay domain.toml all "$4"
 """
 SSH = """#!/bin/sh
 while [ $# -gt 0 ]; do case $1 in -*) shift ;; *) host=$1; shift; break ;; esac; done
@@ -112,13 +117,14 @@ class Sweep(unittest.TestCase):
 
     def test_unseen(self):
         """Before the ends of a link notice that it is cut, packets over it are lost; where they know at once, the cause is `link`."""
-        for many in (0, 2):
-            name = f"unseen-{many}"
+        for many in (0, 3):
+            name, lossy = f"unseen-{many}", set()
             done = brief(name, "--unseen", str(many), "--seeds", "4")
             self.assertEqual(done.returncode, 0, done.stderr)
             for result in lines_of(name):
-                lost = sum(count.get("lost", 0) for count in result["fates"].values())
-                self.assertEqual(lost > 0, many > 0 and result["run"] % 5 > 0, result)
+                if any(count.get("lost") for count in result["fates"].values()):
+                    lossy.add(result["run"] % 5)
+            self.assertEqual(lossy, {1, 2, 3, 4} if many else set())
 
     def test_receivers(self):
         self.assertEqual(brief("to", "--fail", "none", "--to", "B", "--to", "D").returncode, 0)
@@ -260,6 +266,11 @@ class Sweep(unittest.TestCase):
         self.assertEqual(done.returncode, 1)
         self.assertIn(f"{RUNS - 1} of {RUNS} runs, 1 broken", done.stdout)
         self.assertIn("run 3 broke: status 4, refused 1 text 1 Word", done.stdout)
+
+    def test_a_program_that_answers_late(self):
+        done = swept("late", "--limit", "2", using=script("late.sh", LATE.format(program=program())))
+        self.assertEqual(done.returncode, 1)
+        self.assertIn("doesn't answer a line of a schedule from a pipe", done.stderr)
 
     def test_a_report_that_doesn_t_add_up(self):
         using = script("wrong.sh", WRONG.format(program=program()))

@@ -1,8 +1,8 @@
-//! Packets of 20 ids at 4,096 bits that pass one hop over 512 neighbors, as octets: how many copies and drops they make,
-//! and the sum of what is sent. It does a thousand packets; with the word `time` it does a million, and says too how long
-//! they took. `bench/hop` runs it so.
+//! Forwards packets with 20 BFR-ids at 4,096 bits through one hop over 512 neighbors, from octets to octets, and reports the
+//! number of copies and drops and the sum of what is sent. It forwards a thousand packets. With the argument `time` it forwards
+//! a million, and also reports how long they took; `bench/hop` runs it that way.
 //!
-//! It stands on `bier_bits`, `bift_table` and `bier_hop`.
+//! It depends on `bier_bits`, `bift_table` and `bier_hop`.
 #![tactic(auto)]
 
 mod measure;
@@ -14,7 +14,7 @@ use std::env;
 use std::process::ExitCode;
 use stop::Stop;
 
-/// Whether the first word asks for times.
+/// Returns whether the first argument asks for times.
 fn asks_for_times(rt: &HostRuntime) -> Result<bool, Stop> {
     Ok(match env::args(rt)?.nth(1) {
         Some(word) => word.as_str() == "time",

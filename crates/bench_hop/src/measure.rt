@@ -1,4 +1,4 @@
-//! Packets through one hop, and how long they take.
+//! Forwards packets through one hop, and measures the time.
 ghost use Rattle.std.specs.Prelude.{◌≡◌, ◌<◌, length};
 
 use crate::stop::Stop;
@@ -15,7 +15,7 @@ const TTL: u16 = 64;
 
 const IDS: u8 = 20;
 
-/// What became of packets: how many copies and drops they made, and the sum of the first and last octets of the copies.
+/// The result of forwarding packets: the number of copies and drops, and the sum of the first and last octets of the copies.
 #[derive(Clone, Copy)]
 pub struct Sent {
     pub copies: u64,
@@ -23,7 +23,7 @@ pub struct Sent {
     pub sum: u64,
 }
 
-/// The microseconds that the table took, and the packets.
+/// The times in microseconds of building the table and of forwarding the packets.
 #[derive(Clone, Copy)]
 pub struct Times {
     pub table: u128,
@@ -45,7 +45,7 @@ pub fn measure(rt: &HostRuntime, packets: u32) -> Result<(Sent, Times), Stop> {
     Ok((sent, times))
 }
 
-/// Passes so many packets, each made anew.
+/// Forwards that many packets, each newly generated.
 fn forward<L: Ledger>(table: &Table<64>, packets: u32, blank: Blank) -> Sent
     requires name { blank.name ≡ L.name }
     requires parts { blank.parts ≡ L.parts }
@@ -65,7 +65,7 @@ fn forward<L: Ledger>(table: &Table<64>, packets: u32, blank: Blank) -> Sent
     sent
 }
 
-/// The octets of a packet's bit string: ids of a linear congruential sequence.
+/// Returns the BitString of a packet in octets: BFR-ids from a linear congruential generator.
 fn packet(random: &mut u64) -> [u8; 512] {
     let mut bits = BitString::<64>::zero();
     for _ in 0..IDS {
@@ -79,7 +79,7 @@ fn packet(random: &mut u64) -> [u8; 512] {
     octets
 }
 
-/// One packet, from its octets to those of its copies.
+/// Forwards one packet, from its octets to those of its copies.
 fn pass<L: Ledger>(table: &Table<64>, octets: &[u8], steps: &mut Steps<L>, sent: &mut Sent)
     requires { length octets.now ≡ 512 }
 {
@@ -95,7 +95,7 @@ fn pass<L: Ledger>(table: &Table<64>, octets: &[u8], steps: &mut Steps<L>, sent:
     }
 }
 
-/// The sum of the first and the last octet that a set is sent as.
+/// Returns the sum of the first and the last octet in which a set is sent.
 fn sum_of(set: &BitString<64>) -> u64 {
     let mut out = [0; 512];
     set.to_be_bytes(&mut out);

@@ -6,7 +6,7 @@ use wire_base::{First, FirstList, M, RowSet, Rows, SystemId};
 
 const NEIGHBOURS: u16 = 512;
 
-/// Where each position leads.
+/// Returns the routers to which each position leads.
 pub fn rows(alloc: Global) -> M<RowSet>
     ensures { IfOk result (λ rows. length rows.bits ≡ 4096) }
 {
@@ -17,7 +17,7 @@ pub fn rows(alloc: Global) -> M<RowSet>
     Ok(RowSet { bits })
 }
 
-/// Every sixteenth position has no row; the others lead to all neighbors in turn.
+/// Returns the row of a position: every sixteenth position has none; the others lead to all neighbors in turn.
 fn row(alloc: Global, place: u16) -> M<FirstList> {
     if place % 16 == 15 {
         return Ok(FirstList::new(alloc));

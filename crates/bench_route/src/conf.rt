@@ -1,4 +1,4 @@
-//! The configuration of the router that sees the rings.
+//! The configuration of router 1, from whose view the rings are measured.
 ghost use Rattle.std.specs.Prelude.{◌≡◌, IfOk, length};
 ghost use Rattle.wire_base.specs.model.Configuration.{IsSound};
 ghost use Rattle.examples_model.specs.Domains.{ring_a};

@@ -1,6 +1,6 @@
-//! Rings with chords of 40, 250 and 1,000 routers, as one of them sees them: how many edges there are, how far the
-//! farthest router is, how long all distances are together, and how many bits have a row. With the word `time` it says
-//! too how long each part took; `bench/routes` runs it so.
+//! Measures rings with chords of 40, 250 and 1,000 routers, from the view of one of them: the number of edges, the cost to the
+//! farthest router, the sum of all costs, and the number of bits that have a row. With the argument `time` it also reports how
+//! long each part took; `bench/routes` runs it that way.
 #![tactic(auto)]
 
 mod conf;
@@ -15,7 +15,7 @@ use std::env;
 use std::process::ExitCode;
 use stop::Stop;
 
-/// Whether the first word asks for times.
+/// Returns whether the first argument asks for times.
 fn asks_for_times(rt: &HostRuntime) -> Result<bool, Stop> {
     Ok(match env::args(rt)?.nth(1) {
         Some(word) => word.as_str() == "time",

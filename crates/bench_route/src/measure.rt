@@ -1,4 +1,4 @@
-//! What a ring is like, and how long its parts take.
+//! The properties of a ring, and the time of each part.
 ghost use Rattle.std.specs.Prelude.{◌≡◌, ◌≤◌, ◌<◌, length};
 ghost use Rattle.wire_base.specs.model.Configuration.{IsSound};
 
@@ -13,8 +13,8 @@ use std::time::{Duration, Instant};
 use view_graph::{ViewKeep, view};
 use wire_base::{Bsl, Entry, M, RouterConf, Triple, View};
 
-/// How many edges a ring has, how far router 1 is from the farthest, the sum of its distances, and how many bits of the
-/// first set of 256 have a row at router 1.
+/// The number of edges of a ring, the cost from router 1 to the farthest router, the sum of its costs, and the number of bits
+/// of the first set of 256 that have a row at router 1.
 #[derive(Clone, Copy)]
 pub struct Ring {
     pub edges: usize,
@@ -23,8 +23,8 @@ pub struct Ring {
     pub rows: usize,
 }
 
-/// The microseconds that the view took, its renewal once a metric has changed and once both ends of a link have lost it,
-/// the distances to each router, and the rows of one set.
+/// The times in microseconds: of the topology, of its update after a metric has changed and after both sides have lost a
+/// link, of the costs to each router, and of the rows of one set.
 #[derive(Clone, Copy)]
 pub struct Times {
     pub view: u128,
@@ -73,7 +73,7 @@ pub fn measure(rt: &HostRuntime, nodes: u16) -> Result<(Ring, Times), Stop>
     Ok((ring, times))
 }
 
-/// How long it takes to renew the view, once an entry is another one.
+/// Measures an update of the topology after one entry has changed.
 fn renewed(
     rt: &HostRuntime,
     conf: &RouterConf,
@@ -94,7 +94,7 @@ fn renewed(
     Ok(start.elapsed(rt)?)
 }
 
-/// How long it takes once two entries are other ones.
+/// Measures an update after two entries have changed.
 fn parted(
     rt: &HostRuntime,
     conf: &RouterConf,
@@ -120,7 +120,7 @@ fn parted(
     Ok(start.elapsed(rt)?)
 }
 
-/// How far router 1 is from the farthest router, and the sum of its distances: of those to each router in turn.
+/// Returns the cost from router 1 to the farthest router, and the sum of its costs, from the costs to each router in turn.
 fn distances(alloc: Global, seen: &View) -> M<(u64, u64)> {
     let mut farthest = 0;
     let mut together: u64 = 0;
@@ -134,7 +134,7 @@ fn distances(alloc: Global, seen: &View) -> M<(u64, u64)> {
     Ok((farthest, together))
 }
 
-/// How many bits of the first set have a row at router 1.
+/// Returns the number of bits of the first set that have a row at router 1.
 fn routed(alloc: Global, seen: &View, conf: &RouterConf) -> M<usize>
     requires { length conf.now.ends ≤ 65536 }
 {

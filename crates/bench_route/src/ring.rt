@@ -1,11 +1,11 @@
-//! The LSDB of a router of a ring with chords: what each other router says of itself.
+//! The LSDB of a router in a ring with chords: the LSPs of all other routers.
 ghost use Rattle.std.specs.Prelude.{◌≤◌, ◌<◌, ◌+◌};
 
 use lsp_store::Store;
 use std::alloc::Global;
 use wire_base::{Entry, LspId, M, Memory, Octets, SystemId};
 
-/// The router at a place of a ring. Router 1 is at place 0, between routers 2 and 4.
+/// Returns the router at an index of a ring. Router 1 is at index 0, between routers 2 and 4.
 fn router_at(nodes: u16, place: u16) -> u16
     requires { place < 65534 }
 {
@@ -27,10 +27,10 @@ fn append_link(content: &mut Octets, router: u16, metric: u8) -> M<()> {
     content.append(&[0, 0, 0, metric, 0])
 }
 
-/// A router that says nothing: a link to it doesn't count.
+/// A router that advertises nothing, so that a link to it does not count.
 const NOWHERE: u16 = 65_535;
 
-/// What changes of what a router says: its sequence number, the metric of its link to the next router of the ring, and
+/// The variable parts of a router's LSP: its sequence number, the metric of its link to the next router of the ring, and
 /// which of its two links there are up.
 #[derive(Clone, Copy)]
 struct Says {
@@ -40,7 +40,7 @@ struct Says {
     has_previous: bool,
 }
 
-/// What a router says at first.
+/// The variable parts of a router's first LSP.
 const FIRST: Says = Says {
     seq: 1,
     metric: 10,
@@ -48,7 +48,7 @@ const FIRST: Says = Says {
     has_previous: true,
 };
 
-/// Appends the links of the router at a place: those of the ring, and at each fifth place a chord to the other side.
+/// Appends the links of the router at an index: those of the ring, and at each fifth index a chord to the opposite side.
 fn append_links(content: &mut Octets, nodes: u16, place: u16, says: Says) -> M<()>
     requires few { nodes ≤ 1000 }
     requires some { 0 < nodes }
@@ -74,7 +74,7 @@ fn append_links(content: &mut Octets, nodes: u16, place: u16, says: Says) -> M<(
     Ok(())
 }
 
-/// Appends a TLV 135 with the router's prefix and its place in sub-domain 0: its number is its BFR-id, and it has labels
+/// Appends a TLV 135 with the router's prefix and its membership of sub-domain 0: its number is its BFR-id, and it has labels
 /// for four sets of 256 bits.
 fn append_place(content: &mut Octets, router: u16) -> M<()> {
     let [high, low] = router.to_be_bytes();
@@ -84,7 +84,7 @@ fn append_place(content: &mut Octets, router: u16) -> M<()> {
     content.append(&range.to_be_bytes())
 }
 
-/// What the router at a place says of itself.
+/// Returns the LSP of the router at an index.
 fn router_entry(alloc: Global, nodes: u16, place: u16, says: Says) -> M<Entry>
     requires few { nodes ≤ 1000 }
     requires some { 0 < nodes }
@@ -120,7 +120,7 @@ fn put_router(store: &mut Store, alloc: Global, nodes: u16, place: u16) -> M<()>
     }
 }
 
-/// What all routers but router 1 say.
+/// Returns the LSPs of all routers but router 1.
 pub fn database(alloc: Global, nodes: u16) -> M<Store>
     requires { nodes ≤ 1000 }
 {
@@ -131,7 +131,7 @@ pub fn database(alloc: Global, nodes: u16) -> M<Store>
     Ok(store)
 }
 
-/// What the router half-way round says once the metric of a link has changed.
+/// Returns the LSP of the router halfway round after the metric of a link has changed.
 pub fn changed_entry(alloc: Global, nodes: u16) -> M<Entry>
     requires few { nodes ≤ 1000 }
     requires some { 0 < nodes }
@@ -144,7 +144,7 @@ pub fn changed_entry(alloc: Global, nodes: u16) -> M<Entry>
     router_entry(alloc, nodes, nodes / 2, says)
 }
 
-/// What that router and the next one say once the link between them is lost.
+/// Returns the LSPs of that router and the next one after they have lost the link between them.
 pub fn parted_entries(alloc: Global, nodes: u16) -> M<(Entry, Entry)>
     requires few { nodes ≤ 1000 }
     requires some { 0 < nodes }

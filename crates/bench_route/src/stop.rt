@@ -5,7 +5,7 @@ use wire_base::Memory;
 #[derive(Clone, Copy, Debug)]
 pub enum Stop {
     Memory,
-    /// The clock, the words or standard output failed.
+    /// The clock, the arguments or standard output failed.
     System,
 }
 

@@ -1,4 +1,4 @@
--- What an ingress answers.
+-- The result of an ingress.
 use Rattle.std.specs.Prelude.{◌≡◌, Option, Some}
 use Rattle.wire_base.specs.declared.faults.EdgeFault.{EdgeFault}
 use Rattle.wire_base.specs.declared.faults.EdgeFault.TheVariants.{NoEgress, IdZero, SiLarge, NotBfr, BslUnknown, Memory}
@@ -8,14 +8,14 @@ use Rattle.wire_base.specs.model.OnFrame.{Positions}
 use Rattle.bier_bits.specs.Any.{positions_of}
 use Rattle.bfr_edge.specs.declared.packet.Packet.{Packet}
 
--- a packet that is given, and one of the definition, as a triple and bit positions
+-- a returned packet and one of the definition, as a triple and bit positions
 abbrev pub positions_in : Packet → Positions
 positions_in p = record { triple = p.triple; positions = positions_of p.bits }
 
 abbrev pub placed : IngressPacket → Positions
 placed p = record { triple = p.triple; positions = item.positions_of p.triple p.ids }
 
--- A fault is the first that holds, or memory ran out.
+-- An error is the first that applies, or out of memory.
 abbrev pub Refuses : Option EdgeFault → EdgeFault → Type 0
 Refuses first NoEgress = first ≡ Some NoEgress
 Refuses first IdZero = first ≡ Some IdZero

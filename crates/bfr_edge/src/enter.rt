@@ -14,12 +14,12 @@ use bier_bits::AnyBits;
 use std::alloc::Global;
 use wire_base::{Bsl, EdgeFault, M, RouterConf, Rows, Triple};
 
-/// The packets that a list of BFR-ids makes at a router: one for each set identifier, in ascending order, with the bit
-/// positions of the ids of that set (RFC 8279, 3). The ids may repeat and stand in any order.
+/// Returns the packets for a list of BFR-ids at a router: one for each set identifier, in ascending order, with the bit
+/// positions of the BFR-ids of that set (RFC 8279, 3). The BFR-ids may repeat and be in any order.
 ///
-/// Refused is, in this order: a list without ids (NoEgress), the id 0 (IdZero), an id whose set identifier is above 255
-/// (SiLarge, with the first such id), a router without a BFR-id in the sub-domain (NotBfr), and one that supports no triple
-/// of the sub-domain and the length (BslUnknown). Memory may come in place of any answer.
+/// Errors, in this order: NoEgress if the list is empty; IdZero if it contains the BFR-id 0; SiLarge, with the first such BFR-id,
+/// if a set identifier exceeds 255; NotBfr if the router has no BFR-id in the sub-domain; and BslUnknown if it supports no triple
+/// of the sub-domain and the BSL. Memory may be returned instead of any result.
 #[tactic(auto, using(crate::proofs::SupportLaws::unsupported_is, crate::proofs::SupportLaws::supported_is))]
 pub fn ingress(
     alloc: Global,
@@ -29,7 +29,7 @@ pub fn ingress(
     ids: &[u16],
 ) -> Result<Rows<Packet>, EdgeFault>
     ensures refused { MatchResult result (λ _. edge_fault conf.now sd bsl ids.now ≡ None) (λ e. Refuses (edge_fault conf.now sd bsl ids.now) e) }
-    // A length is unknown exactly where no set of it has a BIFT-id.
+    // A BSL is unknown exactly where no set of it has a BIFT-id.
     ensures unsupported { edge_fault conf.now sd bsl ids.now ≡ Some BslUnknown → (si : ℕ) → own_bift conf.now (record { sd = sd; bsl = bsl; si = si }) ≡ None }
     ensures supported { IfOk result (λ _. (si : ℕ) × (is_some (own_bift conf.now (record { sd = sd; bsl = bsl; si = si })) ≡ true)) }
     ensures packets { IfOk result (λ ps. map positions_in ps ≡ map placed (packets_for sd bsl ids.now)) }
@@ -42,7 +42,7 @@ pub fn ingress(
     Ok(packets_of(alloc, sd, bsl, ids)?)
 }
 
-// The packets of ids that are neither 0 nor in a set above 255.
+// Returns the packets of BFR-ids that are neither 0 nor in a set above 255.
 fn packets_of(alloc: Global, sd: u8, bsl: Bsl, ids: &[u16]) -> M<Rows<Packet>>
     requires zero { list_any (λ k. k == 0) ids.now ≡ false }
     requires large { find (is_large bsl) ids.now ≡ None }
@@ -66,7 +66,7 @@ fn packets_of(alloc: Global, sd: u8, bsl: Bsl, ids: &[u16]) -> M<Rows<Packet>>
     Ok(packets)
 }
 
-// A set identifier above which no id is: 0, 15 or 255, so that few sets are tried where ids are low.
+// Returns a set identifier that no BFR-id exceeds: 0, 15 or 255, so that few sets are tried if the BFR-ids are low.
 fn last_set(bsl: Bsl, ids: &[u16]) -> u8
     requires { find (is_large bsl) ids.now ≡ None }
     ensures { list_any (λ k. nat_lt result (set_identifier (bits_of bsl) k)) ids.now ≡ false }
@@ -80,7 +80,7 @@ fn last_set(bsl: Bsl, ids: &[u16]) -> u8
     }
 }
 
-// Whether the set identifier of an id is above that one.
+// Returns whether the set identifier of a BFR-id exceeds that one.
 fn any_above(bsl: Bsl, ids: &[u16], last: u8) -> bool
     ensures { result ≡ list_any (λ k. nat_lt last (set_identifier (bits_of bsl) k)) ids.now }
 {
@@ -101,7 +101,7 @@ fn is_above(bsl: Bsl, id: u16, last: u8) -> bool
     }
 }
 
-// The bit positions of the ids of a triple's set.
+// Returns the bit positions of the BFR-ids in a triple's set.
 fn bits_of_set(triple: Triple, ids: &[u16]) -> AnyBits
     requires zero { list_any (λ k. k == 0) ids.now ≡ false }
     ensures positions { positions_of result ≡ map (bit_position (bits_of triple.bsl)) (ids_of_set triple.bsl ids.now triple.si) }
@@ -117,7 +117,7 @@ fn bits_of_set(triple: Triple, ids: &[u16]) -> AnyBits
     bits
 }
 
-// The bit position of an id of the triple's set.
+// Returns the bit position of a BFR-id in the triple's set.
 fn place_in(triple: Triple, id: u16) -> Option<u16>
     ensures value { result ≡ position_in triple id }
     ensures low { IfSome result (λ p. 1 ≤ p) }

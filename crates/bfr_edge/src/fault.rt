@@ -5,7 +5,7 @@ ghost use Rattle.wire_base.specs.model.Ingress.{edge_fault, is_large, supports_l
 
 use wire_base::{Bsl, EdgeFault, Kind, LabelRange, OwnSub, RouterConf, TableRow, kind_of};
 
-// The first reason for which a router makes no packets for a list of BFR-ids.
+// Returns the first reason for which a router sends no packets to a list of BFR-ids.
 #[tactic(auto, unfolding(wire_base::specs::model::Ingress::edge_fault))]
 pub fn fault_of(conf: &RouterConf, sd: u8, bsl: Bsl, ids: &[u16]) -> Option<EdgeFault>
     ensures { result ≡ edge_fault conf.now sd bsl ids.now }
@@ -33,7 +33,7 @@ fn has_zero(ids: &[u16]) -> bool
     false
 }
 
-// The first id whose set identifier is above 255.
+// Returns the first BFR-id whose set identifier exceeds 255.
 fn first_large(bsl: Bsl, ids: &[u16]) -> Option<u16>
     ensures { result ≡ find (is_large bsl) ids.now }
 {
@@ -78,7 +78,7 @@ fn sub_in(subs: &[OwnSub], sd: u8) -> Option<&OwnSub>
     None
 }
 
-// Whether the router has a BFR-id in the sub-domain.
+// Returns whether the router has a BFR-id in the sub-domain.
 fn has_id(subs: &[OwnSub], sd: u8) -> bool
     ensures { result ≡ is_some (id_of (sub_in subs.now sd)) }
 {
@@ -88,7 +88,7 @@ fn has_id(subs: &[OwnSub], sd: u8) -> bool
     }
 }
 
-/// Whether the router has a BIFT-id for some set of the length in the sub-domain.
+/// Returns whether the router has a BIFT-id for some set of the BSL in the sub-domain.
 pub fn supports_length(conf: &RouterConf, sd: u8, bsl: Bsl) -> bool
     ensures value { result ≡ supports_length conf.now sd bsl }
     ensures some { (result ≡ true) ↔ ((si : ℕ) × (is_some (own_bift conf.now (record { sd = sd; bsl = bsl; si = si })) ≡ true)) }

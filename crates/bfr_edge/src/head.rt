@@ -6,8 +6,9 @@ ghost use Rattle.bier_head.specs.Views.{header_of};
 use crate::packet::Packet;
 use bier_head::Header;
 
-/// The header with which a packet enters (RFC 8296, 2.1 and 3): nibble 5, the end of the label stack, protocol 4 for IPv4,
-/// whose payload isn't read, and else 0 but for what is given. The BIFT-id and the entropy have 20 bits.
+/// Returns the header with which a packet enters the domain (RFC 8296, 2.1 and 3): nibble 5, bottom of the label stack,
+/// protocol 4 (IPv4, but the payload is not read), the given values, and 0 in all other fields. Precondition: the BIFT-id and the
+/// entropy have at most 20 bits.
 #[tactic(auto, unfolding(wire_base::specs::model::Item::ingress_header))]
 pub fn head_of(p: &Packet, bift: u32, ttl: u8, entropy: u32, bfir: u16) -> Header
     requires bift { bift < 2 ^ 20 }

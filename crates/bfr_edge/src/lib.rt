@@ -1,7 +1,7 @@
-//! Where packets enter a domain (RFC 8279, 3; RFC 8296, 3): the packets that a list of BFR-ids makes, and their header.
+//! The ingress of a domain (RFC 8279, 3; RFC 8296, 3): the packets for a list of BFR-ids, and their header.
 //!
-//! It stands on `bier_bits` and `bier_head`, and promises one packet for each set identifier, in which each id of the list
-//! stands once, or the first rule that the list breaks.
+//! This crate depends on `bier_bits` and `bier_head`. It returns one packet for each set identifier, in which each BFR-id of the
+//! list occurs once, or the first rule that the list breaks.
 #![tactic(auto)]
 
 mod enter;

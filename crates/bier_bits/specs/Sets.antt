@@ -1,4 +1,4 @@
--- How words of 64 bits stand for a set of positions.
+-- The set of positions that 64-bit words represent.
 use Rattle.std.specs.Prelude.{ℕ, ◌≤◌, ◌<◌, ◌≡◌, ◌*◌, ◌-◌, ◌/◌, ◌%◌, ◌^◌, ◌&&◌, Bool, true, false, ◌||◌, List, ◌==◌, nat_le, filter, length, drop, slice_index, bit_and}
 use Rattle.std.specs.Int.{bit_at, bit_not, w64}
 use Rattle.byteorder.specs.Endian.{big_number}
@@ -12,29 +12,29 @@ is_width w = (w == 1) || (w == 2) || (w == 4) || (w == 8) || (w == 16) || (w == 
 abbrev pub from_on : ℕ → List ℕ → List ℕ
 from_on low set = filter (λ p. nat_le low p) set
 
--- two sets share no position below one
+-- two sets share no position below the given one
 abbrev pub AreApartBelow : ℕ → List ℕ → List ℕ → Type 0
 AreApartBelow bp xs ys = (p : ℕ) → 1 ≤ p → p < bp → has_member p (intersection xs ys) ≡ false
 
--- whether the bit at a place is set, which is counted from 0 through all words, the least bit of each word first
+-- whether the bit at an index is set, counted from 0 through all words, the least significant bit of each word first
 abbrev pub has_place : List ℕ → ℕ → Bool
 has_place words i = bit_at (slice_index words (i / 64)) (i % 64) == 1
 
 abbrev pub has_both : List ℕ → List ℕ → ℕ → Bool
 has_both a b i = has_place a i && has_place b i
 
--- the positions of w words: position p is the bit at place p - 1
+-- the positions in w words: position p is the bit at index p - 1
 unfoldable pub members_of : ℕ → List ℕ → List ℕ
 members_of w words = filter (λ p. has_place words (p - 1)) (up_to (64 * w))
 
 abbrev pub places_in : List ℕ → List ℕ
 places_in words = members_of (length words) words
 
--- each is a word of 64 bits
+-- each is a 64-bit word
 abbrev pub AreWords : List ℕ → Type 0
 AreWords words = (k : ℕ) → slice_index words k < 2 ^ 64
 
--- no place from one number to another passes a test, and the first that does
+-- no index from one number up to another passes a test, and the first that does
 abbrev pub NoPlace : (ℕ → Bool) → ℕ → ℕ → Type 0
 NoPlace test low high = (i : ℕ) → low ≤ i → i < high → test i ≡ false
 
@@ -44,10 +44,10 @@ pub record IsNextPlace (test : ℕ → Bool) (start end i : ℕ) : Type 0 where
   pub has : test i ≡ true
   pub none : NoPlace test start i
 
--- the bits of the first word that the second hasn't
+-- the bits of the first word that are not in the second
 abbrev pub and_not : ℕ → ℕ → ℕ
 and_not a b = bit_and a (bit_not w64 b)
 
--- the first k words are the numbers of eight octets each, from the end on
+-- the first k words are the numbers in eight octets each, from the end on
 abbrev pub AreOctets : List ℕ → List ℕ → ℕ → Type 0
 AreOctets words octets count = (k : ℕ) → k < count → slice_index words k ≡ big_number 8 (drop (8 * (length words - 1 - k)) octets)

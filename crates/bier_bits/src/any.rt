@@ -7,10 +7,10 @@ ghost use Rattle.bier_bits.specs.Any.{bsl_of, positions_of, any_of};
 use crate::bit_string::BitString;
 use wire_base::Bsl;
 
-/// A BitString of one of the seven lengths that a header can carry (RFC 8296, 2.1.2), seen as that length and the set of
-/// its bit positions.
+/// A BitString of one of the seven lengths that a BIER header can carry (RFC 8296, 2.1.2). It is modeled as its length and the
+/// set of its bit positions.
 ///
-/// Contracts speak of the length, `bsl_of`, and of the ascending list of positions, `positions_of`.
+/// Contracts use the length, `bsl_of`, and the ascending list of positions, `positions_of`.
 #[derive(Drop)]
 pub enum AnyBits {
     B64(BitString<1>),
@@ -23,7 +23,7 @@ pub enum AnyBits {
 }
 
 impl AnyBits {
-    /// The empty set of a length.
+    /// Creates the empty BitString of a length.
     pub fn zero(bsl: Bsl) -> Self
         ensures positions { positions_of result ≡ [] }
         ensures bsl { bsl_of result ≡ bsl }
@@ -39,7 +39,7 @@ impl AnyBits {
         }
     }
 
-    /// A set with that many bits as one of any length.
+    /// Converts a BitString of that length.
     pub fn from_set<const W: usize>(bsl: Bsl, set: &BitString<W>) -> Self
         requires width { IsTrue (is_width W) }
         requires bits { bits_of bsl ≡ 64 * W }
@@ -57,7 +57,7 @@ impl AnyBits {
         }
     }
 
-    /// An equal set of the same length.
+    /// Returns an equal BitString.
     pub fn copy(&self) -> Self
         ensures { result ≡ self.now }
     {
@@ -72,8 +72,8 @@ impl AnyBits {
         }
     }
 
-    /// The length. The set is an ascending list of positions from 1 to the length's bits, and the length and the set
-    /// together are the whole value.
+    /// Returns the length. The set is an ascending list of positions from 1 to the length in bits, and the length and the set
+    /// together determine the value.
     pub fn bsl(&self) -> Bsl
         ensures value { result ≡ bsl_of self.now }
         ensures ordered { IsWithin 0 (bits_of (bsl_of self.now)) (positions_of self.now) }
@@ -111,7 +111,7 @@ impl AnyBits {
         }
     }
 
-    /// Adds a position, from 1 to the length's bits.
+    /// Sets the bit at position `bp`, from 1 to the length in bits.
     pub fn set(&mut self, bp: u16)
         requires low { 1 ≤ bp }
         requires high { bp ≤ bits_of (bsl_of self.old) }
@@ -129,7 +129,7 @@ impl AnyBits {
         }
     }
 
-    /// Whether a position is in the set. False outside 1 to the length's bits.
+    /// Returns whether the bit at position `bp` is set. False outside 1 to the length in bits.
     pub fn has(&self, bp: u16) -> bool
         ensures { result ≡ has_member bp (positions_of self.now) }
     {
@@ -144,7 +144,7 @@ impl AnyBits {
         }
     }
 
-    /// The positions that both sets have, where the two are of one length.
+    /// Returns the intersection of two BitStrings of one length.
     pub fn and(&self, other: &Self) -> Self
         requires { bsl_of other.now ≡ bsl_of self.now }
         ensures positions { positions_of result ≡ intersection (positions_of self.now) (positions_of other.now) }
@@ -162,7 +162,7 @@ impl AnyBits {
         }
     }
 
-    /// The positions of this set that the other hasn't, where the two are of one length.
+    /// Returns the positions of `self` that are not in `other`, for two BitStrings of one length.
     pub fn and_not(&self, other: &Self) -> Self
         requires { bsl_of other.now ≡ bsl_of self.now }
         ensures positions { positions_of result ≡ difference (positions_of self.now) (positions_of other.now) }
@@ -180,7 +180,7 @@ impl AnyBits {
         }
     }
 
-    /// The positions of this set and those of the other, where the two are of one length.
+    /// Returns the union of two BitStrings of one length.
     pub fn or(&self, other: &Self) -> Self
         requires { bsl_of other.now ≡ bsl_of self.now }
         ensures positions { positions_of result ≡ union (positions_of self.now) (positions_of other.now) }
@@ -198,7 +198,7 @@ impl AnyBits {
         }
     }
 
-    /// Whether the set has no position.
+    /// Returns whether no bit is set.
     pub fn is_empty(&self) -> bool
         ensures { result ≡ (length (positions_of self.now) == 0) }
     {
@@ -213,7 +213,7 @@ impl AnyBits {
         }
     }
 
-    /// Whether the two sets, which are of one length, have the same positions.
+    /// Returns whether two BitStrings of one length are equal.
     pub fn is_same(&self, other: &Self) -> bool
         requires { bsl_of other.now ≡ bsl_of self.now }
         ensures same { result ≡ true → positions_of self.now ≡ positions_of other.now }
@@ -231,7 +231,7 @@ impl AnyBits {
         }
     }
 
-    /// How many positions the set has.
+    /// Returns the number of set bits.
     pub fn count(&self) -> u16
         ensures { result ≡ length (positions_of self.now) }
     {
@@ -246,7 +246,7 @@ impl AnyBits {
         }
     }
 
-    /// The least position of the set. None exactly where the set is empty.
+    /// Returns the least position that is set. None exactly where no bit is set.
     pub fn first(&self) -> Option<u16>
         ensures { result ≡ first_member (positions_of self.now) }
     {
@@ -261,8 +261,8 @@ impl AnyBits {
         }
     }
 
-    /// The least position of the set that is at least `bp`. None exactly where there is none. What the set has from `bp` on
-    /// is that position and what it has behind it.
+    /// Returns the least set position that is at least `bp`. None exactly where there is none. The set positions from `bp` on
+    /// are that position and those after it.
     pub fn next_from(&self, bp: u16) -> Option<u16>
         ensures value { result ≡ first_member (from_on bp (positions_of self.now)) }
         ensures rest { IfSome result (λ p. from_on bp (positions_of self.now) ≡ p ∷ from_on (p + 1) (positions_of self.now)) }
@@ -280,8 +280,8 @@ impl AnyBits {
         }
     }
 
-    /// Writes the set as an eighth of the length's bits in octets, the highest position first: position 1 is the least
-    /// significant bit of the last octet (RFC 8296, 2.1.2). What was written stands for the set.
+    /// Writes the BitString in network order as one octet for each eight bits: the highest position first, and position 1 as
+    /// the least significant bit of the last octet (RFC 8296, 2.1.2). The octets encode the set.
     pub fn to_be_bytes(&self, out: &mut [u8])
         requires { 8 * length out.old ≡ bits_of (bsl_of self.now) }
         ensures octets { out.new ≡ octets_of (bits_of (bsl_of self.now) / 8) (positions_of self.now) }
@@ -298,8 +298,8 @@ impl AnyBits {
         }
     }
 
-    /// The set of a length that octets stand for, an eighth of its bits in number, the highest position first. The octets
-    /// are those that the set is written as.
+    /// Reads a BitString of a length from its octets in network order, one for each eight bits. Writing the result gives the same
+    /// octets.
     pub fn read(bsl: Bsl, bytes: &[u8]) -> Self
         requires { 8 * length bytes.now ≡ bits_of bsl }
         ensures positions { positions_of result ≡ set_of bytes.now }

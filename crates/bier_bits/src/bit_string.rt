@@ -6,8 +6,8 @@ use crate::octets::{read_words, write_words};
 use crate::words::{Both, Either, Without, are_zero, count, cut, first_shared, join, next_place};
 use std::marker::Model;
 
-/// A BitString of 64 W bits, seen as a set of bit positions, which are counted from 1 to 64 W (RFC 8279, 3; RFC 8296,
-/// 2.1.2). W is 1, 2, 4, 8, 16, 32 or 64, for the seven lengths that a header can carry.
+/// A BitString of 64 W bits, modeled as a set of bit positions, which are counted from 1 to 64 W (RFC 8279, 3; RFC 8296,
+/// 2.1.2). W is 1, 2, 4, 8, 16, 32 or 64, for the seven lengths that a BIER header can carry.
 ///
 /// It holds W words of 64 bits: position p is bit (p - 1) mod 64 of word (p - 1) div 64.
 #[derive(Drop)]
@@ -25,7 +25,7 @@ impl<const W: usize> Model for BitString<W> {
 }
 
 impl<const W: usize> BitString<W> {
-    /// The empty set.
+    /// Creates the empty BitString.
     pub fn zero() -> Self
         requires { IsTrue (is_width W) }
         ensures { result ≡ [] }
@@ -33,14 +33,14 @@ impl<const W: usize> BitString<W> {
         BitString { lanes: [0; W] }
     }
 
-    /// An equal set.
+    /// Returns an equal BitString.
     pub fn copy(&self) -> Self
         ensures { result ≡ self.now }
     {
         BitString { lanes: self.lanes }
     }
 
-    /// An equal set whose width is written as another number.
+    /// Returns an equal BitString whose width parameter has the same value under another name.
     pub(crate) fn as_wide<const V: usize>(&self) -> BitString<V>
         requires width { IsTrue (is_width W) }
         requires same { V ≡ W }
@@ -51,8 +51,8 @@ impl<const W: usize> BitString<W> {
         BitString { lanes }
     }
 
-    /// How many bits the string has, which is the highest position. The set is an ascending list of positions from 1 to
-    /// it.
+    /// Returns the width in bits, which is also the highest position. The set is an ascending list of positions from 1 to
+    /// the width.
     #[tactic(auto, using(crate::proofs::Widths::width_le))]
     pub fn width(&self) -> u16
         requires { IsTrue (is_width W) }
@@ -63,7 +63,7 @@ impl<const W: usize> BitString<W> {
         (64 * W) as u16
     }
 
-    /// Adds a position, from 1 to the width.
+    /// Sets the bit at position `bp`, from 1 to the width.
     pub fn set(&mut self, bp: u16)
         requires width { IsTrue (is_width W) }
         requires low { 1 ≤ bp }
@@ -74,7 +74,7 @@ impl<const W: usize> BitString<W> {
         self.lanes[place / 64] |= 1 << (place % 64);
     }
 
-    /// Takes a position, from 1 to the width, out of the set.
+    /// Clears the bit at position `bp`, from 1 to the width.
     pub fn remove(&mut self, bp: u16)
         requires width { IsTrue (is_width W) }
         requires low { 1 ≤ bp }
@@ -85,7 +85,7 @@ impl<const W: usize> BitString<W> {
         self.lanes[place / 64] &= !(1 << (place % 64));
     }
 
-    /// Whether a position is in the set. False outside 1 to the width.
+    /// Returns whether the bit at position `bp` is set. False outside 1 to the width.
     pub fn has(&self, bp: u16) -> bool
         requires { IsTrue (is_width W) }
         ensures { result ≡ has_member bp self.now }
@@ -97,7 +97,7 @@ impl<const W: usize> BitString<W> {
         self.lanes[place / 64] >> (place % 64) & 1 == 1
     }
 
-    /// The positions that both sets have.
+    /// Returns the intersection.
     pub fn and(&self, other: &Self) -> Self
         requires { IsTrue (is_width W) }
         ensures { result ≡ intersection self.now other.now }
@@ -107,7 +107,7 @@ impl<const W: usize> BitString<W> {
         BitString { lanes }
     }
 
-    /// The positions of this set that the other hasn't.
+    /// Returns the positions of `self` that are not in `other`.
     pub fn and_not(&self, other: &Self) -> Self
         requires { IsTrue (is_width W) }
         ensures { result ≡ difference self.now other.now }
@@ -117,7 +117,7 @@ impl<const W: usize> BitString<W> {
         BitString { lanes }
     }
 
-    /// Takes the positions that the mask has out of the set, in place, and gives them.
+    /// Clears the positions of the mask in place, and returns those that were set.
     pub fn cut(&mut self, mask: &Self) -> Self
         requires { IsTrue (is_width W) }
         ensures taken { result ≡ intersection self.old mask.now }
@@ -128,7 +128,7 @@ impl<const W: usize> BitString<W> {
         BitString { lanes }
     }
 
-    /// The same, where it is known that the mask has none of the positions below `bp`: those aren't looked at.
+    /// Like `cut`, if the mask has no position below `bp` that is set in `self`: those words are skipped.
     #[tactic(auto, using(crate::proofs::Widths::width_le))]
     pub fn cut_from(&mut self, mask: &Self, bp: u16) -> Self
         requires width { IsTrue (is_width W) }
@@ -144,7 +144,7 @@ impl<const W: usize> BitString<W> {
         BitString { lanes }
     }
 
-    /// The positions of this set and those of the other.
+    /// Returns the union.
     pub fn or(&self, other: &Self) -> Self
         requires { IsTrue (is_width W) }
         ensures { result ≡ union self.now other.now }
@@ -154,7 +154,7 @@ impl<const W: usize> BitString<W> {
         BitString { lanes }
     }
 
-    /// Whether the set has no position.
+    /// Returns whether no bit is set.
     pub fn is_empty(&self) -> bool
         requires { IsTrue (is_width W) }
         ensures { result ≡ (length self.now == 0) }
@@ -162,7 +162,7 @@ impl<const W: usize> BitString<W> {
         are_zero(&self.lanes)
     }
 
-    /// Whether the two sets have the same positions.
+    /// Returns whether both BitStrings are equal.
     pub fn is_same(&self, other: &Self) -> bool
         requires { IsTrue (is_width W) }
         ensures same { result ≡ true → self.now ≡ other.now }
@@ -172,7 +172,7 @@ impl<const W: usize> BitString<W> {
         self.and_not(other).is_empty() && other.and_not(self).is_empty()
     }
 
-    /// How many positions the set has.
+    /// Returns the number of set bits.
     #[tactic(auto, using(crate::proofs::Widths::width_le))]
     pub fn count(&self) -> u16
         requires { IsTrue (is_width W) }
@@ -181,7 +181,7 @@ impl<const W: usize> BitString<W> {
         count(&self.lanes) as u16
     }
 
-    /// The least position of the set. None exactly where the set is empty.
+    /// Returns the least position that is set. None exactly where no bit is set.
     #[tactic(auto, using(crate::proofs::Widths::width_le))]
     pub fn first(&self) -> Option<u16>
         requires { IsTrue (is_width W) }
@@ -191,8 +191,8 @@ impl<const W: usize> BitString<W> {
         Some(place as u16 + 1)
     }
 
-    /// The least position of the set that is at least `bp`. None exactly where there is none. What the set has from `bp` on
-    /// is that position and what it has behind it, so a walk asks from behind each position that it was given.
+    /// Returns the least set position that is at least `bp`. None exactly where there is none. The set positions from `bp` on
+    /// are that position and those after it, so a loop continues from the position after each result.
     #[tactic(auto, using(crate::proofs::Widths::width_le))]
     pub fn next_from(&self, bp: u16) -> Option<u16>
         requires { IsTrue (is_width W) }
@@ -205,7 +205,7 @@ impl<const W: usize> BitString<W> {
         Some(place as u16 + 1)
     }
 
-    /// The least position that both sets have. None exactly where they share none.
+    /// Returns the least position that is set in both. None exactly where they share none.
     #[tactic(auto, using(crate::proofs::Widths::width_le))]
     pub fn first_shared(&self, other: &Self) -> Option<u16>
         requires { IsTrue (is_width W) }
@@ -215,7 +215,7 @@ impl<const W: usize> BitString<W> {
         Some(place as u16 + 1)
     }
 
-    /// The same, where it is known that they share none below `bp`: those aren't looked at.
+    /// Like `first_shared`, if they share no position below `bp`: those words are skipped.
     #[tactic(auto, using(crate::proofs::Widths::width_le))]
     pub fn first_shared_from(&self, other: &Self, bp: u16) -> Option<u16>
         requires width { IsTrue (is_width W) }
@@ -230,8 +230,8 @@ impl<const W: usize> BitString<W> {
         Some(place as u16 + 1)
     }
 
-    /// Writes the set as 8 W octets, the highest position first: position 1 is the least significant bit of the last
-    /// octet (RFC 8296, 2.1.2). What was written stands for the set.
+    /// Writes the BitString as 8 W octets in network order: the highest position first, and position 1 as the least significant
+    /// bit of the last octet (RFC 8296, 2.1.2). The octets encode the set.
     pub fn to_be_bytes(&self, out: &mut [u8])
         requires width { IsTrue (is_width W) }
         requires octets { length out.old ≡ 8 * W }
@@ -241,7 +241,7 @@ impl<const W: usize> BitString<W> {
         write_words(&self.lanes, out);
     }
 
-    /// The set that 8 W octets stand for, the highest position first. The octets are those that the set is written as.
+    /// Reads a BitString from 8 W octets in network order. Writing the result gives the same octets.
     pub fn read(bytes: &[u8]) -> Self
         requires width { IsTrue (is_width W) }
         requires octets { length bytes.now ≡ 8 * W }

@@ -1,11 +1,11 @@
-//! Words and the octets that stand for them, highest first: the last eight octets are the first word.
+//! Words in big-endian octets: the last eight octets are the first word.
 ghost use Rattle.std.specs.Prelude.{◌≡◌, ◌≤◌, ◌+◌, ◌*◌, ◌++◌, length, take, drop};
 ghost use Rattle.byteorder.specs.Endian.{big_bytes};
 ghost use Rattle.bier_bits.specs.Sets.{AreOctets};
 
 use byteorder::{BigEndian, ByteOrder};
 
-/// Reads as many words as there are, from eight octets each.
+/// Reads each word of `words` from eight octets.
 pub fn read_words(bytes: &[u8], words: &mut [u64])
     requires { length bytes.now ≡ 8 * length words.old }
     ensures octets { AreOctets words.new bytes.now (length words.new) }

@@ -1,4 +1,4 @@
-//! Words of 64 bits, eight at once where there are as many.
+//! Operations on slices of 64-bit words, eight words at once while that many are left.
 ghost use Rattle.std.specs.Prelude.{◌≡◌, ◌≤◌, ◌<◌, ◌+◌, ◌*◌, ◌==◌, ℕ, length, slice_index, bit_and, bit_or, MatchOption};
 ghost use Rattle.std.specs.Int.{bit_not, w64};
 ghost use Rattle.std.specs.List.{list_all};
@@ -7,7 +7,7 @@ ghost use Rattle.bier_bits.specs.Sets.{AreWords, IsNextPlace, NoPlace, has_place
 
 use std::simd::prelude::*;
 
-/// What is done with two words, one pair at a time and eight at once.
+/// A bitwise operation on two words, for one pair at a time and for eight at once.
 pub trait Joint {
     ghost word: { ℕ → ℕ → ℕ };
 
@@ -18,7 +18,7 @@ pub trait Joint {
         ensures { result ≡ zip2 word a b };
 }
 
-/// The bits that both have.
+/// Bitwise and: the bits set in both words.
 pub struct Both;
 
 impl Joint for Both {
@@ -33,7 +33,7 @@ impl Joint for Both {
     }
 }
 
-/// The bits of the first that the second hasn't.
+/// And-not: the bits of the first word that are not set in the second.
 pub struct Without;
 
 impl Joint for Without {
@@ -48,7 +48,7 @@ impl Joint for Without {
     }
 }
 
-/// The bits that one or the other has.
+/// Bitwise or: the bits set in either word.
 pub struct Either;
 
 impl Joint for Either {
@@ -63,7 +63,7 @@ impl Joint for Either {
     }
 }
 
-/// Joins the words of two lists, place by place: eight at once, and then those that are left.
+/// Applies the operation to two slices word by word: eight words at once, and then the rest.
 pub fn join<J: Joint>(a: &[u64], b: &[u64], out: &mut [u64])
     requires b { length b.now ≡ length a.now }
     requires out { length out.old ≡ length a.now }
@@ -91,8 +91,8 @@ fn join_eight<J: Joint>(a: &[u64], b: &[u64], out: &mut [u64], at: usize)
     joined.copy_to_slice(&mut out[at..]);
 }
 
-/// Takes the bits that a mask has out of words, and puts them into `taken`, which is empty: eight words at once, and
-/// then those that are left. Below the word `from` the mask has none of them.
+/// Clears the bits of a mask in `words` and sets the cleared ones in `taken`, which is empty: eight words at once, and
+/// then the rest. Below the word `from` the mask has none of the set bits.
 pub fn cut(words: &mut [u64], mask: &[u64], taken: &mut [u64], from: usize)
     requires mask { length mask.now ≡ length words.old }
     requires taken { length taken.old ≡ length words.old }
@@ -127,7 +127,7 @@ fn cut_eight(words: &mut [u64], mask: &[u64], taken: &mut [u64], at: usize)
     Without::eight(eight, mask).copy_to_slice(&mut words[at..]);
 }
 
-/// Whether no word has a bit.
+/// Returns whether all words are 0.
 pub fn are_zero(words: &[u64]) -> bool
     ensures fits { AreWords words.now }
     ensures zero { result ≡ list_all (λ x. x == 0) words.now }
@@ -155,8 +155,8 @@ fn are_eight_zero(words: &[u64], at: usize) -> bool
     u64x8::from_slice(&words[at..]).reduce_or() == 0
 }
 
-/// The first place from one on whose bit is set, the bits being counted from 0 through all words, the least of each word
-/// first.
+/// Returns the index of the first set bit from an index on. Bits are counted from 0 through all words, the least significant
+/// bit of each word first.
 pub fn next_place(words: &[u64], from: usize) -> Option<usize>
     requires { length words.now ≤ 64 }
     ensures { MatchOption result (NoPlace (has_place words.now) from (64 * length words.now)) (λ q. IsNextPlace (has_place words.now) from (64 * length words.now) q) }
@@ -176,8 +176,8 @@ pub fn next_place(words: &[u64], from: usize) -> Option<usize>
     Some(64 * k + words[k].trailing_zeros() as usize)
 }
 
-/// The first place from one on whose word has a bit, or the end where none has: eight words at once, as long as they have
-/// none, and then one by one.
+/// Returns the index of the first nonzero word from an index on, or the length: eight words at once while they are
+/// 0, and then one by one.
 fn next_word(words: &[u64], from: usize) -> usize
     requires few { length words.now ≤ 64 }
     requires within { from ≤ length words.now }
@@ -196,7 +196,7 @@ fn next_word(words: &[u64], from: usize) -> usize
     at
 }
 
-/// The first place whose bit both have. Below the word `from` they share none.
+/// Returns the index of the first bit that is set in both. Below the word `from` they share none.
 pub fn first_shared(a: &[u64], b: &[u64], from: usize) -> Option<usize>
     requires few { length a.now ≤ 64 }
     requires same { length b.now ≡ length a.now }
@@ -213,7 +213,7 @@ pub fn first_shared(a: &[u64], b: &[u64], from: usize) -> Option<usize>
     None
 }
 
-/// How many bits are set.
+/// Returns the number of set bits.
 pub fn count(words: &[u64]) -> usize
     requires { length words.now ≤ 64 }
     ensures value { result ≡ length (places_in words.now) }

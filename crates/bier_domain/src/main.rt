@@ -1,4 +1,5 @@
-//! The program: `host_run` on the arguments, the files and the standard output of the system. Nothing is written to standard error.
+//! The program: `host_run` with the arguments, the files and the standard output of the system. Nothing is written to
+//! standard error.
 #![tactic(auto)]
 
 use host_run::{run_arguments, run_words};
@@ -8,7 +9,7 @@ use std::{env, io};
 use tool_host::{StdoutSink, SystemFiles, exit_code, is_no_text};
 use wire_base::Status;
 
-/// Runs on the arguments of the system.
+/// Runs the program on the arguments of the system.
 fn run_command_line(rt: &HostRuntime) -> Result<Status, AllocError> {
     let files = SystemFiles::new(rt);
     let mut report = StdoutSink::new(io::writer(rt));

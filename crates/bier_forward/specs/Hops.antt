@@ -1,4 +1,4 @@
--- How the parts of a hop stand for it.
+-- How the parts of a hop represent it.
 use Rattle.std.specs.Prelude.{◌≡◌, ℕ, ◌≤◌, ◌<◌, ◌-◌, ◌%◌, ◌^◌, List, [], ◌∷◌, ◌++◌, map, is_some, slice_get, slice_index_or, Option, Some, None, option_and_then, option_map, if◌then◌else◌}
 use Rattle.wire_base.specs.declared.addresses.Ipv4.{Ipv4}
 use Rattle.wire_base.specs.declared.addresses.SystemId.{SystemId}
@@ -26,7 +26,7 @@ use Rattle.bier_hop.specs.declared.out.Why.{Why}
 use Rattle.bier_hop.specs.declared.out.Why.TheVariants.{NoRow, Ttl}
 use Rattle.bier_forward.specs.declared.ways.Way.{Way}
 
--- effects, and then others
+-- effects followed by others
 abbrev pub after : Effects → Effects → Effects
 after a b = record a { sent = a.sent ++ b.sent; got = a.got ++ b.got; drops = a.drops ++ b.drops }
 
@@ -42,7 +42,7 @@ abbrev pub node_in : List ViewNode → SystemId → Option ViewNode
 node_in [] s = None
 node_in (n ∷ g) s = if same_system n.system s then Some n else node_in g s
 
--- the place of a router's node, by which it is named
+-- the index of a router's node, by which it is identified
 abbrev pub place_of : List ViewNode → First → ℕ
 place_of g f = node_place g f.system
 
@@ -59,9 +59,9 @@ abbrev pub cause_of : Why → Cause
 cause_of NoRow = cause.NoRow
 cause_of Ttl = cause.Ttl
 
--- ---- routers to which copies go
+-- ---- routers to which copies are sent
 
--- An entry of the table is a node of the view, as the router names it: with the end that leads to it, where it is reached
+-- A router of the table is a node of the view, as the router represents it: with the interface toward it, where it is reached
 -- directly.
 pub record IsNext (r : RouterConf) (g : List ViewNode) (f : First) : Type 0 where
   pub named : first_at r.ends g (node_place g r.system) (place_of g f) ≡ Some f
@@ -75,7 +75,7 @@ abbrev pub AreRows : RouterConf → List ViewNode → Triple → List (List Firs
 AreRows r g t rows =
     (p : ℕ) → 1 ≤ p → p ≤ bits_of t.bsl → slice_index_or rows (p - 1) [] ≡ row r.kinds r.table r.ends g t (node_place g r.system) p
 
--- what must hold where an outcome is given
+-- the condition for an outcome
 abbrev pub IsDue : {w : ℕ} → RouterConf → List ViewNode → Packet → Out w → Type 0
 IsDue r g p (Local bp) = id_at p.triple bp < 65536
 IsDue r g p (Copy to set ttl) = IsNext r g to.now
@@ -83,27 +83,27 @@ IsDue r g p (Dropped set why) = Unit {0}
 
 -- ---- copies
 
--- the BIFT-id that a system's node gives a triple
+-- the BIFT-id of a triple at a system's node
 abbrev pub bift_toward : RouterConf → List ViewNode → Triple → SystemId → Option ℕ
 bift_toward r g t s = option_and_then (node_bift r.kinds r.table t) (node_in g s)
 
--- how a copy goes on a link, where it has an end
+-- the route of a copy over a link, where it has an interface
 abbrev pub way_on : RouterConf → ℕ → Option Ipv4 → ℕ → Option Way
 way_on r bift tunnel link = option_map (λ e. record { link = link; end = e; bift = bift; tunnel = tunnel }) (slice_get r.ends link)
 
--- in a tunnel to the router's BFR-prefix, on the end that leads toward the router
+-- in a tunnel to the router's BFR-prefix, over the interface toward the router
 abbrev pub tunnel_way : RouterConf → List ViewNode → Triple → First → ℕ → Option Way
 tunnel_way r g t f bift =
     option_and_then
     (λ dst. option_and_then (way_on r bift (Some dst)) (next_link r g (node_place g r.system) (place_of g f)))
     (prefix_of g t.sd (place_of g f))
 
--- to a neighbor on its end, to another router in a tunnel
+-- to a neighbor over its interface, to another router in a tunnel
 abbrev pub way_by : RouterConf → List ViewNode → Triple → First → ℕ → Option ℕ → Option Way
 way_by r g t f bift None = tunnel_way r g t f bift
 way_by r g t f bift (Some link) = way_on r bift None link
 
--- how a copy goes to a router, and the router's BIFT-id, of which a header has room for 20 bits
+-- the route of a copy to a router, and the router's BIFT-id, of which 20 bits fit a header
 abbrev pub way_at : RouterConf → List ViewNode → Triple → First → Option Way
 way_at r g t f = option_and_then (λ bift. way_by r g t f (bift % 2 ^ 20) f.direct) (bift_toward r g t f.system)
 
@@ -115,7 +115,7 @@ copy_head p bift positions ttl = header_octets (record p.header { bift = bift; t
 abbrev pub copy_octets : Packet → ℕ → List ℕ → ℕ → List ℕ
 copy_octets p bift positions ttl = copy_head p bift positions ttl ++ p.payload
 
--- a frame of a copy, on its own or in a tunnel from the router
+-- a frame of a copy, in a tunnel from the router or not
 abbrev pub frame_in : RouterConf → Packet → End → List ℕ → Option Ipv4 → List ℕ
 frame_in r p e octets None = bier_frame e.peer_mac e.own_mac p.kind octets
 frame_in r p e octets (Some dst) = ip_frame e.peer_mac e.own_mac (tunnel (tunnel_for r p octets dst))

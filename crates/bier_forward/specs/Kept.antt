@@ -1,4 +1,4 @@
--- What a router keeps of a view beside it: each kept thing is the one of that view.
+-- What a router caches beside a view: each cached value is the one of that view.
 use Rattle.std.specs.Prelude.{◌≡◌, ℕ, ◌-◌, ◌%◌, ◌<◌, ◌≤◌, List, [], length, slice_index_or, Option}
 use Rattle.std.specs.List.{AllByRecursion}
 use Rattle.wire_base.specs.declared.conf.RouterConf.{RouterConf}
@@ -22,11 +22,11 @@ pub record HasRows (r : RouterConf) (g : List ViewNode) (t : Triple) (rows : Lis
   pub lists : length rows ≡ bits_of t.bsl
   pub each : AreRows r g t rows
 
--- at each position the router that a class picks among those of the position's list
+-- at each position the router that a class selects among those of the position's list
 abbrev pub Picks : ℕ → List (List First) → List (Option First) → Type 0
 Picks class rows table = (p : ℕ) → 1 ≤ p → router_at table p ≡ member_at class (slice_index_or rows (p - 1) [])
 
--- what a class picks from the rows of a triple
+-- what a class selects from the rows of a triple
 pub record LeadsAs (r : RouterConf) (g : List ViewNode) (t : Triple) (class : ℕ) (table : List (Option First)) : Type 0 where
   pub rows : List (List First)
   pub are : HasRows r g t rows
@@ -48,7 +48,7 @@ number_of Four = 4
 number_of Eight = 8
 number_of Sixteen = 16
 
--- The class modulo the period picks the router that the class picks, of a list of that size.
+-- The class modulo the period selects the same router as the class, from a list of that size.
 abbrev pub FitsSize : Period → ℕ → Type 0
 FitsSize period size = (class : ℕ) → class < 16 → 0 < size → class % number_of period % size ≡ class % size
 
@@ -56,11 +56,11 @@ FitsSize period size = (class : ℕ) → class < 16 → 0 < size → class % num
 abbrev pub IsPeriod : Period → List (List First) → Type 0
 IsPeriod period rows = (class : ℕ) → class < 16 → table_of rows (class % number_of period) ≡ table_of rows class
 
--- A kept table is that of its triple for packets of all classes that are its own modulo its period.
+-- A cached table is that of its triple for packets of all classes that equal its own modulo its period.
 abbrev pub IsKeptTable : RouterConf → List ViewNode → ClassTable → Type 0
 IsKeptTable r g k = (class : ℕ) → class < 16 → class % number_of k.period ≡ k.class → HasTable r g k.triple class k.table
 
--- all that is kept is of that view
+-- all that is cached belongs to that view
 pub record AreRoutes (r : RouterConf) (g : List ViewNode) (k : Routes) : Type 0 where
   pub rows : AllByRecursion (IsKeptRows r g) k.rows.items
   pub tables : AllByRecursion (IsKeptTable r g) k.tables.items

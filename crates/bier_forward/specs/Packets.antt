@@ -1,4 +1,4 @@
--- What a router makes of the octets of a BIER packet, and of the packets that enter the domain at it.
+-- How a router parses the octets of a BIER packet, and what it does with packets that enter the domain at it.
 use Rattle.std.specs.Prelude.{◌≡◌, ℕ, ◌+◌, ◌/◌, ◌≤◌, nat_lt, true, is_some, List, map, drop, length, Option, Some, None, unwrap_or, Result, Ok, Err, if◌then◌else◌}
 use Rattle.std.specs.List.{AllByRecursion}
 use Rattle.byteorder.specs.Endian.{big_number}
@@ -22,9 +22,9 @@ use Rattle.bier_head.specs.declared.header.Header.{Header}
 use Rattle.bier_head.specs.Views.{header_of}
 use Rattle.bier_bits.specs.Any.{bsl_of}
 
--- ---- read
+-- ---- parsing
 
--- a packet whose header was read, with the octets after it
+-- a packet whose header was parsed, with the octets after it
 abbrev pub with_header : Kind → Triple → List ℕ → Result BierHeader HeadFault → Result Packet Cause
 with_header kind t octets (Ok h) = Ok (record { triple = t; kind = kind; header = h; payload = drop (header_length t.bsl) octets })
 with_header kind t octets (Err fault) = Err (cause.Head fault)
@@ -33,8 +33,8 @@ abbrev pub with_meaning : Kind → List ℕ → Option Triple → Result Packet 
 with_meaning kind octets None = Err cause.Label
 with_meaning kind octets (Some t) = with_header kind t octets (header_at kind t.bsl octets)
 
--- The packet that octets are at a router, or why it is dropped, the first of these: fewer than four octets, a label that
--- isn't the last, a BIFT-id without a meaning, and a header that isn't readable (RFC 8296, 2.1 and 2.2).
+-- The packet in octets at a router, or why it is dropped, the first of these: fewer than four octets, a label that
+-- is not the last, a BIFT-id without a meaning, and an invalid header (RFC 8296, 2.1 and 2.2).
 unfoldable pub packet_at : RouterConf → Kind → List ℕ → Result Packet Cause
 packet_at r kind octets =
     if nat_lt (length octets) 4 then Err (cause.Head head_fault.Short) else
@@ -46,18 +46,19 @@ abbrev pub packet_done : Control → Result Packet Cause → Effects
 packet_done c (Ok p) = hop_in c p p.header.ttl
 packet_done c (Err why) = dropped why
 
--- It is no longer than a frame that a router takes, so that a tunnel has room for each copy.
+-- It is no longer than a frame that a router accepts, so that a tunnel has room for each copy.
 abbrev pub IsShort : Packet → Type 0
 IsShort p = header_length p.triple.bsl + length p.payload ≤ MOST_FRAME
 
--- what a packet that was read keeps: its numbers fit, and its BitString has its triple's length
+-- the invariant of a parsed packet: its numbers fit, and its BitString has its triple's length
 pub record IsReadable (t : Triple) (h : Header) : Type 0 where
   pub fields : FieldsFit (header_of h)
   pub length : bsl_of h.bits ≡ t.bsl
 
--- ---- hopped
+-- ---- the hop
 
--- Each edge of the router's own node in a view leads to the peer of one of its ends. A view of its own control state is so.
+-- Each edge of the router's own node in a view leads to the peer of one of its interfaces. This holds for the view of its own
+-- control state.
 abbrev pub LeadsToEnds : RouterConf → List ViewNode → Type 0
 LeadsToEnds r g = AllByRecursion (λ e. is_some (link_to r g e.to) ≡ true) (edges_of g (node_place g r.system))
 
@@ -65,7 +66,7 @@ LeadsToEnds r g = AllByRecursion (λ e. is_some (link_to r g e.to) ≡ true) (ed
 abbrev pub hopped : RouterConf → List ViewNode → Packet → ℕ → Effects
 hopped r g p ttl = hop_at r g (node_place g r.system) p ttl
 
--- ---- entering
+-- ---- ingress
 
 -- a packet that enters with those positions
 abbrev pub entering_with : RouterConf → ℕ → ℕ → List ℕ → Positions → Packet
@@ -77,6 +78,6 @@ entering_with r ttl entropy payload set =
       payload = payload;
     }
 
--- packets that enter, each hopped with one more than the given TTL
+-- packets that enter, each processed with one more than the given TTL
 unfoldable pub entered : RouterConf → List ViewNode → ℕ → ℕ → List ℕ → List Positions → Effects
 entered r g ttl entropy payload sets = joined (map (λ set. hopped r g (entering_with r ttl entropy payload set) (ttl + 1)) sets)

@@ -1,4 +1,4 @@
--- Frames that a router sends, kept as a list of frames with a note: the link that each is sent on.
+-- Frames that a router sends, stored as a list of frames with a note: the link that each is sent on.
 use Rattle.std.specs.Prelude.{ℕ, List, map}
 use Rattle.wire_base.specs.declared.effects.Sent.{Sent}
 use Rattle.frame_list.specs.Spans.{Noted}

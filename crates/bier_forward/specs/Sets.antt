@@ -1,4 +1,4 @@
--- Positions that an effect names, as they are held.
+-- The positions of an effect, as stored.
 use Rattle.std.specs.Prelude.{◌≡◌, Option, Some, None, option_map}
 use Rattle.wire_base.specs.model.OnFrame.{Positions}
 use Rattle.bier_bits.specs.Any.{bsl_of}

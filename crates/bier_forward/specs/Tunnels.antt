@@ -1,4 +1,4 @@
--- What tunnels need of a view, and a tunnel packet that goes on.
+-- The routes of tunnels in a view, and a tunnel packet that is forwarded.
 use Rattle.std.specs.Prelude.{◌≡◌, ℕ, nat_le, List, length, Option, Some, None, option_and_then, if◌then◌else◌}
 use Rattle.wire_base.specs.declared.addresses.Ipv4.{Ipv4}
 use Rattle.wire_base.specs.declared.cause.Cause.TheVariants as cause
@@ -9,12 +9,12 @@ use Rattle.wire_base.specs.model.Tunnel.{TunnelPacket}
 use Rattle.bier_tunnel.specs.Ways.{AreWays}
 use Rattle.bier_tunnel.specs.declared.ways.Way.{Way}
 
--- The ways from the router's node, where they were sought.
+-- The routes from the router's node, where they were built.
 abbrev pub IsBuilt : RouterConf → List ViewNode → Option (List Way) → Type 0
 IsBuilt r g None = Unit {0}
 IsBuilt r g (Some ways) = AreWays r g (node_place g r.system) ways
 
--- Where there are none although they were sought, the router has no node.
+-- Where there are none although they were built, the router has no node.
 abbrev pub HasNode : RouterConf → List ViewNode → Option (List Way) → Type 0
 HasNode r g None = node_place g r.system ≡ length g
 HasNode r g (Some ways) = Unit {0}

@@ -1,4 +1,4 @@
-//! The BIFT-id by which a router knows the packets of a triple (RFC 8279, 6.9; RFC 8401, 6.2).
+//! The BIFT-id of a triple at a router (RFC 8279, 6.9; RFC 8401, 6.2).
 ghost use Rattle.std.specs.Prelude.{◌≡◌, ◌<◌, ◌+◌, ◌%◌, ◌^◌, nat_le, Some, None, if◌then◌else◌, IfSome, option_map};
 ghost use Rattle.wire_base.specs.model.Graph.{node_bift};
 ghost use Rattle.wire_base.specs.model.Place.{label_in, row_in, same_triple};
@@ -6,7 +6,7 @@ ghost use Rattle.bier_forward.specs.Hops.{bift_toward, node_in};
 
 use wire_base::{Kind, LabelRange, RouterConf, SystemId, TableRow, Triple, ViewNode, kind_of};
 
-/// The BIFT-id that a system's node gives the triple: the lowest 20 bits of it, which a header has room for.
+/// Returns the BIFT-id of the triple at a system's node: its lowest 20 bits, which fit a header.
 pub(crate) fn bift_at(
     conf: &RouterConf,
     nodes: &[ViewNode],
@@ -42,7 +42,7 @@ fn node_bift(conf: &RouterConf, triple: Triple, node: &ViewNode) -> Option<u32>
     }
 }
 
-/// The label of the triple's set in the range of its length.
+/// Returns the label of the triple's set in the range of its BSL.
 fn label_in(ranges: &[LabelRange], triple: Triple) -> Option<u32>
     ensures { result ≡ option_map (λ bift. bift % 2 ^ 20) (label_in ranges.now triple) }
 {
@@ -64,7 +64,7 @@ fn label_of(range: LabelRange, si: u8) -> Option<u32>
     }
 }
 
-/// The BIFT-id of the triple in the written table.
+/// Returns the BIFT-id of the triple in the configured table.
 fn row_in(table: &[TableRow], triple: Triple) -> Option<u32>
     ensures { result ≡ option_map (λ bift. bift % 2 ^ 20) (row_in table.now triple) }
 {

@@ -1,4 +1,4 @@
-//! The frame of a copy: the packet with its own BIFT-id, TTL and BitString, on its own or in a tunnel.
+//! The frame of a copy: the packet with another BIFT-id, TTL and BitString, in a tunnel or not.
 ghost use Rattle.std.specs.Prelude.{◌≡◌, ◌<◌, ◌≤◌, ◌+◌, ◌*◌, ◌^◌, ◌++◌, IfOk, IsTrue, length};
 ghost use Rattle.wire_base.specs.model.Place.{bits_of};
 ghost use Rattle.wire_base.specs.model.BierHeader.{header_length};
@@ -20,11 +20,11 @@ use wire_base::ethernet::{FRAME_HEAD, IP_TYPE};
 use wire_base::limits::MOST_FRAME;
 use wire_base::{End, Ipv4, Kind, M, Octets, RouterConf};
 
-/// The TTL with which a tunnel begins.
+/// The initial outer TTL of a tunnel.
 const OUTER_TTL: u8 = 255;
 
-/// The frame of a copy in flight: the packet with that BIFT-id, TTL and BitString. A tunnel leads from the router's own
-/// prefix to that of the way.
+/// Returns the frame of a copy in flight: the packet with that BIFT-id, TTL and BitString. A tunnel leads from the router's
+/// own prefix to that of the route.
 pub(crate) fn frame_of<const W: usize>(
     alloc: Global,
     conf: &RouterConf,
@@ -56,7 +56,7 @@ pub(crate) fn frame_of<const W: usize>(
     }
 }
 
-/// The frame of a packet that is in no tunnel.
+/// Returns the frame of a packet that is in no tunnel.
 fn bare_frame(alloc: Global, end: End, kind: Kind, head: &[u8], payload: &[u8]) -> M<Octets>
     requires { length head.now + length payload.now ≤ MOST_FRAME }
     ensures { IfOk result (λ frame. frame ≡ bier_frame end.peer_mac end.own_mac kind (head.now ++ payload.now)) }
@@ -69,7 +69,7 @@ fn bare_frame(alloc: Global, end: End, kind: Kind, head: &[u8], payload: &[u8]) 
     Ok(frame)
 }
 
-/// The first 14 octets of a frame with IPv4 on an end.
+/// Returns the Ethernet header of a frame with IPv4, sent on an interface.
 pub(crate) fn ip_head(end: End) -> [u8; FRAME_HEAD]
     ensures octets { result ≡ ethernet end.peer_mac.0 end.own_mac.0 ip_type }
     ensures len { length result ≡ 14 }
@@ -79,7 +79,7 @@ pub(crate) fn ip_head(end: End) -> [u8; FRAME_HEAD]
     octets
 }
 
-/// The frame of a packet in a tunnel between two prefixes.
+/// Returns the frame of a packet in a tunnel between two prefixes.
 fn tunnel_frame(
     alloc: Global,
     src: Ipv4,
@@ -109,7 +109,7 @@ fn tunnel_frame(
     Ok(frame)
 }
 
-/// Writes the header of a copy over all of `out`: as it came, but for the BIFT-id, the TTL and the BitString.
+/// Writes the header of a copy over all of `out`: as received, except for the BIFT-id, the TTL and the BitString.
 fn write_head<const W: usize>(
     packet: &Incoming<'_>,
     bift: u32,

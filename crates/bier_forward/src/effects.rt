@@ -1,4 +1,4 @@
-//! What a router does to the outside.
+//! The externally visible actions of a router.
 ghost use Rattle.std.specs.Prelude.{◌≡◌, [], ◌∷◌, ◌++◌, OnOk, OnErr, IfOk};
 ghost use Rattle.wire_base.specs.model.OnFrame as on_frame;
 ghost use Rattle.bier_forward.specs.SentFrames.{sent_as};
@@ -9,7 +9,7 @@ use std::alloc::Global;
 use std::marker::Model;
 use wire_base::{Cause, Got, M, Rows};
 
-/// A drop of a frame, or of some of the bit positions of a packet, which are then there.
+/// A drop of a frame, or of some bit positions of a packet, which are then given.
 #[derive(Drop)]
 pub struct DropNote {
     pub cause: Cause,
@@ -27,7 +27,7 @@ impl Model for DropNote {
     ghost invariant = { λ d. HaveLength d.sets };
 }
 
-/// What a router sends, delivers and drops, in order, and whether it passed a frame over.
+/// What a router sends, delivers and drops, in order, and whether it ignored a frame.
 #[derive(Drop)]
 pub struct Effects {
     pub sent: SentFrames,
@@ -45,7 +45,7 @@ impl Model for Effects {
 }
 
 impl Effects {
-    /// No effects.
+    /// Returns no effects.
     pub fn nothing(alloc: Global) -> Self
         ensures { result ≡ on_frame.nothing }
     {
@@ -57,7 +57,7 @@ impl Effects {
         }
     }
 
-    /// A frame was passed over.
+    /// Returns the effects of an ignored frame.
     pub fn passed_over(alloc: Global) -> Self
         ensures { result ≡ on_frame.passed_over }
     {
@@ -69,7 +69,7 @@ impl Effects {
         }
     }
 
-    /// A frame was dropped as a whole.
+    /// Returns the effects of a dropped frame.
     pub fn dropped(alloc: Global, cause: Cause) -> M<Self>
         ensures { IfOk result (λ e. e ≡ on_frame.dropped cause) }
     {
@@ -78,12 +78,12 @@ impl Effects {
         Ok(effects)
     }
 
-    /// The allocator that the lists keep.
+    /// Returns the allocator of the lists.
     pub fn allocator(&self) -> Global {
         self.sent.allocator()
     }
 
-    /// Then a frame is sent on a link; nothing changes where memory runs out.
+    /// Appends a frame that is sent on a link. If an allocation fails, nothing changes.
     pub fn send(&mut self, link: u16, octets: &[u8]) -> M<()>
         ensures ok { OnOk result (self.new ≡ record self.old { sent = self.old.sent ++ sent_as link octets.now ∷ [] }) }
         ensures err { OnErr result (self.new ≡ self.old) }
@@ -91,7 +91,7 @@ impl Effects {
         self.sent.push(link, octets)
     }
 
-    /// Then a packet is delivered; nothing changes where memory runs out.
+    /// Appends a delivered packet. If an allocation fails, nothing changes.
     pub fn deliver(&mut self, got: Got) -> M<()>
         ensures ok { OnOk result (self.new ≡ record self.old { got = self.old.got ++ got ∷ [] }) }
         ensures err { OnErr result (self.new ≡ self.old) }
@@ -99,7 +99,7 @@ impl Effects {
         self.got.push(got)
     }
 
-    /// Then something is dropped; nothing changes where memory runs out.
+    /// Appends a drop. If an allocation fails, nothing changes.
     pub fn note(&mut self, drop: DropNote) -> M<()>
         ensures ok { OnOk result (self.new ≡ record self.old { drops = self.old.drops ++ drop ∷ [] }) }
         ensures err { OnErr result (self.new ≡ self.old) }

@@ -1,4 +1,4 @@
-//! Packets that enter the domain at a router.
+//! Packets that enter the domain at a router (BFIR).
 ghost use Rattle.std.specs.Prelude.{◌≡◌, ◌<◌, ◌≤◌, ◌^◌, IfOk, OnOk, List, ℕ, length, map};
 ghost use Rattle.std.specs.List.{AllByRecursion};
 ghost use Rattle.wire_base.specs.declared.bsl.Bsl.{Bsl};
@@ -20,8 +20,8 @@ use std::alloc::Global;
 use wire_base::limits::MOST_PAYLOAD;
 use wire_base::{Kind, M, RouterConf, View, kind_of};
 
-/// What a router does with packets that enter the domain at it (RFC 8279, 3; RFC 8296, 3): each gets the ingress's header
-/// and is hopped with one more than the given TTL, so that its copies carry that TTL. The entropy has 20 bits.
+/// Processes packets that enter the domain at this router (RFC 8279, 3; RFC 8296, 3). Each gets the ingress's header and is
+/// processed with one more than the given TTL, so that its copies have that TTL. Precondition: the entropy has at most 20 bits.
 pub fn enter_packets(
     alloc: Global,
     conf: &RouterConf,
@@ -58,7 +58,7 @@ pub fn enter_packets(
     Ok(effects)
 }
 
-/// A packet with the ingress's header; the BIFT-id is that of no router, since only copies are sent.
+/// Returns a packet with the ingress's header. Its BIFT-id is that of no router, since only copies are sent.
 #[tactic(auto, unfolding(wire_base::specs::model::Item::ingress_header))]
 fn entering<'a>(
     conf: &RouterConf,

@@ -26,13 +26,15 @@ use std::marker::Brand;
 use std::sync::ledger::{Blank, Ledger};
 use wire_base::{M, OwnSub, RouterConf, Steps, Triple, View};
 
-/// What a router does with a packet that has a TTL of at most 256, by a view of its domain (RFC 8279, 6.5): it delivers the
-/// payload where its own BFR-id is among the packet's, sends one copy to each router to which others lead, and drops those
-/// whose TTL has ended or that lead nowhere. A copy is the packet with the BIFT-id of that router, a TTL one lower and the
-/// positions that lead to it; all else, and the octets after the header, are as they came. A copy to a router that no link
-/// leads to directly goes in a tunnel to its BFR-prefix (RFC 8279, 6.9; RFC 2784); the positions of one that has no
-/// prefix in the sub-domain are dropped. The rows, tables and ways that it needs of the view are kept, and made where they
-/// aren't yet.
+/// Processes a packet with a TTL of at most 256, by a topology of its domain (RFC 8279, 6.5). The router delivers the payload if
+/// its own BFR-id is among the packet's, sends one copy to each router to which other BFR-ids lead, and drops those whose TTL has
+/// expired or that have no route.
+///
+/// A copy is the packet with the BIFT-id of the next router, a TTL one lower and the positions that lead to that router; all other
+/// fields and the octets after the header are unchanged. A copy to a router that is not a direct neighbor is sent in a tunnel to
+/// its BFR-prefix (RFC 8279, 6.9; RFC 2784); if that router has no prefix in the sub-domain, the positions are dropped.
+///
+/// The required rows, tables and routes of the topology are cached, and built on first use.
 pub fn hop_packet(
     alloc: Global,
     conf: &RouterConf,
@@ -54,7 +56,7 @@ pub fn hop_packet(
     Ok(effects)
 }
 
-/// The same, after other effects.
+/// The same, appended to other effects.
 pub(crate) fn hop_onto(
     conf: &RouterConf,
     view: &View,
@@ -74,7 +76,7 @@ pub(crate) fn hop_onto(
     hop_counted::<Brand>(conf, view, routes, packet, ttl, Blank::new(1), effects)
 }
 
-/// The same, with a ledger for the steps over the table, which nobody reads.
+/// The same, with a ledger for the steps over the table, whose count is not used.
 fn hop_counted<L: Ledger>(
     conf: &RouterConf,
     view: &View,
@@ -109,7 +111,7 @@ fn hop_counted<L: Ledger>(
     )
 }
 
-/// The hop at the width of the packet's BitString, which is that of its table.
+/// Performs the hop at the width of the packet's BitString, which is that of its table.
 fn hop_by_width<L: Ledger>(
     conf: &RouterConf,
     view: &View,
@@ -175,7 +177,7 @@ fn hop_by_width<L: Ledger>(
     }
 }
 
-/// The class of a packet, on which the choice between equal ways rests.
+/// Returns the entropy class of a packet, which selects among equal-cost paths.
 fn class_of(packet: &Incoming<'_>) -> u8
     ensures value { result ≡ class_of packet.now }
     ensures below { result < 16 }
@@ -183,7 +185,7 @@ fn class_of(packet: &Incoming<'_>) -> u8
     (packet.header.entropy % 16) as u8
 }
 
-/// The hop over the packet's table.
+/// Performs the hop over the packet's table.
 fn hop_over<const W: usize, L: Ledger>(
     conf: &RouterConf,
     view: &View,
@@ -222,7 +224,7 @@ fn hop_over<const W: usize, L: Ledger>(
     )
 }
 
-/// Gives the outcomes of a set of positions over a table, one after the other.
+/// Performs the outcomes of a set of positions over a table, one after the other.
 fn give_all<const W: usize, L: Ledger>(
     conf: &RouterConf,
     view: &View,
@@ -254,7 +256,7 @@ fn give_all<const W: usize, L: Ledger>(
     Ok(())
 }
 
-/// The position of the router's own BFR-id in packets of a triple, where it has one in the triple's set.
+/// Returns the position of the router's own BFR-id in packets of a triple, if it has one in the triple's set.
 fn own_position(conf: &RouterConf, triple: Triple) -> Option<u16>
     ensures value { result ≡ own_position conf.now triple }
     ensures own { IsOwn (bits_of triple.bsl) result }
@@ -263,7 +265,7 @@ fn own_position(conf: &RouterConf, triple: Triple) -> Option<u16>
     triple.place(own_id(conf.subs.as_slice(), triple.sd)?)
 }
 
-/// The BFR-id of a router that is in those sub-domains; 0 is none.
+/// Returns the BFR-id of a router in a sub-domain; 0 is none.
 pub(crate) fn own_id(subs: &[OwnSub], sd: u8) -> Option<u16>
     ensures { result ≡ id_of (sub_in subs.now sd) }
 {

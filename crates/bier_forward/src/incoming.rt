@@ -1,4 +1,4 @@
-//! A BIER packet as it comes.
+//! A received BIER packet.
 ghost use Rattle.std.specs.Prelude.{◌≡◌, ◌≤◌, ◌+◌, IfOk, length, drop};
 ghost use Rattle.wire_base.specs.model.Configuration.{IsSound};
 ghost use Rattle.wire_base.specs.model.Control.{Control};
@@ -11,8 +11,8 @@ use std::marker::Model;
 use wire_base::fields::word_at;
 use wire_base::{Bsl, Cause, HeadFault, Kind, RouterConf, Triple};
 
-/// A packet that was read: the triple that its BIFT-id means, how the sub-domain gives BIFT-ids, its header, whose BitString
-/// has the triple's length, and the octets after it.
+/// A parsed packet: the triple that its BIFT-id means, the encapsulation, its header, whose BitString has the triple's length,
+/// and the octets after it.
 #[derive(Drop)]
 pub struct Incoming<'a> {
     pub triple: Triple,
@@ -33,13 +33,13 @@ impl<'a> Model for Incoming<'a> {
     ghost invariant = { λ p. IsReadable p.triple p.header };
 }
 
-/// The packet that octets are, whose BIFT-id is of that kind (RFC 8296, 2.1 and 2.2). The length of its BitString is that of
-/// the triple which the BIFT-id means; the header's own code of a length isn't looked at.
+/// Parses a packet whose BIFT-id is of that encapsulation (RFC 8296, 2.1 and 2.2). The length of its BitString is that of
+/// the triple which the BIFT-id means; the header's own BSL code is ignored.
 ///
 /// # Errors
 ///
-/// Why it is dropped, the first of these that holds: `Head(Short)` where there are fewer than 4 octets, `Label` where the
-/// label isn't the bottom of its stack or the BIFT-id has no meaning at this router, and `Head` with the fault of the header.
+/// The cause of the drop, the first of these that applies: `Head(Short)` if there are fewer than 4 octets; `Label` if the
+/// label is not the bottom of its stack or the BIFT-id is unknown at this router; and `Head` with the error of the header.
 #[tactic(auto, unfolding(crate::specs::Packets::packet_at, wire_base::specs::model::OnFrame::on_packet))]
 pub fn read_packet<'a>(
     conf: &RouterConf,
@@ -64,7 +64,7 @@ pub fn read_packet<'a>(
     }
 }
 
-// Whether a label isn't the bottom of its stack.
+// Returns whether a label is not the bottom of its stack.
 fn is_not_last(kind: Kind, word: u32) -> bool
     ensures { result ≡ is_not_last kind word }
 {
@@ -74,7 +74,7 @@ fn is_not_last(kind: Kind, word: u32) -> bool
     }
 }
 
-// The packet of a triple.
+// Returns the packet of a triple.
 fn packet_with<'a>(kind: Kind, triple: Triple, octets: &'a [u8]) -> Result<Incoming<'a>, Cause>
     ensures value { result ≡ with_header kind triple octets.now (header_at kind triple.bsl octets.now) }
     ensures whole { IfOk result (λ packet. header_length packet.triple.bsl + length packet.payload ≡ length octets.now) }
@@ -90,7 +90,7 @@ fn packet_with<'a>(kind: Kind, triple: Triple, octets: &'a [u8]) -> Result<Incom
     }
 }
 
-// The octets after a header with a BitString of that length.
+// Returns the octets after a header with a BitString of that length.
 fn after_header(bsl: Bsl, octets: &[u8]) -> &[u8]
     requires { header_length bsl ≤ length octets.now }
     ensures value { result.now ≡ drop (header_length bsl) octets.now }

@@ -1,9 +1,9 @@
-//! What one router does with a BIER packet (RFC 8279, 6.5; RFC 8296, 2 and 3): read it, deliver it, send its copies on, on
-//! their own or in tunnels, and drop the rest; the same for packets that enter the domain here; and to send a tunnel packet
-//! for another router on (RFC 2784).
+//! What one router does with a BIER packet (RFC 8279, 6.5; RFC 8296, 2 and 3): it parses it, delivers it, sends its copies, in
+//! tunnels or not, and drops the rest. Likewise for packets that enter the domain here. It also forwards tunnel packets for other
+//! routers (RFC 2784).
 //!
-//! It stands on the header, the rows, the table, the hop, the tunnels and the edge below, and promises exactly what the
-//! definition of one router does with a packet.
+//! This crate depends on those for the header, rows, table, hop, tunnels and ingress. It does exactly what the definition of
+//! one router prescribes for a packet.
 #![tactic(auto)]
 
 mod bift;

@@ -1,4 +1,4 @@
-//! What a router does for one outcome of a hop.
+//! The actions of a router for one outcome of a hop.
 ghost use Rattle.std.specs.Prelude.{◌≡◌, ◌<◌, ◌*◌, ◌∷◌, [], IsTrue, Some, OnOk};
 ghost use Rattle.wire_base.specs.model.BitSet.{IsWithin};
 ghost use Rattle.wire_base.specs.model.Configuration.{IsSound};
@@ -23,7 +23,7 @@ use bier_hop::{Out, Why};
 use bier_tunnel::Fib;
 use wire_base::{Cause, First, Got, M, Octets, RouterConf, Triple, View};
 
-/// Delivers, sends a copy or drops, as the outcome says.
+/// Performs an outcome: delivers, sends a copy or drops.
 pub(crate) fn give<const W: usize>(
     conf: &RouterConf,
     view: &View,
@@ -67,7 +67,7 @@ fn deliver(packet: &Incoming<'_>, bp: u16, effects: &mut Effects) -> M<()>
     })
 }
 
-/// The BFR-id at a position, where it is one.
+/// Returns the BFR-id at a position, if it is one.
 fn id_at(triple: Triple, bp: u16) -> u16
     requires { id_at triple bp < 65536 }
     ensures { result ≡ id_at triple bp }
@@ -75,7 +75,7 @@ fn id_at(triple: Triple, bp: u16) -> u16
     (u32::from(triple.si) * u32::from(triple.bsl.bits()) + u32::from(bp)) as u16
 }
 
-/// Sends a copy with those positions to a router; where no way leads there, drops them.
+/// Sends a copy with those positions to a router; if there is no route to it, drops them.
 fn send_copy<const W: usize>(
     conf: &RouterConf,
     view: &View,
@@ -127,7 +127,7 @@ fn drop_set<const W: usize>(
     })
 }
 
-/// Why positions are dropped.
+/// Returns why positions are dropped.
 fn cause_of(why: Why) -> Cause
     ensures { result ≡ cause_of why }
 {

@@ -1,4 +1,4 @@
-//! What a router keeps of the view that it forwards by: rows, tables and the ways of tunnels, each made at first use.
+//! What a router caches for its present topology: rows, tables and the routes of tunnels, each built on first use.
 ghost use Rattle.std.specs.Prelude.{◌≡◌, ◌<◌, ◌≤◌, ◌%◌, Some, IfOk, IfSome, OnOk, List, length, slice_get};
 ghost use Rattle.std.specs.List.{AllByRecursion};
 ghost use Rattle.wire_base.specs.declared.conf.RouterConf.{RouterConf as Conf};
@@ -13,10 +13,10 @@ use bift_table::AnyTable;
 use std::alloc::Global;
 use wire_base::{FirstList, M, RouterConf, RowSet, Triple, View};
 
-/// So many triples have their rows kept.
+/// The maximum number of triples whose rows are cached.
 const MOST_ROWS: usize = 4;
 
-/// So many tables are kept: of one triple at most those of all classes.
+/// The maximum number of cached tables: for one triple at most those of all classes.
 const MOST_TABLES: usize = 16;
 
 /// The rows of a triple.
@@ -26,7 +26,7 @@ pub struct TripleRows {
     rows: RowSet,
 }
 
-/// The number of classes after which the tables of a triple come again.
+/// The period of the tables of a triple: classes that are equal modulo it have the same table.
 #[derive(Clone, Copy)]
 pub enum Period {
     One,
@@ -36,7 +36,7 @@ pub enum Period {
     Sixteen,
 }
 
-/// The table of a triple for packets of all classes that are `class` modulo the period.
+/// The table of a triple for packets of all classes that equal `class` modulo the period.
 #[derive(Drop)]
 pub struct ClassTable {
     triple: Triple,
@@ -45,9 +45,9 @@ pub struct ClassTable {
     pub(crate) table: AnyTable,
 }
 
-/// What a router keeps of the view that it forwards by: the rows of the last few triples, their tables, each for all classes
-/// that pick the same routers, the newest first, and the ways of tunnels. All are made at first use, and all are of one view:
-/// another one begins with new ones.
+/// What a router caches for its present topology: the rows of the last few triples; their tables, each for all classes that select
+/// the same routers, the newest first; and the routes of tunnels. All are built on first use, and all belong to one topology:
+/// another topology starts with an empty cache.
 #[derive(Drop)]
 pub struct Routes {
     rows: Vec<TripleRows>,
@@ -56,7 +56,7 @@ pub struct Routes {
 }
 
 impl Period {
-    /// How many classes these are.
+    /// Returns the number of classes in the period.
     fn number(self) -> u8
         ensures value { result ≡ number_of self }
         ensures low { 1 ≤ result }
@@ -70,7 +70,7 @@ impl Period {
         }
     }
 
-    /// The least that a list of that size divides, and sixteen where none is: there are no more classes.
+    /// Returns the least period that is a multiple of a list's size, or sixteen if there is none, since there are no more classes.
     fn of_size(size: usize) -> Period
         ensures { FitsSize result size }
     {
@@ -83,7 +83,7 @@ impl Period {
         }
     }
 
-    /// The larger of two, which the other divides.
+    /// Returns the larger of two periods, one of which divides the other.
     fn larger(self, other: Period) -> Period
         ensures one { number_of result % number_of self ≡ 0 }
         ensures other { number_of result % number_of other ≡ 0 }
@@ -95,7 +95,7 @@ impl Period {
     }
 }
 
-/// A period that fits the lists of all positions: the largest of theirs.
+/// Returns a period that fits the lists of all positions: the largest of theirs.
 fn period_of(lists: &[FirstList]) -> Period
     ensures { IsPeriod result lists.now }
 {
@@ -112,7 +112,7 @@ fn is_same(a: Triple, b: Triple) -> bool
     a.sd == b.sd && a.bsl.code() == b.bsl.code() && a.si == b.si
 }
 
-/// Where the rows of a triple stand.
+/// Returns the index of the rows of a triple.
 fn rows_place(rows: &[TripleRows], triple: Triple) -> Option<usize>
     ensures rows { (r : Conf) (g : List Node) → AllByRecursion (IsKeptRows r g) rows.now → IfSome result (λ i. IfSome (slice_get rows.now i) (λ k. HasRows r g triple k.rows.bits)) }
     ensures within { IfSome result (λ i. i < length rows.now) }
@@ -125,7 +125,7 @@ fn rows_place(rows: &[TripleRows], triple: Triple) -> Option<usize>
     None
 }
 
-/// Where the table of a triple for packets of a class stands.
+/// Returns the index of the table of a triple for packets of a class.
 fn table_place(tables: &[ClassTable], triple: Triple, class: u8) -> Option<usize>
     requires class { class < 16 }
     ensures table { (r : Conf) (g : List Node) → AllByRecursion (IsKeptTable r g) tables.now → IfSome result (λ i. IfSome (slice_get tables.now i) (λ k. HasTable r g triple class k.table)) }
@@ -140,7 +140,7 @@ fn table_place(tables: &[ClassTable], triple: Triple, class: u8) -> Option<usize
     None
 }
 
-/// The place of a triple's rows, which are made where they aren't kept.
+/// Returns the index of a triple's rows, which are built if they are not cached.
 fn keep_rows(kept: &mut Vec<TripleRows>, conf: &RouterConf, view: &View, triple: Triple) -> M<usize>
     requires ends { length conf.now.ends ≤ 65536 }
     requires kept { AllByRecursion (IsKeptRows conf.now view.now.nodes) kept.old.items }
@@ -158,7 +158,7 @@ fn keep_rows(kept: &mut Vec<TripleRows>, conf: &RouterConf, view: &View, triple:
 }
 
 impl Routes {
-    /// Nothing is kept yet, of any view.
+    /// Creates an empty cache, for any topology.
     pub fn new(alloc: Global) -> Routes
         ensures { (r : Conf) (g : List Node) → AreRoutes r g result }
     {
@@ -169,7 +169,7 @@ impl Routes {
         }
     }
 
-    /// The place of the table of a triple for packets of a class, which is made where it isn't kept.
+    /// Returns the index of the table of a triple for packets of a class, which is built if it is not cached.
     pub(crate) fn keep_table(
         &mut self,
         conf: &RouterConf,

@@ -7,8 +7,8 @@ use std::alloc::Global;
 use std::marker::Model;
 use wire_base::M;
 
-/// Frames, each with the link that it is sent on, which contracts see as a list of both. Their octets stand in one list, so that a
-/// frame takes no memory of its own.
+/// Frames, each with the link that it is sent on; contracts model it as the list of both. The octets are stored in one buffer, so
+/// that a frame needs no allocation of its own.
 #[derive(Drop)]
 pub struct SentFrames {
     list: FrameList<u16>,
@@ -25,7 +25,7 @@ impl Model for SentFrames {
 }
 
 impl SentFrames {
-    /// No frames. Takes no memory.
+    /// Creates an empty list. Does not allocate.
     pub fn new(alloc: Global) -> Self
         ensures { result ≡ [] }
     {
@@ -34,19 +34,19 @@ impl SentFrames {
         }
     }
 
-    /// The allocator that the list keeps.
+    /// Returns the allocator of the list.
     pub fn allocator(&self) -> Global {
         self.list.allocator()
     }
 
-    /// How many frames there are.
+    /// Returns the number of frames.
     pub fn len(&self) -> usize
         ensures { result ≡ length self.now }
     {
         self.list.len()
     }
 
-    /// The link that the frame at a place is sent on.
+    /// Returns the link that the frame at an index is sent on.
     #[tactic(auto, using(crate::proofs::SentLaws::links_are))]
     pub fn link_at(&self, i: usize) -> u16
         requires { i < length self.now }
@@ -55,7 +55,7 @@ impl SentFrames {
         self.list.note_at(i)
     }
 
-    /// The octets of the frame at a place.
+    /// Returns the octets of the frame at an index.
     #[tactic(auto, using(crate::proofs::SentLaws::octets_are))]
     pub fn octets_at(&self, i: usize) -> &[u8]
         requires { i < length self.now }
@@ -64,21 +64,21 @@ impl SentFrames {
         self.list.octets_at(i)
     }
 
-    /// The frames, each with its link as a note.
+    /// Returns the frames, each with its link as a note.
     pub fn frames(&self) -> &FrameList<u16>
         ensures { sent_in result.now ≡ self.now }
     {
         &self.list
     }
 
-    /// The same, which take the octets along.
+    /// The same by value: the octets are moved, not copied.
     pub fn into_frames(self) -> FrameList<u16>
         ensures { sent_in result ≡ self }
     {
         self.list
     }
 
-    /// Then a frame is sent on a link; nothing changes where memory runs out.
+    /// Appends a frame that is sent on a link. If an allocation fails, nothing changes.
     #[tactic(auto, using(crate::proofs::SentLaws::sent_more))]
     pub fn push(&mut self, link: u16, octets: &[u8]) -> M<()>
         ensures ok { OnOk result (self.new ≡ self.old ++ sent_as link octets.now ∷ []) }

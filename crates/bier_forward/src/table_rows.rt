@@ -8,8 +8,8 @@ use birt_rows::rows;
 use std::alloc::Global;
 use wire_base::{FirstList, M, RouterConf, RowSet, Rows, SystemId, Triple, View, ViewNode};
 
-/// For each bit position of the triple the routers to which its bit may be sent. Where the view has no node of the router,
-/// it reaches none.
+/// Returns for each bit position of the triple the routers to which its bit may be sent. If the topology has no node for the
+/// router, there are none.
 pub(crate) fn table_rows(alloc: Global, conf: &RouterConf, view: &View, triple: Triple) -> M<RowSet>
     requires ends { length conf.now.ends ≤ 65536 }
     ensures bits { IfOk result (λ set. length set.bits ≡ bits_of triple.bsl) }
@@ -21,7 +21,7 @@ pub(crate) fn table_rows(alloc: Global, conf: &RouterConf, view: &View, triple: 
     }
 }
 
-/// The place of a system's node, where it has one.
+/// Returns the index of a system's node, if it has one.
 pub(crate) fn own_place(nodes: &[ViewNode], system: SystemId) -> Option<u16>
     requires { length nodes.now ≤ 65536 }
     ensures { MatchOption result (node_place nodes.now system ≡ length nodes.now) (λ u. (node_place nodes.now system ≡ u) × (u < length nodes.now)) }

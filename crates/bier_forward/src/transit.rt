@@ -1,4 +1,4 @@
-//! Tunnel packets for another router, which go on (RFC 2784; RFC 1812, 5.2.1 and 5.3.1).
+//! Tunnel packets for another router, which are forwarded (RFC 2784; RFC 1812, 5.2.1 and 5.3.1).
 ghost use Rattle.std.specs.Prelude.{◌≡◌, ◌≤◌, ◌++◌, Some, false, IfOk, OnOk, length, take, drop};
 ghost use Rattle.std.specs.Str.{bytes_eq};
 ghost use Rattle.wire_base.specs.model.Configuration.{IsSound};
@@ -20,10 +20,10 @@ use std::alloc::Global;
 use wire_base::ethernet::FRAME_HEAD;
 use wire_base::{Cause, End, M, Octets, RouterConf, View};
 
-/// What a router does with a tunnel packet for another router, by a view of its domain: it sends it on toward the router
-/// with that prefix, with a lower time to live and the checksum for it. Octets past the packet's total length stay behind.
+/// Processes a tunnel packet for another router, by a topology of its domain: forwards it toward the router with that prefix,
+/// with a lower TTL and an updated checksum. Octets past the packet's total length are removed.
 ///
-/// Its drop is `Outer` where the time to live has ended, and `Route` where no way leads to a router with that prefix.
+/// Drops it with `Outer` if the TTL has expired, and with `Route` if there is no path to a router with that prefix.
 pub fn forward_tunnel(
     alloc: Global,
     conf: &RouterConf,
@@ -43,12 +43,12 @@ pub fn forward_tunnel(
         Next::On { link, ttl } => send_on(alloc, conf, octets, tunnel, (link, ttl)),
         Next::Outer => Effects::dropped(alloc, Cause::Outer),
         Next::Route => Effects::dropped(alloc, Cause::Route),
-        // The tunnel ends elsewhere.
+        // The tunnel does not end here.
         Next::Leave => Ok(Effects::nothing(alloc)),
     }
 }
 
-/// What becomes of the packet. A router without a node in the view reaches no other.
+/// Returns the next step of the packet. A router without a node in the topology reaches no other.
 fn next_hop(
     alloc: Global,
     conf: &RouterConf,
@@ -68,7 +68,7 @@ fn next_hop(
     }
 }
 
-/// Sends the packet on over a link with a time to live, where the link has an end.
+/// Forwards the packet over a link with a TTL, if the link has an interface.
 fn send_on(
     alloc: Global,
     conf: &RouterConf,
@@ -90,7 +90,7 @@ fn send_on(
     }
 }
 
-/// The frame of the packet on an end, with that time to live.
+/// Returns the frame of the packet on an interface, with that TTL.
 fn onward_frame(alloc: Global, end: End, octets: &[u8], tunnel: &Tunnel, ttl: u8) -> M<Octets>
     requires places { HasPlaces octets.now tunnel.now }
     ensures { IfOk result (λ frame. frame ≡ ip_frame end.peer_mac end.own_mac (tunnel_on octets.now ttl)) }
@@ -103,7 +103,7 @@ fn onward_frame(alloc: Global, end: End, octets: &[u8], tunnel: &Tunnel, ttl: u8
     Ok(Octets::from_vec(frame))
 }
 
-/// Gives the tunnel packet behind the first 14 octets of a frame another time to live.
+/// Replaces the TTL of the tunnel packet after the Ethernet header of a frame.
 fn write_behind(frame: &mut [u8], ttl: u8)
     requires head { 20 ≤ total_of (drop 14 frame.old) }
     requires whole { total_of (drop 14 frame.old) ≤ length (drop 14 frame.old) }

@@ -1,4 +1,4 @@
-//! How a copy goes to a router: on the end that leads to a neighbor, or in a tunnel (RFC 8279, 6.9; RFC 2784).
+//! The route of a copy to a router: over the interface to a neighbor, or in a tunnel (RFC 8279, 6.9; RFC 2784).
 ghost use Rattle.std.specs.Prelude.{◌≡◌, ◌<◌, ◌^◌, Some, IfOk, IfSome, List, OnOk, slice_get};
 ghost use Rattle.wire_base.specs.declared.view.ViewNode.{ViewNode};
 ghost use Rattle.wire_base.specs.model.Configuration.{IsSound};
@@ -11,8 +11,8 @@ use bier_tunnel::Fib;
 use std::alloc::Global;
 use wire_base::{End, First, Ipv4, M, RouterConf, Triple, View};
 
-/// How a copy goes to a router: the link, by its place and as an end, the BIFT-id that the router gives the triple, and the
-/// router's BFR-prefix where a tunnel leads to it.
+/// The route of a copy to a router: the link, by its index and as an interface, the router's BIFT-id for the triple, and the
+/// router's BFR-prefix if a tunnel leads to it.
 #[derive(Clone, Copy)]
 pub(crate) struct Way {
     pub(crate) link: u16,
@@ -21,8 +21,8 @@ pub(crate) struct Way {
     pub(crate) tunnel: Option<Ipv4>,
 }
 
-/// The way to a router of a table. None where no end leads to it, it has no BIFT-id for the triple, or a tunnel has no
-/// prefix to go to. What tunnels need of the view is sought when the first of them is asked for.
+/// Returns the route to a router of a table. None if no interface leads to it, if it has no BIFT-id for the triple, or if a tunnel
+/// has no prefix as its destination. The routes of tunnels are built when the first of them is needed.
 pub(crate) fn way_to(
     alloc: Global,
     conf: &RouterConf,
@@ -43,7 +43,7 @@ pub(crate) fn way_to(
     }
 }
 
-/// The way to a router that has a BIFT-id for the triple.
+/// Returns the route to a router that has a BIFT-id for the triple.
 fn way_by(
     alloc: Global,
     conf: &RouterConf,
@@ -69,7 +69,7 @@ fn way_by(
     }
 }
 
-/// Seeks what tunnels need of the view, where it isn't there yet; a router without a node has none.
+/// Builds the routes of tunnels, if they are not there yet; a router without a node has none.
 pub(crate) fn build(alloc: Global, conf: &RouterConf, view: &View, fib: &mut Option<Fib>) -> M<()>
     requires sound { IsSound conf.now }
     requires built { IsBuilt conf.now view.now.nodes fib.old }
@@ -84,7 +84,7 @@ pub(crate) fn build(alloc: Global, conf: &RouterConf, view: &View, fib: &mut Opt
     Ok(())
 }
 
-/// The way in a tunnel to the BFR-prefix that the view gives the router, where ways were found.
+/// Returns the route in a tunnel to the router's BFR-prefix in the topology, if routes were found.
 fn tunnel_way(
     conf: &RouterConf,
     triple: Triple,
@@ -108,7 +108,7 @@ fn way_by_fib(conf: &RouterConf, triple: Triple, to: First, bift: u32, fib: &Fib
     way_on(conf, bift, Some(dst), link)
 }
 
-/// The way on a link, where it has an end.
+/// Returns the route over a link, if it has an interface.
 fn way_on(conf: &RouterConf, bift: u32, tunnel: Option<Ipv4>, link: u16) -> Option<Way>
     ensures { result ≡ way_on conf.now bift tunnel link }
 {
@@ -121,7 +121,7 @@ fn way_on(conf: &RouterConf, bift: u32, tunnel: Option<Ipv4>, link: u16) -> Opti
     })
 }
 
-/// The end of a link, where there is one.
+/// Returns the interface of a link, if there is one.
 pub(crate) fn end_at(conf: &RouterConf, link: u16) -> Option<End>
     ensures { result ≡ slice_get conf.now.ends link }
 {

@@ -1,4 +1,4 @@
--- A header as it is held, seen as the header of the standard.
+-- A header as stored, modeled as the header of the standard.
 use Rattle.wire_base.specs.model.BierHeader.{BierHeader}
 use Rattle.bier_bits.specs.Any.{bsl_of, positions_of}
 use Rattle.bier_head.specs.declared.header.Header.{Header}

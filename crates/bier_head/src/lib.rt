@@ -1,6 +1,7 @@
-//! The BIER header (RFC 8296, 2), read and written.
+//! Parser and writer of the BIER header (RFC 8296, 2).
 //!
-//! It stands on `bier_bits`, and promises the header or the first broken rule for all octets, and one spelling that is read again.
+//! This crate depends on `bier_bits`. For any octets its parsers return the header or the first broken rule; each header has one
+//! encoding, which is parsed again.
 #![tactic(auto)]
 
 mod header;

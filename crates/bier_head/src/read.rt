@@ -11,13 +11,13 @@ use bier_bits::AnyBits;
 use wire_base::fields::word_at;
 use wire_base::{Bsl, HeadFault, Kind};
 
-/// The header at the front of octets, of a packet of that kind whose BIFT-id gives the length of BitStrings (RFC 8296,
-/// 2.1 and 2.2). What follows the header isn't read, and the header's own code of a length isn't tested.
+/// Parses the header at the start of a packet of that encapsulation, whose BIFT-id determines the BSL (RFC 8296,
+/// 2.1 and 2.2). Octets after the header are not read, and the header's own BSL code is not tested.
 ///
 /// # Errors
 ///
-/// The first of these that holds: `Short` where there are fewer octets than the 12 and the BitString's, `Nibble` where
-/// the packet stands behind a label and its nibble isn't 5, and `Version` where the version isn't 0.
+/// The first of these that applies: `Short` if there are fewer octets than the 12 and those of the BitString; `Nibble` if
+/// the encapsulation is MPLS and the nibble is not 5; `Version` if the version is not 0.
 pub fn read_header(kind: Kind, bsl: Bsl, bytes: &[u8]) -> Result<Header, HeadFault>
     ensures exact { Gives header_of result (header_at kind bsl bytes.now) }
     ensures found { IfOk result (λ h. IsHeader (header_of h)
@@ -29,14 +29,14 @@ pub fn read_header(kind: Kind, bsl: Bsl, bytes: &[u8]) -> Result<Header, HeadFau
     header_with(kind, bsl, bytes)
 }
 
-/// The header at the front of octets, of a packet of that kind, whose own code gives the length of its BitString: for a
-/// reader that has no table of BIFT-ids (RFC 8296, 2.1.2).
+/// Parses the header at the start of a packet of that encapsulation, and takes the BSL from the header's own code: for a
+/// reader without a table of BIFT-ids (RFC 8296, 2.1.2).
 ///
 /// # Errors
 ///
-/// The first of these that holds: `Short` where there are fewer than 12 octets, `Nibble` where the packet stands behind a
-/// label and its nibble isn't 5, `Version` where the version isn't 0, `BslCode` where the code is that of no length, and
-/// `Short` where the octets end before the BitString does.
+/// The first of these that applies: `Short` if there are fewer than 12 octets; `Nibble` if the encapsulation is MPLS and
+/// the nibble is not 5; `Version` if the version is not 0; `BslCode` if the code is not assigned to a length; and
+/// `Short` if the octets end before the BitString does.
 pub fn read_by_field(kind: Kind, bytes: &[u8]) -> Result<Header, HeadFault>
     ensures exact { Gives header_of result (coded_header_at kind bytes.now) }
     ensures found { IfOk result (λ h. IsHeader (header_of h)
@@ -48,14 +48,14 @@ pub fn read_by_field(kind: Kind, bytes: &[u8]) -> Result<Header, HeadFault>
     header_by_field(kind, bytes)
 }
 
-// How many octets a header with a BitString of that length has.
+// Returns the length in octets of a header with a BitString of that length.
 fn octets_with(bsl: Bsl) -> usize
     ensures { result ≡ header_length bsl }
 {
     12 + usize::from(bsl.bits() / 8)
 }
 
-// Whether the second number has a nibble that a header of this kind can't have.
+// Returns whether the nibble in the second word is invalid for this encapsulation.
 fn wrong_nibble(kind: Kind, second: u32) -> bool
     ensures { result ≡ has_wrong_nibble kind second }
 {
@@ -105,7 +105,7 @@ fn header_by_field(kind: Kind, bytes: &[u8]) -> Result<Header, HeadFault>
     Ok(fields(bsl, bytes))
 }
 
-// The header at the front, no rule being tested.
+// Returns the header at the front, without tests.
 fn fields(bsl: Bsl, bytes: &[u8]) -> Header
     requires { header_length bsl ≤ length bytes.now }
     ensures { header_of result ≡ fields_of bsl bytes.now }

@@ -12,9 +12,9 @@ use crate::header::Header;
 use bier_bits::BitString;
 use byteorder::{BigEndian, ByteOrder};
 
-/// Writes a header (RFC 8296, 2.1 and 2.2) over all of `out`, which has as many octets as the header: 12 and those of the
-/// BitString. Each number fits its field. What is written is read again, whatever follows it, and no other header is
-/// written so.
+/// Writes a header (RFC 8296, 2.1 and 2.2) over all of `out`, whose length is that of the header: 12 octets and those of the
+/// BitString. Precondition: each number fits its field. The result is parsed again, whatever follows it, and no other
+/// header has this encoding.
 pub fn write_header(h: &Header, out: &mut [u8])
     requires room { length out.old ≡ header_length (bsl_of h.now.bits) }
     requires fits { FieldsFit (header_of h.now) }
@@ -30,8 +30,8 @@ pub fn write_header(h: &Header, out: &mut [u8])
     write_words(h, out);
 }
 
-/// Writes the header of a copy over all of `out`: as the packet's came, but for the BIFT-id, the TTL and the BitString
-/// (RFC 8279, 6.5), whose length stays.
+/// Writes the header of a copy over all of `out`: the packet's header with another BIFT-id, TTL and BitString
+/// (RFC 8279, 6.5). The length of the BitString is unchanged.
 pub fn write_copy<const W: usize>(
     h: &Header,
     bift: u32,
@@ -50,7 +50,7 @@ pub fn write_copy<const W: usize>(
     set.to_be_bytes(&mut out[12..]);
 }
 
-// Writes the three numbers and the BitString.
+// Writes the three words and the BitString.
 fn write_words(h: &Header, out: &mut [u8])
     requires room { length out.old ≡ header_length (bsl_of h.now.bits) }
     requires fits { FieldsFit (header_of h.now) }
@@ -60,7 +60,7 @@ fn write_words(h: &Header, out: &mut [u8])
     h.bits.to_be_bytes(&mut out[12..]);
 }
 
-// Writes the three numbers, with that BIFT-id and that TTL.
+// Writes the three words, with that BIFT-id and that TTL.
 fn write_numbers(h: &Header, bift: u32, ttl: u8, out: &mut [u8])
     requires room { 12 ≤ length out.old }
     requires fits { FieldsFit (header_of h.now) }
@@ -73,7 +73,7 @@ fn write_numbers(h: &Header, bift: u32, ttl: u8, out: &mut [u8])
     BigEndian::write_u32(&mut out[8..], third_number(h));
 }
 
-// BIFT-id, traffic class, S and TTL.
+// Returns the first word: BIFT-id, traffic class, S and TTL.
 fn first_number(h: &Header, bift: u32, ttl: u8) -> u32
     requires fits { FieldsFit (header_of h.now) }
     requires bift { bift < 2 ^ 20 }
@@ -82,7 +82,7 @@ fn first_number(h: &Header, bift: u32, ttl: u8) -> u32
     bift * 0x1000 + u32::from(h.tc) * 0x200 + u32::from(h.s) * 0x100 + u32::from(ttl)
 }
 
-// Nibble, version 0, the code of a length, and entropy.
+// Returns the second word: nibble, version 0, BSL code, and entropy.
 fn second_number(h: &Header) -> u32
     requires { FieldsFit (header_of h.now) }
     ensures { result ≡ second_word (header_of h.now) }
@@ -90,7 +90,7 @@ fn second_number(h: &Header) -> u32
     u32::from(h.nibble) * 0x1000_0000 + u32::from(h.bsl_code) * 0x10_0000 + h.entropy
 }
 
-// OAM, reserved bits, DSCP, protocol and BFIR-id.
+// Returns the third word: OAM, reserved bits, DSCP, protocol and BFIR-id.
 fn third_number(h: &Header) -> u32
     requires { FieldsFit (header_of h.now) }
     ensures { result ≡ third_word (header_of h.now) }

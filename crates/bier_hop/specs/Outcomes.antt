@@ -1,4 +1,4 @@
--- What a hop over a forwarding table gives, as the outcomes of one hop.
+-- The result of a hop over a BIFT, as the outcomes of one hop.
 use Rattle.std.specs.Prelude.{ℕ, suc, ◌+◌, ◌≡◌, ◌≤◌, ◌<◌, ◌==◌, List, [], ◌∷◌, length, Option, Some, None, option_map, is_none, IfSome, MatchOption, if◌then◌else◌}
 use Rattle.wire_base.specs.declared.view.First.{First}
 use Rattle.wire_base.specs.model.BitSet.{has_member, difference, intersection}
@@ -11,24 +11,24 @@ use Rattle.bier_hop.specs.declared.out.Out.TheVariants.{Local, Copy, Dropped}
 use Rattle.bier_hop.specs.declared.out.Why.{Why}
 use Rattle.bier_hop.specs.declared.out.Why.TheVariants.{NoRow, Ttl}
 
--- A packet being forwarded by a router: its table, its own position, the positions that are left, and the packet's TTL.
+-- A packet being forwarded by a router: its table, its own position, the remaining positions, and the packet's TTL.
 pub record HopState : Type 0 where
   pub table : List (Option First)
   pub own : Option ℕ
   pub rest : List ℕ
   pub ttl : ℕ
 
--- an own position, where there is one, is one of so many
+-- an own position, where there is one, is at most that number
 abbrev pub IsOwn : ℕ → Option ℕ → Type 0
 IsOwn bits None = Unit {0}
 IsOwn bits (Some p) = (1 ≤ p) × (p ≤ bits)
 
--- Numbers for the routers of a table, any that tell them apart, and the number of the router of each position.
+-- Numbers for the routers of a table, any that distinguish them, and the number of the router of each position.
 pub record IsNumbering (table : List (Option First)) (number : First → ℕ) (choose : ℕ → Option ℕ) : Type 0 where
   pub chosen : (p : ℕ) → choose p ≡ option_map number (router_at table p)
   pub apart : (p q : ℕ) (f g : First) → router_at table p ≡ Some f → router_at table q ≡ Some g → number f ≡ number g → f ≡ g
 
--- such numbers that every table has: the place where a router first stands
+-- such numbers that exist for every table: the index where a router first occurs
 abbrev pub number_in : List (Option First) → First → ℕ
 number_in [] f = 0
 number_in (o ∷ table) f = if leads_to o f then 0 else suc (number_in table f)
@@ -36,11 +36,11 @@ number_in (o ∷ table) f = if leads_to o f then 0 else suc (number_in table f)
 abbrev pub choose_in : List (Option First) → ℕ → Option ℕ
 choose_in table p = option_map (number_in table) (router_at table p)
 
--- the outcomes of the positions that are left
+-- the outcomes of the remaining positions
 abbrev pub left : (ℕ → Option ℕ) → HopState → List Outcome
 left choose h = hop h.own choose h.rest h.ttl
 
--- what is given, as an outcome
+-- a returned value, as an outcome
 abbrev pub drop_outcome : List ℕ → Why → Outcome
 drop_outcome set NoRow = model.NoRow set
 drop_outcome set Ttl = model.Expired set
@@ -56,7 +56,7 @@ positions_of (Local p) = p ∷ []
 positions_of (Copy to set ttl) = set
 positions_of (Dropped set why) = set
 
--- the positions that are left after it
+-- the positions that remain after it
 abbrev pub left_after : {w : ℕ} → List ℕ → Option (Out w) → List ℕ
 left_after rest None = rest
 left_after rest (Some out) = difference rest (positions_of out)
@@ -68,9 +68,9 @@ cost (Some (Local p)) = 0
 cost (Some (Copy to set ttl)) = 1
 cost (Some (Dropped set why)) = 0
 
--- how the parts of the code give it
+-- how the parts of the code compute it
 
--- no position below one is left that has a row
+-- no remaining position below a given one has an entry
 abbrev pub IsFrom : ℕ → ℕ → List ℕ → List ℕ → Type 0
 IsFrom bits low rest routed = (1 ≤ low) × (low ≤ bits + 1) × AreApartBelow low rest routed
 

@@ -15,10 +15,10 @@ use std::mem;
 use std::sync::ledger::Ledger;
 use wire_base::{First, Steps};
 
-/// A packet being forwarded by one router, seen as the router's table, its own position, the positions that are not yet
-/// given and the packet's TTL.
+/// A packet being forwarded by one router. It is modeled as the router's table, its own position, the positions that have no
+/// outcome yet and the packet's TTL.
 ///
-/// Of the positions that are left none below `from` has a row, so a hop looks at each word of the packet about once.
+/// No remaining position below `from` has an entry, so a hop reads each word of the packet about once.
 #[derive(Drop)]
 pub struct Hop<'t, const W: usize> {
     table: &'t Table<W>,
@@ -42,8 +42,8 @@ impl<'t, const W: usize> Model for Hop<'t, W> {
 }
 
 impl<'t, const W: usize> Hop<'t, W> {
-    /// A packet with those positions and that TTL, at most 256, at a router with that table and that own position, from 1
-    /// to 64 W, if it has one.
+    /// Starts a hop of a packet with those positions and that TTL, at most 256, at a router with that table and that own position,
+    /// from 1 to 64 W, if it has one.
     pub fn begin(table: &'t Table<W>, own: Option<u16>, set: BitString<W>, ttl: u16) -> Self
         requires width { IsTrue (is_width W) }
         requires own { IsOwn (64 * W) own }
@@ -61,16 +61,16 @@ impl<'t, const W: usize> Hop<'t, W> {
         }
     }
 
-    /// The next outcome, whose positions are then no longer among those that are left. In this order:
+    /// Returns the next outcome, and removes its positions from those that remain. In this order:
     ///
-    /// 1. With TTL 0 the whole set is dropped, and nothing else is given.
-    /// 2. Else the own position is delivered, where it is in the set.
+    /// 1. With TTL 0 the whole set is dropped, and there is no other outcome.
+    /// 2. Otherwise the own position is delivered, if it is in the set.
     /// 3. With a TTL above 1 each router to which other positions lead gets one copy, with a TTL one lower; the copies are
     ///    in the order of their least positions.
-    /// 4. With TTL 1 the other positions that have a row are dropped together, in place of the copies.
-    /// 5. The other positions without a row are dropped together, last.
+    /// 4. With TTL 1 the other positions that have an entry are dropped together, instead of the copies.
+    /// 5. The other positions without an entry are dropped together, last.
     ///
-    /// None exactly where every position was given. A copy takes one step, all else takes none.
+    /// None exactly where every position has had its outcome. A copy takes one step; every other outcome takes none.
     pub fn next<L: Ledger>(&mut self, steps: &mut Steps<L>) -> Option<Out<'t, W>>
         requires { IsTrue (is_width W) }
         ensures outcomes { (number : First → ℕ) (choose : ℕ → Option ℕ) → IsNumbering self.old.table number choose → MatchOption result (left choose self.old ≡ []) (λ out. left choose self.old ≡ outcome number out ∷ left choose self.new) }
@@ -94,7 +94,7 @@ impl<'t, const W: usize> Hop<'t, W> {
     }
 }
 
-// The outcome of the positions that are left, of which none below `from` has a row.
+// Returns the outcome of the remaining positions, none of which below `from` has an entry.
 fn outcome<'t, const W: usize, L: Ledger>(
     table: &Table<W>,
     routers: &'t [First],
@@ -131,7 +131,7 @@ fn outcome<'t, const W: usize, L: Ledger>(
     }
 }
 
-// The own position, where it is left.
+// Returns the own position, if it remains.
 fn own_in<const W: usize>(own: Option<u16>, rest: &BitString<W>) -> Option<u16>
     requires width { IsTrue (is_width W) }
     requires own { IsOwn (64 * W) own }
@@ -141,7 +141,7 @@ fn own_in<const W: usize>(own: Option<u16>, rest: &BitString<W>) -> Option<u16>
     if rest.has(bp) { Some(bp) } else { None }
 }
 
-// The least position of a set that has a row, where none below `from` has one.
+// Returns the least position of a set that has an entry, if none below `from` has one.
 fn first_routed<const W: usize>(table: &Table<W>, rest: &BitString<W>, from: u16) -> Option<u16>
     requires width { IsTrue (is_width W) }
     requires from { IsFrom (64 * W) from rest.now (routed_of table.now) }
@@ -154,7 +154,7 @@ fn first_routed<const W: usize>(table: &Table<W>, rest: &BitString<W>, from: u16
     rest.first_shared_from(table.routed(), from)
 }
 
-// The copy to the router of a position that has a row.
+// Returns the copy to the router of a position that has an entry.
 fn copy_toward<'t, const W: usize, L: Ledger>(
     table: &Table<W>,
     routers: &'t [First],
@@ -183,7 +183,7 @@ fn copy_toward<'t, const W: usize, L: Ledger>(
     })
 }
 
-// A drop of all that is left.
+// Drops everything that remains.
 fn drop_all<'t, const W: usize>(rest: &mut BitString<W>, why: Why) -> Option<Out<'t, W>>
     requires { IsTrue (is_width W) }
     ensures drop { result ≡ drop_of rest.old why }
@@ -192,7 +192,7 @@ fn drop_all<'t, const W: usize>(rest: &mut BitString<W>, why: Why) -> Option<Out
     dropped(mem::replace(rest, BitString::zero()), why)
 }
 
-// A drop of a set that isn't empty.
+// Returns the drop of a set, if it is not empty.
 fn dropped<'t, const W: usize>(set: BitString<W>, why: Why) -> Option<Out<'t, W>>
     requires { IsTrue (is_width W) }
     ensures { result ≡ drop_of set.entry why }

@@ -1,6 +1,7 @@
-//! One hop of a packet at one router (RFC 8279, 6.5): where each of its bit positions goes.
+//! One hop of a packet at one router, the forwarding procedure (RFC 8279, 6.5): where each of its bit positions is sent.
 //!
-//! It stands on `bift_table`, and promises the outcomes of one hop in their order, at one step of the counter for a copy.
+//! This crate depends on `bift_table`. Its contracts specify the outcomes of a hop and their order; each copy takes one step of
+//! the counter.
 #![tactic(auto)]
 
 mod hop;

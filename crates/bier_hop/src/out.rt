@@ -1,25 +1,25 @@
 use bier_bits::BitString;
 use wire_base::First;
 
-/// What becomes of some bit positions of a packet.
+/// The outcome of some bit positions of a packet.
 #[derive(Drop)]
 pub enum Out<'t, const W: usize> {
     /// The packet is delivered here: the router's own position.
     Local(u16),
-    /// A copy with those positions and that TTL goes to a router.
+    /// A copy with those positions and that TTL is sent to a router.
     Copy {
         to: &'t First,
         set: BitString<W>,
         ttl: u8,
     },
-    /// Those positions go no further.
+    /// Those positions are dropped.
     Dropped {
         set: BitString<W>,
         why: Why,
     },
 }
 
-/// Why positions go no further: the table has no row for them, or the time to live has ended.
+/// Why positions are dropped: the BIFT has no entry for them, or the TTL has expired.
 #[derive(Clone, Copy, Debug, PartialEq, Eq)]
 pub enum Why {
     NoRow,

@@ -1,4 +1,4 @@
--- What the types of this crate stand for.
+-- The models of this crate's types.
 use Rattle.std.specs.Prelude.{◌≡◌, Result, Ok, Err}
 use Rattle.wire_base.specs.declared.faults.InfoFault.{InfoFault}
 use Rattle.wire_base.specs.declared.conf.OwnSub.{OwnSub}
@@ -13,7 +13,7 @@ info_of i = record { sd = i.sd; id = i.id; ranges = i.ranges.items }
 abbrev pub parts_view : PartsSoFar → Parts
 parts_view p = record { seen = p.seen; ranges = p.ranges.items }
 
--- a step that answers Ok leaves what reading gives
+-- a step that returns Ok leaves the result of parsing
 abbrev pub Becomes : Result (Unit {0}) InfoFault → Parts → Result Parts InfoFault → Type 0
 Becomes (Ok u) new read = read ≡ Ok new
 Becomes (Err e) new read = read ≡ Err e

@@ -1,6 +1,6 @@
-//! BIER Info, the value of a sub-TLV 32 of an entry of TLV 135, read and written (RFC 8401, 6.1 and 6.2).
+//! Parser and writer of BIER Info, the value of a sub-TLV 32 in an entry of TLV 135 (RFC 8401, 6.1 and 6.2).
 //!
-//! It stands on `isis_tlv`, and promises the grammar both ways, and which fault comes first.
+//! This crate depends on `isis_tlv`. Its contracts state the grammar in both directions, and which error is returned first.
 #![tactic(auto)]
 
 mod overlap;

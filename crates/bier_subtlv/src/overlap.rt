@@ -16,7 +16,7 @@ fn share(a: &LabelRange, b: &LabelRange) -> bool
     u64::from(a.label) <= last_label(b) && u64::from(b.label) <= last_label(a)
 }
 
-/// Whether a range shares a label with one of the others.
+/// Returns whether a range shares a label with one of the others.
 fn shares_with(r: &LabelRange, others: &[LabelRange]) -> bool
     ensures { result ≡ list_any (share_label r.now) others.now }
 {
@@ -41,7 +41,7 @@ fn any_shared(ranges: &[LabelRange]) -> bool
     }
 }
 
-/// Whether ranges at two different places share a label (RFC 8401, 6.2).
+/// Returns whether ranges at two different indices share a label (RFC 8401, 6.2).
 pub fn overlaps(ranges: &[LabelRange]) -> bool
     ensures shared { IsTrue result ↔ Overlap ranges.now }
     ensures value { result ≡ any_overlap ranges.now }

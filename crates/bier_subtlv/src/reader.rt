@@ -14,8 +14,8 @@ use wire_base::codepoints::SUB_SUB_TLV_BIER_MPLS;
 use wire_base::limits::LAST_LABEL;
 use wire_base::{Bsl, InfoFault, LabelRange};
 
-/// What a BIER Info says: a sub-domain, the BFR-id of the advertising router there, and its label ranges, at most one
-/// for each length of bit strings (RFC 8401, 6.1 and 6.2).
+/// A BIER Info: a sub-domain, the advertising router's BFR-id there, and its label ranges, at most one
+/// for each BSL (RFC 8401, 6.1 and 6.2).
 #[derive(Drop)]
 pub struct Info {
     pub sd: u8,
@@ -23,14 +23,14 @@ pub struct Info {
     pub ranges: ArrayVec<LabelRange, 7>,
 }
 
-/// What was read so far: which of the seven lengths have come, and the ranges.
+/// The state of the parser: which of the seven BSLs have occurred, and the ranges.
 #[derive(Drop)]
 struct PartsSoFar {
     seen: [bool; 7],
     ranges: ArrayVec<LabelRange, 7>,
 }
 
-/// The length that the word of a range names.
+/// Returns the BSL in the word of a range.
 fn bsl_of(word: u32) -> Option<Bsl>
     ensures { result ≡ word_bsl word }
 {
@@ -44,7 +44,7 @@ fn place_of(bsl: Bsl) -> usize
     usize::from(bsl.code() - 1)
 }
 
-/// A range of a known length.
+/// Adds a range of a known BSL.
 fn known(parts: &mut PartsSoFar, bsl: Bsl, word: u32) -> Result<(), InfoFault>
     requires { length parts.old.ranges.items ≤ count_by (λ b. b) parts.old.seen }
     ensures next { Becomes result (parts_view parts.new) (take_known (parts_view parts.old) bsl word) }
@@ -63,7 +63,7 @@ fn known(parts: &mut PartsSoFar, bsl: Bsl, word: u32) -> Result<(), InfoFault>
     Ok(())
 }
 
-/// One sub-sub-TLV more.
+/// Adds one sub-sub-TLV.
 #[tactic(auto, unfolding(wire_base::specs::model::BierInfo::take_part))]
 fn part(parts: &mut PartsSoFar, tlv: Tlv<'_>) -> Result<(), InfoFault>
     requires { length parts.old.ranges.items ≤ count_by (λ b. b) parts.old.seen }
@@ -83,7 +83,7 @@ fn part(parts: &mut PartsSoFar, tlv: Tlv<'_>) -> Result<(), InfoFault>
     }
 }
 
-/// The sub-sub-TLVs to their end.
+/// Parses the sub-sub-TLVs to their end.
 fn all_parts(bytes: &[u8]) -> Result<PartsSoFar, InfoFault>
     ensures { Gives parts_view result (parts_of no_parts bytes.now) }
 {
@@ -120,18 +120,19 @@ fn whole_info(value: &[u8]) -> Result<Info, InfoFault>
     })
 }
 
-/// The BIER Info that the value of a sub-TLV 32 spells (RFC 8401, 6.1 and 6.2). Short where there are fewer than five
-/// octets; then Algorithm where BAR or IPA isn't 0; then, in the order of the octets, Short where a sub-sub-TLV passes
-/// the end or a label range hasn't four octets, and RepeatedLength where a length comes a second time. A range whose
-/// last label has more than 20 bits is skipped, and its length counts as come; an unknown length and other types are
-/// skipped too.
+/// Parses the value of a sub-TLV 32 (RFC 8401, 6.1 and 6.2). Errors, in this order: Short if there are fewer than five
+/// octets; Algorithm if BAR or IPA is not 0; then, in octet order, Short if a sub-sub-TLV exceeds the value or a label range
+/// is not four octets long, and RepeatedLength if a BSL occurs a second time.
+///
+/// A range whose last label has more than 20 bits is skipped, but its BSL counts as seen. Ranges of an unknown BSL and
+/// sub-sub-TLVs of other types are skipped too.
 pub fn read_info(value: &[u8]) -> Result<Info, InfoFault>
-    // What is read is a BIER Info of the grammar.
+    // The result is a BIER Info of the grammar.
     ensures found { IfOk result (λ i. IsInfo value.now (info_of i)) }
-    // What is in the grammar is read.
+    // What is in the grammar is parsed.
     ensures only { (i : InfoItem) → IsInfo value.now i → Gives info_of result (Ok i) }
     ensures fits { IfOk result (λ i. InfoFits (info_of i)) }
-    // Which of these it is.
+    // The exact result.
     ensures exact { Gives info_of result (info_at value.now) }
 {
     whole_info(value)

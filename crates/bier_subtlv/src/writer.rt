@@ -54,7 +54,7 @@ pub fn push_info(out: &mut Octets, s: &OwnSub) -> M<()>
     requires { InfoFits (own_of s.now) }
     ensures ok { OnOk result (out.new ≡ out.old ++ tlv (info_tlv (own_of s.now))) }
     ensures err { OnErr result (out.new ≡ out.old) }
-    // What was appended is read again, whatever follows it: the sub-TLV, and the BIER Info of its value.
+    // What was appended is parsed again, whatever follows it: the sub-TLV, and the BIER Info of its value.
     ensures again { OnOk result ((rest : List ℕ) → tlv_at (drop (length out.old) out.new ++ rest) ≡ Ok (Some (info_tlv (own_of s.now), rest))) }
     ensures value { info_at (info (own_of s.now)) ≡ Ok (own_of s.now) }
 {

@@ -1,4 +1,4 @@
--- Where a tunnel goes on from a router, and what the router does with its packet.
+-- Where a router forwards a tunnel, and what it does with the tunnel's packet.
 use Rattle.std.specs.Prelude.{◌≡◌, ℕ, ◌+◌, ◌<◌, ◌≤◌, ◌⊎◌, true, List, length, is_some, Option, Some, None}
 use Rattle.std.specs.List.{AllByRecursion}
 use Rattle.wire_base.specs.declared.cause.Cause.TheVariants as cause
@@ -15,7 +15,7 @@ use Rattle.laws_route.specs.Nearer.{Nearer}
 use Rattle.bier_tunnel.specs.declared.next.Next.{Next}
 use Rattle.bier_tunnel.specs.declared.next.Next.TheVariants.{Leave, On, Outer, Route}
 
--- each edge of the router's own node leads to the peer of one of its ends
+-- each edge of the router's own node leads to the peer of one of its interfaces
 abbrev pub LeadsToEnds : RouterConf → List ViewNode → ℕ → Type 0
 LeadsToEnds r g u = AllByRecursion (λ e. is_some (link_to r g e.to) ≡ true) (edges_of g u)
 
@@ -23,13 +23,13 @@ LeadsToEnds r g u = AllByRecursion (λ e. is_some (link_to r g e.to) ≡ true) (
 abbrev pub IsNoWay : List ViewNode → ℕ → ℕ → Type 0
 IsNoWay g u x = (x ≡ u) ⊎ (dist g u x ≡ None)
 
--- the same of a node that there may not be
+-- the same for a node that may not exist
 abbrev pub IsNoWayTo : List ViewNode → ℕ → Option ℕ → Type 0
 IsNoWayTo g u None = Unit {0}
 IsNoWayTo g u (Some x) = IsNoWay g u x
 
--- From u tunnels to x go over that link, on a tight step to a node that is nearer to x. Over each router's step they come
--- to x, and from the next node that is one link less; there are fewer links than nodes.
+-- From u tunnels to x are sent over that link, on a tight step to a node that is nearer to x. Over each router's step they reach
+-- x, and from the next node that is one link less; there are fewer links than nodes.
 pub record LeadsOver (r : RouterConf) (g : List ViewNode) (u x link : ℕ) : Type 0 where
   pub next : ℕ
   pub step : IsTight g x u next
@@ -46,14 +46,14 @@ pub record Lasts (g : List ViewNode) (u x : ℕ) : Type 0 where
   pub are : tunnel_links g x u ≡ Some links
   pub few : links ≤ 249
 
--- what goes on over a link
+-- what is forwarded over a link
 abbrev pub GoesOver : (ℕ → Type 0) → Next → Type 0
 GoesOver P Leave = Unit {0}
 GoesOver P (On link ttl) = P link
 GoesOver P Outer = Unit {0}
 GoesOver P Route = Unit {0}
 
--- what a router sends and drops of a tunnel packet, for what it does with it
+-- what a router sends and drops of a tunnel packet, given its decision
 abbrev pub passed_on : RouterConf → List ℕ → Next → Effects
 passed_on r octets Leave = nothing
 passed_on r octets (On link ttl) = or_no_route (sent_on r (Some link) (λ e. ip_frame e.peer_mac e.own_mac (tunnel_on octets ttl)))

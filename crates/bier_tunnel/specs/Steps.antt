@@ -3,12 +3,12 @@ use Rattle.std.specs.Prelude.{◌≡◌, ℕ, ◌<◌, ◌⊎◌, Bool, List, le
 use Rattle.wire_base.specs.declared.view.ViewNode.{ViewNode}
 use Rattle.path_tree.specs.Forward.{ForwardWay}
 
--- what stands in place of a node's step, once it is known whether the node lies beyond
+-- the step of a node, once it is known whether the node is beyond
 abbrev pub filled : ℕ → Bool → Option ℕ → Option ℕ
 filled first beyond (Some step) = Some step
 filled first beyond None = if beyond then Some first else None
 
--- x is that node, or shortest walks from u lead on from there to x, over nodes at which the search doesn't stop
+-- x is that node, or shortest walks from u lead on from there to x, over nodes at which the search does not stop
 abbrev pub LeadsOn : List ViewNode → ℕ → (ℕ → Bool) → ℕ → ℕ → Type 0
 LeadsOn g u stops first x = (x ≡ first) ⊎ ((k : ℕ) × ForwardWay g u stops k first x)
 
@@ -16,7 +16,7 @@ LeadsOn g u stops first x = (x ≡ first) ⊎ ((k : ℕ) × ForwardWay g u stops
 abbrev pub has_step : List (Option ℕ) → ℕ → Bool
 has_step steps x = is_some (slice_index_or steps x None)
 
--- steps that are known stay; `first` becomes the step of the other nodes to which the search leads on from there
+-- known steps are unchanged; `first` becomes the step of the other nodes to which the search leads from there
 pub record IsLedOn (g : List ViewNode) (u first : ℕ) (old new : List (Option ℕ)) : Type 0 where
   pub rows : length new ≡ length g
   pub kept : (x v : ℕ) → x < length g → slice_index_or old x None ≡ Some v → slice_index_or new x None ≡ Some v

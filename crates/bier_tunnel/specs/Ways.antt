@@ -1,4 +1,4 @@
--- The ways of a router to the nodes of its view, as they are kept; and what they say of a tunnel.
+-- The routes of a router to the nodes of its view, as stored; and what they determine for a tunnel.
 use Rattle.std.specs.Prelude.{◌≡◌, ℕ, ◌+◌, ◌-◌, ◌<◌, ◌==◌, nat_le, Bool, List, [], ◌∷◌, length, map, slice_get, Option, Some, None, option_and_then, if◌then◌else◌}
 use Rattle.std.specs.List.{list_any}
 use Rattle.std.specs.Str.{bytes_eq}
@@ -17,33 +17,33 @@ use Rattle.bier_tunnel.specs.declared.next.Next.TheVariants.{Leave, On, Outer, R
 use Rattle.bier_tunnel.specs.declared.ways.SubPrefix.{SubPrefix}
 use Rattle.bier_tunnel.specs.declared.ways.Way.{Way}
 
--- the end toward a node
+-- the interface toward a node
 abbrev pub end_of : List End → List ViewNode → ℕ → Option ℕ
 end_of ends g y = option_and_then (λ n. end_toward ends n.system) (slice_get g y)
 
 abbrev pub own_prefix : ViewSub → SubPrefix
 own_prefix s = record { sd = s.sd; prefix = s.prefix }
 
--- the way to a node whose first step is known
+-- the route to a node whose first step is known
 abbrev pub way_to : List End → List ViewNode → Option ℕ → ViewNode → Way
 way_to ends g step n = record { system = n.system; link = option_and_then (end_of ends g) step; prefixes = map own_prefix n.subs }
 
--- the ways to the nodes from a place on
+-- the routes to the nodes from an index on
 abbrev pub ways_from : List End → List ViewNode → (ℕ → Option ℕ) → ℕ → List ViewNode → List Way
 ways_from ends g step x [] = []
 ways_from ends g step x (n ∷ ns) = way_to ends g (step x) n ∷ ways_from ends g step (x + 1) ns
 
--- the ways from u: each over the tight step of least system
+-- the routes from u: each over the tight step with the least system ID
 unfoldable pub ways : List End → List ViewNode → ℕ → List Way
 ways ends g u = ways_from ends g (λ x. next_step g x u) 0 g
 
--- these are the ways of a router whose node of the view g is u
+-- these are the routes of a router whose node in the view g is u
 pub record AreWays (r : RouterConf) (g : List ViewNode) (u : ℕ) (kept : List Way) : Type 0 where
   pub graph : IsGraph g
   pub within : u < length g
   pub are : kept ≡ ways r.ends g u
 
--- the way to a system
+-- the route to a system
 abbrev pub way_of : List Way → SystemId → Option Way
 way_of [] s = None
 way_of (w ∷ ws) s = if is_system w.system s then Some w else way_of ws s
@@ -64,12 +64,12 @@ prefix_to kept s sd = option_and_then (λ w. prefix_in w.prefixes sd) (way_of ke
 abbrev pub has_prefix : List SubPrefix → Ipv4 → Bool
 has_prefix ps prefix = list_any (λ p. bytes_eq p.prefix.0 prefix.0) ps
 
--- the link of the way to a prefix
+-- the link of the route to a prefix
 abbrev pub link_with : List Way → Ipv4 → Option ℕ
 link_with [] prefix = None
 link_with (w ∷ ws) prefix = if has_prefix w.prefixes prefix then w.link else link_with ws prefix
 
--- what becomes of a tunnel packet at the router with that BFR-prefix, where the way to its destination has that link
+-- what the router with that BFR-prefix does with a tunnel packet, where the route to its destination has that link
 abbrev pub next_on : ℕ → Option ℕ → Next
 next_on ttl None = Route
 next_on ttl (Some link) = On link (ttl - 1)

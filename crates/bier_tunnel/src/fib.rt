@@ -1,4 +1,4 @@
-//! Where a router sends what goes in tunnels.
+//! The routes of the tunnels of a router.
 ghost use Rattle.std.specs.Prelude.{◌≡◌, ◌≤◌, ◌<◌, ◌↔◌, ℕ, List, None, false, IfOk, IfSome, length, option_and_then, option_map};
 ghost use Rattle.std.specs.Str.{bytes_eq};
 ghost use Rattle.wire_base.specs.declared.conf.RouterConf.{RouterConf};
@@ -21,8 +21,8 @@ use std::alloc::Global;
 use std::marker::Model;
 use wire_base::{Ipv4, M, RouterConf, Rows, SystemId, View};
 
-/// The ways of a router to the others of its view: for each router the link over which tunnels to it go, and its
-/// BFR-prefixes.
+/// The routes from a router to the others of its topology: for each router the interface over which tunnels to it are sent, and
+/// its BFR-prefixes.
 #[derive(Drop)]
 pub struct Fib {
     ways: Rows<Way>,
@@ -38,8 +38,8 @@ impl Model for Fib {
 }
 
 impl Fib {
-    /// The ways from the node `u`, which is the node of the configuration `conf`. Each goes over the first step of a
-    /// shortest walk, and over that to the router with the least system identifier where there are several.
+    /// Builds the routes from the node `u`, which must be the node of the configuration `conf`. Each route uses the first step
+    /// of a shortest path. If there are several, it uses the step to the router with the least system ID.
     pub fn build(alloc: Global, v: &View, conf: &RouterConf, u: u16) -> M<Fib>
         requires ends { length conf.now.ends ≤ 65536 }
         requires node { u < length v.now.nodes }
@@ -52,7 +52,7 @@ impl Fib {
         Ok(Fib { ways })
     }
 
-    /// The place among the router's ends of the link over which tunnels to a router go. None exactly where no walk leads
+    /// Returns the index of the interface over which tunnels to a router are sent. None exactly where there is no path
     /// to it, or it is the router itself.
     pub fn next_link(&self, target: SystemId) -> Option<u16>
         ensures kept { result ≡ link_to self.now target }
@@ -70,7 +70,7 @@ impl Fib {
         self.link_to(target)
     }
 
-    /// The BFR-prefix of a router in a sub-domain. None exactly where the view gives it none.
+    /// Returns the BFR-prefix of a router in a sub-domain. None exactly where the topology has none.
     pub fn prefix_of(&self, target: SystemId, sd: u8) -> Option<Ipv4>
         ensures kept { result ≡ prefix_to self.now target sd }
         ensures prefix { (r : RouterConf) (g : List ViewNode) (u : ℕ) → AreWays r g u self.now
@@ -79,9 +79,9 @@ impl Fib {
         self.prefix_to(target, sd)
     }
 
-    /// What the router with the BFR-prefix `own` does with a tunnel packet: it leaves the tunnel at its end; else its time
-    /// to live ends where it is at most 1; else there is no route where no walk leads to another router with its
-    /// destination's prefix; else it goes on with a time to live of one less.
+    /// Returns what the router with the BFR-prefix `own` does with a tunnel packet. The first of these that applies: the tunnel
+    /// ends here; the TTL expires, if it is at most 1; there is no route, if no path leads to another router with the
+    /// destination's prefix; or the packet is forwarded with a TTL one lower.
     pub fn transit(&self, own: Ipv4, t: &Tunnel) -> Next
         ensures kept { result ≡ next_of own t.now (link_with self.now t.now.dst) }
         ensures next { (r : RouterConf) (g : List ViewNode) (u : ℕ) → AreWays r g u self.now
@@ -98,21 +98,21 @@ impl Fib {
         next_of(own, t, self.link_with(t.dst))
     }
 
-    /// The link of the way to a router.
+    /// Returns the interface index of the route to a router.
     fn link_to(&self, target: SystemId) -> Option<u16>
         ensures { result ≡ link_to self.now target }
     {
         self.way_of(target)?.link
     }
 
-    /// The prefix of a router in a sub-domain.
+    /// Returns the prefix of a router in a sub-domain.
     fn prefix_to(&self, target: SystemId, sd: u8) -> Option<Ipv4>
         ensures { result ≡ prefix_to self.now target sd }
     {
         prefix_in(self.way_of(target)?.prefixes.as_slice(), sd)
     }
 
-    /// The way to a router.
+    /// Returns the route to a router.
     fn way_of(&self, target: SystemId) -> Option<&Way>
         ensures { option_map (λ w. w.now) result ≡ way_of self.now target }
     {
@@ -124,7 +124,7 @@ impl Fib {
         None
     }
 
-    /// The link over which tunnels to the router with a BFR-prefix go.
+    /// Returns the interface index over which tunnels to the router with a BFR-prefix are sent.
     fn link_with(&self, prefix: Ipv4) -> Option<u16>
         ensures { result ≡ link_with self.now prefix }
     {

@@ -1,5 +1,5 @@
-//! The first steps of the shortest walks from a router: one search of distances and one walk along the shortest walks give
-//! them for all the other routers.
+//! The first steps of the shortest paths from a router. One SPF run and one search along the shortest paths find them for all
+//! other routers.
 ghost use Rattle.std.specs.Prelude.{◌≡◌, ◌<◌, ◌==◌, ℕ, Option, Some, None, true, false, IfOk, IsTrue, length, is_some, slice_index_or};
 ghost use Rattle.wire_base.specs.model.Choice.{is_length};
 ghost use Rattle.wire_base.specs.model.Graph.{IsEdge, IsGraph, edges_of};
@@ -11,11 +11,11 @@ use path_tree::reach;
 use std::alloc::Global;
 use wire_base::{M, ViewEdge, ViewNode};
 
-/// For each node the node of least system to which a shortest walk from `u` to it steps first; none where no walk leads
-/// there, or the node is `u`. `dist` has the distances from `u`.
+/// Returns for each node the first step of a shortest path from `u` to it: of several, the node with the least system ID. None
+/// if there is no path, or the node is `u`. `dist` has the costs from `u`.
 ///
-/// The edges of `u` stand in the order of systems. From each that is itself a shortest walk the search goes on to all
-/// nodes that have no first step yet, so each node is gone on from once.
+/// The edges of `u` are in the order of system IDs. From each edge that is itself a shortest path the search continues to all
+/// nodes that have no first step yet, so it continues from each node at most once.
 pub(crate) fn first_steps(
     alloc: Global,
     nodes: &[ViewNode],
@@ -37,7 +37,7 @@ pub(crate) fn first_steps(
     Ok(steps)
 }
 
-/// No first step to any node.
+/// Returns a list without first steps.
 fn no_steps(alloc: Global, count: usize) -> M<Vec<Option<u16>>>
     ensures rows { IfOk result (λ steps. length steps.items ≡ count) }
     ensures each { IfOk result (λ steps. (x : ℕ) → x < count → slice_index_or steps.items x None ≡ None) }
@@ -56,7 +56,7 @@ fn edges_of(nodes: &[ViewNode], node: u16) -> &[ViewEdge]
     nodes[usize::from(node)].edges.as_slice()
 }
 
-/// Whether an edge from the router is a shortest walk.
+/// Returns whether an edge from the router is a shortest path.
 fn is_shortest(dist: &[Option<u64>], edge: ViewEdge) -> bool
     requires to { edge.to < length dist.now }
     ensures { result ≡ is_length (slice_index_or dist.now edge.to None) edge.metric }
@@ -67,8 +67,8 @@ fn is_shortest(dist: &[Option<u64>], edge: ViewEdge) -> bool
     }
 }
 
-/// The steps, and `first` for `first` itself and the nodes to which shortest walks lead on from there, where they have no
-/// step yet.
+/// Returns the steps, with `first` as the step of `first` itself and of the nodes that shortest paths continue to from there,
+/// if they have no step yet.
 fn led_on(
     alloc: Global,
     nodes: &[ViewNode],
@@ -89,7 +89,7 @@ fn led_on(
     filled(alloc, steps, beyond.as_slice(), first)
 }
 
-/// Which nodes have a step.
+/// Returns which nodes have a step.
 fn known(alloc: Global, steps: &[Option<u16>]) -> M<Vec<bool>>
     ensures rows { IfOk result (λ known. length known.items ≡ length steps.now) }
     ensures each { IfOk result (λ known. (x : ℕ) → x < length steps.now → slice_index_or known.items x false ≡ is_some (slice_index_or steps.now x None)) }
@@ -101,7 +101,7 @@ fn known(alloc: Global, steps: &[Option<u16>]) -> M<Vec<bool>>
     Ok(known)
 }
 
-/// The steps, and `first` where there is none and the node lies beyond.
+/// Returns the steps, with `first` where there is none and the node is beyond it.
 fn filled(alloc: Global, steps: &[Option<u16>], beyond: &[bool], first: u16) -> M<Vec<Option<u16>>>
     requires long { length beyond.now ≡ length steps.now }
     ensures rows { IfOk result (λ more. length more.items ≡ length steps.now) }

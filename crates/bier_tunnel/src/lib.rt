@@ -1,4 +1,4 @@
-//! The ways of a router to the others: over which link a tunnel to a router goes, to which BFR-prefix, and what a router
+//! The routes of tunnels: over which interface a router sends a tunnel, to which BFR-prefix, and what it
 //! does with a tunnel packet that it receives (RFC 8279, 6.9; RFC 2784).
 #![tactic(auto)]
 

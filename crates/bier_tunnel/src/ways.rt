@@ -1,4 +1,4 @@
-//! The way from a router to each node of its view.
+//! The route from a router to each node of its topology.
 ghost use Rattle.std.specs.Prelude.{◌≡◌, ◌≤◌, ◌==◌, ℕ, Option, None, IfOk, length, map, option_and_then, slice_get, slice_index_or};
 ghost use Rattle.std.specs.Str.{bytes_eq};
 ghost use Rattle.bier_tunnel.specs.Ways.{end_of, has_prefix, own_prefix, prefix_in, ways_from};
@@ -13,7 +13,7 @@ pub struct SubPrefix {
     pub prefix: Ipv4,
 }
 
-/// A router of the view, the link over which the way leads there, and its BFR-prefixes.
+/// A router of the topology, the interface of the route to it, and its BFR-prefixes.
 #[derive(Drop)]
 pub struct Way {
     pub system: SystemId,
@@ -21,7 +21,7 @@ pub struct Way {
     pub prefixes: Rows<SubPrefix>,
 }
 
-/// The way to each node, whose first step stands at its place.
+/// Returns the route to each node, given its first step at the same index.
 pub(crate) fn ways_from(
     alloc: Global,
     ends: &[End],
@@ -43,7 +43,7 @@ pub(crate) fn ways_from(
     Ok(ways)
 }
 
-/// The end toward a node.
+/// Returns the interface toward a node.
 fn end_of(ends: &[End], nodes: &[ViewNode], step: Option<u16>) -> Option<u16>
     requires ends { length ends.now ≤ 65536 }
     ensures { result ≡ option_and_then (end_of ends.now nodes.now) step }
@@ -65,7 +65,7 @@ fn prefixes_of(alloc: Global, subs: &[ViewSub]) -> M<Rows<SubPrefix>>
     Ok(prefixes)
 }
 
-/// The prefix in a sub-domain.
+/// Returns the prefix in a sub-domain.
 pub(crate) fn prefix_in(prefixes: &[SubPrefix], sd: u8) -> Option<Ipv4>
     ensures { result ≡ prefix_in prefixes.now sd }
 {
@@ -77,7 +77,7 @@ pub(crate) fn prefix_in(prefixes: &[SubPrefix], sd: u8) -> Option<Ipv4>
     None
 }
 
-/// Whether that prefix is one of these.
+/// Returns whether that prefix is one of these.
 pub(crate) fn has_prefix(prefixes: &[SubPrefix], prefix: Ipv4) -> bool
     ensures { result ≡ has_prefix prefixes.now prefix }
 {

@@ -1,4 +1,4 @@
--- Tables of any length, by two views: the length, and the list of the routers of the positions. They are the whole value.
+-- Tables of any length, modeled as the length and the list of the routers of the positions, which determine the value.
 use Rattle.std.specs.Prelude.{List, Option}
 use Rattle.wire_base.specs.declared.bsl.Bsl.{Bsl}
 use Rattle.wire_base.specs.declared.bsl.Bsl.TheVariants as lengths

@@ -1,5 +1,5 @@
 -- A bit index forwarding table (RFC 8279, 6.4) as the list of the routers of its bit positions, from position 1 on, with
--- none where a position has no row.
+-- none where a position has no entry.
 use Rattle.std.specs.Prelude.{ℕ, zero, suc, ◌==◌, ◌&&◌, ◌%◌, Bool, true, false, List, [], ◌∷◌, ◌++◌, if◌then◌else◌, map, filter, length, slice_get, slice_index_or, Option, Some, None, is_some}
 use Rattle.std.specs.List.{list_any}
 use Rattle.std.specs.Str.{bytes_eq}
@@ -11,7 +11,7 @@ abbrev pub router_at : List (Option First) → ℕ → Option First
 router_at table zero = None
 router_at table (suc p) = slice_index_or table p None
 
--- Two entries name one router where the system is the same, and the end where it is reached, if it is reached directly.
+-- Two BFR-NBRs are one router where the system ID is the same, and the interface, if it is reached directly.
 abbrev pub same_end : Option ℕ → Option ℕ → Bool
 same_end None None = true
 same_end None (Some b) = false
@@ -25,15 +25,15 @@ abbrev pub leads_to : Option First → First → Bool
 leads_to None f = false
 leads_to (Some g) f = same_router g f
 
--- the forwarding bit mask of a router: all positions that lead to it
+-- the F-BM of a router: all positions that lead to it
 unfoldable pub mask_of : List (Option First) → First → List ℕ
 mask_of table f = filter (λ p. leads_to (router_at table p) f) (up_to (length table))
 
--- the positions that have a row
+-- the positions that have an entry
 unfoldable pub routed_of : List (Option First) → List ℕ
 routed_of table = filter (λ p. is_some (router_at table p)) (up_to (length table))
 
--- each router of a table once, in the order of their first positions, behind those that were seen before
+-- each router of a table once, in the order of their first positions, after those that were seen before
 abbrev pub routers_from : List First → List (Option First) → List First
 routers_from seen [] = seen
 routers_from seen (None ∷ os) = routers_from seen os
@@ -42,7 +42,7 @@ routers_from seen (Some f ∷ os) = routers_from (if list_any (λ g. same_router
 unfoldable pub routers_of : List (Option First) → List First
 routers_of table = routers_from [] table
 
--- the member at the place `class` modulo the size
+-- the member at index `class` modulo the size
 abbrev pub member_at : ℕ → List First → Option First
 member_at class [] = None
 member_at class (f ∷ fs) = slice_get (f ∷ fs) (class % length (f ∷ fs))

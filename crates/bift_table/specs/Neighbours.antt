@@ -1,4 +1,4 @@
--- How neighbors with their masks, and for each position the number of its neighbor, stand for a table.
+-- How neighbors with their F-BMs, and for each position the number of its neighbor, represent a table.
 use Rattle.std.specs.Prelude.{ℕ, suc, ◌≡◌, List, [], ◌∷◌, length, map, Option, Some, None, option_map, if◌then◌else◌}
 use Rattle.std.specs.List.{AllByRecursion, slice_get}
 use Rattle.wire_base.specs.declared.view.First.{First}
@@ -6,7 +6,7 @@ use Rattle.wire_base.specs.model.BitSet.{with_member}
 use Rattle.bift_table.specs.declared.neighbour.Neighbour.{Neighbour}
 use Rattle.bift_table.specs.Bift.{same_router, mask_of, routed_of, routers_of}
 
--- the router of a number
+-- the router with a number
 abbrev pub numbered : {w : ℕ} → List (Neighbour w) → Option ℕ → Option First
 numbered ns None = None
 numbered ns (Some i) = option_map (λ n. n.to) (slice_get ns i)
@@ -15,7 +15,7 @@ numbered ns (Some i) = option_map (λ n. n.to) (slice_get ns i)
 unfoldable pub table_in : {w : ℕ} → List (Neighbour w) → List (Option ℕ) → List (Option First)
 table_in ns numbers = map (numbered ns) numbers
 
--- each mask has all positions that lead to its router
+-- each F-BM has all positions that lead to its router
 abbrev pub AreMasks : {w : ℕ} → List (Option First) → List (Neighbour w) → Type 0
 AreMasks table ns = AllByRecursion (λ n. n.mask ≡ mask_of table n.to) ns
 
@@ -32,7 +32,7 @@ AreNumbers ns [] (m ∷ ms) = ⊥
 AreNumbers ns (o ∷ os) [] = ⊥
 AreNumbers ns (o ∷ os) (m ∷ ms) = IsNumber ns o m × AreNumbers ns os ms
 
--- what a table keeps
+-- the invariant of a table
 pub record IsTable {w : ℕ} (size : ℕ) (ns : List (Neighbour w)) (firsts : List First) (numbers : List (Option ℕ)) (positions : List ℕ) : Type 0 where
   pub masks : AreMasks (table_in ns numbers) ns
   pub listed : firsts ≡ map (λ n. n.to) ns
@@ -40,14 +40,14 @@ pub record IsTable {w : ℕ} (size : ℕ) (ns : List (Neighbour w)) (firsts : Li
   pub long : length numbers ≡ size
   pub routed : positions ≡ routed_of (table_in ns numbers)
 
--- ---- one position more
+-- ---- one more position
 
 -- the number of a router's neighbor, or the next one
 abbrev pub number_in : {w : ℕ} → First → List (Neighbour w) → ℕ
 number_in to [] = 0
 number_in to (n ∷ ns) = if same_router n.to to then 0 else suc (number_in to ns)
 
--- the neighbors once a position is given to a router
+-- the neighbors after a position was added to a router
 abbrev pub given : {w : ℕ} → First → ℕ → List (Neighbour w) → List (Neighbour w)
 given to p [] = record { to = to; mask = p ∷ [] } ∷ []
 given to p (n ∷ ns) = if same_router n.to to then record { to = n.to; mask = with_member p n.mask } ∷ ns else n ∷ given to p ns

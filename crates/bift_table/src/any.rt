@@ -7,10 +7,10 @@ use crate::table::Table;
 use std::alloc::Global;
 use wire_base::{Bsl, M, RowSet};
 
-/// A table of one of the seven lengths of a bit string (RFC 8296, 2.1.2), seen as that length and the list of the routers
+/// A BIFT for one of the seven BitStringLengths (RFC 8296, 2.1.2), modeled as that length and the list of the routers
 /// of its positions.
 ///
-/// Contracts speak of the length, `bsl_of`, and of that list, `positions_of`.
+/// Contracts use the length, `bsl_of`, and that list, `positions_of`.
 #[derive(Drop)]
 pub enum AnyTable {
     B64(Table<1>),
@@ -23,9 +23,9 @@ pub enum AnyTable {
 }
 
 impl AnyTable {
-    /// The table of a class, below 16, over positions of that length: at each position the router at the place `class` modulo
-    /// the size of the position's list, and no row where the list is empty (RFC 8279, 6.7). `rows` has a list for each bit of
-    /// the length. Memory where memory runs out.
+    /// Builds the table of an entropy class, below 16, over the positions of that BSL. Each position leads to the router at index
+    /// `class` modulo the size of the position's list; it has no entry if the list is empty (RFC 8279, 6.7). `rows` must have
+    /// a list for each bit. Errors with Memory if an allocation fails.
     pub fn build(alloc: Global, bsl: Bsl, rows: &RowSet, class: u8) -> M<AnyTable>
         requires lists { length rows.now.bits ≡ bits_of bsl }
         requires class { class < 16 }
@@ -44,7 +44,7 @@ impl AnyTable {
         }
     }
 
-    /// The length. Takes no memory.
+    /// Returns the length. Does not allocate.
     pub fn bsl(&self) -> Bsl
         ensures { result ≡ bsl_of self.now }
     {

@@ -18,7 +18,7 @@ pub struct Drawn<const W: usize> {
 }
 
 impl<const W: usize> Drawn<W> {
-    // One position more, and where it leads.
+    // Adds one position, and the router that it leads to.
     fn push(&mut self, to: Option<First>, bp: u16) -> M<()>
         requires width { IsTrue (is_width W) }
         requires low { 1 ≤ bp }
@@ -42,7 +42,7 @@ impl<const W: usize> Drawn<W> {
     }
 }
 
-// Where the positions lead, in one pass.
+// Determines in one pass where the positions lead.
 pub fn draw<const W: usize>(alloc: Global, lists: &[FirstList], class: u8) -> M<Drawn<W>>
     requires width { IsTrue (is_width W) }
     requires lists { length lists.now ≡ 64 * W }
@@ -62,7 +62,7 @@ pub fn draw<const W: usize>(alloc: Global, lists: &[FirstList], class: u8) -> M<
     Ok(drawn)
 }
 
-// The router of the position after so many.
+// Returns the router of the position at an index from 0.
 fn router_at(lists: &[FirstList], class: u8, place: usize) -> Option<First>
     requires { place < length lists.now }
     ensures { result ≡ router_at (table_of lists.now class) (place + 1) }
@@ -70,7 +70,7 @@ fn router_at(lists: &[FirstList], class: u8, place: usize) -> Option<First>
     member_at(lists[place].as_slice(), class)
 }
 
-// The router at the place `class` modulo the size, so that packets of different classes share the ways of equal length.
+// Returns the router at index `class` modulo the size, so that packets of different classes share the equal-cost paths.
 fn member_at(routers: &[First], class: u8) -> Option<First>
     ensures { result ≡ member_at class routers.now }
 {

@@ -1,8 +1,8 @@
-//! Bit index forwarding tables (RFC 8279, 6.4 and 6.7): for each bit position the router to which its bit is sent, and for
-//! each router the mask of all positions that are sent to it.
+//! Bit index forwarding tables (RFC 8279, 6.4 and 6.7): for each bit position the BFR-NBR to which its bit is sent, and for
+//! each BFR-NBR its F-BM, the set of all positions that are sent to it.
 //!
-//! It stands on `bier_bits`, and promises at each position the router that the packet's class picks, and masks (the standard's
-//! F-BM) of two routers that share no position.
+//! This crate depends on `bier_bits`. Each position leads to the router that the packet's entropy class selects, and the F-BMs of
+//! two routers share no position.
 #![tactic(auto)]
 
 mod any;

@@ -8,14 +8,14 @@ use bier_bits::BitString;
 use std::alloc::Global;
 use wire_base::{First, M};
 
-// A router to which bits are sent, and the positions of these bits.
+// A router to which bits are sent, and the positions of these bits (the F-BM).
 #[derive(Drop)]
 pub struct Neighbour<const W: usize> {
     pub to: First,
     pub mask: BitString<W>,
 }
 
-// The routers of neighbors.
+// Returns the routers of neighbors.
 pub fn routers_of<const W: usize>(alloc: Global, neighbours: &[Neighbour<W>]) -> M<Vec<First>>
     ensures { IfOk result (λ routers. routers.items ≡ map (λ n. n.to) neighbours.now) }
 {
@@ -26,7 +26,7 @@ pub fn routers_of<const W: usize>(alloc: Global, neighbours: &[Neighbour<W>]) ->
     Ok(routers)
 }
 
-// Gives a position to a router: to its neighbor, or to a new one where it has none yet. Answers the neighbor's number.
+// Adds a position to a router: to its neighbor, or to a new one if it has none yet. Returns the neighbor's number.
 pub fn give<const W: usize>(neighbours: &mut Vec<Neighbour<W>>, to: First, bp: u16) -> M<u16>
     requires width { IsTrue (is_width W) }
     requires low { 1 ≤ bp }
@@ -46,7 +46,7 @@ pub fn give<const W: usize>(neighbours: &mut Vec<Neighbour<W>>, to: First, bp: u
     Ok(number)
 }
 
-// The number of a router's neighbor, where it has one.
+// Returns the number of a router's neighbor, if it has one.
 fn find_number<const W: usize>(neighbours: &[Neighbour<W>], to: First) -> Option<usize>
     ensures { MatchOption result (list_any (λ n. same_router n.to to) neighbours.now ≡ false) (λ number. (list_any (λ n. same_router n.to to) neighbours.now ≡ true) × (number ≡ number_in to neighbours.now) × (number < length neighbours.now)) }
 {
@@ -58,8 +58,8 @@ fn find_number<const W: usize>(neighbours: &[Neighbour<W>], to: First) -> Option
     None
 }
 
-// Whether two entries of rows name one router, reached the same way: the system is the same, and the end where it is
-// reached directly, or a tunnel leads there in both.
+// Returns whether two BFR-NBRs are one router, reached the same way: they have the same system ID, and the same interface
+// if it is reached directly, or a tunnel leads there in both.
 fn is_same_router(a: First, b: First) -> bool
     ensures { result ≡ same_router a b }
 {

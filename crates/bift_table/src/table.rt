@@ -13,12 +13,12 @@ use std::marker::Model;
 use std::sync::ledger::Ledger;
 use wire_base::{First, M, RowSet, Steps};
 
-/// A bit index forwarding table of 64 W bit positions (RFC 8279, 6.4), seen as the list of the routers of its positions,
-/// from position 1 on: None where a position has no row. W is 1, 2, 4, 8, 16, 32 or 64.
+/// A bit index forwarding table (BIFT) of 64 W bit positions (RFC 8279, 6.4). It is modeled as the list of the routers of its
+/// positions, from position 1 on, with None for a position without an entry. W is 1, 2, 4, 8, 16, 32 or 64.
 ///
-/// It holds each router once, as a neighbor with the mask of the positions that lead to it, and for each position the
-/// number of its neighbor, so that a row is read in one step. The routers also stand in a list of their own, which a hop
-/// can hold on to for as long as the table lasts.
+/// It stores each router once, as a neighbor with its F-BM, and for each position the number of its neighbor, so that an entry
+/// is read in one step. The routers are also stored in a list of their own, which a hop can borrow for as long as the table
+/// exists.
 #[derive(Drop)]
 pub struct Table<const W: usize> {
     neighbours: Vec<Neighbour<W>>,
@@ -40,8 +40,8 @@ impl<const W: usize> Model for Table<W> {
     ghost invariant = { λ t. IsTable (64 * W) t.neighbours.items t.routers.items t.numbers.items t.routed };
 }
 
-/// A row of a table: the router to which a position leads, all positions that lead to it (the forwarding bit mask of
-/// RFC 8279, 6.4), and the router's number among those of the table, from 0.
+/// An entry of a BIFT: the router to which a position leads, the F-BM, which has all positions that lead to it
+/// (RFC 8279, 6.4), and the router's number in the table, from 0.
 #[derive(Clone, Copy)]
 pub struct Row<'t, const W: usize> {
     pub mask: &'t BitString<W>,
@@ -50,8 +50,9 @@ pub struct Row<'t, const W: usize> {
 }
 
 impl<const W: usize> Table<W> {
-    /// The table of a class, below 16: at each position the router at the place `class` modulo the size of the position's
-    /// list, and no row where the list is empty (RFC 8279, 6.7). `rows` has 64 W lists. Memory where memory runs out.
+    /// Builds the table of an entropy class, below 16. Each position leads to the router at index `class` modulo the size of
+    /// the position's list; it has no entry if the list is empty (RFC 8279, 6.7). `rows` must have 64 W lists. Errors with
+    /// Memory if an allocation fails.
     pub fn build(alloc: Global, rows: &RowSet, class: u8) -> M<Self>
         requires width { IsTrue (is_width W) }
         requires lists { length rows.now.bits ≡ 64 * W }
@@ -73,8 +74,8 @@ impl<const W: usize> Table<W> {
         })
     }
 
-    /// The row of a position, from 1 to 64 W, in one step. None exactly where the position isn't in `routed`. The masks of
-    /// different routers share no position.
+    /// Returns the entry of a position, from 1 to 64 W, in one step. None exactly where the position is not in `routed`. The
+    /// F-BMs of different routers share no position.
     pub fn row<L: Ledger>(&self, bp: u16, steps: &mut Steps<L>) -> Option<Row<'_, W>>
         requires width { IsTrue (is_width W) }
         requires low { 1 ≤ bp }
@@ -96,14 +97,14 @@ impl<const W: usize> Table<W> {
         })
     }
 
-    /// The routers to which positions lead, each once, in the order of their first positions.
+    /// Returns the routers to which positions lead, each once, in the order of their first positions.
     pub fn routers(&self) -> &[First]
         ensures { result.now ≡ routers_of self.now }
     {
         &self.routers
     }
 
-    /// The positions that have a row: those that are in the mask of some router. They are in ascending order, from 1 to 64 W.
+    /// Returns the positions that have an entry, which are those in some F-BM. They are in ascending order, from 1 to 64 W.
     pub fn routed(&self) -> &BitString<W>
         ensures value { result.now ≡ routed_of self.now }
         ensures ordered { IsWithin 0 (64 * W) result.now }

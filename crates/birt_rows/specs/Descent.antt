@@ -1,4 +1,4 @@
--- Where a bit is sent it comes nearer to the router that owns its BFR-id, so it is sent on until it is there (RFC 8279, 6.5
+-- A bit comes nearer to the router that owns its BFR-id with each hop, so it is sent on until it is there (RFC 8279, 6.5
 -- and 6.9).
 use Rattle.std.specs.Prelude.{◌≡◌, ℕ, ◌<◌, List, [], length, Some}
 use Rattle.wire_base.specs.declared.conf.End.{End}
@@ -14,7 +14,7 @@ use Rattle.laws_route.specs.Nearer.{Nearer}
 
 -- The row of the bit position p at the node u has the router f. It is the node x, which is nearer to the owner of the
 -- position's BFR-id than u is; and at x, whatever its links are, the row is empty only where x is the owner. So whichever
--- router is picked from each row, the bit is with its owner after fewer hops than there are nodes.
+-- router is selected from each row, the bit reaches its owner after fewer hops than there are nodes.
 pub record ComesNearer (r : RouterConf) (g : List ViewNode) (t : Triple) (u p : ℕ) (f : First) : Type 0 where
   pub x : ℕ
   pub is : first_at r.ends g u x ≡ Some f

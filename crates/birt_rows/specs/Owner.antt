@@ -1,4 +1,4 @@
--- Those who have an id, as far as it matters whether one of them owns it.
+-- The routers with a BFR-id: none, exactly one, or several.
 use Rattle.std.specs.Prelude.{ℕ, ◌==◌, ◌||◌, ◌-◌, nat_lt, List, [], ◌∷◌, Option, Some, None, option_and_then, slice_index_or, slice_set, if◌then◌else◌}
 use Rattle.wire_base.specs.declared.triple.Triple.{Triple}
 use Rattle.wire_base.specs.declared.view.ViewNode.{ViewNode}
@@ -22,11 +22,11 @@ found_in [] = Nobody
 found_in (x ∷ []) = One x
 found_in (x ∷ y ∷ ys) = Several
 
--- the bit position of a node's BFR-id, where the id lies in the triple's set
+-- the bit position of a node's BFR-id, where the BFR-id is in the triple's set
 abbrev pub node_position : Triple → ViewNode → Option ℕ
 node_position t n = option_and_then (λ s. position_in t s.id) (place_in n.subs t.sd)
 
--- one more who has the id of a position
+-- one more router with the BFR-id of a position
 abbrev pub counted : List Found → Option ℕ → ℕ → List Found
 counted found None node = found
 counted found (Some p) node = slice_set found (p - 1) (one_more (slice_index_or found (p - 1) Nobody) node)

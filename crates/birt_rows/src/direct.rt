@@ -1,4 +1,4 @@
-//! How a router names another to which it sends.
+//! How a router identifies another to which it sends.
 ghost use Rattle.std.specs.Prelude.{◌≡◌, ◌<◌, ◌≤◌, ◌==◌, ◌&&◌, None, Some, length, slice_index_or, if◌then◌else◌};
 ghost use Rattle.std.specs.List.{list_any};
 ghost use Rattle.wire_base.specs.model.Graph.{edges_of};
@@ -7,7 +7,7 @@ ghost use Rattle.path_tree.specs.Ways.{AreDistsFrom};
 
 use wire_base::{End, First, SystemId, ViewEdge, ViewNode, end_toward};
 
-/// The node's system, and the place of the end where it is reached directly from `u`.
+/// Returns the node's system ID, and the index of the interface if it is reached directly from `u`.
 pub(crate) fn first_of(
     ends: &[End],
     nodes: &[ViewNode],
@@ -28,7 +28,7 @@ pub(crate) fn first_of(
     }
 }
 
-/// Whether an edge leads from `u` to the node whose metric is the distance.
+/// Returns whether an edge leads from `u` to the node whose metric is the cost.
 #[tactic(auto, unfolding(wire_base::specs::model::Choice::is_direct))]
 fn is_direct(nodes: &[ViewNode], dist: &[Option<u64>], u: u16, node: u16) -> bool
     requires from { u < length nodes.now }
@@ -64,7 +64,7 @@ fn direct_end(ends: &[End], is_direct: bool, system: SystemId) -> Option<u16>
     }
 }
 
-/// Whether an edge to the node has that length as its metric.
+/// Returns whether an edge to the node has that cost as its metric.
 fn has_edge(edges: &[ViewEdge], node: u16, length: Option<u64>) -> bool
     ensures { result ≡ list_any (λ e. (e.to == node) && is_length length e.metric) edges.now }
 {

@@ -1,4 +1,4 @@
-//! The routers through which all that a router sends goes on.
+//! The BFR-NBRs of a router: the first BFRs on its shortest paths.
 ghost use Rattle.std.specs.Prelude.{◌≡◌, ◌<◌, ◌≤◌, ◌&&◌, ℕ, Bool, true, false, List, IfOk, length, slice_index_or, filter, map, replicate};
 ghost use Rattle.std.specs.List.{range_with_len};
 ghost use Rattle.wire_base.specs.model.Graph.{IsGraph};
@@ -10,14 +10,14 @@ use path_tree::reach;
 use std::alloc::Global;
 use wire_base::{End, First, M, Rows, ViewNode};
 
-/// A supporting router that is the first on some shortest walks, and the nodes to which shortest walks lead over it.
+/// A BFR that is the first one on some shortest paths, and the nodes that shortest paths over it lead to.
 #[derive(Drop)]
 pub(crate) struct Entry {
     pub(crate) first: First,
     pub(crate) beyond: Vec<bool>,
 }
 
-/// The entries of the supporting nodes that were seen from `u`, in the order of the nodes.
+/// Returns the entries of the supporting nodes that were seen from `u`, in the order of the nodes.
 pub(crate) fn all_entries(
     alloc: Global,
     ends: &[End],
@@ -53,7 +53,7 @@ fn is_entry(seen: &[bool], covers: &[bool], node: usize) -> bool
     seen[node] && covers[node]
 }
 
-/// A search that stops nowhere.
+/// Returns the stop list of a search that stops nowhere.
 fn no_stops(alloc: Global, count: usize) -> M<Vec<bool>>
     ensures { IfOk result (λ none. none.items ≡ replicate count false) }
 {

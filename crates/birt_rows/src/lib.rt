@@ -1,6 +1,7 @@
-//! The rows of a forwarding table: for each bit position the routers to which its bit may be sent.
+//! The BIRT of a triple: for each bit position the routers to which its bit may be sent.
 //!
-//! It stands on `path_tree`, and promises for each position the first supporting routers toward its one owner.
+//! This crate depends on `path_tree`. It returns for each position the BFR-NBRs toward the only owner of the position's
+//! BFR-id.
 #![tactic(auto)]
 
 mod direct;

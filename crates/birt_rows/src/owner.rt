@@ -9,7 +9,7 @@ ghost use Rattle.birt_rows.specs.Owner.{counted, found_in, node_position, one_mo
 use std::alloc::Global;
 use wire_base::{M, Triple, ViewNode};
 
-/// Those who have an id, as far as it matters whether one of them owns it.
+/// The routers with a BFR-id: none, exactly one, or several.
 #[derive(Clone, Copy)]
 pub(crate) enum Found {
     Nobody,
@@ -17,7 +17,7 @@ pub(crate) enum Found {
     Several,
 }
 
-/// For each bit position of the triple who has its BFR-id.
+/// Returns for each bit position of the triple which routers have its BFR-id.
 pub(crate) fn owners(alloc: Global, nodes: &[ViewNode], t: Triple) -> M<Vec<Found>>
     requires graph { IsGraph nodes.now }
     ensures rows { IfOk result (λ found. length found.items ≡ bits_of t.bsl) }
@@ -41,7 +41,7 @@ fn nobody(alloc: Global, count: u16) -> M<Vec<Found>>
     Ok(found)
 }
 
-/// The bit position of a node's BFR-id, where the id lies in the triple's set.
+/// Returns the bit position of a node's BFR-id, if the BFR-id is in the triple's set.
 fn node_position(node: &ViewNode, t: Triple) -> Option<u16>
     ensures { result ≡ node_position t node.now }
 {
@@ -51,7 +51,7 @@ fn node_position(node: &ViewNode, t: Triple) -> Option<u16>
     }
 }
 
-/// Counts one more who has the id of a position.
+/// Counts one more router with the BFR-id of a position.
 fn count(found: &mut Vec<Found>, position: Option<u16>, node: u16)
     requires within { IfSome position (λ p. (0 < p) × (p ≤ length found.old.items)) }
     ensures { found.new.items ≡ counted found.old.items position node }
@@ -70,7 +70,7 @@ fn one_more(found: Found, node: u16) -> Found
     }
 }
 
-/// The one that has a BFR-id, 0 and numbers above 65,535 being none (RFC 8279, 5).
+/// Returns the only router that has a BFR-id. Neither 0 nor a number above 65,535 is a BFR-id (RFC 8279, 5).
 pub(crate) fn owner_among(found: Found, id: u32) -> Option<u16>
     ensures { result ≡ owner_among found id }
 {

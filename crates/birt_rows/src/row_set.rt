@@ -14,12 +14,13 @@ use path_tree::{distances_from, reach};
 use std::alloc::Global;
 use wire_base::{FirstList, M, RouterConf, RowSet, Rows, Triple, View, ViewNode};
 
-/// For each bit position of the triple the routers to which the node `u` may send its bit, in the order of their systems:
-/// the first supporting routers on shortest walks toward the one owner of the position's BFR-id (RFC 8279, 6.9). A row is
-/// empty where the id has no owner or several, where the owner doesn't support the triple or is `u`, and where no walk leads
-/// there. `u` is the node of the configuration `conf`.
+/// Returns for each bit position of the triple the BFR-NBRs to which the node `u` may send its bit, in the order of their
+/// system IDs: the first supporting routers on shortest paths toward the only owner of the position's BFR-id (RFC 8279, 6.9). A
+/// row is empty if the BFR-id has no owner or several, if the owner does not support the triple or is `u`, or if no path leads
+/// there. `u` must be the node of the configuration `conf`.
 ///
-/// Each router of a row is nearer to the owner, and has a row for the bit itself unless it is the owner (RFC 8279, 6.5).
+/// Each router of a row is nearer to the owner, and has itself a nonempty row for the bit unless it is the owner
+/// (RFC 8279, 6.5).
 pub fn rows(alloc: Global, v: &View, conf: &RouterConf, u: u16, t: Triple) -> M<RowSet>
     requires ends { length conf.now.ends ≤ 65536 }
     requires node { u < length v.now.nodes }
@@ -53,7 +54,7 @@ pub fn rows(alloc: Global, v: &View, conf: &RouterConf, u: u16, t: Triple) -> M<
     Ok(RowSet { bits })
 }
 
-/// Which nodes support the triple.
+/// Returns which nodes support the triple.
 fn supporting(alloc: Global, nodes: &[ViewNode], conf: &RouterConf, t: Triple) -> M<Vec<bool>>
     ensures rows { IfOk result (λ covers. length covers.items ≡ length nodes.now) }
     ensures each { IfOk result (λ covers. (x : ℕ) → slice_index_or covers.items x false ≡ covers_at conf.now.kinds conf.now.table t nodes.now x) }
@@ -65,7 +66,7 @@ fn supporting(alloc: Global, nodes: &[ViewNode], conf: &RouterConf, t: Triple) -
     Ok(covers)
 }
 
-/// The rows of all bit positions.
+/// Returns the rows of all bit positions.
 fn all_rows(
     alloc: Global,
     owners: &[Found],
@@ -86,7 +87,7 @@ fn all_rows(
     Ok(Rows::from_vec(bits))
 }
 
-/// The BFR-id of the bit position after so many others.
+/// Returns the BFR-id of the bit position at an index from 0.
 fn id_at(t: Triple, before: u16) -> u32
     requires { before < 65535 }
     ensures { result ≡ id_at t (before + 1) }
@@ -94,7 +95,7 @@ fn id_at(t: Triple, before: u16) -> u32
     t.si as u32 * t.bsl.bits() as u32 + (before as u32 + 1)
 }
 
-/// The row of the bit position that a node owns.
+/// Returns the row of the bit position that a node owns.
 fn row_of_owner(
     alloc: Global,
     entries: &[Entry],
@@ -125,7 +126,7 @@ fn covers_at(covers: &[bool], node: u16) -> bool
     }
 }
 
-/// The entries over which shortest walks lead to a node.
+/// Returns the routers over which shortest paths lead to a node.
 fn row_toward(alloc: Global, entries: &[Entry], d: u16) -> M<FirstList>
     ensures { IfOk result (λ row. row ≡ map (λ e. e.first) (filter (beyond d) entries.now)) }
 {

@@ -1,17 +1,17 @@
 -- What a reader that has read nothing gives of a capture.
-use Rattle.std.proofs.Common.{◌≡◌, ◌≢◌, ℕ, ◌<◌, ◌≤◌, Bool, true, false, not, List, [], ◌∷◌, length, take, map, Option, Some, None, Result, Ok, Err, refl, sym, ap, ap₂, subst, ◌∙◌, arith, inl, inr}
+use Rattle.std.proofs.Common.{◌≡◌, ℕ, Bool, false, not, List, [], ◌∷◌, length, take, map, Option, Some, None, Result, Ok, Err, refl, sym, ap, ap₂, subst, ◌∙◌, inl, inr}
 use Rattle.std.specs.Prelude.{nat_lt, nat_le}
 use Rattle.std.proofs.lemmas.Bool.{cases_lt, lt-ltb, le-ltb, le-leb, lt-leb}
 use Rattle.std.proofs.lemmas.List.{take_all}
 use Rattle.wire_base.specs.declared.limits.TheConstants.{CAPTURE_LIMIT}
 use Rattle.wire_base.specs.declared.faults.CaptureFault.{CaptureFault}
-use Rattle.wire_base.specs.model.Capture.{CaptureRecord, Stage, HeaderToCome, HeaderRead, Refused, Reading, unread, fed, drained, drain_on, more_after, next_of}
+use Rattle.wire_base.specs.model.Capture.{CaptureRecord, Stage, HeaderToCome, HeaderRead, Refused, Reading, unread, fed, drained, drain_on, next_of}
 use Rattle.pcap_frames.specs.declared.record.CapRecord.{CapRecord}
 use Rattle.pcap_frames.proofs.Drained.{drained_next, drained_twice, drained_end, next_refuses}
 use Rattle.command_drive.specs.declared.items.Close.{Close}
 use Rattle.command_drive.specs.declared.items.Close.TheVariants as close
-use Rattle.command_drive.specs.Reading.{End, Ends, Fails, Behind, Closed, Cut, Reads}
-use Rattle.command_drive.specs.Records.{record_given, behind_open, behind_records, capture_read, records_read}
+use Rattle.command_drive.specs.Reading.{End, Fails, Behind, Closed, Cut, Reads}
+use Rattle.command_drive.specs.Records.{record_given, behind_records, capture_read, records_read}
 use Rattle.command_drive.specs.Captures.{within_limit, is_within, IsOpen, records_seen}
 
 -- what is given is what was read

@@ -1,14 +1,13 @@
 -- What a reader that has read nothing gives of a text.
-use Rattle.std.proofs.Common.{◌≡◌, ◌≢◌, ℕ, ◌<◌, ◌≤◌, Bool, true, false, List, [], ◌++◌, length, take, map, refl, sym, ap, ap₂, ◌∙◌, arith, inl, inr}
-use Rattle.std.specs.Prelude.{nat_lt, nat_le}
-use Rattle.std.proofs.lemmas.Bool.{cases_lt, lt-ltb, le-ltb, le-leb, lt-leb}
+use Rattle.std.proofs.Common.{◌≡◌, ℕ, ◌<◌, ◌≤◌, Bool, true, false, List, [], length, take, map, sym, ap, ◌∙◌, inl, inr}
+use Rattle.std.proofs.lemmas.Bool.{cases_lt, le-leb, lt-leb}
 use Rattle.std.proofs.lemmas.List.{take_all}
 use Rattle.wire_base.specs.declared.limits.TheConstants.{TEXT_LIMIT}
 use Rattle.replay_text.specs.Pieces.{lines_in}
 use Rattle.command_drive.specs.declared.items.Close.{Close}
 use Rattle.command_drive.specs.declared.items.Close.TheVariants as close
 use Rattle.command_drive.specs.Reading.{Ends, Fails, Closed, Cut, Reads}
-use Rattle.command_drive.specs.Lines.{shown, cut_read, whole_read, lines_read}
+use Rattle.command_drive.specs.Lines.{shown, whole_read, lines_read}
 use Rattle.command_drive.specs.Texts.{is_short, within_limit, lines_within}
 use Rattle.command_drive.proofs.LineSteps.{over_is, under_is}
 

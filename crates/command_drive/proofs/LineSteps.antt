@@ -1,19 +1,17 @@
 -- A text that is read chunk by chunk is given line by line as it stands.
-use Rattle.std.proofs.Common.{◌≡◌, ◌≢◌, ℕ, zero, suc, ◌+◌, ◌-◌, ◌*◌, ◌<◌, ◌≤◌, min, Bool, true, false, eqb, List, [], ◌∷◌, ◌++◌, length, take, map, slice_index, Option, Some, None, refl, sym, ap, ap₂, subst, ◌∙◌, arith, inl, inr, append-nil, append_assoc}
+use Rattle.std.proofs.Common.{◌≡◌, ◌≢◌, ℕ, zero, suc, ◌+◌, ◌-◌, ◌*◌, ◌<◌, ◌≤◌, min, Bool, true, false, eqb, List, [], ◌∷◌, ◌++◌, length, take, map, slice_index, Option, refl, sym, ap, ap₂, ◌∙◌, arith, inl, inr, append-nil, append_assoc}
 use Rattle.std.specs.Prelude.{nat_lt, ◌⊎◌, if◌then◌else◌}
 use Rattle.std.proofs.lemmas.Bool.{cases_Bool, cases_lt, lt-ltb, le-ltb, eqb-true}
 use Rattle.std.proofs.lemmas.List.{take_all, take-take, take-append-le, length-append, length-take}
 use Rattle.std.proofs.lemmas.List.Elements.{All-append, All-nil, All-cons, All-take}
-use Rattle.std.proofs.KnownBytes.{Consumes-nil, Consumes-trans, Consumes-kept}
+use Rattle.std.proofs.KnownBytes.{Consumes-trans, Consumes-kept}
 use Rattle.std.specs.Io.KnownBytes.{Consumes, Keeps, IsAtEnd}
 use Rattle.std.proofs.lemmas.List.Splits.{slice_split_at, slice_split_none}
 use Rattle.std.specs.Str.Lines.{strip_carriage_return}
 use Rattle.replay_text.specs.Pieces.{pieces, lines_in}
 use Rattle.replay_text.proofs.Cutting.{line_first, line_last, line_none, line_open}
-use Rattle.command_drive.specs.declared.items.Found.{Found}
-use Rattle.command_drive.specs.declared.items.Found.TheVariants as found
 use Rattle.command_drive.specs.declared.items.Close.TheVariants as close
-use Rattle.command_drive.specs.Reading.{End, Ends, Fails, Closed, Cut, Reads, first, Left, Finds}
+use Rattle.command_drive.specs.Reading.{End, Ends, Fails, Closed, Cut, Reads, first, Left}
 use Rattle.command_drive.proofs.Seeking.{Seeks, nothing_left}
 use Rattle.command_drive.specs.Lines.{shown, lines_shown, cut_read, whole_read, lines_read, HasNoEnd, kept, TakesPart}
 

@@ -1,20 +1,17 @@
 -- A capture that is read chunk by chunk is given record by record as it stands.
-use Rattle.std.proofs.Common.{◌≡◌, ℕ, ◌+◌, ◌-◌, ◌*◌, ◌<◌, ◌≤◌, ◌≢◌, min, Bool, true, false, List, [], ◌∷◌, ◌++◌, length, take, map, Option, Some, None, Result, Ok, Err, refl, sym, ap, ap₂, subst, ◌∙◌, append_assoc, append-nil, arith, inl, inr}
+use Rattle.std.proofs.Common.{◌≡◌, ℕ, ◌-◌, ◌≤◌, Bool, true, false, List, [], ◌++◌, length, take, Option, Some, None, Result, Ok, Err, refl, sym, ap, ap₂, subst, ◌∙◌, arith, inl, inr}
 use Rattle.std.specs.Prelude.{nat_lt}
-use Rattle.std.specs.Io.KnownBytes.{Consumes, Keeps, IsAtEnd}
-use Rattle.std.proofs.KnownBytes.{Consumes-kept}
+use Rattle.std.specs.Io.KnownBytes.{IsAtEnd}
 use Rattle.std.proofs.lemmas.Bool.{cases_lt, lt-ltb, le-ltb}
 use Rattle.std.proofs.lemmas.List.{length-append, take_all, take-append-le}
 use Rattle.wire_base.specs.declared.faults.CaptureFault.{CaptureFault}
-use Rattle.wire_base.specs.model.Capture.{CaptureRecord, Stage, HeaderToCome, HeaderRead, Refused, Reading, fed, drained, drain_on, more_after, next_of, end_of}
-use Rattle.pcap_frames.specs.declared.record.CapRecord.{CapRecord}
+use Rattle.wire_base.specs.model.Capture.{CaptureRecord, Stage, HeaderToCome, HeaderRead, Refused, Reading, fed, drained, drain_on, more_after, next_of}
 use Rattle.pcap_frames.proofs.Drained.{drained_next, drained_fed, drained_twice, drained_end, fed_nothing, fed_twice, next_refuses, refused_still}
 use Rattle.command_drive.specs.declared.items.Close.{Close}
 use Rattle.command_drive.specs.declared.items.Close.TheVariants as close
-use Rattle.command_drive.specs.Reading.{End, Ends, Fails, Behind, Closed, Cut, Reads, first, Left, IsWhole}
-use Rattle.command_drive.specs.Records.{record_given, close_by, behind_open, behind_records, capture_read, records_read}
+use Rattle.command_drive.specs.Reading.{End, Behind, Closed, first, IsWhole}
+use Rattle.command_drive.specs.Records.{record_given, behind_open, behind_records, capture_read, records_read}
 use Rattle.command_drive.proofs.LineSteps.{take_past}
-use Rattle.command_drive.proofs.Seeking.{Seeks, nothing_left}
 
 -- ---- what comes of an answer
 

@@ -1,17 +1,17 @@
 -- A run that writes no frames.
-use Rattle.std.proofs.Common.{◌≡◌, ◌<◌, ℕ, List, [], Option, Some, None, refl, sym, ap, subst, inl, inr, arith}
+use Rattle.std.proofs.Common.{◌≡◌, ◌<◌, ℕ, List, Option, refl, inl, inr, arith}
 use Rattle.std.specs.Prelude.{◌⊎◌}
 use Rattle.wire_base.specs.declared.outside.Source as source
 use Rattle.wire_base.specs.declared.outside.Sink as sink
 use Rattle.wire_base.specs.declared.status.Status.{Status}
 use Rattle.wire_base.specs.declared.status.Status.TheVariants.{Done, ReadFault, WriteFault, Memory}
-use Rattle.command_drive.specs.Answer.{Verdict, IsDecided}
-use Rattle.command_drive.specs.Outside.{Held, Gave, Meets, AppendsFront}
+use Rattle.command_drive.specs.Outside.{Gave, Meets}
 use Rattle.command_drive.specs.Reading.{Ends, Fails}
 use Rattle.command_drive.specs.Driving.{Meaning, Drives, OneRose}
 use Rattle.command_drive.specs.Reporting.{Reports, alone}
 use Rattle.command_drive.proofs.Along.{nothing_front}
 use Rattle.command_drive.proofs.Meanings.{drives_as}
+use Rattle.command_drive.proofs.Untouched.{some_held}
 
 gave_by : (given : Status × List ℕ) (ended : Status) (report report_now frames frames_now : Option (List ℕ)) → Meets (alone given) ended report report_now frames frames_now → Gave given ended report report_now
 gave_by given ended report report_now frames frames_now m = record { status = m.status; report = m.report }
@@ -52,11 +52,6 @@ module _ {S C R : Type 0} (s : source.Ghosts S) (c : sink.Ghosts C) (r : sink.Gh
       rose (inr (inl a)) = absurd (omega (arith, a, no_zeros))
       rose (inr (inr a)) = a
 
--- what a source holds, as far as it tells
-pub held_any : (left : Option (List ℕ)) → (octets : List ℕ) × Held left octets
-held_any None = ([], tt)
-held_any (Some octets) = (octets, refl)
-
 -- nothing was done, for memory ran out
 pub reports_none : {S R : Type 0} (s : source.Ghosts S) (r : sink.Ghosts R) (refusal : Status) (gives cuts : List ℕ → Status × List ℕ) (input : S) (report : R) → Reports s r refusal gives cuts Memory input input report report
 reports_none s r refusal gives cuts input report =
@@ -72,7 +67,7 @@ reports_none s r refusal gives cuts input report =
       finished = λ a b. absurd (b refl);
       stopped = λ is. absurd (no_read is);
       front = λ is.
-          let held = held_any (s.left input) in
+          let held = some_held (s.left input) in
           (held.0, held.1, nothing_front (r.written report) (gives held.0).1);
     }
   where

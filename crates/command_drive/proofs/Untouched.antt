@@ -9,7 +9,8 @@ use Rattle.command_drive.specs.Reading.{Ends}
 use Rattle.command_drive.specs.Driving.{Meaning, Drives}
 use Rattle.command_drive.proofs.Along.{nothing_front}
 
-some_held : (left : Option (List ℕ)) → (octets : List ℕ) × Held left octets
+-- what a source holds, as far as it tells
+pub some_held : (left : Option (List ℕ)) → (octets : List ℕ) × Held left octets
 some_held None = ([], tt)
 some_held (Some octets) = (octets, refl)
 

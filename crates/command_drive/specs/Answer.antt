@@ -1,4 +1,4 @@
--- What a run owes: its status, and the octets that its sinks gain.
+-- The result that a run must have: its status, and the octets that its sinks gain.
 use Rattle.std.specs.Prelude.{ℕ, List, ◌++◌}
 use Rattle.wire_base.specs.declared.status.Status.{Status}
 use Rattle.wire_base.specs.declared.status.Status.TheVariants as status
@@ -8,7 +8,7 @@ pub record Verdict : Type 0 where
   pub report : List ℕ
   pub frames : List ℕ
 
--- the status and the report of a command that writes no frames, with that in front of the report
+-- the status and the report of a command that writes no frames, with a text before the report
 abbrev pub behind : List ℕ → Status × List ℕ → Status × List ℕ
 behind front answer = (answer.0, front ++ answer.1)
 

@@ -1,4 +1,4 @@
--- What a command does of an item.
+-- What a command does with an item.
 use Rattle.std.specs.Prelude.{ℕ, ◌≡◌, List, [], ◌++◌}
 use Rattle.command_drive.specs.Answer.{Verdict}
 use Rattle.wire_base.specs.declared.status.Status.{Status}
@@ -8,19 +8,19 @@ use Rattle.command_drive.specs.declared.command.Flow.TheVariants as flow
 use Rattle.run_texts.specs.declared.texts.Texts.{Texts}
 use Rattle.command_drive.specs.Reading.{Behind}
 
--- a verdict with that in front of its texts
+-- a verdict with a report and frames before its own
 abbrev pub told : (report frames : List ℕ) → Verdict → Verdict
 told report frames owed = record { status = owed.status; report = report ++ owed.report; frames = frames ++ owed.frames }
 
--- what a source's fault leaves to be told
+-- what remains to be reported after a read error
 abbrev pub nothing_more : Verdict
 nothing_more = record { status = status.ReadFault; report = []; frames = [] }
 
--- what is owed on items and on what stands behind them
+-- what remains to be produced for items and the end of the input after them
 abbrev pub Owed : Type 0 → Type 0
 Owed T = List T → Behind → Verdict
 
--- Something was reported, and what was owed before is that and what is owed now.
+-- Something was reported, and what remained before is that followed by what remains now.
 pub record Told {T : Type 0} (old new : Owed T) (texts texts_now : Texts) : Type 0 where
   pub report : List ℕ
   pub frames : List ℕ
@@ -28,7 +28,7 @@ pub record Told {T : Type 0} (old new : Owed T) (texts texts_now : Texts) : Type
   pub frames_is : texts_now.frames ≡ texts.frames ++ frames
   pub owed : (items : List T) (behind : Behind) → old items behind ≡ told report frames (new items behind)
 
--- The texts end, whatever was to follow.
+-- The output ends, whatever was to follow.
 pub record Concludes (ended : Status) (owed : Verdict) (texts texts_now : Texts) : Type 0 where
   pub status : ended ≡ owed.status
   pub report : texts_now.report ≡ texts.report ++ owed.report

@@ -12,16 +12,16 @@ use Rattle.run_texts.specs.declared.texts.Texts.{Texts}
 use Rattle.command_drive.specs.Reading.{End, Ends, Fails, Behind, Reads}
 use Rattle.command_drive.specs.Doing.{Owed, told}
 
--- the verdict on octets behind which their source ends, or fails
+-- the verdict on octets after which their source ends, or fails
 abbrev pub Meaning : Type 0
 Meaning = End → List ℕ → Verdict
 
--- a status with which an input is refused
+-- a status with which an input is rejected
 pub record IsRefusal (refusal : Status) : Type 0 where
   pub decided : IsDecided refusal
   pub other : refusal ≢ Done
 
--- that of a command on what a reader makes of the octets, behind texts that are still to be written
+-- the verdict of a command on the items that a reader finds in the octets, with pending output before it
 abbrev pub meaning : {T : Type 0} → (reads : End → List ℕ → Reads T) → Owed T → Texts → Meaning
 meaning reads owes texts end octets = told texts.report texts.frames (owes (reads end octets).items (reads end octets).behind)
 
@@ -48,14 +48,14 @@ abbrev pub OneRose : {C R : Type 0} → sink.Ghosts C → sink.Ghosts R → (fra
 OneRose c r frames_old frames_new report_old report_new =
     (c.faults frames_old < c.faults frames_new) ⊎ ((c.zeros frames_old < c.zeros frames_new) ⊎ ((r.faults report_old < r.faults report_new) ⊎ (r.zeros report_old < r.zeros report_new)))
 
--- ---- on the way
+-- ---- within a run
 
--- nothing is left to be written
+-- nothing remains to be written
 pub record IsWritten (texts : Texts) : Type 0 where
   pub frames : texts.frames ≡ []
   pub report : texts.report ≡ []
 
--- Fronts of both texts were written out, and the rest is left.
+-- A prefix of each output was written, and the rest remains.
 pub record Wrote {C R : Type 0} (c : sink.Ghosts C) (r : sink.Ghosts R) (texts texts_now : Texts) (frames_old frames_new : C) (report_old report_new : R) : Type 0 where
   pub report_part : List ℕ
   pub frames_part : List ℕ
@@ -64,16 +64,16 @@ pub record Wrote {C R : Type 0} (c : sink.Ghosts C) (r : sink.Ghosts R) (texts t
   pub report_is : texts.report ≡ report_part ++ texts_now.report
   pub frames_is : texts.frames ≡ frames_part ++ texts_now.frames
 
--- Fronts of both texts were written out, and the rest is gone.
+-- A prefix of each output was written, and the rest is discarded.
 pub record Fronted {C R : Type 0} (c : sink.Ghosts C) (r : sink.Ghosts R) (texts : Texts) (frames_old frames_new : C) (report_old report_new : R) : Type 0 where
   pub report_front : AppendsFront (r.written report_old) (r.written report_new) texts.report
   pub frames_front : AppendsFront (c.written frames_old) (c.written frames_new) texts.frames
 
--- what is owed with the texts that are still to be written
+-- what remains to be produced, with the pending output before it
 abbrev pub total : {T : Type 0} → Texts → Owed T → Owed T
 total texts owed items behind = told texts.report texts.frames (owed items behind)
 
--- Something was written, and what was owed before is that and what is owed now.
+-- Something was written, and what remained before is that followed by what remains now.
 pub record Moves {T C R : Type 0} (c : sink.Ghosts C) (r : sink.Ghosts R) (old new : Owed T) (frames_old frames_new : C) (report_old report_new : R) : Type 0 where
   pub report_part : List ℕ
   pub frames_part : List ℕ
@@ -81,7 +81,7 @@ pub record Moves {T C R : Type 0} (c : sink.Ghosts C) (r : sink.Ghosts R) (old n
   pub frames_written : Appends (c.written frames_old) (c.written frames_new) frames_part
   pub owed : (items : List T) (behind : Behind) → old items behind ≡ told report_part frames_part (new items behind)
 
--- The run ends, and with what stands in the texts both sinks gain what is owed.
+-- The run ends, and together with the pending output both sinks gain what remains to be produced.
 pub record Owing {C R : Type 0} (c : sink.Ghosts C) (r : sink.Ghosts R) (owed : Verdict) (ended : Status) (texts_now : Texts) (frames_old frames_new : C) (report_old report_new : R) : Type 0 where
   pub report_part : List ℕ
   pub frames_part : List ℕ
@@ -89,7 +89,7 @@ pub record Owing {C R : Type 0} (c : sink.Ghosts C) (r : sink.Ghosts R) (owed : 
   pub frames_written : Appends (c.written frames_old) (c.written frames_new) frames_part
   pub is : owed ≡ record { status = ended; report = report_part ++ texts_now.report; frames = frames_part ++ texts_now.frames }
 
--- A front of what is owed was written, and one of what is left stands in the texts.
+-- A prefix of what remains was written, and the pending output is a prefix of the rest.
 pub record Begun {C R : Type 0} (c : sink.Ghosts C) (r : sink.Ghosts R) (owed : Verdict) (texts_now : Texts) (frames_old frames_new : C) (report_old report_new : R) : Type 0 where
   pub report_part : List ℕ
   pub frames_part : List ℕ
@@ -98,13 +98,13 @@ pub record Begun {C R : Type 0} (c : sink.Ghosts C) (r : sink.Ghosts R) (owed : 
   pub rest : Verdict
   pub is : owed ≡ told report_part frames_part (told texts_now.report texts_now.frames rest)
 
--- what became of an item
+-- the result of an item
 abbrev pub Went : {T C R : Type 0} → sink.Ghosts C → sink.Ghosts R → Option Status → (refusal : Status) → (old new : Owed T) → (texts_now : Texts) → (frames_old frames_new : C) → (report_old report_new : R) → Type 0
 Went c r None refusal old new texts_now frames_old frames_new report_old report_new = Moves c r old new frames_old frames_new report_old report_new
 Went {T} c r (Some ended) refusal old new texts_now frames_old frames_new report_old report_new =
     (ended ≡ refusal) × ((items : List T) (behind : Behind) → Owing c r (old items behind) ended texts_now frames_old frames_new report_old report_new)
 
--- whatever follows, a front of what is owed was written
+-- whatever follows, a prefix of what remains was written
 abbrev pub Fronts : {T C R : Type 0} → sink.Ghosts C → sink.Ghosts R → Owed T → (frames_old frames_new : C) → (report_old report_new : R) → Type 0
 Fronts {T} c r owed frames_old frames_new report_old report_new =
     (items : List T) (behind : Behind) → AppendsFronts (owed items behind) (r.written report_old) (r.written report_new) (c.written frames_old) (c.written frames_new)
@@ -116,30 +116,30 @@ StopsFor why c r frames_old frames_new report_old report_new =
 
 -- ---- a run
 
--- A run ended so.
+-- How a run ended.
 pub record Drives {S C R : Type 0} (s : source.Ghosts S) (c : sink.Ghosts C) (r : sink.Ghosts R) (refusal : Status) (means : Meaning) (ended : Status)
     (input_old input_new : S) (frames_old frames_new : C) (report_old report_new : R) : Type 0 where
-  -- The verdict on what the source holds, whether or not it tells it.
+  -- The verdict on what the source holds, whether or not the source specifies it.
   pub answer : IsDecided ended → (octets : List ℕ) × Held (s.left input_old) octets
       × Meets (means Ends octets) ended (r.written report_old) (r.written report_new) (c.written frames_old) (c.written frames_new)
   pub statuses : IsDecided ended → (ended ≡ Done) ⊎ (ended ≡ refusal)
   pub done_whole : ended ≡ Done → IsAtEnd (s.left input_new)
-  -- A fault is answered only where its count rose, and no count rises in any other answer.
+  -- An I/O error is returned only if its count rose, and no count rises with any other result.
   pub read : ended ≡ ReadFault → s.faults input_old < s.faults input_new
   pub write : ended ≡ WriteFault → OneRose c r frames_old frames_new report_old report_new
   pub input_quiet : ended ≢ ReadFault → ended ≢ WriteFault → s.faults input_new ≡ s.faults input_old
   pub sinks_quiet : ended ≢ WriteFault → SinksQuiet c r frames_old frames_new report_old report_new
-  -- What was written is finished.
+  -- Neither sink is left unfinished.
   pub frames_finished : ended ≢ WriteFault → ended ≢ Memory → c.unfinished frames_new ≡ false
   pub report_finished : ended ≢ WriteFault → ended ≢ Memory → r.unfinished report_new ≡ false
-  -- Behind a failed source, what is whole in what was taken is done and told.
+  -- After a read error, what is complete in the octets that were read is processed and reported.
   pub stopped : ended ≡ ReadFault → (octets : List ℕ) × Consumes (s.left input_old) (s.left input_new) octets
       × Meets (means Fails octets) ended (r.written report_old) (r.written report_new) (c.written frames_old) (c.written frames_new)
-  -- At a write error, and on out of memory, a prefix of each output is written.
+  -- After a write error, or out of memory, a prefix of each output is written.
   pub front : (ended ≡ WriteFault) ⊎ (ended ≡ Memory) → (octets : List ℕ) × Held (s.left input_old) octets
       × AppendsFronts (means Ends octets) (r.written report_old) (r.written report_new) (c.written frames_old) (c.written frames_new)
 
--- How the items ended, with texts still to be written: on what the source held, or where it failed.
+-- How the items ended, with output still to be written: on what the source held, or where it failed.
 pub record EndsDecided {S C R : Type 0} (s : source.Ghosts S) (c : sink.Ghosts C) (r : sink.Ghosts R) (refusal : Status) (means : Meaning) (ended : Status) (texts_now : Texts)
     (input_old input_new : S) (frames_old frames_new : C) (report_old report_new : R) : Type 0 where
   pub octets : List ℕ

@@ -1,4 +1,4 @@
--- Texts that are done line by line: how much of one is read, and how it closes.
+-- Text that is processed line by line: how much of it is read, and how it closes.
 use Rattle.std.specs.Prelude.{ℕ, Bool, true, false, nat_le, List, length, take}
 use Rattle.replay_text.specs.Pieces.{lines_in}
 use Rattle.wire_base.specs.declared.limits.TheConstants.{TEXT_LIMIT}
@@ -14,7 +14,7 @@ within_limit text = take TEXT_LIMIT text
 abbrev pub lines_within : List ℕ → List (List ℕ)
 lines_within text = lines_in (is_short text) (within_limit text)
 
--- What is behind the lines: the text ends, it is longer than a text may be, or its source failed.
+-- What follows the lines: the text ends, it exceeds the size limit, or its source failed.
 pub data Close : Type 0 where
   Ended : Close
   Longer : Close

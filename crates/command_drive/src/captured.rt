@@ -1,4 +1,4 @@
-//! How a report on a capture ends where the capture is refused.
+//! The end of a report on a capture that is rejected.
 ghost use Rattle.std.specs.Prelude.{◌≡◌, ◌<◌, ◌^◌, ◌++◌, ◌∷◌, [], codes, IfOk, OnOk};
 ghost use Rattle.std.specs.Fmt.{decimal};
 ghost use Rattle.replay_text.specs.Fault.{rule_text};
@@ -8,7 +8,8 @@ ghost use Rattle.command_drive.specs.Captured as captured;
 use replay_text::push_rule;
 use wire_base::{CaptureFault, M, Octets, Status};
 
-/// The number of the record that a fault stands at, after those that were done: the capture's header has the number 0.
+/// Returns the number of the record that has an error, after the records that were done. The capture's header has the
+/// number 0.
 fn fault_record(records: u64, why: CaptureFault) -> u64
     requires { records < 2 ^ 63 }
     ensures { result ≡ captured.fault_record records why }
@@ -22,7 +23,8 @@ fn fault_record(records: u64, why: CaptureFault) -> u64
     }
 }
 
-/// Appends the front of a refusal's line: the number of the record, and the number and the name of the rule that it breaks.
+/// Appends the start of the line for a rejection: the number of the record, and the number and the name of the rule
+/// that it breaks.
 pub fn push_refused(out: &mut Octets, number: u64, rule: u8, name: &[u8]) -> M<()>
     ensures { OnOk result (out.new ≡ out.old ++ (codes "refused record " ++ (decimal number ++ 32 ∷ rule_text rule name.now))) }
 {
@@ -41,7 +43,7 @@ fn refuse(out: &mut Octets, number: u64, rule: u8, name: &[u8]) -> M<Status>
     Ok(Status::CaptureRefused)
 }
 
-/// Ends a report at an error in the capture, with so many records done.
+/// Ends a report at an error in the capture, after that many records.
 pub fn refuse_by(out: &mut Octets, records: u64, why: CaptureFault) -> M<Status>
     requires { records < 2 ^ 63 }
     ensures { IfOk result (λ ended. (ended, out.new) ≡ behind out.old (captured.refused_by records why)) }
@@ -49,7 +51,7 @@ pub fn refuse_by(out: &mut Octets, records: u64, why: CaptureFault) -> M<Status>
     refuse(out, fault_record(records, why), why.number(), why.name())
 }
 
-/// Ends a report at the record that the limit of a capture cuts, with so many records done.
+/// Ends a report at the record that exceeds the size limit of a capture, after that many records.
 pub fn refuse_length(out: &mut Octets, records: u64) -> M<Status>
     requires { records < 2 ^ 63 }
     ensures { IfOk result (λ ended. (ended, out.new) ≡ behind out.old (captured.too_long records)) }

@@ -1,4 +1,4 @@
-//! What is done with each item.
+//! The interface of a command: what it does with each item.
 ghost use Rattle.std.specs.Prelude.{◌≡◌, ◌⊎◌, ◌<◌, ◌≤◌, ◌+◌, ◌∷◌, ℕ, List, [], IfOk, OnOk};
 ghost use Rattle.wire_base.specs.declared.status.Status.{Status};
 ghost use Rattle.wire_base.specs.declared.status.Status.TheVariants as status;
@@ -13,29 +13,30 @@ use run_texts::Texts;
 use std::alloc::Global;
 use wire_base::{M, Status};
 
-/// How a run goes on after a part of an item.
+/// How a run continues after a part of an item.
 #[derive(Clone, Copy, Debug, PartialEq, Eq)]
 pub enum Flow {
-    /// With the next item.
+    /// The run continues with the next item.
     On,
-    /// With more of this item, once long output was written.
+    /// The run continues with more of this item, once long output was written.
     More,
-    /// It ends with that status.
+    /// The run ends with that status.
     Ends(Status),
 }
 
 /// Processes items, and appends what it reports of them to the output.
 pub trait Command<T> {
-    /// The status and the output that are owed from here on, where those items come, and that stands behind them.
+    /// The status and the output that remain to be produced, given the items that follow and how the input ends after
+    /// them.
     ghost owes: { Self → List T → Behind → Verdict };
 
     /// The one status with which it rejects its input.
     ghost refusal: { Status };
 
-    /// How often it may still ask for more of the item; 0 between items.
+    /// How often it may still ask to continue the item; 0 between items.
     ghost waits: { Self → ℕ };
 
-    /// How many items it may still be given: its counters have room for so many.
+    /// The number of items that it can still process: its counters have room for that many.
     ghost room: { Self → ℕ };
 
     /// Processes an item, or the first part of it.
@@ -53,7 +54,7 @@ pub trait Command<T> {
         ensures fewer { IfOk result (λ how. how ≡ flow.More → waits self.new < waits self.old) }
         ensures room { OnOk result (room self.old ≤ room self.new) };
 
-    /// Ends the output where there is no further item.
+    /// Ends the output after the last item.
     fn close(&mut self, alloc: Global, close: Close, texts: &mut Texts) -> M<Status>
         requires { waits self.old ≡ 0 }
         ensures concluded { IfOk result (λ ended. Concludes ended (owes self.old [] (Closed close)) texts.old texts.new) }

@@ -1,4 +1,4 @@
-//! The one loop.
+//! The loop that drives a command.
 ghost use Rattle.std.specs.Prelude.{◌≡◌, ◌≢◌, ◌⊎◌, true, false, ◌<◌, ◌≤◌, ◌+◌, ◌∷◌, [], None, IfOk, IfErr, OnOk, OnErr};
 ghost use Rattle.command_drive.specs.Outside.{AppendsFronts};
 ghost use Rattle.wire_base.specs.declared.status.Status.TheVariants as status;
@@ -15,7 +15,7 @@ use run_texts::Texts;
 use std::alloc::Global;
 use wire_base::{Failed, M, Sink, Source, Status};
 
-/// Processes an item, and writes long output between its parts. Returns how the run ends where the item is rejected.
+/// Processes an item, and writes long output between its parts. Returns how the run ends if the item is rejected.
 fn do_item<T, K: Command<T>, C: Sink, R: Sink>(
     alloc: Global,
     item: &T,
@@ -72,7 +72,7 @@ fn do_last<T, K: Command<T>, C: Sink, R: Sink>(
     }
 }
 
-/// Finds the next item. Where the call waits for the input, all output is written before.
+/// Finds the next item. If the call waits for the input, all output is written before.
 fn next_item<T, I: Items<T, S>, S: Source>(
     alloc: Global,
     items: &mut I,
@@ -91,9 +91,10 @@ fn next_item<T, I: Items<T, S>, S: Source>(
     items.next(alloc, input)
 }
 
-/// Processes the items of an input, and returns how the run ends. The end of the output is left in `texts`.
+/// Processes the items of an input, and returns how the run ends. The end of the output remains in `texts`.
 ///
-/// Output is written once there is a chunk of it, and all of it before the next call that may wait for its input.
+/// Output is written once there is a chunk of it. All pending output is written before the next call that may wait for
+/// the input.
 fn do_items<T, I: Items<T, S>, K: Command<T>, S: Source, C: Sink, R: Sink>(
     alloc: Global,
     items: &mut I,
@@ -139,11 +140,12 @@ fn do_items<T, I: Items<T, S>, K: Command<T>, S: Source, C: Sink, R: Sink>(
     }
 }
 
-/// Has a command process the items of an input one after the other, and writes its frames and its report to their ends.
+/// Processes the items of an input with a command, one after the other, and writes its frames and its report to their
+/// sinks.
 ///
-/// Output is written once there is a chunk of it. Where the source gave less than it was asked for, as a pipe does, all output is
-/// written before more is read, so that whoever reads it sees what came of each item at once. Whatever the size of the input,
-/// the output in memory has less than a chunk and what one part of an item reports.
+/// Output is written once there is a chunk of it. If the source returned less than requested, as a pipe does, all
+/// output is written before more is read, so that a reader of the output sees the result of each item at once. Whatever
+/// the size of the input, the output in memory is less than a chunk plus what one part of an item reports.
 pub fn drive<T, I: Items<T, S>, K: Command<T>, S: Source, C: Sink, R: Sink>(
     alloc: Global,
     items: &mut I,

@@ -1,8 +1,9 @@
-//! What all commands share: one loop that takes the items of an input, has a command process each, and writes its frames and its
-//! report.
+//! What all commands share: one loop that reads the items of an input, has a command process each, and writes its
+//! frames and its report.
 //!
-//! `Items` is where items come from (lines, records of a capture, or items that are made), `Command` is what is done with
-//! them, and `drive` is the loop. Its contract, `Drives`, says what any command's run does with its source and its sinks.
+//! `Items` is where items come from (lines, records of a capture, or generated items), `Command` is what is done with
+//! them, and `drive` is the loop. Its contract, `Drives`, states what any command's run does with its source and its
+//! sinks.
 #![tactic(auto)]
 
 mod captured;
@@ -23,4 +24,4 @@ pub use line_reader::LineReader;
 pub use nowhere::{NoSink, NoSource};
 pub use record_reader::RecordReader;
 pub use run_texts::Texts;
-pub use whole::{PIECE, buffer, deliver, flush, write_all, write_whole};
+pub use whole::{buffer, deliver};

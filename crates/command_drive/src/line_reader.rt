@@ -1,4 +1,4 @@
-//! Texts that are read from a source chunk by chunk and given line by line.
+//! Text that is read from a source in chunks and returned line by line.
 ghost use Rattle.std.specs.Prelude.{◌≡◌, ◌<◌, ◌≤◌, ◌-◌, ◌+◌, ◌++◌, ◌*◌, ◌^◌, ℕ, List, [], true, false, IfOk, OnOk, OnErr, length, take, min, nat_lt};
 ghost use Rattle.std.specs.Io.KnownBytes.{Consumes, IsAtEnd, Keeps};
 ghost use Rattle.std.specs.Str.Lines.{strip_carriage_return};
@@ -17,10 +17,10 @@ use unread::{Unread, take_part};
 use wire_base::limits::{LINE_LIMIT, TEXT_LIMIT};
 use wire_base::{Failed, M, Octets, Source};
 
-/// How many octets of a line are kept: one more than a line may have, and its CR.
+/// How many octets of a line are kept: one more than the line limit, and its CR.
 const KEPT: usize = LINE_LIMIT + 2;
 
-/// Drops the CR at the end of a line, where it has one.
+/// Drops the CR at the end of a line, if there is one.
 fn drop_cr(line: &mut Octets)
     ensures { line.new ≡ strip_carriage_return line.old }
 {
@@ -30,7 +30,7 @@ fn drop_cr(line: &mut Octets)
     }
 }
 
-/// Cuts a line behind the first octet too many.
+/// Truncates a line after the first octet above the limit.
 #[tactic(auto, unfolding(crate::specs::Lines::shown))]
 fn cut(line: &mut Octets)
     ensures { line.new ≡ shown line.old }
@@ -38,10 +38,10 @@ fn cut(line: &mut Octets)
     line.truncate(LINE_LIMIT + 1);
 }
 
-/// A text that is read line by line: at most 67,108,864 octets, each line up to LF, before which one CR is dropped. The last
-/// line may lack its LF.
+/// A text that is read line by line: at most 67,108,864 octets, each line up to LF, before which one CR is dropped. The
+/// last line may lack its LF.
 ///
-/// It holds one chunk of the text and one line. Of a line of more than 16,384 octets it gives the first 16,385.
+/// It holds one chunk of the text and one line. Of a line of more than 16,384 octets it returns the first 16,385.
 #[derive(Drop)]
 pub struct LineReader {
     unread: Unread,
@@ -59,7 +59,7 @@ pub struct LineReader {
 impl LineReader {
     ghost use Rattle.command_drive.specs.Lines.{lines_read, lines_left};
 
-    /// A reader that has read nothing.
+    /// Returns a reader that has read nothing.
     pub fn new(alloc: Global) -> M<Self>
         ensures fresh { IfOk result (λ made. (end : End) (octets : List ℕ) → lines_read (made.front ++ made.unread) made.room made.over end octets ≡ lines_read [] TEXT_LIMIT false end octets) }
         ensures idle { IfOk result (λ made. made.waits ≡ false) }
@@ -76,7 +76,7 @@ impl LineReader {
         })
     }
 
-    /// Reads on from the source, where nothing is left.
+    /// Reads more from the source if nothing remains.
     fn refill<S: Source>(&mut self, input: &mut S) -> Result<usize, Failed>
         requires { S.faults input.old < last_count }
         ensures octets { IfOk result (λ count. (octets : List ℕ) × Consumes (S.left input.old) (S.left input.new) octets × (length octets ≡ count) × (self.new.unread ≡ take self.old.room octets)) }
@@ -98,7 +98,7 @@ impl LineReader {
         Ok(count)
     }
 
-    /// Gives the line whose front was found and then its end.
+    /// Makes the collected octets the current line, once the end of the line was found.
     fn give(&mut self)
         ensures line { self.new.line ≡ self.old.front }
         ensures front { self.new.front ≡ [] }

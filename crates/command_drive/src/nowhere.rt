@@ -17,14 +17,14 @@ impl Source for NoSource {
     }
 }
 
-/// A sink that discards what it is given.
+/// A sink that discards what is written to it.
 #[derive(Drop)]
 pub struct NoSink {
     unfinished: bool,
 }
 
 impl NoSink {
-    /// A sink that was given nothing.
+    /// Returns a sink to which nothing was written.
     pub fn new() -> Self
         ensures { result.unfinished ≡ false }
     {

@@ -7,7 +7,7 @@ use crate::whole::{PIECE, flush, write_all, write_whole};
 use run_texts::Texts;
 use wire_base::{Failed, Sink};
 
-/// Writes the frames, the report or both, where a chunk or more of them is to be written. Less than a chunk is left of each.
+/// Writes the frames, the report or both, if a chunk or more of them is pending. Less than a chunk of each remains.
 pub fn flush_both<C: Sink, R: Sink>(
     frames: &mut C,
     report: &mut R,
@@ -24,7 +24,7 @@ pub fn flush_both<C: Sink, R: Sink>(
     flush(report, &mut texts.report)
 }
 
-/// Writes all that is left of both, however little it is.
+/// Writes all that is pending of both, however little it is.
 pub fn write_out<C: Sink, R: Sink>(
     frames: &mut C,
     report: &mut R,
@@ -45,7 +45,7 @@ pub fn write_out<C: Sink, R: Sink>(
     Ok(())
 }
 
-/// Writes what is left of both, and finishes both sinks.
+/// Writes what is pending of both, and finishes both sinks.
 pub fn write_both<C: Sink, R: Sink>(
     frames: &mut C,
     report: &mut R,

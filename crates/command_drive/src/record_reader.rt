@@ -1,4 +1,4 @@
-//! Captures that are read from a source chunk by chunk and given record by record.
+//! Captures that are read from a source in chunks and returned record by record.
 ghost use Rattle.std.specs.Prelude.{◌≡◌, ◌≢◌, ◌<◌, ◌≤◌, ◌-◌, ◌^◌, ℕ, List, Ok, None, true, false, IfOk, OnOk, length, take, min, nat_lt};
 ghost use Rattle.wire_base.specs.declared.limits.TheConstants.{CAPTURE_LIMIT};
 ghost use Rattle.wire_base.specs.model.Capture.{unread, fed, next_of, end_of};
@@ -14,7 +14,7 @@ use std::mem;
 use wire_base::limits::CAPTURE_LIMIT;
 use wire_base::{CaptureFault, M, Memory, Octets, Source};
 
-/// Whether a fault is one of the capture; else memory ran out.
+/// Returns out of memory if that is the error; an error of the capture is accepted.
 fn known(why: CaptureFault) -> M<()>
     ensures { OnOk result (why ≢ fault.Memory) }
 {
@@ -26,8 +26,8 @@ fn known(why: CaptureFault) -> M<()>
 
 /// A capture that is read record by record: at most 268,435,456 octets.
 ///
-/// It holds one chunk of the capture, and what was read and isn't given yet. A fault within the limit is found before a capture
-/// is found too long.
+/// It holds one chunk of the capture, and what was read and is not returned yet. An error within the size limit is
+/// reported before the capture is found to be too long.
 #[derive(Drop)]
 pub struct RecordReader {
     buffer: Vec<u8>,
@@ -44,7 +44,7 @@ pub struct RecordReader {
 impl RecordReader {
     ghost use Rattle.command_drive.specs.Records.{records_read, records_left};
 
-    /// A reader that has read nothing.
+    /// Returns a reader that has read nothing.
     pub fn new(alloc: Global) -> M<Self>
         ensures fresh { IfOk result (λ made. (end : End) (octets : List ℕ) → records_read made.reader made.room made.over end octets ≡ records_read unread CAPTURE_LIMIT false end octets) }
         ensures idle { IfOk result (λ made. made.waits ≡ false) }
@@ -66,7 +66,7 @@ impl RecordReader {
         })
     }
 
-    /// Takes so many octets that were read, up to the limit.
+    /// Accepts that many octets that were read, up to the limit.
     fn take(&mut self, count: usize) -> M<()>
         requires { count ≤ length self.old.buffer.items }
         ensures reader { OnOk result (self.new.reader ≡ fed self.old.reader (take (min count self.old.room) self.old.buffer.items)) }
@@ -84,7 +84,7 @@ impl RecordReader {
         Ok(())
     }
 
-    /// How the capture closes where the source ended.
+    /// Returns how the capture closes when the source ended.
     fn end(&mut self, alloc: Global) -> Close
         requires { (next_of self.old.reader).0 ≡ Ok None }
         ensures { result ≡ close_by (end_of (next_of self.old.reader).1) }

@@ -1,4 +1,4 @@
-//! Texts written whole, or from time to time.
+//! Output that is written whole, or a chunk at a time.
 ghost use Rattle.std.specs.Prelude.{◌≡◌, ◌⊎◌, ◌<◌, ◌++◌, ℕ, List, [], false, nat_le, length, IfOk, OnOk, OnErr, if◌then◌else◌};
 ghost use Rattle.std.specs.Io.KnownBytes.{Appends};
 ghost use Rattle.wire_base.specs.Causes.{last_count};
@@ -9,17 +9,17 @@ ghost use Rattle.command_drive.specs.Answer.{IsDecided};
 use std::alloc::Global;
 use wire_base::{Failed, M, Octets, Sink, Status};
 
-/// How many octets are asked for at a time.
+/// The size in octets of a read, and the amount of pending output from which on output is written.
 pub const PIECE: usize = 65_536;
 
-/// Room for a piece of an input.
+/// Returns a buffer for a chunk of an input.
 pub fn buffer(alloc: Global) -> M<Vec<u8>>
     ensures { IfOk result (λ bytes. 0 < length bytes.items) }
 {
     Ok(vec![in alloc; 0u8; PIECE]?)
 }
 
-/// Writes a text whole. A sink that takes nothing of what is left fails it.
+/// Writes all octets. It fails if the sink accepts none of those that remain.
 pub fn write_all<R: Sink>(sink: &mut R, text: &[u8]) -> Result<(), Failed>
     requires faults { R.faults sink.old < last_count }
     requires zeros { R.zeros sink.old < last_count }
@@ -40,25 +40,7 @@ pub fn write_all<R: Sink>(sink: &mut R, text: &[u8]) -> Result<(), Failed>
     Ok(())
 }
 
-/// Writes a text out once it has a piece or more, and answers whether it did.
-pub fn write_if_long<R: Sink>(sink: &mut R, text: &[u8]) -> Result<bool, Failed>
-    requires faults { R.faults sink.old < last_count }
-    requires zeros { R.zeros sink.old < last_count }
-    ensures long { IfOk result (λ wrote. wrote ≡ nat_le PIECE (length text.now)) }
-    ensures written { IfOk result (λ wrote. Appends (R.written sink.old) (R.written sink.new) (if wrote then text.now else [])) }
-    ensures quiet { OnOk result (R.faults sink.new ≡ R.faults sink.old) }
-    ensures no_zeros { OnOk result (R.zeros sink.new ≡ R.zeros sink.old) }
-    ensures front { OnErr result (AppendsFront (R.written sink.old) (R.written sink.new) text.now) }
-    ensures cause { OnErr result ((R.faults sink.old < R.faults sink.new) ⊎ (R.zeros sink.old < R.zeros sink.new)) }
-{
-    if text.len() < PIECE {
-        return Ok(false);
-    }
-    write_all(sink, text)?;
-    Ok(true)
-}
-
-/// Writes lines out, once there are many. Less than one piece is left of them.
+/// Writes output once there is a chunk of it. Less than a chunk remains.
 pub fn flush<R: Sink>(report: &mut R, lines: &mut Octets) -> Result<(), Failed>
     requires faults { R.faults report.old < last_count }
     requires zeros { R.zeros report.old < last_count }
@@ -69,13 +51,15 @@ pub fn flush<R: Sink>(report: &mut R, lines: &mut Octets) -> Result<(), Failed>
     ensures front { OnErr result (AppendsFront (R.written report.old) (R.written report.new) lines.old) }
     ensures cause { OnErr result ((R.faults report.old < R.faults report.new) ⊎ (R.zeros report.old < R.zeros report.new)) }
 {
-    if write_if_long(report, lines.as_slice())? {
-        lines.truncate(0);
+    if lines.len() < PIECE {
+        return Ok(());
     }
+    write_all(report, lines.as_slice())?;
+    lines.truncate(0);
     Ok(())
 }
 
-/// Writes a text whole and finishes the sink.
+/// Writes all octets and finishes the sink.
 pub fn write_whole<R: Sink>(sink: &mut R, text: &[u8]) -> Result<(), Failed>
     requires faults { R.faults sink.old < last_count }
     requires zeros { R.zeros sink.old < last_count }
@@ -90,7 +74,7 @@ pub fn write_whole<R: Sink>(sink: &mut R, text: &[u8]) -> Result<(), Failed>
     sink.finish()
 }
 
-/// Writes a report whole, finishes the sink and answers the status, or `WriteFault` where the sink fails.
+/// Writes a whole report, finishes the sink and returns the status, or `WriteFault` if the sink fails.
 pub fn deliver<R: Sink>(report: &mut R, status: Status, text: &[u8]) -> Status
     requires decided { IsDecided status }
     requires faults { R.faults report.old < last_count }

@@ -5,8 +5,6 @@ use Rattle.std.specs.List.{fold, range_with_len}
 use Rattle.std.proofs.lemmas.Bool.{ne_eqb}
 use Rattle.std.proofs.lemmas.Fmt.{decimal_digit, decimal_step}
 use Rattle.std.proofs.lemmas.List.FromFn.{length-map-range_with_len}
-use Rattle.run_texts.specs.declared.texts.Texts.{Texts}
-use Rattle.wire_base.specs.declared.status.Status.TheVariants.{InputRefused}
 use Rattle.wire_base.specs.model.Configuration.{DomainConf}
 use Rattle.wire_base.specs.model.Hop.{distinct}
 use Rattle.replay_text.specs.declared.event.Event.{Event}
@@ -25,7 +23,7 @@ use Rattle.domain_model.specs.World.{first_world}
 use Rattle.domain_model.specs.Run.{Run, Progress, first_run, goes_unless, does, line_events, line_done, lines_done, schedule_done}
 use Rattle.replay_report.specs.declared.counts.Counts.{Counts}
 use Rattle.domain_replay.specs.Counting.{counts_of}
-use Rattle.domain_replay.specs.Lines.{done_text, event_refused_text}
+use Rattle.domain_replay.specs.Lines.{done_text}
 use Rattle.domain_replay.specs.Telling as telling
 use Rattle.domain_replay.specs.Telling.{Telling, ReplayState, first_state, with_texts, uncaptured, uncaptured_told, tells_line, telling_of, IsRunOf, at_line, LineEnters, LineNamesOnce, IsToldSo}
 use Rattle.domain_replay.specs.Texts.{run_text}
@@ -34,20 +32,15 @@ use Rattle.domain_replay.proofs.TellingLaws.{line_told, start_told}
 use Rattle.domain_replay.proofs.CourseLaws.{past_told, line_past}
 use Rattle.domain_replay.proofs.UncapturedLaws.{line_uncaptured}
 use Rattle.command_drive.specs.declared.items.Close.TheVariants as close
-use Rattle.command_drive.specs.declared.command.Flow.TheVariants as flow
 use Rattle.command_drive.specs.Answer.{Verdict}
 use Rattle.command_drive.specs.Reading.{Behind, Closed, Reads, first}
-use Rattle.command_drive.specs.Doing.{Did, Concludes, told}
+use Rattle.command_drive.specs.Doing.{told}
 use Rattle.command_drive.specs.Reporting.{alone}
 use Rattle.command_replay.specs.Owed.{unsaid, state_of, unless_refused}
-use Rattle.command_replay.proofs.Steps.{is_refused, is_state}
 use Rattle.command_grow.specs.Grow.{summary, ends_by, grow_answer}
 use Rattle.command_grow.specs.Counted.{lines_from, counted_then, lines_owe}
 
 -- ---- the lines that are made
-
-pub lines_none : (index : ℕ) → 18 ≤ index → lines_from index (18 - index) ≡ []
-lines_none index past_all = let none : 18 - index ≡ 0 = omega arith in ap (lines_from index) none
 
 pub lines_more : (index : ℕ) (behind : Behind) → index < 18 → ◌≡◌ {A = Reads GrownLine} (record { items = lines_from index (18 - index); behind = behind }) (first (line_at index) (record { items = lines_from (index + 1) (18 - (index + 1)); behind = behind }))
 lines_more index behind within =
@@ -73,38 +66,6 @@ named_once n line said is = subst LineNamesOnce (sym is) (by line)
 enters : (n count : ℕ) (line : GrownLine) → 0 < count → LineEnters count (schedule.line_of n line)
 enters n count grown.Settle some = tt
 enters n count (grown.Send entropy) some = some
-
--- ---- a line
-
-pub line_goes : (n k k_now : ℕ) (line : GrownLine) (said : Line) (s now : ReplayState) (unwritten mid texts : Texts) → k_now ≡ k + 1 → said ≡ schedule.line_of n line
-    → tells_line (k + 1) (with_texts s unwritten) said ≡ telling.told (with_texts now mid)
-    → Did flow.On InputRefused (λ more behind. lines_owe n k (line ∷ more) behind s) (λ items behind. lines_owe n k_now items behind now) texts texts
-line_goes n k k_now line said s now unwritten mid texts next is tells =
-    let t = tells_line (k + 1) (unsaid s) said in
-    record {
-      report = [];
-      frames = [];
-      report_is = sym (append-nil texts.report);
-      frames_is = sym (append-nil texts.frames);
-      owed = λ items behind.
-          ap (λ (l : Line). counted_then (k + 1) (tells_line (k + 1) (unsaid s) l) (lines_owe n (k + 1) items behind)) (sym is)
-          ∙ ap (λ (o : Option EventFault). unless_refused (k + 1) o (lines_owe n (k + 1) items behind (state_of t.telling))) (is_refused (k + 1) s now unwritten mid said None tells)
-          ∙ ap (lines_owe n (k + 1) items behind) (is_state (k + 1) s now unwritten mid said None tells)
-          ∙ ap (λ (m : ℕ). lines_owe n m items behind now) (sym next);
-    }
-
-pub line_ends : (n k k_now : ℕ) (line : GrownLine) (said : Line) (s now later : ReplayState) (unwritten mid texts texts_now : Texts) (why : EventFault) → said ≡ schedule.line_of n line
-    → tells_line (k + 1) (with_texts s unwritten) said ≡ record { telling = with_texts now mid; refused = Some why } → texts_now.frames ≡ texts.frames → texts_now.report ≡ texts.report ++ event_refused_text (k + 1) why
-    → Did (flow.Ends InputRefused) InputRefused (λ more behind. lines_owe n k (line ∷ more) behind s) (λ items behind. lines_owe n k_now items behind later) texts texts_now
-line_ends n k k_now line said s now later unwritten mid texts texts_now why is tells frames report =
-    let t = tells_line (k + 1) (unsaid s) said in (
-      refl,
-      λ items behind.
-          subst (λ (l : Line). Concludes InputRefused (counted_then (k + 1) (tells_line (k + 1) (unsaid s) l) (lines_owe n (k + 1) items behind)) texts texts_now) is
-          (subst (λ (o : Option EventFault). Concludes InputRefused (unless_refused (k + 1) o (lines_owe n (k + 1) items behind (state_of t.telling))) texts texts_now)
-          (sym (is_refused (k + 1) s now unwritten mid said (Some why) tells))
-          (record { status = refl; report = report; frames = frames ∙ sym (append-nil texts.frames) })),
-    )
 
 -- ---- a run that is counted and not told
 

@@ -1,4 +1,4 @@
--- What `grow` owes from here on: what a line's events report is counted and not written.
+-- What `grow` must produce from here on: what a line's events report is counted and not written.
 use Rattle.std.specs.Prelude.{ℕ, ◌+◌, List, [], ◌∷◌, map}
 use Rattle.std.specs.List.{range_with_len}
 use Rattle.wire_base.specs.declared.status.Status.TheVariants.{Done}
@@ -13,11 +13,11 @@ use Rattle.command_drive.specs.Doing.{nothing_more}
 use Rattle.command_replay.specs.Owed.{Rest, unsaid, state_of, rejected, unless_refused}
 use Rattle.command_grow.specs.Grow.{summary}
 
--- so many lines of the schedule from an index on
+-- that many lines of the schedule from an index on
 abbrev pub lines_from : (index count : ℕ) → List GrownLine
 lines_from index count = map line_at (range_with_len index count)
 
--- the line that is refused, or what is owed behind the events of a line
+-- the line that is rejected, or what must be produced after the events of a line
 abbrev pub counted_then : ℕ → Told → Rest → Verdict
 counted_then line t rest = unless_refused line t.refused (rest (state_of t.telling))
 

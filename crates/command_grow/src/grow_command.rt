@@ -1,4 +1,4 @@
-//! The command `grow`: a domain that grows with a number, over its schedule.
+//! The command `grow`: a generated domain that runs its schedule.
 ghost use Rattle.std.specs.Prelude.{◌<◌, ◌≤◌, ℕ, List};
 ghost use Rattle.wire_base.specs.Causes.{last_count};
 ghost use Rattle.wire_base.specs.declared.status.Status.TheVariants as status;
@@ -10,9 +10,9 @@ use command_drive::{NoSink, NoSource, Texts, drive};
 use std::alloc::Global;
 use wire_base::{Sink, Source, Status};
 
-/// All that the program does for the arguments `grow N`: it makes the domain of N routers and its schedule, does the schedule in the
-/// domain, and reports the numbers of the run, or the line that is rejected. It reads nothing. At a write error, and where memory
-/// runs out, a prefix of the report is written.
+/// Runs the command `grow N`: builds the domain of N routers and its schedule, runs the schedule in the domain, and
+/// reports the counts of the run, or the line that is rejected. It reads nothing. After a write error, or if an
+/// allocation fails, a prefix of the report is written.
 pub fn grow<R: Sink>(alloc: Global, n: u16, report: &mut R) -> Status
     requires some { 3 ≤ n }
     requires few { n ≤ 250 }

@@ -1,4 +1,4 @@
-//! The schedule of a grown domain, line by line.
+//! The schedule of a generated domain, line by line.
 ghost use Rattle.std.specs.Prelude.{◌≡◌, ◌≤◌, ◌++◌, false, length, IfOk, OnOk};
 ghost use Rattle.domain_model.specs.World.{ids_in_flight};
 ghost use Rattle.domain_replay.specs.Telling.{first_state};
@@ -11,10 +11,10 @@ use grown_domain::{GrownLine, grown};
 use std::alloc::Global;
 use wire_base::{M, Octets, Status};
 
-/// What stands before the numbers in the last line of a report on that schedule, `done lines 18`.
+/// The length in octets of what precedes the counts in the last line of a report on that schedule, `done lines 18`.
 const FRONT: usize = 13;
 
-/// The lines of the schedule for a grown domain, one after the other: how many were given, and the last of them.
+/// The lines of the schedule for a generated domain, one after the other: how many were returned, and the last of them.
 #[derive(Drop)]
 pub struct GrownLines {
     given: u16,
@@ -60,8 +60,8 @@ impl Items<GrownLine, NoSource> for GrownLines {
     }
 }
 
-/// A grown domain of `n` routers over its schedule, and the number of the line that was begun last. What the events report is
-/// counted and not written.
+/// A generated domain of `n` routers that runs its schedule, and the number of the line that was begun last. What the
+/// events report is counted and not written.
 #[derive(Drop)]
 pub struct Growing {
     replay: Replay,
@@ -73,7 +73,7 @@ pub struct Growing {
 }
 
 impl Growing {
-    /// The domain at its start, before the first line.
+    /// Returns the domain just started, before the first line.
     pub fn new(alloc: Global, n: u16) -> M<Self>
         requires some { 3 ≤ n }
         requires few { n ≤ 250 }
@@ -85,7 +85,7 @@ impl Growing {
         Ok(Growing { replay, n, line: 0 })
     }
 
-    /// Appends the numbers of the run.
+    /// Appends the counts of the run.
     fn push_summary(&self, alloc: Global, report: &mut Octets) -> M<()>
         ensures { OnOk result (report.new ≡ report.old ++ spec.summary self.now.n self.now.replay.counts (ids_in_flight self.now.replay.world.flights)) }
     {
@@ -136,7 +136,7 @@ impl Command<GrownLine> for Growing {
                 self.push_summary(alloc, &mut texts.report)?;
                 Ok(Status::Done)
             }
-            // A schedule that is made is neither too long nor broken.
+            // A generated schedule is neither too long nor invalid.
             Close::TooLong | Close::Broken(_) => Ok(Status::InputRefused),
         }
     }

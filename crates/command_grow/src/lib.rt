@@ -1,7 +1,7 @@
-//! The command `grow`: a domain of as many routers as a number says, over its schedule, and the numbers of that run.
+//! The command `grow`: a domain of a given number of routers that runs its schedule, and the counts of that run.
 //!
-//! It stands on `grown_domain`, `domain_replay` and `command_drive`, and promises that the status and the report are those of the run,
-//! that each I/O error has its cause, and what a stop leaves.
+//! It depends on `grown_domain`, `domain_replay` and `command_drive`. It promises that the status and the report are
+//! those of the run, that each I/O error has its cause, and what an aborted run leaves.
 #![tactic(auto)]
 
 mod grow_command;

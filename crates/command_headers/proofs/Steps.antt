@@ -1,12 +1,12 @@
 -- A capture, record by record.
-use Rattle.std.proofs.Common.{◌≡◌, ◌≢◌, ℕ, ◌+◌, Bool, true, false, not, List, [], ◌∷◌, ◌++◌, length, take, map, Option, Some, None, Result, Ok, Err, refl, sym, ap, ap₂, subst, ◌∙◌, append_assoc, append-nil, is_ok, is_some, arith}
+use Rattle.std.proofs.Common.{◌≡◌, ℕ, ◌+◌, Bool, true, false, not, List, [], ◌∷◌, ◌++◌, length, take, Option, Some, None, Result, Ok, Err, refl, sym, ap, ap₂, subst, ◌∙◌, append_assoc, append-nil, is_some, arith}
 use Rattle.std.proofs.lemmas.Bool.{le-leb, true≢false}
 use Rattle.std.proofs.lemmas.List.{take_all}
 use Rattle.std.specs.Prelude.{IfOk}
 use Rattle.std.specs.Io.KnownBytes.{Appends}
 use Rattle.wire_base.specs.declared.limits.TheConstants.{CAPTURE_LIMIT}
 use Rattle.wire_base.specs.declared.status.Status.{Status}
-use Rattle.wire_base.specs.declared.status.Status.TheVariants.{Done, ReadFault, CaptureRefused}
+use Rattle.wire_base.specs.declared.status.Status.TheVariants.{Done, ReadFault}
 use Rattle.wire_base.specs.declared.faults.CaptureFault.{CaptureFault}
 use Rattle.wire_base.specs.model.Capture.{CaptureRecord, Stage, HeaderToCome, HeaderRead, Refused, Reading, unread, fed, drained, next_of, end_of, end_in}
 use Rattle.pcap_frames.specs.declared.record.CapRecord.{CapRecord}
@@ -14,19 +14,17 @@ use Rattle.pcap_frames.specs.Seen.{record_seen}
 use Rattle.pcap_frames.proofs.Drained.{drained_twice, drained_end}
 use Rattle.pcap_frames.proofs.Spelled.{capture_again}
 use Rattle.run_texts.specs.declared.texts.Texts.{Texts}
-use Rattle.command_drive.specs.Answer.{Verdict, behind}
-use Rattle.command_drive.specs.Captured.{refused_by, too_long}
+use Rattle.command_drive.specs.Answer.{behind}
 use Rattle.command_drive.specs.Captures.{within_limit, is_within, IsOpen, records_seen}
 use Rattle.command_drive.specs.Doing.{Told, Concludes}
 use Rattle.command_drive.specs.Outside.{Gave}
 use Rattle.command_drive.specs.Reading.{Ends, Fails, Behind, Closed, Cut, Reads}
-use Rattle.command_drive.specs.Records.{record_given, close_by, behind_open, behind_records, capture_read, records_read}
+use Rattle.command_drive.specs.Records.{close_by, behind_open, behind_records, records_read}
 use Rattle.command_drive.specs.Reporting.{alone}
-use Rattle.command_drive.specs.declared.items.Close.{Close}
 use Rattle.command_drive.specs.declared.items.Close.TheVariants as close
 use Rattle.command_drive.proofs.CaptureLaws.{IsRefused, open_by, seen_given, capture_is, front_is}
 use Rattle.command_headers.specs.Sight.{sight_of, sight_text, sight_count}
-use Rattle.command_headers.specs.HeadersText.{record_lines, header_count, headers_done, at_end, headers_end, report_of, headers_answer, headers_cut, cut_end, lines_of, IsRead}
+use Rattle.command_headers.specs.HeadersText.{record_lines, header_count, at_end, headers_end, report_of, headers_answer, headers_cut, cut_end, lines_of, IsRead}
 use Rattle.command_headers.specs.Owed.{end_by, answer_on, owed}
 
 -- ---- record by record

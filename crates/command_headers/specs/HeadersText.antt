@@ -1,5 +1,5 @@
--- A capture's headers: the report of them, and how it ends.
-use Rattle.std.specs.Prelude.{ℕ, ◌+◌, ◌≤◌, Bool, true, false, nat_le, List, [], ◌∷◌, ◌++◌, length, take, Option, Some, None, codes}
+-- A capture's headers: the report on them, and how it ends.
+use Rattle.std.specs.Prelude.{ℕ, ◌+◌, ◌≤◌, Bool, true, false, List, [], ◌∷◌, ◌++◌, length, Option, Some, None, codes}
 use Rattle.std.specs.Fmt.{decimal}
 use Rattle.wire_base.specs.declared.limits.TheConstants.{CAPTURE_LIMIT}
 use Rattle.wire_base.specs.declared.status.Status.{Status}
@@ -33,7 +33,7 @@ abbrev pub at_end : ℕ → ℕ → Option CaptureFault → Status × List ℕ
 at_end n headers None = headers_done n headers
 at_end n headers (Some fault) = refused_by n fault
 
--- How a report ends after n records: a fault of the reader comes before the limit.
+-- How a report ends after n records: a parser error takes precedence over the limit.
 abbrev pub headers_end : Bool → (n headers : ℕ) → Stage → List ℕ → Status × List ℕ
 headers_end short n headers (Refused fault) octets = refused_by n fault
 headers_end true n headers HeaderToCome octets = at_end n headers (end_in HeaderToCome octets)
@@ -48,13 +48,13 @@ report_of short read = behind (record_lines 0 read.0) (headers_end short (length
 unfoldable pub headers_answer : List ℕ → Status × List ℕ
 headers_answer input = report_of (is_within input) (drained (fed unread (within_limit input)))
 
--- ---- behind a read error
+-- ---- after a read error
 
--- the lines of the records that are whole in octets that were taken
+-- the lines of the records that are complete in the octets that were read
 abbrev pub lines_of : List ℕ → List ℕ
 lines_of octets = record_lines 0 (drained (fed unread octets)).0
 
--- A fault of the capture that stands in them ends the report all the same.
+-- An error of the capture in them ends the report all the same.
 abbrev pub cut_end : ℕ → Stage → Status × List ℕ
 cut_end n HeaderToCome = (ReadFault, [])
 cut_end n (HeaderRead form) = (ReadFault, [])
@@ -63,9 +63,9 @@ cut_end n (Refused fault) = refused_by n fault
 unfoldable pub headers_cut : List ℕ → Status × List ℕ
 headers_cut octets = behind (lines_of octets) (cut_end (length (drained (fed unread octets)).0) (drained (fed unread octets)).1.stage)
 
--- ---- captures that are done to their end
+-- ---- captures that are processed to their end
 
--- octets that are a capture, and not too many
+-- octets that are a capture within the size limit
 pub record IsRead (input : List ℕ) : Type 0 where
   pub short : length input ≤ CAPTURE_LIMIT
   pub records : List CaptureRecord

@@ -1,4 +1,4 @@
--- What is owed on the records of a capture from some record on.
+-- What remains to be produced for a capture from some record on.
 use Rattle.std.specs.Prelude.{ℕ, ◌≡◌, ◌+◌, List, [], length, refl}
 use Rattle.wire_base.specs.declared.status.Status.{Status}
 use Rattle.wire_base.specs.declared.status.Status.TheVariants.{ReadFault}
@@ -13,14 +13,14 @@ use Rattle.command_drive.specs.Reporting.{alone}
 use Rattle.command_drive.specs.declared.items.Close.TheVariants as close
 use Rattle.command_headers.specs.HeadersText.{record_lines, header_count, headers_done}
 
--- how a report ends, after n records with so many headers
+-- how a report ends, after n records with that many headers
 abbrev pub end_by : Behind → (n headers : ℕ) → Status × List ℕ
 end_by (Closed close.Ended) n headers = headers_done n headers
 end_by (Closed close.TooLong) n headers = too_long n
 end_by (Closed (close.Broken why)) n headers = refused_by n why
 end_by Cut n headers = (ReadFault, [])
 
--- the answer on records that follow n others
+-- the result on records that follow n others
 abbrev pub answer_on : (n headers : ℕ) → List CaptureRecord → Behind → Status × List ℕ
 answer_on n headers records how = behind (record_lines n records) (end_by how (n + length records) (headers + header_count records))
 

@@ -1,4 +1,4 @@
--- The BIER header of a frame, whose length its own field tells, and the line that says so.
+-- The BIER header of a frame, with the length in its own field, and the line that reports it.
 use Rattle.std.specs.Prelude.{ℕ, ◌-◌, ◌*◌, ◌/◌, ◌==◌, Bool, false, List, [], ◌∷◌, ◌++◌, length, drop, Result, Ok, Err, codes, if◌then◌else◌}
 use Rattle.std.specs.Fmt.{decimal}
 use Rattle.wire_base.specs.declared.conf.Kind.{Kind}
@@ -14,7 +14,7 @@ use Rattle.wire_base.specs.model.BierHeader.{BierHeader, coded_header_at}
 use Rattle.replay_text.specs.Fault.{rule_text}
 use Rattle.replay_text.specs.Ids.{ids_text}
 
--- What is seen in a frame: no BIER packet, a header, or why the octets of a BIER packet are no header.
+-- What a frame contains: no BIER packet, a header, or octets of a BIER packet that are not a valid header, and why.
 pub data Sight : Type 0 where
   Passed : Sight
   Seen : (kind : Kind) → (header : BierHeader) → Sight
@@ -29,7 +29,7 @@ abbrev pub begins_bier : List ℕ → Bool
 begins_bier [] = false
 begins_bier (octet ∷ octets) = octet / 16 == 5
 
--- Behind a stack the header's first number is the last label.
+-- After a stack the header's first number is the last label.
 abbrev pub behind_stack : List ℕ → Result (List LabelEntry × List ℕ) StackFault → Sight
 behind_stack octets (Err fault) = Passed
 behind_stack octets (Ok read) =
@@ -56,7 +56,7 @@ kind_text Configured = codes " bier "
 abbrev pub head_fault_text : HeadFault → List ℕ
 head_fault_text fault = codes " bad " ++ rule_text (head_number fault) (head_name fault) ++ 10 ∷ []
 
--- three numbers, with a blank after each
+-- three numbers, with a space after each
 abbrev pub three_text : ℕ → ℕ → ℕ → List ℕ
 three_text first second third = decimal first ++ 32 ∷ [] ++ decimal second ++ 32 ∷ [] ++ decimal third ++ 32 ∷ []
 

@@ -73,8 +73,8 @@ impl Command<CapRecord> for Headers {
     ghost cut = { λ s none. nothing_cut s.records s.headers };
 }
 
-/// All that the program does for the arguments `headers CAPTURE`: it reads the capture record by record and reports the header
-/// of each BIER packet in it, up to its end or to the record that is rejected.
+/// Runs the command `headers CAPTURE`: reads the capture record by record and reports the header of each BIER packet in
+/// it, up to the end of the capture or to the record that is rejected.
 pub fn run_headers<S: Source, R: Sink>(alloc: Global, input: &mut S, report: &mut R) -> Status
     requires input_faults { S.faults input.old < last_count }
     requires report_faults { R.faults report.old < last_count }

@@ -1,7 +1,7 @@
 //! The command `headers`: the BIER headers of a capture.
 //!
-//! It reads the capture record by record, and reports the header of each record that carries a BIER packet, or why its octets are
-//! none.
+//! It reads the capture record by record. For each record that carries a BIER packet it reports the header, or why its
+//! octets are not a valid header.
 #![tactic(auto)]
 
 mod headers;

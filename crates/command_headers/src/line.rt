@@ -1,4 +1,4 @@
-//! The line of a record: its BIER header, or why its octets are none.
+//! The line of a record: its BIER header, or why its octets are not a valid header.
 ghost use Rattle.std.specs.Prelude.{◌≡◌, ◌++◌, IfOk, OnOk};
 ghost use Rattle.wire_base.specs.model.Labels.{stack_at};
 ghost use Rattle.wire_base.specs.model.BierHeader.{coded_header_at};
@@ -11,7 +11,7 @@ use replay_text::{push_positions, push_rule};
 use std::alloc::Global;
 use wire_base::{HeadFault, Kind, M, Octets};
 
-/// Appends why a record's octets are no header: the number and the name of the rule that they break.
+/// Appends why a record's octets are not a header: the number and the name of the rule that they break.
 fn push_bad(out: &mut Octets, fault: HeadFault) -> M<()>
     ensures { OnOk result (out.new ≡ out.old ++ sight.head_fault_text fault) }
 {
@@ -29,7 +29,7 @@ fn kind_text(kind: Kind) -> &'static [u8]
     }
 }
 
-/// Appends three numbers, with a blank after each.
+/// Appends three numbers, with a space after each.
 fn push_three(out: &mut Octets, first: u32, second: u32, third: u32) -> M<()>
     ensures { OnOk result (out.new ≡ out.old ++ sight.three_text first second third) }
 {
@@ -57,8 +57,8 @@ fn push_fields(out: &mut Octets, header: &Header) -> M<()>
     out.push(b'\n')
 }
 
-/// Appends the line of a record whose octets are a BIER packet, and answers how many headers it has: one, or none
-/// where they are no header.
+/// Appends the line of a record whose octets are a BIER packet, and returns how many headers it has: one, or none if
+/// they are not a header.
 fn push_header(out: &mut Octets, number: u64, kind: Kind, bytes: &[u8]) -> M<u64>
     ensures text { OnOk result (out.new ≡ out.old ++ sight.sight_text number (sight.sight_by kind (coded_header_at kind bytes.now))) }
     ensures count { IfOk result (λ count. count ≡ sight.sight_count (sight.sight_by kind (coded_header_at kind bytes.now))) }
@@ -78,7 +78,7 @@ fn push_header(out: &mut Octets, number: u64, kind: Kind, bytes: &[u8]) -> M<u64
     }
 }
 
-/// Whether octets begin with the four bits of a BIER header behind a label (RFC 8296, 2.1.2).
+/// Returns whether octets begin with the four bits of a BIER header after a label (RFC 8296, 2.1.2).
 fn begins_bier(bytes: &[u8]) -> bool
     ensures { result ≡ sight.begins_bier bytes.now }
 {
@@ -88,8 +88,8 @@ fn begins_bier(bytes: &[u8]) -> bool
     }
 }
 
-/// Appends the line of a record that carries a packet behind labels, whose last one is the first number of a header.
-/// Where the stack can't be read, or no BIER header follows it, there is none.
+/// Appends the line of a record that carries a packet after labels, the last of which is the first number of a header.
+/// If the stack cannot be parsed, or no BIER header follows it, nothing is appended.
 fn push_behind_stack(out: &mut Octets, number: u64, bytes: &[u8]) -> M<u64>
     ensures text { OnOk result (out.new ≡ out.old ++ sight.sight_text number (sight.behind_stack bytes.now (stack_at 8 bytes.now))) }
     ensures count { IfOk result (λ count. count ≡ sight.sight_count (sight.behind_stack bytes.now (stack_at 8 bytes.now))) }
@@ -105,8 +105,8 @@ fn push_behind_stack(out: &mut Octets, number: u64, bytes: &[u8]) -> M<u64>
     }
 }
 
-/// Appends the line of a record with that frame, where it is one of a BIER packet, and answers how many headers it has:
-/// one, or none.
+/// Appends the line of a record with that frame, if it carries a BIER packet, and returns how many headers it has: one,
+/// or none.
 #[tactic(auto, unfolding(crate::specs::Sight::sight_of))]
 pub fn push_record(_alloc: Global, out: &mut Octets, number: u64, frame: &[u8]) -> M<u64>
     ensures text { OnOk result (out.new ≡ out.old ++ sight.sight_text number (sight.sight_of frame.now)) }

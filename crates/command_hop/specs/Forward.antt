@@ -1,4 +1,4 @@
--- One router's forwarding of a packet on written rows: what is done with its ids, and the lines that say so.
+-- The forwarding of a packet by one router with configured rows: the outcome of its ids, and the lines that report it.
 use Rattle.std.specs.Prelude.{ℕ, Bool, false, not, List, [], ◌∷◌, ◌++◌, ◌==◌, map, filter, is_none, Option, Some, None, option_map, codes, if◌then◌else◌}
 use Rattle.std.specs.List.{find, list_any, flat_map}
 use Rattle.std.specs.Option.{option_map_or}
@@ -7,13 +7,13 @@ use Rattle.std.specs.Fmt.{decimal}
 use Rattle.replay_text.specs.declared.hop.HopRow.{HopRow}
 use Rattle.replay_text.specs.Ids.{ids_text}
 
--- ---- which way each id goes
+-- ---- where each id is sent
 
--- the name of the row of an id, where there is one
+-- the name in the row of an id, if there is one
 abbrev pub name_of : List HopRow → ℕ → Option (List ℕ)
 name_of rows id = option_map (λ (row : HopRow). row.name) (find (λ (row : HopRow). row.id == id) rows)
 
--- an id of a packet, and the name of its row, where it has one
+-- an id of a packet, and the name in its row, if it has one
 pub record Way : Type 0 where
   pub id : ℕ
   pub name : Option (List ℕ)
@@ -24,7 +24,7 @@ way_of rows id = record { id = id; name = name_of rows id }
 abbrev pub ways : List HopRow → List ℕ → List Way
 ways rows ids = map (way_of rows) ids
 
--- whether a way leads to that name
+-- whether an id is sent to that name
 abbrev pub leads_to : List ℕ → Way → Bool
 leads_to name way = option_map_or (λ found. bytes_eq found name) way.name false
 
@@ -32,14 +32,14 @@ leads_to name way = option_map_or (λ found. bytes_eq found name) way.name false
 abbrev pub group_of : List ℕ → List Way → List ℕ
 group_of name along = map (λ (way : Way). way.id) (filter (leads_to name) along)
 
--- ---- what is done with the ids
+-- ---- the outcomes of the ids
 
 pub data Outcome : Type 0 where
   Local : (id : ℕ) → Outcome
   Copy : (name ids : List ℕ) → Outcome
   Dropped : (ids : List ℕ) → Outcome
 
--- the own id is delivered, where it is in the packet
+-- the own id is delivered, if it is in the packet
 abbrev pub delivered : ℕ → List ℕ → List Outcome
 delivered own ids = if list_any (λ id. id == own) ids then Local own ∷ [] else []
 
@@ -47,7 +47,7 @@ delivered own ids = if list_any (λ id. id == own) ids then Local own ∷ [] els
 abbrev pub others : ℕ → List ℕ → List ℕ
 others own ids = filter (λ id. not (id == own)) ids
 
--- One copy is sent to a name, and stands at the least of its ids.
+-- One copy is sent to a name, at the position of the least of its ids.
 abbrev pub copy_of : List ℕ → ℕ → List ℕ → List Outcome
 copy_of name id [] = []
 copy_of name id (least ∷ group) = if least == id then Copy name (least ∷ group) ∷ [] else []
@@ -73,7 +73,7 @@ dropped_of (id ∷ ids) = Dropped (id ∷ ids) ∷ []
 unfoldable pub dropped : List Way → List Outcome
 dropped along = dropped_of (unrouted along)
 
--- what is done with a packet
+-- the outcomes of a packet
 unfoldable pub outcomes : ℕ → List HopRow → List ℕ → List Outcome
 outcomes own rows ids = delivered own ids ++ (copies (ways rows (others own ids)) ++ dropped (ways rows (others own ids)))
 

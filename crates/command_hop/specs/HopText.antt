@@ -1,4 +1,4 @@
--- A hop text: the packets that are reached, and the report of them.
+-- A hop text: the packets that are reached, and the report on them.
 use Rattle.std.specs.Prelude.{ℕ, ◌+◌, ◌≤◌, true, false, List, [], ◌∷◌, ◌++◌, length, Option, Some, None, unwrap_or, Ok, Err, codes}
 use Rattle.std.specs.List.{flat_map}
 use Rattle.std.specs.Fmt.{decimal}
@@ -19,13 +19,13 @@ use Rattle.command_drive.specs.Answer.{behind}
 use Rattle.command_drive.specs.Texts.{Close, Ended, Longer, Cut, close_of, is_short, lines_within}
 use Rattle.command_hop.specs.Forward.{Outcome, outcomes, outcomes_text}
 
--- ---- lines and what they say
+-- ---- lines and what they contain
 
 -- before the first line
 abbrev pub fresh : HopState
 fresh = record { bsl = None; own = None; rows = []; packets = false }
 
--- what is known after a line
+-- the state after a line
 abbrev pub after : HopState → HopLine → HopState
 after state line.Empty = state
 after state (line.Length bsl) = record state { bsl = Some bsl }
@@ -35,8 +35,7 @@ after state (line.Packet bits) = record state { packets = true }
 
 -- ---- packets
 
--- A packet that is reached: the number of its line, what the lines before it said of the own id and of the rows, and
--- its ids.
+-- A packet that is reached: the number of its line, the own id and the rows of the lines before it, and its ids.
 pub record Packet : Type 0 where
   pub line : ℕ
   pub own : ℕ
@@ -50,7 +49,7 @@ packet_in n state (line.Own own) = []
 packet_in n state (line.Row row) = []
 packet_in n state (line.Packet bits) = record { line = n; own = unwrap_or state.own 0; rows = state.rows; ids = positions_of bits } ∷ []
 
--- the packets of lines that follow n others, up to the first line that is refused
+-- the packets of lines that follow n others, up to the first line that is rejected
 unfoldable pub packets_from : HopState → ℕ → List (List ℕ) → List Packet
 packets_from state n [] = []
 packets_from state n (text ∷ more) = elim (hop_line text state) [
@@ -58,7 +57,7 @@ packets_from state n (text ∷ more) = elim (hop_line text state) [
   | Ok said ↦ packet_in (n + 1) state said ++ packets_from (after state said) (n + 1) more
 ]
 
--- the first line that is refused, and why
+-- the first line that is rejected, and why
 unfoldable pub refusal_from : HopState → ℕ → List (List ℕ) → Option (ℕ × TextFault)
 refusal_from state n [] = None
 refusal_from state n (text ∷ more) = elim (hop_line text state) [
@@ -72,7 +71,7 @@ packets_of input = packets_from fresh 0 (lines_within input)
 
 -- ---- the report
 
--- what is done with a packet, and the lines that say so
+-- the outcomes of a packet, and the lines that report them
 abbrev pub outcomes_of : Packet → List Outcome
 outcomes_of packet = outcomes packet.own packet.rows packet.ids
 
@@ -85,16 +84,16 @@ refused_text n why = codes "refused " ++ decimal n ++ codes " text " ++ why ++ 1
 abbrev pub done_text : ℕ → ℕ → List ℕ
 done_text lines packets = codes "done lines " ++ decimal lines ++ codes " packets " ++ decimal packets ++ 10 ∷ []
 
--- How a text ends that has so many lines and packets: at the first refused line, at its end, or at the line that passes
--- the limit. Where its source failed, nothing is said.
+-- How the report ends on a text with that many lines and packets: at the first rejected line, at its end, or at the
+-- line that exceeds the limit. If its source failed, nothing is reported.
 abbrev pub ending : Close → (lines packets : ℕ) → Option (ℕ × TextFault) → Status × List ℕ
 ending close lines packets (Some refusal) = (InputRefused, refused_text refusal.0 (fault_text refusal.1))
 ending Ended lines packets None = (Done, done_text lines packets)
 ending Longer lines packets None = (InputRefused, refused_text (lines + 1) (rule_text 6 (codes "TooLong")))
 ending Cut lines packets None = (ReadFault, [])
 
--- The status and the report of lines that follow n others with k packets, in a state: the lines of each packet in order, and
--- a last line.
+-- The status and the report for lines that follow n others with k packets, in a state: the lines of each packet in
+-- order, and a last line.
 abbrev pub answer_from : Close → HopState → (n k : ℕ) → List (List ℕ) → Status × List ℕ
 answer_from close state n k lines =
     behind (flat_map packet_text (packets_from state n lines))
@@ -104,18 +103,18 @@ answer_from close state n k lines =
 unfoldable pub hop_answer : List ℕ → Status × List ℕ
 hop_answer input = answer_from (close_of (is_short input)) fresh 0 0 (lines_within input)
 
--- those of the lines that are whole in octets behind which the source failed
+-- those of the complete lines in octets after which the source failed
 unfoldable pub hop_cut : List ℕ → Status × List ℕ
 hop_cut octets = answer_from Cut fresh 0 0 (lines_in false octets)
 
--- ---- inputs that are done to their end
+-- ---- inputs that are processed to their end
 
--- each line is in the grammar, and may stand after the lines before it
+-- each line is in the grammar, and allowed after the lines before it
 unfoldable pub AreAllowed : HopState → List (List ℕ) → Type 0
 AreAllowed state [] = Unit {0}
 AreAllowed state (text ∷ more) = (said : HopLine) × IsLine state text said × AreAllowed (after state said) more
 
--- an input that isn't too long, each line of which is allowed
+-- an input that is not too long, each line of which is allowed
 pub record IsAllowed (input : List ℕ) : Type 0 where
   pub short : length input ≤ TEXT_LIMIT
   pub lines : AreAllowed fresh (lines_in true input)

@@ -1,4 +1,4 @@
--- What is owed on the lines of a hop text from some line on.
+-- What remains to be produced for a hop text from some line on.
 use Rattle.std.specs.Prelude.{ℕ, ◌≡◌, List, [], refl}
 use Rattle.command_drive.specs.Answer.{Verdict}
 use Rattle.command_drive.specs.Reading.{Behind, Closed}
@@ -17,7 +17,7 @@ closing (Closed closes.TooLong) = Longer
 closing (Closed (closes.Broken why)) = Longer
 closing reading.Cut = Cut
 
--- How far a hop text was done: what its lines said, and how many lines and packets there were.
+-- The state of a run on a hop text: what its lines contained, and the numbers of lines and packets.
 pub record Reached : Type 0 where
   pub state : HopState
   pub lines : ℕ

@@ -1,4 +1,4 @@
--- A forwarding table that was made of the rows, and counts that have room for more lines.
+-- A forwarding table that was built from the rows, and counts that have room for more lines.
 use Rattle.std.specs.Prelude.{ℕ, ◌≤◌, ◌^◌, Option, IfSome}
 use Rattle.replay_text.specs.declared.hop.HopState.{HopState}
 use Rattle.command_hop.specs.declared.ways.Ways.{Ways}

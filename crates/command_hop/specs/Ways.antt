@@ -1,4 +1,4 @@
--- Written rows as a forwarding table: each name is a neighbor with a number.
+-- Configured rows as a forwarding table: each name is a neighbor with a number.
 use Rattle.std.specs.Prelude.{ℕ, suc, ◌≡◌, ◌≤◌, ◌/◌, ◌%◌, Bool, true, List, [], ◌∷◌, ◌++◌, slice_index_or, Option, Some, None, option_map, unwrap_or, if◌then◌else◌}
 use Rattle.std.specs.List.{list_any, flat_map}
 use Rattle.std.specs.Str.{bytes_eq}
@@ -22,19 +22,19 @@ has_name names name = list_any (λ other. bytes_eq other name) names
 abbrev pub with_name : List (List ℕ) → List ℕ → List (List ℕ)
 with_name names name = if has_name names name then names else names ++ name ∷ []
 
--- the number of a name: the place where it first stands
+-- the number of a name: the index of its first occurrence
 abbrev pub number_in : List (List ℕ) → List ℕ → ℕ
 number_in [] name = 0
 number_in (other ∷ names) name = if bytes_eq other name then 0 else suc (number_in names name)
 
--- the neighbor with a number, which its system and its end tell
+-- the neighbor with a number, encoded in its system ID and its interface
 abbrev pub neighbour : ℕ → First
 neighbour n = record { system = record { 0 = 0 ∷ 0 ∷ 0 ∷ 0 ∷ n / 256 ∷ n % 256 ∷ [] }; direct = Some n }
 
 abbrev pub number_of : First → ℕ
 number_of first = unwrap_or first.direct 0
 
--- to where a position leads whose row has that name, or which has no row
+-- where a bit position leads whose row has that name, or which has no row
 abbrev pub leading : List (List ℕ) → Option (List ℕ) → Option First
 leading names row = option_map (λ name. neighbour (number_in names name)) row
 
@@ -42,12 +42,12 @@ abbrev pub leads : List (List ℕ) → Option (List ℕ) → List First
 leads names None = []
 leads names (Some name) = neighbour (number_in names name) ∷ []
 
--- its name, where it has a row, is among the names
+-- its name, if it has a row, is among the names
 abbrev pub IsKnown : List (List ℕ) → Option (List ℕ) → Type 0
 IsKnown names None = Unit {0}
 IsKnown names (Some name) = has_name names name ≡ true
 
--- the list of a position in the rows of a table
+-- the list of a bit position in the rows of a table
 pub record IsListed (rows : List HopRow) (names : List (List ℕ)) (p : ℕ) (list : List First) : Type 0 where
   pub list_is : list ≡ leads names (name_of rows p)
   pub known : IsKnown names (name_of rows p)
@@ -72,7 +72,7 @@ routers_of (B1024 table) = table
 routers_of (B2048 table) = table
 routers_of (B4096 table) = table
 
--- a position leads where its row says
+-- a bit position leads where its row states
 pub record IsLinked (rows : List HopRow) (names : List (List ℕ)) (table : List (Option First)) (p : ℕ) : Type 0 where
   pub router : router_at table p ≡ leading names (name_of rows p)
   pub known : IsKnown names (name_of rows p)
@@ -81,11 +81,11 @@ pub record IsLinked (rows : List HopRow) (names : List (List ℕ)) (table : List
 abbrev pub AreNumbered : List (Option First) → Type 0
 AreNumbered table = (p : ℕ) (first : First) → router_at table p ≡ Some first → first ≡ neighbour (number_of first)
 
--- the number of the neighbor to which a position leads
+-- the number of the neighbor to which a bit position leads
 abbrev pub chosen : List (Option First) → ℕ → Option ℕ
 chosen table p = option_map number_of (router_at table p)
 
--- A table and names that stand for rows.
+-- A table and names that represent rows.
 pub record AreWays (rows : List HopRow) (ways : Ways) : Type 0 where
   pub linked : (p : ℕ) → 1 ≤ p → p ≤ bits_of (length_of ways.table) → IsLinked rows ways.names (routers_of ways.table) p
   pub numbered : AreNumbered (routers_of ways.table)
@@ -95,7 +95,7 @@ pub record AreWays (rows : List HopRow) (ways : Ways) : Type 0 where
 abbrev pub name_at : List (List ℕ) → ℕ → List ℕ
 name_at names n = slice_index_or names n []
 
--- an outcome of a hop over the table, by names
+-- an outcome of forwarding by the table, with neighbors shown by name
 abbrev pub seen : List (List ℕ) → model.Outcome → Outcome
 seen names (model.Local p) = Local p
 seen names (model.Copy to ids ttl) = Copy (name_at names to) ids

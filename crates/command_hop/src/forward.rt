@@ -1,4 +1,4 @@
-//! One router's forwarding of a packet on written rows.
+//! The forwarding of a packet by one router with configured rows.
 ghost use Rattle.std.specs.Prelude.{◌≡◌, ◌<◌, ◌*◌, ◌++◌, List, IfOk, OnOk, IsTrue};
 ghost use Rattle.std.specs.Fmt.{decimal};
 ghost use Rattle.wire_base.specs.model.Hop.{hop};
@@ -21,10 +21,10 @@ use std::marker::Brand;
 use std::sync::ledger::{Blank, Ledger};
 use wire_base::{First, M, Name, Octets, Steps};
 
-/// A TTL with which each copy goes on.
+/// A TTL with which every copy is sent.
 const TTL: u16 = 255;
 
-/// The number of a packet's line, and what follows it.
+/// Appends the number of a packet's line, and the keyword after it.
 fn begin_line(out: &mut Octets, line: u64, what: &[u8]) -> M<()>
     ensures { OnOk result (out.new ≡ out.old ++ (decimal line ++ what.now)) }
 {
@@ -32,7 +32,7 @@ fn begin_line(out: &mut Octets, line: u64, what: &[u8]) -> M<()>
     out.append(what)
 }
 
-/// The name of a neighbor.
+/// Returns the name of a neighbor.
 fn name_of<'n>(names: &'n [Name], to: &First) -> &'n [u8]
     ensures { result.now ≡ name_at names.now (number_of to.now) }
 {
@@ -43,7 +43,7 @@ fn name_of<'n>(names: &'n [Name], to: &First) -> &'n [u8]
     }
 }
 
-/// The own id is delivered.
+/// Appends the line for the delivery of the router's own id.
 fn push_local(out: &mut Octets, line: u64, own: u16) -> M<()>
     ensures { OnOk result (out.new ≡ out.old ++ forward.outcome_text line (forward.Local own)) }
 {
@@ -52,7 +52,7 @@ fn push_local(out: &mut Octets, line: u64, own: u16) -> M<()>
     out.push(b'\n')
 }
 
-/// One copy.
+/// Appends the line of one copy.
 fn push_copy<const W: usize>(out: &mut Octets, line: u64, name: &[u8], set: &BitString<W>) -> M<()>
     requires { IsTrue (is_width W) }
     ensures { OnOk result (out.new ≡ out.old ++ forward.outcome_text line (forward.Copy name.now set.now)) }
@@ -64,7 +64,7 @@ fn push_copy<const W: usize>(out: &mut Octets, line: u64, name: &[u8], set: &Bit
     out.push(b'\n')
 }
 
-/// The ids without a row are dropped.
+/// Appends the line for the drop of the ids without a row.
 fn push_drop<const W: usize>(out: &mut Octets, line: u64, set: &BitString<W>) -> M<()>
     requires { IsTrue (is_width W) }
     ensures { OnOk result (out.new ≡ out.old ++ forward.outcome_text line (forward.Dropped set.now)) }
@@ -74,7 +74,7 @@ fn push_drop<const W: usize>(out: &mut Octets, line: u64, set: &BitString<W>) ->
     out.push(b'\n')
 }
 
-/// The line of an outcome.
+/// Appends the line of an outcome.
 fn push_outcome<const W: usize>(
     out: &mut Octets,
     line: u64,
@@ -91,7 +91,7 @@ fn push_outcome<const W: usize>(
     }
 }
 
-/// The lines of the outcomes that are left of a packet.
+/// Appends the lines of the remaining outcomes of a packet.
 fn push_left<const W: usize, L: Ledger>(
     out: &mut Octets,
     line: u64,
@@ -109,7 +109,7 @@ fn push_left<const W: usize, L: Ledger>(
     Ok(())
 }
 
-/// The own id as a position, where it is one.
+/// Returns the own id as a bit position, if it is one.
 fn own_position(own: u16, bits: u16) -> Option<u16>
     ensures value { result ≡ in_range bits own }
     ensures own { IsOwn bits result }
@@ -120,7 +120,7 @@ fn own_position(own: u16, bits: u16) -> Option<u16>
     Some(own)
 }
 
-/// The lines of a packet at a table.
+/// Appends the lines of a packet that a table forwards.
 fn push_hop<const W: usize, L: Ledger>(
     out: &mut Octets,
     line: u64,
@@ -139,7 +139,7 @@ fn push_hop<const W: usize, L: Ledger>(
     push_left(out, line, names, hop, steps)
 }
 
-/// The lines of a packet at a table of its length, with a ledger for the steps, which nobody reads.
+/// Appends the lines of a packet that a table of its length forwards, with a ledger of the steps that is not read.
 fn push_along<L: Ledger>(
     out: &mut Octets,
     line: u64,
@@ -183,8 +183,8 @@ fn push_along<L: Ledger>(
     }
 }
 
-/// Appends the lines of a packet: the line's number, and what is done with each id. It is one hop over the table of the rows,
-/// seen by names.
+/// Appends the lines of a packet: the line's number, and the outcome of each id. The packet is forwarded once by the
+/// table of the rows, with neighbors shown by name.
 pub fn push_outcomes(
     _alloc: Global,
     out: &mut Octets,

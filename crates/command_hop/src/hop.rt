@@ -14,8 +14,8 @@ use std::alloc::Global;
 use std::marker::Model;
 use wire_base::{M, Octets, Rows, Sink, Source, Status};
 
-/// How far a hop text was done: what its lines said, the forwarding table that was made of them, and how many lines and packets
-/// there were.
+/// The state of a run on a hop text: what its lines contained, the forwarding table that was built from them, and the
+/// numbers of lines and packets.
 #[derive(Drop)]
 struct Hop {
     state: HopState,
@@ -36,7 +36,7 @@ impl Model for Hop {
 }
 
 impl Hop {
-    /// Before the first line.
+    /// Returns the state before the first line.
     fn new(alloc: Global) -> Self
         ensures { result ≡ nothing_reached }
     {
@@ -98,8 +98,8 @@ impl Command<Octets> for Hop {
     ghost cut = { λ s none. nothing_cut s };
 }
 
-/// All that the program does for the arguments `hop INPUT`: it reads the input line by line and reports each packet's outcomes, up
-/// to its end or to the first line that is rejected.
+/// Runs the command `hop INPUT`: reads the input line by line and reports the outcomes of each packet, up to the end of
+/// the input or to the first line that is rejected.
 pub fn run_hop<S: Source, R: Sink>(alloc: Global, input: &mut S, report: &mut R) -> Status
     requires input_faults { S.faults input.old < last_count }
     requires report_faults { R.faults report.old < last_count }

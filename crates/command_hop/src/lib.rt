@@ -1,7 +1,8 @@
-//! The command `hop`: one router's forwarding of packets on written rows.
+//! The command `hop`: the forwarding of packets by one router with configured rows.
 //!
-//! Its input is a text whose lines give the length of bit strings, the router's own BFR-id, rows of a forwarding table and packets. The
-//! report has a line for each outcome of each packet, and promises that each BFR-id of a packet stands in exactly one of them.
+//! Its input is a text whose lines are the BitStringLength, the router's own BFR-id, rows of a forwarding table and
+//! packets. The report has a line for each outcome of each packet. The crate promises that each BFR-id of a packet is
+//! in exactly one of them.
 #![tactic(auto)]
 
 mod forward;

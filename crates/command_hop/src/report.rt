@@ -1,4 +1,4 @@
-//! What the report says of a line.
+//! What is reported of a line.
 ghost use Rattle.std.specs.Prelude.{◌≡◌, ◌+◌, ◌<◌, ◌≤◌, ◌^◌, ◌≢◌, ◌++◌, ◌∷◌, [], ℕ, List, IfOk, IfSome, OnOk, OnErr, Some, None, length, unwrap_or};
 ghost use Rattle.std.specs.List.{flat_map};
 ghost use Rattle.replay_text.specs.declared.fault.TextFault.TheVariants as fault;
@@ -16,7 +16,7 @@ use replay_text::{HopLine, HopRow, HopState, TextFault, push_rule, read_hop_line
 use std::alloc::Global;
 use wire_base::{Bsl, M, Memory, Octets, Rows, Status};
 
-/// The line of a refusal.
+/// Appends the line for a rejection.
 pub fn push_refused(out: &mut Octets, line: u64, number: u8, name: &[u8]) -> M<()>
     ensures { OnOk result (out.new ≡ out.old ++ text.refused_text line (rule_text number name.now)) }
 {
@@ -27,7 +27,7 @@ pub fn push_refused(out: &mut Octets, line: u64, number: u8, name: &[u8]) -> M<(
     out.push(b'\n')
 }
 
-/// The last line of a report on a text that was done to its end.
+/// Appends the last line of a report on a text that was processed to its end.
 pub fn push_done(out: &mut Octets, lines: u64, packets: u64) -> M<()>
     ensures { OnOk result (out.new ≡ out.old ++ text.done_text lines packets) }
 {
@@ -38,7 +38,7 @@ pub fn push_done(out: &mut Octets, lines: u64, packets: u64) -> M<()>
     out.push(b'\n')
 }
 
-/// The table of the rows for packets of a length: the one that was made for the packet before, or a new one.
+/// Returns the table of the rows for packets of a length: the one that was built for the packet before, or a new one.
 fn ready(alloc: Global, ways: &mut Option<Ways>, rows: &[HopRow], bsl: Bsl) -> M<Ways>
     requires { IfSome ways.old (λ built. AreWays rows.now built) }
     ensures ways { IfOk result (λ built. AreWays rows.now built) }
@@ -51,7 +51,7 @@ fn ready(alloc: Global, ways: &mut Option<Ways>, rows: &[HopRow], bsl: Bsl) -> M
     }
 }
 
-/// The lines of a packet.
+/// Appends the lines of a packet.
 fn push_packet(
     alloc: Global,
     out: &mut Octets,
@@ -72,7 +72,7 @@ fn push_packet(
     Ok(())
 }
 
-/// Applies what a line says, and returns how many packets it has: none or one.
+/// Applies what a line contains, and returns how many packets it has: none or one.
 pub fn accept(
     alloc: Global,
     out: &mut Octets,

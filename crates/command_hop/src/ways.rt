@@ -1,4 +1,4 @@
-//! The forwarding table of written rows: each different name is a neighbor with a number.
+//! The forwarding table of configured rows: each different name is a neighbor with a number.
 ghost use Rattle.std.specs.Prelude.{◌≡◌, ◌≤◌, ◌<◌, ◌+◌, ◌-◌, ◌++◌, ℕ, List, [], length, true, false, IfOk, MatchOption, slice_index_or, option_map};
 ghost use Rattle.std.specs.Str.{bytes_eq};
 ghost use Rattle.wire_base.specs.model.Place.{bits_of};
@@ -11,7 +11,7 @@ use replay_text::HopRow;
 use std::alloc::Global;
 use wire_base::{Bsl, First, FirstList, M, Name, RowSet, Rows, SystemId};
 
-/// A forwarding table of one of the seven lengths.
+/// A forwarding table of one of the seven BitStringLengths.
 #[derive(Drop)]
 pub(crate) enum AnyTable {
     B64(Table<1>),
@@ -24,7 +24,7 @@ pub(crate) enum AnyTable {
 }
 
 impl AnyTable {
-    /// Its length.
+    /// Returns its BitStringLength.
     pub fn bsl(&self) -> Bsl
         ensures { result ≡ spec.length_of self.now }
     {
@@ -40,14 +40,14 @@ impl AnyTable {
     }
 }
 
-/// The neighbors' names, each at its number, and the table.
+/// The neighbors' names, indexed by their numbers, and the table.
 #[derive(Drop)]
 pub(crate) struct Ways {
     pub names: Rows<Name>,
     pub table: AnyTable,
 }
 
-/// The name of an id's row.
+/// Returns the name in the row of an id.
 fn name_of(rows: &[HopRow], id: u16) -> Option<&[u8]>
     ensures { option_map (λ name. name.now) result ≡ forward.name_of rows.now id }
 {
@@ -61,7 +61,7 @@ fn is_name(name: &Name, text: &[u8]) -> bool
     name.as_slice() == text
 }
 
-/// The number of a name, where it has one.
+/// Returns the number of a name, if it has one.
 fn find_number(names: &[Name], text: &[u8]) -> Option<usize>
     ensures { MatchOption result (spec.has_name names.now text.now ≡ false) (λ n. (spec.has_name names.now text.now ≡ true) × ((n ≡ spec.number_in names.now text.now) × (n < length names.now))) }
 {
@@ -73,7 +73,7 @@ fn find_number(names: &[Name], text: &[u8]) -> Option<usize>
     None
 }
 
-/// The number of a name, which gets the next one where it has none.
+/// Returns the number of a name, and assigns the next number if it has none.
 fn number_for(alloc: Global, names: &mut Rows<Name>, text: &[u8]) -> M<u16>
     requires { length names.old ≤ 65535 }
     ensures number { IfOk result (λ n. n ≡ spec.number_in names.new text.now) }
@@ -87,7 +87,7 @@ fn number_for(alloc: Global, names: &mut Rows<Name>, text: &[u8]) -> M<u16>
     Ok(n)
 }
 
-/// The neighbor with a number.
+/// Returns the neighbor with a number.
 fn neighbour(n: u16) -> First
     ensures { result ≡ spec.neighbour n }
 {
@@ -97,7 +97,7 @@ fn neighbour(n: u16) -> First
     }
 }
 
-/// Where a position leads.
+/// Returns where a bit position leads.
 fn list_at(alloc: Global, names: &mut Rows<Name>, rows: &[HopRow], p: u16) -> M<FirstList>
     requires { length names.old ≤ 65535 }
     ensures listed { IfOk result (λ list. spec.IsListed rows.now names.new p list) }
@@ -113,7 +113,7 @@ fn list_at(alloc: Global, names: &mut Rows<Name>, rows: &[HopRow], p: u16) -> M<
     }
 }
 
-/// Where each position of a length leads.
+/// Returns where each bit position of a length leads.
 fn lists_of(alloc: Global, names: &mut Rows<Name>, rows: &[HopRow], bits: u16) -> M<RowSet>
     requires none { names.old ≡ [] }
     requires few { bits ≤ 4096 }
@@ -127,7 +127,7 @@ fn lists_of(alloc: Global, names: &mut Rows<Name>, rows: &[HopRow], bits: u16) -
     Ok(RowSet { bits: lists })
 }
 
-/// The table of a length.
+/// Returns the table of a length.
 fn table_of(alloc: Global, rows: &RowSet, bsl: Bsl) -> M<AnyTable>
     requires { length rows.now.bits ≡ bits_of bsl }
     ensures bsl { IfOk result (λ table. spec.length_of table ≡ bsl) }
@@ -144,7 +144,8 @@ fn table_of(alloc: Global, rows: &RowSet, bsl: Bsl) -> M<AnyTable>
     })
 }
 
-/// The table of rows, for packets of a length. The neighbors are numbered in the order of their least positions.
+/// Returns the table of rows for packets of a length. The neighbors are numbered in the order of their least bit
+/// positions.
 pub(crate) fn ways_of(alloc: Global, rows: &[HopRow], bsl: Bsl) -> M<Ways>
     ensures ways { IfOk result (λ ways. spec.AreWays rows.now ways) }
     ensures bsl { IfOk result (λ ways. spec.length_of ways.table ≡ bsl) }

@@ -1,4 +1,4 @@
--- The forms of command lines.
+-- The kinds of command lines.
 use Rattle.std.specs.Prelude.{ℕ}
 
 pub data Form : Type 0 where

@@ -1,4 +1,4 @@
--- What command lines ask for.
+-- What command lines mean.
 use Rattle.std.specs.Prelude.{ℕ, ◌≡◌, List, [], ◌∷◌, map, Option, Some, None, codes, if◌then◌else◌}
 use Rattle.std.specs.Borrow.{Bor}
 use Rattle.std.specs.Fmt.{decimal}
@@ -10,7 +10,7 @@ use Rattle.command_line.specs.Form.{Form, Replay, Node, Hop, Headers, Grow, Unkn
 use Rattle.command_line.specs.declared.arguments.Arguments.{Arguments}
 use Rattle.command_line.specs.declared.arguments.Arguments.TheVariants as arguments
 
--- N of `grow N`: the number from 3 to 250 that the word writes in decimal digits, of which the first is never 0
+-- N of `grow N`: the number from 3 to 250 that the argument encodes in decimal digits without a leading 0
 unfoldable pub routers_of : List ℕ → Option ℕ
 routers_of word = find (λ n. bytes_eq (decimal n) word) (range_with_len 3 248)
 
@@ -23,8 +23,8 @@ abbrev pub command_of_one : (word argument : List ℕ) → CommandLine
 command_of_one word argument =
     if bytes_eq word (codes "hop") then line.Hop argument else if bytes_eq word (codes "headers") then line.Headers argument else if bytes_eq word (codes "grow") then grow_of (routers_of argument) else line.Unknown
 
--- `replay CONF SCHEDULE FRAMES`, `node CONF ROUTER CAPTURE FRAMES`, `hop INPUT` and `headers CAPTURE` are command lines, whatever the
--- words after the first, and so is `grow N`
+-- `replay CONF SCHEDULE FRAMES`, `node CONF ROUTER CAPTURE FRAMES`, `hop INPUT` and `headers CAPTURE` are command
+-- lines, whatever the arguments after the first, and so is `grow N`
 unfoldable pub command_line : List (List ℕ) → CommandLine
 command_line [] = line.Unknown
 command_line (word ∷ []) = line.Unknown
@@ -34,11 +34,11 @@ command_line (word ∷ conf ∷ schedule ∷ frames ∷ []) = if bytes_eq word (
 command_line (word ∷ conf ∷ router ∷ capture ∷ frames ∷ []) = if bytes_eq word (codes "node") then line.Node conf router capture frames else line.Unknown
 command_line (word ∷ conf ∷ router ∷ capture ∷ frames ∷ more ∷ rest) = line.Unknown
 
--- the command line of words that a call is handed
+-- the command line of arguments that a call receives
 abbrev pub command_line_in : List (Bor (List ℕ)) → CommandLine
 command_line_in words = command_line (map (λ word. word.now) words)
 
--- the command line that arguments are
+-- the command line that parsed arguments represent
 abbrev pub meaning : Arguments → CommandLine
 meaning (arguments.Replay conf schedule frames) = line.Replay conf.now schedule.now frames.now
 meaning (arguments.Node conf router capture frames) = line.Node conf.now router.now capture.now frames.now
@@ -57,7 +57,7 @@ form_of (line.Headers capture) = Headers
 form_of (line.Grow routers) = Grow routers
 form_of line.Unknown = Unknown
 
--- the name of a router, which `node` alone has
+-- the name of a router, which only `node` has
 abbrev pub router_of : CommandLine → List ℕ
 router_of (line.Replay conf schedule frames) = []
 router_of (line.Node conf router capture frames) = router
@@ -72,10 +72,10 @@ form_in words = form_of (command_line_in words)
 abbrev pub router_in : List (Bor (List ℕ)) → List ℕ
 router_in words = router_of (command_line_in words)
 
--- `grow`, with whatever number
+-- `grow`, with any number
 abbrev pub IsGrow : Form → Type 0
 IsGrow form = (n : ℕ) × (form ≡ Grow n)
 
--- the line on an unknown command line
+-- the line for an unknown command line
 abbrev pub usage_text : List ℕ
 usage_text = codes "usage: bier_domain replay CONF SCHEDULE FRAMES | node CONF ROUTER CAPTURE FRAMES | hop INPUT | headers CAPTURE | grow N\n"

@@ -1,4 +1,4 @@
-//! The arguments of the program.
+//! The command-line arguments of the program.
 ghost use Rattle.std.specs.Prelude.{◌≡◌, ◌≤◌, ℕ, IfSome};
 ghost use Rattle.command_line.specs.CommandLine as line;
 ghost use Rattle.command_line.specs.Words.{command_line_in, command_of_one, grow_of, meaning, routers_of};
@@ -6,7 +6,7 @@ ghost use Rattle.command_line.specs.declared.arguments.Arguments.TheVariants as 
 
 use itoa::Buffer;
 
-/// What the arguments ask for. Paths are as given.
+/// The command that the arguments name. Paths are as given.
 #[derive(Clone, Copy, Debug, PartialEq, Eq)]
 pub enum Arguments<'a> {
     /// `replay CONF SCHEDULE FRAMES`
@@ -38,11 +38,11 @@ pub enum Arguments<'a> {
     Unknown,
 }
 
-/// The line that is reported on an unknown command line.
+/// The line that is reported for an unknown command line.
 pub const USAGE: &[u8] =
     b"usage: bier_domain replay CONF SCHEDULE FRAMES | node CONF ROUTER CAPTURE FRAMES | hop INPUT | headers CAPTURE | grow N\n";
 
-/// How many routers the argument of `grow` asks for: 3 to 250, in decimal digits without a leading zero.
+/// Parses the argument of `grow`, a number of routers: 3 to 250, in decimal digits without a leading zero.
 #[tactic(auto, unfolding(crate::specs::Words::routers_of))]
 fn routers_in(word: &[u8]) -> Option<u16>
     ensures value { result ≡ routers_of word.now }
@@ -58,7 +58,7 @@ fn routers_in(word: &[u8]) -> Option<u16>
     None
 }
 
-/// The arguments `grow N`.
+/// Returns the arguments `grow N`.
 fn grow_by<'a>(word: &[u8]) -> Arguments<'a>
     ensures value { meaning result ≡ grow_of (routers_of word.now) }
     ensures some { (n : ℕ) → result ≡ arguments.Grow n → 3 ≤ n }
@@ -70,7 +70,7 @@ fn grow_by<'a>(word: &[u8]) -> Arguments<'a>
     }
 }
 
-/// The command with one argument that the words ask for.
+/// Returns the command with one argument that the first word selects.
 fn with_one<'a>(command: &str, argument: &'a str) -> Arguments<'a>
     ensures value { meaning result ≡ command_of_one command.now argument.now }
     ensures some { (n : ℕ) → result ≡ arguments.Grow n → 3 ≤ n }
@@ -84,7 +84,7 @@ fn with_one<'a>(command: &str, argument: &'a str) -> Arguments<'a>
     }
 }
 
-/// What the arguments behind the program's name ask for. Each is compared exactly; there are no options.
+/// Parses the arguments that follow the program's name. Each is compared exactly; there are no options.
 #[tactic(auto, unfolding(crate::specs::Words::command_line))]
 pub fn parse<'a>(words: &[&'a str]) -> Arguments<'a>
     ensures value { meaning result ≡ command_line_in words.now }

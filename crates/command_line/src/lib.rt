@@ -1,6 +1,6 @@
-//! The command line: which command its arguments ask for, with the paths, the router's name and the number that they give it.
+//! The command line: the command that its arguments name, with its paths, its router name and its number.
 //!
-//! It promises that the result is the command that the arguments spell, with each argument in its own role.
+//! It promises that the result is the command that the arguments spell, with each argument in its role.
 #![tactic(auto)]
 
 mod arguments;

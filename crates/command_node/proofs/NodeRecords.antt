@@ -1,12 +1,12 @@
 -- A node on the records of a capture.
-use Rattle.std.proofs.Common.{◌≡◌, ◌≢◌, ℕ, ◌+◌, Bool, true, false, not, List, [], ◌∷◌, ◌++◌, length, map, Option, Some, None, Result, Ok, Err, refl, sym, ap, ap₂, subst, ◌∙◌, append_assoc, append-nil}
+use Rattle.std.proofs.Common.{◌≡◌, ℕ, Bool, true, false, not, List, [], ◌∷◌, ◌++◌, Option, Some, None, Result, Ok, Err, refl, sym, ap, ap₂, subst, ◌∙◌, append_assoc, append-nil}
 use Rattle.std.specs.Prelude.{IfOk, IfSome}
 use Rattle.wire_base.specs.declared.conf.RouterConf.{RouterConf}
 use Rattle.wire_base.specs.declared.limits.TheConstants.{CAPTURE_LIMIT}
 use Rattle.wire_base.specs.declared.faults.CaptureFault.{CaptureFault}
 use Rattle.wire_base.specs.declared.status.Status.{Status}
 use Rattle.wire_base.specs.declared.status.Status.TheVariants.{ReadFault, CaptureRefused}
-use Rattle.wire_base.specs.model.Capture.{CaptureRecord, Stage, HeaderToCome, HeaderRead, Refused, Reading, unread, fed, drained, next_of, end_in, written_header}
+use Rattle.wire_base.specs.model.Capture.{CaptureRecord, Stage, HeaderToCome, HeaderRead, Refused, Reading, unread, fed, drained, next_of, end_in}
 use Rattle.wire_base.specs.model.Flooding.{first_control, started}
 use Rattle.pcap_frames.specs.declared.record.CapRecord.{CapRecord}
 use Rattle.pcap_frames.specs.Seen.{record_seen}
@@ -18,11 +18,11 @@ use Rattle.command_drive.specs.Doing.{Told, Concludes, told}
 use Rattle.command_drive.specs.Driving.{meaning}
 use Rattle.command_drive.specs.Outside.{Meets}
 use Rattle.command_drive.specs.Reading.{End, Ends, Fails, Behind, Closed, Cut, Reads}
-use Rattle.command_drive.specs.Records.{record_given, close_by, behind_open, behind_records, records_read}
+use Rattle.command_drive.specs.Records.{close_by, behind_open, behind_records, records_read}
 use Rattle.command_drive.specs.declared.items.Close.TheVariants as close
 use Rattle.command_drive.proofs.CaptureLaws.{IsRefused, open_by, seen_given, capture_is, front_is}
 use Rattle.command_node.specs.declared.node_command.tally.Tally.{Tally}
-use Rattle.command_node.specs.NodeRun.{Node, first_node, record_done, gap_at, Reached, records_reach, gap_refused, node_at_end, node_end, ending, node_ends, verdict_on, node_answer, node_reached, node_cut}
+use Rattle.command_node.specs.NodeRun.{Node, first_node, record_done, gap_at, Reached, records_reach, gap_refused, node_at_end, node_end, ending, node_ends, node_answer, node_reached, node_cut}
 use Rattle.command_node.specs.Owed.{StartsAs, past, bare, end_by, verdict_by, owed, cut_end, node_means}
 use Rattle.command_node.proofs.NodeLaws.{record_past, reached_past, records_past, reach_one, reach_gap}
 

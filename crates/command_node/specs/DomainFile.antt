@@ -1,4 +1,4 @@
--- A domain file that a source gives.
+-- A domain file that is read from a source.
 use Rattle.std.specs.Prelude.{ℕ, ◌≡◌, ◌<◌, ◌⊎◌, List, [], ◌∷◌, Option, Ok, Err, codes}
 use Rattle.std.specs.Fmt.{decimal}
 use Rattle.wire_base.specs.declared.status.Status.{Status}
@@ -16,23 +16,23 @@ use Rattle.command_drive.specs.Outside.{Held}
 abbrev pub conf_refused_text : ConfFault → List ℕ
 conf_refused_text why = line_of (codes "refused" ∷ codes "conf" ∷ decimal (conf.number_of why) ∷ conf.name_of why ∷ conf.path_of why ∷ [])
 
--- What a source may have held says that domain.
+-- What a source may have held describes that domain.
 abbrev pub Says : Option (List ℕ) → DomainConf → Type 0
 Says left domain = (file : List ℕ) × Held left file × (domain_of file ≡ Ok domain)
 
--- What it may have held reads as those octets do.
+-- As a domain file, what it may have held means the same as those octets.
 abbrev pub ReadsAs : Option (List ℕ) → List ℕ → Type 0
 ReadsAs left octets = (file : List ℕ) × Held left file × (domain_of octets ≡ domain_of file)
 
--- What it may have held breaks a rule, and that is the line that says so.
+-- What it may have held breaks a rule, and that is the line that reports it.
 abbrev pub IsRefused : Option (List ℕ) → List ℕ → Type 0
 IsRefused left line = (file : List ℕ) × Held left file × ((why : ConfFault) × (domain_of file ≡ Err why) × (line ≡ conf_refused_text why))
 
--- A call stopped short of the whole text, at a read error or out of memory.
+-- A call stopped before the end of the text, at a read error or out of memory.
 abbrev pub StoppedBy : (faults faults_now : ℕ) → Status → Type 0
 StoppedBy faults faults_now why = ((why ≡ status.ReadFault) × (faults < faults_now)) ⊎ ((why ≡ status.Memory) × (faults_now ≡ faults))
 
--- Why there is no domain, and the faults of the source then.
+-- Why there is no domain, and the error count of the source then.
 abbrev pub HasNone : Option (List ℕ) → (faults faults_now : ℕ) → NoDomain → Type 0
 HasNone left faults faults_now (Refused line) = (faults_now ≡ faults) × IsRefused left line
 HasNone left faults faults_now (Stopped why) = StoppedBy faults faults_now why

@@ -25,10 +25,10 @@ use Rattle.command_drive.specs.Captures.{within_limit, is_within}
 use Rattle.replay_text.specs.Report.{line_of, cause_text}
 use Rattle.command_node.specs.declared.node_command.tally.Tally.{Tally}
 
--- ---- where a node stands
+-- ---- the state of a node
 
--- A node: the control state of its router; the second of its clock, once a record has set it; how many seconds have passed; its
--- numbers; and its capture and its report so far.
+-- A node: the control state of its router; the second of its clock, once a record has set it; how many seconds have
+-- passed; its counts; and its capture and its report so far.
 pub record Node : Type 0 where
   pub control : Control
   pub clock : Option ℕ
@@ -49,7 +49,7 @@ first_node r = record { control = first_control r; clock = None; ticks = 0; tall
 unfoldable pub frame_record : (sec usec : ℕ) → Sent → List ℕ
 frame_record sec usec s = written_record sec usec s.octets
 
--- frames go out at a time
+-- the records of frames that are sent at a given time
 abbrev pub frames_text : (sec usec : ℕ) → List Sent → List ℕ
 frames_text sec usec sent = flat_map (frame_record sec usec) sent
 
@@ -58,7 +58,7 @@ goes_out sec usec sent n = record n { frames = n.frames ++ frames_text sec usec 
 
 -- ---- seconds
 
--- what is due on a link goes out at the start of a second
+-- what is due on a link is sent at the start of a second
 abbrev pub next_sent : ℕ → Node → Next → Node
 next_sent sec n next = goes_out sec 0 next.effects.sent (record n { control = next.control })
 
@@ -73,18 +73,19 @@ sends_all sec n = fold (sends_on sec) n (range_with_len 0 (length n.control.conf
 abbrev pub every_fifth : ℕ → Node → Node
 every_fifth sec n = if n.ticks % 5 == 0 then sends_all sec n else n
 
--- one second passes, and the clock shows this one
+-- one second passes, and the clock is set to it
 unfoldable pub second_passes : ℕ → Node → Node
 second_passes sec n = every_fifth sec (record n { control = (tick n.control).control; clock = Some sec; ticks = n.ticks + 1 })
 
--- so many seconds pass after that one
+-- that many seconds pass after that one
 unfoldable pub seconds_pass : (count sec : ℕ) → Node → Node
 seconds_pass zero sec n = n
 seconds_pass (suc count) sec n = seconds_pass count (sec + 1) (second_passes (sec + 1) n)
 
 -- ---- the clock
 
--- The first record sets the clock. A later one moves it on, one second after the other; a time that goes back moves nothing.
+-- The first record sets the clock. A later one advances it, one second after the other; a timestamp that goes back does
+-- not change it.
 abbrev pub moved_from : Option ℕ → ℕ → Node → Node
 moved_from None sec n = record n { clock = Some sec }
 moved_from (Some clock) sec n = seconds_pass (sec - clock) clock n
@@ -98,16 +99,16 @@ most_gap = 65535
 
 -- ---- a record
 
--- the end whose peer has that Ethernet address
+-- the interface whose peer has that Ethernet address
 abbrev pub link_from : List End → List ℕ → Option ℕ
 link_from [] mac = None
 link_from (e ∷ es) mac = if bytes_eq e.peer_mac.0 mac then Some 0 else option_map (λ link. 1 + link) (link_from es mac)
 
--- a frame that was captured whole, with both addresses, and isn't too long to be given
+-- a frame that was captured whole, with both addresses, and is not too long for the router
 abbrev pub may_be_given : CaptureRecord → Bool
 may_be_given read = read.whole && (nat_le 12 (length read.octets) && nat_le (length read.octets) MOST_FRAME)
 
--- the link that a record came on; none where it is passed over
+-- the link that a record arrived on; none if it is ignored
 abbrev pub link_of : RouterConf → CaptureRecord → Option ℕ
 link_of r read = if may_be_given read then link_from r.ends (take 6 (drop 6 read.octets)) else None
 
@@ -118,11 +119,11 @@ abbrev pub got_text : ℕ → Got → List ℕ
 got_text number g =
     line_of (decimal number ∷ codes "got" ∷ decimal g.sd ∷ decimal g.id ∷ decimal g.bfir ∷ payload_text g.payload ∷ [])
 
--- a number above 65,535 is no BFR-id, and isn't listed
+-- a number above 65,535 is not a BFR-id, and is not listed
 abbrev pub listed : List ℕ → List ℕ
 listed ks = filter (λ k. nat_le k 65535) ks
 
--- the BFR-ids of positions that were dropped
+-- the BFR-ids of bit positions that were dropped
 abbrev pub dropped_ids : Option Positions → List ℕ
 dropped_ids None = []
 dropped_ids (Some set) = listed (map (id_at set.triple) set.positions)
@@ -135,7 +136,7 @@ drop_text number d = line_of (decimal number ∷ codes "drop" ∷ cause_text d.c
 abbrev pub effects_text : ℕ → Effects → List ℕ
 effects_text number e = flat_map (got_text number) e.got ++ flat_map (drop_text number) e.drops
 
--- ---- a record is done
+-- ---- the processing of a record
 
 abbrev pub counts_record : Node → Node
 counts_record n = record n { tally = record n.tally { records = n.tally.records + 1 } }
@@ -152,7 +153,7 @@ tells read e n =
       report = n.report ++ effects_text n.tally.records e;
     })
 
--- frames that the router passes over are counted as those that aren't given
+-- frames that the router ignores are counted as those that it does not receive
 abbrev pub taken_so : CaptureRecord → Node → Next → Node
 taken_so read n next = if next.effects.passed then passes (record n { control = next.control }) else tells read next.effects (record n { control = next.control })
 
@@ -163,13 +164,14 @@ given_on read n (Some link) = taken_so read n (on_frame n.control link read.octe
 abbrev pub given_to : CaptureRecord → Node → Node
 given_to read n = given_on read n (link_of n.control.conf read)
 
--- A record is counted, the clock moves to its second, and then the router is given its frame.
+-- A record is counted, the clock advances to its second, and then the router receives its frame.
 unfoldable pub record_done : Node → CaptureRecord → Node
 record_done n read = given_to read (moved_to read.sec (counts_record n))
 
 -- ---- all records
 
--- How far records were done: where the node stands, and the two seconds of a gap that is too long, where one is.
+-- How far records were processed: the state of the node, and the two seconds of a gap that is too long, if there is
+-- one.
 pub record Reached : Type 0 where
   pub node : Node
   pub gap : Option (ℕ × ℕ)
@@ -204,7 +206,7 @@ abbrev pub node_at_end : Tally → Option CaptureFault → Status × List ℕ
 node_at_end t None = node_done t
 node_at_end t (Some fault) = refused_by t.records fault
 
--- How a report ends where no gap was too long: a fault of the reader comes before the limit.
+-- How a report ends if no gap was too long: a parser error takes precedence over the limit.
 abbrev pub node_end : Bool → Tally → Stage → List ℕ → Status × List ℕ
 node_end short t (Refused fault) octets = refused_by t.records fault
 node_end true t HeaderToCome octets = node_at_end t (end_in HeaderToCome octets)
@@ -226,12 +228,12 @@ verdict_on short reading reached = node_ends reached.node (ending short reading 
 abbrev pub node_answer_of : Bool → RouterConf → List CaptureRecord × Reading → Verdict
 node_answer_of short r read = verdict_on short read.1 (records_reach (first_node r) read.0)
 
--- The status and both texts of a capture, at the router with that configuration. A capture has at most 268,435,456 octets; of a
--- longer one the records are read that are whole within them.
+-- The status and both texts of a capture, at the router with that configuration. A capture has at most 268,435,456
+-- octets; of a longer one the records are read that are complete within them.
 unfoldable pub node_answer : RouterConf → List ℕ → Verdict
 node_answer r capture = node_answer_of (is_within capture) r (drained (fed unread (within_limit capture)))
 
--- how far the records were done that are whole in octets behind which the source failed
+-- how far the records were processed that are complete in octets after which the source failed
 abbrev pub node_reached : RouterConf → List ℕ → Reached
 node_reached r octets = records_reach (first_node r) (drained (fed unread octets)).0
 
@@ -239,9 +241,9 @@ node_reached r octets = records_reach (first_node r) (drained (fed unread octets
 unfoldable pub node_cut : RouterConf → List ℕ → Verdict
 node_cut r octets = node_ends (node_reached r octets).node (ReadFault, [])
 
--- ---- captures that are done to their end
+-- ---- captures that are processed to their end
 
--- from one record to the next the clock isn't moved on by more than 65,535 seconds
+-- from one record to the next the clock does not advance by more than 65,535 seconds
 abbrev pub later : Option ℕ → ℕ → ℕ
 later None sec = sec
 later (Some clock) sec = max clock sec
@@ -250,7 +252,7 @@ abbrev pub HasNoGap : Option ℕ → List CaptureRecord → Type 0
 HasNoGap clock [] = Unit {0}
 HasNoGap clock (read ∷ more) = (gap_at clock read.sec ≡ None) × HasNoGap (Some (later clock read.sec)) more
 
--- octets that are a capture, and not too many, without a gap that is too long
+-- octets that are a capture within the size limit, without a gap that is too long
 pub record IsReplayable (input : List ℕ) : Type 0 where
   pub short : length input ≤ CAPTURE_LIMIT
   pub records : List CaptureRecord

@@ -1,4 +1,4 @@
--- What is owed at a node on the records of a capture from some record on.
+-- What remains to be produced at a node for a capture from some record on.
 use Rattle.std.specs.Prelude.{ℕ, ◌≡◌, List, [], ◌++◌, Option, Some, None, refl}
 use Rattle.wire_base.specs.declared.conf.RouterConf.{RouterConf}
 use Rattle.wire_base.specs.declared.status.Status.{Status}
@@ -15,22 +15,22 @@ use Rattle.command_drive.specs.declared.items.Close.TheVariants as close
 use Rattle.command_node.specs.declared.node_command.tally.Tally.{Tally}
 use Rattle.command_node.specs.NodeRun.{Node, first_node, Reached, records_reach, gap_refused, node_done, node_ends, node_answer, node_reached}
 
--- a node as one of a domain starts
+-- a node that starts as one of a domain
 pub record StartsAs (conf : Option RouterConf) (now : Node) : Type 0 where
   pub at : conf ≡ Some now.control.conf
   pub fresh : now ≡ first_node now.control.conf
 
--- what a node would be with those fronts before both texts
+-- what a node would be with those prefixes before both texts
 abbrev pub past : (frames report : List ℕ) → Node → Node
 past frames report n = record n { frames = frames ++ n.frames; report = report ++ n.report }
 
--- and without texts, as it stands between records
+-- and without texts, as its state is between records
 abbrev pub bare : Node → Node
 bare n = record n { frames = []; report = [] }
 
 -- ---- from some record on
 
--- how the report ends, at a gap that is too long or behind the last record
+-- how the report ends, at a gap that is too long or after the last record
 abbrev pub end_by : Behind → Tally → Option (ℕ × ℕ) → Status × List ℕ
 end_by how t (Some gap) = gap_refused t.records gap
 end_by (Closed close.Ended) t None = node_done t
@@ -49,7 +49,7 @@ pub nothing_cut : (n : Node) → owed n [] Cut ≡ nothing_more
 unfolding records_reach
 nothing_cut n = refl
 
--- ---- on all octets of a capture, and on those behind which a read failed
+-- ---- on all octets of a capture, and on those after which a read failed
 
 -- A gap that is too long, or an error in the capture, ends the report all the same.
 abbrev pub cut_end : Stage → Tally → Option (ℕ × ℕ) → Status × List ℕ

@@ -1,4 +1,4 @@
-//! The command `node` once the domain file is read: one router of the domain on a capture.
+//! The command `node` after the domain file was read: one router of the domain on a capture.
 ghost use Rattle.std.specs.Prelude.{◌≡◌, ◌⊎◌, ◌<◌, ◌≢◌, ℕ, List, Some, None, false, length, IfSome};
 ghost use Rattle.std.specs.List.{position};
 ghost use Rattle.std.specs.Io.KnownBytes.{IsAtEnd, Consumes};
@@ -17,7 +17,7 @@ use command_drive::deliver;
 use std::alloc::Global;
 use wire_base::{Domain, RouterConf, Sink, Source, Status};
 
-/// The line that is reported where the word that names the router names none.
+/// The line that is reported if the argument for the router names none.
 const NO_ROUTER: &[u8] = b"refused conf 6 Reference words[2]\n";
 
 fn is_named(router: &RouterConf, name: &[u8]) -> bool
@@ -33,7 +33,7 @@ fn position_of(routers: &[RouterConf], name: &[u8]) -> Option<usize>
     routers.iter().position(|router| is_named(router, name))
 }
 
-/// The place in the domain of the router of that name.
+/// Returns the index in the domain of the router with that name.
 fn place_of(domain: &Domain, name: &[u8]) -> Option<u16>
     ensures value { result ≡ position (has_name name.now) domain.now.routers }
     ensures within { IfSome result (λ place. place < length domain.now.routers) }
@@ -42,10 +42,10 @@ fn place_of(domain: &Domain, name: &[u8]) -> Option<u16>
     Some(place as u16)
 }
 
-/// What is done on the words of `node` once the domain file is read: where the domain has a router of that name, it runs on the
-/// capture; else the report says that there is none, and capture and frames are as before. Each fault is answered only where its
-/// count rose. Behind a capture whose source failed, the records that are whole in what was taken are done and reported; at a fault
-/// of a sink, and on out of memory, a prefix of each output is written.
+/// Runs `node` after the domain file was read. If the domain has a router with that name, the router runs on the
+/// capture. Otherwise the report states that there is none, and the capture and the frames are untouched. An I/O error
+/// is returned only if its count rose. After a read error, the records that are complete in what was read are processed
+/// and reported. After a write error, or out of memory, a prefix of each output is written.
 pub fn node_in<S: Source, C: Sink, R: Sink>(
     alloc: Global,
     domain: &Domain,

@@ -1,4 +1,4 @@
-//! The domain file, which is read whole.
+//! The domain file, which is read as a whole.
 ghost use Rattle.std.specs.Prelude.{◌≡◌, ◌≢◌, ◌<◌, ◌≤◌, IfOk, IfErr, OnOk, length};
 ghost use Rattle.std.specs.Io.KnownBytes.{IsAtEnd};
 ghost use Rattle.wire_base.specs.Causes.{last_count};
@@ -16,9 +16,9 @@ use wire_base::{Domain, M, Memory, Octets, Source, Status};
 /// Why there is no domain.
 #[derive(Drop)]
 pub enum NoDomain {
-    /// The file breaks a rule, and this is the line that says so.
+    /// The file breaks a rule, and this is the line that reports it.
     Refused(Octets),
-    /// The source failed, or memory ran out.
+    /// A read failed, or memory ran out.
     Stopped(Status),
 }
 
@@ -38,7 +38,7 @@ impl From<Status> for NoDomain {
     }
 }
 
-/// All that a source holds; or its front, where that alone is too long for a domain file.
+/// Returns all that a source holds, or a prefix if that already is too long for a domain file.
 fn read_whole<D: Source>(alloc: Global, conf: &mut D) -> Result<Octets, Status>
     requires faults { D.faults conf.old < last_count }
     ensures text { IfOk result (λ text. ReadsAs (D.left conf.old) text) }
@@ -60,7 +60,8 @@ fn read_whole<D: Source>(alloc: Global, conf: &mut D) -> Result<Octets, Status>
     Ok(text)
 }
 
-/// The line on a file that breaks a rule: `refused conf N NAME PATH`. Want of memory is passed on.
+/// Returns the line for a file that breaks a rule: `refused conf N NAME PATH`. If `why` is out of memory, that is
+/// returned.
 fn refused_line(alloc: Global, why: &ConfFault) -> M<Octets>
     ensures known { OnOk result (why.now ≢ faults.Memory) }
     ensures text { IfOk result (λ line. line ≡ conf_refused_text why.now) }
@@ -79,8 +80,8 @@ fn refused_line(alloc: Global, why: &ConfFault) -> M<Octets>
     Ok(line)
 }
 
-/// The domain that a source's file says; or the line that refuses the file, at the first rule that it breaks; or the fault of the
-/// source or out of memory that stopped the reading. What is accepted was read to its end.
+/// Returns the domain that a source's file describes. The error is the line that reports the first rule that the file
+/// breaks, or the read error or out of memory that stopped the reading. A file that is accepted was read to its end.
 pub fn domain_in<D: Source>(alloc: Global, conf: &mut D) -> Result<Domain, NoDomain>
     requires faults { D.faults conf.old < last_count }
     ensures domain { IfOk result (λ domain. Says (D.left conf.old) domain) }

@@ -1,8 +1,9 @@
-//! The command `node`: one router of a domain on the records of a capture; and the domain file, which names that router.
+//! The command `node`: one router of a domain on the records of a capture; and the domain file, which names that
+//! router.
 //!
-//! It stands on `domain_conf`, `command_drive` and one router, and promises that a domain is the one that the file contains and an error
-//! the first rule that it breaks, that the status and the output of `node` are those of the router of that name on the capture, that
-//! each I/O error has its cause, and what an aborted run leaves.
+//! It depends on `domain_conf`, `command_drive` and one router. It promises that a domain is the one that the file
+//! contains and an error the first rule that it breaks; that the status and the output of `node` are those of the
+//! router with that name on the capture; that each I/O error has its cause; and what an aborted run leaves.
 #![tactic(auto)]
 
 mod by_name;

@@ -19,7 +19,7 @@ use tally::Tally;
 use texts::{push_done, push_gap};
 use wire_base::{Domain, M, Memory, Octets, RouterConf, Sink, Source, Status};
 
-/// Whether records can be counted on; there is no memory for more than can be counted.
+/// Checks that the record counter can be incremented. An overflow is reported as out of memory.
 fn countable(records: u64) -> M<()>
     ensures { OnOk result (records < 2 ^ 63) }
 {
@@ -29,7 +29,7 @@ fn countable(records: u64) -> M<()>
     Err(Memory)
 }
 
-/// Ends the report where there is no further record.
+/// Ends the report after the last record.
 fn conclude(out: &mut Octets, close: Close, tally: Tally) -> M<Status>
     requires { tally.records < 2 ^ 63 }
     ensures { IfOk result (λ ended. (ended, out.new) ≡ behind out.old (end_by (Closed close) tally None)) }
@@ -77,7 +77,7 @@ impl Command<CapRecord> for Node {
     ghost cut = { λ s none. nothing_cut s };
 }
 
-/// The configuration of the router at an index of a domain.
+/// Returns the configuration of the router at an index of a domain.
 fn conf_at(domain: &Domain, router: u16) -> M<RouterConf>
     requires { router < length domain.now.routers }
     ensures at { IfOk result (λ conf. slice_get domain.now.routers router ≡ Some conf) }
@@ -86,7 +86,7 @@ fn conf_at(domain: &Domain, router: u16) -> M<RouterConf>
     domain.routers.as_slice()[usize::from(router)].copy()
 }
 
-/// The router at an index of a domain, as it starts.
+/// Returns the router at an index of a domain, just started.
 fn start(alloc: Global, domain: &Domain, router: u16) -> M<Node>
     requires { router < length domain.now.routers }
     ensures { IfOk result (λ node. StartsAs (slice_get domain.now.routers router) node) }
@@ -94,15 +94,16 @@ fn start(alloc: Global, domain: &Domain, router: u16) -> M<Node>
     Node::new(alloc, conf_at(domain, router)?)
 }
 
-/// All that the program does for the arguments `node CONF ROUTER CAPTURE FRAMES`, once the domain file is read and the router is
-/// found: the router at that index of the domain starts, receives the frames of the capture as they came in on its interfaces, one
-/// second after the other passes between them, and what it sends is written as a capture; what it delivers and drops is reported.
-/// Both are written from time to time, so that neither is held whole.
+/// Runs the command `node CONF ROUTER CAPTURE FRAMES` once the domain file is read and the router is found. The router
+/// at that index of the domain starts and receives the frames of the capture on the interfaces that they arrived on,
+/// while the seconds between them pass one by one. What it sends is written as a capture; what it delivers and drops is
+/// reported. Both outputs are written from time to time, so that neither is held in memory as a whole.
 ///
-/// A record came in on the interface whose peer has the frame's source address. Ignored are records of other sources, of fewer than 12
-/// or more than 65,000 octets, and those that were captured in part; and frames of another class, hellos and PDUs of another type.
-/// The first record sets the clock; the seconds of a later one move it on by at most 65,535 seconds, and a time that goes back moves
-/// nothing. In each second the router's LSDB ages, and after every fifth it sends what is due on each interface.
+/// A record arrived on the interface whose peer has the frame's source address. Ignored are records of other sources,
+/// of fewer than 12 or more than 65,000 octets, and those that were captured only in part; and frames of another class,
+/// hellos and PDUs of another type. The first record sets the clock. The timestamp of a later one advances it by at
+/// most 65,535 seconds, and a timestamp that goes back does not change it. In each second the router's LSDB ages, and
+/// after every fifth it sends what is due on each interface.
 pub fn node<S: Source, C: Sink, R: Sink>(
     alloc: Global,
     domain: &Domain,

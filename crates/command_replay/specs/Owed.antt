@@ -1,5 +1,5 @@
--- What a replay owes from here on: a line's events are reported, and what is owed behind them follows where none of them is
--- refused.
+-- What a replay must produce from here on: the events of a line are reported, and if none of them is rejected, what
+-- must be produced after them follows.
 use Rattle.std.specs.Prelude.{ℕ, ◌+◌, zero, suc, List, [], ◌∷◌, Option, Some, None, Result, Ok, Err}
 use Rattle.run_texts.specs.declared.texts.Texts.{Texts}
 use Rattle.wire_base.specs.declared.status.Status.TheVariants.{Done, InputRefused}
@@ -18,11 +18,11 @@ use Rattle.command_drive.specs.declared.command.Flow.{Flow}
 use Rattle.command_drive.specs.Reading.{Behind, Closed, Cut}
 use Rattle.command_drive.specs.Doing.{Did, told, nothing_more}
 
--- what is owed from a state of the domain on
+-- what remains to be produced from a state of the domain on
 abbrev pub Rest : Type 0
 Rest = ReplayState → Verdict
 
--- a domain at work of which nothing is reported yet, and one whose reports are let go
+-- a running domain of which nothing is reported yet, and one whose reports are discarded
 abbrev pub unsaid : ReplayState → Telling
 unsaid s = with_texts s (record { frames = []; report = [] })
 
@@ -39,11 +39,11 @@ abbrev pub unless_refused : ℕ → Option EventFault → Verdict → Verdict
 unless_refused line None owed = owed
 unless_refused line (Some why) owed = rejected (event_refused_text line why)
 
--- what the events of a line report, and behind it the line that is refused or the rest
+-- what the events of a line report, followed by the line that is rejected or the rest
 abbrev pub told_then : ℕ → Told → Rest → Verdict
 told_then line t rest = told t.telling.report t.telling.frames (unless_refused line t.refused (rest (state_of t.telling)))
 
--- so many rounds, one after the other
+-- that many rounds, one after the other
 abbrev pub rounds_owe : ℕ → (rounds : ℕ) → ReplayState → Rest → Verdict
 rounds_owe line zero s rest = rest s
 rounds_owe line (suc rounds) s rest = told_then line (tells_line line (unsaid s) (Settle 1)) (λ next. rounds_owe line rounds next rest)
@@ -71,12 +71,13 @@ lines_owe names n (text ∷ more) behind s = read_owes (n + 1) (schedule_line te
 
 -- ---- what a call does
 
--- The events of a line were done: the outputs grew by what these report, or the run ends with the one that is refused.
+-- The events of a line were executed: the outputs gained what these report, or the run ends with the one that is
+-- rejected.
 abbrev pub Does : (T : Type 0) → Flow → ℕ → Told → (now : ReplayState) → (texts texts_now : Texts) → Type 0
 Does T how line t now texts texts_now =
     (rest : List T → Behind → Rest) → Did how InputRefused (λ items behind. told_then line t (rest items behind)) (λ items behind. rest items behind now) texts texts_now
 
--- A line was begun: all of it is done, or rounds of it are left.
+-- A line was begun: all of it is executed, or rounds of it remain.
 abbrev pub Begins : (T : Type 0) → Flow → ℕ → Line → (s now : ReplayState) → (rounds : ℕ) → (texts texts_now : Texts) → Type 0
 Begins T how line said s now rounds texts texts_now =
     (rest : List T → Behind → Rest) → Did how InputRefused (λ items behind. said_owes line said s (rest items behind)) (λ items behind. rounds_owe line rounds now (rest items behind)) texts texts_now

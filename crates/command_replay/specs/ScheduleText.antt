@@ -1,4 +1,4 @@
--- A schedule: the texts of a domain's run over its lines, and how they end.
+-- A schedule: the texts of a domain's run of its lines, and how they end.
 use Rattle.std.specs.Prelude.{ℕ, ◌+◌, false, List, [], ◌++◌, length, Option, Some, None}
 use Rattle.wire_base.specs.declared.status.Status.{Status}
 use Rattle.wire_base.specs.declared.status.Status.TheVariants.{Done, InputRefused, ReadFault}
@@ -11,8 +11,8 @@ use Rattle.command_drive.specs.Reading.{Ends, Fails}
 use Rattle.command_drive.specs.Driving.{Meaning}
 use Rattle.command_drive.specs.Texts.{Close, Ended, Longer, Cut, close_of, is_short, lines_within}
 
--- How the report on so many lines ends: where one was refused, at the end of the schedule, or at the line that passes the limit.
--- Where the schedule's source failed, nothing is said.
+-- How the report on that many lines ends: where one was rejected, at the end of the schedule, or at the line that
+-- exceeds the limit. If the schedule's source failed, nothing is reported.
 abbrev pub ending : Close → (lines : ℕ) → Run → Option (ℕ × Refusal) → Status × List ℕ
 ending close lines r (Some refused) = (InputRefused, refusal_text refused.0 refused.1)
 ending Ended lines r None = (Done, run_done_text r lines)
@@ -23,11 +23,11 @@ ending Cut lines r None = (ReadFault, [])
 abbrev pub ends_so : DomainConf → Run → Status × List ℕ → Verdict
 ends_so d r end = record { status = end.0; report = run_text d r ++ end.1; frames = capture_text d r }
 
--- what so many lines reached, with the end of the report
+-- what that many lines reached, with the end of the report
 abbrev pub answer_by : Close → DomainConf → (lines : ℕ) → Reached → Verdict
 answer_by close d lines reached = ends_so d reached.run (ending close lines reached.run reached.refused)
 
--- the status and the texts of a schedule that has those lines and closes so
+-- the status and the texts of a schedule that has those lines and closes in that way
 abbrev pub answer_to : Close → DomainConf → List (List ℕ) → Verdict
 answer_to close d lines = answer_by close d (length lines) (schedule_reaches d lines)
 
@@ -35,11 +35,11 @@ answer_to close d lines = answer_by close d (length lines) (schedule_reaches d l
 unfoldable pub schedule_answer : DomainConf → List ℕ → Verdict
 schedule_answer d schedule = answer_to (close_of (is_short schedule)) d (lines_within schedule)
 
--- those of the lines that are whole in octets behind which the source failed
+-- those of the complete lines in octets after which the source failed
 unfoldable pub schedule_cut : DomainConf → List ℕ → Verdict
 schedule_cut d octets = answer_to Cut d (lines_in false octets)
 
--- what a schedule means, whether its source ends behind those octets or fails
+-- the verdict on a schedule, whether its source ends after those octets or fails
 abbrev pub schedule_means : DomainConf → Meaning
 schedule_means d Ends octets = schedule_answer d octets
 schedule_means d Fails octets = schedule_cut d octets

@@ -1,7 +1,8 @@
-//! The command `replay` once its domain file is read: a domain over a schedule, whose capture and report are written out on the way.
+//! The command `replay` after its domain file was read: a domain that runs a schedule, whose capture and report are
+//! written during the run.
 //!
-//! It stands on `domain_replay` and `command_drive`, and promises that the status and both outputs are those of the schedule, that
-//! each I/O error has its cause, and what a stop leaves.
+//! It depends on `domain_replay` and `command_drive`. It promises that the status and both outputs are those of the
+//! schedule, that each I/O error has its cause, and what an aborted run leaves.
 #![tactic(auto)]
 
 mod replay_command;

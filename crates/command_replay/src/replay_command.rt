@@ -1,4 +1,4 @@
-//! The command `replay`: a domain over a schedule.
+//! The command `replay`: a domain that runs a schedule.
 ghost use Rattle.std.specs.Prelude.{◌≡◌};
 ghost use Rattle.wire_base.specs.declared.status.Status.TheVariants as status;
 ghost use Rattle.command_drive.specs.Driving.{MayRise, Drives};
@@ -10,12 +10,13 @@ use pcap_frames::write_cap_header;
 use std::alloc::Global;
 use wire_base::{Domain, Sink, Source, Status};
 
-/// All that the program does for the arguments `replay CONF SCHEDULE FRAMES`, once the domain file is read: it does the schedule's
-/// lines in the domain, up to its end or to the first line that is rejected, and writes the capture of what the routers sent and the
-/// report of what they delivered and dropped.
+/// Runs the command `replay CONF SCHEDULE FRAMES` after the domain file was read: executes the schedule's lines in the
+/// domain, up to the end of the schedule or to the first line that is rejected, and writes the capture of what the
+/// routers sent and the report of what they delivered and dropped.
 ///
-/// The status and both outputs are those of the schedule. After a read error the lines that are whole in what was read are done and
-/// reported; at a write error, and where memory runs out, a prefix of each output is written. Each error has its cause.
+/// The status and both outputs are those of the schedule. After a read error the lines that are complete in what was
+/// read are executed and reported. After a write error, or if an allocation fails, a prefix of each output is written.
+/// Each error has its cause.
 pub fn play<S: Source, C: Sink, R: Sink>(
     alloc: Global,
     domain: Domain,

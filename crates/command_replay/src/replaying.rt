@@ -14,7 +14,7 @@ use std::alloc::Global;
 use wire_base::limits::MOST_ROUTERS;
 use wire_base::{Domain, M, Name, Octets, Rows, Status};
 
-/// The names of a domain's routers, by index.
+/// Returns the names of a domain's routers, by index.
 fn names_in(alloc: Global, domain: &Domain) -> M<Rows<Name>>
     ensures names { IfOk result (λ names. names ≡ names_of domain.now) }
     ensures few { IfOk result (λ names. length names ≤ MOST_ROUTERS) }
@@ -26,8 +26,8 @@ fn names_in(alloc: Global, domain: &Domain) -> M<Rows<Name>>
     Ok(names)
 }
 
-/// A schedule under way in a domain: the names of the domain's routers, the number of the line that was begun last, and the
-/// rounds of it that are left.
+/// A schedule in progress in a domain: the names of the domain's routers, the number of the line that was begun last,
+/// and the rounds of it that remain.
 #[derive(Drop)]
 pub struct Replaying {
     replay: Replay,
@@ -39,7 +39,7 @@ pub struct Replaying {
 }
 
 impl Replaying {
-    /// A domain at its start, before the first line.
+    /// Returns a domain that has just started, before the first line.
     pub fn new(alloc: Global, domain: Domain) -> M<Self>
         ensures replay { IfOk result (λ new. new.replay ≡ first_state true domain) }
         ensures names { IfOk result (λ new. new.names ≡ names_of domain) }
@@ -56,7 +56,7 @@ impl Replaying {
         })
     }
 
-    /// Does the events of the line that was begun; the first one that isn't allowed ends the run.
+    /// Executes the events of the line that was begun. The first one that is not allowed ends the run.
     fn do_events(&mut self, alloc: Global, said: &Line, texts: &mut Texts) -> M<Flow>
         requires fits { LineFits (length self.old.replay.world.domain.routers) said.now }
         requires once { LineNamesOnce said.now }
@@ -73,7 +73,7 @@ impl Replaying {
         }
     }
 
-    /// Does what the line says that was begun. Rounds are left to `more`, since a round of a large domain reports much.
+    /// Executes the line that was begun. Rounds are left to `more`, since a round of a large domain reports much.
     fn begin(&mut self, alloc: Global, said: &Line, texts: &mut Texts) -> M<Flow>
         requires fits { LineFits (length self.old.replay.world.domain.routers) said.now }
         requires once { LineNamesOnce said.now }
@@ -140,7 +140,7 @@ impl Command<Octets> for Replaying {
                 push_too_long(alloc, &mut texts.report, lines + 1)?;
                 Ok(Status::InputRefused)
             }
-            // No text of lines is broken.
+            // A text of lines is never invalid as a whole.
             Close::Broken(_) => Ok(Status::InputRefused),
         }
     }

@@ -10,16 +10,16 @@ abbrev pub if_table : Data → Option Data
 if_table (table ms) = Some (table ms)
 if_table _ = None
 
--- the items of an array, where all of them are tables
+-- the items of an array, if all of them are tables
 abbrev pub tables_in : Items → Option (List Data)
 tables_in no_items = Some []
 tables_in (item d ds) = option_and_then (λ t. option_map (λ ts. t ∷ ts) (tables_in ds)) (if_table d)
 
--- the tables of a value, where it is an array of tables
+-- the tables of a value, if it is an array of tables
 abbrev pub tables_of : Data → Option (List Data)
 tables_of d = option_and_then tables_in (as_array d)
 
--- at most so many entries
+-- at most that many entries
 abbrev pub if_few : List ℕ → ℕ → List Data → Result (List Data) ConfFault
 if_few name most ds = if nat_lt most (length ds) then Err (fault.Limit name) else Ok ds
 
@@ -31,7 +31,7 @@ unfoldable pub array_at : List ℕ → ℕ → Option Data → Result (List Data
 array_at name most None = Ok []
 array_at name most (Some d) = array_in name most d
 
--- The entries of an array, in their order: each is read by what the earlier ones gave, its place and its table.
+-- The entries of an array, in order. Each is read from the entries before it, its index and its table.
 module _ {X : Type 0} (read : List X → ℕ → Data → Result X ConfFault) where
   unfoldable pub entries_from : List X → ℕ → List Data → Result (List X) ConfFault
   entries_from earlier i [] = Ok earlier

@@ -1,4 +1,4 @@
--- The configurations of the routers, from the entries of the arrays.
+-- The configurations of the routers, built from the entries of the arrays.
 use Rattle.std.specs.Prelude.{ℕ, ◌+◌, ◌≤◌, Bool, ◌==◌, ◌&&◌, ◌||◌, nat_lt, List, [], ◌∷◌, length, map, filter, slice_get, Option, Some, None, Result, Ok, Err, codes, if◌then◌else◌}
 use Rattle.std.specs.List.{AllByRecursion, filter_map}
 use Rattle.wire_base.specs.declared.limits.TheConstants.{MOST_ENDS, MOST_SUB_OCTETS}
@@ -40,30 +40,30 @@ sub_of labels b = record { sd = b.sd; id = b.id; ranges = ranges_of labels b.rou
 unfoldable pub subs_of : List BierEntry → List LabelsEntry → ℕ → List OwnSub
 subs_of biers labels router = map (sub_of labels) (filter (λ b. b.router == router) biers)
 
--- ---- ends of a router
+-- ---- interfaces of a router
 
 abbrev pub system_found : Option RouterEntry → SystemId
 system_found None = system_of (0 ∷ 0 ∷ 0 ∷ 0 ∷ 0 ∷ 0 ∷ [])
 system_found (Some r) = r.system
 
--- the system of the router at a place; each place that a link names is a router's
+-- the system ID of the router at an index; each index that a link names is a router's
 abbrev pub system_at : List RouterEntry → ℕ → SystemId
 system_at routers i = system_found (slice_get routers i)
 
--- a router's end of a link, where it has one
+-- a router's interface on a link, if the link joins that router
 abbrev pub end_of : List RouterEntry → ℕ → LinkEntry → Option End
 end_of routers i l =
     if l.a == i then Some (record { peer = system_at routers l.b; peer_mac = l.mac_b; own_mac = l.mac_a; metric = l.metric_ab }) else
     if l.b == i then Some (record { peer = system_at routers l.a; peer_mac = l.mac_a; own_mac = l.mac_b; metric = l.metric_ba }) else
     None
 
--- the ends of a router, in the order of the links
+-- the interfaces of a router, in the order of the links
 unfoldable pub ends_of : List RouterEntry → List LinkEntry → ℕ → List End
 ends_of routers links i = filter_map (end_of routers i) links
 
 -- ---- routers
 
--- the configuration of the router at place i
+-- the configuration of the router at index i
 abbrev pub conf_of : Level → List ℕ → Entries → ℕ → RouterEntry → RouterConf
 conf_of level area e i r =
     record {
@@ -79,7 +79,7 @@ conf_of level area e i r =
       ends = ends_of e.routers e.links i;
     }
 
--- those of the routers from place i on
+-- those of the routers from index i on
 abbrev pub confs_from : Level → List ℕ → Entries → ℕ → List RouterEntry → List RouterConf
 confs_from level area e i [] = []
 confs_from level area e i (r ∷ rs) = conf_of level area e i r ∷ confs_from level area e (i + 1) rs
@@ -89,18 +89,18 @@ pub record HasFewSubs (r : RouterConf) : Type 0 where
   pub subs : length r.subs ≤ 8
   pub ranges : AllByRecursion (λ s. length s.ranges ≤ 7) r.subs
 
--- a router has at most 64 links, and its sub-domains have room in its own LSP
+-- whether a router has more than 64 links, or sub-domains that do not fit its own LSP
 abbrev pub is_too_large : RouterConf → Bool
 is_too_large r = nat_lt MOST_ENDS (length r.ends) || nat_lt MOST_SUB_OCTETS (sub_octets r.subs)
 
--- no router from place i on is too large
+-- no router from index i on is too large
 unfoldable pub within_limits : ℕ → List RouterConf → Result (Unit {0}) ConfFault
 within_limits i [] = Ok tt
 within_limits i (r ∷ rs) = do
   _ ← refuse_if (is_too_large r) (fault.Limit (place_path (codes "router") i))
   within_limits (i + 1) rs
 
--- the domain of those routers
+-- the domain with those routers
 abbrev pub with_limits : List RouterConf → Entries → Result DomainConf ConfFault
 with_limits confs e = do
   _ ← within_limits 0 confs

@@ -17,7 +17,7 @@ use Rattle.domain_conf.specs.Routers.{known_router}
 abbrev pub is_member : ℕ → ℕ → BierEntry → Bool
 is_member router sd b = (b.router == router) && (b.sd == sd)
 
--- a router is in a sub-domain once
+-- a router is in a sub-domain at most once
 abbrev pub new_bier : (List ℕ → List ℕ) → List BierEntry → BierEntry → Result BierEntry ConfFault
 new_bier at earlier b = do
   _ ← refuse_if (list_any (is_member b.router b.sd) earlier) (fault.Duplicate (at (codes "sd")))

@@ -1,4 +1,4 @@
--- What a domain file says, or the first rule that it breaks.
+-- What a domain file describes, or the first rule that it breaks.
 use Rattle.std.specs.Prelude.{ℕ, ◌==◌, nat_lt, List, [], ◌∷◌, length, Option, Some, None, Result, Ok, Err, codes, if◌then◌else◌}
 use Rattle.std.specs.Str.Lossy.{utf8_valid_len}
 use Rattle.toml.specs.Data.{Data, Members, get_member, as_integer, as_str}
@@ -42,14 +42,14 @@ known_top top = refuse_key (λ k. k) (unknown_in top_keys (keys_of top))
 abbrev pub level_at : Option Data → Result Level ConfFault
 level_at found = or_default Two (field as_integer level_in (codes "level")) found
 
--- where the file has no area, it is 49.0001
+-- if the file has no area, it is 49.0001
 abbrev pub area_at : Option Data → Result (List ℕ) ConfFault
 area_at found = or_default (73 ∷ 0 ∷ 1 ∷ []) (field as_str area_in (codes "area")) found
 
 abbrev pub array_of : List ℕ → ℕ → Members → Result (List Data) ConfFault
 array_of name most top = array_at name most (get_member name top)
 
--- The arrays, each an array of tables with at most so many entries. There is a router.
+-- The arrays, each an array of tables with at most its limit of entries. There is at least one router.
 unfoldable pub arrays_of : Members → Result Arrays ConfFault
 arrays_of top = do
   subdomains ← array_of (codes "subdomain") 8 top
@@ -72,7 +72,7 @@ entries_of arrays = do
   links ← entries_from (link_at routers) [] 0 arrays.links
   Ok (record { kinds = kinds; table = table; routers = routers; biers = biers; labels = labels; links = links })
 
--- what the top table says
+-- what the top table describes
 unfoldable pub domain_of_table : Members → Result DomainConf ConfFault
 domain_of_table top = do
   _ ← known_top top
@@ -82,14 +82,14 @@ domain_of_table top = do
   entries ← entries_of arrays
   domain_from level area entries
 
--- the table that a file is, where it is a TOML document in UTF-8
+-- the table that a file contains, if it is a TOML document in UTF-8
 abbrev pub document_of : List ℕ → Option Members
 document_of bytes = if utf8_valid_len bytes == length bytes then parse_document bytes else None
 
 abbrev pub document_read : List ℕ → Result Members ConfFault
 document_read bytes = or_fault fault.Toml (document_of bytes)
 
--- What a file of at most 4 MiB says, or the first rule that it breaks: the rules of the document come first, then
+-- What a file of at most 4 MiB describes, or the first rule that it breaks. The rules of the document come first, then
 -- those of the top keys, then those of each array as a whole, then entry by entry, and last those of whole routers.
 unfoldable pub domain_of : List ℕ → Result DomainConf ConfFault
 domain_of bytes =

@@ -1,4 +1,4 @@
--- The number, the name and the path that a report gives of a broken rule.
+-- The number, the name and the path that a report has for a broken rule.
 use Rattle.std.specs.Prelude.{ℕ, List, [], ◌∷◌, codes}
 use Rattle.domain_conf.specs.declared.fault.ConfFault.{ConfFault}
 use Rattle.domain_conf.specs.declared.fault.ConfFault.TheVariants.{Toml, Field, Duplicate, Range, Labels, Reference, Limit, Memory}
@@ -24,7 +24,7 @@ name_of (Reference path) = codes "Reference"
 name_of (Limit path) = codes "Limit"
 name_of Memory = codes "Memory"
 
--- the place that a fault names, `-` for the whole file
+-- the location that an error names, `-` for the whole file
 abbrev pub path_of : ConfFault → List ℕ
 path_of Toml = 45 ∷ []
 path_of (Field path) = path

@@ -1,4 +1,4 @@
--- The keys of a table: their paths, those that aren't known, and their values.
+-- The keys of a table: their paths, the unknown ones, and their values.
 use Rattle.std.specs.Prelude.{ℕ, Bool, true, false, not, List, [], ◌∷◌, ◌++◌, filter, Option, Some, None, option_and_then, Result, Ok, Err, codes, if◌then◌else◌}
 use Rattle.std.specs.Fmt.{decimal}
 use Rattle.std.specs.List.{list_any}
@@ -23,7 +23,7 @@ place_path array i = array ++ (91 ∷ (decimal i ++ (93 ∷ [])))
 unfoldable pub entry_path : List ℕ → ℕ → List ℕ → List ℕ
 entry_path array i key = array ++ (91 ∷ (decimal i ++ (93 ∷ 46 ∷ key)))
 
--- ---- keys that aren't known
+-- ---- unknown keys
 
 abbrev pub keys_of : Members → List (List ℕ)
 keys_of no_members = []
@@ -40,17 +40,17 @@ keys_in d = keys_found (as_table d)
 abbrev pub is_among : List (List ℕ) → List ℕ → Bool
 is_among known key = list_any (λ k. bytes_eq k key) known
 
--- of a key and perhaps another, the one that comes first in the order of octets
+-- of a key and perhaps another, the one that is first in octet order
 abbrev pub lesser : List ℕ → Option (List ℕ) → List ℕ
 lesser k None = k
 lesser k (Some l) = if is_lt (slice_cmp nat_cmp l k) then l else k
 
--- the key that comes first in the order of octets
+-- the key that is first in octet order
 abbrev pub least : List (List ℕ) → Option (List ℕ)
 least [] = None
 least (k ∷ ks) = Some (lesser k (least ks))
 
--- the least key that isn't known
+-- the least unknown key
 unfoldable pub unknown_in : List (List ℕ) → List (List ℕ) → Option (List ℕ)
 unknown_in known keys = least (filter (λ k. not (is_among known k)) keys)
 
@@ -58,14 +58,14 @@ abbrev pub refuse_key : (List ℕ → List ℕ) → Option (List ℕ) → Result
 refuse_key at None = Ok tt
 refuse_key at (Some k) = Err (fault.Field (at k))
 
--- an entry has no other keys than these; `at` gives the path of a key
+-- an entry has no keys but these; `at` returns the path of a key
 abbrev pub known_keys : (List ℕ → List ℕ) → List (List ℕ) → Data → Result (Unit {0}) ConfFault
 known_keys at known d = refuse_key at (unknown_in known (keys_in d))
 
 -- ---- the value at a key
 
--- What stands at a key: `kind` gives what a value of the wanted kind holds, and `form` what that stands for. A missing
--- value or one of another kind is the fault Field, and one that hasn't the form is the fault Range.
+-- What is at a key. `kind` returns what a value of the expected kind holds, and `form` what that encodes. A missing
+-- value, or one of another kind, is the error Field. One that is malformed or out of range is the error Range.
 unfoldable pub field : {A B : Type 0} → (Data → Option A) → (A → Option B) → List ℕ → Option Data → Result B ConfFault
 field kind form path found = do
   x ← or_fault (fault.Field path) (option_and_then kind found)
@@ -77,15 +77,15 @@ number low high at key d = field as_integer (nat_within low high) (at key) (get 
 abbrev pub text : {B : Type 0} → (List ℕ → Option B) → (List ℕ → List ℕ) → List ℕ → Data → Result B ConfFault
 text form at key d = field as_str form (at key) (get key d)
 
--- the length of bit strings at the key `bsl`
+-- the BitStringLength at the key `bsl`
 abbrev pub bsl : (List ℕ → List ℕ) → Data → Result Bsl ConfFault
 bsl at d = field as_integer bsl_in (at (codes "bsl")) (get (codes "bsl") d)
 
--- a value that may be missing, in whose place another stands then
+-- a value that may be missing, with its default
 abbrev pub or_default : {B : Type 0} → B → (Option Data → Result B ConfFault) → Option Data → Result B ConfFault
 or_default x read None = Ok x
 or_default x read (Some d) = read (Some d)
 
--- true or false, where it isn't missing
+-- true or false; false if it is missing
 abbrev pub flag : (List ℕ → List ℕ) → List ℕ → Data → Result Bool ConfFault
 flag at key d = or_default false (field as_bool Some (at key)) (get key d)

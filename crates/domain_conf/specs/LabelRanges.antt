@@ -1,4 +1,4 @@
--- The entries of `labels`: the label ranges of routers in sub-domains of kind mpls.
+-- The entries of `labels`: the label ranges of routers in sub-domains with MPLS encapsulation.
 use Rattle.std.specs.Prelude.{ℕ, ◌+◌, Bool, not, ◌==◌, ◌&&◌, ◌||◌, nat_lt, List, [], ◌∷◌, Result, Ok, Err, codes}
 use Rattle.std.specs.List.{list_any}
 use Rattle.toml.specs.Data.{Data}
@@ -19,19 +19,19 @@ use Rattle.domain_conf.specs.Subdomains.{known_sd}
 use Rattle.domain_conf.specs.Routers.{known_router}
 use Rattle.domain_conf.specs.Bier.{is_member}
 
--- whether a router may have labels in a sub-domain: it is in it, and the kind is mpls
+-- whether a router may have labels in a sub-domain: it is in it, and the encapsulation is MPLS
 abbrev pub takes_labels : List SubKind → List BierEntry → ℕ → ℕ → Bool
 takes_labels kinds biers router sd = list_any (is_member router sd) biers && is_mpls (kind_of kinds sd)
 
--- whether another entry has that router, sub-domain and length of bit strings
+-- whether another entry has that router, sub-domain and BitStringLength
 abbrev pub same_labels : LabelsEntry → LabelsEntry → Bool
 same_labels l m = (m.router == l.router) && ((m.sd == l.sd) && same_length l.range m.range)
 
--- whether another entry of the router, in whatever sub-domain, has one of those labels
+-- whether another entry of the router, in any sub-domain, has one of those labels
 abbrev pub takes_label : LabelsEntry → LabelsEntry → Bool
 takes_label l m = (m.router == l.router) && share_label l.range m.range
 
--- A range passes neither the last label of 20 bits (RFC 3032, 2.1) nor into another range of its router.
+-- A range does not exceed the last label of 20 bits (RFC 3032, 2.1), and does not overlap another range of its router.
 abbrev pub new_labels : (List ℕ → List ℕ) → List SubKind → List BierEntry → List LabelsEntry → LabelsEntry → Result LabelsEntry ConfFault
 new_labels at kinds biers earlier l = do
   _ ← refuse_if (not (takes_labels kinds biers l.router l.sd)) (fault.Reference (at (codes "sd")))

@@ -16,12 +16,12 @@ use Rattle.domain_conf.specs.Fields.{entry_path, known_keys, field, number, or_d
 use Rattle.domain_conf.specs.Forms.{mac_of, mac_in}
 use Rattle.domain_conf.specs.Routers.{known_router}
 
--- a place as two octets
+-- an index as two octets
 abbrev pub place_octets : ℕ → List ℕ → List ℕ
 place_octets place rest = (place / 256) ∷ (place % 256) ∷ rest
 
--- the Ethernet address of a router's end toward a peer where the file has none: 02:00, the router's place and the
--- peer's place
+-- the Ethernet address of a router's interface toward a peer if the file has none: 02:00, the router's index and the
+-- peer's index
 unfoldable pub made_mac : ℕ → ℕ → Mac
 made_mac own peer = mac_of (2 ∷ 0 ∷ place_octets own (place_octets peer []))
 
@@ -40,7 +40,8 @@ abbrev pub has_peer_mac : ℕ → Mac → LinkEntry → Bool
 has_peer_mac router mac l =
     ((l.a == router) && bytes_eq l.mac_b.0 mac.0) || ((l.b == router) && bytes_eq l.mac_a.0 mac.0)
 
--- A link joins two different routers, which no other link joins. No router has two peers with one Ethernet address.
+-- A link joins two different routers, which no other link joins. No router has two peers with the same Ethernet
+-- address.
 abbrev pub new_link : (List ℕ → List ℕ) → List LinkEntry → LinkEntry → Result LinkEntry ConfFault
 new_link at earlier l = do
   _ ← refuse_if (l.a == l.b) (fault.Reference (at (codes "b")))
@@ -49,7 +50,7 @@ new_link at earlier l = do
   _ ← refuse_if (list_any (has_peer_mac l.a l.mac_b) earlier) (fault.Duplicate (at (codes "mac_b")))
   Ok l
 
--- what an entry says of the link between those two routers
+-- what an entry describes of the link between those two routers
 unfoldable pub link_between : (List ℕ → List ℕ) → List LinkEntry → ℕ → ℕ → Data → Result LinkEntry ConfFault
 link_between at earlier a b d = do
   metric_ab ← number 1 16777214 at (codes "metric_ab") d

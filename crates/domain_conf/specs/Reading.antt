@@ -3,18 +3,18 @@ use Rattle.std.specs.Prelude.{◌≡◌, Bool, true, false, Option, Some, None, 
 use Rattle.domain_conf.specs.declared.fault.ConfFault.{ConfFault}
 use Rattle.domain_conf.specs.declared.fault.ConfFault.TheVariants as fault
 
--- the value, or that fault
+-- the value, or that error
 abbrev pub or_fault : {A : Type 0} → ConfFault → Option A → Result A ConfFault
 or_fault fault None = Err fault
 or_fault fault (Some x) = Ok x
 
--- that fault, where a rule is broken
+-- that error, if a rule is broken
 abbrev pub refuse_if : Bool → ConfFault → Result (Unit {0}) ConfFault
 refuse_if true fault = Err fault
 refuse_if false fault = Ok tt
 
--- A call that refuses a file refuses it by the first rule that it breaks. Want of memory may come in place of any
--- answer.
+-- A call that rejects a file rejects it for the first rule that it breaks. Out of memory may be returned instead of any
+-- result.
 abbrev pub Fails : {Y : Type 0} → ConfFault → Result Y ConfFault → Type 0
 Fails fault.Toml read = read ≡ Err fault.Toml
 Fails (fault.Field path) read = read ≡ Err (fault.Field path)
@@ -25,7 +25,7 @@ Fails (fault.Reference path) read = read ≡ Err (fault.Reference path)
 Fails (fault.Limit path) read = read ≡ Err (fault.Limit path)
 Fails fault.Memory read = Unit {0}
 
--- What a call answered is what reading gives, unless memory ran out.
+-- The result of a call is what reading defines, unless it ran out of memory.
 abbrev pub Gives : {X Y : Type 0} → (X → Y) → Result X ConfFault → Result Y ConfFault → Type 0
 Gives view (Ok x) read = read ≡ Ok (view x)
 Gives view (Err fault) read = Fails fault read

@@ -1,4 +1,4 @@
--- What is kept beside the routers so far, so that a look-up doesn't walk over them.
+-- What is kept with the routers read so far, so that a look-up does not scan them.
 use Rattle.std.specs.Prelude.{◌≡◌, ℕ, ◌≤◌, List, length, Option, Vec}
 use Rattle.std.specs.declared.alloc.Global.{Global}
 use Rattle.std.specs.declared.cmp.Ordering.{Ordering}
@@ -13,7 +13,7 @@ use Rattle.wire_base.specs.declared.addresses.Ipv4.{Ipv4}
 use Rattle.domain_conf.specs.declared.routers.RouterEntry.{RouterEntry}
 use Rattle.domain_conf.specs.Routers.{has_system, has_prefix, place_of}
 
--- what a map has at some octets
+-- what a map has at some octets as the key
 abbrev pub found_at : BTreeMap (Vec ℕ Global) ℕ → List ℕ → Option ℕ
 found_at places octets = get_by (λ (k : Vec ℕ Global). slice_cmp nat_cmp octets k.items) places
 
@@ -23,7 +23,7 @@ system_cmp s t = slice_cmp nat_cmp s.0 t.0
 abbrev pub prefix_cmp : Ipv4 → Ipv4 → Ordering
 prefix_cmp p q = slice_cmp nat_cmp p.0 q.0
 
--- the map has the place of each name, and the sets have the systems and the prefixes
+-- the map has the index of each name, and the sets have the system IDs and the prefixes
 pub record AreIndexed (entries : List RouterEntry) (places : BTreeMap (Vec ℕ Global) ℕ) (systems : BTreeSet SystemId) (prefixes : BTreeSet Ipv4) : Type 0 where
   pub few : length entries ≤ MOST_ROUTERS
   pub places_are : (name : List ℕ) → found_at places name ≡ place_of entries name

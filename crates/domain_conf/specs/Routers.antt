@@ -22,7 +22,7 @@ has_system system r = bytes_eq r.system.0 system
 abbrev pub has_prefix : List ℕ → RouterEntry → Bool
 has_prefix prefix r = bytes_eq r.prefix.0 prefix
 
--- names, systems and prefixes of routers differ
+-- names, system IDs and prefixes of routers differ
 abbrev pub new_router : (List ℕ → List ℕ) → List RouterEntry → RouterEntry → Result RouterEntry ConfFault
 new_router at earlier r = do
   _ ← refuse_if (list_any (has_name r.name) earlier) (fault.Duplicate (at (codes "name")))
@@ -51,11 +51,11 @@ router_in at earlier d = do
 unfoldable pub router_at : List RouterEntry → ℕ → Data → Result RouterEntry ConfFault
 router_at earlier i d = router_in (entry_path (codes "router") i) earlier d
 
--- the place of the router of that name
+-- the index of the router with that name
 unfoldable pub place_of : List RouterEntry → List ℕ → Option ℕ
 place_of routers name = position_from (has_name name) 0 routers
 
--- the place of the router that another entry names at a key; a name that no router has is the fault Reference
+-- the index of the router that another entry names at a key; an unknown name is the error Reference
 unfoldable pub known_router : List RouterEntry → (List ℕ → List ℕ) → List ℕ → Data → Result ℕ ConfFault
 known_router routers at key d = do
   name ← or_fault (fault.Field (at key)) (option_and_then as_str (get key d))

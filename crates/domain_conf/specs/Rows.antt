@@ -1,4 +1,4 @@
--- The entries of `row`: the written table of the configured sub-domains.
+-- The entries of `row`: the BIFT-id table of the sub-domains with non-MPLS encapsulation.
 use Rattle.std.specs.Prelude.{ℕ, not, List, [], ◌∷◌, Result, Ok, Err, codes}
 use Rattle.std.specs.List.{list_any}
 use Rattle.toml.specs.Data.{Data}
@@ -14,7 +14,7 @@ use Rattle.domain_conf.specs.Reading.{refuse_if}
 use Rattle.domain_conf.specs.Fields.{entry_path, known_keys, number, bsl as bsl_key}
 use Rattle.domain_conf.specs.Subdomains.{known_sd}
 
--- a row's sub-domain is configured, and no two rows have one triple or one BIFT-id
+-- a row's sub-domain has non-MPLS encapsulation, and no two rows have the same triple or the same BIFT-id
 abbrev pub new_row : (List ℕ → List ℕ) → List SubKind → List TableRow → TableRow → Result TableRow ConfFault
 new_row at kinds earlier row = do
   _ ← refuse_if (not (is_configured (kind_of kinds row.triple.sd))) (fault.Reference (at (codes "sd")))

@@ -1,4 +1,4 @@
--- The entries of `subdomain`: how each sub-domain gives its BIFT-ids.
+-- The entries of `subdomain`: the encapsulation of each sub-domain, which determines its BIFT-ids.
 use Rattle.std.specs.Prelude.{ℕ, List, [], ◌∷◌, is_none, Option, Result, Ok, Err, codes}
 use Rattle.std.specs.List.{list_any}
 use Rattle.toml.specs.Data.{Data}
@@ -16,7 +16,7 @@ use Rattle.domain_conf.specs.Forms.{kind_named}
 abbrev pub kind_at : (List ℕ → List ℕ) → Data → Result Kind ConfFault
 kind_at at d = text kind_named at (codes "kind") d
 
--- a sub-domain stands once
+-- a sub-domain occurs once
 abbrev pub new_subdomain : (List ℕ → List ℕ) → List SubKind → SubKind → Result SubKind ConfFault
 new_subdomain at earlier k = do
   _ ← refuse_if (list_any (same_kind k) earlier) (fault.Duplicate (at (codes "sd")))
@@ -32,7 +32,7 @@ subdomain_in at earlier d = do
 unfoldable pub subdomain_at : List SubKind → ℕ → Data → Result SubKind ConfFault
 subdomain_at earlier i d = subdomain_in (entry_path (codes "subdomain") i) earlier d
 
--- the number of a sub-domain that the file has, at the key `sd` of another entry
+-- the number at the key `sd` of another entry, which must be that of a sub-domain in the file
 abbrev pub known_sd : List SubKind → (List ℕ → List ℕ) → Data → Result ℕ ConfFault
 known_sd kinds at d = do
   sd ← number 0 255 at (codes "sd") d

@@ -1,4 +1,4 @@
--- What is kept beside the rows so far, so that a look-up doesn't walk over them.
+-- What is kept with the rows read so far, so that a look-up does not scan them.
 use Rattle.std.specs.Prelude.{◌≡◌, ℕ, Bool, ◌==◌, ◌&&◌, List}
 use Rattle.std.specs.declared.cmp.Ordering.{Ordering}
 use Rattle.std.specs.BTreeSet.{BTreeSet, contains}

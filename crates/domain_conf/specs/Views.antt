@@ -6,7 +6,7 @@ use Rattle.domain_conf.specs.declared.arrays.Arrays.{Arrays as Slices}
 use Rattle.domain_conf.specs.declared.read.Parts.{Parts}
 use Rattle.domain_conf.specs.Domain.{Arrays}
 
--- each entry as the data that it stands for
+-- each entry as the data that it represents
 abbrev pub arrays_view : Slices → Arrays
 arrays_view s =
     record {

@@ -15,7 +15,7 @@ use wire_base::limits::{
     MOST_BIER_ENTRIES, MOST_LABEL_ENTRIES, MOST_LINK_ENTRIES, MOST_ROUTERS, MOST_TABLE_ROWS,
 };
 
-/// The entries of the arrays, each array with at most so many as it may have.
+/// The entries of the arrays. No array has more entries than its limit.
 #[derive(Clone, Copy)]
 pub struct Arrays<'a> {
     pub subdomains: &'a [Value],
@@ -26,7 +26,7 @@ pub struct Arrays<'a> {
     pub links: &'a [Value],
 }
 
-/// What the top table has at a key.
+/// Returns the value at a key of the top table.
 pub fn member<'a>(top: &'a Table, key: &str) -> Option<&'a Value>
     ensures { option_map (λ v. view v.now) result ≡ get_member key.now (table_view top.now) }
 {
@@ -44,7 +44,7 @@ fn are_tables(values: &[Value]) -> bool
     true
 }
 
-/// The entries of an array of tables.
+/// Returns the entries of an array of tables.
 fn tables_of(value: &Value) -> Option<&[Value]>
     ensures { option_map (λ vs. map view vs.now) result ≡ tables_of (view value.now) }
 {
@@ -78,7 +78,7 @@ fn array_of<'a>(
     Ok(values)
 }
 
-/// The arrays of a file.
+/// Reads the arrays of a file.
 #[tactic(auto, unfolding(crate::specs::Domain::arrays_of))]
 pub fn arrays_of<'a>(alloc: Global, top: &'a Table) -> Result<Arrays<'a>, ConfFault>
     ensures value { Gives arrays_view result (spec.arrays_of (table_view top.now)) }

@@ -1,4 +1,4 @@
-//! The configurations of the routers, from the entries of the arrays.
+//! The configurations of the routers, built from the entries of the arrays.
 ghost use Rattle.std.specs.Prelude.{◌≡◌, ◌==◌, ◌++◌, map, filter, OnOk, IfOk};
 ghost use Rattle.std.specs.List.{filter_map};
 ghost use Rattle.std.specs.Option.{option_to_list};
@@ -16,7 +16,7 @@ use wire_base::{
     TableRow,
 };
 
-/// What a file says, array by array.
+/// What a file contains, array by array.
 #[derive(Drop)]
 pub struct Entries {
     pub kinds: Rows<SubKind>,
@@ -60,7 +60,7 @@ fn subs_in(alloc: Global, biers: &[BierEntry], labels: &ByRouter<LabelsEntry>) -
     Ok(subs)
 }
 
-/// The sub-domains of a router, in the order of the file.
+/// Returns the sub-domains of a router, in the order of the file.
 #[tactic(auto, unfolding(crate::specs::Assembled::subs_of), using(crate::proofs::GroupLemmas::biers_in_group))]
 fn subs_of(
     alloc: Global,
@@ -82,7 +82,7 @@ fn system_at(routers: &[RouterEntry], place: u16) -> SystemId
     }
 }
 
-/// A router's end of a link, where it has one.
+/// Returns a router's interface on a link, if the link joins that router.
 fn end_of(routers: &[RouterEntry], place: u16, link: &LinkEntry) -> Option<End>
     ensures { result ≡ spec.end_of routers.now place link.now }
 {
@@ -124,7 +124,7 @@ fn ends_in(alloc: Global, routers: &[RouterEntry], place: u16, links: &[LinkEntr
     Ok(ends)
 }
 
-/// The ends of a router, in the order of the links.
+/// Returns the interfaces of a router, in the order of the links.
 #[tactic(auto, unfolding(crate::specs::Assembled::ends_of), using(crate::proofs::GroupLemmas::ends_in_group))]
 fn ends_of(
     alloc: Global,
@@ -161,7 +161,7 @@ fn conf_of(
     })
 }
 
-/// The configurations of all routers.
+/// Returns the configurations of all routers.
 pub fn confs_of(
     alloc: Global,
     level: Level,
@@ -178,7 +178,7 @@ pub fn confs_of(
     Ok(confs)
 }
 
-/// Which routers the links join.
+/// Returns which routers the links join.
 pub fn links_of(alloc: Global, links: &[LinkEntry]) -> M<Rows<LinkConf>>
     ensures { IfOk result (λ confs. confs ≡ map link_of links.now) }
 {

@@ -16,7 +16,7 @@ use std::alloc::Global;
 use toml::Value;
 use wire_base::SubKind;
 
-/// A router's place in a sub-domain; the router is named by its place in the file.
+/// The membership of a router in a sub-domain. The router is named by its index in the file.
 #[derive(Clone, Copy)]
 pub struct BierEntry {
     pub router: u16,
@@ -38,7 +38,7 @@ fn has_sd(entries: &[BierEntry], sd: u8) -> bool
     entries.iter().any(|entry| entry.sd == sd)
 }
 
-/// Whether a router is in a sub-domain.
+/// Returns whether a router is in a sub-domain.
 #[tactic(auto, using(crate::proofs::GroupLemmas::member_in_group))]
 pub fn has_member(biers: &ByRouter<BierEntry>, router: u16, sd: u8) -> bool
     ensures { result ≡ list_any (spec.is_member router sd) biers.now }
@@ -94,7 +94,7 @@ fn bier_at(
     bier_in(&entry, kinds, routers, earlier)
 }
 
-/// The routers' places in sub-domains that a file has.
+/// Reads the memberships of routers in sub-domains.
 pub fn read_biers(
     alloc: Global,
     kinds: &[SubKind],

@@ -1,4 +1,4 @@
-//! Entries that belong to routers, found by their router.
+//! Entries that belong to routers, with a look-up by router.
 ghost use Rattle.std.specs.Prelude.{◌≡◌, ℕ, ◌<◌, ◌==◌, vec_len, List, [], ◌∷◌, ◌++◌, filter, slice_index_or, IfOk, OnOk, if◌then◌else◌};
 ghost use Rattle.domain_conf.specs.ByRouter.{is_at};
 
@@ -10,13 +10,13 @@ use wire_base::{M, Rows};
 pub trait AtRouters {
     ghost routers_of: { Self → ℕ × ℕ };
 
-    /// The places of the two routers.
+    /// Returns the indices of the two routers.
     fn routers(&self) -> (u16, u16)
         ensures { result ≡ routers_of self.now };
 }
 
-/// Entries in the order of the file, and again those of each router, so that a look-up among a router's entries
-/// doesn't walk over all.
+/// Entries in the order of the file, and a second time grouped by router, so that a look-up among a router's entries
+/// does not scan all of them.
 #[derive(Drop)]
 pub struct ByRouter<T: AtRouters> {
     all: Rows<T>,
@@ -42,7 +42,7 @@ fn put<T: Copy + Drop>(alloc: Global, groups: &mut Vec<Rows<T>>, router: usize, 
 }
 
 impl<T: AtRouters + Copy + Drop> ByRouter<T> {
-    /// No entries.
+    /// Returns an empty collection.
     pub fn new(alloc: Global) -> Self
         ensures { result ≡ [] }
     {
@@ -52,14 +52,14 @@ impl<T: AtRouters + Copy + Drop> ByRouter<T> {
         }
     }
 
-    /// All entries.
+    /// Returns all entries.
     pub fn as_slice(&self) -> &[T]
         ensures { result.now ≡ self.now }
     {
         self.all.as_slice()
     }
 
-    /// The entries of a router.
+    /// Returns the entries of a router.
     pub fn of(&self, router: u16) -> &[T]
         ensures { result.now ≡ filter (is_at T.routers_of router) self.now }
     {
@@ -69,7 +69,7 @@ impl<T: AtRouters + Copy + Drop> ByRouter<T> {
         }
     }
 
-    /// One entry more.
+    /// Returns the collection with one more entry.
     pub fn with(self, alloc: Global, item: T) -> M<Self>
         ensures { IfOk result (λ grown. grown ≡ self ++ item ∷ []) }
     {
@@ -87,7 +87,7 @@ impl<T: AtRouters + Copy + Drop> ByRouter<T> {
     }
 }
 
-// Empty groups up to that one.
+// Appends empty groups up to that router.
 fn grow<T: Drop>(alloc: Global, groups: &mut Vec<Rows<T>>, router: usize) -> M<()>
     ensures same { OnOk result ((i : ℕ) → slice_index_or groups.new.items i [] ≡ slice_index_or groups.old.items i []) }
     ensures room { OnOk result (router < vec_len groups.new) }

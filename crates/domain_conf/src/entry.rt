@@ -14,7 +14,7 @@ use std::alloc::Global;
 use toml::{Table, Value};
 use wire_base::{Bsl, M, Octets};
 
-/// An entry of an array: its place, from 0, and its table.
+/// An entry of an array: its index, from 0, and its table.
 #[derive(Clone, Copy)]
 pub struct Entry<'a> {
     pub alloc: Global,
@@ -29,7 +29,7 @@ fn is_among(key: &str, known: &[&str]) -> bool
     known.contains(&key)
 }
 
-/// The first key of a table, in the order of octets, that is none of these.
+/// Returns the first key of a table, in octet order, that is none of the known ones.
 pub fn unknown_in<'a>(table: &'a Table, known: &[&str]) -> Option<&'a str>
     ensures { option_copied result ≡ fields.unknown_in (map (λ k. k.now) known.now) (fields.keys_of (table_view table.now)) }
 {
@@ -42,7 +42,7 @@ pub fn unknown_in<'a>(table: &'a Table, known: &[&str]) -> Option<&'a str>
 }
 
 impl<'a> Entry<'a> {
-    /// The path of a key, as `router[2].prefix`.
+    /// Returns the path of a key, such as `router[2].prefix`.
     #[tactic(auto, unfolding(crate::specs::Fields::entry_path))]
     pub fn path(&self, key: &str) -> M<Octets>
         ensures { IfOk result (λ path. path ≡ fields.entry_path self.now.array.now self.now.place key.now) }
@@ -67,7 +67,7 @@ impl<'a> Entry<'a> {
         }
     }
 
-    /// That the entry has no other keys than these.
+    /// Checks that the entry has no keys but these.
     pub fn has_only(&self, known: &[&str]) -> Result<(), ConfFault>
         ensures { Gives (λ _. tt) result (fields.known_keys (fields.entry_path self.now.array.now self.now.place) (map (λ k. k.now) known.now) (view self.now.value.now)) }
     {
@@ -86,7 +86,7 @@ impl<'a> Entry<'a> {
         }
     }
 
-    /// The text at a key.
+    /// Returns the text at a key.
     pub fn text(&self, key: &str) -> Option<&'a str>
         ensures { option_copied result ≡ option_and_then as_str (data_of.get key.now (view self.now.value.now)) }
     {
@@ -96,7 +96,7 @@ impl<'a> Entry<'a> {
         }
     }
 
-    /// The number at a key, within bounds.
+    /// Returns the number at a key, which must be within bounds.
     #[tactic(auto, unfolding(crate::specs::Fields::field))]
     pub fn number(&self, key: &str, low: u32, high: u32) -> Result<u32, ConfFault>
         ensures value { Gives (λ n. n) result (fields.number low high (fields.entry_path self.now.array.now self.now.place) key.now (view self.now.value.now)) }
@@ -111,7 +111,7 @@ impl<'a> Entry<'a> {
         Ok(n)
     }
 
-    /// The length of bit strings at the key `bsl`.
+    /// Returns the BitStringLength at the key `bsl`.
     #[tactic(auto, unfolding(crate::specs::Fields::field))]
     pub fn bsl(&self) -> Result<Bsl, ConfFault>
         ensures { Gives (λ bsl. bsl) result (fields.bsl (fields.entry_path self.now.array.now self.now.place) (view self.now.value.now)) }
@@ -125,7 +125,7 @@ impl<'a> Entry<'a> {
         Ok(bsl)
     }
 
-    /// The value at a key that is true or false, and false where it is missing.
+    /// Returns the boolean at a key; false if the key is missing.
     #[tactic(auto, unfolding(crate::specs::Fields::field))]
     pub fn flag(&self, key: &str) -> Result<bool, ConfFault>
         ensures { Gives (λ flag. flag) result (fields.flag (fields.entry_path self.now.array.now self.now.place) key.now (view self.now.value.now)) }

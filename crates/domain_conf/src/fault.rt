@@ -1,4 +1,4 @@
-//! Why a domain file is refused.
+//! The errors of a domain file.
 ghost use Rattle.std.specs.Prelude.{◌≡◌};
 ghost use Rattle.domain_conf.specs.declared.fault.ConfFault.TheVariants as faults;
 ghost use Rattle.domain_conf.specs.Fault.{number_of, name_of, path_of};
@@ -6,32 +6,32 @@ ghost use Rattle.domain_conf.specs.Fault.{number_of, name_of, path_of};
 use thiserror::Error;
 use wire_base::Octets;
 
-/// Why a domain file is refused: the rule that it breaks first. The rules are numbered in this order, from 1, and
-/// each but the first names the place, as `router[2].prefix`, or `-` for the whole file.
+/// Why a domain file is rejected: the first rule that it breaks. The rules are numbered in this order, from 1. Each
+/// rule but the first reports the location in the file, such as `router[2].prefix`, or `-` for the whole file.
 #[derive(Drop, Error)]
 pub enum ConfFault {
-    /// The file is no TOML document.
+    /// The file is not a TOML document.
     #[error("not a TOML document")]
     Toml,
     /// A key is unknown or missing, or its value is of the wrong kind.
     #[error("a missing or unknown key, or a value of the wrong kind")]
     Field(Octets),
-    /// The value stood before.
+    /// The value occurred before.
     #[error("a value that stood before")]
     Duplicate(Octets),
-    /// The value isn't in its range or of its form.
+    /// The value is out of range or malformed.
     #[error("a value out of range or malformed")]
     Range(Octets),
-    /// A range of labels passes the last label, or shares a label with another range of its router.
+    /// A label range exceeds the last label, or shares a label with another range of its router.
     #[error("labels that pass the last one or overlap")]
     Labels(Octets),
-    /// What the value refers to isn't there.
+    /// The value refers to something that does not exist.
     #[error("a reference to what isn't there")]
     Reference(Octets),
     /// There are too many octets, entries, links or sub-domains, or no router.
     #[error("too many entries, or none")]
     Limit(Octets),
-    /// Memory ran out.
+    /// An allocation failed.
     #[error("out of memory")]
     Memory,
 }
@@ -51,7 +51,7 @@ impl From<wire_base::Memory> for ConfFault {
 }
 
 impl ConfFault {
-    /// The number of the rule, from 1; 0 for out of memory, which is no rule.
+    /// Returns the number of the rule, from 1. Out of memory is not a rule and returns 0.
     pub fn number(&self) -> u8
         ensures { result ≡ number_of self.now }
     {
@@ -67,7 +67,7 @@ impl ConfFault {
         }
     }
 
-    /// The name of the rule, as a report says it.
+    /// Returns the name of the rule, as reports have it.
     pub fn name(&self) -> &'static [u8]
         ensures { result.now ≡ name_of self.now }
     {
@@ -83,7 +83,7 @@ impl ConfFault {
         }
     }
 
-    /// The place in the file, as `router[2].prefix`, or `-` for the whole file.
+    /// Returns the location in the file, such as `router[2].prefix`, or `-` for the whole file.
     pub fn path(&self) -> &[u8]
         ensures { result.now ≡ path_of self.now }
     {

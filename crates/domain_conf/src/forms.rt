@@ -1,4 +1,4 @@
-//! The forms of single values: texts of hexadecimal digits, addresses and names.
+//! The formats of single values: hexadecimal text, addresses and names.
 ghost use Rattle.std.specs.Prelude.{◌≡◌, ◌+◌, ◌≤◌, ◌<◌, ◌∷◌, [], length, slice_index, IfOk, IfSome};
 ghost use Rattle.std.specs.List.{list_all};
 ghost use Rattle.wire_base.specs.model.Configuration as configuration;
@@ -8,7 +8,7 @@ use crate::cut::cut;
 use std::alloc::Global;
 use wire_base::{Bsl, Ipv4, Kind, Level, M, Mac, Octets, SystemId};
 
-/// The number, where it lies within the bounds.
+/// Returns the number if it is within the bounds.
 pub fn within(n: i64, low: u32, high: u32) -> Option<u32>
     ensures value { result ≡ forms.nat_within low high n }
     ensures fits { IfSome result (λ n. n ≤ high) }
@@ -19,7 +19,7 @@ pub fn within(n: i64, low: u32, high: u32) -> Option<u32>
     }
 }
 
-/// The length of bit strings with that many bits.
+/// Returns the BitStringLength with that many bits.
 pub fn bsl_in(n: i64) -> Option<Bsl>
     ensures { result ≡ forms.bsl_in n }
 {
@@ -29,7 +29,7 @@ pub fn bsl_in(n: i64) -> Option<Bsl>
     }
 }
 
-/// The level of that number.
+/// Returns the IS-IS level with that number.
 pub fn level_in(n: i64) -> Option<Level>
     ensures { result ≡ forms.level_in n }
 {
@@ -40,7 +40,7 @@ pub fn level_in(n: i64) -> Option<Level>
     }
 }
 
-/// The kind of that name.
+/// Returns the encapsulation with that name.
 pub fn kind_named(text: &[u8]) -> Option<Kind>
     ensures { result ≡ forms.kind_named text.now }
 {
@@ -65,7 +65,7 @@ fn are_name_octets(text: &[u8]) -> bool
     text.iter().all(|octet| is_name_octet(*octet))
 }
 
-/// Whether the text is a router's name: a letter, and then at most 31 letters, digits, `_` and `-`.
+/// Returns whether the text is a valid router name: a letter, followed by at most 31 letters, digits, `_` and `-`.
 pub fn is_name(text: &[u8]) -> bool
     ensures { result ≡ configuration.is_name text.now }
 {
@@ -77,7 +77,7 @@ pub fn is_name(text: &[u8]) -> bool
     }
 }
 
-/// The number of a hexadecimal digit.
+/// Returns the value of a hexadecimal digit.
 #[tactic(auto, unfolding(crate::specs::Forms::hex_digit))]
 fn hex_digit(c: u8) -> Option<u8>
     ensures value { result ≡ forms.hex_digit c }
@@ -91,7 +91,7 @@ fn hex_digit(c: u8) -> Option<u8>
     }
 }
 
-/// The octet that two hexadecimal digits write.
+/// Returns the octet that two hexadecimal digits encode.
 #[tactic(auto, unfolding(crate::specs::Forms::hex_octet))]
 fn hex_octet(high: u8, low: u8) -> Option<u8>
     ensures { result ≡ forms.hex_octet high low }
@@ -101,7 +101,7 @@ fn hex_octet(high: u8, low: u8) -> Option<u8>
     Some(16 * high + low)
 }
 
-/// The octet whose two digits stand at a place of a text.
+/// Returns the octet whose two digits are at an index of a text.
 fn octet_at(text: &[u8], at: usize) -> Option<u8>
     requires { at + 2 ≤ length text.now }
     ensures { result ≡ forms.hex_octet (slice_index text.now at) (slice_index text.now (at + 1)) }
@@ -109,7 +109,7 @@ fn octet_at(text: &[u8], at: usize) -> Option<u8>
     hex_octet(text[at], text[at + 1])
 }
 
-/// The octets that a text writes, two digits each.
+/// Returns the octets that a text encodes, with two digits each.
 pub fn hex_octets(alloc: Global, text: &[u8]) -> M<Option<Octets>>
     ensures { IfOk result (λ read. read ≡ forms.hex_octets text.now) }
 {
@@ -125,7 +125,7 @@ pub fn hex_octets(alloc: Global, text: &[u8]) -> M<Option<Octets>>
     Ok(if rest.is_empty() { Some(octets) } else { None })
 }
 
-/// An area address of 1 to 13 octets (ISO/IEC 10589, 7.1).
+/// Parses an area address of 1 to 13 octets (ISO/IEC 10589, 7.1).
 #[tactic(auto, unfolding(crate::specs::Forms::area_in))]
 pub fn area_in(alloc: Global, text: &[u8]) -> M<Option<Octets>>
     ensures { IfOk result (λ read. read ≡ forms.area_in text.now) }
@@ -140,7 +140,7 @@ pub fn area_in(alloc: Global, text: &[u8]) -> M<Option<Octets>>
     })
 }
 
-/// A system identifier as `0000.0000.0001`.
+/// Parses a system ID, such as `0000.0000.0001`.
 #[tactic(auto, unfolding(crate::specs::Forms::system_octets, crate::specs::Forms::octets_at))]
 pub fn system_octets(text: &[u8]) -> Option<[u8; 6]>
     ensures { result ≡ forms.system_octets text.now }
@@ -158,7 +158,7 @@ pub fn system_octets(text: &[u8]) -> Option<[u8; 6]>
     ])
 }
 
-/// Whether there are 17 octets, with a colon after each two of the first 15.
+/// Returns whether the text has 17 octets, with a colon at the indices 2, 5, 8, 11 and 14.
 fn has_colons(text: &[u8]) -> bool
     ensures { result ≡ forms.is_parted 17 58 (2 ∷ 5 ∷ 8 ∷ 11 ∷ 14 ∷ []) text.now }
 {
@@ -170,7 +170,7 @@ fn has_colons(text: &[u8]) -> bool
         && text[14] == b':'
 }
 
-/// The Ethernet address of one station, as `02:00:00:00:00:01`.
+/// Parses a unicast Ethernet address, such as `02:00:00:00:00:01`.
 #[tactic(auto, unfolding(crate::specs::Forms::mac_octets, crate::specs::Forms::octets_at))]
 pub fn mac_octets(text: &[u8]) -> Option<[u8; 6]>
     ensures { result ≡ forms.mac_octets text.now }
@@ -208,7 +208,7 @@ fn first_digit(c: u8) -> Option<u16>
     if c == b'0' { None } else { digit(c) }
 }
 
-/// A number up to 255 of one to three decimal digits, without a leading zero.
+/// Parses a number up to 255 with one to three decimal digits and no leading zero.
 #[tactic(auto, unfolding(crate::specs::Forms::small_number))]
 fn small_number(text: &[u8]) -> Option<u8>
     ensures { result ≡ forms.small_number text.now }
@@ -226,7 +226,7 @@ fn small_number(text: &[u8]) -> Option<u8>
     }
 }
 
-/// The address of one router, as `10.0.0.1`.
+/// Parses a unicast IPv4 address, such as `10.0.0.1`.
 #[tactic(auto, unfolding(crate::specs::Forms::prefix_octets))]
 pub fn prefix_octets(text: &[u8]) -> Option<[u8; 4]>
     ensures { result ≡ forms.prefix_octets text.now }

@@ -20,7 +20,7 @@ use toml::Value;
 use wire_base::limits::LAST_LABEL;
 use wire_base::{Kind, LabelRange, SubKind, kind_of};
 
-/// A label range of a router in a sub-domain; the router is named by its place in the file.
+/// A label range of a router in a sub-domain. The router is named by its index in the file.
 #[derive(Clone, Copy)]
 pub struct LabelsEntry {
     pub router: u16,
@@ -154,7 +154,7 @@ fn labels_at(
     labels_in(&entry, kinds, routers, biers, earlier)
 }
 
-/// The label ranges that a file has.
+/// Reads the label ranges of a file.
 pub fn read_labels(
     alloc: Global,
     kinds: &[SubKind],

@@ -1,6 +1,7 @@
-//! The domain file: a TOML document that says which routers a BIER domain has, and how they are joined.
+//! The domain file: a TOML document that lists the routers of a BIER domain and the links that join them.
 //!
-//! It stands on `toml`, and promises, for all octets, the valid domain that they say or the first rule that they break.
+//! It depends on `toml`. It promises, for all octets, the valid domain that they describe, or the first rule that they
+//! break.
 #![tactic(auto)]
 
 mod arrays;

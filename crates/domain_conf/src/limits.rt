@@ -1,4 +1,4 @@
-//! The rules of whole routers.
+//! The rules on whole routers.
 ghost use Rattle.std.specs.Prelude.{◌≡◌, codes, IfOk};
 ghost use Rattle.std.specs.List.{AllByRecursion};
 ghost use Rattle.domain_conf.specs.Reading.{Gives};
@@ -24,7 +24,7 @@ fn is_too_large(router: &RouterConf) -> bool
     router.ends.len() > MOST_ENDS || router.sub_octets() > MOST_SUB_OCTETS
 }
 
-/// That no router has more than 64 links, or more sub-domains than its own LSP has room for.
+/// Checks that no router has more than 64 links, or more sub-domains than fit its own LSP.
 #[tactic(auto, unfolding(crate::specs::Assembled::within_limits))]
 pub fn within_limits(alloc: Global, routers: &[RouterConf]) -> Result<(), ConfFault>
     requires { AllByRecursion spec.HasFewSubs routers.now }

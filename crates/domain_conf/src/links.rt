@@ -16,8 +16,8 @@ use std::alloc::Global;
 use toml::Value;
 use wire_base::Mac;
 
-/// A link between two routers, which are named by their places in the file: the metric from each to the other, and
-/// the Ethernet address of each one's end.
+/// A link between two routers, which are named by their indices in the file: the metric in each direction, and the
+/// Ethernet address of each interface.
 #[derive(Clone, Copy)]
 pub struct LinkEntry {
     pub a: u16,
@@ -36,8 +36,8 @@ impl AtRouters for LinkEntry {
     }
 }
 
-/// The Ethernet address of a router's end toward a peer where the file has none: 02:00, the router's place and the
-/// peer's place.
+/// Returns the Ethernet address of a router's interface toward a peer if the file has none: 02:00, the router's index
+/// and the peer's index.
 #[tactic(auto, unfolding(crate::specs::Links::made_mac))]
 fn made_mac(own: u16, peer: u16) -> Mac
     ensures { result ≡ spec.made_mac own peer }
@@ -52,7 +52,7 @@ fn made_mac(own: u16, peer: u16) -> Mac
     ])
 }
 
-/// The Ethernet address at a key, or another where the key is missing.
+/// Returns the Ethernet address at a key, or a default if the key is missing.
 #[tactic(auto, unfolding(crate::specs::Fields::field))]
 fn mac_or_made(entry: &Entry, key: &str, made: Mac) -> Result<Mac, ConfFault>
     ensures { Gives (λ mac. mac) result (spec.mac_or_made made (entry_path entry.now.array.now entry.now.place) key.now (view entry.now.value.now)) }
@@ -129,7 +129,7 @@ fn new_link(
     Ok(link)
 }
 
-/// What an entry says of the link between those two routers.
+/// Reads an entry for the link between those two routers.
 #[tactic(auto, unfolding(crate::specs::Links::link_between))]
 fn link_between(
     entry: &Entry,
@@ -186,7 +186,7 @@ fn link_at(
     link_in(&entry, routers, earlier)
 }
 
-/// The links that a file has.
+/// Reads the links of a file.
 pub fn read_links(
     alloc: Global,
     routers: &Routers,

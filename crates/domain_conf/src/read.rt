@@ -1,4 +1,4 @@
-//! The one call that reads a domain file.
+//! The function that reads a domain file.
 ghost use Rattle.std.specs.Prelude.{◌≡◌, ◌≤◌, codes, length, map};
 ghost use Rattle.std.specs.List.{AllByRecursion};
 ghost use Rattle.toml.specs.Data.{get_member};
@@ -27,14 +27,14 @@ use toml::Table;
 use wire_base::limits::{DOMAIN_FILE_LIMIT, MOST_ROUTERS};
 use wire_base::{Domain, Level, LinkConf, Octets, RouterConf, Rows};
 
-/// The routers and links of a domain, before it is shown to be valid.
+/// The routers and links of a domain, before the domain is shown to be valid.
 #[derive(Drop)]
 pub struct Parts {
     pub routers: Rows<RouterConf>,
     pub links: Rows<LinkConf>,
 }
 
-/// The level at the key `level`, 2 where it is missing.
+/// Returns the level at the key `level`; 2 if it is missing.
 #[tactic(auto, unfolding(crate::specs::Fields::field))]
 fn level_at(alloc: Global, top: &Table) -> Result<Level, ConfFault>
     ensures { Gives (λ level. level) result (level_at (get_member (codes "level") (table_view top.now))) }
@@ -51,7 +51,7 @@ fn level_at(alloc: Global, top: &Table) -> Result<Level, ConfFault>
     }
 }
 
-/// The area address at the key `area`, 49.0001 where it is missing.
+/// Returns the area address at the key `area`; 49.0001 if it is missing.
 #[tactic(auto, unfolding(crate::specs::Fields::field))]
 fn area_at(alloc: Global, top: &Table) -> Result<Octets, ConfFault>
     ensures { Gives (λ area. area) result (area_at (get_member (codes "area") (table_view top.now))) }
@@ -68,7 +68,7 @@ fn area_at(alloc: Global, top: &Table) -> Result<Octets, ConfFault>
     }
 }
 
-/// That the top table has no other keys than these.
+/// Checks that the top table has no keys but these.
 fn has_only(alloc: Global, top: &Table, known: &[&str]) -> Result<(), ConfFault>
     ensures { Gives (λ _. tt) result (refuse_key (λ k. k) (unknown_in (map (λ k. k.now) known.now) (keys_of (table_view top.now)))) }
 {
@@ -78,7 +78,7 @@ fn has_only(alloc: Global, top: &Table, known: &[&str]) -> Result<(), ConfFault>
     }
 }
 
-/// That the top table has no key that isn't known.
+/// Checks that the top table has no unknown key.
 fn has_known_keys(alloc: Global, top: &Table) -> Result<(), ConfFault>
     ensures { Gives (λ _. tt) result (known_top (table_view top.now)) }
 {
@@ -98,7 +98,7 @@ fn has_known_keys(alloc: Global, top: &Table) -> Result<(), ConfFault>
     )
 }
 
-/// The entries, array by array.
+/// Reads the entries, array by array.
 #[tactic(auto, unfolding(crate::specs::Domain::entries_of))]
 fn entries_of(alloc: Global, arrays: &Arrays) -> Result<Entries, ConfFault>
     requires few { length arrays.now.routers.now ≤ MOST_ROUTERS }
@@ -120,7 +120,7 @@ fn entries_of(alloc: Global, arrays: &Arrays) -> Result<Entries, ConfFault>
     })
 }
 
-/// The routers and links that the entries make.
+/// Builds the routers and links from the entries.
 #[tactic(auto, unfolding(crate::specs::Assembled::domain_from))]
 fn assemble(
     alloc: Global,
@@ -137,7 +137,7 @@ fn assemble(
     Ok(Parts { routers, links })
 }
 
-/// What the top table says.
+/// Reads the domain from the top table.
 #[tactic(auto, unfolding(crate::specs::Domain::domain_of_table))]
 fn parts_of(alloc: Global, top: &Table) -> Result<Parts, ConfFault>
     ensures { Gives domain_view result (domain_of_table (table_view top.now)) }
@@ -177,7 +177,8 @@ fn read_parts(alloc: Global, bytes: &[u8]) -> Result<Parts, ConfFault>
     parts_of(alloc, &top)
 }
 
-/// The domain that a file says, or the first rule that it breaks. No file says a domain that isn't valid.
+/// Reads a domain file. Returns the domain that it describes, or the first rule that it breaks. A domain that is
+/// returned is valid.
 pub fn read_domain(alloc: Global, bytes: &[u8]) -> Result<Domain, ConfFault>
     ensures domain { Gives (λ d. d) result (domain_of bytes.now) }
     ensures valid { (d : DomainConf) → domain_of bytes.now ≡ Ok d → IsValid d }

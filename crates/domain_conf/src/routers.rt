@@ -22,7 +22,7 @@ use toml::Value;
 use wire_base::limits::MOST_ROUTERS;
 use wire_base::{Ipv4, M, Name, Rows, SystemId};
 
-/// A router, as its entry says it.
+/// A router, as its entry describes it.
 #[derive(Drop)]
 pub struct RouterEntry {
     pub name: Name,
@@ -31,8 +31,8 @@ pub struct RouterEntry {
     pub overload: bool,
 }
 
-/// Routers in the order of the file, at most 250, with the places of their names, and their systems and prefixes, so
-/// that a look-up doesn't walk over the routers.
+/// Routers in the order of the file, at most 250, with an index of their names, and their system IDs and prefixes, so
+/// that a look-up does not scan the routers.
 #[derive(Drop)]
 pub struct Routers {
     entries: Rows<RouterEntry>,
@@ -76,7 +76,7 @@ fn put_prefix(prefixes: &mut BTreeSet<Ipv4>, prefix: Ipv4) -> M<()>
 }
 
 impl Routers {
-    /// No routers.
+    /// Returns an empty list.
     pub fn new(alloc: Global) -> Self
         ensures { result ≡ [] }
     {
@@ -88,7 +88,7 @@ impl Routers {
         }
     }
 
-    /// The routers as a slice.
+    /// Returns the routers as a slice.
     pub fn as_slice(&self) -> &[RouterEntry]
         ensures value { result.now ≡ self.now }
         ensures few { length self.now ≤ MOST_ROUTERS }
@@ -96,7 +96,7 @@ impl Routers {
         self.entries.as_slice()
     }
 
-    /// The place of the router of that name.
+    /// Returns the index of the router with that name.
     pub fn place_of(&self, name: &[u8]) -> Option<u16>
         ensures value { result ≡ spec.place_of self.now name.now }
     {
@@ -121,7 +121,7 @@ impl Routers {
         self.prefixes.contains(prefix)
     }
 
-    /// One router more, whose name no other has.
+    /// Returns the list with one more router, whose name no other router has.
     pub fn with(self, alloc: Global, entry: RouterEntry) -> M<Self>
         requires room { length self < MOST_ROUTERS }
         requires unused { list_any (spec.has_name entry.name) self ≡ false }
@@ -246,7 +246,7 @@ fn router_at(
     router_in(&entry, earlier)
 }
 
-/// The routers that a file has.
+/// Reads the routers of a file.
 pub fn read_routers(alloc: Global, values: &[Value]) -> Result<Routers, ConfFault>
     requires few { length values.now ≤ MOST_ROUTERS }
     ensures { Gives (λ rs. rs) result (entries_from spec.router_at [] 0 (map view values.now)) }
@@ -259,7 +259,7 @@ pub fn read_routers(alloc: Global, values: &[Value]) -> Result<Routers, ConfFaul
     Ok(earlier)
 }
 
-/// The place of the router that an entry names at a key.
+/// Returns the index of the router that an entry names at a key.
 #[tactic(auto, unfolding(crate::specs::Routers::known_router))]
 pub fn known_router(entry: &Entry, routers: &Routers, key: &str) -> Result<u16, ConfFault>
     ensures { Gives (λ place. place) result (spec.known_router routers.now (entry_path entry.now.array.now entry.now.place) key.now (view entry.now.value.now)) }

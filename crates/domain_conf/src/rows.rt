@@ -23,7 +23,7 @@ use toml::Value;
 use wire_base::limits::LAST_LABEL;
 use wire_base::{Kind, M, Rows, SubKind, TableRow, Triple, kind_of};
 
-/// A triple, in an order: its length of bit strings is held by its code.
+/// A triple as an ordered key. The BitStringLength is stored as its code.
 #[derive(Clone, Copy, PartialEq, Eq, PartialOrd, Ord)]
 struct TripleKey {
     sd: u8,
@@ -31,8 +31,7 @@ struct TripleKey {
     si: u8,
 }
 
-/// Rows in the order of the file, with their triples and their BIFT-ids, so that a look-up doesn't walk over the
-/// rows.
+/// Rows in the order of the file, with their triples and their BIFT-ids, so that a look-up does not scan the rows.
 #[derive(Drop)]
 pub struct WrittenTable {
     rows: Rows<TableRow>,
@@ -77,7 +76,7 @@ fn put_bift(bifts: &mut BTreeSet<u32>, bift: u32) -> M<()>
 }
 
 impl WrittenTable {
-    /// No rows.
+    /// Returns an empty table.
     pub fn new(alloc: Global) -> Self
         ensures { result ≡ [] }
     {
@@ -88,7 +87,7 @@ impl WrittenTable {
         }
     }
 
-    /// The rows alone.
+    /// Returns the rows.
     pub fn into_rows(self) -> Rows<TableRow>
         ensures { result ≡ self }
     {
@@ -112,7 +111,7 @@ impl WrittenTable {
         self.bifts.contains(&row.bift)
     }
 
-    /// One row more.
+    /// Returns the table with one more row.
     pub fn with(self, row: TableRow) -> M<Self>
         ensures { IfOk result (λ grown. grown ≡ self ++ row ∷ []) }
     {
@@ -189,7 +188,7 @@ fn row_at(
     row_in(&entry, kinds, earlier)
 }
 
-/// The written table that a file has.
+/// Reads the BIFT-id table of a file.
 pub fn read_table(
     alloc: Global,
     kinds: &[SubKind],

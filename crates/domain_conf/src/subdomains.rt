@@ -74,7 +74,7 @@ fn subdomain_at(
     subdomain_in(&entry, earlier.as_slice())
 }
 
-/// The sub-domains that a file has.
+/// Reads the sub-domains of a file.
 pub fn read_subdomains(alloc: Global, values: &[Value]) -> Result<Rows<SubKind>, ConfFault>
     ensures { Gives (λ ks. ks) result (entries_from spec.subdomain_at [] 0 (map view values.now)) }
 {
@@ -86,7 +86,7 @@ pub fn read_subdomains(alloc: Global, values: &[Value]) -> Result<Rows<SubKind>,
     Ok(earlier)
 }
 
-/// The number of a sub-domain that the file has, at the key `sd` of an entry.
+/// Returns the number at the key `sd` of an entry, which must be that of a sub-domain in the file.
 pub fn known_sd(entry: &Entry, kinds: &[SubKind]) -> Result<u8, ConfFault>
     ensures { Gives (λ sd. sd) result (spec.known_sd kinds.now (entry_path entry.now.array.now entry.now.place) (view entry.now.value.now)) }
 {

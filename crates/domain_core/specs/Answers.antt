@@ -1,4 +1,4 @@
--- Why an event is refused.
+-- Why an event is rejected.
 use Rattle.std.specs.Prelude.{◌≡◌, nat_le, [], Option, Some, None}
 use Rattle.wire_base.specs.declared.faults.EdgeFault.{EdgeFault}
 use Rattle.wire_base.specs.declared.faults.EdgeFault.TheVariants as edge
@@ -10,7 +10,7 @@ use Rattle.domain_model.specs.declared.step_out.StepOut.{StepOut}
 use Rattle.domain_model.specs.Faults.{most_events, first_fault, unless_room, rule_fault}
 use Rattle.domain_model.specs.World.{WorldState}
 
--- A refusal is the first reason that holds, or memory ran out.
+-- An error is the first reason that applies, or out of memory.
 abbrev pub Refuses : Option EventFault → EventFault → Type 0
 Refuses first faults.Events = first ≡ Some faults.Events
 Refuses first faults.NoLink = first ≡ Some faults.NoLink
@@ -21,7 +21,7 @@ Refuses first faults.NotControl = first ≡ Some faults.NotControl
 Refuses first (faults.Edge fault) = first ≡ Some (faults.Edge fault)
 Refuses first faults.Memory = Unit {0}
 
--- a refusal for any other reason than memory leaves everything unchanged
+-- an error other than out of memory leaves everything unchanged
 abbrev pub Stays : Type 0 → EventFault → Type 0
 Stays same faults.Events = same
 Stays same faults.NoLink = same
@@ -32,7 +32,7 @@ Stays same faults.NotControl = same
 Stays same (faults.Edge fault) = same
 Stays same faults.Memory = Unit {0}
 
--- what an event's own rules say, but for what a router says of an injection
+-- the reasons of an event's own rules, except those of a router to reject an injection
 abbrev pub early_rule : WorldState → Event → Option EventFault
 early_rule w (Inject a sd bsl ks ttl entropy payload) = unless_room w None
 early_rule w (Take a b i) = rule_fault w (Take a b i)
@@ -47,7 +47,7 @@ early_rule w (Restart a) = rule_fault w (Restart a)
 abbrev pub early_fault : WorldState → Event → Option EventFault
 early_fault w e = first_fault (nat_le most_events w.events) faults.Events (early_rule w e)
 
--- the refusal of an injection that a router refuses
+-- the error of an injection that a router rejects
 abbrev pub entry_refused : EdgeFault → EventFault
 entry_refused edge.NoEgress = faults.Edge edge.NoEgress
 entry_refused edge.IdZero = faults.Edge edge.IdZero
@@ -56,7 +56,7 @@ entry_refused edge.NotBfr = faults.Edge edge.NotBfr
 entry_refused edge.BslUnknown = faults.Edge edge.BslUnknown
 entry_refused edge.Memory = faults.Memory
 
--- what an event is answered with; nothing, where nothing is reported of it
+-- what an event reports; nothing, if there is nothing to report
 abbrev pub outcome : Option StepOut → StepOut
 outcome None = record { sent = []; got = []; drops = [] }
 outcome (Some out) = out

@@ -1,5 +1,5 @@
--- What one event does to the course of copies, told of the world before it, the world after it, and what it answers: each
--- copy for a BFR-id stays on a shortest way to the id's owner, and none is dropped (RFC 8279, 6.5 and 6.9).
+-- The effect of one event on the course of copies, in terms of the world before it, the world after it, and its result.
+-- Each copy for a BFR-id stays on a shortest path to the id's owner, and none is dropped (RFC 8279, 6.5 and 6.9).
 use Rattle.std.specs.Prelude.{◌≡◌, ℕ, ◌≤◌, ◌%◌, false, List, [], slice_get, Some}
 use Rattle.wire_base.specs.model.Control.{Control}
 use Rattle.wire_base.specs.model.HopCount.{CoversPath}
@@ -20,8 +20,8 @@ pub record Enters (old : WorldState) (e : Event) (c : Control) (n k : ℕ) (i : 
   pub reachable : IsReachable c.conf (control_view c) (own_node c) i k
   pub covers : CoversPath (control_view c) c.conf.kinds c.conf.table (triple_for i k) (own_node c) (i.entropy % 16) k i.ttl
 
--- The injection n was made before. Its copies for k are on their course in the view of the router c, the view of each
--- router to which a walk leads from c is the same, and the event loses no copy of the injection.
+-- The injection n was made before. Its copies for k are on their course in the topology of the router c, each router to
+-- which a path leads from c has the same topology, and the event loses no copy of the injection.
 pub record StaysOut (old : WorldState) (e : Event) (c : Control) (n k : ℕ) : Type 0 where
   pub made : n ≤ old.injections
   pub place : ℕ
@@ -30,15 +30,15 @@ pub record StaysOut (old : WorldState) (e : Event) (c : Control) (n k : ℕ) : T
   pub kept : KeptFor old c n k
   pub harmless : loses_copy old n e ≡ false
 
--- Each injection is named by its number n, k is a BFR-id, and c is a router, in whose view copies have their course.
+-- Each injection is named by its number n, k is a BFR-id, and c is a router in whose topology copies have their course.
 pub record KeepsCourse (old new : WorldState) (e : Event) (out : StepOut) : Type 0 where
-  -- the copies of an injection begin on their course, and none is dropped
+  -- the copies of an injection start on their course, and none is dropped
   pub first : (c : Control) (n k : ℕ) (i : Injection) → Enters old e c n k i → KeptFor new c n k
   pub first_drops : (c : Control) (n k : ℕ) (i : Injection) → Enters old e c n k i → drops_of n k out.drops ≡ 0
   -- copies on their course stay on it, and none is dropped
   pub later : (c : Control) (n k : ℕ) → StaysOut old e c n k → KeptFor new c n k
   pub later_drops : (c : Control) (n k : ℕ) → StaysOut old e c n k → drops_of n k out.drops ≡ 0
-  -- whether views agree or not, a way leads from each router a to the node y that it chooses for a BFR-id: no copy is
-  -- dropped for want of one
+  -- whether topologies agree or not, a path leads from each router a to the node y that it chooses for a BFR-id: no
+  -- copy is dropped for lack of one
   pub ways : (a : ℕ) (c : Control) (x : DataItem) (y k : ℕ) (ks : List ℕ) (ttl : ℕ) → slice_get old.routers a ≡ Some c → choice_of c.conf (control_view c) (own_node c) (packet_of x) k ≡ Some y
       → (item_copied old.domain.routers a c.conf (control_view c) (own_node c) x y ks ttl).drops ≡ []

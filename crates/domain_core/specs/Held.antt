@@ -1,4 +1,4 @@
--- How a domain at work is held, and what one event does to it.
+-- The representation of a running domain, and the effect of one event on it.
 use Rattle.std.specs.Prelude.{◌≡◌, ℕ, List, slice_get, Option}
 use Rattle.wire_base.specs.declared.bsl.Bsl.{Bsl}
 use Rattle.domain_model.specs.declared.fault.EventFault.{EventFault}
@@ -32,6 +32,6 @@ pub record IsDone (old new : Network) (n : Happened) (out : StepOut) : Type 0 wh
 abbrev pub heard_in : Network → List ℕ
 heard_in n = (seen_of (state_of n)).heard
 
--- what a router says of an injection
+-- the reason of a router to reject an injection
 abbrev pub inject_fault : Network → ℕ → ℕ → Bsl → List ℕ → Option EventFault
 inject_fault n a sd bsl ks = entry_fault (slice_get (world_in n).routers a) sd bsl ks

@@ -1,4 +1,5 @@
-//! What a router does by itself: its ends change, it sends, a second passes, it starts again, or a payload enters there.
+//! The events in which a router acts by itself: its interfaces change, it sends, a second passes, it restarts, or a
+//! payload is injected there.
 ghost use Rattle.std.specs.Prelude.{◌≡◌, ◌<◌, ◌≤◌, ◌^◌, ◌-◌, ℕ, true, length, Some, None, IfOk, OnOk, OnErr, MatchResult};
 ghost use Rattle.replay_text.specs.declared.event.Event.TheVariants as events;
 ghost use Rattle.domain_core.specs.Answers.{entry_refused, outcome, Refuses};
@@ -15,7 +16,7 @@ use frames_in_flight::{confs_of, queue_sent};
 use wire_base::{Bsl, EdgeFault, M};
 
 impl Network {
-    /// The end of a router toward another, which is up, goes down.
+    /// Takes down the interface of a router toward another, which is up.
     pub(crate) fn down(&mut self, from: u16, to: u16) -> M<StepOut>
         requires truth { IsTrueNetwork (state_of self.old) }
         requires place { from < length self.old.routers.items }
@@ -34,7 +35,7 @@ impl Network {
         Ok(StepOut::nothing(alloc))
     }
 
-    /// The end of a router toward another, which is down, comes up.
+    /// Brings up the interface of a router toward another, which is down.
     pub(crate) fn up(&mut self, from: u16, to: u16) -> M<StepOut>
         requires truth { IsTrueNetwork (state_of self.old) }
         requires place { from < length self.old.routers.items }
@@ -53,7 +54,7 @@ impl Network {
         Ok(StepOut::nothing(alloc))
     }
 
-    /// A second passes at a router.
+    /// Lets a second pass at a router.
     pub(crate) fn tick(&mut self, at: u16) -> M<StepOut>
         requires truth { IsTrueNetwork (state_of self.old) }
         requires place { at < length self.old.routers.items }
@@ -68,7 +69,7 @@ impl Network {
         Ok(StepOut::nothing(alloc))
     }
 
-    /// A router forgets its LSDB.
+    /// Restarts a router, which loses its LSDB.
     pub(crate) fn restart(&mut self, at: u16) -> M<StepOut>
         requires truth { IsTrueNetwork (state_of self.old) }
         requires place { at < length self.old.routers.items }
@@ -83,7 +84,7 @@ impl Network {
         Ok(StepOut::nothing(alloc))
     }
 
-    /// A router sends what is due toward another, over an end that is up.
+    /// Sends what is due from a router toward another, on an interface that is up.
     pub(crate) fn send(&mut self, from: u16, to: u16) -> M<StepOut>
         requires truth { IsTrueNetwork (state_of self.old) }
         requires place { from < length self.old.routers.items }
@@ -103,7 +104,8 @@ impl Network {
         self.send_on_link(from, link, to)
     }
 
-    /// Whether a router owes nothing over an end, as most do most of the time: then nothing happens where it sends there.
+    /// Returns true only if nothing is due at a router on an interface, the usual case. A send there then has no
+    /// effect.
     pub(crate) fn owes_nothing(&self, from: u16, link: u16) -> bool
         requires truth { IsTrueNetwork (state_of self.now) }
         requires place { from < length self.now.routers.items }
@@ -112,8 +114,8 @@ impl Network {
         !self.routers[usize::from(from)].may_owe(link)
     }
 
-    /// A router sends what is due over the end `link`, which is up and leads there. It has sent that only once it is reported and
-    /// in flight.
+    /// Sends what is due from a router on the interface `link`, which is up and leads to `to`. The router records it as
+    /// sent only once it is reported and in flight.
     pub(crate) fn send_on_link(&mut self, from: u16, link: u16, to: u16) -> M<StepOut>
         requires truth { IsTrueNetwork (state_of self.old) }
         requires place { from < length self.old.routers.items }
@@ -133,7 +135,7 @@ impl Network {
         Ok(out)
     }
 
-    /// A payload enters at a router.
+    /// Injects a payload at a router.
     pub(crate) fn inject(
         &mut self,
         at: u16,
@@ -168,7 +170,7 @@ impl Network {
     }
 }
 
-/// The refusal of an injection that a router refuses.
+/// Returns the error of an injection that a router rejects.
 fn entry_refused(fault: EdgeFault) -> EventFault
     ensures { result ≡ entry_refused fault }
 {

@@ -1,4 +1,4 @@
-//! One event, whichever it is.
+//! The dispatch of one event of any kind.
 ghost use Rattle.std.specs.Prelude.{◌≡◌, length, None, IfOk, OnOk, OnErr, IfErr, MatchResult};
 ghost use Rattle.domain_core.specs.Answers.{early_fault, Refuses, Stays};
 ghost use Rattle.frames_in_flight.specs.Told.{told};
@@ -13,7 +13,8 @@ use domain_model::{EventFault, StepOut};
 use replay_text::Event;
 
 impl Network {
-    /// Does an event that its own rules allow, and counts it; or a router refuses it, or memory runs out.
+    /// Executes an event that its own rules allow, and counts it. It fails if a router rejects the event, or if an
+    /// allocation fails.
     pub(crate) fn execute(&mut self, event: &Event) -> Result<StepOut, EventFault>
         requires truth { IsTrueNetwork (state_of self.old) }
         requires fits { EventFits (length self.old.domain.routers) event.now }
@@ -33,7 +34,7 @@ impl Network {
         Ok(out)
     }
 
-    /// Does an event, but doesn't count it.
+    /// Executes an event without counting it.
     fn dispatch(&mut self, event: &Event) -> Result<StepOut, EventFault>
         requires truth { IsTrueNetwork (state_of self.old) }
         requires routers { length self.old.routers.items ≡ length self.old.domain.routers }

@@ -1,7 +1,8 @@
-//! A domain at work, as code: a `World` of routers and of frames in flight, whose every event does what the model of
-//! `domain_model` says; above `router_core`, whose routers it has take the frames.
+//! A running domain, as code: a `World` of routers and of frames in flight, whose every event does what the model of
+//! `domain_model` defines. It uses `router_core`, whose routers receive the frames.
 //!
-//! It promises that a world's next state, what it sends, delivers and drops are the model's, and that its LSDBs are truthful.
+//! It promises that a world's next state, and what it sends, delivers and drops, are the model's, and that its LSDBs
+//! are truthful.
 #![tactic(auto)]
 
 mod alone;

@@ -11,8 +11,7 @@ use router_core::Router;
 use std::alloc::Global;
 use wire_base::{Domain, M, RouterConf};
 
-/// A domain at work: its routers by place, the frames in flight, how many injections were made, and how many events were
-/// done.
+/// A running domain: its routers by index, the frames in flight, and the numbers of injections and events so far.
 #[derive(Drop)]
 pub(crate) struct Network {
     pub(crate) domain: Domain,
@@ -22,7 +21,7 @@ pub(crate) struct Network {
     pub(crate) events: u32,
 }
 
-/// Routers that have just started.
+/// Returns routers that have just started.
 fn routers_of(alloc: Global, confs: &[RouterConf]) -> M<Vec<Router>>
     requires { AllByRecursion IsSound confs.now }
     ensures { IfOk result (λ routers. routers.items ≡ map started_router confs.now) }
@@ -35,7 +34,7 @@ fn routers_of(alloc: Global, confs: &[RouterConf]) -> M<Vec<Router>>
 }
 
 impl Network {
-    /// Each router has just started, with all its ends up, and nothing is in flight.
+    /// Returns a domain in which each router has just started, with all its interfaces up, and nothing is in flight.
     pub(crate) fn new(alloc: Global, domain: Domain) -> M<Network>
         ensures world { IfOk result (λ n. world_in n ≡ first_world domain) }
         ensures heard { IfOk result (λ n. heard_in n ≡ map (λ r. 0) domain.routers) }
@@ -52,26 +51,26 @@ impl Network {
         })
     }
 
-    /// The allocator that the domain keeps.
+    /// Returns the allocator of the domain.
     pub(crate) fn allocator(&self) -> Global {
         self.domain.routers.allocator()
     }
 
-    /// The end of a router that leads to another, where a link joins the two.
+    /// Returns the interface of a router that leads to another, if a link joins the two.
     pub(crate) fn link(&self, from: u16, to: u16) -> Option<u16>
         ensures { result ≡ link_between self.now.domain.routers from to }
     {
         link_between(confs_of(&self.domain), from, to)
     }
 
-    /// How many frames are in flight over the end of a router.
+    /// Returns how many frames are in flight from the interface of a router.
     pub(crate) fn frames_over(&self, from: u16, link: u16) -> usize
         ensures { result ≡ length (queue_at (world_in self.now).flights from link) }
     {
         self.flights.len(from, link)
     }
 
-    /// How many frames are in flight from one router to another.
+    /// Returns how many frames are in flight from one router to another.
     pub(crate) fn frames(&self, from: u16, to: u16) -> usize
         ensures { result ≡ length (frames_between (world_in self.now) from to) }
     {
@@ -81,7 +80,7 @@ impl Network {
         }
     }
 
-    /// How many BFR-ids are in flight.
+    /// Returns how many BFR-ids are in flight.
     #[tactic(auto, using(crate::proofs::CarriedLaws::ids_are_carried))]
     pub(crate) fn ids_in_flight(&self) -> M<u64>
         ensures { IfOk result (λ count. count ≡ ids_in_flight (world_in self.now).flights) }

@@ -1,4 +1,4 @@
-//! Sends and takes over links whose ends are known.
+//! Sends and receives on links whose interfaces are known.
 ghost use Rattle.std.specs.Prelude.{◌≡◌, ◌<◌, length, Some, None, IfOk, OnOk, OnErr, IfErr, MatchResult};
 ghost use Rattle.replay_text.specs.declared.event.Event.TheVariants as events;
 ghost use Rattle.domain_core.specs.Answers.{outcome, Refuses, Stays};
@@ -14,7 +14,7 @@ use domain_model::{EventFault, StepOut};
 use std::alloc::Global;
 use wire_base::limits::MOST_EVENTS;
 
-/// What an event is answered with, where nothing may be told of it.
+/// Returns what an event reports, or the empty report if there is nothing to report.
 pub(crate) fn or_nothing(alloc: Global, made: Option<StepOut>) -> StepOut
     ensures { result ≡ outcome made }
 {
@@ -25,7 +25,7 @@ pub(crate) fn or_nothing(alloc: Global, made: Option<StepOut>) -> StepOut
 }
 
 impl Network {
-    /// The first reason for which nothing may be sent over an end.
+    /// Returns the first reason why nothing may be sent on an interface.
     #[tactic(auto, unfolding(domain_model::specs::Faults::event_fault))]
     fn send_fault_at(&self, from: u16, link: u16, to: u16) -> Option<EventFault>
         requires place { from < length self.now.routers.items }
@@ -38,7 +38,7 @@ impl Network {
         self.send_fault_over(from, link)
     }
 
-    /// The first reason for which the frame at a place can't be taken that left over an end.
+    /// Returns the first reason why the frame at an index that was sent on an interface cannot be delivered.
     #[tactic(auto, unfolding(domain_model::specs::Faults::event_fault))]
     fn take_fault_at(&self, from: u16, link: u16, to: u16, i: u32) -> Option<EventFault>
         requires joined { link_between self.now.domain.routers from to ≡ Some link }
@@ -50,7 +50,7 @@ impl Network {
         self.take_fault_over(from, link, i)
     }
 
-    /// The event that a router sends over the end `link` toward another, where it is allowed, and counted then.
+    /// Executes and counts the event in which a router sends on the interface `link` toward another, if it is allowed.
     pub(crate) fn step_send(
         &mut self,
         from: u16,
@@ -80,8 +80,8 @@ impl Network {
         Ok(Some(out))
     }
 
-    /// The event that the frame at a place is taken, which left over the end `link` and comes to the end `back`, where it is
-    /// allowed, and counted then.
+    /// Executes and counts the event that delivers the frame at an index, which was sent on the interface `link` and
+    /// arrives at the interface `back`, if it is allowed.
     pub(crate) fn step_take(
         &mut self,
         from: u16,
@@ -106,7 +106,7 @@ impl Network {
         if let Some(fault) = self.take_fault_at(from, link, to, i) {
             return Err(fault);
         }
-        // An answer is large: where there is none, nothing of it is moved.
+        // The report is large. If there is none, it is not moved.
         match self.take_on_link(from, link, to, back, i) {
             Ok(None) => {
                 self.events += 1;

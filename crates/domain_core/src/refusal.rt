@@ -1,4 +1,4 @@
-//! Why an event isn't allowed, but for what a router says of an injection.
+//! Why an event is not allowed, except for the reasons of a router to reject an injection.
 ghost use Rattle.std.specs.Prelude.{◌≡◌, ℕ, ◌<◌, not, nat_le, List, length, slice_get, Some, None};
 ghost use Rattle.wire_base.specs.declared.conf.RouterConf.{RouterConf};
 ghost use Rattle.replay_text.specs.declared.event.Event.TheVariants as events;
@@ -17,7 +17,8 @@ use replay_text::Event;
 use wire_base::limits::{MOST_EVENTS, MOST_IN_FLIGHT};
 
 impl Network {
-    /// The first reason for which the event isn't allowed, but for what a router says of an injection.
+    /// Returns the first reason why the event is not allowed, except for the reasons of a router to reject an
+    /// injection.
     pub(crate) fn fault(&self, event: &Event) -> Option<EventFault>
         requires routers { length self.now.routers.items ≡ length self.now.domain.routers }
         requires fits { EventFits (length self.now.domain.routers) event.now }
@@ -46,7 +47,7 @@ impl Network {
         }
     }
 
-    /// So many frames are in flight that no more may be sent.
+    /// Returns whether so many frames are in flight that no more may be sent.
     #[tactic(auto, using(crate::proofs::SeenLaws::seen_count))]
     fn is_full(&self) -> bool
         ensures { result ≡ nat_le most_in_flight (in_flight (world_in self.now).flights) }
@@ -54,7 +55,7 @@ impl Network {
         self.flights.count() >= MOST_IN_FLIGHT
     }
 
-    /// Whether the end at a place is up.
+    /// Returns whether the interface at an index is up.
     fn is_end_up(&self, place: u16, link: u16) -> bool
         requires { place < length self.now.routers.items }
         ensures { result ≡ up_over (slice_get (world_in self.now).routers place) (Some link) }
@@ -62,7 +63,7 @@ impl Network {
         self.routers[usize::from(place)].is_up(link)
     }
 
-    /// There is no such frame over an end.
+    /// Returns the error if there is no such frame from an interface.
     fn frame_fault(&self, from: u16, link: u16, i: u32) -> Option<EventFault>
         ensures { result ≡ frame_fault (slice_get (queue_at (world_in self.now).flights from link) i) i (length (queue_at (world_in self.now).flights from link)) }
     {
@@ -72,7 +73,7 @@ impl Network {
         }
     }
 
-    /// There is no such frame over an end, or it carries a packet.
+    /// Returns the error if there is no such frame from an interface, or if it carries a packet.
     fn repeat_fault(&self, from: u16, link: u16, i: u32) -> Option<EventFault>
         ensures { result ≡ repeat_fault (slice_get (queue_at (world_in self.now).flights from link) i) i (length (queue_at (world_in self.now).flights from link)) }
     {
@@ -91,7 +92,7 @@ impl Network {
         }
     }
 
-    /// The same of a frame that left over the end `link`, but for want of a link.
+    /// Does the same for a frame that was sent on the interface `link`, except that a missing link is not checked.
     pub(crate) fn take_fault_over(&self, from: u16, link: u16, i: u32) -> Option<EventFault>
         ensures { result ≡ unless_room (world_in self.now) (frame_fault (slice_get (queue_at (world_in self.now).flights from link) i) i (length (queue_at (world_in self.now).flights from link))) }
     {
@@ -160,7 +161,7 @@ impl Network {
         }
     }
 
-    /// The same over the end `link`, but for want of a link.
+    /// Does the same for a send on the interface `link`, except that a missing link is not checked.
     pub(crate) fn send_fault_over(&self, from: u16, link: u16) -> Option<EventFault>
         requires { from < length self.now.routers.items }
         ensures { result ≡ first_fault (not (up_over (slice_get (world_in self.now).routers from) (Some link))) faults.EndState (unless_room (world_in self.now) None) }
@@ -181,7 +182,7 @@ impl Network {
     }
 }
 
-/// What carries a packet doesn't come again.
+/// A frame that carries a packet is not duplicated.
 #[tactic(auto, unfolding(frames_in_flight::specs::Read::item_in))]
 fn packet_fault(flight: &FlightSeen<'_>) -> Option<EventFault>
     ensures { (confs : List RouterConf) (i n : ℕ) → result ≡ repeat_fault (Some (item_seen confs flight.now)) i n }

@@ -1,4 +1,4 @@
-//! What arrives, is lost or comes again.
+//! Frames that arrive, are lost or are duplicated.
 ghost use Rattle.std.specs.Prelude.{◌≡◌, ◌<◌, length, Some, IfOk, OnOk, OnErr};
 ghost use Rattle.replay_text.specs.declared.event.Event.TheVariants as events;
 ghost use Rattle.domain_core.specs.Answers.{outcome};
@@ -14,7 +14,7 @@ use frames_in_flight::{confs_of, drop_flight, is_silent, queue_taken};
 use wire_base::{Cause, M, Octets};
 
 impl Network {
-    /// A frame is lost: the router that it was for drops it.
+    /// Loses a frame: the router that it was for drops it.
     pub(crate) fn lose(&mut self, from: u16, to: u16, i: u32) -> M<StepOut>
         requires { IsTrueNetwork (state_of self.old) }
         ensures done { IfOk result (λ out. IsDone self.old self.new (doing (world_in self.old) (events.Lose from to i)) out) }
@@ -32,7 +32,7 @@ impl Network {
         Ok(or_nothing(alloc, out))
     }
 
-    /// A frame that carries a PDU comes again: a copy of it goes to the end of its direction.
+    /// Duplicates a frame that carries a PDU: a copy of it is queued at the end of its direction.
     pub(crate) fn again(&mut self, from: u16, to: u16, i: u32) -> M<StepOut>
         requires { IsTrueNetwork (state_of self.old) }
         ensures done { IfOk result (λ out. IsDone self.old self.new (doing (world_in self.old) (events.Again from to i)) out) }
@@ -50,13 +50,13 @@ impl Network {
         let None = flight.note else {
             return Ok(StepOut::nothing(alloc));
         };
-        // Its octets stand among those of the frames that it is put behind.
+        // Its octets are stored among those of the frames that it is appended to.
         let octets = Octets::from_slice(alloc, flight.octets)?;
         self.flights.push(from, link, octets.as_slice(), None)?;
         Ok(StepOut::nothing(alloc))
     }
 
-    /// A frame arrives.
+    /// Delivers a frame.
     pub(crate) fn take(&mut self, from: u16, to: u16, i: u32) -> M<StepOut>
         requires truth { IsTrueNetwork (state_of self.old) }
         requires place { to < length self.old.routers.items }
@@ -77,11 +77,13 @@ impl Network {
         Ok(or_nothing(alloc, taken))
     }
 
-    /// A frame arrives that left over the end `link`, and comes to the end `back`. At an end that is up the router takes it,
-    /// and at one that is down the router drops it. Of most frames nothing is reported.
+    /// Delivers a frame that was sent on the interface `link`, and arrives at the interface `back`. If this interface
+    /// is up, the router receives the frame; if it is down, the router drops it. For most frames there is nothing to
+    /// report.
     ///
-    /// A router that answers a frame is unchanged, and of one that changes there is nothing to be told. So after the router
-    /// has taken a frame memory may still run out, and the world is unchanged; the frame leaves its place only at last.
+    /// A router that replies to a frame is unchanged, and one that changes has nothing to report. So an allocation may
+    /// still fail after the router has received a frame, and the world is unchanged. The frame is removed from its
+    /// queue only at the end.
     pub(crate) fn take_on_link(
         &mut self,
         from: u16,

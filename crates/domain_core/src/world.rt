@@ -1,4 +1,4 @@
-//! A domain at work.
+//! A running domain.
 ghost use Rattle.std.specs.Prelude.{◌≡◌, ◌<◌, length, map, slice_get, Option, Some, None, IfOk, OnOk, OnErr, IfErr, MatchResult};
 ghost use Rattle.std.specs.List.{AllByRecursion};
 ghost use Rattle.replay_text.specs.declared.event.Event.TheVariants as events;
@@ -20,10 +20,10 @@ use std::alloc::Global;
 use std::marker::Model;
 use wire_base::{Domain, M};
 
-/// A domain at work: its routers, and the frames in flight between them. Contracts see the world that it is, with an item
-/// for each frame, and how many frames each router has taken.
+/// A running domain: its routers, and the frames in flight between them. Contracts see the world that it represents,
+/// with an item for each frame, and how many frames each router has received.
 ///
-/// It keeps that the world is truthful, and that each frame in flight is that of its item.
+/// The invariant of the type is that the world is truthful, and that each frame in flight is that of its item.
 #[derive(Drop)]
 pub struct World {
     network: Network,
@@ -41,7 +41,8 @@ impl Model for World {
 }
 
 impl World {
-    /// Each router has just started, with all its ends up, and nothing is in flight (ISO/IEC 10589, 7.3.17).
+    /// Returns a domain in which each router has just started, with all its interfaces up, and nothing is in flight
+    /// (ISO/IEC 10589, 7.3.17).
     pub fn new(alloc: Global, domain: Domain) -> M<World>
         ensures world { IfOk result (λ w. w.world ≡ first_world domain) }
         ensures heard { IfOk result (λ w. w.heard ≡ map (λ r. 0) domain.routers) }
@@ -52,16 +53,18 @@ impl World {
         })
     }
 
-    /// One event.
+    /// Executes one event.
     ///
-    /// What is reported of it is what was sent, as frames with the places of both routers, what was delivered and what was
-    /// dropped, each in order. An event that isn't allowed is refused for the first reason that holds, and changes nothing.
-    /// Memory may come in place of any answer, and leaves the world as it was too; only the count of frames that a router has
-    /// taken may have risen then. Only a frame that arrives at an end that is up is taken by a router.
+    /// The result has what was sent, as frames with the indices of both routers, what was delivered and what was
+    /// dropped, each in order. An event that is not allowed returns the first reason that applies, and changes nothing.
+    /// Out of memory may be returned instead of any result, and leaves the world unchanged too; only the count of
+    /// frames that a router has received may have risen then. A router receives only a frame that arrives at an
+    /// interface that is up.
     ///
-    /// Each BFR-id of a packet that is on the way before the event, or enters by it, is afterwards in one copy, one delivery or
-    /// one drop (RFC 8279, 6.5). While views agree, a copy for a BFR-id that is reachable over a path that its TTL covers is on a
-    /// shortest way to the id's owner, and no event drops it but one that loses it (RFC 8279, 6.9).
+    /// Each BFR-id of a packet that is in flight before the event, or is injected by it, is afterwards in one copy, one
+    /// delivery or one drop (RFC 8279, 6.5). While topologies agree, a copy for a BFR-id that is reachable over a path
+    /// that its TTL covers is on a shortest path to the id's owner, and no event drops it except one that loses it
+    /// (RFC 8279, 6.9).
     pub fn step(&mut self, event: &Event) -> Result<StepOut, EventFault>
         requires { EventFits (length self.old.world.domain.routers) event.now }
         ensures refused { MatchResult result (λ _. event_fault self.old.world event.now ≡ None) (λ e. Refuses (event_fault self.old.world event.now) e) }
@@ -75,7 +78,7 @@ impl World {
         ensures stays { IfErr result (λ e. Stays (self.new ≡ self.old) e) }
         ensures whole { OnErr result (IsAsBefore self.old self.new event.now) }
 
-        // Whatever is answered, the world is truthful, and one of the same domain.
+        // Whatever the result, the world is truthful, and is one of the same domain.
         ensures truth { IsTruthful self.new.world }
         ensures domain { self.new.world.domain ≡ self.old.world.domain }
     {
@@ -85,8 +88,8 @@ impl World {
         self.network.execute(event)
     }
 
-    /// What a router sends over the end `link`, which leads to the other: the event that it sends there, as `step` does it.
-    /// Where nothing is reported of it, as of most sends, there is no answer to be made.
+    /// Sends what is due from a router on the interface `link`, which leads to the other: the same event as a send in
+    /// `step`. Returns `None` if there is nothing to report, as for most sends.
     pub fn send_on_link(
         &mut self,
         from: u16,
@@ -110,8 +113,8 @@ impl World {
         self.network.step_send(from, link, to)
     }
 
-    /// The first frame arrives that left over the end `link` and comes to the end `back`: the event that it is taken, as `step`
-    /// does it. Where nothing is reported of it, as of most frames, there is no answer to be made.
+    /// Delivers the first frame that was sent on the interface `link` and arrives at the interface `back`: the same
+    /// event as a delivery in `step`. Returns `None` if there is nothing to report, as for most frames.
     pub fn take_on_link(
         &mut self,
         from: u16,
@@ -138,7 +141,7 @@ impl World {
         self.network.step_take(from, link, to, back, 0)
     }
 
-    /// The end of a router that leads to another, each named by its place, where a link joins the two.
+    /// Returns the interface of a router that leads to another, each named by its index, if a link joins the two.
     pub fn link(&self, from: u16, to: u16) -> Option<u16>
         ensures link { result ≡ link_between self.now.world.domain.routers from to }
         ensures truth { IsTruthful self.now.world }
@@ -146,28 +149,29 @@ impl World {
         self.network.link(from, to)
     }
 
-    /// How many frames are in flight over the end of a router.
+    /// Returns how many frames are in flight from the interface of a router.
     pub fn frames_over(&self, from: u16, link: u16) -> usize
         ensures { result ≡ length (queue_at self.now.world.flights from link) }
     {
         self.network.frames_over(from, link)
     }
 
-    /// How many frames are in flight from one router to another, each named by its place; 0 where no link joins them.
+    /// Returns how many frames are in flight from one router to another, each named by its index; 0 if no link joins
+    /// them.
     pub fn frames(&self, from: u16, to: u16) -> usize
         ensures { result ≡ length (frames_between self.now.world from to) }
     {
         self.network.frames(from, to)
     }
 
-    /// How many BFR-ids are in flight: those of all copies of packets in flight.
+    /// Returns how many BFR-ids are in flight: those of all copies of packets in flight.
     pub fn ids_in_flight(&self) -> M<u64>
         ensures { IfOk result (λ count. count ≡ ids_in_flight self.now.world.flights) }
     {
         self.network.ids_in_flight()
     }
 
-    /// The router at a place.
+    /// Returns the router at an index.
     pub fn router(&self, place: u16) -> &Router
         requires { place < length self.now.world.domain.routers }
         ensures control { slice_get self.now.world.routers place ≡ Some result.now.control }
@@ -176,7 +180,7 @@ impl World {
         &self.network.routers[usize::from(place)]
     }
 
-    /// The domain that its routers and links are those of.
+    /// Returns the domain with the configurations of its routers and links.
     pub fn domain(&self) -> &Domain
         ensures domain { result.now ≡ self.now.world.domain }
         ensures truth { IsTruthful self.now.world }

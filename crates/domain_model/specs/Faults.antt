@@ -1,4 +1,4 @@
--- Which events a domain allows, and why it refuses the others.
+-- Which events a domain allows, and why it rejects the others.
 use Rattle.std.specs.Prelude.{ℕ, not, nat_le, Bool, true, false, List, length, slice_get, is_none, option_map, Option, Some, None}
 use Rattle.wire_base.specs.declared.limits.TheConstants.{MOST_EVENTS, MOST_IN_FLIGHT}
 use Rattle.wire_base.specs.declared.bsl.Bsl.{Bsl}
@@ -14,11 +14,11 @@ use Rattle.domain_model.specs.World.{WorldState, is_up, link_between, frames_bet
 abbrev pub most_events : ℕ
 most_events = MOST_EVENTS
 
--- with so much on the way nothing more is sent
+-- once this many frames are in flight, nothing more is sent
 abbrev pub most_in_flight : ℕ
 most_in_flight = MOST_IN_FLIGHT
 
--- the reason, where it holds, else the next that does
+-- the reason if it applies, otherwise the next that does
 abbrev pub first_fault : Bool → EventFault → Option EventFault → Option EventFault
 first_fault true reason next = Some reason
 first_fault false reason next = next
@@ -29,33 +29,33 @@ unless_joined w a b next = first_fault (is_none (link_between w.domain.routers a
 abbrev pub unless_room : WorldState → Option EventFault → Option EventFault
 unless_room w next = first_fault (nat_le most_in_flight (in_flight w.flights)) faults.InFlight next
 
--- whether an end of a router is up
+-- whether an interface of a router is up
 abbrev pub up_over : Option Control → Option ℕ → Bool
 up_over None link = false
 up_over (Some c) None = false
 up_over (Some c) (Some link) = is_up c link
 
--- whether the end of one router toward another is up
+-- whether the interface of one router toward another is up
 abbrev pub is_up_toward : WorldState → ℕ → ℕ → Bool
 is_up_toward w a b = up_over (slice_get w.routers a) (link_between w.domain.routers a b)
 
--- that place has no frame
+-- no frame has that index
 abbrev pub frame_fault : Option Item → ℕ → ℕ → Option EventFault
 frame_fault None i n = Some (faults.NoFrame i n)
 frame_fault (Some x) i n = None
 
--- that place has no frame, or one that carries a packet
+-- no frame has that index, or the frame carries a packet
 abbrev pub repeat_fault : Option Item → ℕ → ℕ → Option EventFault
 repeat_fault None i n = Some (faults.NoFrame i n)
 repeat_fault (Some (PacketItem x)) i n = Some faults.NotControl
 repeat_fault (Some (ControlItem p)) i n = None
 
--- the router makes no packets
+-- the router creates no packets
 abbrev pub entry_fault : Option Control → ℕ → Bsl → List ℕ → Option EventFault
 entry_fault None sd bsl ks = None
 entry_fault (Some c) sd bsl ks = option_map faults.Edge (edge_fault c.conf sd bsl ks)
 
--- what an event's own rules say
+-- the reasons of an event's own rules
 abbrev pub rule_fault : WorldState → Event → Option EventFault
 rule_fault w (Inject a sd bsl ks ttl entropy payload) = unless_room w (entry_fault (slice_get w.routers a) sd bsl ks)
 rule_fault w (Take a b i) = unless_joined w a b (unless_room w (frame_fault (slice_get (frames_between w a b) i) i (length (frames_between w a b))))
@@ -67,6 +67,6 @@ rule_fault w (Send a b) = unless_joined w a b (first_fault (not (is_up_toward w 
 rule_fault w (Tick a) = None
 rule_fault w (Restart a) = None
 
--- The first reason for which an event isn't allowed, in the order of their numbers; none where it is allowed.
+-- The first reason why an event is not allowed, in the order of their numbers; none if it is allowed.
 unfoldable pub event_fault : WorldState → Event → Option EventFault
 event_fault w e = first_fault (nat_le most_events w.events) faults.Events (rule_fault w e)

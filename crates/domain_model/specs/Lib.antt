@@ -1,4 +1,4 @@
--- The model of a domain at work.
+-- The model of a running domain.
 pub mod Faults
 pub mod Moves
 pub mod Run

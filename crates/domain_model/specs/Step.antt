@@ -1,7 +1,7 @@
 -- What an event does to a domain: one event at one router (RFC 8279, 6; ISO/IEC 10589, 7.3.15 to 7.3.17).
 --
--- What happens is reported for every event, and why an event isn't allowed apart from it; a step joins both. An event that
--- names what isn't there changes nothing.
+-- What happens is defined for every event, and separately why an event is not allowed; a step combines both. An event
+-- that names something that does not exist changes nothing.
 use Rattle.std.specs.Prelude.{ℕ, ◌+◌, Bool, false, List, slice_get, slice_set, Option, Some, None, Result, Ok, Err, if◌then◌else◌}
 use Rattle.std.specs.List.{fold}
 use Rattle.wire_base.specs.declared.cause.Cause.TheVariants as cause
@@ -32,14 +32,14 @@ with_router w a c = record w { routers = slice_set w.routers a c }
 abbrev pub push_sending : List (List (List Item)) → Sending → List (List (List Item))
 push_sending flights s = push_item flights s.from s.link s.item
 
--- what is sent goes to the end of its direction, in order
+-- what is sent is queued at the end of its direction, in order
 abbrev pub push_all : List (List (List Item)) → List Sending → List (List (List Item))
 push_all flights sendings = fold push_sending flights sendings
 
 abbrev pub makes : WorldState → Made → Happened
 makes w m = record { world = record w { flights = push_all w.flights m.sent }; made = m }
 
--- a router's flooding answers over an end
+-- a router's flooding replies on an interface
 abbrev pub replies : WorldState → ℕ → ℕ → Reply → Happened
 replies w a link reply = makes (with_router w a reply.control) (replied w.domain.routers a link reply)
 
@@ -50,19 +50,19 @@ turns w a reply = same_world (with_router w a reply.control)
 abbrev pub taken_off : WorldState → ℕ → ℕ → ℕ → WorldState
 taken_off w a link i = record w { flights = without_item w.flights a link i }
 
--- ---- what arrives, is lost or comes again
+-- ---- arrival, loss and duplication
 
--- an item arrives at a router's end, which is up
+-- an item arrives at a router's interface, which is up
 abbrev pub arrives : WorldState → ℕ → ℕ → Control → Item → Happened
 arrives w b back c (ControlItem p) = replies w b back (on_pdu c back p)
 arrives w b back c (PacketItem x) = makes w (packet_taken w.domain.routers b c x x.outer)
 
--- at one that is down it is dropped
+-- at an interface that is down it is dropped
 abbrev pub comes : WorldState → ℕ → ℕ → Control → Item → Happened
 comes w b back c x = if is_up c back then arrives w b back c x else makes w (item_lost b cause.Link x)
 
--- The item at place i of what is on the way from a to b is taken: it leaves the end `link` of a, and arrives at the end
--- `back` of b.
+-- The item at index i of what is in flight from a to b is delivered: it leaves the interface `link` of a, and arrives
+-- at the interface `back` of b.
 abbrev pub takes : WorldState → ℕ → ℕ → ℕ → ℕ → ℕ → Option Item → Option Control → Happened
 takes w a link b back i None c = same_world w
 takes w a link b back i (Some x) None = same_world w
@@ -82,7 +82,8 @@ abbrev pub loses_over : WorldState → ℕ → ℕ → ℕ → Option ℕ → Ha
 loses_over w a b i None = same_world w
 loses_over w a b i (Some link) = loses w a link b i (slice_get (queue_at w.flights a link) i)
 
--- A PDU comes again: a copy goes to the end of its direction, and nothing counts as sent. A packet does not.
+-- A PDU is duplicated: a copy is queued at the end of its direction, and nothing counts as sent. A packet is not
+-- duplicated.
 abbrev pub repeats : WorldState → ℕ → ℕ → Option Item → Happened
 repeats w a link None = same_world w
 repeats w a link (Some (PacketItem x)) = same_world w
@@ -94,18 +95,18 @@ repeats_over w a i (Some link) = repeats w a link (slice_get (queue_at w.flights
 
 -- ---- what a router does by itself
 
--- a payload enters, with the next number of an injection
+-- a payload is injected, with the next injection number
 abbrev pub injects : WorldState → ℕ → (Control → Made) → Option Control → Happened
 injects w a enter None = same_world w
 injects w a enter (Some c) = makes (record w { injections = w.injections + 1 }) (enter c)
 
--- an end changes
+-- an interface changes
 abbrev pub changes_end : WorldState → ℕ → (Control → ℕ → Reply) → Option Control → Option ℕ → Happened
 changes_end w a change None link = same_world w
 changes_end w a change (Some c) None = same_world w
 changes_end w a change (Some c) (Some link) = turns w a (change c link)
 
--- what is due is sent over an end
+-- what is due is sent on an interface
 abbrev pub sends : WorldState → ℕ → Option Control → Option ℕ → Happened
 sends w a None link = same_world w
 sends w a (Some c) None = same_world w
@@ -130,7 +131,7 @@ doing w (Send a b) = sends w a (slice_get w.routers a) (link_between w.domain.ro
 doing w (Tick a) = changes w a tick (slice_get w.routers a)
 doing w (Restart a) = changes w a restart (slice_get w.routers a)
 
--- one more event was done
+-- the count of events, increased by one
 abbrev pub counted : Happened → Happened
 counted n = record n { world = record n.world { events = n.world.events + 1 } }
 
@@ -144,6 +145,6 @@ abbrev pub answered : Happened → Option EventFault → Result Happened EventFa
 answered n None = Ok n
 answered n (Some reason) = Err reason
 
--- what an allowed event does, or why the event isn't allowed
+-- what an allowed event does, or why the event is not allowed
 unfoldable pub step : WorldState → Event → Result Happened EventFault
 step w e = answered (happens w e) (event_fault w e)

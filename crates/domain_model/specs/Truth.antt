@@ -1,8 +1,8 @@
--- What a domain keeps over every event: what LSDBs and PDUs say is true of its routers, and each copy of a packet
--- carries the BIFT-id that its target gives the packet's triple (RFC 8279, 6.4; RFC 8296, 2.1.1 and 2.2.1; RFC 8401, 6;
+-- The invariant of a domain: LSDBs and PDUs match what its routers advertise, and each copy of a packet carries the
+-- BIFT-id that its target assigns to the packet's triple (RFC 8279, 6.4; RFC 8296, 2.1.1 and 2.2.1; RFC 8401, 6;
 -- ISO/IEC 10589, 7.3.7 and 7.3.16).
 --
--- That rests on one configuration for a whole run: a restart keeps a router's BFR-ids and labels.
+-- This depends on one configuration for a whole run: a restart keeps a router's BFR-ids and labels.
 use Rattle.std.specs.Prelude.{◌≡◌, ℕ, ◌+◌, ◌*◌, ◌^◌, ◌<◌, ◌≤◌, ◌⊎◌, Bool, false, List, [], length, map, slice_get, Option, Some, None}
 use Rattle.std.specs.List.{AllByRecursion}
 use Rattle.wire_base.specs.declared.limits.TheConstants.{MOST_PAYLOAD}
@@ -38,13 +38,13 @@ pub record IsAmong (confs : List RouterConf) (r : RouterConf) : Type 0 where
   pub place : ℕ
   pub there : slice_get confs place ≡ Some r
 
--- the identifier is that of the fragment 0 of one of the routers
+-- the LSP ID is that of the fragment 0 of one of the routers
 pub record IsNamed (confs : List RouterConf) (id : LspId) : Type 0 where
   pub router : RouterConf
   pub among : IsAmong confs router
   pub is : id ≡ fragment_0 router.system
 
--- A live one says what its router says of itself with some of its ends up, and its checksum is right.
+-- A live LSP contains what its router advertises with some of its interfaces up, and its checksum is right.
 pub record IsOwnLsp (confs : List RouterConf) (h : Head) (tlvs : List ℕ) : Type 0 where
   pub router : RouterConf
   pub among : IsAmong confs router
@@ -58,7 +58,7 @@ pub record IsOwnLsp (confs : List RouterConf) (h : Head) (tlvs : List ℕ) : Typ
   pub fresh : h.life ≤ full_life
   pub some : 0 < h.seq
 
--- a dead one says nothing
+-- an expired LSP has no content
 pub record IsDeadLsp (h : Head) (tlvs : List ℕ) : Type 0 where
   pub dead : h.life ≡ 0
   pub sum : h.sum ≡ 0
@@ -78,7 +78,7 @@ head_of e = record { life = e.life; id = e.id; seq = e.seq; sum = e.sum; flags =
 abbrev pub IsTrueEntry : List RouterConf → Entry → Type 0
 IsTrueEntry confs e = IsTrueLsp confs (head_of e) e.content
 
--- what has no entry, or one of sequence number 0, which only asks for an LSP, is to be sent nowhere
+-- what has no entry, or one of sequence number 0, which only requests an LSP, is to be sent nowhere
 abbrev pub IsUnsent : Flood → List Entry → Type 0
 IsUnsent f entries = (id : LspId) (link : ℕ) → seq_of (entry_in entries id) ≡ 0 → srm f id link ≡ false
 
@@ -88,23 +88,23 @@ pub record IsTrueControl (confs : List RouterConf) (c : Control) : Type 0 where
   pub entries : AllByRecursion (IsTrueEntry confs) c.entries
   pub unsent : IsUnsent c.flood c.entries
 
--- ---- PDUs on the way
+-- ---- PDUs in flight
 
--- a row of a sequence number PDU
+-- a row of a sequence numbers PDU
 pub record IsTrueRow (confs : List RouterConf) (s : Summary) : Type 0 where
   pub named : IsNamed confs s.id
   pub life : s.life ≤ full_life
   pub seq : s.seq ≤ last_sequence
   pub sum : s.sum < 2 ^ 16
 
--- the TLVs list such rows, and no more than one PDU has room for
+-- the TLVs list such rows, and no more than fit one PDU
 pub record IsTrueList (confs : List RouterConf) (tlvs : List ℕ) : Type 0 where
   pub rows : List Summary
   pub spelled : tlvs ≡ row_tlvs rows
   pub few : length rows ≤ most_listed
   pub each : AllByRecursion (IsTrueRow confs) rows
 
--- the source is one of the routers
+-- the source system is one of the routers
 pub record IsSource (confs : List RouterConf) (system : SystemId) : Type 0 where
   pub router : RouterConf
   pub among : IsAmong confs router
@@ -131,9 +131,9 @@ IsTruePdu confs (PsnpPdu system tlvs) = IsTruePsnp confs system tlvs
 IsTruePdu confs HelloPdu = ⊥
 IsTruePdu confs (OtherPdu number) = ⊥
 
--- ---- copies of packets on the way
+-- ---- copies of packets in flight
 
--- at that router the number stands for the triple
+-- at that router the BIFT-id selects the triple
 abbrev pub MeansAt : Option RouterConf → DataItem → Type 0
 MeansAt None x = ⊥
 MeansAt (Some q) x = means q x.kind x.bift ≡ Some x.triple
@@ -142,7 +142,7 @@ abbrev pub router_at : List RouterConf → Option ℕ → Option RouterConf
 router_at confs None = None
 router_at confs (Some place) = slice_get confs place
 
--- Its BFR-ids, from 1 on, stand in ascending order in the triple's set (RFC 8279, 3).
+-- Its BFR-ids, from 1 on, are in ascending order in the triple's set (RFC 8279, 3).
 abbrev pub AreOfSet : Triple → List ℕ → Type 0
 AreOfSet t ks = IsWithin (t.si * bits_of t.bsl) (t.si * bits_of t.bsl + bits_of t.bsl) ks
 
@@ -152,7 +152,7 @@ pub record IsPrefixOf (confs : List RouterConf) (p : Ipv4) : Type 0 where
   pub among : IsAmong confs router
   pub is : p ≡ router.prefix
 
--- a tunnel from one router to another, whose time to live hasn't ended
+-- a tunnel from one router to another, whose TTL has not expired
 pub record IsTunnelAmong (confs : List RouterConf) (o : Outer) : Type 0 where
   pub src : IsPrefixOf confs o.src
   pub dst : IsPrefixOf confs o.dst
@@ -163,8 +163,8 @@ abbrev pub OuterFits : List RouterConf → Option Outer → Type 0
 OuterFits confs None = Unit {0}
 OuterFits confs (Some o) = IsTunnelAmong confs o
 
--- A copy on the way to the router at place b, where so many injections were made: it has a BFR-id and a TTL, its
--- numbers fit their fields, and at its target its BIFT-id means its triple.
+-- A copy in flight to the router at index b, after that many injections: it has a BFR-id and a TTL, its numbers fit
+-- their fields, and its BIFT-id selects its triple at its target.
 pub record IsTrueCopy (confs : List RouterConf) (injections b : ℕ) (x : DataItem) : Type 0 where
   pub told : 1 ≤ x.number
   pub made : x.number ≤ injections
@@ -188,7 +188,7 @@ IsTrueItem confs injections b (PacketItem x) = IsTrueCopy confs injections b x
 
 -- ---- the domain
 
--- What a domain keeps over every event, where routers know or don't.
+-- The invariant that every event preserves, whether or not the routers have learned of each other.
 pub record IsTruthful (w : WorldState) : Type 0 where
   pub valid : IsValid w.domain
   pub confs : map (λ c. c.conf) w.routers ≡ w.domain.routers
@@ -209,7 +209,7 @@ pub record InjectFits (routers a sd : ℕ) (ks : List ℕ) (ttl entropy : ℕ) (
   pub entropy_fits : entropy < 2 ^ 20
   pub short : length octets ≤ MOST_PAYLOAD
 
--- the places are routers', and the numbers of an injection fit their fields
+-- the indices are those of routers, and the numbers of an injection fit their fields
 abbrev pub EventFits : ℕ → Event → Type 0
 EventFits routers (Inject a sd bsl ks ttl entropy octets) = InjectFits routers a sd ks ttl entropy octets
 EventFits routers (Take a b i) = (a < routers) × (b < routers)
@@ -223,8 +223,8 @@ EventFits routers (Restart a) = a < routers
 
 -- ---- drops
 
--- No frame is unreadable or means nothing, and no LSDB is full: what is dropped has no row, its TTL or its tunnel's
--- has ended, no route leads on, it was lost, or its link is down.
+-- Every frame can be parsed and has a meaning, and no LSDB is full. A drop is for a bit without a row, an expired TTL
+-- of the packet or of its tunnel, no route, a loss, or a link that is down.
 abbrev pub IsWorldCause : Cause → Type 0
 IsWorldCause cause.NoRow = Unit {0}
 IsWorldCause cause.Ttl = Unit {0}

@@ -1,4 +1,4 @@
--- Frames that a router sends to others, kept as a list of frames with a note: to whom each goes.
+-- Frames that a router sends to others, stored as a list of frames, each with the router that it goes to as its note.
 use Rattle.std.specs.Prelude.{ℕ, List, map}
 use Rattle.frame_list.specs.Spans.{Noted}
 use Rattle.domain_model.specs.declared.step_out.WireFrame.{WireFrame}

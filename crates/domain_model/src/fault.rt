@@ -2,25 +2,25 @@ ghost use Rattle.std.specs.Prelude.{◌≡◌};
 
 use wire_base::{EdgeFault, Memory};
 
-/// Why an event isn't allowed in a domain. The reasons are numbered in this order, from 1; where several hold, it is the
-/// first.
+/// Why an event is not allowed in a domain. The reasons are numbered in this order, from 1. If several apply, the first
+/// is reported.
 #[derive(Clone, Copy, Debug, PartialEq, Eq)]
 pub enum EventFault {
-    /// 1,000,000 events were done.
+    /// 1,000,000 events have occurred.
     Events,
     /// No link joins the two routers.
     NoLink,
-    /// An end that is to come up is up, or one that is to go down or to send is down.
+    /// An interface that is to come up is up, or one that is to go down or to send is down.
     EndState,
     /// 500,000 frames or more are in flight, and the event may send more.
     InFlight,
-    /// That place isn't below the number of frames on the way there, which is the second number.
+    /// The index is not below the number of frames in flight there, which is the second number.
     NoFrame(u32, usize),
-    /// A frame that is to come again carries a packet.
+    /// A frame that is to be duplicated carries a BIER packet.
     NotControl,
-    /// The router makes no packets for those BFR-ids, for this reason, which is never out of memory.
+    /// The router creates no packets for those BFR-ids, for this reason, which is never out of memory.
     Edge(EdgeFault),
-    /// Memory ran out.
+    /// An allocation failed.
     Memory,
 }
 

@@ -1,6 +1,7 @@
-//! The model of a domain at work: its routers' control states and what is on the way on its links, what each event does and
-//! why one isn't allowed, whole runs, and what every event keeps true. Definitions, laws, and the types of what an event tells.
-//! It stands on the definitions of one router (`wire_base`, `router_core`); `domain_core` is proved to do what it says.
+//! The model of a running domain: the control states of its routers and what is in flight on its links, what each event
+//! does and why one is not allowed, whole runs, and the invariant that every event preserves. It has definitions, laws,
+//! and the types of what an event reports. It depends on the definitions of one router (`wire_base`, `router_core`).
+//! `domain_core` is proved to implement it.
 #![tactic(auto)]
 
 mod fault;

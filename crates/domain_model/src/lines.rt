@@ -1,4 +1,4 @@
-//! What is delivered and dropped in a domain. Routers are named by their places in it.
+//! Deliveries and drops in a domain. Routers are named by their indices in it.
 use wire_base::{Cause, Octets, Rows};
 
 /// A delivery: the payload of an injection, for a BFR-id, at a router.

@@ -1,4 +1,4 @@
-//! What an event does to the outside. Routers are named by their places in the domain.
+//! The outside effects of an event. Routers are named by their indices in the domain.
 ghost use Rattle.std.specs.Prelude.{◌≡◌, []};
 
 use crate::lines::{DropLine, GotLine};
@@ -6,7 +6,7 @@ use crate::wire_frames::WireFrames;
 use std::alloc::Global;
 use wire_base::{Octets, Rows};
 
-/// A frame that a router sends to another, as contracts see it; `WireFrames` has the octets of several.
+/// A frame that a router sends to another, as contracts see it. `WireFrames` stores the octets of several.
 #[derive(Drop)]
 pub struct WireFrame {
     pub from: u16,
@@ -23,7 +23,7 @@ pub struct StepOut {
 }
 
 impl StepOut {
-    /// Nothing was sent, delivered or dropped.
+    /// Returns the empty result: nothing was sent, delivered or dropped.
     pub fn nothing(alloc: Global) -> Self
         ensures { result ≡ record { sent = []; got = []; drops = [] } }
     {

@@ -1,4 +1,4 @@
-//! The frames that an event sends, in one list of octets.
+//! The frames that an event sends, stored in one list of octets.
 ghost use Rattle.std.specs.Prelude.{◌≡◌, ◌<◌, [], length, slice_get, Some, option_map};
 ghost use Rattle.domain_model.specs.Wires.{wires_in};
 
@@ -6,8 +6,8 @@ use frame_list::FrameList;
 use std::alloc::Global;
 use std::marker::Model;
 
-/// Frames that a router sends to others, which contracts see as a list of them. Their octets stand in one list, so that a frame
-/// takes no memory of its own. What is noted of each is the router that it goes to.
+/// Frames that a router sends to others. Contracts see a list of frames. The octets are stored in one list, so that a
+/// frame needs no allocation of its own. The note of each frame is the router that it goes to.
 #[derive(Drop)]
 pub struct WireFrames {
     from: u16,
@@ -25,7 +25,7 @@ impl Model for WireFrames {
 }
 
 impl WireFrames {
-    /// No frames. Takes no memory.
+    /// Returns an empty list. Does not allocate.
     pub fn new(alloc: Global) -> Self
         ensures { result ≡ [] }
     {
@@ -35,21 +35,21 @@ impl WireFrames {
         }
     }
 
-    /// The frames that a router sends, each to the router that is noted of it.
+    /// Returns the frames that a router sends, each to the router in its note.
     pub fn sent_by(from: u16, list: FrameList<u16>) -> Self
         ensures { result ≡ wires_in from list }
     {
         WireFrames { from, list }
     }
 
-    /// How many frames there are.
+    /// Returns the number of frames.
     pub fn len(&self) -> usize
         ensures { result ≡ length self.now }
     {
         self.list.len()
     }
 
-    /// The octets of the frame at a place.
+    /// Returns the octets of the frame at an index.
     #[tactic(auto, using(crate::proofs::WireLaws::octets_are))]
     pub fn octets_at(&self, i: usize) -> &[u8]
         requires { i < length self.now }

@@ -86,27 +86,3 @@ module _ (course : Course) (line : ℕ) (said : Line) (old now : Telling) (why :
 
   pub at_run : IsAt (record course { run = (after course line said).run }) now
   at_run = record { run = so.run; telling = sym so.telling ∙ ap (λ (t : Told). t.telling) told_as }
-
--- an event that fits a domain is at a router that is there
-pub fits_enters : (n m : ℕ) (said : Line) → n ≡ m → LineFits n said → LineEnters m said
-fits_enters n m said same fits = subst (λ (k : ℕ). LineEnters k said) same (by said fits)
-  where
-    event_by : (e : Event) → EventFits n e → IsEntered n e
-    event_by (event.Inject router sd bsl ids ttl entropy payload) fits = fits.within
-    event_by (event.Take from to i) fits = tt
-    event_by (event.Lose from to i) fits = tt
-    event_by (event.Again from to i) fits = tt
-    event_by (event.Down from to) fits = tt
-    event_by (event.Up from to) fits = tt
-    event_by (event.Send from to) fits = tt
-    event_by (event.Tick router) fits = tt
-    event_by (event.Restart router) fits = tt
-
-    by : (l : Line) → LineFits n l → LineEnters n l
-    by line.Empty fits = tt
-    by (line.One e) fits = event_by e fits
-    by (line.Settle rounds) fits = tt
-
--- the domain at which a replay stands
-pub domain_at : (course : Course) (now : Telling) → IsAt course now → now.world.domain ≡ course.domain
-domain_at course now at = ap (λ (t : Telling). t.world.domain) (sym at.telling) ∙ at.run.domain

@@ -1,4 +1,5 @@
--- A run as it is reported: event by event the world goes on, the counts grow, and both texts gain what the event made.
+-- A run as it is reported: with each event the world advances, the counts grow, and both texts gain the effects of the
+-- event.
 use Rattle.std.specs.Prelude.{ℕ, Bool, true, false, ◌≡◌, ◌<◌, ◌++◌, List, [], flat_map, length, Option, Some, None, option_map}
 use Rattle.std.specs.List.{fold}
 use Rattle.wire_base.specs.declared.conf.RouterConf.{RouterConf}
@@ -20,8 +21,8 @@ use Rattle.replay_report.specs.Captures.{sending_record, with_records}
 use Rattle.replay_report.specs.Counting.{no_counts, counted, counts_of, NamesOnce}
 use Rattle.domain_replay.specs.Texts.{world_after_all, made_text, capture_text, run_text}
 
--- The world now, what was counted, the capture so far, the lines of the report so far, and whether what is sent goes into the
--- capture.
+-- The current world, the counts, the capture so far, the lines of the report so far, and whether what is sent goes into
+-- the capture.
 pub record Telling : Type 0 where
   pub world : WorldState
   pub counts : Counts
@@ -29,7 +30,7 @@ pub record Telling : Type 0 where
   pub report : List ℕ
   pub captures : Bool
 
--- nothing was done
+-- before any event
 abbrev pub first_telling : DomainConf → Telling
 first_telling d = record { world = first_world d; counts = no_counts; frames = written_header; report = []; captures = true }
 
@@ -37,7 +38,7 @@ first_telling d = record { world = first_world d; counts = no_counts; frames = w
 abbrev pub uncaptured : Telling → Telling
 uncaptured t = record { world = t.world; counts = t.counts; frames = []; report = t.report; captures = false }
 
--- the records of what an event sent
+-- the capture records of what an event sent
 abbrev pub sent_records : List RouterConf → ℕ → List Sending → List ℕ
 sent_records routers line sendings = flat_map (sending_record routers) (on_line line sendings)
 
@@ -51,29 +52,29 @@ tells_made line t e n =
       captures = t.captures;
     }
 
--- one event more, of a line
+-- one more event, of a line
 unfoldable pub tells : ℕ → Telling → Event → Telling
 tells line t e = tells_made line t e (happens t.world e)
 
--- ---- a domain at work
+-- ---- a running domain
 
--- The world now, what was counted, and whether what is sent goes into the capture: a telling without its texts.
+-- The current world, the counts, and whether what is sent goes into the capture: the reported run without its texts.
 pub record ReplayState : Type 0 where
   pub world : WorldState
   pub counts : Counts
   pub captures : Bool
 
--- nothing was done
+-- before any event
 abbrev pub first_state : (captures : Bool) → DomainConf → ReplayState
 first_state captures d = record { world = first_world d; counts = no_counts; captures = captures }
 
--- the telling, with what stands in both texts
+-- the reported run, with the contents of both texts
 abbrev pub with_texts : ReplayState → Texts → Telling
 with_texts s texts = record { world = s.world; counts = s.counts; frames = texts.frames; report = texts.report; captures = s.captures }
 
 -- ---- lines
 
--- What was reported, and why the event after it isn't allowed, where one isn't.
+-- What was reported, and why the event after it is not allowed, if one is not.
 pub record Told : Type 0 where
   pub telling : Telling
   pub refused : Option EventFault
@@ -93,7 +94,7 @@ abbrev pub tells_unless : ℕ → Told → Event → Option EventFault → Told
 tells_unless line t e None = tells_or line t.telling e (event_fault t.telling.world e)
 tells_unless line t e (Some why) = t
 
--- one event more; after one that isn't allowed nothing is done
+-- one more event; after one that is not allowed nothing is executed
 unfoldable pub reports_on : ℕ → Told → Event → Told
 reports_on line t e = tells_unless line t e t.refused
 
@@ -110,13 +111,13 @@ tells_line line t said = tells_all line (told t) (line_events t.world said)
 abbrev pub telling_of : DomainConf → Run → Telling
 telling_of d r = record { world = r.world; counts = counts_of r; frames = capture_text d r; report = run_text d r; captures = true }
 
--- What every run of a domain keeps: its events led to its world, and the domain and its routers are there.
+-- The invariant of every run of a domain: its events led to its world, and the domain and its routers exist.
 pub record IsRunOf (d : DomainConf) (r : Run) : Type 0 where
   pub world : r.world ≡ world_after_all (first_world d) r.events
   pub domain : r.world.domain ≡ d
   pub routers : length r.world.routers ≡ length d.routers
 
--- an injection is at a router that is there
+-- an injection is at a router that exists
 abbrev pub IsEntered : ℕ → Event → Type 0
 IsEntered count (event.Inject router sd bsl ids ttl entropy payload) = router < count
 IsEntered count (event.Take from to i) = Unit {0}
@@ -139,11 +140,11 @@ LineNamesOnce line.Empty = Unit {0}
 LineNamesOnce (line.One e) = NamesOnce e
 LineNamesOnce (line.Settle rounds) = Unit {0}
 
--- the line that was refused, where one was
+-- the line that was rejected, if one was
 abbrev pub at_line : ℕ → Option EventFault → Option (ℕ × EventFault)
 at_line line refused = option_map (λ why. (line, why)) refused
 
--- A line that is reported is a line that is done: as far, and refused for the same reason.
+-- A line that is reported is a line that is executed: as far, and rejected for the same reason.
 pub record IsToldSo (d : DomainConf) (line : ℕ) (p : Progress) (t : Told) : Type 0 where
   pub run : IsRunOf d p.run
   pub telling : t.telling ≡ telling_of d p.run

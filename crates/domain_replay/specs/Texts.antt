@@ -1,4 +1,5 @@
--- The texts of a run: its capture and its report; and those of a schedule, which end with the run or where a line is refused.
+-- The texts of a run: its capture and its report; and those of a schedule, which end with the run or where a line is
+-- rejected.
 use Rattle.std.specs.Prelude.{ℕ, ◌+◌, ◌++◌, List, [], ◌∷◌, map, Option, Some, None, Result, Ok, Err}
 use Rattle.std.specs.List.{fold}
 use Rattle.wire_base.specs.declared.conf.RouterConf.{RouterConf}
@@ -32,7 +33,7 @@ unfoldable pub events_text : WorldState → List (ℕ × Event) → List ℕ
 events_text w [] = []
 events_text w (e ∷ es) = made_text w.domain.routers e.0 (happens w e.1).made ++ events_text (happens w e.1).world es
 
--- one record a frame that was sent
+-- one record per frame that was sent
 unfoldable pub capture_text : DomainConf → Run → List ℕ
 capture_text d r = capture_of d.routers r.sent
 
@@ -40,17 +41,17 @@ capture_text d r = capture_of d.routers r.sent
 unfoldable pub run_text : DomainConf → Run → List ℕ
 run_text d r = events_text (first_world d) r.events
 
--- the last line on a run that was done by so many lines
+-- the last line on a run of that many lines
 abbrev pub run_done_text : Run → ℕ → List ℕ
 run_done_text r lines = done_text lines (counts_of r) (ids_in_flight r.world.flights)
 
--- all of it
+-- the whole report
 unfoldable pub report_text : DomainConf → Run → ℕ → List ℕ
 report_text d r lines = run_text d r ++ run_done_text r lines
 
 -- ---- of a schedule
 
--- why a line is refused
+-- why a line is rejected
 pub data Refusal : Type 0 where
   BadText : (why : TextFault) → Refusal
   BadEvent : (why : EventFault) → Refusal
@@ -61,7 +62,7 @@ refusal_text line (BadText why) = text_refused_text line (fault_text why)
 refusal_text line (BadEvent why) = event_refused_text line why
 refusal_text line TooLong = text_refused_text line too_long
 
--- How far a schedule was done: its run, and the line that was refused and why, where one was.
+-- How far a schedule was executed: its run, and the line that was rejected and why, if one was.
 pub record Reached : Type 0 where
   pub run : Run
   pub refused : Option (ℕ × Refusal)
@@ -73,12 +74,12 @@ reached_so r (Some refused) = record { run = r; refused = Some (refused.0, BadEv
 abbrev pub reached_by : Progress → Reached
 reached_by p = reached_so p.run p.refused
 
--- a line that says that, or why it says nothing
+-- a line that contains that, or why it is invalid
 abbrev pub line_reaches : ℕ → Run → Result Line TextFault → Reached
 line_reaches line r (Err why) = record { run = r; refused = Some (line, BadText why) }
 line_reaches line r (Ok said) = reached_by (line_done line (record { run = r; refused = None }) said)
 
--- where no line was refused so far, the rest is done
+-- if no line was rejected so far, the rest is executed
 abbrev pub goes_further : (Run → Reached) → Run → Option (ℕ × Refusal) → Reached
 goes_further rest r None = rest r
 goes_further rest r (Some refused) = record { run = r; refused = Some refused }
@@ -92,7 +93,7 @@ lines_reach names line r [] = record { run = r; refused = None }
 lines_reach names line r (text ∷ texts) =
     and_further (line_reaches line r (schedule_line text names)) (λ (next : Run). lines_reach names (line + 1) next texts)
 
--- the names of a domain's routers, by place
+-- the names of a domain's routers, by index
 abbrev pub names_of : DomainConf → List (List ℕ)
 names_of d = map (λ r. r.name) d.routers
 

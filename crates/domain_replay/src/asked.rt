@@ -1,4 +1,4 @@
-//! What the types of an event's fields say of its numbers. Nothing is done here.
+//! What the field types of an event imply about its numbers. This code computes nothing.
 ghost use Rattle.std.specs.Prelude.{◌<◌, ◌^◌};
 ghost use Rattle.std.specs.List.{AllByRecursion};
 ghost use Rattle.domain_replay.specs.Replaying.{NumbersFit};
@@ -13,7 +13,7 @@ fn ids_fit(ids: &[u16])
     }
 }
 
-/// The numbers of an event fit their types.
+/// Proves that the numbers of an event fit their types.
 pub(crate) fn numbers_fit(event: &Event)
     ensures { NumbersFit event.now }
 {

@@ -12,8 +12,8 @@ pub fn a_start_is_told()
     ensures told { (d : DomainConf) → first_telling d ≡ telling_of d (first_run d) }
 {}
 
-/// A line that is reported event by event is the line as the run does it: the world, the counts and both texts are those of the run,
-/// and it is refused where the run is, for the same reason.
+/// A line that is reported event by event is the line as the run executes it: the world, the counts and both texts are
+/// those of the run, and it is rejected if the run is, for the same reason.
 #[tactic(auto, using(crate::proofs::TellingLaws::line_told))]
 pub fn each_line_is_told()
     ensures { (d : DomainConf) (line : ℕ) (r : Run) (said : Line) → IsRunOf d r → LineEnters (length d.routers) said →

@@ -1,7 +1,7 @@
-//! What a domain did over a schedule, as texts: the capture of what its routers sent, and the report of what they delivered and
-//! dropped.
+//! What a domain did in a schedule, as text: the capture of what its routers sent, and the report of what they
+//! delivered and dropped.
 //!
-//! It stands on `domain_core`, and promises that the texts are those of the model's run, line by line.
+//! It depends on `domain_core`, and promises that the texts are those of the model's run, line by line.
 #![tactic(auto)]
 
 mod asked;
@@ -11,7 +11,4 @@ mod reported_world;
 
 pub use laws::{a_start_is_told, each_line_is_told, each_line_is_told_uncaptured};
 pub use replay::Replay;
-pub use replay_report::{
-    Counts, push_done, push_event, push_event_refused, push_frames, push_made, push_text_refused,
-    push_too_long,
-};
+pub use replay_report::{push_event_refused, push_text_refused, push_too_long};

@@ -1,4 +1,4 @@
-//! A domain over a schedule.
+//! A domain that runs a schedule.
 ghost use Rattle.std.specs.Prelude.{◌≡◌, ◌≢◌, ◌++◌, length, Some, true, false, IfOk, IfErr, OnOk, OnErr};
 ghost use Rattle.replay_text.specs.Events.{LineFits};
 ghost use Rattle.domain_model.specs.declared.fault.EventFault.TheVariants as fault;
@@ -17,8 +17,8 @@ use std::alloc::Global;
 use std::marker::Model;
 use wire_base::{Domain, M, Octets, Rows};
 
-/// A domain at work, and how much was counted. What its events report is appended to the outputs that each call is given: a
-/// record of each frame that is sent, where the run has a capture, and the lines of deliveries and drops.
+/// A running domain, with its counts. Each call appends what its events report to the outputs that it receives: a
+/// record of each frame that is sent, if the run has a capture, and the lines of deliveries and drops.
 ///
 /// It keeps the directions of the domain's links, which no event changes.
 #[derive(Drop)]
@@ -47,25 +47,25 @@ impl Replay {
         Ok(Replay { told, directions })
     }
 
-    /// A domain at its start.
+    /// Returns a domain that has just started.
     pub fn new(alloc: Global, domain: Domain) -> M<Self>
         ensures { IfOk result (λ replay. replay ≡ first_state true domain) }
     {
         Replay::start(alloc, domain, true)
     }
 
-    /// The same for a run without a capture, since what is sent is many times what is delivered: no frame is appended.
+    /// Returns the same for a run without a capture: no frame is appended. A domain sends far more than it delivers.
     pub fn uncaptured(alloc: Global, domain: Domain) -> M<Self>
         ensures { IfOk result (λ replay. replay ≡ first_state false domain) }
     {
         Replay::start(alloc, domain, false)
     }
 
-    /// Does what a line of the schedule says, up to an event that isn't allowed, and reports it with the number of the line.
+    /// Executes a line of the schedule, up to an event that is not allowed, and reports it with the number of the line.
     ///
-    /// Refused by the first event of the line that isn't allowed; those before it were done. `Memory` may come in place of any
-    /// answer, and then some first events of the line were done and reported too, and the rest not; only the event at which an
-    /// allocation failed may be done, with nothing reported of it.
+    /// The error is that of the first event of the line that is not allowed; those before it were executed. `Memory`
+    /// may be returned instead of any result. Then some first events of the line were executed and reported, and the
+    /// rest were not. Only the event at which an allocation failed may be executed without a report.
     #[tactic(auto, using(crate::proofs::LineTells::tells_ok, crate::proofs::LineTells::tells_refused))]
     pub fn line(
         &mut self,
@@ -85,8 +85,8 @@ impl Replay {
             .do_line(alloc, texts, line, self.directions.as_slice(), said)
     }
 
-    /// Appends the last line of the report on a schedule of so many lines, all of which were done; or nothing, where an
-    /// allocation fails.
+    /// Appends the last line of the report on a schedule with that many lines, all of which were done. If an allocation
+    /// fails, nothing is appended.
     pub fn done(&self, alloc: Global, report: &mut Octets, lines: u64) -> M<()>
         ensures ok { OnOk result (report.new ≡ report.old ++ done_text lines self.now.counts (ids_in_flight self.now.world.flights)) }
         ensures err { OnErr result (report.new ≡ report.old) }

@@ -1,4 +1,4 @@
-//! A domain at work, whose events are reported as they are done.
+//! A running domain whose events are reported as they are executed.
 ghost use Rattle.std.specs.Prelude.{◌≡◌, ◌≢◌, ◌∷◌, ◌++◌, length, Some, None, IfOk, OnOk, OnErr, [], flat_map};
 ghost use Rattle.std.specs.List.{AllByRecursion};
 ghost use Rattle.replay_text.specs.Events.{LineFits};
@@ -22,7 +22,7 @@ use std::alloc::Global;
 use std::marker::Model;
 use wire_base::{Domain, M, Rows};
 
-/// A domain at work, what was counted, and whether what is sent goes into a capture.
+/// A running domain, its counts, and whether what is sent goes into a capture.
 #[derive(Drop)]
 pub struct ReportedWorld {
     pub world: World,
@@ -39,7 +39,7 @@ impl Model for ReportedWorld {
 }
 
 impl ReportedWorld {
-    /// Nothing is done yet.
+    /// Returns a domain that has just started, with counts of zero.
     pub(crate) fn new(alloc: Global, domain: Domain, captures: bool) -> M<Self>
         ensures { IfOk result (λ told. told ≡ first_state captures domain) }
     {
@@ -50,7 +50,8 @@ impl ReportedWorld {
         })
     }
 
-    /// Reports an event of a line, which names no BFR-id twice, and what it made; or nothing, where an allocation fails.
+    /// Reports an event of a line, which names no BFR-id twice, and its effects. If an allocation fails, nothing is
+    /// reported.
     fn tell(
         &mut self,
         alloc: Global,
@@ -73,7 +74,7 @@ impl ReportedWorld {
         Ok(())
     }
 
-    /// One event, of a line.
+    /// Executes one event of a line.
     fn do_event(
         &mut self,
         alloc: Global,
@@ -91,18 +92,18 @@ impl ReportedWorld {
         Ok(())
     }
 
-    /// The directions of the domain's links, each of which joins two routers.
+    /// Returns the directions of the domain's links, each of which joins two routers.
     pub(crate) fn directions(&self, alloc: Global) -> M<Rows<Direction>>
         ensures value { IfOk result (λ all. all ≡ run.directions self.now.world.domain.routers) }
         ensures joins { IfOk result (λ all. AllByRecursion (IsJoining self.now.world.domain.routers) all) }
     {
         let domain = self.world.domain();
-        // The domain is valid, so the routers are there.
+        // The domain is valid, so the routers exist.
         let _routers = domain.routers.as_slice();
         directions(alloc, confs_of(domain))
     }
 
-    /// Whether the end is up over which a direction leaves.
+    /// Returns whether the interface of a direction is up.
     fn may_send(&self, direction: Direction) -> bool
         requires { IsJoining self.now.world.domain.routers direction }
         ensures { result ≡ run.may_send self.now.world direction }
@@ -110,7 +111,7 @@ impl ReportedWorld {
         self.world.router(direction.from).is_up(direction.link)
     }
 
-    /// A send over the end at which a direction leaves. Of most sends nothing is reported.
+    /// Sends on the interface of a direction. For most sends there is nothing to report.
     fn send_one(
         &mut self,
         alloc: Global,
@@ -134,7 +135,7 @@ impl ReportedWorld {
         Ok(())
     }
 
-    /// What the end sends over which a direction leaves, where it is up.
+    /// Sends on the interface of a direction, if it is up.
     fn send_now(
         &mut self,
         alloc: Global,
@@ -153,7 +154,7 @@ impl ReportedWorld {
         self.send_one(alloc, texts, line, direction)
     }
 
-    /// Each end that is up sends, direction by direction. No end comes up or goes down by that.
+    /// Sends on each interface that is up, direction by direction. No interface changes its state by that.
     fn do_sends(
         &mut self,
         alloc: Global,
@@ -172,7 +173,7 @@ impl ReportedWorld {
         Ok(())
     }
 
-    /// How many frames are in flight in a direction.
+    /// Returns how many frames are in flight in a direction.
     fn waiting(&self, direction: Direction) -> usize
         requires { IsJoining self.now.world.domain.routers direction }
         ensures { result ≡ length (frames_between self.now.world direction.from direction.to) }
@@ -180,7 +181,7 @@ impl ReportedWorld {
         self.world.frames_over(direction.from, direction.link)
     }
 
-    /// The end at which a direction arrives: a link has two.
+    /// Returns the interface at which a direction arrives: a link has two.
     fn facing(&self, direction: Direction) -> Option<u16>
         requires { IsJoining self.now.world.domain.routers direction }
         ensures link { result ≡ link_between self.now.world.domain.routers direction.to direction.from }
@@ -189,7 +190,7 @@ impl ReportedWorld {
         self.world.link(direction.to, direction.from)
     }
 
-    /// The first frame in a direction arrives, at the end `back`. Of most frames nothing is reported.
+    /// Delivers the first frame in a direction, at the interface `back`. For most frames there is nothing to report.
     fn take_one(
         &mut self,
         alloc: Global,
@@ -215,7 +216,7 @@ impl ReportedWorld {
         Ok(())
     }
 
-    /// As many frames arrive as are in flight in a direction now.
+    /// Delivers as many frames as are in flight in a direction now.
     fn take_now(
         &mut self,
         alloc: Global,
@@ -241,7 +242,7 @@ impl ReportedWorld {
         Ok(())
     }
 
-    /// All routers take what is in flight to them, direction by direction.
+    /// Delivers to all routers what is in flight to them, direction by direction.
     fn do_takes(
         &mut self,
         alloc: Global,
@@ -260,7 +261,7 @@ impl ReportedWorld {
         Ok(())
     }
 
-    /// All routers send what is due, and then all take.
+    /// Executes a round: all routers send what is due, and then all receive.
     fn do_round(
         &mut self,
         alloc: Global,
@@ -278,7 +279,7 @@ impl ReportedWorld {
         self.do_takes(alloc, texts, line, all)
     }
 
-    /// So many rounds.
+    /// Executes that many rounds.
     fn do_rounds(
         &mut self,
         alloc: Global,
@@ -298,7 +299,7 @@ impl ReportedWorld {
         Ok(())
     }
 
-    /// The events of what a line says.
+    /// Executes the events of a line.
     #[tactic(auto, using(crate::proofs::LineTells::event_asked), unfolding(crate::specs::Telling::tells_line, crate::specs::Telling::tells_all))]
     pub(crate) fn do_line(
         &mut self,

@@ -1,4 +1,4 @@
--- A domain at rest, in which a packet reaches one egress directly and one over a tunnel.
+-- A domain that has converged, in which a packet reaches one egress directly and one over a tunnel.
 use Rattle.std.specs.Prelude.{ℕ, true, false, List, [], ◌∷◌, map}
 use Rattle.wire_base.specs.declared.bsl.Bsl.TheVariants.{B64}
 use Rattle.wire_base.specs.declared.conf.RouterConf.{RouterConf}
@@ -17,7 +17,7 @@ use Rattle.domain_model.specs.World.{WorldState, no_flights}
 use Rattle.domain_model.specs.Run.{Run}
 use Rattle.laws_ledger.specs.Ledger.{Injection}
 
--- A joined to B and to P; P, which has no BIER, joined to C
+-- A joined to B and to P; P, a non-BFR, joined to C
 abbrev pub branch_a : RouterConf
 branch_a = router 65 1 false (sub 1 100 ∷ []) (2 ∷ 3 ∷ [])
 
@@ -33,14 +33,14 @@ branch_c = router 67 4 false (sub 4 400 ∷ []) (3 ∷ [])
 abbrev pub branch : DomainConf
 branch = record { routers = branch_a ∷ branch_b ∷ branch_p ∷ branch_c ∷ []; links = link 1 2 ∷ link 1 3 ∷ link 3 4 ∷ [] }
 
--- what each knows: all
+-- each LSDB has all LSPs
 abbrev pub lsp_of : RouterConf → Entry
 lsp_of r = own_lsp r (map (λ e. true) r.ends) 1
 
 abbrev pub lsps : List Entry
 lsps = lsp_of branch_a ∷ lsp_of branch_b ∷ lsp_of branch_p ∷ lsp_of branch_c ∷ []
 
--- with all ends up, and nothing to send
+-- with all interfaces up, and nothing to send
 abbrev pub rest : RouterConf → Control
 rest r =
     record {
@@ -53,7 +53,7 @@ rest r =
 abbrev pub at_rest : WorldState
 at_rest = record { domain = branch; routers = map rest branch.routers; flights = no_flights branch.routers; injections = 0; events = 0 }
 
--- the view of all
+-- the topology of all
 abbrev pub branch_view : List ViewNode
 branch_view =
     views.node 1 false (views.edge 1 ∷ views.edge 2 ∷ []) (views.sub 1 100 ∷ [])
@@ -74,12 +74,12 @@ the_injection = record { router = 0; sd = 0; bsl = B64; ids = 1 ∷ 2 ∷ 4 ∷ 
 abbrev pub enters : ℕ × Event
 enters = (1, Inject 0 0 B64 (1 ∷ 2 ∷ 4 ∷ []) 8 0 (0 ∷ 255 ∷ []))
 
--- B takes its copy; P and then C take that in the tunnel
+-- B receives its copy; P and then C receive the one in the tunnel
 abbrev pub taken : List (ℕ × Event)
 taken = (2, Take 0 1 0) ∷ (3, Take 0 2 0) ∷ (4, Take 2 3 0) ∷ []
 
 -- ---- copies
 
--- the copy for C, which A sends in a tunnel with that time to live
+-- the copy for C, which A sends in a tunnel with that TTL
 abbrev pub for_c : ℕ → DataItem
 for_c outer = copy 0 400 (4 ∷ []) (from_a 4 outer)

@@ -1,4 +1,4 @@
--- Small domains in which packets meet all that can befall them.
+-- Small domains with the special cases of forwarding.
 use Rattle.std.specs.Prelude.{ℕ, true, false, List, [], ◌∷◌, map}
 use Rattle.std.specs.List.{fold}
 use Rattle.wire_base.specs.declared.bsl.Bsl.TheVariants.{B64}
@@ -19,7 +19,7 @@ use Rattle.laws_ledger.specs.Ledger.{copies_of, deliveries, drops}
 
 -- ---- runs
 
--- the routers have those states, and nothing is on the way
+-- the routers have those states, and nothing is in flight
 abbrev pub at_work : DomainConf → List Control → WorldState
 at_work d controls = record { domain = d; routers = controls; flights = no_flights d.routers; injections = 0; events = 0 }
 
@@ -27,7 +27,7 @@ at_work d controls = record { domain = d; routers = controls; flights = no_fligh
 abbrev pub doing : WorldState → List Event → Run
 doing w es = fold goes_on (record { world = w; events = []; sent = []; got = []; drops = [] }) (map (λ e. (1, e)) es)
 
--- of injection 1: the copies for a BFR-id on the way, its deliveries and its drops
+-- for injection 1: the copies for a BFR-id in flight, its deliveries and its drops
 abbrev pub parts : ℕ → Run → List ℕ
 parts k r = copies_of 1 k r.world.flights ∷ deliveries 1 k r ∷ drops 1 k r ∷ []
 
@@ -53,18 +53,18 @@ twins = record { routers = twin_a ∷ twin_b ∷ twin_c ∷ []; links = link 1 2
 abbrev pub twin_lsps : List Entry
 twin_lsps = first_lsp twin_a ∷ first_lsp twin_b ∷ first_lsp twin_c ∷ []
 
--- all know all
+-- all LSDBs have all LSPs
 abbrev pub twins_agree : WorldState
 twins_agree = at_work twins (map (λ r. settled r twin_lsps) twins.routers)
 
--- A hasn't heard of C yet
+-- A has no LSP of C yet
 abbrev pub twins_disagree : WorldState
 twins_disagree =
     at_work twins (settled twin_a (first_lsp twin_a ∷ first_lsp twin_b ∷ []) ∷ settled twin_b twin_lsps ∷ settled twin_c twin_lsps ∷ [])
 
--- ---- two views that disagree
+-- ---- two topologies that disagree
 
--- In the ring A hasn't heard of D, and sends what is for C to B. B's link to C is down there, and B sends it to A.
+-- In the ring A has no LSP of D, and sends a copy for C to B. B's link to C is down there, and B sends it to A.
 abbrev pub apart_from_c : Control
 apart_from_c =
     record (settled ring_b (first_lsp ring_a ∷ own_lsp ring_b (true ∷ false ∷ []) 2 ∷ first_lsp ring_c ∷ first_lsp ring_d ∷ [])) {
@@ -81,12 +81,12 @@ ring_loops =
     ∷ []
     )
 
--- ---- copies that end on the way
+-- ---- copies that end before their target
 
 abbrev pub ring_agrees : WorldState
 ring_agrees = at_work ring (map (λ r. settled r ring_lsps) ring.routers)
 
--- in the fork a copy from A for C, in a tunnel whose time to live ends at P
+-- in the fork a copy from A for C, in a tunnel whose TTL expires at P
 abbrev pub fork_ends : WorldState
 fork_ends =
     record (at_work fork (map (λ r. settled r fork_lsps) fork.routers)) {

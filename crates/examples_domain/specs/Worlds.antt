@@ -1,4 +1,4 @@
--- Small domains at work.
+-- Small running domains.
 use Rattle.std.specs.Prelude.{ℕ, true, List, [], ◌∷◌, length, map, slice_get, Option, Some, None}
 use Rattle.wire_base.specs.declared.bsl.Bsl.TheVariants.{B64}
 use Rattle.wire_base.specs.declared.cause.Cause.{Cause}
@@ -25,7 +25,7 @@ sending a link b x = record { from = a; link = link; to = b; item = x }
 abbrev pub after : WorldState → Event → WorldState
 after w e = (happens w e).world
 
--- all routers have those LSDBs, and nothing is on the way
+-- all routers have those LSDBs, and nothing is in flight
 abbrev pub at_rest : DomainConf → List Entry → WorldState
 at_rest d entries =
     record {
@@ -58,14 +58,14 @@ entries_in (Some c) = length c.entries
 abbrev pub entries_at : WorldState → ℕ → ℕ
 entries_at w a = entries_in (slice_get w.routers a)
 
--- the ring where A has sent something for C, or with a TTL of 1 for B and C
+-- the ring after A has sent a copy for C, or with a TTL of 1 for B and C
 abbrev pub for_c : WorldState
 for_c = after ring_at_rest (enters (3 ∷ []) 8 0)
 
 abbrev pub for_b_and_c : WorldState
 for_b_and_c = after ring_at_rest (enters (2 ∷ 3 ∷ []) 1 0)
 
--- the fork where A has sent something for C, or for C and D
+-- the fork after A has sent a copy for C, or for C and D
 abbrev pub through_p : WorldState
 through_p = after fork_at_rest (enters (3 ∷ []) 8 0)
 
@@ -76,13 +76,13 @@ for_c_and_d = after fork_at_rest (enters (3 ∷ 4 ∷ []) 8 0)
 abbrev pub dropped_at_p : Cause → Made
 dropped_at_p why = record none_made { drops = record { router = 1; injection = Some 1; cause = why; ids = 3 ∷ [] } ∷ [] }
 
--- both LSDBs of the pair once all is settled
+-- both LSDBs of the pair once it has converged
 abbrev pub pair_lsps : List Entry
 pair_lsps = own_lsp pair_a (true ∷ []) 1 ∷ own_lsp pair_b (true ∷ []) 1 ∷ []
 
 abbrev pub pair_settled : Progress
 pair_settled = schedule_done pair (Settle 2 ∷ [])
 
--- an empty line, A sends, a frame that isn't there is taken, a second
+-- a blank line, A sends, a frame that does not exist is delivered, a second
 abbrev pub mixed_lines : List Line
 mixed_lines = Empty ∷ One (Send 0 1) ∷ One (Take 0 1 5) ∷ One (Tick 0) ∷ []

@@ -7,7 +7,7 @@ pub fn a_copy_on_its_course()
     ensures goes_on { IsOnCourse branch.routers branch_a branch_view 0 4 2 3 (for_c 254) }
 {}
 
-/// It isn't on the way to B, nor back from P to A, nor where its tunnel's time to live ends before C.
+/// The copy is off its course toward B, on the way back from P to A, and if its tunnel's TTL expires before C.
 pub fn copies_off_their_course()
     ensures aside { IsOnCourse branch.routers branch_a branch_view 0 4 0 1 (for_c 255) → ⊥ }
     ensures back { IsOnCourse branch.routers branch_a branch_view 0 4 2 0 (for_c 254) → ⊥ }

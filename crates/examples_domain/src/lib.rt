@@ -1,6 +1,6 @@
-//! Worked examples of a domain: its events on small domains, the ledger of small runs, which copies are on course and which aren't,
-//! and a run that meets all premises under which a packet arrives exactly once. Each function computes nothing, and what it
-//! ensures is proved by computing the definitions.
+//! Worked examples of a domain: its events on small domains, the ledger of small runs, which copies are on course and
+//! which are not, and a run that meets all premises under which a packet arrives exactly once. Each function computes
+//! nothing; its postconditions are proved by computing the definitions.
 #![tactic(auto)]
 
 mod control_events;

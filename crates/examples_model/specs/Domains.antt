@@ -1,5 +1,5 @@
--- Small domains of one MPLS sub-domain, on which the definitions are tried: level 2, area 49.0001, metrics of 10, and
--- bit strings of 64 bits. Routers are numbered from 1, and so are their systems and prefixes.
+-- Small domains of one MPLS sub-domain on which the definitions are tested: level 2, area 49.0001, metrics of 10, and
+-- BitStrings of 64 bits. Routers are numbered from 1, and so are their system IDs and prefixes.
 use Rattle.std.specs.Prelude.{ℕ, ◌-◌, Bool, true, false, List, [], ◌∷◌, map}
 use Rattle.wire_base.specs.declared.addresses.SystemId.{SystemId}
 use Rattle.wire_base.specs.declared.addresses.Mac.{Mac}
@@ -24,14 +24,14 @@ address n = record { 0 = 10 ∷ 0 ∷ 0 ∷ n ∷ [] }
 abbrev pub lsp : ℕ → LspId
 lsp n = record { system = system n; pseudonode = 0; fragment = 0 }
 
--- the Ethernet address of a router's end toward another
+-- the Ethernet address of a router's interface toward another
 abbrev pub mac : ℕ → ℕ → Mac
 mac n peer = record { 0 = 2 ∷ 0 ∷ 0 ∷ (n - 1) ∷ 0 ∷ (peer - 1) ∷ [] }
 
 abbrev pub end : ℕ → ℕ → End
 end n peer = record { peer = system peer; peer_mac = mac peer n; own_mac = mac n peer; metric = 10 }
 
--- a router's place in sub-domain 0: its BFR-id, and one label
+-- a router's membership of sub-domain 0: its BFR-id, and one label
 abbrev pub sub : ℕ → ℕ → OwnSub
 sub id label = record { sd = 0; id = id; ranges = record { bsl = B64; max_si = 0; label = label } ∷ [] }
 
@@ -57,7 +57,7 @@ router letter n overload subs peers =
 abbrev pub link : ℕ → ℕ → LinkConf
 link n m = record { a = n - 1; b = m - 1 }
 
--- A and B, joined
+-- A and B, connected
 abbrev pub pair_a : RouterConf
 pair_a = router 65 1 false (sub 1 100 ∷ []) (2 ∷ [])
 
@@ -83,7 +83,7 @@ ring_d = router 68 4 false (sub 4 400 ∷ []) (3 ∷ 1 ∷ [])
 abbrev pub ring : DomainConf
 ring = record { routers = ring_a ∷ ring_b ∷ ring_c ∷ ring_d ∷ []; links = link 1 2 ∷ link 2 3 ∷ link 3 4 ∷ link 4 1 ∷ [] }
 
--- A joined to P, which has no BIER, and P to C and D
+-- A connected to the non-BFR P, and P to C and D
 abbrev pub fork_a : RouterConf
 fork_a = router 65 1 false (sub 1 100 ∷ []) (2 ∷ [])
 
@@ -99,7 +99,7 @@ fork_d = router 68 4 false (sub 4 400 ∷ []) (2 ∷ [])
 abbrev pub fork : DomainConf
 fork = record { routers = fork_a ∷ fork_p ∷ fork_c ∷ fork_d ∷ []; links = link 1 2 ∷ link 2 3 ∷ link 2 4 ∷ [] }
 
--- A, the with its overload bit set B, and C in a line
+-- A, B with its overload bit set, and C in a line
 abbrev pub line_a : RouterConf
 line_a = router 65 1 false (sub 1 100 ∷ []) (2 ∷ [])
 

@@ -5,7 +5,7 @@ use Rattle.wire_base.specs.declared.triple.Summary.{Summary}
 use Rattle.wire_base.specs.model.Control.{purge}
 use Rattle.examples_model.specs.Domains.{lsp}
 
--- of a sequence number, a life and a checksum
+-- with a sequence number, a lifetime and a checksum
 abbrev pub live : ℕ → ℕ → ℕ → Entry
 live seq life sum = record { id = lsp 1; seq = seq; life = life; hold = 0; sum = sum; flags = 3; content = 1 ∷ 0 ∷ [] }
 

@@ -1,4 +1,4 @@
--- Flood states and PDUs on which flooding is tried. Router 9 has two links, both up, and no flag.
+-- Flood states and PDUs on which flooding is tested. Router 9 has two links, both up, and no flag.
 use Rattle.std.specs.Prelude.{ℕ, zero, suc, Bool, true, false, List, [], ◌∷◌, fold}
 use Rattle.wire_base.specs.declared.entry.Entry.{Entry}
 use Rattle.wire_base.specs.declared.triple.Summary.{Summary}
@@ -14,7 +14,7 @@ no_flag = record { own = system 9; up = true ∷ true ∷ []; due = false ∷ fa
 abbrev pub flags : ℕ → List Bool → List Bool → FlagRow
 flags n srm ssn = record { id = lsp n; srm = srm; ssn = ssn }
 
--- the head of an LSP of a system, with a sequence number, a life and a checksum
+-- the header of an LSP of a system, with a sequence number, a lifetime and a checksum
 abbrev pub head : ℕ → ℕ → ℕ → ℕ → Head
 head n seq life sum = record { life = life; id = lsp n; seq = seq; sum = sum; flags = 3 }
 
@@ -35,18 +35,18 @@ told_by entries rows = on_psnp no_flag entries 0 (row_tlvs rows) false
 abbrev pub told_whole : List Entry → ℕ → ℕ → List Summary → SnpAnswer
 told_whole entries from to rows = on_csnp no_flag entries 0 (lsp from) (lsp to) (row_tlvs rows) false
 
--- an entry of a system, of a sequence number, a life and a checksum
+-- an entry of a system, with a sequence number, a lifetime and a checksum
 abbrev pub entry : ℕ → ℕ → ℕ → ℕ → Entry
 entry n seq life sum = record { id = lsp n; seq = seq; life = life; hold = 0; sum = sum; flags = 3; content = content }
 
--- the pair: what router B is after it got all that A sends
+-- the pair: router B after it received all that A sends
 abbrev pub hears : Control → Pdu → Control
 hears c p = (on_pdu c 0 p).control
 
 abbrev pub hears_all : Control → List Pdu → Control
 hears_all c ps = fold hears c ps
 
--- both at their start, A sends, B hears and sends, A hears and sends
+-- both start, A sends, B receives and sends, A receives and sends
 abbrev pub b_heard : Control
 b_heard = hears_all (first_control pair_b) (send (first_control pair_a) 0).sent
 
@@ -64,11 +64,11 @@ ticks (suc n) c = (tick (ticks n c)).control
 abbrev pub b_after_five : Control
 b_after_five = ticks 5 (hears (first_control pair_b) (lsp_of (own_lsp pair_a (true ∷ []) 1)))
 
--- a router whose first end went down and up
+-- a router whose first interface went down and up
 abbrev pub flapped : Control → Control
 flapped c = (end_up (end_down c 0).control 0).control
 
--- A of the pair with one entry, of that life, and no flag
+-- A of the pair with one entry of that lifetime, and no flag
 abbrev pub aging : Entry → ℕ → Control
 aging e life =
     record {

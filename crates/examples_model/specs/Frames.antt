@@ -1,4 +1,4 @@
--- Frames of the small domains, as they stand on the wire, and the items that they are.
+-- Frames of the small domains as they are on the wire, and the corresponding items.
 use Rattle.std.specs.Prelude.{ℕ, ◌-◌, false, List, [], ◌∷◌, ◌++◌, length, map, take, Option, Some, None}
 use Rattle.wire_base.specs.declared.bsl.Bsl.TheVariants.{B64}
 use Rattle.wire_base.specs.declared.conf.Kind.TheVariants.{Mpls}
@@ -33,7 +33,7 @@ fork_a_to_c =
     ∷ 0 ∷ 3 ∷ 0 ∷ 0 ∷ 136 ∷ 71 ∷ 0 ∷ 18 ∷ 193 ∷ 8 ∷ 80 ∷ 16 ∷ 0 ∷ 0 ∷ 0 ∷ 4
     ∷ 0 ∷ 1 ∷ 0 ∷ 0 ∷ 0 ∷ 0 ∷ 0 ∷ 0 ∷ 0 ∷ 4 ∷ 0 ∷ 255 ∷ []
 
--- the same as P sends it on
+-- the same as P forwards it
 abbrev pub fork_p_to_c : List ℕ
 fork_p_to_c =
     2 ∷ 0 ∷ 0 ∷ 2 ∷ 0 ∷ 1 ∷ 2 ∷ 0 ∷ 0 ∷ 1 ∷ 0 ∷ 2 ∷ 8 ∷ 0 ∷ 69 ∷ 0
@@ -87,11 +87,11 @@ copy entropy label ids outer =
       outer = outer;
     }
 
--- a tunnel from A to another router, with its time to live
+-- a tunnel from A to another router, with its TTL
 abbrev pub from_a : ℕ → ℕ → Option Outer
 from_a n ttl = Some (record { src = address 1; dst = address n; ttl = ttl })
 
--- a router with all its ends up, and an LSDB
+-- a router with all its interfaces up, and an LSDB
 abbrev pub settled : RouterConf → List Entry → Control
 settled r entries =
     record {
@@ -108,17 +108,17 @@ fork_lsps = first_lsp fork_a ∷ first_lsp fork_p ∷ first_lsp fork_c ∷ first
 abbrev pub ending : ℕ → List ℕ → List ℕ
 ending octet frame = take (length frame - 1) frame ++ octet ∷ []
 
--- the copy for C that B sends on, with that TTL
+-- the copy for C that B forwards, with that TTL
 abbrev pub onward : ℕ → DataItem
 onward ttl = record (copy 0 300 (3 ∷ []) None) { ttl = ttl }
 
 abbrev pub got_3 : Got
 got_3 = record { sd = 0; id = 3; bfir = 1; entropy = 0; proto = 4; payload = 0 ∷ 255 ∷ [] }
 
--- a copy at B whose TTL ends there
+-- a copy at B whose TTL expires there
 abbrev pub at_1 : List ℕ → DataItem
 at_1 ids = record (copy 0 200 ids None) { ttl = 1 }
 
--- a router whose ends are down
+-- a router whose interfaces are down
 abbrev pub down : RouterConf → Control
 down r = record (settled r []) { flood = record { own = r.system; up = map (λ e. false) r.ends; due = []; rows = [] } }

@@ -1,15 +1,15 @@
--- Headers of tunnels, with right checksums, and what stands behind them.
+-- Headers of tunnels, with right checksums, and what follows them.
 use Rattle.std.specs.Prelude.{ℕ, List, [], ◌∷◌, ◌++◌}
 use Rattle.wire_base.specs.declared.conf.Kind.TheVariants.{Mpls}
 use Rattle.wire_base.specs.model.Tunnel.{TunnelPacket}
 use Rattle.examples_model.specs.Domains.{address}
 
--- a header in front of 26 octets
+-- a header before 26 octets
 abbrev pub plain : List ℕ
 plain =
     69 ∷ 0 ∷ 0 ∷ 46 ∷ 0 ∷ 0 ∷ 64 ∷ 0 ∷ 255 ∷ 47 ∷ 103 ∷ 157 ∷ 10 ∷ 0 ∷ 0 ∷ 1 ∷ 10 ∷ 0 ∷ 0 ∷ 3 ∷ []
 
--- with another packet behind it
+-- with another packet after it
 abbrev pub more_fragments : List ℕ
 more_fragments =
     69 ∷ 0 ∷ 0 ∷ 46 ∷ 0 ∷ 0 ∷ 96 ∷ 0 ∷ 255 ∷ 47 ∷ 71 ∷ 157 ∷ 10 ∷ 0 ∷ 0 ∷ 1 ∷ 10 ∷ 0 ∷ 0 ∷ 3 ∷ []
@@ -24,12 +24,12 @@ abbrev pub of_tcp : List ℕ
 of_tcp =
     69 ∷ 0 ∷ 0 ∷ 46 ∷ 0 ∷ 0 ∷ 64 ∷ 0 ∷ 255 ∷ 6 ∷ 103 ∷ 198 ∷ 10 ∷ 0 ∷ 0 ∷ 1 ∷ 10 ∷ 0 ∷ 0 ∷ 3 ∷ []
 
--- in front of two octets
+-- before two octets
 abbrev pub of_22_octets : List ℕ
 of_22_octets =
     69 ∷ 0 ∷ 0 ∷ 22 ∷ 0 ∷ 0 ∷ 64 ∷ 0 ∷ 255 ∷ 47 ∷ 103 ∷ 181 ∷ 10 ∷ 0 ∷ 0 ∷ 1 ∷ 10 ∷ 0 ∷ 0 ∷ 3 ∷ []
 
--- shorter than itself
+-- with a total length below the header's
 abbrev pub of_19_octets : List ℕ
 of_19_octets =
     69 ∷ 0 ∷ 0 ∷ 19 ∷ 0 ∷ 0 ∷ 64 ∷ 0 ∷ 255 ∷ 47 ∷ 103 ∷ 184 ∷ 10 ∷ 0 ∷ 0 ∷ 1 ∷ 10 ∷ 0 ∷ 0 ∷ 3 ∷ []
@@ -52,6 +52,6 @@ inside =
 abbrev pub whole : List ℕ
 whole = plain ++ (gre_mpls ++ inside)
 
--- what it is
+-- its tunnel packet
 abbrev pub packet : TunnelPacket
 packet = record { src = address 1; dst = address 3; ttl = 255; inner = Mpls; carried = inside }

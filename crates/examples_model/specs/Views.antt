@@ -1,4 +1,4 @@
--- Views of the small domains, and LSDBs on which single rules of the view are tried.
+-- Views of the small domains, and LSDBs on which single rules of the view are tested.
 use Rattle.std.specs.Prelude.{ℕ, Bool, true, false, List, [], ◌∷◌}
 use Rattle.std.specs.List.{flat_map}
 use Rattle.wire_base.specs.declared.conf.LabelRange.{LabelRange}
@@ -48,7 +48,7 @@ line_view =
     ∷ node 3 false (edge 1 ∷ []) (sub 3 300 ∷ [])
     ∷ []
 
--- what router A of the pair sees where B's LSP has those TLVs
+-- the view of router A of the pair where B's LSP has those TLVs
 abbrev pub lsp_with : List Tlv → Entry
 lsp_with tlvs = record { id = lsp 2; seq = 1; life = 9; hold = 0; sum = 1; flags = 3; content = flat_map tlv tlvs }
 
@@ -72,7 +72,7 @@ prefixes ps = record { code = 135; value = flat_map prefix ps }
 abbrev pub info : ℕ → ℕ → List LabelRange → Info
 info sd id ranges = record { sd = sd; id = id; ranges = ranges }
 
--- from a label on, with one set identifier more than 0
+-- from a label on, with Max SI 1
 abbrev pub two_labels : ℕ → LabelRange
 two_labels label = record { bsl = B64; max_si = 1; label = label }
 

@@ -19,18 +19,18 @@ pub fn ring_is_valid()
     ensures { IsValid ring }
 {}
 
-/// A link of metric 0 is not sound.
+/// A link of metric 0 is invalid.
 pub fn metric_0_is_unsound()
     ensures { IsEnd (record (end 1 2) { metric = 0 }) → ⊥ }
 {}
 
-/// Label ranges that touch share no label; ranges that have one in common do.
+/// Adjacent label ranges share no label; ranges with a common label do.
 pub fn labels_that_touch()
     ensures apart { share_label (record { bsl = B64; max_si = 9; label = 100 }) (record { bsl = B128; max_si = 0; label = 110 }) ≡ false }
     ensures shared { share_label (record { bsl = B64; max_si = 10; label = 100 }) (record { bsl = B128; max_si = 0; label = 110 }) ≡ true }
 {}
 
-/// A's one label means the first set of its one sub-domain, and no other number means anything.
+/// A's only label means the first set of its only sub-domain, and no other number has a meaning.
 #[tactic(auto, unfolding(wire_base::specs::model::Place::means))]
 pub fn what_labels_mean()
     ensures label { means pair_a Mpls 100 ≡ Some (record { sd = 0; bsl = B64; si = 0 }) }

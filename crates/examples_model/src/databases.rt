@@ -5,7 +5,7 @@ ghost use Rattle.wire_base.specs.model.Control.{age_of, aged, after_second, purg
 ghost use Rattle.examples_model.specs.Domains.{lsp};
 ghost use Rattle.examples_model.specs.Entries.{live, dead, told, holding};
 
-/// What comes with a sequence number of its own is newer or older, whatever its checksum.
+/// An LSP with another sequence number is newer or older, whatever its checksum.
 pub fn ages()
     ensures unknown { age_of None (told 7 1200 500) ≡ Unknown }
     ensures newer { age_of (Some (live 7 1200 500)) (told 8 0 0) ≡ Newer }
@@ -18,12 +18,12 @@ pub fn ages()
     ensures last { age_of (Some (live 4294967295 1200 500)) (told 4294967294 1200 500) ≡ Older }
 {}
 
-/// Two that live, of one sequence number and two checksums, are at odds.
+/// Two live LSPs with one sequence number and different checksums are LSP confusion.
 pub fn equal_sequence_unequal_sums_is_confused()
     ensures { age_of (Some (live 7 1200 500)) (told 7 1200 501) ≡ Confused }
 {}
 
-/// A second: a live entry becomes a purge at 0, and a purge goes at 0.
+/// One second: a live entry becomes a purge at 0, and a purge is removed at 0.
 pub fn entries_age_by_seconds()
     ensures live { after_second (live 7 2 500) ≡ Some (live 7 1 500) }
     ensures expires { after_second (live 7 1 500) ≡ Some (purge (lsp 1) 7) }
@@ -33,7 +33,7 @@ pub fn entries_age_by_seconds()
     ensures expired { aged (live 7 1 500) ≡ Expired }
 {}
 
-/// A row of flags is made at its place.
+/// A row of flags is inserted in order.
 pub fn rows_of_flags()
     ensures first { at_row 1 (lsp 1) (λ r. r) (no_flags 1 (lsp 2) ∷ []) ≡ no_flags 1 (lsp 1) ∷ no_flags 1 (lsp 2) ∷ [] }
     ensures last { at_row 1 (lsp 3) (λ r. r) (no_flags 1 (lsp 2) ∷ []) ≡ no_flags 1 (lsp 2) ∷ no_flags 1 (lsp 3) ∷ [] }

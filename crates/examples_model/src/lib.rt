@@ -1,4 +1,4 @@
-//! The shared definitions tried on small domains: each function computes nothing, and what it ensures is proved by
+//! Tests of the shared definitions on small domains. Each function computes nothing; what it ensures is proved by
 //! computing the definition.
 #![tactic(auto)]
 

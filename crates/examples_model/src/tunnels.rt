@@ -6,7 +6,7 @@ ghost use Rattle.examples_model.specs.Domains.{ring};
 ghost use Rattle.examples_model.specs.Frames.{copy, from_a};
 ghost use Rattle.examples_model.specs.Tunnels.{plain, more_fragments, at_an_offset, of_tcp, of_22_octets, of_19_octets, of_service, gre_mpls, inside, whole, packet};
 
-/// A tunnel packet is read, whatever its type of service and its identification are and whatever follows it.
+/// A tunnel packet is parsed, whatever its type of service, its identification and the octets after it.
 #[tactic(auto, unfolding(wire_base::specs::model::Tunnel::tunnel_at, wire_base::specs::model::Tunnel::tunnel_head))]
 pub fn tunnels_are_read()
     ensures spelled { tunnel packet ≡ whole }
@@ -15,7 +15,7 @@ pub fn tunnels_are_read()
     ensures grammar { IsTunnel (whole ++ 7 ∷ 7 ∷ []) packet }
 {}
 
-/// The first rule that octets break.
+/// The first rule that invalid octets break.
 #[tactic(auto, unfolding(wire_base::specs::model::Tunnel::tunnel_at))]
 pub fn what_is_no_tunnel()
     ensures short { tunnel_at (take 19 whole) ≡ Err Short }
@@ -32,7 +32,7 @@ pub fn what_is_no_tunnel()
     ensures inner { tunnel_at (plain ++ (0 ∷ 0 ∷ 8 ∷ 0 ∷ inside)) ≡ Err GreType }
 {}
 
-/// Sums past 16 bits are added again, and 0 comes of zeros alone.
+/// In one's complement sums the carry above 16 bits is added again, and the sum is 0 only for zeros.
 pub fn ones_complement_sums()
     ensures zero { ones_sum 0 ≡ 0 }
     ensures full { ones_sum 65535 ≡ 65535 }
@@ -40,7 +40,7 @@ pub fn ones_complement_sums()
     ensures twice { ones_sum 131070 ≡ 65535 }
 {}
 
-/// A tunnel packet is for the router with its destination, any other copy for the router that it goes to.
+/// A tunnel packet is for the router with its destination address, any other copy for the router that it is sent to.
 pub fn what_items_are_for()
     ensures direct { target_of ring.routers 1 (copy 0 200 (3 ∷ []) None) ≡ Some 1 }
     ensures tunnel { target_of ring.routers 1 (copy 0 300 (3 ∷ []) (from_a 3 255)) ≡ Some 2 }

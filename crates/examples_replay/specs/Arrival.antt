@@ -1,4 +1,4 @@
--- A run of the pair: it settles, and a packet enters and arrives.
+-- A run of the pair: it settles, and a packet is injected and arrives.
 use Rattle.std.specs.Prelude.{ℕ, List, [], ◌∷◌, ◌++◌, codes, slice_index_or}
 use Rattle.wire_base.specs.declared.bsl.Bsl.TheVariants.{B64}
 use Rattle.wire_base.specs.model.Control.{Control}
@@ -9,11 +9,11 @@ use Rattle.examples_model.specs.Frames.{settled}
 use Rattle.domain_model.specs.Run.{run_of}
 use Rattle.laws_ledger.specs.Ledger.{Injection}
 
--- both routers send, and take what has come
+-- both routers send, and receive what has arrived
 abbrev pub settled_by : List (ℕ × Event)
 settled_by = (1, Send 0 1) ∷ (1, Send 1 0) ∷ (1, Take 0 1 0) ∷ (1, Take 0 1 0) ∷ (1, Take 1 0 0) ∷ (1, Take 1 0 0) ∷ []
 
--- A injects for itself and B, and B takes its copy
+-- A injects for itself and B, and B receives its copy
 abbrev pub enters : ℕ × Event
 enters = (2, Inject 0 0 B64 (1 ∷ 2 ∷ []) 8 0 (0 ∷ 255 ∷ []))
 

@@ -9,8 +9,9 @@ ghost use Rattle.examples_replay.specs.Arrival.{settled_by, enters, taken, whole
 
 use examples_model::pair_is_valid;
 
-/// All that a packet's arrival rests on holds of a run of the pair from its start: both routers learn of each other, and A injects
-/// for itself and for B, which takes its copy. The lines of a schedule lead to that run, and each of its events is allowed.
+/// All premises of a packet's arrival are met by a run of the pair from its start: both routers learn of each other,
+/// and A injects for itself and for B, which receives its copy. The lines of a schedule lead to that run, and each of
+/// its events is allowed.
 pub fn premises_hold_of_a_whole_run()
     ensures read { (schedule_reaches pair lines).run ≡ run_of pair whole }
     ensures accepted { (schedule_reaches pair lines).refused ≡ None }

@@ -1,5 +1,5 @@
-//! The texts of a run tried on small domains, and a run in which all holds that a packet's arrival rests on: each function computes
-//! nothing, and what it ensures is proved by computing the definition.
+//! The texts of a run on small domains, and a run that meets all premises of a packet's arrival. Each function computes
+//! nothing; its postconditions are proved by computing the definition.
 #![tactic(auto)]
 
 mod arrivals;

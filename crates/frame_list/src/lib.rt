@@ -1,6 +1,6 @@
-//! Frames whose octets stand in one list, each with a note.
+//! A list of frames, each with a note, whose octets are stored in one buffer.
 //!
-//! It stands on `wire_base` alone, and promises that a list is that of its frames, which each call changes as it says.
+//! This crate depends only on `wire_base`. Contracts see a list as its frames, and specify how each call changes them.
 #![tactic(auto)]
 
 mod list;

@@ -8,18 +8,18 @@ use std::collections::VecDeque;
 use std::marker::Model;
 use wire_base::M;
 
-/// The room that a first frame takes for itself and those that follow: a few LSPs.
+/// The capacity in octets allocated with the first frame: enough for a few LSPs.
 const FIRST_OCTETS: usize = 1024;
 
 const FIRST_FRAMES: usize = 8;
 
-/// How many octets a list without frames keeps room for.
+/// The capacity in octets that an empty list keeps.
 const KEPT: usize = 1024;
 
-/// How many octets of frames that are gone are left where they are.
+/// The maximum number of octets of removed frames that are left in the buffer.
 const LEFT: usize = 4096;
 
-/// Where the octets of a frame begin and end among those of all, and what is noted of it.
+/// The range of a frame's octets in the buffer, and the frame's note.
 #[derive(Clone, Copy)]
 struct Span<N> {
     note: N,
@@ -27,8 +27,8 @@ struct Span<N> {
     end: usize,
 }
 
-/// Frames in order, each with a note; contracts see the list of both. Their octets stand in one list, so that a frame takes no
-/// memory of its own.
+/// Frames in order, each with a note; contracts model it as the list of both. The octets are stored in one buffer, so that a
+/// frame needs no allocation of its own.
 #[derive(Drop)]
 pub struct FrameList<N> {
     octets: Vec<u8>,
@@ -48,7 +48,7 @@ impl<N> Model for FrameList<N> {
 }
 
 impl<N: Copy + Drop> FrameList<N> {
-    /// No frames. Takes no memory.
+    /// Creates an empty list. Does not allocate.
     pub fn new(alloc: Global) -> Self
         ensures { result ≡ [] }
     {
@@ -59,19 +59,19 @@ impl<N: Copy + Drop> FrameList<N> {
         }
     }
 
-    /// The allocator that the list keeps.
+    /// Returns the allocator of the list.
     pub fn allocator(&self) -> Global {
         *self.octets.allocator()
     }
 
-    /// How many frames there are.
+    /// Returns the number of frames.
     pub fn len(&self) -> usize
         ensures { result ≡ length self.now }
     {
         self.spans.len()
     }
 
-    /// The octets of the frame at a place.
+    /// Returns the octets of the frame at index `i`.
     pub fn octets_at(&self, i: usize) -> &[u8]
         requires { i < length self.now }
         ensures { option_map (λ f. f.octets) (slice_get self.now i) ≡ Some result.now }
@@ -80,7 +80,7 @@ impl<N: Copy + Drop> FrameList<N> {
         &self.octets[span.start..span.end]
     }
 
-    /// What is noted of the frame at a place.
+    /// Returns the note of the frame at index `i`.
     pub fn note_at(&self, i: usize) -> N
         requires { i < length self.now }
         ensures { option_map (λ f. f.note) (slice_get self.now i) ≡ Some result }
@@ -99,7 +99,8 @@ impl<N: Copy + Drop> FrameList<N> {
         self.append(note, octets)
     }
 
-    /// Appends the frames of another list, all with that note, their octets at once; nothing changes where memory runs out.
+    /// Appends the frames of another list, all with that note, by one copy of their octets. If an allocation fails, nothing
+    /// changes.
     #[tactic(auto, using(crate::proofs::SpanLaws::frames_joined, crate::proofs::SpanLaws::within_joined))]
     pub fn append_all<O: Copy + Drop>(&mut self, note: N, others: &FrameList<O>) -> M<()>
         ensures ok { OnOk result (self.new ≡ self.old ++ map (noted_as note) others.now) }
@@ -122,7 +123,7 @@ impl<N: Copy + Drop> FrameList<N> {
         Ok(())
     }
 
-    /// Something else is noted of the frame at a place.
+    /// Replaces the note of the frame at index `i`.
     pub fn set_note(&mut self, i: usize, note: N)
         requires { i < length self.old }
         ensures { self.new ≡ noted_anew self.old i note }
@@ -131,7 +132,7 @@ impl<N: Copy + Drop> FrameList<N> {
         span.note = note;
     }
 
-    /// Room for the first frames, of which one has that many octets: so that a list doesn't grow step by step.
+    /// Reserves room for the first frames, one of which has that many octets, so that the list does not grow step by step.
     fn make_room(&mut self, octets: usize) -> M<()>
         ensures { self.new ≡ self.old }
     {
@@ -143,8 +144,8 @@ impl<N: Copy + Drop> FrameList<N> {
         Ok(())
     }
 
-    /// Appends a frame, however many octets are of frames that are gone. Where memory runs out for the span, octets of no frame
-    /// are left.
+    /// Appends a frame, however many octets of removed frames there are. If the allocation for the span fails, octets that
+    /// belong to no frame are left.
     #[tactic(auto, using(crate::proofs::SpanLaws::frames_added, crate::proofs::SpanLaws::within_added, crate::proofs::SpanLaws::frames_kept, crate::proofs::SpanLaws::within_kept))]
     fn append(&mut self, note: N, octets: &[u8]) -> M<()>
         ensures ok { OnOk result (self.new ≡ self.old ++ record { note = note; octets = octets.now } ∷ []) }
@@ -161,7 +162,7 @@ impl<N: Copy + Drop> FrameList<N> {
         Ok(())
     }
 
-    /// Whether there was a frame at that place, which is gone then.
+    /// Removes the frame at an index. Returns whether there was one.
     #[tactic(auto, using(crate::proofs::SpanLaws::frames_removed, crate::proofs::SpanLaws::within_removed))]
     pub fn remove(&mut self, i: usize) -> bool
         ensures rest { self.new ≡ remove self.old i }
@@ -177,7 +178,7 @@ impl<N: Copy + Drop> FrameList<N> {
         true
     }
 
-    /// Where no frame is left their octets go, and room that is large.
+    /// If no frame is left, discards the octets, and large capacity.
     fn let_go(&mut self)
         ensures { self.new ≡ self.old }
     {
@@ -193,12 +194,12 @@ impl<N: Copy + Drop> FrameList<N> {
         }
     }
 
-    /// Whether most octets are those of frames that are gone.
+    /// Returns whether most octets belong to removed frames.
     fn is_mostly_gone(&self) -> bool {
         self.gone > LEFT && self.gone > self.octets.len() / 2
     }
 
-    /// The octets of frames that are gone go.
+    /// Discards the octets of removed frames.
     #[tactic(auto, using(crate::proofs::SpanLaws::taken_more))]
     fn gather(&mut self) -> M<()>
         ensures { self.new ≡ self.old }
@@ -212,7 +213,7 @@ impl<N: Copy + Drop> FrameList<N> {
     }
 }
 
-/// Puts the spans of frames whose octets were put behind others behind the spans of those, all with that note.
+/// Appends the spans of frames whose octets were appended to others, all with that note.
 fn put_behind<N: Copy + Drop, O: Copy + Drop>(
     spans: &mut VecDeque<Span<N>>,
     note: N,
@@ -235,7 +236,7 @@ fn put_behind<N: Copy + Drop, O: Copy + Drop>(
     }
 }
 
-/// The span of the frame at a place, which is gone then; it is mostly the first.
+/// Removes and returns the span of the frame at an index; it is mostly the first.
 fn take_span<N: Copy + Drop>(spans: &mut VecDeque<Span<N>>, i: usize) -> Option<Span<N>>
     requires { i < deque_len spans.old }
     ensures rest { spans.new.items ≡ remove spans.old.items i }

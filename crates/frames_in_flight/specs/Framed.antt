@@ -1,8 +1,8 @@
--- What a router sends, delivers and drops on octets, and the same in the words of items: each item goes over its end as a
--- frame, and is read off that frame again (RFC 8279, 6; RFC 8296, 2 and 3; RFC 2784, 2; ISO/IEC 10589, 8.4).
+-- What a router sends, delivers and drops on octets, and the same in terms of items: each item is sent on its interface
+-- as a frame, and is parsed from that frame again (RFC 8279, 6; RFC 8296, 2 and 3; RFC 2784, 2; ISO/IEC 10589, 8.4).
 --
--- What the octets don't tell is given beside them: the injection that they come of, where they carry packets, and the
--- BFR-ids of the packet that was taken.
+-- What the octets do not contain is passed separately: the injection that they belong to, if they carry packets, and
+-- the BFR-ids of the packet that was received.
 use Rattle.std.specs.Prelude.{◌≡◌, ℕ, ◌<◌, List, [], length, map, slice_get, Option, Some, None, option_map, unwrap_or}
 use Rattle.std.specs.List.{AllByRecursion}
 use Rattle.wire_base.specs.declared.conf.End.{End}
@@ -34,7 +34,7 @@ abbrev pub frame_from : Option RouterConf → ℕ → Item → List ℕ
 frame_from None link x = []
 frame_from (Some r) link x = frame_on r.level (slice_get r.ends link) x
 
--- the frame of an item over an end of the router at a place; no octets where there is no such end
+-- the frame of an item on an interface of the router at an index; no octets if there is no such interface
 abbrev pub frame_over : List RouterConf → ℕ → ℕ → Item → List ℕ
 frame_over confs a link x = frame_from (slice_get confs a) link x
 
@@ -46,17 +46,17 @@ sent_of confs s = record { link = s.link; octets = frame_over confs s.from s.lin
 abbrev pub wire_of : List RouterConf → Sending → WireFrame
 wire_of confs s = record { from = s.from; to = s.to; octets = frame_over confs s.from s.link s.item }
 
--- a frame that the router at place a sends, as it is reported
+-- a frame that the router at index a sends, as it is reported
 abbrev pub wire_from : List RouterConf → ℕ → Sent → WireFrame
 wire_from confs a s = record { from = a; to = peer_place confs a s.link; octets = s.octets }
 
--- the same frame, of which that router is noted in place of its link
+-- the same frame, with that router as its note instead of its link
 abbrev pub peer_noted : List RouterConf → ℕ → Noted ℕ → Noted ℕ
 peer_noted confs a f = noted_as (peer_place confs a f.note) f
 
 -- ---- items of frames
 
--- what is noted of a frame that the router at place a sends over an end for that injection; nothing of a PDU
+-- what is noted of a frame that the router at index a sends on an interface for that injection; nothing for a PDU
 abbrev pub note_over : List RouterConf → ℕ → Option ℕ → ℕ → Option Note
 note_over confs a number link = option_map (λ n. record { number = n; to = peer_place confs a link }) number
 
@@ -64,7 +64,7 @@ note_over confs a number link = option_map (λ n. record { number = n; to = peer
 abbrev pub item_sent : List RouterConf → ℕ → Option ℕ → Sent → Item
 item_sent confs a number s = item_in confs (note_over confs a number s.link) s.octets
 
--- what is sent, with its frames' items read in that way
+-- what is sent, with its frames' items parsed in that way
 abbrev pub sending_of : List RouterConf → ℕ → Option ℕ → Sent → Sending
 sending_of confs a number s = over_end confs a s.link (item_sent confs a number s)
 
@@ -74,7 +74,7 @@ sending_of confs a number s = over_end confs a s.link (item_sent confs a number 
 abbrev pub got_line : ℕ → Option ℕ → Got → GotLine
 got_line a number g = record { router = a; injection = unwrap_or number 0; id = g.id; payload = g.payload }
 
--- the BFR-ids of positions; of a packet that is dropped as a whole they are those that it came with
+-- the BFR-ids of bit positions; of a packet that is dropped as a whole they are those that it arrived with
 abbrev pub ids_dropped : List ℕ → Option Positions → List ℕ
 ids_dropped ids None = listed ids
 ids_dropped ids (Some s) = listed (map (id_at s.triple) s.positions)
@@ -88,13 +88,13 @@ abbrev pub ends_of : Option RouterConf → List End
 ends_of None = []
 ends_of (Some r) = r.ends
 
--- A frame that the router at place a sends over one of its ends is the frame of the item that is read off it.
+-- A frame that the router at index a sends on one of its interfaces is the frame of the item that is parsed from it.
 pub record IsItemFrame (confs : List RouterConf) (a : ℕ) (number : Option ℕ) (s : Sent) : Type 0 where
   pub within : s.link < length (ends_of (slice_get confs a))
   pub is : s.octets ≡ frame_over confs a s.link (item_sent confs a number s)
 
--- What the router at place a did on octets, for that injection or for none and with those BFR-ids, is what is made of
--- items, which are read off its frames.
+-- What the router at index a did on octets, for that injection or for none and with those BFR-ids, is the same as what
+-- it does on items, which are parsed from its frames.
 pub record IsFramed (confs : List RouterConf) (a : ℕ) (number : Option ℕ) (ids : List ℕ) (e : Effects) (m : Made) : Type 0 where
   pub frames : AllByRecursion (IsItemFrame confs a number) e.sent
   pub sent : m.sent ≡ map (sending_of confs a number) e.sent
@@ -102,12 +102,13 @@ pub record IsFramed (confs : List RouterConf) (a : ℕ) (number : Option ℕ) (i
   pub got : m.got ≡ map (got_line a number) e.got
   pub drops : m.drops ≡ map (drop_line a number ids) e.drops
 
--- What flooding answers to octets, or sends: the router's next state, and PDUs over one end.
+-- What flooding replies to octets, or sends: the router's next state, and PDUs on one interface.
 pub record IsFlooded (confs : List RouterConf) (a link : ℕ) (c : Control) (r : Reply) (next : Control) (e : Effects) : Type 0 where
   pub control : next ≡ r.control
   pub framed : IsFramed confs a None [] e (replied confs a link r)
 
--- A router takes the octets of a copy of a packet: it stays as it is, and hops the copy, or sends it on in its tunnel.
+-- A router receives the octets of a copy of a packet: its state is unchanged, and it forwards the copy, or sends it on
+-- in its tunnel.
 pub record IsHopped (confs : List RouterConf) (a : ℕ) (c : Control) (x : DataItem) (next : Control) (e : Effects) : Type 0 where
   pub control : next ≡ c
   pub framed : IsFramed confs a (Some x.number) x.ids e (packet_taken confs a c x x.outer)

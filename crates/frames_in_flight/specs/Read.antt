@@ -1,5 +1,5 @@
--- The item that a frame stands for, read off its octets. A packet is read as the router reads it that it is for; what its
--- octets don't tell is noted beside them: the number of its injection, and the router at the other end of the link
+-- The item that a frame represents, parsed from its octets. A packet is parsed as by the router that it is for. What
+-- its octets do not contain is noted separately: the number of its injection, and the router at the far end of the link
 -- (RFC 8296, 2 and 3; RFC 2784, 2; ISO/IEC 10589, 8.4).
 use Rattle.std.specs.Prelude.{ℕ, List, [], slice_get, Option, Some, None, Result, Ok, Err}
 use Rattle.wire_base.specs.declared.bsl.Bsl.TheVariants.{B64}
@@ -23,7 +23,7 @@ use Rattle.frames_in_flight.specs.declared.flight.Note.{Note}
 
 -- ---- PDUs
 
--- octets that are no PDU stand for a hello, which no router sends
+-- octets that are not a PDU represent a hello, which no router sends
 abbrev pub pdu_or_hello : Result Pdu PduFault → Pdu
 pdu_or_hello (Ok p) = p
 pdu_or_hello (Err fault) = HelloPdu
@@ -54,7 +54,7 @@ abbrev pub packet_or_none : Result Packet Cause → Option Packet
 packet_or_none (Ok p) = Some p
 packet_or_none (Err why) = None
 
--- as a router reads it
+-- as a router parses it
 abbrev pub packet_read : Option RouterConf → Kind → List ℕ → Option Packet
 packet_read None kind octets = None
 packet_read (Some q) kind octets = packet_or_none (packet_at q kind octets)
@@ -64,7 +64,7 @@ abbrev pub tunnel_carried : List RouterConf → Result TunnelPacket IpFault → 
 tunnel_carried confs (Ok t) = packet_read (router_at confs (router_with 0 confs t.dst)) t.inner t.carried
 tunnel_carried confs (Err fault) = None
 
--- and in none it is for the router at the other end of the link
+-- without a tunnel it is for the router at the far end of the link
 abbrev pub packet_carried : List RouterConf → ℕ → Result Carried FrameFault → Option Packet
 packet_carried confs to (Ok (MplsPacket octets)) = packet_read (slice_get confs to) Mpls octets
 packet_carried confs to (Ok (BierPacket octets)) = packet_read (slice_get confs to) Configured octets
@@ -73,7 +73,7 @@ packet_carried confs to (Ok (IsisPdu octets)) = None
 packet_carried confs to (Ok OtherFrame) = None
 packet_carried confs to (Err fault) = None
 
--- The packet in a frame in flight to the router at a place.
+-- The packet in a frame in flight to the router at an index.
 abbrev pub packet_in : List RouterConf → ℕ → List ℕ → Option Packet
 packet_in confs to octets = packet_carried confs to (frame_at octets)
 
@@ -93,12 +93,12 @@ outer_carried (Err fault) = None
 abbrev pub outer_in : List ℕ → Option Outer
 outer_in octets = outer_carried (frame_at octets)
 
--- octets without a packet stand for a copy without BFR-ids, which no router sends
+-- octets without a packet represent a copy without BFR-ids, which no router sends
 abbrev pub no_copy : ℕ → Option Outer → DataItem
 no_copy number outer =
     record { number = number; entropy = 0; bfir = 0; payload = []; triple = record { sd = 0; bsl = B64; si = 0 }; kind = Mpls; bift = 0; ids = []; ttl = 0; outer = outer }
 
--- the copy that a packet is
+-- the copy that a packet represents
 abbrev pub copy_read : ℕ → Option Outer → Option Packet → DataItem
 copy_read number outer None = no_copy number outer
 copy_read number outer (Some p) =
@@ -120,7 +120,7 @@ copy_in confs note octets = copy_read note.number (outer_in octets) (packet_in c
 
 -- ---- items
 
--- The item of a frame: a copy of a packet where that is noted, else a PDU.
+-- The item of a frame: a copy of a packet if that is noted, otherwise a PDU.
 unfoldable pub item_in : List RouterConf → Option Note → List ℕ → Item
 item_in confs None octets = ControlItem (pdu_in confs octets)
 item_in confs (Some note) octets = PacketItem (copy_in confs note octets)

@@ -1,4 +1,4 @@
--- What is reported of what happened.
+-- What is reported of an event.
 use Rattle.std.specs.Prelude.{◌≡◌, ℕ, ◌<◌, List, [], length, map, Option}
 use Rattle.wire_base.specs.declared.conf.RouterConf.{RouterConf}
 use Rattle.wire_base.specs.model.OnFrame.{Effects}
@@ -21,7 +21,8 @@ pub record IsSilent (e : Effects) : Type 0 where
 abbrev pub IsShortFrame : WireFrame → Type 0
 IsShortFrame f = length f.octets < 65536
 
--- the same of what the router at place a did for that injection or for none, having taken a packet with those BFR-ids
+-- the same for what the router at index a did for that injection or for none, after it received a packet with those
+-- BFR-ids
 abbrev pub told_of : List RouterConf → ℕ → Option ℕ → List ℕ → Effects → StepOut
 told_of confs a number ids e =
     record {

@@ -1,4 +1,4 @@
-//! How many BFR-ids frames in flight have.
+//! How many BFR-ids the frames in flight carry.
 ghost use Rattle.std.specs.Prelude.{◌≡◌, ◌+◌, ◌≤◌, ℕ, length, Option, IfOk};
 ghost use Rattle.std.specs.List.{AllByRecursion};
 ghost use Rattle.wire_base.specs.model.Configuration.{IsSound};
@@ -12,7 +12,7 @@ use crate::inside::packet_in;
 use wire_base::limits::MOST_ROUTERS;
 use wire_base::{M, Memory, RouterConf};
 
-/// The sum; there is no memory for more than can be counted.
+/// Returns the sum. An overflow is reported as out of memory.
 pub(crate) fn sum(count: u64, more: u64) -> M<u64>
     ensures { IfOk result (λ sum. sum ≡ count + more) }
 {
@@ -22,7 +22,7 @@ pub(crate) fn sum(count: u64, more: u64) -> M<u64>
     }
 }
 
-/// How many BFR-ids the packet of a frame has that goes to the router at a place.
+/// Returns how many BFR-ids there are in the packet of a frame to the router at an index.
 fn count_in(confs: &[RouterConf], to: u16, octets: &[u8]) -> u16
     requires few { length confs.now ≤ MOST_ROUTERS }
     requires sound { AllByRecursion IsSound confs.now }
@@ -34,7 +34,7 @@ fn count_in(confs: &[RouterConf], to: u16, octets: &[u8]) -> u16
     }
 }
 
-/// How many BFR-ids a frame has; a PDU has none.
+/// Returns how many BFR-ids a frame carries; a PDU carries none.
 #[tactic(auto, unfolding(crate::specs::Read::item_in))]
 pub(crate) fn count_of(confs: &[RouterConf], flight: &FlightSeen<'_>) -> u64
     requires few { length confs.now ≤ MOST_ROUTERS }

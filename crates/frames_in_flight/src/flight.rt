@@ -2,22 +2,22 @@
 use std::marker::Model;
 use wire_base::Octets;
 
-/// What is noted of a frame that carries a packet, since its octets don't tell it: the injection that it comes of, and the
-/// router at the other end of the link, by its place.
+/// What is noted of a frame that carries a packet, since its octets do not contain it: the injection that it belongs
+/// to, and the router at the far end of the link, by its index.
 #[derive(Clone, Copy, Drop)]
 pub struct Note {
     pub number: u32,
     pub to: u16,
 }
 
-/// A frame in flight, as contracts see it. It carries a packet where there is a note, and else a PDU of IS-IS.
+/// A frame in flight, as contracts see it. It carries a packet if it has a note, and otherwise an IS-IS PDU.
 #[derive(Drop)]
 pub struct Flight {
     pub octets: Octets,
     pub note: Option<Note>,
 }
 
-/// The same, whose octets stand among those of other frames.
+/// A frame in flight whose octets are stored among those of other frames.
 #[derive(Drop)]
 pub struct FlightSeen<'a> {
     pub octets: &'a [u8],

@@ -1,4 +1,4 @@
-//! Frames in flight: a queue for each end of each router.
+//! Frames in flight: a queue for each interface of each router.
 ghost use Rattle.std.specs.Prelude.{◌≡◌, ◌+◌, ◌≤◌, ◌∷◌, ◌++◌, ◌<◌, Some, [], nat_lt, List, length, map, slice_get, slice_index_or, slice_set, sum_by, OnOk, OnErr, IfOk};
 ghost use Rattle.std.specs.List.{AllByRecursion, remove};
 ghost use Rattle.wire_base.specs.model.Configuration.{IsSound};
@@ -14,7 +14,7 @@ use std::marker::Model;
 use wire_base::limits::MOST_ROUTERS;
 use wire_base::{End, M, Memory, RouterConf};
 
-/// The frames in flight over one end, the oldest first.
+/// The frames in flight from one interface, the oldest first.
 #[derive(Drop)]
 struct Queue {
     frames: FrameList<Option<Note>>,
@@ -45,7 +45,7 @@ impl Queue {
         self.frames.len()
     }
 
-    /// The frame at a place.
+    /// Returns the frame at an index.
     #[tactic(auto, using(crate::proofs::QueueLaws::flight_is))]
     fn at(&self, i: usize) -> FlightSeen<'_>
         requires { i < length self.now }
@@ -68,7 +68,7 @@ impl Queue {
         }
     }
 
-    /// How many BFR-ids its frames have.
+    /// Returns how many BFR-ids its frames carry.
     fn ids(&self, confs: &[RouterConf]) -> M<u64>
         requires few { length confs.now ≤ MOST_ROUTERS }
         requires sound { AllByRecursion IsSound confs.now }
@@ -89,7 +89,7 @@ impl Queue {
         self.frames.push(note, octets)
     }
 
-    /// Puts frames behind the others, all with that note.
+    /// Appends frames to the queue, all with that note.
     #[tactic(auto, using(crate::proofs::QueueLaws::flights_more))]
     fn push_all(&mut self, frames: &FrameList<u16>, note: Option<Note>) -> M<()>
         ensures ok { OnOk result (self.new ≡ self.old ++ map (flight_as note) frames.now) }
@@ -98,7 +98,7 @@ impl Queue {
         self.frames.append_all(note, frames)
     }
 
-    /// Whether there was a frame at that place, which is gone then.
+    /// Removes the frame at an index, and returns whether there was one.
     #[tactic(auto, using(crate::proofs::QueueLaws::flight_gone))]
     fn remove(&mut self, i: usize) -> bool
         ensures rest { self.new ≡ remove self.old i }
@@ -108,7 +108,7 @@ impl Queue {
     }
 }
 
-/// The queues of one router, by its ends.
+/// The queues of one router, by interface.
 #[derive(Drop)]
 struct Queues {
     ends: Vec<Queue>,
@@ -124,7 +124,7 @@ impl Model for Queues {
 }
 
 impl Queues {
-    /// An empty queue for each end.
+    /// Returns an empty queue for each interface.
     fn new(alloc: Global, ends: &[End]) -> M<Queues>
         ensures { IfOk result (λ queues. queues ≡ map (λ e. []) ends.now) }
     {
@@ -135,7 +135,7 @@ impl Queues {
         Ok(Queues { ends: queues })
     }
 
-    /// How many frames are in flight over an end; 0 where there is no such end.
+    /// Returns how many frames are in flight from an interface; 0 if there is no such interface.
     fn len(&self, link: usize) -> usize
         ensures { result ≡ length (slice_index_or self.now link []) }
     {
@@ -146,7 +146,7 @@ impl Queues {
         }
     }
 
-    /// How many BFR-ids the frames of all ends have.
+    /// Returns how many BFR-ids the frames of all interfaces carry.
     fn ids(&self, confs: &[RouterConf]) -> M<u64>
         requires few { length confs.now ≤ MOST_ROUTERS }
         requires sound { AllByRecursion IsSound confs.now }
@@ -170,7 +170,7 @@ impl Queues {
         }
     }
 
-    /// Puts a frame behind those in flight over an end, and says whether there is such an end.
+    /// Appends a frame to those in flight from an interface, and returns whether there is such an interface.
     fn push(&mut self, link: usize, octets: &[u8], note: Option<Note>) -> M<bool>
         ensures ok { OnOk result (self.new ≡ slice_set self.old link (slice_index_or self.old link [] ++ flight_with octets.now note ∷ [])) }
         ensures added { IfOk result (λ added. added ≡ nat_lt link (length self.old)) }
@@ -184,7 +184,8 @@ impl Queues {
         Ok(false)
     }
 
-    /// Puts frames behind those in flight over an end, all with that note, and says whether there is such an end.
+    /// Appends frames to those in flight from an interface, all with that note, and returns whether there is such an
+    /// interface.
     fn push_all(&mut self, link: usize, frames: &FrameList<u16>, note: Option<Note>) -> M<bool>
         ensures ok { OnOk result (self.new ≡ slice_set self.old link (slice_index_or self.old link [] ++ map (flight_as note) frames.now)) }
         ensures added { IfOk result (λ added. added ≡ nat_lt link (length self.old)) }
@@ -198,7 +199,7 @@ impl Queues {
         Ok(false)
     }
 
-    /// Whether there was a frame at that place of those over an end, which is gone then.
+    /// Removes the frame at an index of those from an interface, and returns whether there was one.
     fn remove(&mut self, link: usize, i: usize) -> bool
         ensures rest { self.new ≡ slice_set self.old link (remove (slice_index_or self.old link []) i) }
         ensures gone { result ≡ nat_lt i (length (slice_index_or self.old link [])) }
@@ -212,9 +213,9 @@ impl Queues {
     }
 }
 
-/// All frames in flight. A direction of a link is named by the place of the router that sends there and its end.
+/// All frames in flight. A direction of a link is named by the index of the router that sends there and its interface.
 ///
-/// Their number is kept, so that nothing is counted when it is asked for.
+/// The number of frames is stored, so that it is not counted on each call.
 #[derive(Drop)]
 pub struct Flights {
     routers: Vec<Queues>,
@@ -234,7 +235,7 @@ impl Model for Flights {
 }
 
 impl Flights {
-    /// Nothing is in flight in a domain of those routers.
+    /// Returns the empty queues of a domain with those routers.
     pub fn new(alloc: Global, confs: &[RouterConf]) -> M<Flights>
         ensures { IfOk result (λ flights. flights ≡ no_frames confs.now) }
     {
@@ -245,14 +246,14 @@ impl Flights {
         Ok(Flights { routers, count: 0 })
     }
 
-    /// How many frames there are in all.
+    /// Returns the total number of frames.
     pub fn count(&self) -> usize
         ensures { result ≡ frame_count self.now }
     {
         self.count
     }
 
-    /// How many BFR-ids all frames have.
+    /// Returns how many BFR-ids all frames carry.
     pub fn ids(&self, confs: &[RouterConf]) -> M<u64>
         requires few { length confs.now ≤ MOST_ROUTERS }
         requires sound { AllByRecursion IsSound confs.now }
@@ -261,7 +262,7 @@ impl Flights {
         ids_in(self.routers.as_slice(), confs)
     }
 
-    /// How many are in flight in a direction; 0 where there is no such direction.
+    /// Returns how many frames are in flight in a direction; 0 if there is no such direction.
     pub fn len(&self, place: u16, link: u16) -> usize
         ensures { result ≡ length (frames_at self.now place link) }
     {
@@ -272,7 +273,7 @@ impl Flights {
         }
     }
 
-    /// The frame at a place of those in a direction, from 0.
+    /// Returns the frame at an index, from 0, of those in a direction.
     pub fn get(&self, place: u16, link: u16, i: u32) -> Option<FlightSeen<'_>>
         ensures { result ≡ slice_get (frames_at self.now place link) i }
     {
@@ -284,7 +285,7 @@ impl Flights {
         }
     }
 
-    /// Puts a frame with those octets at the end of a direction. Where there is no such direction nothing changes.
+    /// Appends a frame with those octets to a direction. If there is no such direction, nothing changes.
     pub fn push(&mut self, place: u16, link: u16, octets: &[u8], note: Option<Note>) -> M<()>
         ensures ok { OnOk result (self.new ≡ push_frame self.old place link (flight_with octets.now note)) }
         ensures err { OnErr result (self.new ≡ self.old) }
@@ -300,7 +301,7 @@ impl Flights {
         Ok(())
     }
 
-    /// Puts frames at the end of a direction, all with that note. Where there is no such direction nothing changes.
+    /// Appends frames to a direction, all with that note. If there is no such direction, nothing changes.
     pub fn push_all(
         &mut self,
         place: u16,
@@ -322,7 +323,7 @@ impl Flights {
         Ok(())
     }
 
-    /// The frame at a place of those in a direction is gone. Where there is no such frame nothing changes.
+    /// Removes the frame at an index of those in a direction. If there is no such frame, nothing changes.
     pub fn remove(&mut self, place: u16, link: u16, i: usize)
         ensures { self.new ≡ without_frame self.old place link i }
     {
@@ -335,7 +336,7 @@ impl Flights {
         }
     }
 
-    /// The frame that was last put at the end of a direction is gone.
+    /// Removes the frame that was appended last to a direction.
     pub fn pop(&mut self, place: u16, link: u16)
         ensures { (f : Flight) (before : List (List (List Flight))) → self.old ≡ push_frame before place link f → self.new ≡ before }
     {
@@ -346,7 +347,7 @@ impl Flights {
     }
 }
 
-/// So many more; there is no memory for more frames than can be counted.
+/// Returns the number of frames increased by that many. An overflow is reported as out of memory.
 fn more(count: usize, frames: usize) -> M<usize>
     ensures { IfOk result (λ sum. sum ≡ count + frames) }
 {
@@ -356,7 +357,7 @@ fn more(count: usize, frames: usize) -> M<usize>
     }
 }
 
-/// How many BFR-ids the frames of all routers have.
+/// Returns how many BFR-ids the frames of all routers carry.
 fn ids_in(routers: &[Queues], confs: &[RouterConf]) -> M<u64>
     requires few { length confs.now ≤ MOST_ROUTERS }
     requires sound { AllByRecursion IsSound confs.now }

@@ -1,4 +1,4 @@
-//! The packet in a frame in flight, which is read as the router reads it that it is for (RFC 8296, 2 and 3; RFC 2784, 2).
+//! The packet in a frame in flight, parsed as by the router that the packet is for (RFC 8296, 2 and 3; RFC 2784, 2).
 ghost use Rattle.std.specs.Prelude.{◌≡◌, ◌≤◌, Ok, length, slice_get};
 ghost use Rattle.std.specs.List.{AllByRecursion};
 ghost use Rattle.wire_base.specs.model.Configuration.{IsSound};
@@ -14,7 +14,7 @@ use link_frame::{Class, classify};
 use wire_base::limits::MOST_ROUTERS;
 use wire_base::{Kind, RouterConf};
 
-/// The packet in a frame in flight to the router at a place; none where it carries none.
+/// Returns the packet in a frame in flight to the router at an index; none if the frame carries none.
 pub(crate) fn packet_in<'a>(confs: &[RouterConf], to: u16, octets: &'a [u8]) -> Option<Incoming<'a>>
     requires few { length confs.now ≤ MOST_ROUTERS }
     requires sound { AllByRecursion IsSound confs.now }
@@ -46,7 +46,7 @@ fn packet_carried<'a>(
     }
 }
 
-/// In a tunnel a packet is for the router whose prefix is the tunnel's destination.
+/// Returns the packet in a tunnel, which is for the router whose prefix is the tunnel's destination.
 fn packet_in_tunnel<'a>(confs: &[RouterConf], octets: &'a [u8]) -> Option<Incoming<'a>>
     requires few { length confs.now ≤ MOST_ROUTERS }
     requires sound { AllByRecursion IsSound confs.now }
@@ -59,7 +59,7 @@ fn packet_in_tunnel<'a>(confs: &[RouterConf], octets: &'a [u8]) -> Option<Incomi
     packet_at(confs, place, tunnel.inner, &octets[tunnel.from..tunnel.to])
 }
 
-/// The packet that octets are at the router at a place.
+/// Returns the packet that octets encode at the router at an index.
 fn packet_at<'a>(
     confs: &[RouterConf],
     place: u16,

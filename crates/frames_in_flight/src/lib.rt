@@ -1,7 +1,9 @@
-//! Frames in flight between the routers of a domain, each with the item that it stands for, and what is reported of what a router
-//! does: above the model of `domain_model`, whose words it speaks, and below `domain_core`, whose routers it doesn't need.
+//! Frames in flight between the routers of a domain, each with the item that it represents, and what is reported of the
+//! effects of a router. This crate uses the definitions of `domain_model`, and is used by `domain_core`, whose routers
+//! it does not need.
 //!
-//! It promises that what a router sends is in flight in the order in which it was sent, as it is reported, or that nothing has changed.
+//! It promises that what a router sends is in flight in the order in which it was sent, as it is reported, or that
+//! nothing has changed.
 #![tactic(auto)]
 
 mod carried;

@@ -1,4 +1,4 @@
-//! Where the ends of routers lead.
+//! Where the interfaces of routers lead.
 ghost use Rattle.std.specs.Prelude.{◌≡◌, ◌≤◌, length, slice_get, option_map, IfSome};
 ghost use Rattle.std.specs.List.{AllByRecursion};
 ghost use Rattle.std.specs.Str.{bytes_eq};
@@ -9,7 +9,7 @@ ghost use Rattle.domain_model.specs.World.{place_of, end_at, peer_place, link_be
 use wire_base::limits::MOST_ROUTERS;
 use wire_base::{Domain, End, Ipv4, RouterConf, SystemId, end_toward};
 
-/// The configurations of a domain's routers, by place.
+/// Returns the configurations of a domain's routers, by index.
 pub fn confs_of(domain: &Domain) -> &[RouterConf]
     ensures confs { result.now ≡ domain.now.routers }
     ensures valid { IsValid domain.now }
@@ -19,7 +19,7 @@ pub fn confs_of(domain: &Domain) -> &[RouterConf]
     domain.routers.as_slice()
 }
 
-/// The configuration of the router at a place.
+/// Returns the configuration of the router at an index.
 pub(crate) fn conf_at(confs: &[RouterConf], place: u16) -> Option<&RouterConf>
     ensures conf { option_map (λ r. r.now) result ≡ slice_get confs.now place }
     ensures sound { AllByRecursion IsSound confs.now → IfSome result (λ r. IsSound r.now) }
@@ -41,7 +41,7 @@ fn end_at(ends: &[End], link: u16) -> Option<End>
     }
 }
 
-/// The end of a router that leads to another, where a link joins the two.
+/// Returns the interface of a router that leads to another, if a link joins the two.
 pub fn link_between(confs: &[RouterConf], from: u16, to: u16) -> Option<u16>
     requires { AllByRecursion IsSound confs.now }
     ensures { result ≡ link_between confs.now from to }
@@ -51,7 +51,7 @@ pub fn link_between(confs: &[RouterConf], from: u16, to: u16) -> Option<u16>
     end_toward(near.ends.as_slice(), far.system)
 }
 
-/// The place of the router of a system; past the end where there is none.
+/// Returns the index of the router with a system ID; past the end if there is none.
 fn place_of(confs: &[RouterConf], system: SystemId) -> u16
     requires { length confs.now ≤ MOST_ROUTERS }
     ensures { result ≡ place_of confs.now system }
@@ -64,7 +64,7 @@ fn place_of(confs: &[RouterConf], system: SystemId) -> u16
     confs.len() as u16
 }
 
-/// The place of the first router with a prefix.
+/// Returns the index of the first router with a prefix.
 pub(crate) fn router_with(confs: &[RouterConf], prefix: Ipv4) -> Option<u16>
     requires { length confs.now ≤ MOST_ROUTERS }
     ensures { result ≡ router_with 0 confs.now prefix }
@@ -83,7 +83,7 @@ fn is_prefix(a: Ipv4, b: Ipv4) -> bool
     a == b
 }
 
-/// The place of the router at the other end of a link.
+/// Returns the index of the router at the far end of a link.
 pub fn peer_place(confs: &[RouterConf], place: u16, link: u16) -> u16
     requires { length confs.now ≤ MOST_ROUTERS }
     ensures { result ≡ peer_place confs.now place link }

@@ -1,4 +1,4 @@
-//! What a router sends is queued.
+//! Queues what a router sends.
 ghost use Rattle.std.specs.Prelude.{◌≡◌, ◌≤◌, [], length, drop, OnOk, OnErr, OnSome, IfOk, IfSome};
 ghost use Rattle.std.specs.List.{AllByRecursion};
 ghost use Rattle.wire_base.specs.model.Configuration.{IsSound};
@@ -16,8 +16,8 @@ use domain_model::StepOut;
 use wire_base::limits::MOST_ROUTERS;
 use wire_base::{M, RouterConf};
 
-/// What the router at a place did by itself, for that injection or for none, is reported, and what it sent is queued; or
-/// nothing has changed. Where one of its ends leads may be known.
+/// Queues what the router at an index sent by itself, for that injection or for none, and returns the report of its
+/// effects. If an allocation fails, nothing has changed. The caller may pass in where one of the interfaces leads.
 pub fn queue_sent(
     flights: &mut Flights,
     confs: &[RouterConf],
@@ -38,8 +38,8 @@ pub fn queue_sent(
     Ok(with_sent(lines, confs, at, known, effects.sent))
 }
 
-/// Puts what the router at a place sends, for that injection or for none, at the ends of its directions, in order; or all is
-/// as it was. Frames that share their link, as they mostly do, go there at once.
+/// Queues what the router at an index sends, for that injection or for none, at the ends of its directions, in order.
+/// If an allocation fails, nothing has changed. Frames that share one link, the usual case, are queued together.
 #[tactic(auto, using(crate::proofs::SentLaws::all_sent))]
 pub fn send_all(
     flights: &mut Flights,
@@ -62,7 +62,7 @@ pub fn send_all(
     }
 }
 
-/// The link that all frames are sent on, where there are frames and it is one.
+/// Returns the link that all frames are sent on, if there are frames and they share one link.
 fn shared_link(sent: &SentFrames) -> Option<u16>
     ensures shared { IfSome result (λ link. AllByRecursion (IsOver link) sent.now) }
     ensures some { OnSome result (sent.now ≡ [] → ⊥) }
@@ -79,7 +79,7 @@ fn shared_link(sent: &SentFrames) -> Option<u16>
     Some(link)
 }
 
-/// The same for the frames from a place on.
+/// Does the same for the frames from an index on.
 #[tactic(auto, using(crate::proofs::QueueLaws::sent_from, crate::proofs::QueueLaws::sent_none))]
 fn send_from(
     flights: &mut Flights,
@@ -107,7 +107,7 @@ fn send_from(
     done
 }
 
-/// What is noted of a frame that the router at a place sends over an end.
+/// Returns the note of a frame that the router at an index sends on an interface.
 fn note_over(confs: &[RouterConf], at: u16, number: Option<u32>, link: u16) -> Option<Note>
     requires { length confs.now ≤ MOST_ROUTERS }
     ensures { result ≡ note_over confs.now at number link }

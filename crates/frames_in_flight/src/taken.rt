@@ -1,4 +1,4 @@
-//! Frames that leave their way, since a router took or dropped them.
+//! Frames that leave their queue, because a router received or dropped them.
 ghost use Rattle.std.specs.Prelude.{◌≡◌, ◌≤◌, length, slice_get, option_map, IfOk, IfSome, OnOk, OnErr};
 ghost use Rattle.std.specs.List.{AllByRecursion};
 ghost use Rattle.wire_base.specs.model.Configuration.{IsSound};
@@ -16,8 +16,8 @@ use std::alloc::Global;
 use wire_base::limits::MOST_ROUTERS;
 use wire_base::{Cause, M, RouterConf};
 
-/// The frame at a place of those in a direction is dropped as a whole by the router at the place `at`, and is gone; or all is as
-/// it was. Nothing is reported where there is no such frame.
+/// Removes the frame at an index of those in a direction, dropped as a whole by the router at the index `at`, and
+/// returns the report. If an allocation fails, nothing has changed. If there is no such frame, nothing is reported.
 pub fn drop_flight(
     alloc: Global,
     flights: &mut Flights,
@@ -42,10 +42,11 @@ pub fn drop_flight(
     Ok(Some(out))
 }
 
-/// What the router at the place `at` did that took the frame at a place of those in a direction is reported, and what it sent is put
-/// in flight; the frame is gone then. Or nothing has changed. Nothing is reported where there is no such frame.
+/// Reports what the router at the index `at` did when it received the frame at an index of those in a direction, queues
+/// what it sent, and removes the frame. If an allocation fails, nothing has changed. If there is no such frame, nothing
+/// is reported.
 ///
-/// Where one of its ends leads may be known.
+/// The caller may pass in where one of the interfaces leads.
 pub fn queue_taken(
     flights: &mut Flights,
     confs: &[RouterConf],

@@ -1,4 +1,4 @@
-//! What is reported of what a router does.
+//! What is reported of the effects of a router.
 ghost use Rattle.std.specs.Prelude.{◌≡◌, ◌↔◌, ◌≤◌, IsTrue, ◌++◌, ◌∷◌, [], ℕ, length, map, filter, Option, option_map, IfOk, IfSome, OnOk, OnErr};
 ghost use Rattle.std.specs.List.{AllByRecursion};
 ghost use Rattle.wire_base.specs.model.BitSet.{has_member};
@@ -27,8 +27,8 @@ use std::alloc::Global;
 use wire_base::limits::MOST_ROUTERS;
 use wire_base::{Cause, Got, M, RouterConf, Rows, Triple};
 
-/// What is reported of what the router at a place delivered and dropped, for that injection or for none, having taken that frame or
-/// none. Where it did neither, no memory is taken.
+/// Returns the report of what the router at an index delivered and dropped, for that injection or for none, after it
+/// received that frame or none. If it did neither, no memory is allocated.
 pub fn reported_by(
     alloc: Global,
     confs: &[RouterConf],
@@ -49,7 +49,8 @@ pub fn reported_by(
     })
 }
 
-/// The same with what the router sent, which takes no memory. Where one of its ends leads may be known.
+/// Returns that report with what the router sent, which needs no allocation. The caller may pass in where one of the
+/// interfaces leads.
 pub fn with_sent(
     lines: StepOut,
     confs: &[RouterConf],
@@ -68,14 +69,14 @@ pub fn with_sent(
     }
 }
 
-/// Whether a router sent, delivered and dropped nothing.
+/// Returns whether a router sent, delivered and dropped nothing.
 pub fn is_silent(effects: &Effects) -> bool
     ensures { IsTrue result ↔ IsSilent effects.now }
 {
     effects.sent.len() == 0 && effects.got.len() == 0 && effects.drops.len() == 0
 }
 
-/// The injection that a frame comes of.
+/// Returns the injection that a frame belongs to.
 pub fn number_of(flight: &FlightSeen<'_>) -> Option<u32>
     ensures { result ≡ number_of flight.now }
 {
@@ -85,7 +86,7 @@ pub fn number_of(flight: &FlightSeen<'_>) -> Option<u32>
     }
 }
 
-/// The place of the router at the other end of a link, which may be that of the end that is known.
+/// Returns the index of the router at the far end of a link, which may be that of the interface that is passed in.
 fn peer_again(confs: &[RouterConf], at: u16, link: u16, known: Option<(u16, u16)>) -> u16
     requires few { length confs.now ≤ MOST_ROUTERS }
     requires known { IfSome known (λ k. k.1 ≡ peer_place confs.now at k.0) }
@@ -97,7 +98,7 @@ fn peer_again(confs: &[RouterConf], at: u16, link: u16, known: Option<(u16, u16)
     }
 }
 
-/// What is sent, as frames.
+/// Returns what is sent, as frames.
 #[tactic(auto, using(crate::proofs::SentLaws::wires_are))]
 fn wire_frames(
     confs: &[RouterConf],
@@ -114,8 +115,8 @@ fn wire_frames(
     WireFrames::sent_by(at, frames)
 }
 
-/// Notes of each frame the router at the other end in place of the link. Those that go out together mostly share their link, so
-/// the place that was found last is at hand.
+/// Sets the note of each frame to the router at the far end instead of the link. Frames that are sent together usually
+/// share their link, so the index that was found last is kept.
 fn note_peers(confs: &[RouterConf], at: u16, known: Option<(u16, u16)>, frames: &mut FrameList<u16>)
     requires few { length confs.now ≤ MOST_ROUTERS }
     requires known { IfSome known (λ k. k.1 ≡ peer_place confs.now at k.0) }
@@ -171,7 +172,7 @@ fn drop_lines(
     Ok(lines)
 }
 
-/// The BFR-ids of positions; of a frame that is dropped as a whole they are all that it has.
+/// Returns the BFR-ids of bit positions. For a frame that is dropped as a whole these are all that it carries.
 fn ids_dropped(
     alloc: Global,
     confs: &[RouterConf],
@@ -200,7 +201,7 @@ fn ids_taken(alloc: Global, confs: &[RouterConf], taken: Option<&FlightSeen<'_>>
     }
 }
 
-/// The BFR-ids of a frame; a PDU has none.
+/// Returns the BFR-ids of a frame; a PDU has none.
 #[tactic(auto, unfolding(crate::specs::Read::item_in))]
 fn ids_of(alloc: Global, confs: &[RouterConf], flight: &FlightSeen<'_>) -> M<Rows<u16>>
     requires few { length confs.now ≤ MOST_ROUTERS }
@@ -213,7 +214,7 @@ fn ids_of(alloc: Global, confs: &[RouterConf], flight: &FlightSeen<'_>) -> M<Row
     }
 }
 
-/// The BFR-ids of the packet of a frame that goes to the router at a place.
+/// Returns the BFR-ids of the packet in a frame to the router at an index.
 fn ids_in(alloc: Global, confs: &[RouterConf], to: u16, octets: &[u8]) -> M<Rows<u16>>
     requires few { length confs.now ≤ MOST_ROUTERS }
     requires sound { AllByRecursion IsSound confs.now }
@@ -225,7 +226,8 @@ fn ids_in(alloc: Global, confs: &[RouterConf], to: u16, octets: &[u8]) -> M<Rows
     }
 }
 
-/// The BFR-ids of bit positions of a triple, ascending. A number above 65,535 is no BFR-id, and isn't listed.
+/// Returns the BFR-ids of bit positions of a triple, ascending. A number above 65,535 is not a BFR-id, and is not
+/// listed.
 fn ids_listed(alloc: Global, triple: Triple, bits: &AnyBits) -> M<Rows<u16>>
     requires { bsl_of bits.now ≡ triple.bsl }
     ensures { IfOk result (λ ids. ids ≡ listed (map (id_at triple) (positions_of bits.now))) }
@@ -237,7 +239,7 @@ fn ids_listed(alloc: Global, triple: Triple, bits: &AnyBits) -> M<Rows<u16>>
     Ok(ids)
 }
 
-/// Appends the BFR-id of a bit position, where the BitString has it and it is one.
+/// Appends the BFR-id of a bit position, if the BitString has that bit and the number is a BFR-id.
 fn push_id(ids: &mut Rows<u16>, triple: Triple, bits: &AnyBits, position: u16) -> M<()>
     requires low { 1 ≤ position }
     requires high { position ≤ bits_of (bsl_of bits.now) }
@@ -250,7 +252,7 @@ fn push_id(ids: &mut Rows<u16>, triple: Triple, bits: &AnyBits, position: u16) -
     Ok(())
 }
 
-/// What is reported of a frame that the router at a place drops as a whole.
+/// Returns the report of a frame that the router at an index drops as a whole.
 #[tactic(auto, unfolding(crate::specs::Read::item_in))]
 pub fn lost(
     alloc: Global,

@@ -4,7 +4,7 @@ ghost use Rattle.wire_base.specs.model.Tunnel.{word_sum, ones_sum, is_right_head
 
 use byteorder::{BigEndian, ByteOrder};
 
-/// Whether the checksum of a header of 20 octets is right.
+/// Returns whether the checksum of a 20-octet header is right.
 pub(crate) fn is_right_header(header: &[u8]) -> bool
     requires { length header.now ≡ 20 }
     ensures { result ≡ is_right_header header.now }
@@ -12,7 +12,7 @@ pub(crate) fn is_right_header(header: &[u8]) -> bool
     ones_sum(word_sum(header)) == 0xffff
 }
 
-/// The checksum of a header of 20 octets whose checksum field is 0.
+/// Returns the checksum of a 20-octet header whose checksum field is 0.
 pub(crate) fn checksum_of(header: &[u8]) -> u16
     requires { length header.now ≡ 20 }
     ensures { result ≡ 65535 - ones_sum (word_sum header.now) }
@@ -20,7 +20,7 @@ pub(crate) fn checksum_of(header: &[u8]) -> u16
     0xffff - ones_sum(word_sum(header)) as u16
 }
 
-/// The sum of the numbers of two octets each.
+/// Returns the sum of the 16-bit words.
 fn word_sum(header: &[u8]) -> u32
     requires { length header.now ≡ 20 }
     ensures { result ≡ word_sum header.now }
@@ -34,7 +34,7 @@ fn word_sum(header: &[u8]) -> u32
     sum
 }
 
-/// A sum in which what goes past 16 bits is added again.
+/// Folds a sum to 16 bits: the carry is added again.
 fn ones_sum(sum: u32) -> u32
     ensures value { result ≡ ones_sum sum }
     ensures fits { result ≤ 65535 }

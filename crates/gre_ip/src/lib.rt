@@ -1,5 +1,5 @@
-//! Tunnels that carry BIER packets past routers without BIER: an IPv4 header and a GRE header before the packet
-//! (RFC 791, 3.1; RFC 2784, 2), read, written, and written anew for the next link.
+//! Tunnels that carry BIER packets across non-BFRs: an IPv4 header and a GRE header before the packet
+//! (RFC 791, 3.1; RFC 2784, 2). Parser, writer, and the change of the header when a router forwards the packet.
 #![tactic(auto)]
 
 mod checksum;

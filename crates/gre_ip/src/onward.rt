@@ -4,9 +4,9 @@ ghost use Rattle.wire_base.specs.model.Tunnel.{TunnelPacket, IsTunnel, header_wi
 use crate::checksum::checksum_of;
 use byteorder::{BigEndian, ByteOrder};
 
-/// Gives a tunnel packet that is sent on another time to live, and the checksum for it (RFC 791, 3.1; RFC 1812, 5.3.1).
-/// No other octet changes, those past the total length included. What goes on is read as the same tunnel with that time
-/// to live, whatever follows it.
+/// Replaces the TTL of a tunnel packet to be forwarded, and updates the checksum (RFC 791, 3.1; RFC 1812, 5.3.1).
+/// No other octet changes, including those past the total length. The result is parsed as the same tunnel packet with the
+/// new TTL, whatever follows it.
 pub fn write_onward(packet: &mut [u8], ttl: u8)
     requires head { 20 ≤ total_of packet.old }
     requires whole { total_of packet.old ≤ length packet.old }
@@ -19,7 +19,7 @@ pub fn write_onward(packet: &mut [u8], ttl: u8)
     write_fields(packet, ttl, checksum);
 }
 
-/// Writes a time to live and a checksum over those of the header.
+/// Writes a TTL and a checksum over those of the header.
 fn write_fields(packet: &mut [u8], ttl: u8, checksum: u16)
     requires { 20 ≤ length packet.old }
     ensures { packet.new ≡ header_with packet.old ttl checksum ++ drop 20 packet.old }

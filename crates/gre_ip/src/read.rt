@@ -12,22 +12,22 @@ use wire_base::{IpFault, Ipv4, Kind};
 /// The protocol number of GRE in IPv4 (RFC 2784, 3).
 const GRE: u8 = 47;
 
-/// The octets of an IPv4 header without options.
+/// The length in octets of an IPv4 header without options.
 const IP_HEAD: usize = 20;
 
-/// The octets of an IPv4 header without options and a GRE header without checksum.
+/// The length in octets of an IPv4 header without options and a GRE header without checksum.
 const BOTH_HEADS: usize = 24;
 
-/// The tunnel packet at the front of octets (RFC 791, 3.1; RFC 2784, 2). Octets past its total length mean nothing; the
-/// type of service, the identification and "don't fragment" aren't tested.
+/// Parses the tunnel packet at the start of the octets (RFC 791, 3.1; RFC 2784, 2). Octets past its total length are ignored;
+/// the type of service, the identification and "don't fragment" are not tested.
 ///
 /// # Errors
 ///
-/// The first of these that holds: `Short` where there are fewer than 20 octets, `Version` where the version isn't 4,
-/// `Options` where the header's length isn't 5 words, `Length` where the total length is below 20 or above the octets
-/// that are there, `Checksum` where the header's checksum is wrong, `Fragment` where more fragments follow or this one
-/// isn't the first, `NotGre` where the protocol isn't 47, `GreShort` where the total length is below 24, `GreFlags`
-/// where the first two octets of the GRE header aren't 0, and `GreType` where it carries neither MPLS nor BIER.
+/// The first of these that applies: `Short` if there are fewer than 20 octets; `Version` if the version is not 4;
+/// `Options` if the header length is not 5 words; `Length` if the total length is below 20 or exceeds the octets
+/// received; `Checksum` if the header checksum is wrong; `Fragment` if more fragments follow or this one
+/// is not the first; `NotGre` if the protocol is not 47; `GreShort` if the total length is below 24; `GreFlags`
+/// if the first two octets of the GRE header are not 0; and `GreType` if the protocol type is neither MPLS nor BIER.
 pub fn read_tunnel(bytes: &[u8]) -> Result<Tunnel, IpFault>
     ensures exact { Gives (packet_of bytes.now) result (tunnel_at bytes.now) }
     ensures places { IfOk result (HasPlaces bytes.now) }
@@ -37,7 +37,7 @@ pub fn read_tunnel(bytes: &[u8]) -> Result<Tunnel, IpFault>
     tunnel_in(bytes)
 }
 
-/// The tunnel packet, by the same rules.
+/// Parses the tunnel packet, by the same rules.
 #[tactic(auto, unfolding(wire_base::specs::model::Tunnel::tunnel_at))]
 fn tunnel_in(bytes: &[u8]) -> Result<Tunnel, IpFault>
     ensures exact { Gives (packet_of bytes.now) result (tunnel_at bytes.now) }
@@ -68,7 +68,7 @@ fn tunnel_in(bytes: &[u8]) -> Result<Tunnel, IpFault>
     gre_in(bytes)
 }
 
-/// The total length that an IPv4 header gives.
+/// Returns the total length in an IPv4 header.
 fn total_of(bytes: &[u8]) -> usize
     requires { 4 ≤ length bytes.now }
     ensures { result ≡ total_of bytes.now }
@@ -76,7 +76,7 @@ fn total_of(bytes: &[u8]) -> usize
     usize::from(BigEndian::read_u16(&bytes[2..]))
 }
 
-/// The rules of the GRE header, once those of the IPv4 header hold.
+/// Tests the GRE header, after the rules of the IPv4 header hold.
 fn gre_in(bytes: &[u8]) -> Result<Tunnel, IpFault>
     requires head { 20 ≤ length bytes.now }
     requires whole { total_of bytes.now ≤ length bytes.now }
@@ -96,7 +96,7 @@ fn gre_in(bytes: &[u8]) -> Result<Tunnel, IpFault>
     }
 }
 
-/// The tunnel packet at the front, no rule being tested.
+/// Returns the tunnel packet at the front, without tests.
 fn tunnel_of(inner: Kind, bytes: &[u8]) -> Tunnel
     requires heads { 24 ≤ total_of bytes.now }
     requires whole { total_of bytes.now ≤ length bytes.now }
@@ -113,7 +113,7 @@ fn tunnel_of(inner: Kind, bytes: &[u8]) -> Tunnel
     }
 }
 
-/// The address at a place.
+/// Returns the address at index `at`.
 fn address_at(bytes: &[u8], at: usize) -> Ipv4
     requires { at + 4 ≤ length bytes.now }
     ensures { result.0 ≡ take 4 (drop at bytes.now) }

@@ -9,10 +9,10 @@ use arrayvec::ArrayVec;
 use wire_base::{Ipv4, Kind};
 
 /// Writes the 24 octets of a tunnel packet before those that it carries: an IPv4 header without options (RFC 791, 3.1),
-/// which says "don't fragment" and has the identification 0, and a GRE header (RFC 2784, 2). The total length counts
+/// with "don't fragment" set and the identification 0, and a GRE header (RFC 2784, 2). The total length covers
 /// both headers and the octets from `from` to `to`.
 ///
-/// With the carried octets behind it what is written is read again, whatever follows; and no other packet is written so.
+/// Followed by the carried octets, the result is parsed again, whatever follows; and no other packet has this encoding.
 pub fn write_tunnel(t: &Tunnel, out: &mut [u8])
     requires room { 24 ≤ length out.old }
     requires ordered { t.now.from ≤ t.now.to }
@@ -29,7 +29,7 @@ pub fn write_tunnel(t: &Tunnel, out: &mut [u8])
     out[..24].copy_from_slice(heads(t).as_slice());
 }
 
-/// Both headers.
+/// Returns both headers.
 fn heads(t: &Tunnel) -> ArrayVec<u8, 24>
     requires ordered { t.now.from ≤ t.now.to }
     requires size { t.now.to - t.now.from ≤ 65511 }
@@ -53,7 +53,7 @@ fn heads(t: &Tunnel) -> ArrayVec<u8, 24>
     octets
 }
 
-/// An IPv4 header with that checksum.
+/// Returns an IPv4 header with that checksum.
 fn ip_header(total: u16, ttl: u8, src: Ipv4, dst: Ipv4, checksum: u16) -> ArrayVec<u8, 20>
     ensures items { result.items ≡ ip_header plain_ip total ttl src dst checksum }
     ensures len { length result.items ≡ 20 }
@@ -70,7 +70,7 @@ fn ip_header(total: u16, ttl: u8, src: Ipv4, dst: Ipv4, checksum: u16) -> ArrayV
     octets
 }
 
-/// Appends octets for which there is room.
+/// Appends octets. Precondition: there is room for them.
 fn put<const N: usize>(octets: &mut ArrayVec<u8, N>, more: &[u8])
     requires { array_vec_len octets.old + length more.now ≤ N }
     ensures items { octets.new.items ≡ octets.old.items ++ more.now }

@@ -1,4 +1,4 @@
--- The domain that grows with a number.
+-- The domain that is generated from a number of routers.
 use Rattle.std.specs.Prelude.{ℕ, List, map}
 use Rattle.std.specs.List.{range_with_len}
 use Rattle.wire_base.specs.declared.conf.RouterConf.{RouterConf}

@@ -1,4 +1,4 @@
--- The entries of a domain file that says a grown domain, with a router's place for its name.
+-- The entries of a domain file that describes the generated domain, with a router's index for its name.
 use Rattle.std.specs.Prelude.{ℕ, ◌+◌, false, List, [], ◌∷◌, map}
 use Rattle.std.specs.List.{range_with_len}
 use Rattle.domain_conf.specs.declared.assemble.Entries.{Entries}

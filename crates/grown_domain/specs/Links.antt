@@ -1,4 +1,4 @@
--- The links of a domain that grows with a number: a ring, and chords from every fifth router.
+-- The links of the generated domain: a ring, and chords from every fifth router.
 use Rattle.std.specs.Prelude.{ℕ, ◌+◌, ◌/◌, ◌%◌, Bool, ◌==◌, List, [], ◌∷◌, ◌++◌, map, filter, if◌then◌else◌}
 use Rattle.std.specs.List.{fold, list_any, range_with_len}
 use Rattle.wire_base.specs.declared.conf.LinkConf.{LinkConf}
@@ -20,14 +20,14 @@ ring_link n i = record { a = i; b = (i + 1) % n; metric = 10 }
 unfoldable pub ring : ℕ → List Link
 ring n = map (ring_link n) (range_with_len 0 n)
 
--- from router i to the one half round the ring
+-- from router i to the one halfway around the ring
 abbrev pub chord : ℕ → ℕ → Link
 chord n i = record { a = i; b = (i + n / 2) % n; metric = 25 }
 
 abbrev pub is_fifth : ℕ → Bool
 is_fifth i = i % 5 == 0
 
--- one link more, where no link joins its two routers
+-- one more link, if no link joins its two routers
 unfoldable pub with_link : List Link → Link → List Link
 with_link links l = if list_any (joins_same l) links then links else links ++ l ∷ []
 

@@ -1,4 +1,4 @@
--- The routers of a domain that grows with a number.
+-- The routers of the generated domain.
 use Rattle.std.specs.Prelude.{ℕ, ◌+◌, ◌==◌, false, List, [], ◌∷◌, filter_map, Option, Some, None, if◌then◌else◌}
 use Rattle.std.specs.Fmt.{decimal}
 use Rattle.byteorder.specs.Endian.{big_bytes}
@@ -16,7 +16,7 @@ use Rattle.domain_conf.specs.Forms.{system_of, prefix_of}
 use Rattle.domain_conf.specs.Links.{made_mac}
 use Rattle.grown_domain.specs.declared.links.Link.{Link}
 
--- r0, r1 and on
+-- r0, r1, and so on
 abbrev pub name : ℕ → List ℕ
 name i = 114 ∷ decimal i
 
@@ -24,15 +24,15 @@ name i = 114 ∷ decimal i
 abbrev pub system : ℕ → SystemId
 system i = system_of (big_bytes 6 (i + 1))
 
--- 10.0.0.1, 10.0.0.2 and on
+-- 10.0.0.1, 10.0.0.2, and so on
 abbrev pub prefix : ℕ → Ipv4
 prefix i = prefix_of (10 ∷ 0 ∷ 0 ∷ (i + 1) ∷ [])
 
--- the area of a domain file that names none, 49.0001
+-- the area of a domain file that has none, 49.0001
 abbrev pub area : List ℕ
 area = 73 ∷ 0 ∷ 1 ∷ []
 
--- labels from 16,000 on for packets of 256 bits, of the first set alone
+-- labels from 16,000 on for packets of 256 bits, for the first set only
 abbrev pub range : LabelRange
 range = record { bsl = B256; max_si = 0; label = 16000 }
 
@@ -43,11 +43,11 @@ own_sub i = record { sd = 0; id = i + 1; ranges = range ∷ [] }
 abbrev pub kind : SubKind
 kind = record { sd = 0; kind = Mpls }
 
--- The end of a link at one router toward another, with the Ethernet addresses of a domain file that names none.
+-- The interface of one router toward another, with the Ethernet addresses of a domain file that has none.
 abbrev pub end_toward : (own peer metric : ℕ) → End
 end_toward own peer metric = record { peer = system peer; peer_mac = made_mac peer own; own_mac = made_mac own peer; metric = metric }
 
--- a router's end of a link, where it has one
+-- a router's interface on a link, if the link joins that router
 abbrev pub end_of : ℕ → Link → Option End
 end_of i l =
     if l.a == i then Some (end_toward l.a l.b l.metric) else

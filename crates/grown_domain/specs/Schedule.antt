@@ -1,4 +1,4 @@
--- The schedule for that domain: it settles, router 0 sends to all, and it settles again.
+-- The schedule for that domain: it settles, router 0 injects packets for all routers, and it settles again.
 use Rattle.std.specs.Prelude.{ℕ, ◌+◌, ◌-◌, ◌/◌, ◌==◌, if◌then◌else◌, List, [], ◌∷◌, ◌++◌, map}
 use Rattle.std.specs.List.{range_with_len}
 use Rattle.wire_base.specs.declared.bsl.Bsl.TheVariants.{B256}
@@ -8,11 +8,11 @@ use Rattle.replay_text.specs.declared.event.Line.TheVariants.{One, Settle}
 use Rattle.grown_domain.specs.declared.schedule.GrownLine.{GrownLine}
 use Rattle.grown_domain.specs.declared.schedule.GrownLine.TheVariants as lines
 
--- rounds enough for what the farthest routers advertise: half round the ring, and a few more
+-- as many rounds as the LSPs of the farthest routers need: halfway around the ring, and a few more
 abbrev pub settling : ℕ → Line
 settling n = Settle (n / 2 + 4)
 
--- At router 0 a packet of one octet enters for all n BFR-ids, with that entropy.
+-- A packet of one octet is injected at router 0 for all n BFR-ids, with that entropy.
 abbrev pub sending : ℕ → ℕ → Line
 sending n entropy = One (Inject 0 0 B256 (range_with_len 1 n) 255 entropy (0 ∷ []))
 

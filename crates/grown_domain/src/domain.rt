@@ -1,4 +1,4 @@
-//! A grown domain.
+//! The generated domain.
 ghost use Rattle.std.specs.Prelude.{◌≡◌, ◌≤◌, ℕ, Ok, IfOk};
 ghost use Rattle.wire_base.specs.declared.conf.Level.TheVariants.{Two};
 ghost use Rattle.domain_conf.specs.Assembled.{domain_from};
@@ -24,7 +24,7 @@ fn routers(alloc: Global, links: &[Link], n: u16) -> M<Rows<RouterConf>>
     Ok(routers)
 }
 
-/// The domain of `n` routers in a ring, with a chord half round the ring from every fifth of them.
+/// Returns the domain of `n` routers in a ring, with a chord halfway around the ring from every fifth of them.
 pub fn grown(alloc: Global, n: u16) -> M<Domain>
     requires some { 3 ≤ n }
     requires few { n ≤ 250 }
@@ -37,7 +37,7 @@ pub fn grown(alloc: Global, n: u16) -> M<Domain>
     })
 }
 
-/// The domain is the one that a domain file with its entries says. The body is empty: the contract is the law.
+/// The domain is the one that a domain file with its entries describes. The body is empty: the contract is the law.
 #[tactic(auto, using(crate::proofs::GrownDomain::said_by_file))]
 pub fn grown_as_in_a_file()
     ensures { (n : ℕ) → 3 ≤ n → n ≤ 250 → domain_from Two area (grown_entries n (grown_links n)) ≡ Ok (grown_domain n) }

@@ -1,6 +1,6 @@
-//! A domain and a schedule for it, of whatever size a number says: many routers, to see how an engine bears them.
+//! A domain and a schedule for it, of any size from 3 to 250 routers, to measure how an engine scales.
 //!
-//! It stands on `domain_conf` and `replay_text`, and promises the domain and the lines of each number from 3 to 250.
+//! It depends on `domain_conf` and `replay_text`, and promises the domain and the lines for each number from 3 to 250.
 #![tactic(auto)]
 
 mod domain;

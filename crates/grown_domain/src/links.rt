@@ -1,4 +1,4 @@
-//! The links of a grown domain.
+//! The links of the generated domain.
 ghost use Rattle.std.specs.Prelude.{◌≡◌, ◌<◌, ◌≤◌, ◌==◌, map, IfOk, OnOk};
 ghost use Rattle.std.specs.List.{list_any, range_with_len};
 ghost use Rattle.grown_domain.specs.Links as spec;
@@ -6,7 +6,7 @@ ghost use Rattle.grown_domain.specs.Links as spec;
 use std::alloc::Global;
 use wire_base::{LinkConf, M, Rows};
 
-/// A link, by the places of the two routers that it joins, and its metric, which is the same both ways.
+/// A link: the indices of the two routers that it joins, and its metric, which is the same in both directions.
 #[derive(Clone, Copy)]
 pub struct Link {
     pub a: u16,
@@ -26,7 +26,7 @@ fn is_joined(links: &[Link], link: &Link) -> bool
     links.iter().any(|other| joins_same(link, other))
 }
 
-/// Of `n` routers, the link from router `i` to the next one round the ring.
+/// Returns the link from router `i` to the next one around the ring of `n` routers.
 fn ring_link(n: u16, i: u16) -> Link
     requires few { n ≤ 250 }
     requires within { i < n }
@@ -39,7 +39,7 @@ fn ring_link(n: u16, i: u16) -> Link
     }
 }
 
-/// The link from router `i` to the one half round the ring.
+/// Returns the link from router `i` to the one halfway around the ring.
 fn chord(n: u16, i: u16) -> Link
     requires few { n ≤ 250 }
     requires within { i < n }
@@ -64,7 +64,7 @@ fn ring(alloc: Global, n: u16) -> M<Rows<Link>>
     Ok(links)
 }
 
-/// Appends a link, where none joins its two routers.
+/// Appends a link, if none joins its two routers yet.
 #[tactic(auto, unfolding(crate::specs::Links::with_link))]
 fn push_new(links: &mut Rows<Link>, link: Link) -> M<()>
     ensures { OnOk result (links.new ≡ spec.with_link links.old link) }
@@ -75,7 +75,7 @@ fn push_new(links: &mut Rows<Link>, link: Link) -> M<()>
     links.push(link)
 }
 
-/// The ring of `n` routers, and then a chord from every fifth of them, where no link joins its two routers.
+/// Returns the ring of `n` routers, followed by a chord from every fifth of them, if no link joins its two routers yet.
 pub fn grown_links(alloc: Global, n: u16) -> M<Rows<Link>>
     requires few { n ≤ 250 }
     ensures { IfOk result (λ links. links ≡ spec.grown_links n) }
@@ -89,7 +89,7 @@ pub fn grown_links(alloc: Global, n: u16) -> M<Rows<Link>>
     Ok(links)
 }
 
-/// Which routers the links join.
+/// Returns which routers the links join.
 pub fn pairs(alloc: Global, links: &[Link]) -> M<Rows<LinkConf>>
     ensures { IfOk result (λ pairs. pairs ≡ map spec.joined links.now) }
 {

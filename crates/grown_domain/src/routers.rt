@@ -1,4 +1,4 @@
-//! The routers of a grown domain.
+//! The routers of the generated domain.
 ghost use Rattle.std.specs.Prelude.{◌≡◌, ◌<◌, ◌++◌, ◌∷◌, [], filter_map, option_to_list, IfOk, OnOk};
 ghost use Rattle.domain_conf.specs.Links.{made_mac};
 ghost use Rattle.grown_domain.specs.Routers as spec;
@@ -10,7 +10,7 @@ use wire_base::{
     SubKind, SystemId,
 };
 
-/// `r` and the router's place.
+/// Returns `r` followed by the router's index.
 fn name(alloc: Global, place: u16) -> M<Name>
     ensures { IfOk result (λ name. name ≡ spec.name place) }
 {
@@ -20,7 +20,7 @@ fn name(alloc: Global, place: u16) -> M<Name>
     Name::from_slice(alloc, text.as_slice())
 }
 
-/// The number of the router, from 1, in six octets.
+/// Returns the number of the router, from 1, in six octets.
 fn system(place: u16) -> SystemId
     ensures { result ≡ spec.system place }
 {
@@ -29,8 +29,8 @@ fn system(place: u16) -> SystemId
     SystemId([0, 0, first, second, third, fourth])
 }
 
-/// The Ethernet address that a domain file's router has toward a peer where the file names none: 02:00, the router's
-/// place and the peer's place.
+/// Returns the Ethernet address of a router toward a peer if the domain file has none: 02:00, the router's index and
+/// the peer's index.
 #[tactic(auto, unfolding(domain_conf::specs::Links::made_mac))]
 fn mac(own: u16, peer: u16) -> Mac
     ensures { result ≡ made_mac own peer }
@@ -56,7 +56,7 @@ fn end_toward(own: u16, peer: u16, metric: u32) -> End
     }
 }
 
-/// A router's end of a link, where it has one.
+/// Returns a router's interface on a link, if the link joins that router.
 fn end_of(place: u16, link: &Link) -> Option<End>
     ensures { result ≡ spec.end_of place link.now }
 {
@@ -78,7 +78,7 @@ fn push_some(ends: &mut Rows<End>, end: Option<End>) -> M<()>
     }
 }
 
-/// The ends of a router, in the order of the links.
+/// Returns the interfaces of a router, in the order of the links.
 fn ends_of(alloc: Global, links: &[Link], place: u16) -> M<Rows<End>>
     ensures { IfOk result (λ ends. ends ≡ filter_map (spec.end_of place) links.now) }
 {
@@ -89,7 +89,7 @@ fn ends_of(alloc: Global, links: &[Link], place: u16) -> M<Rows<End>>
     Ok(ends)
 }
 
-/// The sub-domain of all routers, with the router's own BFR-id.
+/// Returns the sub-domain of all routers, with the router's own BFR-id.
 fn subs_of(alloc: Global, place: u16) -> M<Rows<OwnSub>>
     requires { place < 250 }
     ensures { IfOk result (λ subs. subs ≡ spec.own_sub place ∷ []) }
@@ -120,7 +120,7 @@ fn kinds(alloc: Global) -> M<Rows<SubKind>>
     Ok(kinds)
 }
 
-/// The router at a place, of a domain with those links.
+/// Returns the router at an index, of a domain with those links.
 pub fn router(alloc: Global, links: &[Link], place: u16) -> M<RouterConf>
     requires { place < 250 }
     ensures { IfOk result (λ conf. conf ≡ spec.router links.now place) }

@@ -1,4 +1,4 @@
-//! The schedule for a grown domain.
+//! The schedule for the generated domain.
 ghost use Rattle.std.specs.Prelude.{◌≡◌, ◌<◌, ◌≤◌, IfOk};
 ghost use Rattle.std.specs.List.{range_with_len};
 ghost use Rattle.replay_text.specs.Events.{LineFits};
@@ -8,14 +8,14 @@ use replay_text::{Event, Line};
 use std::alloc::Global;
 use wire_base::{Bsl, M, Octets, Rows};
 
-/// Rounds enough for what the farthest routers advertise.
+/// Returns as many rounds as the LSPs of the farthest routers need.
 fn settling(n: u16) -> Line
     ensures { result ≡ spec.settling n }
 {
     Line::Settle(u32::from(n / 2) + 4)
 }
 
-/// The BFR-ids of all `n` routers.
+/// Returns the BFR-ids of all `n` routers.
 fn ids(alloc: Global, n: u16) -> M<Rows<u16>>
     requires { n ≤ 250 }
     ensures { IfOk result (λ ids. ids ≡ range_with_len 1 n) }
@@ -27,7 +27,7 @@ fn ids(alloc: Global, n: u16) -> M<Rows<u16>>
     Ok(ids)
 }
 
-/// A packet enters at the first router for all of them.
+/// Returns the injection of a packet at the first router for all of them.
 fn sending(alloc: Global, n: u16, entropy: u32) -> M<Line>
     requires { n ≤ 250 }
     ensures { IfOk result (λ line. line ≡ spec.sending n entropy) }
@@ -43,20 +43,20 @@ fn sending(alloc: Global, n: u16, entropy: u32) -> M<Line>
     }))
 }
 
-/// A line of the schedule for a grown domain.
+/// A line of the schedule for the generated domain.
 #[derive(Clone, Copy, Debug, PartialEq, Eq)]
 pub enum GrownLine {
-    /// The domain settles: rounds enough for what the farthest routers advertise.
+    /// The domain settles: as many rounds as the LSPs of the farthest routers need.
     Settle,
-    /// A packet with that entropy enters at the first router for all routers.
+    /// A packet with that entropy is injected at the first router for all routers.
     Send(u16),
 }
 
 impl GrownLine {
-    /// How many lines the schedule has.
+    /// The number of lines of the schedule.
     pub const COUNT: u16 = 18;
 
-    /// The line at an index: the domain settles, sixteen packets enter, and it settles again.
+    /// Returns the line at an index: the domain settles, sixteen packets are injected, and it settles again.
     pub fn at(index: u16) -> GrownLine
         ensures { result ≡ spec.line_at index }
     {
@@ -66,7 +66,7 @@ impl GrownLine {
         }
     }
 
-    /// The line as it is for the domain of `n` routers.
+    /// Returns the line for the domain of `n` routers.
     #[tactic(auto, using(crate::proofs::ScheduleLines::sending_fits))]
     pub fn line(self, alloc: Global, n: u16) -> M<Line>
         requires some { 0 < n }

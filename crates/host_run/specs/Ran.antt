@@ -11,19 +11,20 @@ use Rattle.command_drive.specs.Answer.{IsDecided}
 use Rattle.replay_run.specs.Endings.{ComesOn}
 use Rattle.replay_run.specs.Verdict.{verdict}
 
--- the octets of the file at a path, where there is a path and they are known
+-- the octets of the file at a path, if there is a path and they are specified
 abbrev pub held : (List ℕ → Option (List ℕ)) → Option (List ℕ) → Option (List ℕ)
 held at None = None
 held at (Some path) = at path
 
 pub record Ran {W : Type 0} (at : List ℕ → Option (List ℕ)) (contents : W → Option (List ℕ)) (line : CommandLine) (ended : Status) (old new : StdoutSink W) : Type 0 where
-  -- the status and the report are the verdict on the files at the paths that the command line gives
+  -- the status and the report are the verdict on the files at the paths of the command line
   pub verdict : IsDecided ended → IfSome (verdict (form_of line) (router_of line) (held at (conf_path line)) (held at (input_path line)))
       (λ owed. (ended ≡ owed.status) × Appends (contents old.out) (contents new.out) owed.report)
   pub statuses : ComesOn (form_of line) ended
-  -- a read fails only where the command line names a file to be read
+  -- a read fails only if the command line names a file to be read
   pub read : ended ≡ ReadFault → is_some (input_path line) ≡ true
-  -- a write fails only where the command line names a file to be written, or the report's writer failed or took nothing
+  -- a write fails only if the command line names a file to be written, or if the report's writer failed or accepted
+  -- nothing
   pub write : ended ≡ WriteFault → (is_some (frames_path line) ≡ true) ⊎ ((old.tally.faults < new.tally.faults) ⊎ (old.tally.zeros < new.tally.zeros))
   pub report_quiet : ended ≢ WriteFault → new.tally.faults ≡ old.tally.faults
   pub report_takes : ended ≢ WriteFault → new.tally.zeros ≡ old.tally.zeros

@@ -11,7 +11,7 @@ use std::io::Write;
 use tool_host::{FileSystem, Objects, StdoutSink, words_of};
 use wire_base::Status;
 
-/// All that the program does on the arguments behind its name.
+/// Runs the program on the arguments after its name.
 pub fn run_words<F: FileSystem, W: Write>(
     alloc: Global,
     words: &[&str],
@@ -25,7 +25,8 @@ pub fn run_words<F: FileSystem, W: Write>(
     run_over(alloc, words, &mut objects, report)
 }
 
-/// All that the program does on its arguments, of which the first is its name. Out of memory before the run, it writes nothing.
+/// Runs the program on its arguments, the first of which is its name. If it is out of memory before the run, it writes
+/// nothing.
 pub fn run_arguments<F: FileSystem, W: Write>(
     alloc: Global,
     args: &[String],

@@ -1,4 +1,4 @@
-//! A run over files that are named.
+//! A run on files that are named by path.
 ghost use Rattle.std.specs.Prelude.{◌≡◌, IfSome};
 ghost use Rattle.command_line.specs.Words.{command_line_in, form_in, router_in};
 ghost use Rattle.command_drive.specs.Answer.{IsDecided};
@@ -15,7 +15,7 @@ use std::io::Write;
 use tool_host::{FileSink, FileSource, FileSystem, Objects, StdoutSink};
 use wire_base::{Sink, Source, Status};
 
-/// Runs on those words over the files that they name, none of which was opened yet.
+/// Runs a command line on the files that it names, none of which was opened yet.
 pub(crate) fn run_over<'a, F: FileSystem, W: Write>(
     alloc: Global,
     words: &[&str],

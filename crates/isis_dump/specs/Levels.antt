@@ -8,6 +8,6 @@ abbrev pub type_in : List ℕ → ℕ
 type_in (a ∷ b ∷ c ∷ d ∷ number ∷ rest) = number % 32
 type_in octets = 0
 
--- link state and sequence numbers PDUs of level 1 have the types 18, 24 and 26
+-- LSPs, CSNPs and PSNPs of level 1 have the types 18, 24 and 26
 abbrev pub level_in : List ℕ → Level
 level_in pdu = if (type_in pdu == 18) || (type_in pdu == 24) || (type_in pdu == 26) then One else Two

@@ -1,4 +1,4 @@
-//! A capture from its beginning to its end.
+//! Dumps a capture from beginning to end.
 ghost use Rattle.std.specs.Prelude.{◌≡◌, Ok, None, OnOk};
 ghost use Rattle.wire_base.specs.model.Capture.{next_of};
 
@@ -10,10 +10,10 @@ use std::fmt::Write as _;
 use std::io::{Read, Write};
 use wire_base::{CaptureFault, M, Memory, Status};
 
-/// How many octets are asked for at a time, and how long the text may become before it is written.
+/// The number of octets read at a time, and the size of the text at which it is written.
 const PIECE: usize = 65_536;
 
-/// How far a capture was read: its reader; the records, the frames of IS-IS that were read and those that break a rule; and
+/// The progress through a capture: its reader; the numbers of records, of parsed IS-IS frames and of invalid ones; and
 /// the lines that are still to be written.
 #[derive(Drop)]
 struct Progress {
@@ -35,7 +35,7 @@ impl Progress {
         }
     }
 
-    /// Shows a record.
+    /// Appends the lines of a record.
     fn show(&mut self, record: &CapRecord) -> M<()>
         ensures reader { self.new.reader ≡ self.old.reader }
     {
@@ -48,7 +48,7 @@ impl Progress {
         Ok(())
     }
 
-    /// Shows all records that are whole in what the reader was fed, and the reader has no further one.
+    /// Appends the lines of all records that are complete in what the reader was fed. Afterwards the reader has no further one.
     fn show_records(&mut self) -> Result<(), CaptureFault>
         ensures open { OnOk result ((next_of self.new.reader).0 ≡ Ok None) }
     {
@@ -61,12 +61,12 @@ impl Progress {
     }
 }
 
-/// Room for a piece of the capture.
+/// Allocates a buffer for a chunk of the capture.
 fn buffer(alloc: Global) -> M<Vec<u8>> {
     Ok(vec![in alloc; 0u8; PIECE]?)
 }
 
-/// The number of the record that a fault stands at, after those that were read: the capture's header has the number 0.
+/// Returns the number of the record at which an error occurred; the capture's header has the number 0.
 fn fault_record(records: u64, why: CaptureFault) -> u64 {
     match why {
         CaptureFault::Magic
@@ -79,7 +79,7 @@ fn fault_record(records: u64, why: CaptureFault) -> u64 {
     }
 }
 
-/// Appends the last line of a capture that is refused.
+/// Appends the last line for an invalid capture.
 fn show_fault(text: &mut String, records: u64, why: CaptureFault) -> M<Status> {
     if why == CaptureFault::Memory {
         return Err(Memory);
@@ -91,7 +91,7 @@ fn show_fault(text: &mut String, records: u64, why: CaptureFault) -> M<Status> {
     Ok(Status::CaptureRefused)
 }
 
-/// Appends the last line at the capture's end.
+/// Appends the last line at the end of the capture.
 fn show_end(progress: Progress) -> M<(Status, String)> {
     let mut progress = progress;
     let ended = progress.show_records();
@@ -116,7 +116,7 @@ fn show_end(progress: Progress) -> M<(Status, String)> {
     Ok((status, text))
 }
 
-/// Writes the lines, and keeps none.
+/// Writes the lines and discards them.
 fn write_out<W: Write>(output: &mut W, text: &mut String) -> Result<(), Status> {
     match output.write_all(text.as_bytes()) {
         Ok(()) => {
@@ -127,7 +127,7 @@ fn write_out<W: Write>(output: &mut W, text: &mut String) -> Result<(), Status> 
     }
 }
 
-/// Writes the last lines, and answers the status.
+/// Writes the last lines, and returns the status.
 fn end<W: Write>(output: &mut W, text: &str, status: Status) -> Result<Status, Status> {
     let written = match output.write_all(text.as_bytes()) {
         Ok(()) => output.flush(),
@@ -139,9 +139,9 @@ fn end<W: Write>(output: &mut W, text: &str, status: Status) -> Result<Status, S
     }
 }
 
-/// Reads a capture piece by piece and writes the lines of its IS-IS frames, up to its end or to the record that is refused.
-/// The last line is `done`, with the numbers of records, of frames that were read and of those that break a rule, or
-/// `refused record`, with the rule; after a fault of the input or the output there is no such line.
+/// Reads a capture in chunks and writes the lines of its IS-IS frames, up to its end or to an invalid record.
+/// The last line is `done`, with the numbers of records, of parsed frames and of invalid ones, or
+/// `refused record`, with the broken rule. After a read or write error there is no such line.
 pub fn dump<R: Read, W: Write>(
     alloc: Global,
     input: &mut R,

@@ -6,7 +6,7 @@ use pcap_frames::CapRecord;
 use std::fmt::Write;
 use wire_base::M;
 
-/// Appends the number and the time, and `cut` where the capture holds only a front of the frame.
+/// Appends the number and the time, and `cut` if the capture contains only the beginning of the frame.
 fn show_time(text: &mut String, number: u64, record: &CapRecord) -> M<()> {
     let (sec, usec) = (record.sec, record.usec);
     let cut = if record.whole { "" } else { "cut " };
@@ -14,8 +14,8 @@ fn show_time(text: &mut String, number: u64, record: &CapRecord) -> M<()> {
     Ok(())
 }
 
-/// Appends the lines of a record whose frame is one of IS-IS, or the rule that it breaks. A frame that can't be read as
-/// Ethernet may have been one. None where it is another frame, which is passed.
+/// Appends the lines of a record with an IS-IS frame, or the rule that the frame breaks. An invalid Ethernet frame may have
+/// been an IS-IS frame. Returns None for any other frame, which is ignored.
 pub fn show_record(text: &mut String, number: u64, record: &CapRecord) -> M<Option<Shown>> {
     let frame = record.octets.as_slice();
     match classify(frame) {

@@ -1,7 +1,7 @@
 //! Reads a capture from standard input, and writes its IS-IS frames as text to standard output: each PDU with its TLVs and
 //! their entries, or the first rule that it breaks.
 //!
-//! It stands on the codecs alone, reads piece by piece, and holds no more of a capture than a record and a piece.
+//! It depends only on the codecs, reads in chunks, and never stores more of a capture than a record and a chunk.
 #![tactic(auto)]
 
 mod dump;
@@ -20,7 +20,7 @@ use wire_base::Status;
 
 const USAGE: &str = "usage: isis_dump < CAPTURE\n";
 
-/// Whether a word follows the name of the program. A word that isn't text is one.
+/// Returns whether the program has an argument. An argument that is not valid text counts.
 fn has_words(rt: &HostRuntime) -> Result<bool, Status> {
     match env::args(rt) {
         Ok(words) => Ok(words.skip(1).next().is_some()),

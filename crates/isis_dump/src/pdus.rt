@@ -8,16 +8,16 @@ use isis_pdu::{LspHead, Pdu, read_pdu};
 use std::fmt::Write;
 use wire_base::{Level, LspId, M, SystemId};
 
-/// What became of a frame.
+/// The result for a frame.
 #[derive(Clone, Copy, Debug, PartialEq, Eq)]
 pub enum Shown {
-    /// It was read.
+    /// The frame is valid.
     Whole,
-    /// It breaks a rule.
+    /// The frame breaks a rule.
     Refused,
 }
 
-/// The type of a PDU: the low five bits of its fifth octet; 0 where there is none.
+/// Returns the type of a PDU: the low five bits of its fifth octet; 0 if there is none.
 fn type_of(pdu: &[u8]) -> u8
     ensures { result ≡ type_in pdu.now }
 {
@@ -27,7 +27,7 @@ fn type_of(pdu: &[u8]) -> u8
     }
 }
 
-/// The level that a PDU's type tells, and 2 where it tells none.
+/// Returns the level of a PDU by its type, or level 2 if the type has none.
 fn level_of(pdu: &[u8]) -> Level
     ensures { result ≡ level_in pdu.now }
 {
@@ -44,7 +44,7 @@ fn level_number(level: Level) -> u8 {
     }
 }
 
-/// Appends what stands behind the record's number and time, and the lines of the TLVs; or the first rule that is broken.
+/// Appends the text after the record's number and time, and the lines of the TLVs; or the first rule that is broken.
 pub fn show_pdu(text: &mut String, pdu: &[u8]) -> M<Shown> {
     let level = level_of(pdu);
     let number = level_number(level);
@@ -81,7 +81,7 @@ pub fn show_pdu(text: &mut String, pdu: &[u8]) -> M<Shown> {
     Ok(Shown::Whole)
 }
 
-/// A live LSP that was read has the right sums; of one whose life is 0 they aren't used.
+/// Appends the line of an LSP. A parsed live LSP has a right checksum; that of an expired LSP is not used.
 fn show_lsp(text: &mut String, level: u8, head: &LspHead) -> M<()> {
     let LspHead {
         life,

@@ -7,7 +7,7 @@ use std::fmt::Write;
 use wire_base::codepoints::SUB_TLV_BIER_INFO;
 use wire_base::{Ipv4, LabelRange, M};
 
-/// Appends the entries of a TLV 135, to its end or to the first that can't be read.
+/// Appends the entries of a TLV 135, to its end or to the first invalid one.
 pub fn show_prefixes(text: &mut String, value: &[u8]) -> M<()> {
     for entry in PrefixWalk::new(value) {
         match entry {
@@ -18,7 +18,7 @@ pub fn show_prefixes(text: &mut String, value: &[u8]) -> M<()> {
     Ok(())
 }
 
-/// The octets stand as they were read, those of the host's bits too.
+/// Appends the octets as received, including the host bits.
 fn show_prefix(text: &mut String, prefix: &PrefixEntry<'_>) -> M<()> {
     let (address, length, metric) = (Ipv4(prefix.octets), prefix.length, prefix.metric);
     let down = if prefix.control >= 0x80 { " down" } else { "" };

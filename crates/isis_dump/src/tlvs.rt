@@ -21,7 +21,7 @@ pub fn show_tlvs(text: &mut String, tlvs: &[u8]) -> M<()> {
     Ok(())
 }
 
-/// Appends the line of a rule of TLVs that is broken.
+/// Appends the line of a rule of TLVs that is violated.
 pub fn show_fault(text: &mut String, indent: &str, what: &str, fault: TlvFault) -> M<()> {
     show_refused(text, indent, what, fault.number(), fault.name())
 }
@@ -38,7 +38,7 @@ fn show_tlv(text: &mut String, tlv: Tlv<'_>) -> M<()> {
     }
 }
 
-/// Appends the line of a TLV or sub-TLV that isn't read further.
+/// Appends the line of a TLV or sub-TLV that is not decoded further.
 pub fn show_unknown(text: &mut String, indent: &str, what: &str, code: u8, value: &[u8]) -> M<()> {
     write!(text, "{indent}{what} {code} ")?;
     show_hex(text, value)?;
@@ -46,7 +46,7 @@ pub fn show_unknown(text: &mut String, indent: &str, what: &str, code: u8, value
     Ok(())
 }
 
-/// Appends the area addresses of a TLV 1, to its end or to one that passes it.
+/// Appends the area addresses of TLV 1, up to its end or to one that exceeds it.
 fn show_areas(text: &mut String, value: &[u8]) -> M<()> {
     let mut rest = value;
     'areas: while !rest.is_empty() {
@@ -63,7 +63,7 @@ fn show_areas(text: &mut String, value: &[u8]) -> M<()> {
     Ok(())
 }
 
-/// Appends the network layer protocols of a TLV 129, an octet each.
+/// Appends the network layer protocols of TLV 129, one octet each.
 fn show_protocols(text: &mut String, value: &[u8]) -> M<()> {
     text.push_str("  protocols")?;
     for protocol in value {

@@ -1,4 +1,4 @@
--- What a call that takes a PDU leaves: what the rules say, or, where memory ran out, what there was.
+-- The state after a call that processes a PDU: what the rules require, or, where an allocation failed, the state before.
 use Rattle.std.specs.Prelude.{◌≡◌, ℕ, Bool, List, Result, Ok, Err, fold}
 use Rattle.wire_base.specs.declared.addresses.LspId.{LspId}
 use Rattle.wire_base.specs.declared.entry.Entry.{Entry}
@@ -13,7 +13,7 @@ abbrev pub LspDone : Result FloodOut Memory → Flood → List Entry → Flood �
 LspDone (Ok answer) f entries new_f new_entries rules = rules ≡ record { flood = new_f; entries = new_entries; answer = answer }
 LspDone (Err memory) f entries new_f new_entries rules = (new_f ≡ f) × (new_entries ≡ entries)
 
--- a state of flooding, an LSDB and what is asked for
+-- a flood state, an LSDB and what is requested
 abbrev pub state_of : Flood → List Entry → SnpOut → SnpAnswer
 state_of f entries answer = record { flood = f; entries = entries; answer = answer }
 
@@ -21,12 +21,12 @@ abbrev pub SnpDone : Result SnpOut Memory → Flood → List Entry → Flood →
 SnpDone (Ok answer) f entries new_f new_entries rules = rules ≡ state_of new_f new_entries answer
 SnpDone (Err memory) f entries new_f new_entries rules = (new_f ≡ f) × (new_entries ≡ entries)
 
--- one step that can't fail where there is memory for one entry and one row
+-- one step, which cannot fail where there is memory for one entry and one row
 abbrev pub Becomes : Result (Unit {0}) Memory → SnpAnswer → SnpAnswer → Type 0
 Becomes (Ok u) new rules = rules ≡ new
 Becomes (Err memory) new rules = Unit {0}
 
--- a CSNP from `start` to `last` that lists those entries: what they ask for, and then what the list lacks
+-- a CSNP from `start` to `last` with those LSP entries: their effects, and then what the CSNP lacks
 abbrev pub csnp_listed : Flood → List Entry → ℕ → LspId → LspId → List Summary → Bool → SnpAnswer
 csnp_listed f entries link start last rows spent =
     let a = on_list f entries link rows spent in

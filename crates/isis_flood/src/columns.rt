@@ -1,5 +1,5 @@
-//! Rows of flags as three lists of one length: a search reads identifiers alone, and a pass over the flags of one kind no
-//! other kind.
+//! Rows of flags stored as three lists of one length: a search reads only the LSP IDs, and a scan of one kind of flags does not
+//! read the other kind.
 ghost use Rattle.std.specs.Prelude.{◌≡◌, ◌<◌, ◌≤◌, ◌+◌, [], map, drop, ℕ, nat_le, length, slice_set, slice_index_or, IsOk, OnOk, OnErr};
 ghost use Rattle.std.specs.List.{insert, list_any, position_or_len, remove};
 ghost use Rattle.isis_flood.specs.Masks.{at_bit, held_row, rows_of, row_ids, clears};
@@ -10,7 +10,7 @@ use std::alloc::Global;
 use std::marker::Model;
 use wire_base::{LspId, M};
 
-/// Rows of flags. Contracts see the rows, and for how many more there is the memory in all three lists.
+/// Rows of flags. Contracts model them as the rows, and the number of further rows for which all three lists have memory.
 #[derive(Drop)]
 pub(crate) struct Columns {
     ids: Vec<LspId>,
@@ -31,7 +31,7 @@ impl Model for Columns {
 }
 
 impl Columns {
-    /// No rows, of a router with that many links.
+    /// Creates an empty list, for a router with that many links.
     pub(crate) fn new(alloc: Global, links: u16) -> Columns
         ensures rows { result.rows ≡ [] }
         ensures narrow { result.narrow ≡ nat_le links 8 }
@@ -43,21 +43,21 @@ impl Columns {
         }
     }
 
-    /// The identifiers of the rows.
+    /// Returns the LSP IDs of the rows.
     pub(crate) fn ids(&self) -> &[LspId]
         ensures { result.now ≡ row_ids self.now.rows }
     {
         self.ids.as_slice()
     }
 
-    /// How many rows there are.
+    /// Returns the number of rows.
     pub(crate) fn len(&self) -> usize
         ensures { result ≡ length self.now.rows }
     {
         self.ids.len()
     }
 
-    /// The row at a place.
+    /// Returns the row at an index.
     pub(crate) fn at(&self, place: usize) -> Bits
         requires { place < length self.now.rows }
         ensures { result ≡ slice_index_or self.now.rows place result }
@@ -69,7 +69,7 @@ impl Columns {
         }
     }
 
-    /// Puts a row in place of the one at a place.
+    /// Replaces the row at an index.
     pub(crate) fn set(&mut self, place: usize, row: Bits)
         requires { place < length self.old.rows }
         ensures rows { self.new.rows ≡ slice_set self.old.rows place (held_row self.old.narrow row) }
@@ -81,7 +81,7 @@ impl Columns {
         self.ssn.set(place, row.ssn);
     }
 
-    /// Inserts a row at a place.
+    /// Inserts a row at an index.
     pub(crate) fn insert(&mut self, place: usize, row: Bits) -> M<()>
         requires { place ≤ length self.old.rows }
         ensures ok { OnOk result (self.new.rows ≡ insert self.old.rows place (held_row self.old.narrow row)) }
@@ -90,7 +90,7 @@ impl Columns {
         ensures spare { self.old.spare ≤ self.new.spare + 1 }
         ensures narrow { self.new.narrow ≡ self.old.narrow }
     {
-        // Room in all three first, so that it can't stop half way.
+        // Reserves room in all three lists first, so that the insertion cannot fail halfway.
         self.reserve(1)?;
         insert_within(&mut self.ids, place, row.id);
         self.srm.insert(place, row.srm);
@@ -98,7 +98,7 @@ impl Columns {
         Ok(())
     }
 
-    /// Takes the row at a place away.
+    /// Removes the row at an index.
     pub(crate) fn remove(&mut self, place: usize)
         requires { place < length self.old.rows }
         ensures rows { self.new.rows ≡ remove self.old.rows place }
@@ -110,7 +110,7 @@ impl Columns {
         self.ssn.remove(place);
     }
 
-    /// Makes room for that many rows more.
+    /// Reserves room for that many more rows.
     pub(crate) fn reserve(&mut self, n: usize) -> M<()>
         ensures rows { self.new.rows ≡ self.old.rows }
         ensures ok { OnOk result (n ≤ self.new.spare) }
@@ -124,7 +124,7 @@ impl Columns {
         Ok(())
     }
 
-    /// No row is to be acknowledged or asked for on a link; where `both`, none is to be sent there either.
+    /// Clears all SSN flags of a link and, if `both`, its SRM flags too.
     pub(crate) fn clear(&mut self, link: u16, both: bool)
         requires { link < 64 }
         ensures ids { row_ids self.new.rows ≡ row_ids self.old.rows }
@@ -138,7 +138,7 @@ impl Columns {
         }
     }
 
-    /// Whether some row is to be sent on a link.
+    /// Returns whether some row has its SRM flag set for a link.
     pub(crate) fn any_sent(&self, link: u16) -> bool
         requires { link < 64 }
         ensures { result ≡ list_any (λ b. at_bit b.srm link) self.now.rows }
@@ -146,7 +146,7 @@ impl Columns {
         self.srm.any_with(link)
     }
 
-    /// The place of the first row from a place on that is to be sent on a link, or the number of rows.
+    /// Returns the index of the first row, from an index on, with its SRM flag set for a link, or the number of rows.
     pub(crate) fn next_sent(&self, from: usize, link: u16) -> usize
         requires { link < 64 }
         ensures { result ≡ from + position_or_len (λ b. at_bit b.srm link) (drop from self.now.rows) }
@@ -154,7 +154,7 @@ impl Columns {
         self.srm.next_with(from, link)
     }
 
-    /// The place of the first row from a place on that is to be acknowledged or asked for on a link, or the number of rows.
+    /// Returns the index of the first row, from an index on, with its SSN flag set for a link, or the number of rows.
     pub(crate) fn next_asked(&self, from: usize, link: u16) -> usize
         requires { link < 64 }
         ensures { result ≡ from + position_or_len (λ b. at_bit b.ssn link) (drop from self.now.rows) }

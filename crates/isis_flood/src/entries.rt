@@ -1,4 +1,4 @@
-//! The entries that a sequence numbers PDU lists (ISO/IEC 10589, 9.10).
+//! The LSP entries of CSNPs and PSNPs (ISO/IEC 10589, 9.10).
 ghost use Rattle.std.specs.Prelude.{◌≡◌, ◌≤◌, ◌+◌, ◌++◌, length, take, IfOk, OnOk, OnErr};
 ghost use Rattle.wire_base.specs.model.Tlv.{row_at, entries_of, rows_in, rows_of};
 ghost use Rattle.isis_tlv.specs.Views.{item};
@@ -8,10 +8,11 @@ use std::alloc::Global;
 use std::mem::replace;
 use wire_base::{M, Rows, Summary};
 
-/// The code of the TLVs that list entries.
+/// The code of the TLVs that list LSP entries.
 const ENTRIES: u8 = 9;
 
-/// Appends the entries of the value of such a TLV; octets that are none end them. Where memory runs out, some may be appended.
+/// Appends the LSP entries in the value of such a TLV, up to the first invalid one. If an allocation fails, some may have been
+/// appended.
 fn append_entries(rows: &mut Rows<Summary>, value: &[u8]) -> M<()>
     ensures ok { OnOk result (rows.new ≡ rows.old ++ entries_of row_at value.now) }
     ensures err { OnErr result (take (length rows.old) rows.new ≡ rows.old) }
@@ -24,7 +25,7 @@ fn append_entries(rows: &mut Rows<Summary>, value: &[u8]) -> M<()>
     Ok(())
 }
 
-/// Appends the entries that a TLV lists.
+/// Appends the LSP entries of a TLV.
 fn append_item(rows: &mut Rows<Summary>, tlv: Tlv<'_>) -> M<()>
     ensures ok { OnOk result (rows.new ≡ rows.old ++ rows_in (item tlv.entry)) }
     ensures err { OnErr result (take (length rows.old) rows.new ≡ rows.old) }
@@ -36,7 +37,7 @@ fn append_item(rows: &mut Rows<Summary>, tlv: Tlv<'_>) -> M<()>
     }
 }
 
-/// Appends the entries that those TLVs list, in order; an overrun ends them.
+/// Appends the LSP entries of those TLVs, in order, up to an overrun.
 fn append_items(rows: &mut Rows<Summary>, tlvs: &[u8]) -> M<()>
     ensures ok { OnOk result (rows.new ≡ rows.old ++ rows_of tlvs.now) }
     ensures err { OnErr result (take (length rows.old) rows.new ≡ rows.old) }
@@ -49,7 +50,7 @@ fn append_items(rows: &mut Rows<Summary>, tlvs: &[u8]) -> M<()>
     Ok(())
 }
 
-/// Keeps the first rows, and the memory. Takes none.
+/// Keeps the first `len` rows, and the capacity. Does not allocate.
 fn keep_first(rows: &mut Rows<Summary>, len: usize)
     ensures { rows.new ≡ take len rows.old }
 {
@@ -59,7 +60,7 @@ fn keep_first(rows: &mut Rows<Summary>, len: usize)
     *rows = Rows::from_vec(kept);
 }
 
-/// Appends the entries that those TLVs list, in order; an overrun ends them. Where memory runs out, none is appended.
+/// Appends the LSP entries of those TLVs, in order, up to an overrun. If an allocation fails, none is appended.
 pub fn append_listed(rows: &mut Rows<Summary>, tlvs: &[u8]) -> M<()>
     ensures ok { OnOk result (rows.new ≡ rows.old ++ rows_of tlvs.now) }
     ensures few { OnOk result (length rows.new ≤ length rows.old + length tlvs.now) }
@@ -75,7 +76,7 @@ pub fn append_listed(rows: &mut Rows<Summary>, tlvs: &[u8]) -> M<()>
     }
 }
 
-/// The entries that those TLVs list.
+/// Returns the LSP entries of those TLVs.
 pub fn listed(alloc: Global, tlvs: &[u8]) -> M<Rows<Summary>>
     ensures rows { IfOk result (λ rows. rows ≡ rows_of tlvs.now) }
     ensures few { IfOk result (λ rows. length rows ≤ length tlvs.now) }

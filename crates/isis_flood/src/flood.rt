@@ -11,9 +11,9 @@ use std::alloc::Global;
 use std::marker::Model;
 use wire_base::{LspId, M, SystemId};
 
-/// What flooding keeps beside the LSDB: which links are up, on which of them a CSNP is due, and for each identifier
-/// the links on which its LSP is to be sent (SRM) and on which it is to be acknowledged or asked for (SSN).
-/// Contracts see these, and for how many more identifiers it has the memory already (ISO/IEC 10589, 7.3.15).
+/// The state of flooding beside the LSDB: which links are up, on which of them a CSNP is due, and for each LSP ID the links with
+/// its SRM flag (the LSP is to be sent) and its SSN flag (it is to be acknowledged or requested). Contracts model it as this state
+/// and the number of further LSP IDs for which memory is already allocated (ISO/IEC 10589, 7.3.15).
 #[derive(Drop)]
 pub struct Flood {
     own: SystemId,
@@ -34,7 +34,7 @@ impl Model for Flood {
 }
 
 impl Flood {
-    /// No flags, and a CSNP due on every link that is up.
+    /// Creates a state without flags, with a CSNP due on every link that is up.
     pub fn new(alloc: Global, own: SystemId, links: u16, up: &[bool]) -> M<Flood>
         requires links { length up.now ≡ links }
         requires few { links ≤ 64 }
@@ -51,36 +51,36 @@ impl Flood {
         })
     }
 
-    /// Whether a link is up. A link that the router doesn't have isn't, and has no flag.
+    /// Returns whether a link is up. A link that the router does not have is not up, and has no flags.
     pub fn is_up(&self, link: u16) -> bool
         ensures { result ≡ slice_index_or self.now.flood.up link false }
     {
         has_of(self.up, self.links, link)
     }
 
-    /// Whether a CSNP is due on a link.
+    /// Returns whether a CSNP is due on a link.
     pub fn due(&self, link: u16) -> bool
         ensures { result ≡ slice_index_or self.now.flood.due link false }
     {
         has_of(self.due, self.links, link)
     }
 
-    /// Whether the LSP of an identifier is to be sent on a link.
+    /// Returns whether the SRM flag of an LSP ID is set for a link: the LSP is to be sent there.
     pub fn srm(&self, id: LspId, link: u16) -> bool
         ensures { result ≡ srm_in self.now.flood.rows id link }
     {
         has_of(self.table.get(&id).srm, self.links, link)
     }
 
-    /// Whether the LSP of an identifier is to be acknowledged or asked for on a link.
+    /// Returns whether the SSN flag of an LSP ID is set for a link: the LSP is to be acknowledged or requested there.
     pub fn ssn(&self, id: LspId, link: u16) -> bool
         ensures { result ≡ ssn_in self.now.flood.rows id link }
     {
         has_of(self.table.get(&id).ssn, self.links, link)
     }
 
-    /// Whether the LSP of some identifier may be to be sent on a link: false only where none is. It reads no
-    /// row, and is false where none was to be sent there when `sent` or `link_down` was last called, and none came since.
+    /// Returns whether some SRM flag of a link may be set; false only if none is. It reads no row. It is false if none was set
+    /// when `sent` or `link_down` was last called, and none has been set since.
     pub fn may_send(&self, link: u16) -> bool
         ensures { result ≡ false → has_srm self.now.flood.rows link ≡ false }
     {
@@ -90,8 +90,8 @@ impl Flood {
         self.table.may_send(link)
     }
 
-    /// Whether the LSP of some identifier may be to be acknowledged or asked for on a link: false only where
-    /// none is. It reads no row, and is false after `sent` and `link_down` until one comes.
+    /// Returns whether some SSN flag of a link may be set; false only if none is. It reads no row. It is false after `sent` and
+    /// `link_down` until one is set.
     pub fn may_ask(&self, link: u16) -> bool
         ensures { result ≡ false → has_ssn self.now.flood.rows link ≡ false }
     {
@@ -101,14 +101,14 @@ impl Flood {
         self.table.may_ask(link)
     }
 
-    /// How many identifiers have a row of flags, in their order; a row may be without flags.
+    /// Returns the number of LSP IDs with a row of flags, in order; a row may be without flags.
     pub fn rows(&self) -> usize
         ensures { result ≡ length self.now.flood.rows }
     {
         self.table.len()
     }
 
-    /// The identifier of the row at a place.
+    /// Returns the LSP ID of the row at an index.
     pub fn id_at(&self, place: usize) -> LspId
         requires { place < length self.now.flood.rows }
         ensures { IfSome (slice_get self.now.flood.rows place) (λ row. result ≡ row.id) }
@@ -116,7 +116,7 @@ impl Flood {
         self.table.id_at(place)
     }
 
-    /// The place of the first row from a place on whose LSP is to be sent on a link, or the number of rows.
+    /// Returns the index of the first row, from an index on, whose LSP is to be sent on a link, or the number of rows.
     pub fn next_sent(&self, from: usize, link: u16) -> usize
         requires { link < length self.now.flood.up }
         ensures { result ≡ from + position_or_len (λ row. slice_index_or row.srm link false) (drop from self.now.flood.rows) }
@@ -124,7 +124,7 @@ impl Flood {
         self.table.next_sent(from, link)
     }
 
-    /// The place of the first row from a place on whose LSP is to be acknowledged or asked for on a link, or the
+    /// Returns the index of the first row, from an index on, whose LSP is to be acknowledged or requested on a link, or the
     /// number of rows.
     pub fn next_asked(&self, from: usize, link: u16) -> usize
         requires { link < length self.now.flood.up }
@@ -133,7 +133,7 @@ impl Flood {
         self.table.next_asked(from, link)
     }
 
-    /// Makes room for that many rows more.
+    /// Reserves room for that many more rows.
     pub fn reserve(&mut self, n: usize) -> M<()>
         ensures flood { self.new.flood ≡ self.old.flood }
         ensures ok { OnOk result (n ≤ self.new.spare) }
@@ -143,7 +143,7 @@ impl Flood {
         self.table.reserve(n)
     }
 
-    /// To be sent on every link that is up, and acknowledged on none.
+    /// Sets the SRM flag of an LSP ID for every link that is up, and clears its SSN flags.
     pub fn mark_all(&mut self, id: LspId) -> M<()>
         ensures ok { OnOk result (self.new.flood ≡ mark_all self.old.flood id) }
         ensures err { OnErr result (self.new.flood ≡ self.old.flood) }
@@ -156,7 +156,7 @@ impl Flood {
         self.table.put(Bits { id, srm, ssn: 0 }, end)
     }
 
-    /// All flags of an identifier go.
+    /// Clears all flags of an LSP ID.
     pub fn forget(&mut self, id: LspId)
         ensures flood { self.new.flood ≡ forget self.old.flood id }
         ensures spare { self.old.spare ≤ self.new.spare }
@@ -165,12 +165,12 @@ impl Flood {
         self.table.remove(&id);
     }
 
-    /// Where the row of an identifier stands, or would stand. Its entry mostly stands at the same place of the LSDB.
+    /// Returns the index of an LSP ID's row, or the index to insert it at. Its entry mostly has the same index in the LSDB.
     pub(crate) fn place_of(&self, id: &LspId) -> usize {
         self.table.find(id).place
     }
 
-    /// Changes the row of an identifier to this one. Where it stands may be guessed.
+    /// Replaces the row with that LSP ID. `guess` is a guess of its index.
     fn set_row(&mut self, row: Bits, guess: usize) -> M<()>
         ensures ok { (change : FlagRow → FlagRow) → row_of (length self.old.flood.up) row ≡ change (row_in (length self.old.flood.up) self.old.flood.rows row.id)
             → OnOk result (self.new.flood ≡ with_row self.old.flood row.id change) }
@@ -181,8 +181,8 @@ impl Flood {
         self.table.put(row, guess)
     }
 
-    /// Turns the flags of an identifier on a link, to be sent there and to be acknowledged or asked for. Where its row stands may
-    /// be guessed.
+    /// Changes the flags of an LSP ID for a link: SRM (to be sent) and SSN (to be acknowledged or requested). `guess` is a guess
+    /// of the row's index.
     fn turn(&mut self, id: LspId, link: u16, guess: usize, srm: Turn, ssn: Turn) -> M<()>
         requires { link < length self.old.flood.up }
         ensures ok { OnOk result (self.new.flood ≡ with_row self.old.flood id (turned link srm ssn)) }
@@ -200,7 +200,7 @@ impl Flood {
         self.table.put_at(found, changed)
     }
 
-    /// To be acknowledged or asked for on a link, and not sent there.
+    /// Sets the SSN flag for a link, and clears the SRM flag.
     pub(crate) fn ask(&mut self, id: LspId, link: u16, guess: usize) -> M<()>
         requires { link < length self.old.flood.up }
         ensures ok { OnOk result (self.new.flood ≡ with_row self.old.flood id (ask_on link)) }
@@ -211,7 +211,7 @@ impl Flood {
         self.turn(id, link, guess, Turn::Off, Turn::On)
     }
 
-    /// To be sent on a link, and not acknowledged there.
+    /// Sets the SRM flag for a link, and clears the SSN flag.
     pub(crate) fn resend(&mut self, id: LspId, link: u16, guess: usize) -> M<()>
         requires { link < length self.old.flood.up }
         ensures ok { OnOk result (self.new.flood ≡ with_row self.old.flood id (send_on link)) }
@@ -222,7 +222,7 @@ impl Flood {
         self.turn(id, link, guess, Turn::On, Turn::Off)
     }
 
-    /// Not to be sent on a link.
+    /// Clears the SRM flag for a link.
     pub(crate) fn acknowledge(&mut self, id: LspId, link: u16, guess: usize) -> M<()>
         requires { link < length self.old.flood.up }
         ensures ok { OnOk result (self.new.flood ≡ with_row self.old.flood id (set_srm link false)) }
@@ -233,7 +233,7 @@ impl Flood {
         self.turn(id, link, guess, Turn::Off, Turn::Same)
     }
 
-    /// To be sent on a link.
+    /// Sets the SRM flag for a link.
     pub(crate) fn want(&mut self, id: LspId, link: u16, guess: usize) -> M<()>
         requires { link < length self.old.flood.up }
         ensures ok { OnOk result (self.new.flood ≡ with_row self.old.flood id (set_srm link true)) }
@@ -244,7 +244,7 @@ impl Flood {
         self.turn(id, link, guess, Turn::On, Turn::Same)
     }
 
-    /// The links that are up, as a mask.
+    /// Returns the links that are up, as a mask.
     fn up_mask(&self) -> u64
         ensures up { links_in (length self.now.flood.up) result ≡ self.now.flood.up }
         ensures few { length self.now.flood.up ≤ 64 }
@@ -252,7 +252,7 @@ impl Flood {
         self.up
     }
 
-    /// Came on a link: to be acknowledged there, and to be sent on all other links that are up.
+    /// For an LSP received on a link: sets SSN for that link, and SRM for all other links that are up.
     pub(crate) fn pass(&mut self, id: LspId, link: u16, guess: usize) -> M<()>
         requires { link < length self.old.flood.up }
         ensures ok { OnOk result (self.new.flood ≡ pass_on self.old.flood id link) }
@@ -269,14 +269,14 @@ impl Flood {
         self.set_row(row, guess)
     }
 
-    /// The own system.
+    /// Returns the router's own system ID.
     pub(crate) fn own(&self) -> SystemId
         ensures { result ≡ self.now.flood.own }
     {
         self.own
     }
 
-    /// A link is up, and a CSNP is due there.
+    /// Marks a link as up, with a CSNP due.
     pub(crate) fn open(&mut self, link: u16)
         requires { link < length self.old.flood.up }
         ensures flood { self.new.flood ≡ record self.old.flood { up = slice_set self.old.flood.up link true; due = slice_set self.old.flood.due link true } }
@@ -287,7 +287,7 @@ impl Flood {
         self.due = with(self.due, link);
     }
 
-    /// A link goes down, and its flags go. Nothing is done where the router doesn't have it.
+    /// Marks a link as down, and clears its flags. No effect if the router does not have the link.
     pub fn link_down(&mut self, link: u16)
         ensures flood { self.new.flood ≡ link_down self.old.flood link }
         ensures spare { self.new.spare ≡ self.old.spare }
@@ -301,8 +301,8 @@ impl Flood {
         self.table.clear(link, true);
     }
 
-    /// All that was due on a link was sent: no CSNP is due there, and nothing is to be acknowledged or asked for. An
-    /// acknowledgement alone ends the sending of an LSP (ISO/IEC 10589, 7.3.15.4).
+    /// Records that everything due on a link was sent: no CSNP is due there, and no SSN flag is set. SRM flags are unchanged:
+    /// only an acknowledgement ends the sending of an LSP (ISO/IEC 10589, 7.3.15.4).
     pub fn sent(&mut self, link: u16)
         ensures flood { self.new.flood ≡ sent_on self.old.flood link }
         ensures spare { self.new.spare ≡ self.old.spare }

@@ -1,4 +1,4 @@
-//! What a complete sequence numbers PDU lacks, and what a link that comes up lacks (ISO/IEC 10589, 7.3.15.2 and 7.3.17).
+//! The LSPs that a CSNP lacks, and those to send on a link that comes up (ISO/IEC 10589, 7.3.15.2 and 7.3.17).
 ghost use Rattle.std.specs.Prelude.{◌≡◌, ◌<◌, ◌≤◌, ◌+◌, length, filter, fold, IsOk, OnOk, OnErr};
 ghost use Rattle.wire_base.specs.model.Control.{same_id, is_below};
 ghost use Rattle.wire_base.specs.model.Flooding.{lists, lacks, send_lacking, send_known, on_csnp, link_up};
@@ -29,7 +29,7 @@ fn is_below(a: &LspId, b: &LspId) -> bool
     a.cmp(b).is_lt()
 }
 
-/// Whether a list from `start` to `last` should have had a live entry, and hasn't.
+/// Returns whether a CSNP from `start` to `last` lacks a live entry that it should list.
 fn lacks(start: &LspId, last: &LspId, rows: &[Summary], e: &Entry) -> bool
     ensures { result ≡ lacks start.now last.now rows.now e.now }
 {
@@ -41,7 +41,7 @@ fn lacks(start: &LspId, last: &LspId, rows: &[Summary], e: &Entry) -> bool
 }
 
 impl Flood {
-    /// What is lacking is to be sent; there is the memory for it already. An entry that isn't lacking needs none.
+    /// Sets the SRM flags of the LSPs that are lacking. Their memory is already allocated; the other entries need none.
     fn send_lacking(
         &mut self,
         store: &Store,
@@ -62,7 +62,7 @@ impl Flood {
                 [] => return Ok(()),
                 [e, after @ ..] => {
                     if lacks(start, last, rows, e) {
-                        // Its row mostly stands where the entry does.
+                        // Its row mostly has the same index as the entry.
                         let guess = store.len().saturating_sub(rest.len());
                         self.want(e.id, link, guess)?;
                     }
@@ -72,8 +72,8 @@ impl Flood {
         }
     }
 
-    /// A complete sequence numbers PDU from `start` to `last` that came on a link, with the octets of its TLVs. The
-    /// answer is that of a partial one (ISO/IEC 10589, 7.3.15.2). Where memory runs out, nothing has changed.
+    /// Processes a CSNP from `start` to `last` that was received on a link, given the octets of its TLVs. The result is as for
+    /// a PSNP (ISO/IEC 10589, 7.3.15.2). If an allocation fails, nothing has changed.
     #[tactic(auto, unfolding(wire_base::specs::model::Flooding::on_csnp))]
     pub fn on_csnp(
         &mut self,
@@ -88,7 +88,7 @@ impl Flood {
         requires tlvs { length tlvs.now ≤ 65535 }
         ensures done { SnpDone result self.old.flood store.old.entries self.new.flood store.new.entries (on_csnp self.old.flood store.old.entries link start last tlvs.now spent) }
         ensures kept { NotLowered store.old.entries store.new.entries }
-        // An entry that the PDU makes the LSDB wait for is none that the PDU lacks.
+        // An entry that the PDU adds to the LSDB, as a request, is not one that the PDU lacks.
         ensures spare { self.old.spare ≤ self.new.spare + (length (rows_of tlvs.now) + length store.old.entries) }
         ensures links { length self.new.flood.up ≡ length self.old.flood.up }
     {
@@ -96,7 +96,7 @@ impl Flood {
         self.on_csnp_listed(store, link, &start, &last, rows.as_slice(), spent)
     }
 
-    /// The same of the entries that it lists.
+    /// Like `on_csnp`, given the LSP entries.
     pub fn on_csnp_listed(
         &mut self,
         store: &mut Store,
@@ -116,8 +116,8 @@ impl Flood {
         self.apply_csnp(store, link, start, last, rows, spent)
     }
 
-    /// The entries of a complete one, and then what it lacks, once all memory is taken: a row for each entry that it lists,
-    /// and for each that was there.
+    /// Processes the LSP entries of a CSNP, and then what it lacks, after all memory is allocated: a row for each listed entry,
+    /// and for each entry that was in the LSDB.
     #[tactic(auto, unfolding(wire_base::specs::model::Flooding::on_list))]
     fn apply_csnp(
         &mut self,
@@ -144,7 +144,7 @@ impl Flood {
         Ok(answer)
     }
 
-    /// All that is known is to be sent on a link; there is the memory for it already.
+    /// Sets the SRM flags of all known LSPs for a link; their memory is already allocated.
     fn send_known(&mut self, store: &Store, link: u16) -> M<()>
         requires link { link < length self.old.flood.up }
         requires flags { length store.now.entries ≤ self.old.spare }
@@ -159,7 +159,7 @@ impl Flood {
                 [] => return Ok(()),
                 [e, after @ ..] => {
                     if e.seq > 0 {
-                        // Its row mostly stands where the entry does.
+                        // Its row mostly has the same index as the entry.
                         let guess = store.len().saturating_sub(rest.len());
                         self.want(e.id, link, guess)?;
                     }
@@ -169,8 +169,8 @@ impl Flood {
         }
     }
 
-    /// A link comes up: a CSNP is due there, and all that is known is to be sent (ISO/IEC 10589, 7.3.17). Where there
-    /// is a spare row for each entry it is Ok.
+    /// Handles a link that comes up: a CSNP is due there, and all known LSPs are to be sent (ISO/IEC 10589, 7.3.17). Always Ok if
+    /// there is a spare row for each entry.
     #[tactic(auto, unfolding(wire_base::specs::model::Flooding::link_up))]
     pub fn link_up(&mut self, store: &Store, link: u16) -> M<()>
         requires { link < length self.old.flood.up }

@@ -1,7 +1,7 @@
-//! Flooding on point-to-point links: on which links a router's LSPs are to be sent, and which are to be
-//! acknowledged or asked for there (ISO/IEC 10589, 7.3.14 to 7.3.17).
+//! Flooding on point-to-point links: the SRM flags (LSPs to be sent) and SSN flags (LSPs to be acknowledged or requested) of
+//! each link (ISO/IEC 10589, 7.3.14 to 7.3.17).
 //!
-//! It stands on `lsp_store` and `isis_pdu`, and promises the rules of received PDUs on flags and LSDB, row by row.
+//! This crate depends on `lsp_store` and `isis_pdu`. Its contracts specify the effects of received PDUs on flags and LSDB.
 #![tactic(auto)]
 
 mod columns;

@@ -1,4 +1,4 @@
-//! LSPs that are received (ISO/IEC 10589, 7.3.15.1 and 7.3.16).
+//! Received LSPs (ISO/IEC 10589, 7.3.15.1 and 7.3.16).
 ghost use Rattle.std.specs.Prelude.{◌≡◌, ◌<◌, ◌≤◌, ◌+◌, ◌&&◌, not, length, true, false, if◌then◌else◌, IfOk, OnOk, OnErr};
 ghost use Rattle.wire_base.specs.model.Control.{entry_in, put_entry, age_of, is_full, is_unknown, is_newer_or_confused, purge};
 ghost use Rattle.wire_base.specs.model.Flooding.{mark_all, pass_on, kept, on_lsp, lsp_aged, stores, only_says, puts_marked, is_own_ahead, is_unheld_own};
@@ -17,7 +17,7 @@ use std::alloc::Global;
 use wire_base::limits::MOST_ENTRIES;
 use wire_base::{Age, Entry, FloodOut, LspId, M, Memory, Octets, Summary};
 
-/// What a sequence numbers PDU says of an LSP.
+/// Returns the summary of an LSP, as a CSNP or PSNP lists it.
 fn summary_of(head: &LspHead) -> Summary
     ensures { result ≡ head_summary (head_of head.now) }
 {
@@ -29,7 +29,7 @@ fn summary_of(head: &LspHead) -> Summary
     }
 }
 
-/// What an LSDB keeps of an LSP: of a dead one a purge.
+/// Returns the LSDB entry of an LSP: a purge for an expired one.
 fn kept(alloc: Global, head: &LspHead, tlvs: &[u8]) -> M<Entry>
     ensures entry { IfOk result (λ e. e ≡ kept (head_of head.now) tlvs.now) }
     ensures id { IfOk result (λ e. e.id ≡ head.now.id) }
@@ -48,7 +48,7 @@ fn kept(alloc: Global, head: &LspHead, tlvs: &[u8]) -> M<Entry>
     })
 }
 
-/// Puts an entry that isn't refused. Where it stands may be guessed.
+/// Stores an entry that the LSDB has room for. `guess` is a guess of its index.
 fn put_into(store: &mut Store, e: Entry, guess: usize) -> M<()>
     requires { is_refused store.old.entries e.id ≡ false }
     ensures ok { OnOk result (store.new.entries ≡ put_entry e store.old.entries) }
@@ -60,7 +60,7 @@ fn put_into(store: &mut Store, e: Entry, guess: usize) -> M<()>
     }
 }
 
-/// Whether an LSDB takes no new identifier.
+/// Returns whether an LSDB has no room for a new LSP ID.
 pub(crate) fn is_full(store: &Store) -> bool
     ensures { result ≡ is_full store.now.entries }
 {
@@ -76,7 +76,7 @@ fn is_unknown(age: Age) -> bool
     }
 }
 
-/// Newer than the entry, or at odds with it.
+/// Returns whether the LSP is newer than the entry, or in LSP confusion with it.
 fn is_newer_or_confused(age: Age) -> bool
     ensures { result ≡ is_newer_or_confused age }
 {
@@ -87,7 +87,7 @@ fn is_newer_or_confused(age: Age) -> bool
 }
 
 impl Flood {
-    /// Puts an entry and marks it on all links that are up.
+    /// Stores an entry, and sets its SRM flag for all links that are up.
     pub(crate) fn put_marked(&mut self, store: &mut Store, e: Entry) -> M<()>
         requires { is_refused store.old.entries e.id ≡ false }
         ensures ok { OnOk result ((self.new.flood ≡ mark_all self.old.flood e.id) × (store.new.entries ≡ put_entry e store.old.entries)) }
@@ -101,7 +101,7 @@ impl Flood {
         self.mark_all(id)
     }
 
-    /// Puts an entry that came on a link, and passes it on.
+    /// Stores an entry that was received on a link, and floods it further.
     fn put_passed(&mut self, store: &mut Store, link: u16, e: Entry, guess: usize) -> M<()>
         requires link { link < length self.old.flood.up }
         requires room { is_refused store.old.entries e.id ≡ false }
@@ -115,18 +115,18 @@ impl Flood {
         self.pass(id, link, guess)
     }
 
-    /// The own fragment 0, ahead of the one that the router issued.
+    /// Returns whether this is the router's own fragment 0, ahead of the one that the router originated.
     pub(crate) fn is_own_ahead(&self, id: &LspId, spent: bool, age: Age) -> bool
         ensures { result ≡ is_own_ahead self.now.flood id.now spent age }
     {
-        // By its age first, since most aren't.
+        // Tests the comparison first, since most LSPs are not newer.
         if spent || !is_newer_or_confused(age) {
             return false;
         }
         is_same_id(*id, LspId::fragment_0(self.own()))
     }
 
-    /// A live LSP of the own system that the router doesn't have.
+    /// Returns whether this is a live self-originated LSP that the router does not hold.
     fn is_unheld_own(&self, head: &LspHead, age: Age) -> bool
         ensures { result ≡ is_unheld_own self.now.flood (head_of head.now) age }
     {
@@ -136,7 +136,7 @@ impl Flood {
         head.id.system == self.own()
     }
 
-    /// Purges a stray one everywhere.
+    /// Purges a self-originated LSP that the router does not hold, on all links.
     fn on_stray(&mut self, store: &mut Store, head: &LspHead, age: Age) -> M<FloodOut>
         requires { age ≡ age_of (entry_in store.old.entries head.now.id) (head_summary (head_of head.now)) }
         ensures done { LspDone result self.old.flood store.old.entries self.new.flood store.new.entries
@@ -151,7 +151,7 @@ impl Flood {
         Ok(FloodOut::Kept)
     }
 
-    /// Stores one and passes it on.
+    /// Stores an LSP and floods it further.
     fn keep(
         &mut self,
         store: &mut Store,
@@ -170,7 +170,7 @@ impl Flood {
         Ok(FloodOut::Kept)
     }
 
-    /// One that is unknown: a dead one is acknowledged at once, a live one is stored where there is room.
+    /// Handles an unknown LSP: an expired one is acknowledged at once, a live one is stored if there is room.
     fn on_unknown(
         &mut self,
         store: &mut Store,
@@ -192,7 +192,7 @@ impl Flood {
         self.keep(store, link, head, tlvs, guess)
     }
 
-    /// By how new it is, where it isn't a matter of the own LSPs. Where its row and its entry stand may be guessed.
+    /// Handles an LSP by the comparison, except for the router's own LSPs. `guess` is a guess of the index of row and entry.
     fn on_aged(
         &mut self,
         store: &mut Store,
@@ -226,10 +226,11 @@ impl Flood {
         }
     }
 
-    /// An LSP that came on a link. `spent` says that the router issues no LSP of its own. The
-    /// answer is what is asked for beside what is done here: that the own one be issued anew, that this one be
-    /// acknowledged at once, or that it was dropped, because the LSDB is full or its sequence number is 0
-    /// (ISO/IEC 10589, 7.3.15.1 and 7.3.16). Where memory runs out, nothing has changed.
+    /// Processes an LSP that was received on a link. `spent` means that the router originates no LSP of its own.
+    ///
+    /// Returns what the router must do in addition: originate its own LSP again, acknowledge this one at once, or drop it,
+    /// because the LSDB is full or its sequence number is 0 (ISO/IEC 10589, 7.3.15.1 and 7.3.16). If an allocation fails,
+    /// nothing has changed.
     pub fn on_lsp(
         &mut self,
         store: &mut Store,
@@ -247,7 +248,7 @@ impl Flood {
         self.apply_lsp(store, link, head, tlvs, spent)
     }
 
-    /// The rules for an LSP, the first that holds.
+    /// Applies the rules for an LSP; the first that applies decides.
     #[tactic(auto, unfolding(wire_base::specs::model::Flooding::on_lsp))]
     fn apply_lsp(
         &mut self,
@@ -264,7 +265,7 @@ impl Flood {
         if head.seq == 0 {
             return Ok(FloodOut::Zero);
         }
-        // Rows and entries mostly stand side by side, so one search finds both.
+        // Rows and entries mostly have the same indices, so one search finds both.
         let guess = self.place_of(&head.id);
         let age = store.compare_near(&summary_of(head), guess);
         if self.is_own_ahead(&head.id, spent, age) {

@@ -8,18 +8,18 @@ use crate::octets::{any_octet_with, clear_octets, next_octet_with, octet_of};
 use std::alloc::Global;
 use wire_base::M;
 
-/// The most links whose masks fit an octet.
+/// The maximum number of links whose masks fit an octet.
 const FEW_LINKS: u16 = 8;
 
-/// Masks over the links of a router: an octet each where it has few links, since most have, and a search waits for the memory
-/// that it reads; else 64 bits each.
+/// A list of masks over the links of a router: one octet each if the router has few links, as most have, since a search is
+/// limited by the memory that it reads; otherwise 64 bits each.
 #[derive(Drop)]
 pub(crate) enum MaskList {
     Octets(Vec<u8>),
     Words(Vec<u64>),
 }
 
-/// Inserts where there is room, so that it can't fail.
+/// Inserts an element. Precondition: there is room, so that it cannot fail.
 pub(crate) fn insert_within<T: Drop>(list: &mut Vec<T>, place: usize, item: T)
     requires place { place ≤ vec_len list.old }
     requires room { vec_len list.old < vec_capacity list.old }
@@ -31,7 +31,7 @@ pub(crate) fn insert_within<T: Drop>(list: &mut Vec<T>, place: usize, item: T)
 }
 
 impl MaskList {
-    /// No masks, of a router with that many links.
+    /// Creates an empty list, for a router with that many links.
     pub(crate) fn new(alloc: Global, links: u16) -> MaskList
         ensures masks { masks_in result ≡ [] }
         ensures narrow { is_narrow result ≡ nat_le links 8 }
@@ -43,7 +43,7 @@ impl MaskList {
         }
     }
 
-    /// The mask at a place.
+    /// Returns the mask at an index.
     pub(crate) fn at(&self, place: usize) -> u64
         requires { place < length (masks_in self.now) }
         ensures { result ≡ slice_index_or (masks_in self.now) place result }
@@ -54,7 +54,7 @@ impl MaskList {
         }
     }
 
-    /// Puts a mask in place of the one at a place. An octet keeps its links below 8, which are all that the router has.
+    /// Replaces the mask at an index. An octet keeps only links below 8, which are all that the router has.
     pub(crate) fn set(&mut self, place: usize, mask: u64)
         requires { place < length (masks_in self.old) }
         ensures masks { masks_in self.new ≡ slice_set (masks_in self.old) place (held_mask (is_narrow self.old) mask) }
@@ -67,7 +67,7 @@ impl MaskList {
         }
     }
 
-    /// Inserts a mask at a place where there is room, so that it can't fail. An octet keeps its links below 8.
+    /// Inserts a mask at an index. Precondition: there is room, so that it cannot fail. An octet keeps only links below 8.
     pub(crate) fn insert(&mut self, place: usize, mask: u64)
         requires place { place ≤ length (masks_in self.old) }
         requires room { 0 < room_in self.old }
@@ -81,7 +81,7 @@ impl MaskList {
         }
     }
 
-    /// Takes the mask at a place away.
+    /// Removes the mask at an index.
     pub(crate) fn remove(&mut self, place: usize)
         requires { place < length (masks_in self.old) }
         ensures masks { masks_in self.new ≡ remove (masks_in self.old) place }
@@ -98,7 +98,7 @@ impl MaskList {
         }
     }
 
-    /// Makes room for that many masks more.
+    /// Reserves room for that many more masks.
     pub(crate) fn reserve(&mut self, n: usize) -> M<()>
         ensures masks { masks_in self.new ≡ masks_in self.old }
         ensures ok { OnOk result (n ≤ room_in self.new) }
@@ -113,7 +113,7 @@ impl MaskList {
         Ok(())
     }
 
-    /// All masks without a link.
+    /// Clears a link in all masks.
     pub(crate) fn clear(&mut self, link: u16)
         requires { link < 64 }
         ensures flags { (n : ℕ) → link < n → n ≤ 64 → map (links_in n) (masks_in self.new) ≡ map (λ flags. slice_set flags link false) (map (links_in n) (masks_in self.old)) }
@@ -127,7 +127,7 @@ impl MaskList {
         }
     }
 
-    /// Whether some mask has a link.
+    /// Returns whether some mask has a link.
     pub(crate) fn any_with(&self, link: u16) -> bool
         requires { link < 64 }
         ensures { result ≡ list_any (λ mask. at_bit mask link) (masks_in self.now) }
@@ -138,7 +138,7 @@ impl MaskList {
         }
     }
 
-    /// The place of the first mask from a place on that has a link, or the number of masks.
+    /// Returns the index of the first mask, from an index on, that has a link, or the number of masks.
     pub(crate) fn next_with(&self, from: usize, link: u16) -> usize
         requires { link < 64 }
         ensures { result ≡ from + position_or_len (λ mask. at_bit mask link) (drop from (masks_in self.now)) }

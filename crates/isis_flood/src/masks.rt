@@ -1,4 +1,4 @@
-//! Masks over links, of which there are at most 64: bit i of a mask is the link at place i.
+//! Masks over at most 64 links: bit i of a mask is the link with index i.
 ghost use Rattle.std.specs.Prelude.{◌≡◌, ◌≢◌, ◌<◌, ◌≤◌, ◌+◌, ℕ, true, false, length, map, drop, slice_set, slice_index_or};
 ghost use Rattle.std.specs.List.{list_any, position_or_len};
 ghost use Rattle.std.specs.Simd.Lanes.{chunk};
@@ -6,7 +6,7 @@ ghost use Rattle.isis_flood.specs.Masks.{links_in, at_bit, turned_flag};
 
 use std::simd::prelude::*;
 
-/// With a link.
+/// Returns the mask with a link set.
 pub(crate) fn with_bit(mask: u64, link: u16) -> u64
     requires { link < 64 }
     ensures here { at_bit result link ≡ true }
@@ -15,7 +15,7 @@ pub(crate) fn with_bit(mask: u64, link: u16) -> u64
     mask | (1 << link)
 }
 
-/// Without a link.
+/// Returns the mask with a link cleared.
 pub(crate) fn without_bit(mask: u64, link: u16) -> u64
     requires { link < 64 }
     ensures here { at_bit result link ≡ false }
@@ -25,14 +25,14 @@ pub(crate) fn without_bit(mask: u64, link: u16) -> u64
     mask & !(1 << link)
 }
 
-/// The links of both masks.
+/// Returns the union of two masks.
 pub(crate) fn joined(mask: u64, more: u64) -> u64
     ensures { (i : ℕ) → at_bit result i ≡ false → (at_bit mask i ≡ false) × (at_bit more i ≡ false) }
 {
     mask | more
 }
 
-/// Whether the mask has a link.
+/// Returns whether the mask has a link.
 pub(crate) fn has_bit(mask: u64, link: u16) -> bool
     requires { link < 64 }
     ensures { result ≡ at_bit mask link }
@@ -40,7 +40,7 @@ pub(crate) fn has_bit(mask: u64, link: u16) -> bool
     (mask >> link) & 1 == 1
 }
 
-/// With a link.
+/// Returns the mask with a link set.
 pub(crate) fn with(mask: u64, link: u16) -> u64
     requires { link < 64 }
     ensures { (n : ℕ) → link < n → n ≤ 64 → links_in n result ≡ slice_set (links_in n mask) link true }
@@ -48,7 +48,7 @@ pub(crate) fn with(mask: u64, link: u16) -> u64
     with_bit(mask, link)
 }
 
-/// Without a link.
+/// Returns the mask with a link cleared.
 pub(crate) fn without(mask: u64, link: u16) -> u64
     requires { link < 64 }
     ensures { (n : ℕ) → link < n → n ≤ 64 → links_in n result ≡ slice_set (links_in n mask) link false }
@@ -56,7 +56,7 @@ pub(crate) fn without(mask: u64, link: u16) -> u64
     without_bit(mask, link)
 }
 
-/// What becomes of a flag.
+/// A change of a flag.
 #[derive(Clone, Copy)]
 pub(crate) enum Turn {
     On,
@@ -64,7 +64,7 @@ pub(crate) enum Turn {
     Same,
 }
 
-/// The mask with that link on, off or as it is.
+/// Returns the mask with that link set, cleared or unchanged.
 pub(crate) fn turned(mask: u64, link: u16, turn: Turn) -> u64
     requires { link < 64 }
     ensures { (n : ℕ) → link < n → n ≤ 64 → links_in n result ≡ turned_flag link turn (links_in n mask) }
@@ -76,7 +76,7 @@ pub(crate) fn turned(mask: u64, link: u16, turn: Turn) -> u64
     }
 }
 
-/// Whether the mask has a link.
+/// Returns whether the mask has a link.
 pub(crate) fn has(mask: u64, link: u16) -> bool
     requires { link < 64 }
     ensures { (n : ℕ) → link < n → result ≡ slice_index_or (links_in n mask) link false }
@@ -84,7 +84,7 @@ pub(crate) fn has(mask: u64, link: u16) -> bool
     has_bit(mask, link)
 }
 
-/// Whether the mask has a link of so many.
+/// Returns whether the mask has a link, out of that many links.
 pub(crate) fn has_of(mask: u64, links: u16, link: u16) -> bool
     requires { links ≤ 64 }
     ensures { result ≡ slice_index_or (links_in links mask) link false }
@@ -95,7 +95,7 @@ pub(crate) fn has_of(mask: u64, links: u16, link: u16) -> bool
     has(mask, link)
 }
 
-/// The links at which the list has true.
+/// Returns the mask of the indices with true.
 pub(crate) fn mask_of(values: &[bool]) -> u64
     requires { length values.now ≤ 64 }
     ensures { links_in (length values.now) result ≡ values.now }
@@ -109,7 +109,7 @@ pub(crate) fn mask_of(values: &[bool]) -> u64
     mask
 }
 
-/// All masks without a link.
+/// Clears a link in all masks.
 pub(crate) fn clear_all(masks: &mut [u64], link: u16)
     requires { link < 64 }
     ensures { (n : ℕ) → link < n → n ≤ 64 → map (links_in n) masks.new ≡ map (λ flags. slice_set flags link false) (map (links_in n) masks.old) }
@@ -119,7 +119,7 @@ pub(crate) fn clear_all(masks: &mut [u64], link: u16)
     }
 }
 
-/// Whether one of the eight masks from a place on has a link.
+/// Returns whether one of the eight masks from an index on has a link.
 fn has_eight(masks: &[u64], at: usize, link: u16) -> bool
     requires within { at + 8 ≤ length masks.now }
     requires link { link < 64 }
@@ -128,8 +128,8 @@ fn has_eight(masks: &[u64], at: usize, link: u16) -> bool
     has_bit(u64x8::from_slice(&masks[at..]).reduce_or(), link)
 }
 
-/// The place of the first mask from a place on that has a link, or the number of masks: eight masks at once while none of
-/// them has it, and then one by one.
+/// Returns the index of the first mask, from an index on, that has a link, or the number of masks: eight masks at once while
+/// none of them has it, and then one by one.
 fn first_with(masks: &[u64], from: usize, link: u16) -> usize
     requires within { from ≤ length masks.now }
     requires link { link < 64 }
@@ -145,7 +145,7 @@ fn first_with(masks: &[u64], from: usize, link: u16) -> usize
     place
 }
 
-/// Whether some mask has a link.
+/// Returns whether some mask has a link.
 pub(crate) fn any_with(masks: &[u64], link: u16) -> bool
     requires { link < 64 }
     ensures { result ≡ list_any (λ mask. at_bit mask link) masks.now }
@@ -153,7 +153,7 @@ pub(crate) fn any_with(masks: &[u64], link: u16) -> bool
     first_with(masks, 0, link) < masks.len()
 }
 
-/// The place of the first mask from a place on that has a link, or the number of masks.
+/// Returns the index of the first mask, from an index on, that has a link, or the number of masks.
 pub(crate) fn next_with(masks: &[u64], from: usize, link: u16) -> usize
     requires { link < 64 }
     ensures { result ≡ from + position_or_len (λ mask. at_bit mask link) (drop from masks.now) }

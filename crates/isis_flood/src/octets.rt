@@ -7,14 +7,14 @@ ghost use Rattle.isis_flood.specs.Masks.{links_in, at_bit};
 use crate::masks::{has_bit, without_bit};
 use std::simd::prelude::*;
 
-/// The links below 8 of a mask.
+/// Returns the links below 8 of a mask.
 pub(crate) fn octet_of(mask: u64) -> u8
     ensures { result ≡ mask % 256 }
 {
     (mask % 256) as u8
 }
 
-/// Without a link.
+/// Returns the octet with a link cleared.
 fn octet_without(octet: u8, link: u16) -> u8
     requires { link < 64 }
     ensures { (n : ℕ) → link < n → n ≤ 64 → links_in n result ≡ slice_set (links_in n octet) link false }
@@ -22,7 +22,7 @@ fn octet_without(octet: u8, link: u16) -> u8
     without_bit(octet as u64, link) as u8
 }
 
-/// All masks without a link.
+/// Clears a link in all masks.
 pub(crate) fn clear_octets(octets: &mut [u8], link: u16)
     requires { link < 64 }
     ensures { (n : ℕ) → link < n → n ≤ 64 → map (links_in n) octets.new ≡ map (λ flags. slice_set flags link false) (map (links_in n) octets.old) }
@@ -32,8 +32,8 @@ pub(crate) fn clear_octets(octets: &mut [u8], link: u16)
     }
 }
 
-/// How many of the N masks from a place on come before the first that has a link, or all N. Of the bit of a link from 8 on
-/// an octet keeps nothing, and none of them has it.
+/// Returns how many of the N masks from an index on precede the first that has a link, or N. An octet has no bit for a link from
+/// 8 on, so none of them has such a link.
 fn ahead_in_chunk<const N: usize>(octets: &[u8], at: usize, link: u16) -> usize
     requires few { N ≤ 64 }
     requires within { at + N ≤ length octets.now }
@@ -49,8 +49,8 @@ fn ahead_in_chunk<const N: usize>(octets: &[u8], at: usize, link: u16) -> usize
     }
 }
 
-/// The place of the first mask from a place on that has a link, or the number of masks: 32 masks at once while so many are
-/// left, then eight at once, and the last ones one by one.
+/// Returns the index of the first mask, from an index on, that has a link, or the number of masks: 32 masks at once while that
+/// many are left, then eight at once, and the last ones one by one.
 fn first_octet_with(octets: &[u8], from: usize, link: u16) -> usize
     requires within { from ≤ length octets.now }
     requires link { link < 64 }
@@ -77,7 +77,7 @@ fn first_octet_with(octets: &[u8], from: usize, link: u16) -> usize
     place
 }
 
-/// Whether some mask has a link.
+/// Returns whether some mask has a link.
 pub(crate) fn any_octet_with(octets: &[u8], link: u16) -> bool
     requires { link < 64 }
     ensures { result ≡ list_any (λ mask. at_bit mask link) octets.now }
@@ -85,7 +85,7 @@ pub(crate) fn any_octet_with(octets: &[u8], link: u16) -> bool
     first_octet_with(octets, 0, link) < octets.len()
 }
 
-/// The place of the first mask from a place on that has a link, or the number of masks.
+/// Returns the index of the first mask, from an index on, that has a link, or the number of masks.
 pub(crate) fn next_octet_with(octets: &[u8], from: usize, link: u16) -> usize
     requires { link < 64 }
     ensures { result ≡ from + position_or_len (λ mask. at_bit mask link) (drop from octets.now) }

@@ -1,4 +1,4 @@
-//! Sequence numbers PDUs that are received (ISO/IEC 10589, 7.3.15.2).
+//! Received CSNPs and PSNPs (ISO/IEC 10589, 7.3.15.2).
 ghost use Rattle.std.specs.Prelude.{◌≡◌, ◌<◌, ◌≤◌, ◌+◌, length, fold, false, IsOk, OnOk, OnErr};
 ghost use Rattle.wire_base.specs.model.Control.{entry_in, put_entry, age_of, is_full};
 ghost use Rattle.wire_base.specs.model.Flooding.{wanted, asks, listed_aged, on_listed, on_list, on_psnp};
@@ -16,7 +16,7 @@ use std::alloc::Global;
 use wire_base::limits::PURGE_HOLD;
 use wire_base::{Age, Entry, LspId, M, Memory, Octets, SnpOut, Summary};
 
-/// The empty entry that asks for an unknown LSP until it comes.
+/// Returns the empty entry that requests an unknown LSP until it comes.
 fn wanted(alloc: Global, s: &Summary) -> Entry
     ensures { result ≡ wanted s.now }
 {
@@ -32,7 +32,7 @@ fn wanted(alloc: Global, s: &Summary) -> Entry
 }
 
 impl Flood {
-    /// Asks for an unknown one, where the LSDB has room.
+    /// Requests an unknown LSP, if the LSDB has room.
     fn request(
         &mut self,
         store: &mut Store,
@@ -61,7 +61,7 @@ impl Flood {
         self.ask(s.id, link, guess)
     }
 
-    /// Purges one that is at odds with the entry, or asks that the own one be issued anew.
+    /// Handles LSP confusion: purges the entry, or requests that the own LSP be originated again.
     fn on_confused(
         &mut self,
         store: &mut Store,
@@ -91,7 +91,8 @@ impl Flood {
         self.mark_all(s.id)
     }
 
-    /// By how new the listed one is; its sequence number is above 0. Where its row and its entry stand may be guessed.
+    /// Handles a listed LSP by the comparison; its sequence number is above 0. `guess` is a guess of the index of row and
+    /// entry.
     fn on_listed_aged(
         &mut self,
         store: &mut Store,
@@ -127,7 +128,7 @@ impl Flood {
         }
     }
 
-    /// An entry that a sequence numbers PDU lists: one of sequence number 0 asks for what there is.
+    /// Processes an LSP entry of a CSNP or PSNP; one of sequence number 0 requests the LSP.
     #[tactic(auto, unfolding(wire_base::specs::model::Flooding::on_listed))]
     fn on_listed(
         &mut self,
@@ -146,7 +147,7 @@ impl Flood {
         ensures full { answer.new.full ≤ answer.old.full + 1 }
         ensures links { OnOk result (length self.new.flood.up ≡ length self.old.flood.up) }
     {
-        // Rows and entries mostly stand side by side, so one search finds both.
+        // Rows and entries mostly have the same indices, so one search finds both.
         let guess = self.place_of(&s.id);
         if s.seq == 0 {
             if store.seq_of(&s.id) > 0 {
@@ -158,7 +159,7 @@ impl Flood {
         self.on_listed_aged(store, link, s, spent, age, guess, answer)
     }
 
-    /// The entries of a sequence numbers PDU, in order, for which there is the memory already.
+    /// Processes the LSP entries of a CSNP or PSNP, in order; their memory is already allocated.
     pub(crate) fn on_list(
         &mut self,
         store: &mut Store,
@@ -188,9 +189,9 @@ impl Flood {
         }
     }
 
-    /// A partial sequence numbers PDU that came on a link, with the octets of its TLVs. The answer is the sequence
-    /// number past which the own LSP must be issued, if one was listed that is at odds with it, and how many
-    /// entries found no room (ISO/IEC 10589, 7.3.15.2). Where memory runs out, nothing has changed.
+    /// Processes a PSNP that was received on a link, given the octets of its TLVs. Returns the sequence number past which the
+    /// router must originate its own LSP, if a listed one was in LSP confusion with it, and the number of entries for which there
+    /// was no room (ISO/IEC 10589, 7.3.15.2). If an allocation fails, nothing has changed.
     #[tactic(auto, unfolding(wire_base::specs::model::Flooding::on_psnp))]
     pub fn on_psnp(&mut self, store: &mut Store, link: u16, tlvs: &[u8], spent: bool) -> M<SnpOut>
         requires link { link < length self.old.flood.up }
@@ -204,7 +205,7 @@ impl Flood {
         self.on_psnp_listed(store, link, rows.as_slice(), spent)
     }
 
-    /// The same of the entries that it lists.
+    /// Like `on_psnp`, given the LSP entries.
     pub fn on_psnp_listed(
         &mut self,
         store: &mut Store,
@@ -222,7 +223,7 @@ impl Flood {
         self.apply_psnp(store, link, rows, spent)
     }
 
-    /// The entries of a partial one, once all memory is taken.
+    /// Processes the LSP entries of a PSNP, after all memory is allocated.
     #[tactic(auto, unfolding(wire_base::specs::model::Flooding::on_list))]
     fn apply_psnp(
         &mut self,

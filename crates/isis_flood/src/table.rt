@@ -11,8 +11,8 @@ use std::alloc::Global;
 use std::marker::Model;
 use wire_base::{LspId, M};
 
-/// On which links an LSP is to be sent, and on which it is to be acknowledged or asked for: bit i of a mask
-/// is the link at place i.
+/// The flags of an LSP ID: the links on which the LSP is to be sent (SRM), and those on which it is to be acknowledged or
+/// requested (SSN). Bit i of a mask is the link with index i.
 #[derive(Clone, Copy)]
 pub(crate) struct Bits {
     pub(crate) id: LspId,
@@ -20,15 +20,15 @@ pub(crate) struct Bits {
     pub(crate) ssn: u64,
 }
 
-/// Where the row of an identifier stands in a table, or would stand.
+/// The index of an LSP ID's row in a table, or the index to insert it at.
 #[derive(Clone, Copy)]
 pub(crate) struct Found {
     pub(crate) place: usize,
     is_there: bool,
 }
 
-/// Rows of flags in the order of their identifiers, none twice. No row is to be sent on a link that isn't in `sending`,
-/// and none is to be acknowledged or asked for on one that isn't in `asking`: so no row is read for such a link.
+/// Rows of flags in the order of their LSP IDs, none twice. No row has its SRM flag set for a link outside of `sending`, and none
+/// its SSN flag for a link outside of `asking`, so no row is read for such a link.
 #[derive(Drop)]
 pub(crate) struct Table {
     items: Columns,
@@ -46,7 +46,7 @@ impl Model for Table {
     ghost invariant = { λ t. IsTable t.sending t.asking t.items.rows };
 }
 
-/// Whether a link has what is to be cleared, by the masks.
+/// Returns whether, by the masks, a link may have flags to clear.
 fn may_clear(sending: u64, asking: u64, link: u16, both: bool) -> bool
     requires { link < 64 }
     ensures { result ≡ (at_bit asking link || (both && at_bit sending link)) }
@@ -54,7 +54,7 @@ fn may_clear(sending: u64, asking: u64, link: u16, both: bool) -> bool
     has_bit(asking, link) || both && has_bit(sending, link)
 }
 
-/// The mask, without a link where `cleared`.
+/// Returns the mask, with a link cleared if `cleared`.
 fn without_if(mask: u64, link: u16, cleared: bool) -> u64
     requires { link < 64 }
     ensures same { cleared ≡ false → result ≡ mask }
@@ -68,7 +68,7 @@ fn without_if(mask: u64, link: u16, cleared: bool) -> u64
 }
 
 impl Table {
-    /// No rows, of a router with that many links.
+    /// Creates an empty table, for a router with that many links.
     pub(crate) fn new(alloc: Global, links: u16) -> Table
         ensures rows { result.rows ≡ [] }
         ensures narrow { result.narrow ≡ nat_le links 8 }
@@ -80,14 +80,14 @@ impl Table {
         }
     }
 
-    /// How many rows there are.
+    /// Returns the number of rows.
     pub(crate) fn len(&self) -> usize
         ensures { result ≡ length self.now.rows }
     {
         self.items.len()
     }
 
-    /// The identifier of the row at a place.
+    /// Returns the LSP ID of the row at an index.
     pub(crate) fn id_at(&self, place: usize) -> LspId
         requires { place < length self.now.rows }
         ensures { result ≡ slice_index_or (row_ids self.now.rows) place result }
@@ -95,7 +95,7 @@ impl Table {
         self.items.ids()[place]
     }
 
-    /// The place of the first row from a place on that is to be sent on a link, or the number of rows.
+    /// Returns the index of the first row, from an index on, with its SRM flag set for a link, or the number of rows.
     pub(crate) fn next_sent(&self, from: usize, link: u16) -> usize
         requires { link < 64 }
         ensures { result ≡ from + position_or_len (λ b. at_bit b.srm link) (drop from self.now.rows) }
@@ -103,7 +103,7 @@ impl Table {
         self.items.next_sent(from, link)
     }
 
-    /// The place of the first row from a place on that is to be acknowledged or asked for on a link, or the number of rows.
+    /// Returns the index of the first row, from an index on, with its SSN flag set for a link, or the number of rows.
     pub(crate) fn next_asked(&self, from: usize, link: u16) -> usize
         requires { link < 64 }
         ensures { result ≡ from + position_or_len (λ b. at_bit b.ssn link) (drop from self.now.rows) }
@@ -111,7 +111,7 @@ impl Table {
         self.items.next_asked(from, link)
     }
 
-    /// Where an identifier stands, or would stand.
+    /// Finds the index of an LSP ID's row, or the index to insert it at.
     pub(crate) fn find(&self, id: &LspId) -> Found
         ensures place { IsPlace self.now.rows id.now result.is_there result.place }
         ensures ascends { AreAscending (row_ids self.now.rows) }
@@ -124,7 +124,7 @@ impl Table {
         }
     }
 
-    /// The same, where a guess is at hand: one that is right is tested once, and nothing is searched.
+    /// Like `find`, with a guess of the index. A right guess is tested once, and there is no search.
     pub(crate) fn find_near(&self, id: &LspId, guess: usize) -> Found
         ensures place { IsPlace self.now.rows id.now result.is_there result.place }
         ensures ascends { AreAscending (row_ids self.now.rows) }
@@ -143,7 +143,7 @@ impl Table {
         }
     }
 
-    /// The row of an identifier that was found, without flags where it isn't there.
+    /// Returns the row of an LSP ID that was searched, or one without flags if it is not there.
     pub(crate) fn row_at(&self, found: Found, id: LspId) -> Bits
         requires { IsPlace self.now.rows id found.is_there found.place }
         ensures { result ≡ bits_in self.now.rows id }
@@ -154,7 +154,7 @@ impl Table {
         Bits { id, srm: 0, ssn: 0 }
     }
 
-    /// The row of an identifier, without flags where it isn't there.
+    /// Returns the row of an LSP ID, or one without flags if it is not there.
     pub(crate) fn get(&self, id: &LspId) -> Bits
         ensures row { result ≡ bits_in self.now.rows id.now }
         ensures ascends { AreAscending (row_ids self.now.rows) }
@@ -162,7 +162,7 @@ impl Table {
         self.row_at(self.find(id), *id)
     }
 
-    /// Puts a row at the place of its identifier, in place of the row that is there.
+    /// Inserts a row at the index that was found, or replaces the row that is there.
     pub(crate) fn put_at(&mut self, found: Found, row: Bits) -> M<()>
         requires { IsPlace self.old.rows row.id found.is_there found.place }
         ensures ok { OnOk result (self.new.rows ≡ put_bits (held_row self.old.narrow row) self.old.rows) }
@@ -183,7 +183,7 @@ impl Table {
         Ok(())
     }
 
-    /// Puts a row at its place, which may be the one that is guessed, or in place of the one of its identifier.
+    /// Inserts a row in order, or replaces the one with its LSP ID. `guess` is a guess of the index.
     pub(crate) fn put(&mut self, row: Bits, guess: usize) -> M<()>
         ensures ok { OnOk result (self.new.rows ≡ put_bits (held_row self.old.narrow row) self.old.rows) }
         ensures err { OnErr result (self.new.rows ≡ self.old.rows) }
@@ -195,7 +195,7 @@ impl Table {
         self.put_at(found, row)
     }
 
-    /// Takes the row of an identifier away.
+    /// Removes the row of an LSP ID.
     pub(crate) fn remove(&mut self, id: &LspId)
         ensures rows { self.new.rows ≡ without_bits id.now self.old.rows }
         ensures spare { self.old.spare ≤ self.new.spare }
@@ -207,7 +207,7 @@ impl Table {
         }
     }
 
-    /// Makes room for that many rows more.
+    /// Reserves room for that many more rows.
     pub(crate) fn reserve(&mut self, n: usize) -> M<()>
         ensures rows { self.new.rows ≡ self.old.rows }
         ensures ok { OnOk result (n ≤ self.new.spare) }
@@ -219,7 +219,7 @@ impl Table {
         Ok(())
     }
 
-    /// Whether a row may be to be sent on a link.
+    /// Returns whether a row may have its SRM flag set for a link.
     pub(crate) fn may_send(&self, link: u16) -> bool
         requires { link < 64 }
         ensures { (n : ℕ) → link < n → n ≤ 64 → result ≡ false → has_srm (rows_of n self.now.rows) link ≡ false }
@@ -227,7 +227,7 @@ impl Table {
         has_bit(self.sending, link)
     }
 
-    /// Whether a row may be to be acknowledged or asked for on a link.
+    /// Returns whether a row may have its SSN flag set for a link.
     pub(crate) fn may_ask(&self, link: u16) -> bool
         requires { link < 64 }
         ensures { (n : ℕ) → link < n → n ≤ 64 → result ≡ false → has_ssn (rows_of n self.now.rows) link ≡ false }
@@ -235,8 +235,8 @@ impl Table {
         has_bit(self.asking, link)
     }
 
-    /// No row is to be acknowledged or asked for on a link; where `both`, none is to be sent there either. No row is
-    /// read where the masks say that none has such a flag.
+    /// Clears all SSN flags of a link and, if `both`, its SRM flags too. Reads no row if, by the masks, none has such
+    /// a flag.
     pub(crate) fn clear(&mut self, link: u16, both: bool)
         requires { link < 64 }
         ensures rows { (n : ℕ) → link < n → n ≤ 64 → rows_of n self.new.rows ≡ map (clears both link) (rows_of n self.old.rows) }
@@ -251,7 +251,7 @@ impl Table {
         self.asking = without_bit(self.asking, link);
     }
 
-    /// The rows stay, and a link on which none is to be sent isn't among those on which one may be.
+    /// Removes a link from `sending` if no row has its SRM flag set for it. The rows are unchanged.
     pub(crate) fn settle(&mut self, link: u16)
         requires { link < 64 }
         ensures rows { self.new.rows ≡ self.old.rows }

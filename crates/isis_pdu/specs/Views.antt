@@ -1,4 +1,4 @@
--- What the types of this crate stand for, and the part of an LSP that its checksum covers.
+-- The models of this crate's types, and the part of an LSP that its checksum covers.
 use Rattle.std.specs.Prelude.{ℕ, false, not, ◌&&◌, List, Result, Ok, Err, nat_lt, if◌then◌else◌}
 use Rattle.wire_base.specs.declared.faults.PduFault.{PduFault}
 use Rattle.wire_base.specs.declared.faults.PduFault.TheVariants as faults
@@ -22,7 +22,7 @@ pdu_of (Psnp source tlvs) = PsnpPdu source tlvs.now
 pdu_of Hello = HelloPdu
 pdu_of (Other number) = OtherPdu number
 
--- an LSP from its identifier on, where it has that many seconds to live: what lsp_at reads after them
+-- an LSP from its LSP ID on, with that Remaining Lifetime: what lsp_at parses after the lifetime
 abbrev pub covered_at : ℕ → List ℕ → Result PduItem PduFault
 covered_at life octets = do
   id ← lsp_id_at faults.PduLength octets

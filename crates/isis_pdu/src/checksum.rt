@@ -4,7 +4,7 @@ ghost use Rattle.wire_base.specs.model.Checksum.{weighted, is_right, IsRight, Is
 
 use std::simd::prelude::*;
 
-/// The plain and the weighted sum of the sixteen octets from a place on.
+/// Returns the plain and the weighted sum of sixteen octets from an index on.
 fn sixteen_sums(bytes: &[u8], at: usize) -> (u32, u32)
     requires { at + 16 ≤ length bytes.now }
     ensures plain { result.0 ≡ sum (chunk at 16 bytes.now) }
@@ -18,8 +18,8 @@ fn sixteen_sums(bytes: &[u8], at: usize) -> (u32, u32)
     (octets.strict_reduce_sum(), heavy)
 }
 
-/// The plain and the weighted sum of octets that are few enough for 64 bits to hold both as they are, modulo 255:
-/// sixteen octets at once, and then those that are left.
+/// Returns the plain and the weighted sum modulo 255, for few enough octets that both sums fit 64 bits:
+/// sixteen octets at once, and then the rest.
 fn short_sums(bytes: &[u8]) -> (u32, u32)
     requires { length bytes.now ≤ 65535 }
     ensures plain { result.0 ≡ sum bytes.now % 255 }
@@ -42,7 +42,7 @@ fn short_sums(bytes: &[u8]) -> (u32, u32)
     ((plain % 255) as u32, (heavy % 255) as u32)
 }
 
-/// The same of any number of octets.
+/// The same for any number of octets.
 fn long_sums(bytes: &[u8]) -> (u32, u32)
     ensures plain { result.0 ≡ sum bytes.now % 255 }
     ensures heavy { result.1 ≡ weighted bytes.now % 255 }
@@ -56,7 +56,7 @@ fn long_sums(bytes: &[u8]) -> (u32, u32)
     (plain, heavy)
 }
 
-/// The plain and the weighted sum of the octets, modulo 255. In the weighted sum the last octet counts once.
+/// Returns the plain and the weighted sum of the octets, modulo 255. In the weighted sum the last octet counts once.
 fn sums(bytes: &[u8]) -> (u32, u32)
     ensures plain { result.0 ≡ sum bytes.now % 255 }
     ensures heavy { result.1 ≡ weighted bytes.now % 255 }
@@ -67,7 +67,7 @@ fn sums(bytes: &[u8]) -> (u32, u32)
     long_sums(bytes)
 }
 
-/// Whether both sums are 0 modulo 255 (ISO/IEC 10589, 7.3.11).
+/// Returns whether both sums are 0 modulo 255 (ISO/IEC 10589, 7.3.11).
 pub fn right_sum(bytes: &[u8]) -> bool
     ensures right { IsTrue result ↔ IsRight bytes.now }
     ensures value { result ≡ is_right bytes.now }
@@ -88,14 +88,14 @@ fn pair_at(bytes: &[u8], at: usize) -> u16
     (first * 256 + second) as u16
 }
 
-/// The two octets that make the sums right when written at that place, the first one in the high octet. Each is from
-/// 1 to 255, since 0 would say that there is no checksum (ISO/IEC 10589, 7.3.11).
+/// Returns the two checksum octets that make the sums right when written at index `at`, the first one in the high octet. Each
+/// is from 1 to 255, since 0 would mean that there is no checksum (ISO/IEC 10589, 7.3.11).
 pub fn checksum_at(bytes: &[u8], at: usize) -> u16
     requires within { at + 2 ≤ length bytes.now }
     requires short { length bytes.now ≤ 65535 }
     requires first_zero { slice_index bytes.now at ≡ 0 }
     requires second_zero { slice_index bytes.now (at + 1) ≡ 0 }
-    // The pair makes the octets right.
+    // The pair makes the sums right.
     ensures check { IsCheck bytes.now at (result / 256, result % 256) }
     // No other pair does.
     ensures only { (pair : ℕ × ℕ) → IsCheck bytes.now at pair → result ≡ pair.0 * 256 + pair.1 }

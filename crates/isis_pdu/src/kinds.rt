@@ -1,7 +1,7 @@
 use wire_base::{LspId, SystemId};
 
-/// The head of an LSP: the seconds that it has to live, 0 where it is dead, its identifier, its sequence
-/// number, its checksum and its flags octet (ISO/IEC 10589, 9.8).
+/// The header of an LSP: the Remaining Lifetime in seconds (0 for an expired LSP), the LSP ID, the sequence
+/// number, the checksum and the flags octet (ISO/IEC 10589, 9.8).
 #[derive(Clone, Copy)]
 pub struct LspHead {
     pub life: u16,
@@ -11,7 +11,7 @@ pub struct LspHead {
     pub flags: u8,
 }
 
-/// A PDU of the area's level, with the octets of its TLVs; a hello; or another type, the low five bits of the type
+/// A PDU of the domain's level, with the octets of its TLVs; a hello; or another PDU, with the low five bits of its type
 /// octet (ISO/IEC 10589, 9.5 to 9.13).
 #[derive(Clone, Copy)]
 pub enum Pdu<'a> {
@@ -20,14 +20,14 @@ pub enum Pdu<'a> {
         head: LspHead,
         tlvs: &'a [u8],
     },
-    /// A complete sequence numbers PDU: the system that sent it, and the first and the last identifier of its range.
+    /// A CSNP: the system ID of its sender, and the first and last LSP ID of its range.
     Csnp {
         source: SystemId,
         start: LspId,
         last: LspId,
         tlvs: &'a [u8],
     },
-    /// A partial sequence numbers PDU: the system that sent it.
+    /// A PSNP: the system ID of its sender.
     Psnp {
         source: SystemId,
         tlvs: &'a [u8],

@@ -1,6 +1,7 @@
-//! IS-IS PDUs, read and written, and the checksum of LSPs (ISO/IEC 10589, 7.3.11 and 9.8 to 9.13).
+//! Parser and writer of IS-IS PDUs, and the checksum of LSPs (ISO/IEC 10589, 7.3.11 and 9.8 to 9.13).
 //!
-//! It stands on `isis_tlv`, and promises the PDU or the first broken rule for all octets, and one spelling that is read again.
+//! This crate depends on `isis_tlv`. For any octets its parser returns the PDU or the first broken rule; each PDU has one
+//! encoding, which is parsed again.
 #![tactic(auto)]
 
 mod checksum;

@@ -12,7 +12,7 @@ use wire_base::codepoints::TLV_LSP_ENTRIES;
 use wire_base::fields::{read_octets, read_six, read_u8, read_u16, read_u32};
 use wire_base::{Level, PduFault, SystemId};
 
-/// The type of a level's LSPs (ISO/IEC 10589, 9.8 and 9.9).
+/// Returns the PDU type of LSPs of a level (ISO/IEC 10589, 9.8 and 9.9).
 pub fn lsp_number(level: Level) -> u8
     ensures { result ≡ lsp_type level }
 {
@@ -22,7 +22,7 @@ pub fn lsp_number(level: Level) -> u8
     }
 }
 
-/// The type of a level's complete sequence numbers PDUs (ISO/IEC 10589, 9.10 and 9.11).
+/// Returns the PDU type of CSNPs of a level (ISO/IEC 10589, 9.10 and 9.11).
 pub fn csnp_number(level: Level) -> u8
     ensures { result ≡ csnp_type level }
 {
@@ -32,7 +32,7 @@ pub fn csnp_number(level: Level) -> u8
     }
 }
 
-/// The type of a level's partial sequence numbers PDUs (ISO/IEC 10589, 9.12 and 9.13).
+/// Returns the PDU type of PSNPs of a level (ISO/IEC 10589, 9.12 and 9.13).
 pub fn psnp_number(level: Level) -> u8
     ensures { result ≡ psnp_type level }
 {
@@ -48,7 +48,7 @@ fn tlv_passes(rows: bool, tlv: Tlv<'_>) -> bool
     !rows || tlv.code != TLV_LSP_ENTRIES || tlv.value.len() % 16 == 0
 }
 
-/// Whether the TLVs end where the octets end and, where entries are listed, each TLV 9 is whole entries.
+/// Returns whether the TLVs end where the octets end and, in a CSNP or PSNP, each TLV 9 contains only complete entries.
 fn tlvs_are_whole(rows: bool, bytes: &[u8]) -> bool
     ensures { result ≡ tlvs_pass rows bytes.now }
 {
@@ -66,7 +66,7 @@ fn tlvs_are_whole(rows: bool, bytes: &[u8]) -> bool
     }
 }
 
-/// The octets of a PDU after its length, which counts from the first octet of the PDU.
+/// Returns the octets of a PDU after its length field. The length counts from the first octet of the PDU.
 #[tactic(auto, unfolding(wire_base::specs::model::Pdu::sized_at))]
 fn sized(size: u16, bytes: &[u8]) -> Result<(&[u8], &[u8]), PduFault>
     requires { 10 < size }
@@ -79,7 +79,7 @@ fn sized(size: u16, bytes: &[u8]) -> Result<(&[u8], &[u8]), PduFault>
     read_octets(PduFault::PduLength, usize::from(n - 10), rest)
 }
 
-/// An LSP from its identifier on, which its checksum covers.
+/// Parses an LSP from its LSP ID on, the part that its checksum covers.
 fn read_covered(life: u16, covered: &[u8]) -> Result<Pdu<'_>, PduFault>
     ensures { Gives pdu_of result (covered_at life covered.now) }
 {
@@ -150,7 +150,7 @@ fn read_psnp(bytes: &[u8]) -> Result<Pdu<'_>, PduFault>
     })
 }
 
-/// The PDU whose header has that length and that type, from its ninth octet on.
+/// Parses the PDU with that header length and that type, from its ninth octet on.
 #[tactic(auto, unfolding(wire_base::specs::model::Pdu::body_at))]
 fn read_body(level: Level, size: u8, number: u8, bytes: &[u8]) -> Result<Pdu<'_>, PduFault>
     ensures { Gives pdu_of result (body_at level size number bytes.now) }
@@ -198,16 +198,17 @@ fn read_front(level: Level, bytes: &[u8]) -> Result<Pdu<'_>, PduFault>
     read_body(level, bytes[1], bytes[4] % 32, &bytes[8..])
 }
 
-/// The PDU at the front of the octets, or the first rule that they break, in the order of [`PduFault`]
-/// (ISO/IEC 10589, 9.5 to 9.13). Hellos and types that aren't link state or sequence numbers PDUs of the level are
-/// answered after the fourth rule. Octets past the PDU's length are ignored, and octets 6 and 7, the high three bits of
-/// the type and the last octet of a source aren't tested.
+/// Parses the PDU at the start of the octets. Returns the first rule that they break, in the order of [`PduFault`]
+/// (ISO/IEC 10589, 9.5 to 9.13).
+///
+/// Hellos and PDUs that are not an LSP, CSNP or PSNP of the level are returned after the fourth rule. Octets past the PDU
+/// length are ignored. Octets 6 and 7, the high three bits of the type and the last octet of a source are not tested.
 pub fn read_pdu(level: Level, bytes: &[u8]) -> Result<Pdu<'_>, PduFault>
-    // What is read is a PDU of the grammar.
+    // The result is a PDU of the grammar.
     ensures found { IfOk result (λ p. IsPdu level bytes.now (pdu_of p)) }
-    // What is in the grammar is read, whatever follows it.
+    // What is in the grammar is parsed, whatever follows it.
     ensures only { (p : PduItem) → IsPdu level bytes.now p → Gives pdu_of result (Ok p) }
-    // Which of these it is.
+    // The exact result.
     ensures exact { Gives pdu_of result (pdu_at level bytes.now) }
 {
     read_front(level, bytes)

@@ -16,26 +16,26 @@ use wire_base::codepoints::TLV_LSP_ENTRIES;
 use wire_base::limits::{MOST_CONTENT, MOST_LISTED};
 use wire_base::{Level, LspId, M, Octets, Summary, SystemId};
 
-/// How many octets stand before the TLVs of an LSP.
+/// The number of octets before the TLVs of an LSP.
 pub const LSP_FRONT: usize = 27;
 
-/// How many stand before those of a complete sequence numbers PDU.
+/// The number of octets before the TLVs of a CSNP.
 pub const CSNP_FRONT: usize = 33;
 
-/// How many stand before those of a partial one.
+/// The number of octets before the TLVs of a PSNP.
 pub const PSNP_FRONT: usize = 17;
 
-/// Octets of the TLVs that list the entries of a sequence numbers PDU: 90 of 16 octets, in six TLVs.
+/// The maximum size in octets of the TLVs that list LSP entries: 90 entries of 16 octets, in six TLVs.
 pub const MOST_LISTED_OCTETS: usize = 1_452;
 
-/// The eight octets that begin each PDU: its header has that length, and it has that type.
+/// Returns the first eight octets of a PDU with that header length and that type.
 fn common(size: u8, number: u8) -> [u8; 8]
     ensures { result ≡ common size number }
 {
     [0x83, size, 1, 0, number, 1, 0, 0]
 }
 
-/// The octets of an identifier.
+/// Returns the octets of an LSP ID.
 fn id_octets(id: LspId) -> [u8; 8]
     ensures spelled { result ≡ lsp_id id }
     ensures fits { LspIdFits id }
@@ -44,7 +44,7 @@ fn id_octets(id: LspId) -> [u8; 8]
     [a, b, c, d, e, f, id.pseudonode, id.fragment]
 }
 
-/// The octets before the TLVs of an LSP of that length.
+/// Returns the octets before the TLVs of an LSP of that length.
 fn lsp_front(level: Level, head: &LspHead, size: u16) -> ArrayVec<u8, LSP_FRONT>
     ensures spelled { result.items ≡ common 27 (lsp_type level) ++ (big_bytes 2 size ++ (big_bytes 2 head.now.life ++ (lsp_id head.now.id ++ (big_bytes 4 head.now.seq ++ (big_bytes 2 head.now.sum ++ (head.now.flags ∷ [])))))) }
     ensures long { length result.items ≡ 27 }
@@ -68,7 +68,7 @@ fn lsp_front(level: Level, head: &LspHead, size: u16) -> ArrayVec<u8, LSP_FRONT>
     front
 }
 
-/// Appends an LSP, with the checksum that the head has (ISO/IEC 10589, 9.8 and 9.9). At most 1,470 octets of
+/// Appends an LSP with the checksum in `head` (ISO/IEC 10589, 9.8 and 9.9). Precondition: at most 1,470 octets of
 /// TLVs.
 pub fn append_lsp(out: &mut Octets, level: Level, head: &LspHead, tlvs: &[u8]) -> M<()>
     requires { length tlvs.now ≤ MOST_CONTENT }
@@ -92,12 +92,12 @@ fn lsp_octets(alloc: Global, level: Level, head: &LspHead, tlvs: &[u8]) -> M<Oct
     Ok(out)
 }
 
-/// An LSP, with the checksum that the head has (ISO/IEC 10589, 9.8 and 9.9). At most 1,470 octets of TLVs.
+/// Returns an LSP with the checksum in `head` (ISO/IEC 10589, 9.8 and 9.9). Precondition: at most 1,470 octets of TLVs.
 pub fn write_lsp(alloc: Global, level: Level, head: &LspHead, tlvs: &[u8]) -> M<Octets>
     requires { length tlvs.now ≤ MOST_CONTENT }
-    // The one spelling.
+    // The only encoding.
     ensures spelled { IfOk result (λ o. o ≡ lsp level (head_of head.now) tlvs.now) }
-    // Where a live one has right sums and its TLVs are whole it is read again, whatever follows it.
+    // If a live one has a right checksum and its TLVs are complete, it is parsed again, whatever follows it.
     ensures again { (0 < head.now.life → IsRight (lsp_covered (head_of head.now) tlvs.now)) → AreTlvs false tlvs.now
         → IfOk result (λ o. (rest : List ℕ) → pdu_at level (o ++ rest) ≡ Ok (LspPdu (head_of head.now) tlvs.now)) }
     ensures fits { HeadFits (head_of head.now) }
@@ -105,7 +105,7 @@ pub fn write_lsp(alloc: Global, level: Level, head: &LspHead, tlvs: &[u8]) -> M<
     lsp_octets(alloc, level, head, tlvs)
 }
 
-/// A TLV 9 of at most 15 entries; where memory runs out, what stood there stands in front of a part of it.
+/// Appends a TLV 9 of at most 15 entries. If an allocation fails, part of it may have been appended.
 fn append_block(out: &mut Octets, entries: &[Summary]) -> M<()>
     requires { length entries.now ≤ 15 }
     ensures ok { OnOk result (out.new ≡ out.old ++ tlv (row_tlv entries.now)) }
@@ -119,8 +119,8 @@ fn append_block(out: &mut Octets, entries: &[Summary]) -> M<()>
     Ok(())
 }
 
-/// The entries in TLVs 9 of at most 15, full ones first; where memory runs out, what stood there stands in front of a part of
-/// them.
+/// Appends the entries in TLVs 9 of at most 15, full ones first. If an allocation fails, part of them may have been
+/// appended.
 fn append_rows(out: &mut Octets, rows: &[Summary]) -> M<()>
     ensures ok { OnOk result (out.new ≡ out.old ++ row_tlvs rows.now) }
     ensures err { OnErr result (take (length out.old) out.new ≡ out.old) }
@@ -135,7 +135,7 @@ fn append_rows(out: &mut Octets, rows: &[Summary]) -> M<()>
     Ok(())
 }
 
-/// How many octets the TLVs take that list so many entries: 16 for each, and two for each TLV.
+/// Returns the size in octets of the TLVs that list that many entries: 16 for each entry, and two for each TLV.
 pub fn listed_octets(entries: usize) -> usize
     requires { entries ≤ MOST_LISTED }
     ensures long { result ≡ 16 * entries + 2 * ((entries + 14) / 15) }
@@ -144,7 +144,8 @@ pub fn listed_octets(entries: usize) -> usize
     16 * entries + 2 * ((entries + 14) / 15)
 }
 
-/// The TLVs 9 that list those entries, at most 15 each, full ones first (ISO/IEC 10589, 9.10). At most 90 entries.
+/// Returns the TLVs 9 that list those entries, at most 15 each, full ones first (ISO/IEC 10589, 9.10). Precondition: at most
+/// 90 entries.
 pub fn write_rows(alloc: Global, rows: &[Summary]) -> M<Octets>
     requires { length rows.now ≤ MOST_LISTED }
     ensures ok { IfOk result (λ o. o ≡ row_tlvs rows.now) }
@@ -156,7 +157,7 @@ pub fn write_rows(alloc: Global, rows: &[Summary]) -> M<Octets>
     Ok(out)
 }
 
-/// The octets before the TLVs of a complete sequence numbers PDU of that length.
+/// Returns the octets before the TLVs of a CSNP of that length.
 fn csnp_front(
     level: Level,
     source: SystemId,
@@ -179,7 +180,7 @@ fn csnp_front(
     front
 }
 
-/// Appends a complete sequence numbers PDU with those TLVs (ISO/IEC 10589, 9.10 and 9.11).
+/// Appends a CSNP with those TLVs (ISO/IEC 10589, 9.10 and 9.11).
 pub fn append_csnp(
     out: &mut Octets,
     level: Level,
@@ -219,7 +220,7 @@ fn csnp_whole(
     Ok(out)
 }
 
-/// A complete sequence numbers PDU, its entries in TLVs 9 of at most 15 (ISO/IEC 10589, 9.10 and 9.11). At most 90
+/// Returns a CSNP with its entries in TLVs 9 of at most 15 (ISO/IEC 10589, 9.10 and 9.11). Precondition: at most 90
 /// entries.
 pub fn write_csnp(
     alloc: Global,
@@ -230,16 +231,16 @@ pub fn write_csnp(
     rows: &[Summary],
 ) -> M<Octets>
     requires { length rows.now ≤ MOST_LISTED }
-    // The one spelling.
+    // The only encoding.
     ensures spelled { IfOk result (λ o. o ≡ csnp level source start last (row_tlvs rows.now)) }
-    // It is read again, whatever follows it.
+    // It is parsed again, whatever follows it.
     ensures again { IfOk result (λ o. (rest : List ℕ) → pdu_at level (o ++ rest) ≡ Ok (CsnpPdu source start last (row_tlvs rows.now))) }
     ensures rows { OnOk result (AllByRecursion SummaryFits rows.now) }
 {
     csnp_whole(alloc, level, source, start, last, rows)
 }
 
-/// The octets before the TLVs of a partial sequence numbers PDU of that length.
+/// Returns the octets before the TLVs of a PSNP of that length.
 fn psnp_front(level: Level, source: SystemId, size: u16) -> ArrayVec<u8, PSNP_FRONT>
     ensures spelled { result.items ≡ common 17 (psnp_type level) ++ (big_bytes 2 size ++ (source.0 ++ (0 ∷ []))) }
     ensures long { length result.items ≡ 17 }
@@ -253,7 +254,7 @@ fn psnp_front(level: Level, source: SystemId, size: u16) -> ArrayVec<u8, PSNP_FR
     front
 }
 
-/// Appends a partial sequence numbers PDU with those TLVs (ISO/IEC 10589, 9.12 and 9.13).
+/// Appends a PSNP with those TLVs (ISO/IEC 10589, 9.12 and 9.13).
 pub fn append_psnp(out: &mut Octets, level: Level, source: SystemId, tlvs: &[u8]) -> M<()>
     requires { length tlvs.now ≤ MOST_LISTED_OCTETS }
     ensures ok { OnOk result (out.new ≡ out.old ++ psnp level source tlvs.now) }
@@ -265,8 +266,8 @@ pub fn append_psnp(out: &mut Octets, level: Level, source: SystemId, tlvs: &[u8]
     out.append_two(front.as_slice(), tlvs)
 }
 
-/// Appends a partial sequence numbers PDU that lists those entries, in TLVs 9 of at most 15 (ISO/IEC 10589, 9.12 and
-/// 9.13). At most 90 entries. Where memory runs out, what stood there stands there still, and nothing more.
+/// Appends a PSNP that lists those entries, in TLVs 9 of at most 15 (ISO/IEC 10589, 9.12 and 9.13). Precondition: at most
+/// 90 entries. If an allocation fails, the output is unchanged.
 pub fn append_psnp_listing(
     out: &mut Octets,
     level: Level,
@@ -301,13 +302,13 @@ fn psnp_whole(alloc: Global, level: Level, source: SystemId, rows: &[Summary]) -
     Ok(out)
 }
 
-/// A partial sequence numbers PDU, its entries in TLVs 9 of at most 15 (ISO/IEC 10589, 9.12 and 9.13). At most 90
+/// Returns a PSNP with its entries in TLVs 9 of at most 15 (ISO/IEC 10589, 9.12 and 9.13). Precondition: at most 90
 /// entries.
 pub fn write_psnp(alloc: Global, level: Level, source: SystemId, rows: &[Summary]) -> M<Octets>
     requires { length rows.now ≤ MOST_LISTED }
-    // The one spelling.
+    // The only encoding.
     ensures spelled { IfOk result (λ o. o ≡ psnp level source (row_tlvs rows.now)) }
-    // It is read again, whatever follows it.
+    // It is parsed again, whatever follows it.
     ensures again { IfOk result (λ o. (rest : List ℕ) → pdu_at level (o ++ rest) ≡ Ok (PsnpPdu source (row_tlvs rows.now))) }
     ensures rows { OnOk result (AllByRecursion SummaryFits rows.now) }
 {

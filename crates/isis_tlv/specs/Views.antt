@@ -1,4 +1,4 @@
--- What the types of this crate that borrow octets stand for.
+-- The models of this crate's types that borrow octets.
 use Rattle.std.specs.Prelude.{◌≡◌, ℕ, List, Option, Some, None, Result, Ok, Err}
 use Rattle.wire_base.specs.declared.faults.TlvFault.{TlvFault}
 use Rattle.wire_base.specs.model.Tlv.{tlv_at}
@@ -19,7 +19,7 @@ reach_of r = record { neighbour = r.neighbour; pseudonode = r.pseudonode; metric
 abbrev pub prefix_of : PrefixEntry → PrefixItem
 prefix_of p = record { metric = p.metric; control = p.control; octets = p.octets; subs = p.subs.now }
 
--- a step of a walk takes it from old to new
+-- a step of an iterator from old to new
 abbrev pub Walks : List ℕ → Result (Option Tlv) TlvFault → List ℕ → Type 0
 Walks old (Ok (Some t)) new = tlv_at old ≡ Ok (Some (item t, new))
 Walks old (Ok None) new = (tlv_at old ≡ Ok None) × (new ≡ old)

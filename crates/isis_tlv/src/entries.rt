@@ -1,7 +1,7 @@
-//! Walks over TLVs, and over the entries of the TLVs 22, 135 and 9, which a `for` takes.
+//! Iterators over TLVs, and over the entries of the TLVs 22, 135 and 9, for use in a `for` loop.
 //!
-//! An item is a TLV or an entry, or the fault of octets that are none. A fault is the last item: where one entry can't be read
-//! nothing says where the next begins, and a `for` over a walk that gave it for ever would never end.
+//! An item is a TLV or an entry, or the error of invalid octets. An error is the last item: after an invalid entry nothing
+//! determines where the next one begins, and an iterator that repeated the error would never end.
 ghost use Rattle.std.specs.Prelude.{◌≡◌, List, map};
 ghost use Rattle.std.specs.Result.{result_ok};
 ghost use Rattle.std.specs.List.{filter_map, flat_map, AllByRecursion};
@@ -20,7 +20,7 @@ use crate::walk::{Tlv, TlvWalk};
 use std::marker::Model;
 use wire_base::{Summary, TlvFault};
 
-/// The TLVs of a walk one after the other. It is seen as the octets that are still to come.
+/// An iterator over TLVs. It is modeled as the octets that are still to be read.
 #[derive(Drop)]
 pub struct TlvIter<'a> {
     walk: TlvWalk<'a>,
@@ -43,10 +43,10 @@ impl<'a> IntoIterator for TlvWalk<'a> {
 
     ghost into_iter_gives = { λ walk given. given ≡ walk };
 
-    /// The TLVs that are still to come.
+    /// Returns an iterator over the TLVs that are still to be read.
     fn into_iter(self) -> TlvIter<'a>
         ensures start { result ≡ self.entry }
-        // They are those that stand before an overrun.
+        // They are those before an overrun.
         ensures before { filter_map result_ok (walked one_tlv_at self.entry) ≡ tlvs_before self.entry }
     {
         TlvIter { walk: self }
@@ -71,19 +71,19 @@ impl<'a> TlvIter<'a> {
 impl<'a> Iterator for TlvIter<'a> {
     type Item = Result<Tlv<'a>, TlvFault>;
 
-    // The first of the items that are left, and the others are left.
+    // Returns the first of the remaining items, and leaves the others.
     ghost next_gives = { YieldsFirstBy (seen item) (walked one_tlv_at) };
 
     ghost remaining = { item_count (walked one_tlv_at) };
 
-    /// The next TLV; Overrun where one octet is left or a length passes the end, after which nothing is left; None at the
-    /// end.
+    /// Returns the next TLV; Overrun if one octet is left or a length exceeds the octets after it, after which nothing is left;
+    /// None at the end.
     fn next(&mut self) -> Option<Result<Tlv<'a>, TlvFault>> {
         self.step()
     }
 }
 
-/// The entries of a TLV 22, from the front of its value (RFC 5305, 3). It is seen as the octets that are still to come.
+/// An iterator over the entries of a TLV 22 (RFC 5305, 3). It is modeled as the octets of the value that are still to be read.
 #[derive(Drop)]
 pub struct ReachWalk<'a> {
     rest: &'a [u8],
@@ -98,12 +98,12 @@ impl<'a> Model for ReachWalk<'a> {
 }
 
 impl<'a> ReachWalk<'a> {
-    /// A walk over a value.
+    /// Creates an iterator over the entries of a value.
     pub fn new(value: &'a [u8]) -> ReachWalk<'a>
         ensures start { result ≡ value.now }
-        // Its entries are those that stand before the first octets that are none.
+        // Its entries are those before the first invalid octets.
         ensures entries { filter_map result_ok (walked reach_at value.now) ≡ entries_of reach_at value.now }
-        // Entries that are spelled one after the other are its items, and there is no fault.
+        // Entries that are encoded one after the other are its items, and there is no error.
         ensures again { (rs : List ReachItem) → AllByRecursion ReachFits rs → value.now ≡ flat_map reach rs → walked reach_at value.now ≡ map good rs }
     {
         ReachWalk { rest: value }
@@ -131,18 +131,18 @@ impl<'a> ReachWalk<'a> {
 impl<'a> Iterator for ReachWalk<'a> {
     type Item = Result<Reach<'a>, TlvFault>;
 
-    // The first of the items that are left, and the others are left.
+    // Returns the first of the remaining items, and leaves the others.
     ghost next_gives = { YieldsFirstBy (seen reach_of) (walked reach_at) };
 
     ghost remaining = { item_count (walked reach_at) };
 
-    /// The next entry; the fault of octets that are no entry, after which nothing is left; None at the end.
+    /// Returns the next entry; the error of invalid octets, after which nothing is left; None at the end.
     fn next(&mut self) -> Option<Result<Reach<'a>, TlvFault>> {
         self.step()
     }
 }
 
-/// The entries of a TLV 135, from the front of its value (RFC 5305, 4). It is seen as the octets that are still to come.
+/// An iterator over the entries of a TLV 135 (RFC 5305, 4). It is modeled as the octets of the value that are still to be read.
 #[derive(Drop)]
 pub struct PrefixWalk<'a> {
     rest: &'a [u8],
@@ -157,12 +157,12 @@ impl<'a> Model for PrefixWalk<'a> {
 }
 
 impl<'a> PrefixWalk<'a> {
-    /// A walk over a value.
+    /// Creates an iterator over the entries of a value.
     pub fn new(value: &'a [u8]) -> PrefixWalk<'a>
         ensures start { result ≡ value.now }
-        // Its entries are those that stand before the first octets that are none.
+        // Its entries are those before the first invalid octets.
         ensures entries { filter_map result_ok (walked prefix_at value.now) ≡ entries_of prefix_at value.now }
-        // Entries that are spelled one after the other are its items, and there is no fault.
+        // Entries that are encoded one after the other are its items, and there is no error.
         ensures again { (ps : List PrefixItem) → AllByRecursion PrefixFits ps → value.now ≡ flat_map prefix ps → walked prefix_at value.now ≡ map good ps }
     {
         PrefixWalk { rest: value }
@@ -191,18 +191,18 @@ impl<'a> PrefixWalk<'a> {
 impl<'a> Iterator for PrefixWalk<'a> {
     type Item = Result<PrefixEntry<'a>, TlvFault>;
 
-    // The first of the items that are left, and the others are left.
+    // Returns the first of the remaining items, and leaves the others.
     ghost next_gives = { λ old given new. YieldsFirstBy (seen prefix_of) (walked prefix_at) old given new × HasItsBits given };
 
     ghost remaining = { item_count (walked prefix_at) };
 
-    /// The next entry; the fault of octets that are no entry, after which nothing is left; None at the end.
+    /// Returns the next entry; the error of invalid octets, after which nothing is left; None at the end.
     fn next(&mut self) -> Option<Result<PrefixEntry<'a>, TlvFault>> {
         self.step()
     }
 }
 
-/// The entries of a TLV 9, from the front of its value (ISO/IEC 10589, 9.10). It is seen as the octets that are still to come.
+/// An iterator over the LSP entries of a TLV 9 (ISO/IEC 10589, 9.10). It is modeled as the octets that are still to be read.
 #[derive(Drop)]
 pub struct SummaryWalk<'a> {
     rest: &'a [u8],
@@ -217,12 +217,12 @@ impl<'a> Model for SummaryWalk<'a> {
 }
 
 impl<'a> SummaryWalk<'a> {
-    /// A walk over a value.
+    /// Creates an iterator over the entries of a value.
     pub fn new(value: &'a [u8]) -> SummaryWalk<'a>
         ensures start { result ≡ value.now }
-        // Its entries are those that stand before the first octets that are none.
+        // Its entries are those before the first invalid octets.
         ensures entries { filter_map result_ok (walked row_at value.now) ≡ entries_of row_at value.now }
-        // Entries that are spelled one after the other are its items, and there is no fault.
+        // Entries that are encoded one after the other are its items, and there is no error.
         ensures again { (rows : List Entry) → AllByRecursion SummaryFits rows → value.now ≡ flat_map row rows → walked row_at value.now ≡ map good rows }
     {
         SummaryWalk { rest: value }
@@ -250,12 +250,12 @@ impl<'a> SummaryWalk<'a> {
 impl<'a> Iterator for SummaryWalk<'a> {
     type Item = Result<Summary, TlvFault>;
 
-    // The first of the items that are left, and the others are left.
+    // Returns the first of the remaining items, and leaves the others.
     ghost next_gives = { YieldsFirstBy (seen itself) (walked row_at) };
 
     ghost remaining = { item_count (walked row_at) };
 
-    /// The next entry; the fault of octets that are no entry, after which nothing is left; None at the end.
+    /// Returns the next entry; the error of invalid octets, after which nothing is left; None at the end.
     fn next(&mut self) -> Option<Result<Summary, TlvFault>> {
         self.step()
     }

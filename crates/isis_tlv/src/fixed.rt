@@ -1,10 +1,10 @@
-//! Octets of which there is a known number, built from the left.
+//! Building fixed-size octet sequences.
 ghost use Rattle.std.specs.Prelude.{◌≡◌, ◌+◌, ◌≤◌, ◌++◌, length};
 ghost use Rattle.arrayvec.specs.ArrayVec.{array_vec_len};
 
 use arrayvec::ArrayVec;
 
-/// Appends octets for which there is room.
+/// Appends octets. Precondition: there is room for them.
 pub fn put<const N: usize>(head: &mut ArrayVec<u8, N>, octets: &[u8])
     requires { array_vec_len head.old + length octets.now ≤ N }
     ensures items { head.new.items ≡ head.old.items ++ octets.now }

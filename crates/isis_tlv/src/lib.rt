@@ -1,6 +1,7 @@
-//! TLVs and the entries of the TLVs 22, 135 and 9, read and written (ISO/IEC 10589, 9.8 to 9.13; RFC 5305, 3 and 4).
+//! Parsers and writers of TLVs and of the entries of the TLVs 22, 135 and 9 (ISO/IEC 10589, 9.8 to 9.13; RFC 5305, 3 and 4).
 //!
-//! It stands on `wire_base` alone, and promises each entry or its fault for all octets, and one spelling that is read again.
+//! This crate depends only on `wire_base`. For any octets its parsers return each entry or its error; each value has one
+//! encoding, which is parsed again.
 #![tactic(auto)]
 
 mod entries;

@@ -10,9 +10,9 @@ use arrayvec::ArrayVec;
 use wire_base::fields::{read_counted, read_octets, read_u8, read_u32};
 use wire_base::{M, Octets, TlvFault};
 
-/// An entry of TLV 135 (RFC 5305, 4): a metric, the whole control octet, the length of the prefix in bits, which is
-/// the low six bits of the control octet, the prefix in four octets, of which those past the prefix's are 0, and the
-/// octets of the sub-TLVs, none where bit 40 of the control octet isn't set.
+/// An entry of TLV 135 (RFC 5305, 4): a metric, the whole control octet, the prefix length in bits (the low six bits of
+/// the control octet), the prefix in four octets, of which those past the prefix are 0, and the octets of the sub-TLVs,
+/// which are empty if bit 40 of the control octet is not set.
 #[derive(Clone, Copy, Debug)]
 pub struct PrefixEntry<'a> {
     pub metric: u32,
@@ -82,23 +82,23 @@ fn prefix_sized(bytes: &[u8]) -> Result<(PrefixEntry<'_>, usize), TlvFault>
     Ok((entry, bytes.len() - rest.len()))
 }
 
-/// The entry of TLV 135 at the front, and how many octets it takes. Once five octets are there, a length above 32 is
-/// PrefixLen; where the octets end before the entry does, it is EntryShort (RFC 5305, 4).
+/// Parses the entry of TLV 135 at the front, and returns it with its length in octets. Errors: PrefixLen if five octets are
+/// there and the prefix length exceeds 32; EntryShort if the octets end before the entry does (RFC 5305, 4).
 pub fn read_prefix(bytes: &[u8]) -> Result<(PrefixEntry<'_>, usize), TlvFault>
-    // What is read is an entry, spelled so.
+    // The result is an entry with this encoding.
     ensures found { IfOk result (λ x. PrefixFits (prefix_of x.0) × (bytes.now ≡ prefix (prefix_of x.0) ++ drop x.1 bytes.now)) }
     ensures within { IfOk result (λ x. x.1 ≤ length bytes.now) }
     ensures bits { IfOk result (λ x. x.0.length ≡ prefix_bits x.0.control) }
-    // What is spelled so is read, whatever follows it.
+    // An encoded entry is parsed, whatever follows it.
     ensures only { (p : PrefixItem) (rest : List ℕ) → PrefixFits p → bytes.now ≡ prefix p ++ rest
         → Gives {Y = PrefixItem × List ℕ} (λ x. (prefix_of x.0, drop x.1 bytes.now)) result (Ok (p, rest)) }
-    // Which of these it is.
+    // The exact result.
     ensures exact { Gives (λ x. (prefix_of x.0, drop x.1 bytes.now)) result (prefix_at bytes.now) }
 {
     prefix_sized(bytes)
 }
 
-/// All but the sub-TLVs.
+/// Returns all fields except the sub-TLVs.
 fn prefix_head(p: &PrefixEntry<'_>) -> ArrayVec<u8, 9>
     requires { prefix_bits p.now.control ≤ 32 }
     ensures { result.items ≡ big_bytes 4 p.now.metric ++ (p.now.control ∷ take (prefix_octets (prefix_bits p.now.control)) p.now.octets) }
@@ -111,7 +111,7 @@ fn prefix_head(p: &PrefixEntry<'_>) -> ArrayVec<u8, 9>
     head
 }
 
-/// The sub-TLVs behind their size, where the control octet says that they follow.
+/// Appends the length and the octets of the sub-TLVs, if the control octet indicates that they follow.
 fn append_prefix(out: &mut Octets, p: &PrefixEntry<'_>) -> M<()>
     requires bits { p.now.length ≡ prefix_bits p.now.control }
     requires most { p.now.length ≤ 32 }
@@ -140,7 +140,7 @@ pub fn push_prefix(out: &mut Octets, p: &PrefixEntry<'_>) -> M<()>
     requires subs { NoneUnless (has_subs p.now.control) p.now.subs.now }
     ensures ok { OnOk result (out.new ≡ out.old ++ prefix (prefix_of p.now)) }
     ensures err { OnErr result (out.new ≡ out.old) }
-    // What was appended is read again, whatever follows it.
+    // What was appended is parsed again, whatever follows it.
     ensures again { OnOk result (IsReadAgain prefix_at out.old out.new (prefix_of p.now)) }
     ensures fits { PrefixFits (prefix_of p.now) }
 {

@@ -11,8 +11,8 @@ use byteorder::{BigEndian, ByteOrder};
 use wire_base::fields::{read_counted, read_six, read_u8, read_u24};
 use wire_base::{M, Octets, SystemId, TlvFault};
 
-/// An entry of TLV 22: a neighbor that the issuing system reaches, its pseudonode octet, the metric of the link in
-/// 24 bits, and the octets of the sub-TLVs (RFC 5305, 3).
+/// An entry of TLV 22: a neighbor that the originating system reaches, its pseudonode number, the metric of the link (24 bits),
+/// and the octets of the sub-TLVs (RFC 5305, 3).
 #[derive(Clone, Copy, Debug)]
 pub struct Reach<'a> {
     pub neighbour: SystemId,
@@ -50,17 +50,17 @@ fn reach_sized(bytes: &[u8]) -> Result<(Reach<'_>, usize), TlvFault>
     Ok((entry, bytes.len() - rest.len()))
 }
 
-/// The entry of TLV 22 at the front, and how many octets it takes. EntryShort where the octets end before the entry
-/// does (RFC 5305, 3).
+/// Parses the entry of TLV 22 at the front, and returns it with its length in octets. Error: EntryShort if the octets end
+/// before the entry does (RFC 5305, 3).
 pub fn read_reach(bytes: &[u8]) -> Result<(Reach<'_>, usize), TlvFault>
-    // What is read is an entry, spelled so.
+    // The result is an entry with this encoding.
     ensures found { IfOk result (λ x. ReachFits (reach_of x.0) × (bytes.now ≡ reach (reach_of x.0) ++ drop x.1 bytes.now)) }
     ensures within { IfOk result (λ x. x.1 ≤ length bytes.now) }
-    // What is spelled so is read, whatever follows it.
+    // An encoded entry is parsed, whatever follows it.
     ensures only { (r : ReachItem) (rest : List ℕ) → ReachFits r → bytes.now ≡ reach r ++ rest
         → Gives {Y = ReachItem × List ℕ} (λ x. (reach_of x.0, drop x.1 bytes.now)) result (Ok (r, rest)) }
     ensures fault { IfErr result (λ e. e ≡ TlvFault.EntryShort) }
-    // Which of these it is.
+    // The exact result.
     ensures exact { Gives (λ x. (reach_of x.0, drop x.1 bytes.now)) result (reach_at bytes.now) }
 {
     reach_sized(bytes)
@@ -98,7 +98,7 @@ pub fn push_reach(out: &mut Octets, r: &Reach<'_>) -> M<()>
     requires subs { length r.now.subs.now ≤ 255 }
     ensures ok { OnOk result (out.new ≡ out.old ++ reach (reach_of r.now)) }
     ensures err { OnErr result (out.new ≡ out.old) }
-    // What was appended is read again, whatever follows it.
+    // What was appended is parsed again, whatever follows it.
     ensures again { OnOk result (IsReadAgain reach_at out.old out.new (reach_of r.now)) }
     ensures fits { ReachFits (reach_of r.now) }
 {

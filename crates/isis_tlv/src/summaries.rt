@@ -9,7 +9,7 @@ use arrayvec::ArrayVec;
 use wire_base::fields::{read_six, read_u8, read_u16, read_u32};
 use wire_base::{LspId, M, Octets, Summary, SystemId, TlvFault};
 
-/// The identifier of an LSP at the front, and the octets after it; the given fault where there are fewer
+/// Parses the LSP ID at the front, and returns it with the octets after it; returns the given error if there are fewer
 /// than eight octets (ISO/IEC 10589, 9.8).
 pub fn lsp_id_of<E: Copy>(fault: E, bytes: &[u8]) -> Result<(LspId, &[u8]), E>
     ensures { Gives (λ x. (x.0, x.1.now)) result (lsp_id_at fault bytes.now) }
@@ -27,7 +27,7 @@ pub fn lsp_id_of<E: Copy>(fault: E, bytes: &[u8]) -> Result<(LspId, &[u8]), E>
     ))
 }
 
-/// The entry of TLV 9 at the front, and the octets after it.
+/// Parses the entry of TLV 9 at the front, and returns it with the octets after it.
 #[tactic(auto, unfolding(wire_base::specs::model::Tlv::row_at))]
 pub(crate) fn summary_front(bytes: &[u8]) -> Result<(Summary, &[u8]), TlvFault>
     ensures { Gives (λ x. (x.0, x.1.now)) result (row_at bytes.now) }
@@ -48,7 +48,7 @@ fn summary_whole(bytes: &[u8]) -> Summary
     summary
 }
 
-/// The entry of TLV 9 that sixteen octets spell (ISO/IEC 10589, 9.10).
+/// Parses the TLV 9 entry in sixteen octets (ISO/IEC 10589, 9.10).
 pub fn read_summary(bytes: &[u8]) -> Summary
     requires { length bytes.now ≡ 16 }
     ensures found { SummaryFits result × (bytes.now ≡ row result) }
@@ -84,7 +84,7 @@ fn append_summary(out: &mut Octets, s: &Summary) -> M<()>
 pub fn push_summary(out: &mut Octets, s: &Summary) -> M<()>
     ensures ok { OnOk result (out.new ≡ out.old ++ row s.now) }
     ensures err { OnErr result (out.new ≡ out.old) }
-    // What was appended is read again, whatever follows it.
+    // What was appended is parsed again, whatever follows it.
     ensures again { OnOk result (IsReadAgain row_at out.old out.new s.now) }
     ensures fits { SummaryFits s.now }
 {

@@ -13,8 +13,8 @@ pub struct Tlv<'a> {
     pub value: &'a [u8],
 }
 
-/// A walk over TLVs or sub-TLVs, seen as the octets that are still to come. Whether it has met an overrun is a fact of
-/// these octets: they stay, and every later answer is the same.
+/// A cursor over TLVs or sub-TLVs, modeled as the octets that are still to be read. At an overrun it does not advance, so
+/// every later call returns the same error.
 #[derive(Drop)]
 pub struct TlvWalk<'a> {
     rest: &'a [u8],
@@ -29,27 +29,27 @@ impl<'a> Model for TlvWalk<'a> {
 }
 
 impl<'a> TlvWalk<'a> {
-    /// A walk over those octets.
+    /// Creates a cursor over those octets.
     pub fn new(bytes: &'a [u8]) -> TlvWalk<'a>
         ensures { result ≡ bytes.now }
     {
         TlvWalk { rest: bytes }
     }
 
-    /// The next TLV, and None at the end of the octets. Where one octet is left or the length passes the end, it
-    /// answers Overrun, then and for ever.
+    /// Returns the next TLV, and None at the end of the octets. If one octet is left or the length exceeds the octets after it,
+    /// this and every later call return Overrun.
     pub fn next(&mut self) -> Result<Option<Tlv<'a>>, TlvFault>
-        // What is read is a TLV, spelled so.
+        // The result is a TLV with this encoding.
         ensures found { IfOk result (λ o. IfSome o (λ t. self.old ≡ tlv (item t) ++ self.new)) }
         ensures short { IfOk result (λ o. IfSome o (λ t. length t.value.now < 256)) }
-        // What is spelled so is read, whatever follows it.
+        // An encoded TLV is parsed, whatever follows it.
         ensures only { (t : Item) (rest : List ℕ) → self.old ≡ tlv t ++ rest
             → IsOkAnd result (λ o. IsSomeAnd o (λ x. (item x ≡ t) × (self.new ≡ rest))) }
         ensures end { (result ≡ Ok None) ↔ (self.old ≡ []) }
         ensures fault { IfErr result (λ e. e ≡ TlvFault.Overrun) }
         ensures overrun { IsErr result ↔ IsOverrun self.old }
         ensures stays { OnErr result (self.new ≡ self.old) }
-        // Which of these it is.
+        // The exact result.
         ensures exact { Walks self.old result self.new }
     {
         self.step()
@@ -84,12 +84,12 @@ fn append_tlv(out: &mut Octets, code: u8, value: &[u8]) -> M<()>
     out.append_two(&[code, value.len() as u8], value)
 }
 
-/// Appends a TLV.
+/// Appends a TLV with that code and value.
 pub fn push_tlv(out: &mut Octets, code: u8, value: &[u8]) -> M<()>
     requires { length value.now ≤ 255 }
     ensures ok { OnOk result (out.new ≡ out.old ++ tlv (record { code = code; value = value.now })) }
     ensures err { OnErr result (out.new ≡ out.old) }
-    // What was appended is read again, whatever follows it.
+    // What was appended is parsed again, whatever follows it.
     ensures again { OnOk result ((rest : List ℕ) → tlv_at (drop (length out.old) out.new ++ rest) ≡ Ok (Some (record { code = code; value = value.now }, rest))) }
 {
     append_tlv(out, code, value)

@@ -1,8 +1,8 @@
--- The course of the copies of an injection while the views of routers agree: each goes on a shortest way to the owner of a
--- BFR-id, and none is dropped (RFC 8279, 6.5 and 6.9; RFC 2784).
+-- The course of the copies of an injection while the topologies of routers agree: each follows a shortest path to the
+-- owner of a BFR-id, and none is dropped (RFC 8279, 6.5 and 6.9; RFC 2784).
 --
--- A router's place in the domain is called a or b, and its node in a view is found by its system. The ingress is the node u
--- of the view g, and has the configuration r.
+-- A router's index in the domain is called a or b, and its node in a topology is found by its system ID. The ingress is
+-- the node u of the topology g, and has the configuration r.
 use Rattle.std.specs.Prelude.{◌≡◌, ℕ, zero, suc, ◌-◌, ◌<◌, ◌≤◌, ◌%◌, ◌⊎◌, Bool, true, false, List, [], ◌∷◌, ◌++◌, length, slice_get, Option, Some, None}
 use Rattle.std.specs.List.{AllByRecursion, fold}
 use Rattle.wire_base.specs.declared.conf.RouterConf.{RouterConf}
@@ -31,15 +31,15 @@ use Rattle.laws_ledger.specs.Ledger.{Injection, entered, triple_for}
 use Rattle.laws_ledger.specs.Runs.{AreAllowed, unlined, IsAccounted}
 use Rattle.laws_ledger.specs.Weights.{is_one_of}
 
--- ---- views that agree
+-- ---- topologies that agree
 
--- each router to which a walk of the view g leads from u has this view
+-- each router to which a path of the topology g leads from u has this topology
 abbrev pub Agreed : WorldState → List ViewNode → ℕ → Type 0
 Agreed w g u = (b n : ℕ) (c : Control) → slice_get w.routers b ≡ Some c → dist g u (node_place g c.conf.system) ≡ Some n → control_view c ≡ g
 
--- ---- ways
+-- ---- paths
 
--- where a copy is sent for the BFR-id k by the router at a node of the view
+-- where a copy is sent for the BFR-id k by the router at a node of the topology
 abbrev pub next_for : RouterConf → List ViewNode → Triple → ℕ → ℕ → ℕ → Option ℕ
 next_for r g t entropy k y = choose g r.kinds r.table t (entropy % 16) y k
 
@@ -52,13 +52,13 @@ Follows next (suc j) u x = (y : ℕ) × (next u ≡ Some y) × Follows next j y 
 abbrev pub IsPassed : (ℕ → Option ℕ) → ℕ → ℕ → Type 0
 IsPassed next u y = (y ≡ u) ⊎ ((j : ℕ) × Follows next j u y)
 
--- each tunnel of the way from u has at most 255 links
+-- each tunnel of the path from u has at most 255 links
 abbrev pub FitTunnels : List ViewNode → (ℕ → Option ℕ) → ℕ → Type 0
 FitTunnels g next u = (y z h : ℕ) → IsPassed next u y → next y ≡ Some z → is_direct g y z ≡ false → tunnel_links g z y ≡ Some h → h ≤ 255
 
 -- ---- courses
 
--- the node of a router, past the end where there is none
+-- the node of a router; past the end if there is none
 abbrev pub node_by : List ViewNode → Option RouterConf → ℕ
 node_by g None = length g
 node_by g (Some r) = node_place g r.system
@@ -70,18 +70,18 @@ abbrev pub node_of : List RouterConf → List ViewNode → Option ℕ → ℕ
 node_of confs g None = length g
 node_of confs g (Some a) = node_at confs g a
 
--- the node of the router that a copy on the way to b is for
+-- the node of the router that a copy in flight to b is for
 abbrev pub target_at : List RouterConf → List ViewNode → ℕ → DataItem → ℕ
 target_at confs g b x = node_of confs g (target_of confs b x)
 
--- in a tunnel the tight steps of least system lead from a node to the target over fewer links than the outer TTL
+-- in a tunnel the tight steps of least system ID lead from a node to the target over fewer links than the outer TTL
 abbrev pub HasLinks : List ViewNode → ℕ → ℕ → Option Outer → Type 0
 HasLinks g target to None = target ≡ to
 HasLinks g target to (Some o) = (h : ℕ) × (tunnel_links g target to ≡ Some h) × (h < o.ttl)
 
--- A copy on the way from router a to router b is on its course for the BFR-id k: the step is tight toward the owner; the
--- router a is reached from the ingress; the target is on a shortest way to the owner; it is where the choices lead from the
--- ingress, and the TTL covers the rest of the path; and the tunnel's TTL covers the links to the target.
+-- A copy in flight from router a to router b is on its course for the BFR-id k: the step is tight toward the owner; the
+-- router a is reached from the ingress; the target is on a shortest path to the owner; it is where the choices lead
+-- from the ingress, and the TTL covers the rest of the path; and the tunnel's TTL covers the links to the target.
 pub record IsOnCourse (confs : List RouterConf) (r : RouterConf) (g : List ViewNode) (u k a b : ℕ) (x : DataItem) : Type 0 where
   pub last : ℕ
   pub owns : owner g x.triple.sd k ≡ Some last
@@ -96,7 +96,7 @@ pub record IsOnCourse (confs : List RouterConf) (r : RouterConf) (g : List ViewN
   pub covers : CoversPath g r.kinds r.table x.triple (target_at confs g b x) (x.entropy % 16) k (x.ttl - 1)
   pub links : HasLinks g (target_at confs g b x) (node_at confs g b) x.outer
 
--- what holds of each copy of injection n that has k in its set
+-- what is true of each copy of injection n that has k in its set
 abbrev pub IfCopyFor : (DataItem → Type 0) → ℕ → ℕ → Item → Type 0
 IfCopyFor P n k (ControlItem p) = Unit {0}
 IfCopyFor P n k (PacketItem x) = x.number ≡ n → has x.ids k ≡ true → P x
@@ -129,26 +129,26 @@ pub record IsCovered (r : RouterConf) (g : List ViewNode) (u : ℕ) (i : Injecti
 
 -- ---- runs
 
--- the router at place s has the view g, and all agree with it
+-- the router at index s has the topology g, and all agree with it
 pub record HasAgreed (w : WorldState) (s : ℕ) (g : List ViewNode) : Type 0 where
   pub router : Control
   pub there : slice_get w.routers s ≡ Some router
   pub view : control_view router ≡ g
   pub agreed : Agreed w g (node_place g router.conf.system)
 
--- From here on the router at place s has that view, all agree with it after each event, and no event loses a copy of
--- injection n.
+-- From here on the router at index s has that topology, all agree with it after each event, and no event loses a copy
+-- of injection n.
 abbrev pub IsSteady : Run → ℕ → List ViewNode → ℕ → List (ℕ × Event) → Type 0
 IsSteady r s g n [] = HasAgreed r.world s g
 IsSteady r s g n (e ∷ es) = HasAgreed r.world s g × (loses_copy r.world n e.1 ≡ false) × IsSteady (goes_on r e) s g n es
 
 -- ---- premises
 
--- a router's own node in its view
+-- a router's own node in its topology
 abbrev pub own_node : Control → ℕ
 own_node c = node_place (control_view c) c.conf.system
 
--- all copies of injection n for k are on their course in the view of the ingress c
+-- all copies of injection n for k are on their course in the topology of the ingress c
 abbrev pub KeptFor : WorldState → Control → ℕ → ℕ → Type 0
 KeptFor w c n k = Kept w c.conf (control_view c) (own_node c) n k
 
@@ -161,8 +161,8 @@ pub record Begins (w : WorldState) (e : Event) (c : Control) (n k : ℕ) (i : In
   pub ingress : slice_get w.routers i.router ≡ Some c
   pub covered : IsCovered c.conf (control_view c) (own_node c) i k
 
--- The injection n was made before, at the router c of place s. Its copies for k are on their course in the view of c, with
--- which all views agree; their tunnels are short enough; and the event loses no copy of it.
+-- The injection n was made before, at the router c of index s. Its copies for k are on their course in the topology of
+-- c, with which all topologies agree; their tunnels are short enough; and the event loses no copy of it.
 pub record GoesOn (w : WorldState) (e : Event) (s : ℕ) (c : Control) (n k : ℕ) : Type 0 where
   pub truth : IsTruthful w
   pub ingress : slice_get w.routers s ≡ Some c
@@ -172,8 +172,9 @@ pub record GoesOn (w : WorldState) (e : Event) (s : ℕ) (c : Control) (n k : �
   pub tunnels : TunnelsFit w c.conf (control_view c) (own_node c) n k
   pub harmless : loses_copy w n e ≡ false
 
--- A run, an event that is its injection n and names k, and the events after it, each allowed: k is reachable at the router c
--- over a path that the TTL covers; and from then on views agree with the one that c had, and no copy of the injection is lost.
+-- A run, an event that is its injection n and names k, and the events after it, each allowed. k is reachable at the
+-- router c over a path that the TTL covers. From then on topologies agree with the one that c had, and no copy of the
+-- injection is lost.
 pub record IsCarried (r : Run) (e : ℕ × Event) (fs : List (ℕ × Event)) (c : Control) (n k : ℕ) (i : Injection) : Type 0 where
   pub truth : IsTruthful r.world
   pub accounts : IsAccounted r
@@ -184,11 +185,11 @@ pub record IsCarried (r : Run) (e : ℕ × Event) (fs : List (ℕ × Event)) (c 
   pub covered : IsCovered c.conf (control_view c) (own_node c) i k
   pub steady : IsSteady (goes_on r e) i.router (control_view c) n fs
 
--- the run with them
+-- the run extended by that event and those after it
 abbrev pub carried_on : Run → ℕ × Event → List (ℕ × Event) → Run
 carried_on r e fs = fold goes_on (goes_on r e) fs
 
--- The same of a run of a valid domain from its start, over the events es, e and fs.
+-- The same for a run of a valid domain from its start, over the events es, e and fs.
 pub record IsCarriedIn (d : DomainConf) (es : List (ℕ × Event)) (e : ℕ × Event) (fs : List (ℕ × Event)) (c : Control) (n k : ℕ) (i : Injection) : Type 0 where
   pub valid : IsValid d
   pub allowed : AreAllowed (first_world d) (unlined (es ++ e ∷ fs))

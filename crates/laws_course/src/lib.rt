@@ -1,5 +1,6 @@
-//! The course of copies while views agree: each copy of an injection for a reachable BFR-id stays on a shortest way to the
-//! id's owner, and none is dropped; so the id is delivered exactly once. Definitions and laws; no code that runs.
+//! The course of copies while topologies agree: each copy of an injection for a reachable BFR-id stays on a shortest
+//! path to the id's owner, and none is dropped. So the id is delivered exactly once. This crate has definitions and
+//! laws only, and no code that runs.
 #![tactic(auto)]
 
 mod once;

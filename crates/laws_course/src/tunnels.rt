@@ -8,8 +8,8 @@ ghost use Rattle.domain_model.specs.World.{WorldState};
 ghost use Rattle.domain_model.specs.Truth.{IsTruthful};
 ghost use Rattle.laws_course.specs.Course.{FitTunnels, TunnelsFit};
 
-/// In a view of at most 255 nodes each tunnel has at most 255 links, which is what an outer TTL of 255 covers. A view has no more
-/// nodes than the domain has routers and one.
+/// In a topology of at most 255 nodes each tunnel has at most 255 links, which an outer TTL of 255 covers. A topology
+/// has no more nodes than the number of routers of the domain plus one.
 pub fn tunnels_of_small_views_fit()
     ensures way { (g : List ViewNode) (next : ℕ → Option ℕ) (u : ℕ) → length g ≤ 255 → FitTunnels g next u }
     ensures world { (w : WorldState) (r : RouterConf) (g : List ViewNode) (u n k : ℕ) → length g ≤ 255 → TunnelsFit w r g u n k }

@@ -1,4 +1,4 @@
--- PDUs that are worked out by hand: two routers, A of system 1 and B of system 2, of area 490001, joined by one link.
+-- PDUs encoded by hand: two routers, A of system 1 and B of system 2, of area 490001, connected by one link.
 use Rattle.std.specs.Prelude.{ℕ, List, [], ◌∷◌}
 use Rattle.wire_base.specs.declared.addresses.LspId.{LspId}
 use Rattle.wire_base.specs.declared.addresses.SystemId.{SystemId}
@@ -15,15 +15,15 @@ system_of n = record { 0 = 0 ∷ 0 ∷ 0 ∷ 0 ∷ 0 ∷ n ∷ [] }
 abbrev pub fragment_of : ℕ → LspId
 fragment_of n = record { system = system_of n; pseudonode = 0; fragment = 0 }
 
--- A's BFR-id in sub-domain 0 is 1, and its label for bit strings of 64 is 100
+-- A's BFR-id in sub-domain 0 is 1, and its label for BitStrings of 64 bits is 100
 abbrev pub a_info : Info
 a_info = record { sd = 0; id = 1; ranges = record { bsl = B64; max_si = 0; label = 100 } ∷ [] }
 
--- B is reached with the metric 10
+-- B is reachable with the metric 10
 abbrev pub a_reach : Reach
 a_reach = record { neighbour = system_of 2; pseudonode = 0; metric = 10; subs = [] }
 
--- A's prefix 10.0.0.1 of 32 bits, and that sub-TLVs follow
+-- A's prefix 10.0.0.1 of 32 bits, followed by sub-TLVs
 abbrev pub a_prefix : Prefix
 a_prefix = record { metric = 0; control = 96; octets = 10 ∷ 0 ∷ 0 ∷ 1 ∷ []; subs = tlv (info_tlv a_info) }
 
@@ -50,11 +50,11 @@ first_id = record { system = record { 0 = 0 ∷ 0 ∷ 0 ∷ 0 ∷ 0 ∷ 0 ∷ []
 abbrev pub last_id : LspId
 last_id = record { system = record { 0 = 255 ∷ 255 ∷ 255 ∷ 255 ∷ 255 ∷ 255 ∷ [] }; pseudonode = 255; fragment = 255 }
 
--- A's first complete sequence numbers PDU
+-- A's first CSNP
 abbrev pub a_csnp : List ℕ
 a_csnp = 131 ∷ 33 ∷ 1 ∷ 0 ∷ 25 ∷ 1 ∷ 0 ∷ 0 ∷ 0 ∷ 51 ∷ 0 ∷ 0 ∷ 0 ∷ 0 ∷ 0 ∷ 1 ∷ 0 ∷ 0 ∷ 0 ∷ 0 ∷ 0 ∷ 0 ∷ 0 ∷ 0 ∷ 0 ∷ 255 ∷ 255 ∷ 255 ∷ 255 ∷ 255 ∷ 255 ∷ 255 ∷ 255 ∷ 9 ∷ 16 ∷ 4 ∷ 176 ∷ 0 ∷ 0 ∷ 0 ∷ 0 ∷ 0 ∷ 1 ∷ 0 ∷ 0 ∷ 0 ∷ 0 ∷ 0 ∷ 1 ∷ 85 ∷ 78 ∷ []
 
--- a BIER Info of sub-domain 0 and BFR-id 1 with a range for bit strings of 256, and a second sub-sub-TLV
+-- a BIER Info of sub-domain 0 and BFR-id 1 with a range for BitStrings of 256 bits, and a second sub-sub-TLV
 abbrev pub info_with : List ℕ → List ℕ
 info_with second = 0 ∷ 0 ∷ 0 ∷ 0 ∷ 1 ∷ 1 ∷ 4 ∷ 0 ∷ 48 ∷ 0 ∷ 100 ∷ second
 

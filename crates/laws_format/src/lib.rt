@@ -1,5 +1,5 @@
-//! Laws about the formats of IS-IS: what is spelled is read again, what is read is spelled so, one value has one
-//! spelling, and one pair of octets is the checksum. Each function does nothing; its contract is the law.
+//! Laws of the IS-IS formats: an encoded value is parsed again, the encoding of a parsed value is the octets that it was parsed
+//! from, each value has one encoding, and the checksum is unique. Each function does nothing; its contract is the law.
 #![tactic(auto)]
 
 mod checks;

@@ -1,4 +1,4 @@
--- What makes a PDU, an entry of an LSDB and a copy of a packet such that the octets which stand for them are read
+-- The conditions on a PDU, an LSDB entry and a copy of a packet under which the octets that encode them are parsed
 -- again (ISO/IEC 10589, 8.4 and 9.8 to 9.13; RFC 8296, 2).
 use Rattle.std.specs.Prelude.{◌≡◌, ℕ, ◌+◌, ◌*◌, ◌<◌, ◌≤◌, ◌^◌, Bool, List, length, Option, Some, None}
 use Rattle.wire_base.specs.declared.limits.TheConstants.{MOST_CONTENT}
@@ -15,7 +15,7 @@ use Rattle.wire_base.specs.model.Tunnel.{TunnelFits, tunnel}
 
 -- ---- PDUs
 
--- A PDU that a router sends: it is in the grammar, and with the three octets before it it is at most 1,500 long, so that
+-- A PDU that a router sends: it is in the grammar, and with the three octets before it has at most 1,500 octets, so that
 -- the number in the frame is a length (IEEE 802.3, 3.2.6).
 abbrev pub IsSendable : Pdu → Type 0
 IsSendable (LspPdu head tlvs) = LspFits head tlvs × (length tlvs ≤ MOST_CONTENT)
@@ -24,7 +24,7 @@ IsSendable (PsnpPdu source tlvs) = PsnpFits source tlvs × (length tlvs ≤ 1480
 IsSendable HelloPdu = ⊥
 IsSendable (OtherPdu number) = ⊥
 
--- the head of the PDU that an entry is sent as
+-- the header of the PDU in which an entry is sent
 abbrev pub head_of : Entry → Head
 head_of e = record { life = e.life; id = e.id; seq = e.seq; sum = e.sum; flags = e.flags }
 
@@ -33,7 +33,7 @@ pub record EntryFits (e : Entry) : Type 0 where
   pub lsp : LspFits (head_of e) e.content
   pub short : length e.content ≤ MOST_CONTENT
 
--- What a router's fragment 0 is in any LSDB: its own content where some of its ends are up, its own flags, the right
+-- A router's fragment 0 in any LSDB: its own content where some of its interfaces are up, its own flags, the right
 -- checksum, and any sequence number and lifetime.
 pub record IsOwn (r : RouterConf) (up : List Bool) (e : Entry) : Type 0 where
   pub id : e.id ≡ fragment_0 r.system
@@ -43,7 +43,7 @@ pub record IsOwn (r : RouterConf) (up : List Bool) (e : Entry) : Type 0 where
 
 -- ---- copies of packets
 
--- A copy of a packet: its numbers fit their fields, and its BFR-ids, ascending, are those of its set.
+-- A copy of a packet: its numbers fit their fields, and its BFR-ids, ascending, are in its set.
 pub record ItemFits (x : DataItem) : Type 0 where
   pub bift : x.bift < 2 ^ 20
   pub ttl : x.ttl < 2 ^ 8
@@ -51,11 +51,11 @@ pub record ItemFits (x : DataItem) : Type 0 where
   pub bfir : x.bfir < 2 ^ 16
   pub ids : IsWithin (x.triple.si * bits_of x.triple.bsl) (x.triple.si * bits_of x.triple.bsl + bits_of x.triple.bsl) x.ids
 
--- the packet that a copy is
+-- the packet of a copy
 abbrev pub packet_of : DataItem → Packet
 packet_of x = record { triple = x.triple; kind = x.kind; header = item_header x; payload = x.payload }
 
--- the tunnel that a copy is in has room for it, and its numbers fit their fields (RFC 791, 3.1; RFC 2784, 2)
+-- the tunnel of a copy has room for it, and its numbers fit their fields (RFC 791, 3.1; RFC 2784, 2)
 abbrev pub OuterFits : DataItem → Option Outer → Type 0
 OuterFits x None = Unit {0}
 OuterFits x (Some o) = TunnelFits (item_tunnel x o)

@@ -1,5 +1,5 @@
-//! Laws of what is in flight: what the frame of an item carries is read again, in a tunnel or in none, and a router takes it
-//! for what it is. Each function does nothing; its contract is the law.
+//! Laws of items in flight: the content of an item's frame, in a tunnel or not, is parsed again, and a router processes it
+//! accordingly. Each function does nothing; its contract is the law.
 #![tactic(auto)]
 
 mod control;

@@ -1,5 +1,5 @@
--- The ledger of a run: of each injection and each BFR-id, the copies on the way, the deliveries and the drops that it is in
--- (RFC 8279, 6).
+-- The ledger of a run: for each injection and each BFR-id, the copies in flight, the deliveries and the drops that it
+-- is in (RFC 8279, 6).
 --
 -- Injections are numbered from 1, in the order of their events.
 use Rattle.std.specs.Prelude.{◌≡◌, ℕ, zero, suc, ◌+◌, ◌==◌, ◌&&◌, Bool, true, false, List, map, slice_get, sum_by, Option, Some, None, if◌then◌else◌}
@@ -20,7 +20,7 @@ use Rattle.domain_model.specs.Run.{Run}
 
 -- ---- injections
 
--- What enters, and where: the place of the router, the BFR-ids that are named, and what their packets carry.
+-- What is injected, and where: the index of the router, the BFR-ids that are named, and what their packets carry.
 pub record Injection : Type 0 where
   pub router : ℕ
   pub sd : ℕ
@@ -30,7 +30,7 @@ pub record Injection : Type 0 where
   pub entropy : ℕ
   pub payload : List ℕ
 
--- the injection that an event is
+-- the injection of an event, if it is one
 abbrev pub injection_of : Event → Option Injection
 injection_of (Inject a sd bsl ks ttl entropy payload) =
     Some (record { router = a; sd = sd; bsl = bsl; ids = ks; ttl = ttl; entropy = entropy; payload = payload })
@@ -41,11 +41,11 @@ abbrev pub names : Option Injection → ℕ → Bool
 names None k = false
 names (Some i) k = has i.ids k
 
--- the injection of that number, where the event is it and so many were made before
+-- the injection with that number, if the event is it and that many were made before
 abbrev pub entered : ℕ → Event → ℕ → Option Injection
 entered made e n = if made + 1 == n then injection_of e else None
 
--- the element of that number, from 1 on
+-- the element with that number, from 1 on
 abbrev pub numbered : {X : Type 0} → List X → ℕ → Option X
 numbered xs zero = None
 numbered xs (suc n) = slice_get xs n
@@ -54,7 +54,7 @@ numbered xs (suc n) = slice_get xs n
 abbrev pub injections_in : List (ℕ × Event) → List Injection
 injections_in es = filter_map (λ e. injection_of e.1) es
 
--- the injection of that number in a run
+-- the injection with that number in a run
 abbrev pub injected : Run → ℕ → Option Injection
 injected r n = numbered (injections_in r.events) n
 
@@ -65,11 +65,11 @@ abbrev pub carries : ℕ → ℕ → Item → Bool
 carries n k (ControlItem p) = false
 carries n k (PacketItem x) = (x.number == n) && has x.ids k
 
--- added up over all that is on the way
+-- the sum over all that is in flight
 unfoldable pub over_all : (Item → ℕ) → List (List (List Item)) → ℕ
 over_all f flights = sum_by (λ queues. sum_by (λ queue. sum_by f queue) queues) flights
 
--- how many copies of injection n with k in their set are on the way
+-- how many copies of injection n with k in their set are in flight
 abbrev pub copies_of : ℕ → ℕ → List (List (List Item)) → ℕ
 copies_of n k flights = over_all (λ x. one_if (carries n k x)) flights
 
@@ -77,7 +77,7 @@ copies_of n k flights = over_all (λ x. one_if (carries n k x)) flights
 abbrev pub is_got : ℕ → ℕ → GotLine → Bool
 is_got n k g = (g.injection == n) && (g.id == k)
 
--- whether what is dropped has an injection, and of that number
+-- whether what is dropped has an injection with that number
 abbrev pub is_numbered : Option ℕ → ℕ → Bool
 is_numbered None n = false
 is_numbered (Some m) n = m == n
@@ -101,11 +101,11 @@ deliveries n k r = deliveries_of n k (map (λ g. g.1) r.got)
 abbrev pub drops : ℕ → ℕ → Run → ℕ
 drops n k r = drops_of n k (map (λ d. d.1) r.drops)
 
--- the copies of injection n for k on the way, and its deliveries and drops so far
+-- the copies of injection n for k in flight, and its deliveries and drops so far
 abbrev pub ledger : ℕ → ℕ → Run → ℕ
 ledger n k r = copies_of n k r.world.flights + (deliveries n k r + drops n k r)
 
--- One event: the copies of injection n for k before it, and one more where the event is the injection n and names k, are
+-- One event: the copies of injection n for k before it, and one more if the event is the injection n and names k, are
 -- the copies after it and its deliveries and drops of n for k.
 abbrev pub Balances : WorldState → Event → ℕ → ℕ → Type 0
 Balances w e n k =
@@ -113,13 +113,14 @@ Balances w e n k =
     ≡ copies_of n k (happens w e).world.flights
     + (deliveries_of n k (happens w e).made.got + drops_of n k (happens w e).made.drops)
 
--- ---- whose copies and deliveries they are
+-- ---- the injection of copies and deliveries
 
 -- the triple of the packet of an injection that has k
 abbrev pub triple_for : Injection → ℕ → Triple
 triple_for i k = record { sd = i.sd; bsl = i.bsl; si = set_identifier (bits_of i.bsl) k }
 
--- a copy is one of this injection: of its sub-domain, of the set of each BFR-id that it has, with its payload and entropy
+-- a copy is one of this injection: it has its sub-domain, the set of each BFR-id that it has, its payload and its
+-- entropy
 pub record IsCopyOf (i : Injection) (x : DataItem) : Type 0 where
   pub sd : x.triple.sd ≡ i.sd
   pub triple : (k : ℕ) → has x.ids k ≡ true → x.triple ≡ triple_for i k
@@ -137,10 +138,10 @@ abbrev pub IsOneOf : Injection → ℕ → Item → Type 0
 IsOneOf i n (ControlItem p) = Unit {0}
 IsOneOf i n (PacketItem x) = x.number ≡ n → IsCopyOf i x
 
--- all copies of injection n on the way are of that one
+-- all copies of injection n in flight are of that injection
 abbrev pub AreCopiesOf : Injection → ℕ → List (List (List Item)) → Type 0
 AreCopiesOf i n flights = (a link : ℕ) → AllByRecursion (IsOneOf i n) (queue_at flights a link)
 
--- and so are all deliveries of injection n
+-- and all deliveries of injection n are of that injection
 abbrev pub AreDeliveriesOf : List RouterConf → Injection → ℕ → List GotLine → Type 0
 AreDeliveriesOf confs i n gots = AllByRecursion (λ g. g.injection ≡ n → IsDeliveryOf confs i g) gots

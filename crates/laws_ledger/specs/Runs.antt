@@ -1,4 +1,4 @@
--- What every run keeps: its ledger, whose copies and deliveries there are, and how many BFR-ids there are in all.
+-- What is true of every run: its ledger, the injections of its copies and deliveries, and the total number of BFR-ids.
 use Rattle.std.specs.Prelude.{◌≡◌, ℕ, ◌+◌, ◌==◌, ◌&&◌, true, List, [], ◌∷◌, length, map, sum_by, Option, Some, None}
 use Rattle.std.specs.List.{AllByRecursion}
 use Rattle.wire_base.specs.model.Hop.{distinct, one_if, tally}
@@ -12,12 +12,12 @@ use Rattle.domain_model.specs.Run.{Run}
 use Rattle.domain_model.specs.Truth.{EventFits}
 use Rattle.laws_ledger.specs.Ledger.{Injection, injection_of, names, injections_in, injected, ledger, IsCopyOf, IsDeliveryOf}
 
--- each event of a list is allowed in the world that it comes to
+-- each event of a list is allowed in the world that it occurs in
 abbrev pub AreAllowed : WorldState → List Event → Type 0
 AreAllowed w [] = Unit {0}
 AreAllowed w (e ∷ es) = EventFits (length w.domain.routers) e × (event_fault w e ≡ None) × AreAllowed (happens w e).world es
 
--- the events without the numbers of their lines
+-- the events without their line numbers
 abbrev pub unlined : List (ℕ × Event) → List Event
 unlined es = map (λ e. e.1) es
 
@@ -31,11 +31,11 @@ named_in (Some i) = length (distinct i.ids)
 abbrev pub named_total : Run → ℕ
 named_total r = sum_by (λ (e : ℕ × Event). named_in (injection_of e.1)) r.events
 
--- how many its drops list
+-- how many BFR-ids its drops list
 abbrev pub dropped_total : Run → ℕ
 dropped_total r = sum_by (λ d. length d.1.ids) r.drops
 
--- ---- whose they are
+-- ---- the injection of copies and deliveries
 
 -- a copy is one of an injection of the run
 pub record IsCopyIn (r : Run) (x : DataItem) : Type 0 where
@@ -55,9 +55,9 @@ pub record IsDeliveryIn (r : Run) (g : GotLine) : Type 0 where
 
 -- ---- the accounts
 
--- The injections are those among the events. The ledger of an injection and a BFR-id is 1 where the injection names it, and
--- else 0. Each copy on the way and each delivery is one of an injection. All BFR-ids that are named were delivered, were
--- dropped, or are on the way.
+-- The injections are those among the events. The ledger of an injection and a BFR-id is 1 if the injection names it,
+-- and otherwise 0. Each copy in flight and each delivery is one of an injection. All BFR-ids that are named were
+-- delivered, were dropped, or are in flight.
 pub record IsAccounted (r : Run) : Type 0 where
   pub counted : length (injections_in r.events) ≡ r.world.injections
   pub balanced : (n k : ℕ) → ledger n k r ≡ one_if (names (injected r n) k)

@@ -1,4 +1,4 @@
--- How far copies can still go: each take of a copy lowers what the copies of its injection weigh.
+-- How far copies can still go: each `take` of a copy lowers the weight of the copies of its injection.
 use Rattle.std.specs.Prelude.{ℕ, ◌+◌, ◌*◌, ◌==◌, Bool, false, List, [], ◌∷◌, length, slice_get, Option, Some, None, if◌then◌else◌}
 use Rattle.wire_base.specs.model.Hop.{distinct, one_if}
 use Rattle.wire_base.specs.model.Item.{Item, ControlItem, PacketItem, DataItem, Outer}
@@ -10,7 +10,7 @@ use Rattle.laws_ledger.specs.Ledger.{Injection, over_all}
 
 -- ---- weights
 
--- the time to live of a tunnel, 0 where there is none
+-- the TTL of a tunnel, 0 without a tunnel
 abbrev pub outer_left : Option Outer → ℕ
 outer_left None = 0
 outer_left (Some o) = o.ttl
@@ -23,12 +23,12 @@ abbrev pub weight_in : ℕ → Item → ℕ
 weight_in n (ControlItem p) = 0
 weight_in n (PacketItem x) = if x.number == n then weight x else 0
 
--- the weights of all copies of injection n on the way
+-- the weights of all copies of injection n in flight
 abbrev pub weights : ℕ → List (List (List Item)) → ℕ
 weights n flights = over_all (weight_in n) flights
 
--- what the copies of an injection weigh at most, directly after it: each BFR-id that it names has the TTL, and 255 of a
--- tunnel
+-- the greatest weight of the copies of an injection directly after it: each BFR-id that it names has the TTL, and 255
+-- of a tunnel
 abbrev pub first_weight : Injection → ℕ
 first_weight i = length (distinct i.ids) * (256 * i.ttl + 255)
 
@@ -38,7 +38,7 @@ abbrev pub is_of : ℕ → Item → Bool
 is_of n (ControlItem p) = false
 is_of n (PacketItem x) = x.number == n
 
--- how many copies of injection n are on the way
+-- how many copies of injection n are in flight
 abbrev pub copies_in : ℕ → List (List (List Item)) → ℕ
 copies_in n flights = over_all (λ x. one_if (is_of n x)) flights
 
@@ -46,12 +46,12 @@ abbrev pub is_one_of : ℕ → Option Item → Bool
 is_one_of n None = false
 is_one_of n (Some x) = is_of n x
 
--- whether an event takes a copy of injection n
+-- whether an event is a `take` of a copy of injection n
 abbrev pub takes_copy : WorldState → ℕ → Event → Bool
 takes_copy w n (Take a b i) = is_one_of n (slice_get (frames_between w a b) i)
 takes_copy w n e = false
 
--- how many events of a list do
+-- how many events of a list are
 abbrev pub takes_in : ℕ → WorldState → List Event → ℕ
 takes_in n w [] = 0
 takes_in n w (e ∷ es) = one_if (takes_copy w n e) + takes_in n (happens w e).world es

@@ -1,6 +1,6 @@
-//! The ledger of a domain: each BFR-id that an injection names is at every moment of every run in one copy on the way, one
-//! delivery at a router that owns it, or one drop; and each take of a copy lowers what the copies of its injection can still
-//! do. Definitions and laws; no code that runs.
+//! The ledger of a domain. At every moment of every run, each BFR-id that an injection names is in one copy in flight,
+//! one delivery at a router that owns it, or one drop. Each `take` of a copy lowers a bound on how far the copies of
+//! its injection can still go. This crate has definitions and laws only, and no code that runs.
 #![tactic(auto)]
 
 mod events;

@@ -1,4 +1,4 @@
-//! How long copies of an injection can be on the way. The bodies are empty: the contracts are the laws.
+//! How long copies of an injection can be in flight. The bodies are empty: the contracts are the laws.
 ghost use Rattle.std.specs.Prelude.{◌≡◌, ℕ, ◌+◌, ◌<◌, ◌≤◌, Bool, true, List, None, Some, length};
 ghost use Rattle.replay_text.specs.declared.event.Event.{Event};
 ghost use Rattle.domain_model.specs.World.{WorldState};
@@ -10,9 +10,9 @@ ghost use Rattle.laws_ledger.specs.Ledger.{Injection, entered};
 ghost use Rattle.laws_ledger.specs.Runs.{AreAllowed};
 ghost use Rattle.laws_ledger.specs.Weights.{weights, first_weight, copies_in, takes_copy, takes_in};
 
-/// Each take of a copy lowers the weights of its injection's copies, and no event but the injection itself raises them. Directly
-/// after the injection they are at most the number of its BFR-ids times (256 times its TTL plus 255). So after that many takes
-/// of its copies none of them is on the way.
+/// Each `take` of a copy lowers the weights of its injection's copies, and no event but the injection itself raises
+/// them. Directly after the injection they are at most the number of its BFR-ids times (256 times its TTL plus 255). So
+/// after that many `take` events of its copies none of them is in flight.
 pub fn takes_lower_weights()
     ensures first { (w : WorldState) (e : Event) (n : ℕ) (i : Injection) → IsTruthful w → EventFits (length w.domain.routers) e → event_fault w e ≡ None → entered w.injections e n ≡ Some i → weights n (happens w e).world.flights ≤ first_weight i }
     ensures take { (w : WorldState) (e : Event) (n : ℕ) → IsTruthful w → takes_copy w n e ≡ true → weights n (happens w e).world.flights < weights n w.flights }

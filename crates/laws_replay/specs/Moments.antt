@@ -12,34 +12,34 @@ use Rattle.laws_ledger.specs.Runs.{AreAllowed, unlined, IsDeliveryIn, delivered_
 
 -- ---- moments
 
--- A run when its first j events were done. A settle line is many events, so there are moments inside of it too.
+-- A run after its first j events. A settle line is many events, so there are moments inside of it too.
 abbrev pub moment : DomainConf → Run → ℕ → Run
 moment d r j = run_of d (take j r.events)
 
--- whether the injection of that number is among the first j events of a run, and names the BFR-id k
+-- whether the injection with that number is among the first j events of a run, and names the BFR-id k
 abbrev pub is_named : Run → (j n k : ℕ) → Bool
 is_named r j n k = names (numbered (injections_in (take j r.events)) n) k
 
 -- ---- the ledger
 
--- What holds of a run when its first j events were done. The ledger of injection n and the BFR-id k is the number of copies of n
--- on the way that have k, of deliveries of n for k, and of drops of n with k.
+-- What is true of a run after its first j events. The ledger of injection n and the BFR-id k is the number of copies of
+-- n in flight that have k, of deliveries of n for k, and of drops of n with k.
 pub record HasLedger (d : DomainConf) (r : Run) (j : ℕ) : Type 0 where
-  -- each BFR-id that an injection named so far is in one copy, one delivery or one drop, and in no more than that one
+  -- each BFR-id that an injection named so far is in one copy, one delivery or one drop, and in only one of them
   pub named : (n k : ℕ) → is_named r j n k ≡ true → ledger n k (moment d r j) ≡ 1
   -- no other BFR-id is in any
   pub others : (n k : ℕ) → is_named r j n k ≡ false → ledger n k (moment d r j) ≡ 0
   -- each delivery is of an injection so far, with its payload, at a router whose own BFR-id in the injection's sub-domain
   -- is the one that is delivered
   pub owned : AllByRecursion (λ g. IsDeliveryIn (moment d r j) g.1) (moment d r j).got
-  -- each drop has its cause: no row, the TTL, a tunnel's TTL, no route, lost, or a link that is down
+  -- each drop has one of these causes: no row, the TTL, a tunnel's TTL, no route, lost, or a link that is down
   pub causes : AllByRecursion (λ x. IsWorldCause x.1.cause) (moment d r j).drops
 
--- What holds of a run at every moment.
+-- What is true of a run at every moment.
 pub record HasLedgerThroughout (d : DomainConf) (r : Run) : Type 0 where
-  -- each event was allowed where it came
+  -- each event was allowed where it occurred
   pub allowed : AreAllowed (first_world d) (unlined r.events)
-  -- after each number of events the ledger is right
+  -- after each number of events the ledger balances
   pub moments : (j : ℕ) → HasLedger d r j
   -- the last moment is the run
   pub last : moment d r (length r.events) ≡ r
@@ -48,9 +48,9 @@ pub record HasLedgerThroughout (d : DomainConf) (r : Run) : Type 0 where
 
 -- What a run delivered at most once.
 pub record DeliversOnce (r : Run) : Type 0 where
-  -- the router at place a delivers injection n at most once
+  -- the router at index a delivers injection n at most once
   pub egress : (a n : ℕ) → delivered_at a n r ≤ 1
-  -- the BFR-id k of injection n is delivered at most once, also where several routers have it
+  -- the BFR-id k of injection n is delivered at most once, even if several routers have it
   pub id : (n k : ℕ) → deliveries n k r ≤ 1
   -- each delivery is of a BFR-id that its injection names
   pub named : DeliversNamed r

@@ -1,4 +1,4 @@
--- All that is promised of a run in a valid domain, whatever led to it.
+-- All that is promised of a run in a valid domain, for any events.
 use Rattle.std.specs.Prelude.{◌≡◌, ℕ, ◌≤◌, List, [], ◌∷◌, ◌++◌, take, Some}
 use Rattle.wire_base.specs.model.Configuration.{DomainConf, IsValid}
 use Rattle.replay_text.specs.declared.event.Event.{Event}
@@ -19,8 +19,8 @@ LineFits count Empty = Unit {0}
 LineFits count (One e) = EventFits count e
 LineFits count (Settle rounds) = Unit {0}
 
--- Once as many of an injection's copies were taken as its BFR-ids times (256 times its TTL plus 255), none of its copies is in
--- flight: e is injection n, and `after` the events after it up to the moment.
+-- Once there were as many `take` events of an injection's copies as its BFR-ids times (256 times its TTL plus 255),
+-- none of its copies is in flight: e is injection n, and `after` the events after it up to the moment.
 abbrev pub TakesEnd : DomainConf → Run → Type 0
 TakesEnd d r =
     (j : ℕ) (before : List (ℕ × Event)) (e : ℕ × Event) (after : List (ℕ × Event)) (n : ℕ) (i : Injection) → take j r.events ≡ before ++ e ∷ after
@@ -37,9 +37,9 @@ pub record KeepsPromises (d : DomainConf) (r : Run) : Type 0 where
   pub ledger : HasLedgerThroughout d r
   -- the report's lines are the run's deliveries and drops, and the numbers of its last line add up
   pub reported : IsReported d r
-  -- no router delivers an injection twice, no BFR-id is delivered twice, and none that wasn't named
+  -- no router delivers an injection twice, no BFR-id is delivered twice, and none that was not named
   pub delivered_once : DeliversOnce r
-  -- copies don't stay in flight for ever: so many takes end them
+  -- copies do not stay in flight forever: that many `take` events end them
   pub takes_end : TakesEnd d r
   -- a reachable BFR-id is never dropped, and arrives exactly once, while topologies agree, no copy is lost and the TTL covers
   -- its path

@@ -1,4 +1,4 @@
--- What the report on a run says: its lines, and the numbers of its last one.
+-- What the report on a run contains: its lines, and the numbers of its last one.
 use Rattle.std.specs.Prelude.{◌≡◌, ℕ, ◌+◌, List, flat_map, Option, Some, None}
 use Rattle.std.specs.List.{AllByRecursion, filter_map}
 use Rattle.wire_base.specs.declared.conf.RouterConf.{RouterConf}
@@ -12,7 +12,7 @@ use Rattle.domain_replay.specs.Lines.{got_text, drop_text}
 use Rattle.domain_replay.specs.Counting.{counts_of}
 use Rattle.domain_replay.specs.Texts.{run_text}
 
--- A line of a report: a delivery or a drop, with the number of the schedule's line whose event made it.
+-- A line of a report: a delivery or a drop, with the number of the schedule line whose event caused it.
 pub data ReportLine : Type 0 where
   Got : (line : ℕ) (got : GotLine) → ReportLine
   Dropped : (line : ℕ) (dropped : DropLine) → ReportLine
@@ -30,7 +30,7 @@ abbrev pub drop_on : ReportLine → Option (ℕ × DropLine)
 drop_on (Got line got) = None
 drop_on (Dropped line dropped) = Some (line, dropped)
 
--- What the report on a run says.
+-- What the report on a run contains.
 pub record IsReported (d : DomainConf) (r : Run) : Type 0 where
   -- its lines before the last one
   pub lines : List ReportLine
@@ -41,5 +41,5 @@ pub record IsReported (d : DomainConf) (r : Run) : Type 0 where
   -- each `got` line is at a router whose own BFR-id in the injection's sub-domain is the one on the line, with the
   -- injection's payload
   pub owned : AllByRecursion (λ g. IsDeliveryIn r g.1) r.got
-  -- in the numbers of the last line, `named` is `got` and `dropped` and `flight` together
+  -- in the numbers of the last line, `named` is the sum of `got`, `dropped` and `flight`
   pub sums : (counts_of r).named ≡ (counts_of r).got + ((counts_of r).dropped + ids_in_flight r.world.flights)

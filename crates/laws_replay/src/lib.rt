@@ -1,6 +1,6 @@
-//! What holds of the run that a replay does, whatever the lines of its schedule say: it is a run of allowed events, its ledger is
-//! right at every moment, its report says so, and while views agree each reachable BFR-id arrives exactly once. Definitions and
-//! laws; no code that runs.
+//! What is true of the run of a replay, for any lines of its schedule. It is a run of allowed events, its ledger
+//! balances at every moment, and its report matches. While topologies agree, each reachable BFR-id arrives exactly
+//! once. This crate has definitions and laws only, and no code that runs.
 #![tactic(auto)]
 
 mod paths;

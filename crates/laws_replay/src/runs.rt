@@ -1,4 +1,4 @@
-//! What holds of the run that the lines of a schedule lead to. The bodies are empty: the contracts are the laws.
+//! What is true of the run that the lines of a schedule lead to. The bodies are empty: the contracts are the laws.
 ghost use Rattle.std.specs.Prelude.{ℕ, List, length};
 ghost use Rattle.std.specs.List.{AllByRecursion};
 ghost use Rattle.wire_base.specs.model.Configuration.{DomainConf, IsValid};
@@ -7,11 +7,12 @@ ghost use Rattle.domain_model.specs.Run.{schedule_done};
 ghost use Rattle.domain_replay.specs.Texts.{schedule_reaches};
 ghost use Rattle.laws_replay.specs.Promises.{KeepsPromises, LineFits};
 
-/// In a valid domain, whatever the lines of the schedule contain and wherever one is rejected: at every moment of the run each BFR-id
-/// that an injection names is in one copy, one delivery or one drop; the report says the run's deliveries and drops, and its numbers
-/// add up; nothing is delivered twice; an injection's copies are gone after so many takes; and a BFR-id that is reachable, while
-/// topologies agree, no copy is lost and the TTL covers its path, is never dropped, and once no copy of the injection is in flight it
-/// was delivered exactly once. No tunnel is too long, since a domain has at most 250 routers.
+/// In a valid domain, for any lines of the schedule and wherever one is rejected: at every moment of the run each
+/// BFR-id that an injection names is in one copy, one delivery or one drop. The report has the run's deliveries and
+/// drops, and its numbers add up. Nothing is delivered twice. An injection's copies are gone after a bounded number of
+/// `take` events. A BFR-id that is reachable, while topologies agree, no copy is lost and the TTL covers its path, is
+/// never dropped, and once no copy of the injection is in flight it was delivered exactly once. No tunnel is too long,
+/// since a domain has at most 250 routers.
 pub fn replays_keep_promises()
     ensures read { (d : DomainConf) (lines : List (List ℕ)) → IsValid d → KeepsPromises d (schedule_reaches d lines).run }
     ensures made { (d : DomainConf) (lines : List Line) → IsValid d → AllByRecursion (LineFits (length d.routers)) lines → KeepsPromises d (schedule_done d lines).run }

@@ -1,4 +1,4 @@
--- Bounds on a length that may be none.
+-- Bounds on an optional length.
 use Rattle.std.specs.Prelude.{ℕ, ◌≤◌, Option, Some, None}
 
 -- there is a length, at most n

@@ -1,5 +1,5 @@
--- Small domains, on which the definitions are tried. All have sub-domain 0 with labels, bit strings of 64 bits, and metrics
--- of 10 where nothing else is said; a node's place is one less than the last octet of its system.
+-- Small domains on which the definitions are tested. All have MPLS sub-domain 0, BitStrings of 64 bits, and metrics
+-- of 10 unless stated otherwise; a node's index is one less than the last octet of its system ID.
 use Rattle.std.specs.Prelude.{ℕ, ◌*◌, ◌==◌, Bool, true, false, List, [], ◌∷◌, Option, Some, None, if◌then◌else◌}
 use Rattle.wire_base.specs.declared.bsl.Bsl.TheVariants.{B64}
 use Rattle.wire_base.specs.declared.conf.Kind.TheVariants.{Mpls}
@@ -13,7 +13,7 @@ use Rattle.wire_base.specs.model.Graph.{covers_at}
 abbrev pub edge : ℕ → ℕ → ViewEdge
 edge to metric = record { to = to; metric = metric }
 
--- a router's place in sub-domain 0, with labels from a hundred times its BFR-id on
+-- a router's membership of sub-domain 0, with labels from a hundred times its BFR-id on
 abbrev pub sub : ℕ → ViewSub
 sub id = record {
   sd = 0;
@@ -52,7 +52,7 @@ ring =
     ∷ node 4 false (edge 0 10 ∷ edge 2 10 ∷ []) (sub 4 ∷ [])
     ∷ []
 
--- A, behind it a router P that doesn't know BIER, and behind that C and D
+-- A, beyond it a non-BFR P, and beyond that C and D
 abbrev pub fork : List ViewNode
 fork =
     node 1 false (edge 1 10 ∷ []) (sub 1 ∷ [])
@@ -61,7 +61,7 @@ fork =
     ∷ node 4 false (edge 1 10 ∷ []) (sub 4 ∷ [])
     ∷ []
 
--- A, a router with its overload bit set B, and C
+-- A, B with its overload bit set, and C
 abbrev pub line : List ViewNode
 line =
     node 1 false (edge 1 10 ∷ []) (sub 1 ∷ [])
@@ -69,7 +69,7 @@ line =
     ∷ node 3 false (edge 1 10 ∷ []) (sub 3 ∷ [])
     ∷ []
 
--- from A to B an edge of metric 10, and by C two of metric 5; A has an edge to itself as well
+-- from A to B an edge of metric 10, and via C two of metric 5; A has an edge to itself as well
 abbrev pub tie : List ViewNode
 tie =
     node 1 false (edge 0 1 ∷ edge 1 10 ∷ edge 2 5 ∷ []) (sub 1 ∷ [])
@@ -81,6 +81,6 @@ tie =
 abbrev pub one_way : List ViewNode
 one_way = node 1 false (edge 1 10 ∷ []) (sub 1 ∷ []) ∷ node 2 false [] (sub 1 ∷ []) ∷ []
 
--- 2 and 3 are sent to node 7, 4 to node 8, and nothing else has a choice
+-- 2 and 3 are sent to node 7, 4 to node 8, and no other id has a choice
 abbrev pub to_two : ℕ → Option ℕ
 to_two k = if k == 2 then Some 7 else if k == 3 then Some 7 else if k == 4 then Some 8 else None

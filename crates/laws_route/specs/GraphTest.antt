@@ -1,4 +1,4 @@
--- What a view keeps, as a test that computes.
+-- The invariant of a view, as a computable test.
 use Rattle.std.specs.Prelude.{ℕ, ◌==◌, ◌&&◌, ◌||◌, ◌^◌, not, nat_lt, nat_le, Bool, true, List, [], ◌∷◌, length}
 use Rattle.std.specs.List.{list_all}
 use Rattle.wire_base.specs.declared.view.ViewEdge.{ViewEdge}

@@ -3,7 +3,7 @@ use Rattle.std.specs.Prelude.{◌≡◌, ℕ, ◌<◌, List, Some}
 use Rattle.wire_base.specs.declared.view.ViewNode.{ViewNode}
 use Rattle.wire_base.specs.model.Walk.{dist}
 
--- walks lead to d from both, and x is nearer than u
+-- both reach d, and x is nearer than u
 pub record Nearer (g : List ViewNode) (d u x : ℕ) : Type 0 where
   pub far : ℕ
   pub near : ℕ

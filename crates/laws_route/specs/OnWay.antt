@@ -3,7 +3,7 @@ use Rattle.std.specs.Prelude.{◌≡◌, ℕ, ◌+◌, List, Some}
 use Rattle.wire_base.specs.declared.view.ViewNode.{ViewNode}
 use Rattle.wire_base.specs.model.Walk.{dist}
 
--- the distances from u to x and from x to d make up the distance from u to d
+-- the distances from u to x and from x to d add up to the distance from u to d
 pub record IsOnWay (g : List ViewNode) (u x d : ℕ) : Type 0 where
   pub before : ℕ
   pub after : ℕ

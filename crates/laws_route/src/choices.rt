@@ -10,17 +10,18 @@ ghost use Rattle.wire_base.specs.model.Choice.{choose};
 ghost use Rattle.wire_base.specs.model.HopCount.{tunnel_links};
 ghost use Rattle.laws_route.specs.Descends.{Descends};
 
-/// The list of the first supporting routers has just these.
+/// The list of the BFR-NBRs has exactly these elements.
 pub fn firsts_are_listed()
     ensures { (g : List ViewNode) (c : ℕ → Bool) (d u x : ℕ) → IsGraph g → u < length g → (Contains (firsts g c d u) x ↔ IsFirst g c d u x) }
 {}
 
-/// The router to which a bit is sent is nearer to the bit's owner, and sends it on unless it is the owner.
+/// The router to which a bit is sent is nearer to the bit's owner, and forwards it unless it is the owner.
 pub fn descent()
     ensures { (g : List ViewNode) (kinds : List SubKind) (table : List TableRow) (t : Triple) (class k u x : ℕ) → IsGraph g → u < length g → choose g kinds table t class u k ≡ Some x → Descends g kinds table t class k u x }
 {}
 
-/// Where a walk leads from u to x, the tight steps of least system lead there too, over fewer links than there are nodes.
+/// If there is a path from u to x, then the tight steps with the least system ID lead there too, over fewer links than there
+/// are nodes.
 pub fn tunnels_arrive()
     ensures { (g : List ViewNode) (u x n : ℕ) → IsGraph g → u < length g → dist g u x ≡ Some n → (h : ℕ) × (tunnel_links g x u ≡ Some h) × (h < length g) }
 {}

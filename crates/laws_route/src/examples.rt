@@ -8,7 +8,7 @@ ghost use Rattle.wire_base.specs.model.HopCount.{hops, tunnel_links};
 ghost use Rattle.wire_base.specs.model.Hop.{hop, Local, Copy, Expired, NoRow};
 ghost use Rattle.laws_route.specs.Examples.{ring, fork, line, tie, one_way, to_two, supports, kinds, triple};
 
-/// In the ring A reaches C over B and over D, at distance 20, and both are first routers; entropy picks one of them.
+/// In the ring A reaches C over B and over D at cost 20. Both are BFR-NBRs; the entropy selects one of them.
 #[tactic(auto, unfolding(wire_base::specs::model::Walk::dist, wire_base::specs::model::Graph::owner, wire_base::specs::model::Graph::covers, wire_base::specs::model::Tight::tight_from, wire_base::specs::model::Supporting::firsts, wire_base::specs::model::Choice::candidates, wire_base::specs::model::Choice::choice, wire_base::specs::model::Choice::is_direct, wire_base::specs::model::HopCount::hops))]
 pub fn ring_has_two_ways()
     ensures distance { dist ring 0 2 ≡ Some 20 }
@@ -21,7 +21,7 @@ pub fn ring_has_two_ways()
     ensures hops { hops ring kinds [] triple 1 3 0 ≡ Some 2 }
 {}
 
-/// In the fork the first supporting router toward C lies behind a router without BIER, so a tunnel leads to it.
+/// In the fork the BFR-NBR toward C is beyond a non-BFR, so a tunnel leads to it.
 #[tactic(auto, unfolding(wire_base::specs::model::Walk::dist, wire_base::specs::model::Graph::owner, wire_base::specs::model::Graph::covers, wire_base::specs::model::Tight::tight_from, wire_base::specs::model::Tight::next_step, wire_base::specs::model::Supporting::firsts, wire_base::specs::model::Choice::candidates, wire_base::specs::model::Choice::choice, wire_base::specs::model::Choice::is_direct, wire_base::specs::model::HopCount::hops, wire_base::specs::model::HopCount::tunnel_links))]
 pub fn fork_needs_a_tunnel()
     ensures firsts { firsts fork (supports fork) 2 0 ≡ 2 ∷ [] }
@@ -32,7 +32,7 @@ pub fn fork_needs_a_tunnel()
     ensures hops { hops fork kinds [] triple 5 3 0 ≡ Some 1 }
 {}
 
-/// In the line no walk passes the router with its overload bit set, and walks end there and begin there.
+/// In the line no path goes through the router with its overload bit set, but paths may end and begin there.
 #[tactic(auto, unfolding(wire_base::specs::model::Walk::dist, wire_base::specs::model::Graph::owner, wire_base::specs::model::Graph::covers, wire_base::specs::model::Tight::tight_from, wire_base::specs::model::Supporting::firsts, wire_base::specs::model::Choice::candidates, wire_base::specs::model::Choice::choice, wire_base::specs::model::HopCount::hops))]
 pub fn line_is_not_passed()
     ensures over { dist line 0 2 ≡ None }
@@ -44,7 +44,7 @@ pub fn line_is_not_passed()
     ensures own { hops line kinds [] triple 0 1 0 ≡ Some 0 }
 {}
 
-/// Ways of equal length tie whatever their number of edges, and an edge from a router to itself changes nothing.
+/// Paths of equal cost tie whatever their number of edges, and an edge from a router to itself has no effect.
 #[tactic(auto, unfolding(wire_base::specs::model::Walk::dist, wire_base::specs::model::Graph::owner, wire_base::specs::model::Graph::covers, wire_base::specs::model::Tight::tight_from, wire_base::specs::model::Supporting::firsts, wire_base::specs::model::Choice::candidates))]
 pub fn equal_lengths_tie()
     ensures distance { dist tie 0 1 ≡ Some 10 }
@@ -52,7 +52,7 @@ pub fn equal_lengths_tie()
     ensures itself { candidates tie (supports tie) 0 0 ≡ [] }
 {}
 
-/// An edge leads one way alone, and a BFR-id that two routers have has no owner.
+/// An edge leads in one direction only, and a BFR-id that two routers have has no owner.
 #[tactic(auto, unfolding(wire_base::specs::model::Walk::dist, wire_base::specs::model::Graph::owner))]
 pub fn edges_lead_one_way()
     ensures there { dist one_way 0 1 ≡ Some 10 }
@@ -68,7 +68,7 @@ pub fn outcomes_in_order()
     ensures ended { hop (Some 1) to_two (1 ∷ 2 ∷ 9 ∷ []) 0 ≡ Expired (1 ∷ 2 ∷ 9 ∷ []) ∷ [] }
 {}
 
-/// All that a view keeps holds of the examples.
+/// The examples satisfy the invariant of views.
 pub fn examples_are_views()
     ensures ring { IsGraph ring }
     ensures fork { IsGraph fork }

@@ -1,5 +1,5 @@
-//! Laws of the routes of a view, as functions that compute nothing: what each ensures is proved of the definitions of
-//! `wire_base`. The crates above cite the lemmas behind them.
+//! Laws of routes in a topology. The functions compute nothing: what each ensures is proved about the definitions of
+//! `wire_base`. The crates above use the underlying lemmas.
 #![tactic(auto)]
 
 mod choices;

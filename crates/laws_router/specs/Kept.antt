@@ -1,5 +1,5 @@
--- What every event keeps of flags and LSDB: flags at links that are up alone, and at entries that are there; contents
--- that fit a frame; and the router's own LSP, live (ISO/IEC 10589, 7.3.15 and 7.3.16).
+-- What every event preserves of the flags and the LSDB. Flags are only at links that are up and at entries that exist.
+-- Contents fit a frame. The router's own LSP is live (ISO/IEC 10589, 7.3.15 and 7.3.16).
 use Rattle.std.specs.Prelude.{◌≡◌, ◌<◌, Bool, false, List, Some}
 use Rattle.std.specs.List.{AllByRecursion}
 use Rattle.wire_base.specs.declared.addresses.SystemId.{SystemId}
@@ -7,7 +7,7 @@ use Rattle.wire_base.specs.declared.entry.Entry.{Entry}
 use Rattle.wire_base.specs.model.Control.{fragment_0, entry_in, Flood, IsFlood, HasEntry}
 use Rattle.laws_router.specs.State.{IsShort}
 
--- the own LSP is there, and isn't yet to be issued anew
+-- the own LSP is in the LSDB, and is not yet due for a refresh
 abbrev pub OwnStands : SystemId → List Entry → Type 0
 OwnStands own entries = (e : Entry) × ((entry_in entries (fragment_0 own) ≡ Some e) × (300 < e.life))
 

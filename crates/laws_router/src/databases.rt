@@ -1,4 +1,5 @@
-//! What events keep of an LSDB and its flags. The bodies are empty: the contracts are the laws.
+//! The invariants of an LSDB and its flags that every event preserves. The bodies are empty: the contracts are the
+//! laws.
 ghost use Rattle.std.specs.Prelude.{◌≡◌, ℕ, ◌≤◌, ◌<◌, [], Bool, List, true, false, length, set, slice_index_or};
 ghost use Rattle.std.specs.List.{filter_map, fold};
 ghost use Rattle.wire_base.specs.declared.addresses.SystemId.{SystemId};
@@ -11,8 +12,9 @@ ghost use Rattle.wire_base.specs.model.Pdu.{Head};
 ghost use Rattle.laws_router.specs.State.{IsShort};
 ghost use Rattle.laws_router.specs.Kept.{Kept};
 
-/// What is kept of an LSDB holds of an empty one, and stays true when a link comes up or goes down, when what is due is sent,
-/// when the router issues its LSP, and when a second passes, which may spend the router's own.
+/// The LSDB invariant holds for an empty LSDB. It is preserved when a link comes up or goes down, when the frames that
+/// are due are sent, when the router originates its LSP, and when a second passes, which may exhaust the router's own
+/// sequence numbers.
 pub fn a_database_is_kept()
     ensures new { (own : SystemId) (up : List Bool) → length up ≤ 64 → Kept own up true (new_flood own up) [] }
     ensures up { (own : SystemId) (up : List Bool) (spent : Bool) (f : Flood) (es : List Entry) (link : ℕ) → Kept own up spent f es → link < length up → Kept own (set up link true) spent (link_up f es link) es }
@@ -22,7 +24,7 @@ pub fn a_database_is_kept()
     ensures second { (own : SystemId) (up : List Bool) (spent : Bool) (f : Flood) (es : List Entry) → Kept own up spent f es → Kept own up true (fold flood_aged f es) (filter_map after_second es) }
 {}
 
-/// It stays true when a PDU is taken at a link that is up (ISO/IEC 10589, 7.3.15).
+/// The LSDB invariant is preserved when a PDU is received on a link that is up (ISO/IEC 10589, 7.3.15).
 pub fn a_database_keeps_what_it_takes()
     ensures lsp { (own : SystemId) (up : List Bool) (spent : Bool) (f : Flood) (es : List Entry) → Kept own up spent f es → (link : ℕ) → slice_index_or up link false ≡ true → (h : Head) (tlvs : List ℕ) → length tlvs ≤ MOST_CONTENT → Kept own up spent (on_lsp f es link h tlvs spent).flood (on_lsp f es link h tlvs spent).entries }
     ensures csnp { (own : SystemId) (up : List Bool) (spent : Bool) (link : ℕ) → slice_index_or up link false ≡ true → (f : Flood) (es : List Entry) (start last : LspId) (tlvs : List ℕ) → Kept own up spent f es → Kept own up spent (on_csnp f es link start last tlvs spent).flood (on_csnp f es link start last tlvs spent).entries }

@@ -1,5 +1,6 @@
-//! What a router's control state is to contracts, and what each event keeps of its flags and its LSDB. Definitions and laws;
-//! no code that runs. The model of a domain stands on it, and so does the router itself.
+//! The control state of a router as contracts see it, and what each event preserves of its flags and its LSDB. This
+//! crate has definitions and laws only, and no code that runs. Both the model of a domain and the router itself depend
+//! on it.
 #![tactic(auto)]
 
 mod databases;

@@ -10,6 +10,6 @@ entry label = record { value = label.value; tc = label.tc; ttl = label.ttl }
 abbrev pub entries : List Label → List LabelEntry
 entries labels = map entry labels
 
--- the entries of a stack that was read, and the octets after it
+-- the parsed entries of a stack, and the octets after it
 abbrev pub read_entries : List ℕ → ArrayVec Label 8 (Unit {0}) → List LabelEntry × List ℕ
 read_entries bytes labels = (entries labels.items, drop (4 * length labels.items) bytes)

@@ -10,18 +10,18 @@ use byteorder::{BigEndian, ByteOrder};
 use wire_base::ethernet::{BIER_TYPE, FRAME_HEAD, IP_TYPE, MPLS_TYPE};
 use wire_base::{FrameFault, Mac};
 
-/// The header of the logical link control before a PDU of IS-IS (ISO/IEC 8802-2, 5).
+/// The length of the LLC header before an IS-IS PDU (ISO/IEC 8802-2, 5).
 const ISIS_HEAD: usize = 3;
 
-/// The largest number in octets 13 and 14 that is a length (IEEE 802.3, 3.2.6).
+/// The largest value of octets 13 and 14 that is a length (IEEE 802.3, 3.2.6).
 const MOST_LENGTH: u16 = 1500;
 
-/// What a frame carries, and where: octets `from` up to before `to`, counted from 0, or from `from` to the end.
+/// The content of a frame, and its range: octets `from` up to before `to`, counted from 0, or `from` to the end.
 #[derive(Clone, Copy, Debug, PartialEq, Eq)]
 pub enum Class {
-    /// A PDU of IS-IS (ISO/IEC 10589, 9).
+    /// An IS-IS PDU (ISO/IEC 10589, 9).
     Isis { from: usize, to: usize },
-    /// A packet behind MPLS labels (RFC 3032, 3.3).
+    /// A packet with MPLS labels (RFC 3032, 3.3).
     Mpls { from: usize },
     /// A BIER packet without MPLS (RFC 8296, 3).
     Bier { from: usize },
@@ -31,9 +31,9 @@ pub enum Class {
     Other,
 }
 
-/// The class of a frame. Destinations aren't tested, and octets behind those that a length counts are padding.
+/// Returns the class of a frame. Destination addresses are not tested, and octets beyond a length are padding.
 ///
-/// Refuses, in this order: 1 Short, fewer than 14 octets; 2 Length, a length above the octets that follow it.
+/// Errors, in this order: 1 Short, fewer than 14 octets; 2 Length, a length that exceeds the octets after it.
 pub fn classify(frame: &[u8]) -> Result<Class, FrameFault>
     ensures exact { Gives (carried frame.now) result (frame_at frame.now) }
     ensures places { IfOk result (HasPlaces (length frame.now)) }
@@ -43,7 +43,7 @@ pub fn classify(frame: &[u8]) -> Result<Class, FrameFault>
     class_of(frame)
 }
 
-/// The class of a frame, by the same rules.
+/// Returns the class of a frame, by the same rules.
 #[tactic(auto, unfolding(wire_base::specs::model::Ethernet::frame_at))]
 fn class_of(frame: &[u8]) -> Result<Class, FrameFault>
     ensures exact { Gives (carried frame.now) result (frame_at frame.now) }
@@ -74,7 +74,7 @@ fn class_of(frame: &[u8]) -> Result<Class, FrameFault>
     Ok(Class::Other)
 }
 
-/// Whether octets begin as IS-IS does.
+/// Returns whether octets begin with the LLC header of IS-IS.
 fn is_isis(octets: &[u8]) -> bool
     ensures value { result ≡ begins_isis octets.now }
     ensures long { IsTrue result → 3 ≤ length octets.now }
@@ -82,7 +82,7 @@ fn is_isis(octets: &[u8]) -> bool
     octets.len() >= ISIS_HEAD && octets[0] == 0xfe && octets[1] == 0xfe && octets[2] == 3
 }
 
-/// The source address of a frame of at least 12 octets.
+/// Returns the source address of a frame of at least 12 octets.
 pub fn source_of(frame: &[u8]) -> Mac
     requires { 12 ≤ length frame.now }
     ensures { result.0 ≡ source_at frame.now }
@@ -92,7 +92,7 @@ pub fn source_of(frame: &[u8]) -> Mac
     Mac(source)
 }
 
-/// Writes the first 14 octets of a frame: the addresses, and a length or a type.
+/// Writes the Ethernet header, the first 14 octets of a frame: the addresses, and a length or an EtherType.
 pub fn write_eth(out: &mut [u8], to: Mac, from: Mac, number: u16)
     requires { 14 ≤ length out.old }
     ensures written { out.new ≡ ethernet to.0 from.0 number ++ drop 14 out.old }
@@ -102,7 +102,7 @@ pub fn write_eth(out: &mut [u8], to: Mac, from: Mac, number: u16)
     out[..FRAME_HEAD].copy_from_slice(head(to, from, number).as_slice());
 }
 
-/// The first 14 octets of a frame.
+/// Returns the first 14 octets of a frame.
 fn head(to: Mac, from: Mac, number: u16) -> ArrayVec<u8, FRAME_HEAD>
     ensures items { result.items ≡ ethernet to.0 from.0 number }
     ensures len { length result.items ≡ 14 }
@@ -116,7 +116,7 @@ fn head(to: Mac, from: Mac, number: u16) -> ArrayVec<u8, FRAME_HEAD>
     octets
 }
 
-/// Appends octets for which there is room.
+/// Appends octets. Precondition: there is room for them.
 fn put<const N: usize>(octets: &mut ArrayVec<u8, N>, more: &[u8])
     requires { array_vec_len octets.old + length more.now ≤ N }
     ensures items { octets.new.items ≡ octets.old.items ++ more.now }

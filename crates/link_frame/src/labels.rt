@@ -8,10 +8,10 @@ use arrayvec::ArrayVec;
 use wire_base::StackFault;
 use wire_base::fields::read_u32;
 
-/// How many entries of a stack are looked at.
+/// The maximum number of label stack entries that are read.
 const MOST_LABELS: usize = 8;
 
-/// An entry of a label stack: the label's value of 20 bits, the traffic class of three, and the TTL.
+/// A label stack entry: the label value of 20 bits, the traffic class of three, and the TTL.
 #[derive(Clone, Copy, Debug, Default, PartialEq, Eq)]
 pub struct Label {
     pub value: u32,
@@ -19,7 +19,7 @@ pub struct Label {
     pub ttl: u8,
 }
 
-/// The entry that a word spells.
+/// Decodes a label stack entry.
 fn label_from(word: u32) -> Label
     ensures { entry result ≡ entry_of word }
 {
@@ -30,10 +30,10 @@ fn label_from(word: u32) -> Label
     }
 }
 
-/// The entries of the stack at the front of the octets, from the top down to the bottom, which is the first one whose
-/// S bit is 1. Octets after it aren't looked at.
+/// Reads the label stack at the start of the octets, from the top to the bottom, which is the first entry whose S bit is 1.
+/// Octets after it are not read.
 ///
-/// Refuses, in this order: 1 NoBottom, the octets end before the bottom and before eight whole entries; 2 Deep,
+/// Errors, in this order: 1 NoBottom, the octets end before the bottom and before eight complete entries; 2 Deep,
 /// none of the first eight entries is the bottom.
 pub fn read_stack(bytes: &[u8]) -> Result<ArrayVec<Label, 8>, StackFault>
     ensures exact { Gives (read_entries bytes.now) result (stack_at 8 bytes.now) }
@@ -44,7 +44,7 @@ pub fn read_stack(bytes: &[u8]) -> Result<ArrayVec<Label, 8>, StackFault>
     stack_of(bytes)
 }
 
-/// The entries, by the same rules.
+/// Reads the entries, by the same rules.
 fn stack_of(bytes: &[u8]) -> Result<ArrayVec<Label, 8>, StackFault>
     ensures exact { Gives (read_entries bytes.now) result (stack_at 8 bytes.now) }
 {

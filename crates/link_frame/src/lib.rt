@@ -1,6 +1,7 @@
-//! Ethernet frames and MPLS label stacks: what a frame carries, the labels of a stack, the first 14 octets of a frame.
+//! Ethernet frames and MPLS label stacks: the content of a frame, the labels of a stack, and the Ethernet header.
 //!
-//! It stands on `wire_base` alone, and promises the class of a frame and where its content stands, or the first broken rule.
+//! This crate depends only on `wire_base`. For any octets it returns the class of the frame and the range of its content, or the
+//! first broken rule.
 #![tactic(auto)]
 
 mod frame;

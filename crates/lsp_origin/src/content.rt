@@ -12,7 +12,7 @@ use wire_base::codepoints::{
 };
 use wire_base::{M, Octets, RouterConf};
 
-/// A TLV 1 with one area address (ISO/IEC 10589, 9.8).
+/// Appends a TLV 1 with one area address (ISO/IEC 10589, 9.8).
 fn append_area(out: &mut Octets, area: &[u8]) -> M<()>
     requires { length area.now ≤ 13 }
     ensures { OnOk result (out.new ≡ out.old ++ tlv (area_tlv area.now)) }
@@ -21,7 +21,7 @@ fn append_area(out: &mut Octets, area: &[u8]) -> M<()>
     out.append_two(&[TLV_AREA_ADDRESSES, size + 1, size], area)
 }
 
-/// What the router is: its area, its protocols and its name (RFC 1195, 5.3; RFC 5301, 3).
+/// Appends the router's area, protocols and name (RFC 1195, 5.3; RFC 5301, 3).
 fn append_identity(out: &mut Octets, conf: &RouterConf) -> M<()>
     requires { IsSound conf.now }
     ensures { OnOk result (out.new ≡ out.old ++ (tlv (area_tlv conf.now.area) ++ (tlv protocols_tlv ++ tlv (name_tlv conf.now.name)))) }
@@ -31,7 +31,7 @@ fn append_identity(out: &mut Octets, conf: &RouterConf) -> M<()>
     push_tlv(out, TLV_DYNAMIC_HOSTNAME, conf.name.as_slice())
 }
 
-/// The TLVs of the router's own LSP, where those ends are up.
+/// Returns the TLVs of the router's own LSP, for those interfaces that are up.
 pub(crate) fn own_content(alloc: Global, conf: &RouterConf, up: &[bool]) -> M<Octets>
     requires sound { IsSound conf.now }
     requires up { length up.now ≡ length conf.now.ends }

@@ -1,7 +1,7 @@
-//! The LSP that a router issues of itself: fragment 0 with its area, its name, its links and its places in
-//! BIER sub-domains (ISO/IEC 10589, 7.3.7; RFC 5301; RFC 5305; RFC 8401).
+//! The LSP that a router originates: fragment 0 with its area, its name, its links and its BIER sub-domains
+//! (ISO/IEC 10589, 7.3.7; RFC 5301; RFC 5305; RFC 8401).
 //!
-//! It stands on the codecs, and promises the own LSP octet by octet, with its checksum.
+//! This crate depends on the codecs. Its contracts specify the own LSP octet by octet, with its checksum.
 #![tactic(auto)]
 
 mod content;

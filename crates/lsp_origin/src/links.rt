@@ -9,10 +9,10 @@ use std::alloc::Global;
 use wire_base::codepoints::TLV_EXTENDED_IS_REACH;
 use wire_base::{End, M, Octets, Rows};
 
-/// How many links find room in a TLV.
+/// The maximum number of links in a TLV.
 const MOST_IN_TLV: usize = 23;
 
-/// The ends that are up, in order.
+/// Returns the interfaces that are up, in order.
 fn up_ends(alloc: Global, ends: &[End], up: &[bool]) -> M<Rows<End>>
     requires { length up.now ≡ length ends.now }
     ensures { IfOk result (λ rows. rows ≡ picked up.now ends.now) }
@@ -26,7 +26,7 @@ fn up_ends(alloc: Global, ends: &[End], up: &[bool]) -> M<Rows<End>>
     Ok(rows)
 }
 
-/// An entry for each of those ends.
+/// Appends an entry for each of those interfaces.
 fn append_ends(out: &mut Octets, ends: &[End]) -> M<()>
     requires { AllByRecursion IsEnd ends.now }
     ensures { OnOk result (out.new ≡ out.old ++ flat_map (λ e. reach (reach_of e)) ends.now) }
@@ -43,7 +43,7 @@ fn append_ends(out: &mut Octets, ends: &[End]) -> M<()>
     Ok(())
 }
 
-/// A TLV 22 with those ends.
+/// Appends a TLV 22 with those interfaces.
 fn append_block(out: &mut Octets, ends: &[End]) -> M<()>
     requires few { length ends.now ≤ 23 }
     requires ends { AllByRecursion IsEnd ends.now }
@@ -53,7 +53,7 @@ fn append_block(out: &mut Octets, ends: &[End]) -> M<()>
     append_ends(out, ends)
 }
 
-/// Those ends in TLVs 22, full ones first.
+/// Appends those interfaces in TLVs 22, full ones first.
 fn append_blocks(out: &mut Octets, ends: &[End]) -> M<()>
     requires { AllByRecursion IsEnd ends.now }
     ensures { OnOk result (out.new ≡ out.old ++ flat_map tlv (reach_tlvs ends.now)) }
@@ -67,7 +67,7 @@ fn append_blocks(out: &mut Octets, ends: &[End]) -> M<()>
     Ok(())
 }
 
-/// The links that are up (RFC 5305, 3).
+/// Appends the links that are up (RFC 5305, 3).
 pub(crate) fn append_links(alloc: Global, out: &mut Octets, ends: &[End], up: &[bool]) -> M<()>
     requires up { length up.now ≡ length ends.now }
     requires ends { AllByRecursion IsEnd ends.now }

@@ -9,10 +9,10 @@ use std::alloc::Global;
 use wire_base::limits::FULL_LIFE;
 use wire_base::{Entry, Level, LspId, M, Octets, RouterConf};
 
-/// Where the checksum stands among the octets that it covers.
+/// The index of the checksum in the octets that it covers.
 const SUM_AT: usize = 12;
 
-/// The type of the system, and whether it has its overload bit set (ISO/IEC 10589, 9.8).
+/// Returns the flags octet: the IS type, and the overload bit if it is set (ISO/IEC 10589, 9.8).
 fn own_flags(conf: &RouterConf) -> u8
     ensures { result ≡ own_flags conf.now }
 {
@@ -23,7 +23,7 @@ fn own_flags(conf: &RouterConf) -> u8
     if conf.overload { level + 4 } else { level }
 }
 
-/// The octets that the checksum covers, with 0 for itself: all from the identifier on (ISO/IEC 10589, 7.3.11).
+/// Returns the octets that the checksum covers, from the LSP ID on, with 0 as the checksum (ISO/IEC 10589, 7.3.11).
 fn covered(alloc: Global, conf: &RouterConf, seq: u32, content: &[u8]) -> M<Octets>
     ensures { IfOk result (λ o. o ≡ lsp_covered (own_head conf.now seq) content.now) }
 {
@@ -34,7 +34,7 @@ fn covered(alloc: Global, conf: &RouterConf, seq: u32, content: &[u8]) -> M<Octe
     Ok(octets)
 }
 
-/// The checksum of the router's own LSP.
+/// Returns the checksum of the router's own LSP.
 fn own_sum(alloc: Global, conf: &RouterConf, seq: u32, content: &[u8]) -> M<u16>
     requires sound { IsSound conf.now }
     requires short { length content.now ≤ 1200 }
@@ -44,9 +44,9 @@ fn own_sum(alloc: Global, conf: &RouterConf, seq: u32, content: &[u8]) -> M<u16>
     Ok(checksum_at(octets.as_slice(), SUM_AT))
 }
 
-/// The router's own LSP of a sequence number, where those of its ends are up: fragment 0, which lives for
-/// 1,200 seconds. It has one TLV 1 with the area, one TLV 129 for IPv4, one TLV 137 with the name, TLVs 22 with the
-/// links that are up, and one TLV 135 with the router's prefix and a BIER Info for each of its sub-domains
+/// Returns the router's own LSP with a sequence number, for those interfaces that are up: fragment 0, with a Remaining Lifetime
+/// of 1,200 seconds. It has one TLV 1 with the area, one TLV 129 for IPv4, one TLV 137 with the name, TLVs 22 with the links
+/// that are up, and one TLV 135 with the router's prefix and a BIER Info for each of its sub-domains
 /// (ISO/IEC 10589, 7.3.7 and 9.8; RFC 5301, 3; RFC 5305, 3 and 4; RFC 8401, 6.1).
 #[tactic(auto, unfolding(wire_base::specs::model::OwnLsp::own_lsp))]
 pub fn originate(alloc: Global, conf: &RouterConf, up: &[bool], seq: u32) -> M<Entry>

@@ -11,7 +11,7 @@ use std::alloc::Global;
 use wire_base::codepoints::TLV_EXTENDED_IP_REACH;
 use wire_base::{Kind, M, Octets, OwnSub, RouterConf, Rows, SubKind, kind_of};
 
-/// The same sub-domain without label ranges.
+/// Returns the same sub-domain without label ranges.
 fn bare(sub: &OwnSub) -> OwnSub
     ensures { (result.sd ≡ sub.now.sd) × (result.id ≡ sub.now.id) × (result.ranges ≡ []) }
 {
@@ -22,7 +22,7 @@ fn bare(sub: &OwnSub) -> OwnSub
     }
 }
 
-/// The BIER Info of a sub-domain, with label ranges where BIFT-ids are labels there (RFC 8401, 6.1 and 6.2).
+/// Appends the BIER Info of a sub-domain, with label ranges in an MPLS sub-domain (RFC 8401, 6.1 and 6.2).
 fn append_sub(out: &mut Octets, kinds: &[SubKind], sub: &OwnSub) -> M<()>
     requires { IsOwnSub sub.now }
     ensures { OnOk result (out.new ≡ out.old ++ tlv (info_tlv (info_of kinds.now sub.now))) }
@@ -34,7 +34,7 @@ fn append_sub(out: &mut Octets, kinds: &[SubKind], sub: &OwnSub) -> M<()>
     }
 }
 
-/// The BIER Infos of the router's sub-domains, in their order.
+/// Returns the BIER Infos of the router's sub-domains, in order.
 fn sub_infos(alloc: Global, kinds: &[SubKind], subs: &[OwnSub]) -> M<Octets>
     requires { AllByRecursion IsOwnSub subs.now }
     ensures { IfOk result (λ o. o ≡ infos_of kinds.now subs.now) }
@@ -46,14 +46,14 @@ fn sub_infos(alloc: Global, kinds: &[SubKind], subs: &[OwnSub]) -> M<Octets>
     Ok(infos)
 }
 
-/// The control octet of the router's prefix: 32 bits, and whether sub-TLVs follow (RFC 5305, 4).
+/// Returns the control octet of the router's prefix: 32 bits, and whether sub-TLVs follow (RFC 5305, 4).
 fn control_for(subs: &[OwnSub]) -> u8
     ensures { result ≡ control_for subs.now }
 {
     if subs.is_empty() { 32 } else { 96 }
 }
 
-/// The router's prefix with its BIER Infos (RFC 5305, 4; RFC 8401, 6.1).
+/// Appends the router's prefix with its BIER Infos (RFC 5305, 4; RFC 8401, 6.1).
 pub(crate) fn append_prefix(alloc: Global, out: &mut Octets, conf: &RouterConf) -> M<()>
     requires { IsSound conf.now }
     ensures ok { OnOk result (out.new ≡ out.old ++ tlv (prefix_tlv conf.now)) }

@@ -3,7 +3,7 @@ ghost use Rattle.wire_base.specs.model.Control.{age_of};
 
 use wire_base::{Age, Entry, Summary};
 
-/// How new something is beside an entry (ISO/IEC 10589, 7.3.16.2).
+/// Compares a summary with an entry (ISO/IEC 10589, 7.3.16.2).
 pub(crate) fn age_beside(entry: &Entry, s: &Summary) -> Age
     ensures { result ≡ age_of (Some entry.now) s.now }
 {

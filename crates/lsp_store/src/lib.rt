@@ -1,7 +1,8 @@
-//! A router's LSDB: entries in the order of their identifiers, and what a second makes of them
+//! A router's LSDB: entries in the order of their LSP IDs, and their aging
 //! (ISO/IEC 10589, 7.3.15 and 7.3.16).
 //!
-//! It stands on `wire_base` alone, and promises that a store is the list of its entries, which each call changes as it says.
+//! This crate depends only on `wire_base`. Contracts model a store as the list of its entries, and specify how each call
+//! changes it.
 #![tactic(auto)]
 
 mod ages;

@@ -1,4 +1,4 @@
-//! Where an identifier stands among those that are in order, or would stand: the same search for entries and for rows of flags.
+//! Binary search for an LSP ID in a sorted list, shared by LSDB entries and rows of flags.
 ghost use Rattle.std.specs.Prelude.{◌≡◌, ◌≤◌, true, length, map};
 ghost use Rattle.std.specs.Ordering.{is_gt};
 ghost use Rattle.wire_base.specs.declared.addresses.LspId.{LspId as Id};
@@ -8,11 +8,11 @@ ghost use Rattle.lsp_store.specs.Places.{place_in, stands_at};
 use crate::keys::{is_id_above, is_same_id};
 use wire_base::{Entry, LspId};
 
-/// What stands in a list at the place of its identifier.
+/// A list element with an LSP ID as its key.
 pub trait Keyed {
     ghost key: { Self → Id };
 
-    /// The identifier.
+    /// Returns the LSP ID.
     fn key(&self) -> LspId
         ensures { result ≡ key self.now };
 }
@@ -39,7 +39,7 @@ fn is_above<T: Keyed>(id: &LspId, item: &T) -> bool
     is_id_above(*id, item.key())
 }
 
-/// How many have an identifier below this one, by halving.
+/// Returns the number of elements with a smaller LSP ID, by binary search.
 pub fn place_of<T: Keyed>(items: &[T], id: &LspId) -> usize
     requires { AreAscending (map T.key items.now) }
     ensures { result ≡ place_in (map T.key items.now) id.now }
@@ -57,7 +57,7 @@ pub fn place_of<T: Keyed>(items: &[T], id: &LspId) -> usize
     low
 }
 
-/// The same, where a guess may be at hand: where that is right, nothing is searched.
+/// The same with a guess: if the guess is right, there is no search.
 #[tactic(auto, using(crate::proofs::PlaceLaws::stands_placed))]
 pub fn place_near<T: Keyed>(items: &[T], id: &LspId, guess: usize) -> usize
     requires { AreAscending (map T.key items.now) }
@@ -69,7 +69,7 @@ pub fn place_near<T: Keyed>(items: &[T], id: &LspId, guess: usize) -> usize
     place_of(items, id)
 }
 
-/// Whether those before a place are below an identifier.
+/// Returns whether the elements before an index have smaller LSP IDs.
 fn is_behind<T: Keyed>(items: &[T], id: &LspId, place: usize) -> bool
     requires order { AreAscending (map T.key items.now) }
     requires within { place ≤ length items.now }
@@ -81,7 +81,7 @@ fn is_behind<T: Keyed>(items: &[T], id: &LspId, place: usize) -> bool
     is_above(id, &items[place - 1])
 }
 
-/// Whether the one at a place, where there is one, isn't.
+/// Returns whether the element at an index, if there is one, does not have a smaller LSP ID.
 fn is_before<T: Keyed>(items: &[T], id: &LspId, place: usize) -> bool
     ensures { result ≡ true → place_in (map T.key items.now) id.now ≤ place }
 {
@@ -91,7 +91,7 @@ fn is_before<T: Keyed>(items: &[T], id: &LspId, place: usize) -> bool
     !is_above(id, &items[place])
 }
 
-/// Whether an identifier would stand at a place.
+/// Returns whether an index is the one of an LSP ID, or the one to insert it at.
 fn is_gap<T: Keyed>(items: &[T], id: &LspId, place: usize) -> bool
     requires { AreAscending (map T.key items.now) }
     ensures { result ≡ true → place ≡ place_in (map T.key items.now) id.now }
@@ -105,7 +105,7 @@ fn has_id<T: Keyed>(item: &T, id: &LspId) -> bool
     is_same_id(item.key(), *id)
 }
 
-/// Whether the one at a place has that identifier.
+/// Returns whether the element at an index has that LSP ID.
 pub fn stands_at<T: Keyed>(items: &[T], place: usize, id: &LspId) -> bool
     ensures { result ≡ stands_at (map T.key items.now) place id.now }
 {

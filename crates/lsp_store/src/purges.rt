@@ -5,7 +5,7 @@ use std::alloc::Global;
 use wire_base::limits::PURGE_HOLD;
 use wire_base::{Entry, LspId, Octets};
 
-/// The purge of an LSP: a dead entry that keeps its sequence number for a minute, without checksum, flags
+/// Returns the purge of an LSP: an expired entry that keeps its sequence number for a minute, without checksum, flags
 /// and content (ISO/IEC 10589, 7.3.16.4).
 pub fn purge(alloc: Global, id: LspId, seq: u32) -> Entry
     ensures { result ≡ purge id seq }

@@ -6,7 +6,7 @@ use crate::purges::purge;
 use std::alloc::Global;
 use wire_base::{Aged, Entry};
 
-/// What a second does to an entry.
+/// Returns the effect of one second on an entry.
 pub(crate) fn aged(entry: &Entry) -> Aged
     ensures { result ≡ aged entry.now }
 {
@@ -23,7 +23,7 @@ pub(crate) fn aged(entry: &Entry) -> Aged
     }
 }
 
-/// Makes the entry a second older; one that is to be removed stays.
+/// Ages the entry by one second; one that is to be removed is unchanged.
 pub(crate) fn pass_second(alloc: Global, entry: &mut Entry) -> Aged
     ensures answer { result ≡ aged entry.old }
     ensures stays { is_removed result ≡ true → entry.new ≡ entry.old }
@@ -40,7 +40,7 @@ pub(crate) fn pass_second(alloc: Global, entry: &mut Entry) -> Aged
     answer
 }
 
-/// Whether an entry goes.
+/// Returns whether an entry is to be removed.
 pub(crate) fn is_removed(answer: Aged) -> bool
     ensures { result ≡ is_removed answer }
 {

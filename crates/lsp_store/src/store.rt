@@ -11,8 +11,8 @@ use std::marker::Model;
 use wire_base::limits::MOST_ENTRIES;
 use wire_base::{Age, Aged, Entry, LspId, M, PutFault, Summary};
 
-/// An LSDB: at most 4,096 entries in the order of their identifiers, none twice. Contracts see these, and
-/// how many entries of new identifiers it has the memory for already.
+/// An LSDB: at most 4,096 entries in the order of their LSP IDs, no LSP ID twice. Contracts model it as these entries, and
+/// the number of new entries for which memory is already allocated.
 #[derive(Drop)]
 pub struct Store {
     items: Vec<Entry>,
@@ -30,7 +30,7 @@ impl Model for Store {
     ghost invariant = { λ s. IsDatabase s.items.items };
 }
 
-/// Whether an identifier stands at its place.
+/// Returns the index as Ok if the LSP ID has an entry there, and as Err otherwise.
 fn found_at(entries: &[Entry], place: usize, id: &LspId) -> Result<usize, usize>
     requires { place ≡ place_in (ids_of entries.now) id.now }
     ensures there { IfOk result (λ place. IsPlace entries.now id.now true place) }
@@ -43,7 +43,7 @@ fn found_at(entries: &[Entry], place: usize, id: &LspId) -> Result<usize, usize>
     }
 }
 
-/// How new something is beside an entry, where there is one.
+/// Compares a summary with an entry, if there is one.
 fn age_of(entry: Option<&Entry>, s: &Summary) -> Age
     ensures { result ≡ age_of (option_map (λ e. e.now) entry.entry) s.now }
 {
@@ -54,7 +54,7 @@ fn age_of(entry: Option<&Entry>, s: &Summary) -> Age
 }
 
 impl Store {
-    /// An LSDB without entries.
+    /// Creates an empty LSDB.
     pub fn new(alloc: Global) -> Store
         ensures { result.entries ≡ [] }
     {
@@ -63,7 +63,7 @@ impl Store {
         }
     }
 
-    /// The entries, in the order of their identifiers.
+    /// Returns the entries, in the order of their LSP IDs.
     pub fn as_slice(&self) -> &[Entry]
         ensures entries { result.now ≡ self.now.entries }
         ensures database { IsDatabase result.now }
@@ -71,7 +71,7 @@ impl Store {
         self.items.as_slice()
     }
 
-    /// How many entries there are.
+    /// Returns the number of entries.
     pub fn len(&self) -> usize
         ensures len { result ≡ length self.now.entries }
         ensures database { IsDatabase self.now.entries }
@@ -79,12 +79,12 @@ impl Store {
         self.items.len()
     }
 
-    /// The allocator that the LSDB keeps.
+    /// Returns the allocator of the LSDB.
     pub fn allocator(&self) -> Global {
         *self.items.allocator()
     }
 
-    /// The entry at a place.
+    /// Returns the entry at index `i`.
     pub fn at(&self, i: usize) -> &Entry
         requires { i < length self.now.entries }
         ensures { slice_get self.now.entries i ≡ Some result.now }
@@ -92,7 +92,7 @@ impl Store {
         &self.items[i]
     }
 
-    /// The entry of an identifier. None exactly where there is none.
+    /// Returns the entry of an LSP ID. None exactly where there is none.
     pub fn get(&self, id: &LspId) -> Option<&Entry>
         ensures { option_map (λ e. e.now) result ≡ entry_in self.now.entries id.now }
     {
@@ -102,7 +102,7 @@ impl Store {
         }
     }
 
-    /// The entry of an identifier, as `get` gives it. Where it stands at the place that is guessed, nothing is searched.
+    /// Like `get`, with a guess of the index. If the guess is right, there is no search.
     pub fn get_near(&self, id: &LspId, guess: usize) -> Option<&Entry>
         ensures { option_map (λ e. e.now) result ≡ entry_in self.now.entries id.now }
     {
@@ -112,7 +112,7 @@ impl Store {
         }
     }
 
-    /// Where an identifier stands, or would stand.
+    /// Finds an LSP ID: its index as Ok, or the index to insert it at as Err.
     fn find(&self, id: &LspId) -> Result<usize, usize>
         ensures there { IfOk result (λ place. IsPlace self.now.entries id.now true place) }
         ensures gone { IfErr result (λ place. IsPlace self.now.entries id.now false place) }
@@ -121,7 +121,7 @@ impl Store {
         found_at(entries, place_of(entries, id), id)
     }
 
-    /// The same, where a guess is at hand: one that is right is tested once, and nothing is searched.
+    /// Like `find`, with a guess of the index. A right guess is tested once, and there is no search.
     #[tactic(auto, using(crate::proofs::PlaceLaws::stands_placed))]
     fn find_near(&self, id: &LspId, guess: usize) -> Result<usize, usize>
         ensures there { IfOk result (λ place. IsPlace self.now.entries id.now true place) }
@@ -134,7 +134,7 @@ impl Store {
         found_at(entries, place_near(entries, id, guess), id)
     }
 
-    /// The sequence number of the entry of an identifier; 0 where there is none.
+    /// Returns the sequence number of an LSP ID's entry; 0 if there is none.
     pub fn seq_of(&self, id: &LspId) -> u32
         ensures { result ≡ seq_of (entry_in self.now.entries id.now) }
     {
@@ -144,37 +144,37 @@ impl Store {
         }
     }
 
-    /// How new something is beside the entry of its identifier (ISO/IEC 10589, 7.3.16.2).
+    /// Compares a summary with the entry of its LSP ID (ISO/IEC 10589, 7.3.16.2).
     pub fn compare(&self, s: &Summary) -> Age
         ensures { result ≡ age_of (entry_in self.now.entries s.now.id) s.now }
     {
         age_of(self.get(&s.id), s)
     }
 
-    /// The same. Where the entry stands at the place that is guessed, nothing is searched.
+    /// Like `compare`, with a guess of the index. If the guess is right, there is no search.
     pub fn compare_near(&self, s: &Summary, guess: usize) -> Age
         ensures { result ≡ age_of (entry_in self.now.entries s.now.id) s.now }
     {
         age_of(self.get_near(&s.id, guess), s)
     }
 
-    /// Adds an entry, or puts it in place of the one of its identifier. Full where the identifier is new and 4,096
-    /// entries are there; one whose identifier is there always finds its place, and takes no memory.
+    /// Adds an entry, or replaces the one with its LSP ID. Returns Full if the LSP ID is new and there are 4,096 entries.
+    /// Replacing an entry always succeeds and does not allocate.
     pub fn put(&mut self, e: Entry) -> Result<(), PutFault>
         ensures ok { OnOk result (self.new.entries ≡ put_entry e self.old.entries) }
         ensures err { OnErr result (self.new.entries ≡ self.old.entries) }
         ensures answers { PutAnswers self.old.entries self.old.spare e.id result }
-        // A new identifier takes at most one of the places that were spare, and no other one takes any.
+        // A new LSP ID uses at most one spare slot, and a known one uses none.
         ensures spare { self.old.spare ≤ self.new.spare + 1 }
         ensures kept { is_new self.old.entries e.id ≡ false → self.old.spare ≤ self.new.spare }
         ensures database { IsDatabase self.new.entries }
     {
-        // What comes in order goes to the end.
+        // An entry that comes in order is appended.
         let end = self.items.len();
         self.put_near(e, end)
     }
 
-    /// The same. Where its place is the one that is guessed, nothing is searched.
+    /// Like `put`, with a guess of the index. If the guess is right, there is no search.
     pub fn put_near(&mut self, e: Entry, guess: usize) -> Result<(), PutFault>
         ensures ok { OnOk result (self.new.entries ≡ put_entry e self.old.entries) }
         ensures err { OnErr result (self.new.entries ≡ self.old.entries) }
@@ -192,7 +192,7 @@ impl Store {
         }
     }
 
-    /// Makes room for that many new identifiers.
+    /// Allocates memory for that many new entries.
     pub fn reserve(&mut self, n: usize) -> M<()>
         ensures entries { self.new.entries ≡ self.old.entries }
         ensures ok { OnOk result (n ≤ self.new.spare) }
@@ -202,8 +202,8 @@ impl Store {
         Ok(())
     }
 
-    /// One second at the entry at a place: a live one loses a second of its life, and becomes a purge at 0; a dead one
-    /// loses a second of its hold, and goes at 0 (ISO/IEC 10589, 7.3.16.3 and 7.3.16.4).
+    /// Ages the entry at index `i` by one second. A live one loses a second of its lifetime, and becomes a purge at 0. A purge
+    /// loses a second of its hold time, and is removed at 0 (ISO/IEC 10589, 7.3.16.3 and 7.3.16.4).
     pub fn age_at(&mut self, i: usize) -> Aged
         requires { i < length self.old.entries }
         ensures second { IfSome (slice_get self.old.entries i) (λ e. IsSecondAt self.old.entries i e result self.new.entries) }
@@ -218,7 +218,7 @@ impl Store {
         answer
     }
 
-    /// Adds an entry at its place, where there is room.
+    /// Inserts an entry at an index, if there is room.
     fn add(&mut self, place: usize, e: Entry) -> Result<(), PutFault>
         requires { IsPlace self.old.entries e.id false place }
         ensures ok { OnOk result (self.new.entries ≡ put_entry e self.old.entries) }

@@ -1,4 +1,4 @@
--- Steps away from a router on its shortest walks, and a search along them.
+-- Steps away from a router on its shortest paths, and a search along them.
 use Rattle.std.specs.Prelude.{◌≡◌, ℕ, zero, suc, ◌+◌, ◌⊎◌, Bool, true, false, ◌&&◌, List, [], ◌∷◌, ◌++◌, fold, slice_index_or, slice_set, Contains, Option, Some, if◌then◌else◌}
 use Rattle.wire_base.specs.declared.view.ViewEdge.{ViewEdge}
 use Rattle.wire_base.specs.declared.view.ViewNode.{ViewNode}
@@ -16,7 +16,7 @@ pub record IsForward (g : List ViewNode) (u y z : ℕ) : Type 0 where
   pub to_there : dist g u y ≡ Some before
   pub whole : dist g u z ≡ Some (edge.metric + before)
 
--- one more than k such steps lead from y to x, over nodes at which the search doesn't stop
+-- one more than k such steps lead from y to x, over nodes at which the search does not stop
 abbrev pub ForwardWay : List ViewNode → ℕ → (ℕ → Bool) → ℕ → ℕ → ℕ → Type 0
 ForwardWay g u stops zero y x = IsForward g u y x
 ForwardWay g u stops (suc k) y x = (z : ℕ) × IsForward g u y z × (stops z ≡ false) × ForwardWay g u stops k z x
@@ -29,7 +29,7 @@ nowhere x = false
 abbrev pub is_forward : List ViewNode → ℕ → (ℕ → Option ℕ) → ℕ → ViewEdge → Bool
 is_forward g u f y e = may_enter g u y && makes_up e.metric (f y) (f e.to)
 
--- which nodes were seen, and from which the search is still to go on; what is past the end counts as seen
+-- which nodes were seen, and from which the search still has to continue; what is past the end counts as seen
 pub record Search : Type 0 where
   pub seen : List Bool
   pub work : List ℕ

@@ -1,4 +1,4 @@
--- The order in which a search takes nodes: the one with the least length first.
+-- The order in which a search takes nodes: least cost first.
 use Rattle.std.specs.Prelude.{ℕ}
 use Rattle.std.specs.declared.cmp.Ordering.{Ordering}
 use Rattle.std.specs.Ordering.{nat_cmp, ordering_then}

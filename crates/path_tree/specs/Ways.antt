@@ -1,4 +1,4 @@
--- The edges of a search: those that leave each node, or those that lead into it, turned round.
+-- The edges of a search: those that leave each node, or those that lead into it, reversed.
 use Rattle.std.specs.Prelude.{◌≡◌, ℕ, zero, suc, ◌<◌, List, [], ◌∷◌, ◌++◌, length, fold, replicate, slice_set, slice_index_or, Contains, ◌↔◌, Option, None}
 use Rattle.wire_base.specs.declared.view.ViewEdge.{ViewEdge}
 use Rattle.wire_base.specs.declared.view.ViewNode.{ViewNode}
@@ -9,16 +9,16 @@ use Rattle.wire_base.specs.model.Walk.{dist}
 abbrev pub ways_of : List (List ViewEdge) → ℕ → List ViewEdge
 ways_of xs x = slice_index_or xs x []
 
--- an edge from a node, turned round and put to the ways of the node that it leads to
+-- an edge from a node, reversed and added to the list of the node that it leads to
 abbrev pub put : ℕ → List (List ViewEdge) → ViewEdge → List (List ViewEdge)
 put from ways e = slice_set ways e.to (ways_of ways e.to ++ record { to = from; metric = e.metric } ∷ [])
 
--- the edges of the first k nodes, turned round
+-- the edges of the first k nodes, reversed
 abbrev pub turned : List ViewNode → ℕ → List (List ViewEdge)
 turned g zero = replicate (length g) []
 turned g (suc k) = fold (put k) (turned g k) (edges_of g k)
 
--- the ways of x lead back over each edge that leads into x
+-- the edges of x lead back over each edge that leads into x
 pub record AreIncoming (g : List ViewNode) (ways : List (List ViewEdge)) : Type 0 where
   pub rows : length ways ≡ length g
   pub each : (x : ℕ) (e : ViewEdge) → x < length g → (Contains (ways_of ways x) e ↔ Contains (edges_of g e.to) (record { to = x; metric = e.metric }))

@@ -1,4 +1,4 @@
-//! The distances to a router, and from one.
+//! The costs of shortest paths to a router, and from one.
 ghost use Rattle.std.specs.Prelude.{◌≡◌, ◌<◌, ℕ, None, IfOk, length, slice_index_or};
 ghost use Rattle.wire_base.specs.model.Walk.{AreDists, IsDist};
 ghost use Rattle.path_tree.specs.Ways.{AreDistsFrom};
@@ -8,8 +8,8 @@ use crate::ways::turned_round;
 use std::alloc::Global;
 use wire_base::{M, Rows, View};
 
-/// For each node the sum of the metrics of a shortest walk to `d` that goes through no node with its overload bit set between its ends
-/// (ISO/IEC 10589, 7.2.6 and 7.2.8.1). None exactly where there is no walk.
+/// Returns for each node the cost of a shortest path from it to `d`. No node between the ends of a path has its overload bit set
+/// (ISO/IEC 10589, 7.2.6 and 7.2.8.1). None exactly where there is no path.
 pub fn distances_to(alloc: Global, v: &View, d: u16) -> M<Rows<Option<u64>>>
     requires node { d < length v.now.nodes }
     ensures walks { IfOk result (λ dist. (u : ℕ) → u < length v.now.nodes → IsDist v.now.nodes u d (slice_index_or dist u None)) }
@@ -21,8 +21,8 @@ pub fn distances_to(alloc: Global, v: &View, d: u16) -> M<Rows<Option<u64>>>
     Ok(Rows::from_vec(found))
 }
 
-/// For each node the sum of the metrics of a shortest walk from `u` to it that goes through no node with its overload bit set between its
-/// ends. None exactly where there is no walk.
+/// Returns for each node the cost of a shortest path from `u` to it. No node between the ends of a path has its overload bit
+/// set. None exactly where there is no path.
 pub fn distances_from(alloc: Global, v: &View, u: u16) -> M<Rows<Option<u64>>>
     requires node { u < length v.now.nodes }
     ensures walks { IfOk result (λ dist. (d : ℕ) → d < length v.now.nodes → IsDist v.now.nodes u d (slice_index_or dist d None)) }

@@ -1,4 +1,4 @@
-//! A search along the shortest walks away from a router.
+//! A search along the shortest paths away from a router.
 ghost use Rattle.std.specs.Prelude.{◌≡◌, ◌<◌, ◌≤◌, ◌↔◌, ℕ, Bool, true, false, None, IfOk, OnOk, length, slice_index_or};
 ghost use Rattle.wire_base.specs.model.Graph.{IsGraph, edges_of};
 ghost use Rattle.path_tree.specs.Ways.{AreDistsFrom};
@@ -8,8 +8,8 @@ use crate::ways::edges_of;
 use std::alloc::Global;
 use wire_base::{M, ViewEdge, ViewNode};
 
-/// Tells for each node whether steps away from `u` on its shortest walks lead there from `start`; the search doesn't go on
-/// from nodes at which it stops. `dist` has the distances from `u`.
+/// Returns for each node whether steps away from `u`, on shortest paths from `u`, lead there from `start`. The search does not
+/// continue from nodes at which it stops. `dist` has the costs from `u`.
 pub fn reach(
     alloc: Global,
     nodes: &[ViewNode],
@@ -34,7 +34,7 @@ pub fn reach(
     Ok(seen)
 }
 
-/// Marks what the steps from a node lead to, and puts those among the work from which the search goes on.
+/// Marks the nodes that the steps from a node lead to, and queues those from which the search continues.
 fn look_around(
     nodes: &[ViewNode],
     dist: &[Option<u64>],

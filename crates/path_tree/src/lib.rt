@@ -1,7 +1,8 @@
-//! Shortest walks of a view: the distances to a router and from one, the steps that lead nearer to a router, and a search
+//! Shortest paths (SPF) in a topology: the costs to a router and from one, the steps that lead nearer to a router, and a search
 //! along the steps that lead away from one.
 //!
-//! It stands on `wire_base` alone, and promises the least lengths of walks that pass no router with its overload bit set.
+//! This crate depends only on `wire_base`. It returns the least costs of paths on which no router between the ends has its
+//! overload bit set.
 #![tactic(auto)]
 
 mod distances;

@@ -1,4 +1,4 @@
-//! The nodes that wait in a search.
+//! The queue of the nodes that wait in a search.
 ghost use Rattle.std.specs.Prelude.{◌≡◌, ◌≤◌, ◌∷◌, [], All, IfSome, IfNone, OnOk};
 ghost use Rattle.std.specs.List.Sorted.{IsPermutation};
 
@@ -8,7 +8,7 @@ use std::collections::BinaryHeap;
 use std::marker::Model;
 use wire_base::M;
 
-/// Entries of a length and a node, of which the one with the least length comes first.
+/// A priority queue of entries, each a cost and a node. The entry with the least cost comes first.
 #[derive(Drop)]
 pub(crate) struct Queue {
     heap: BinaryHeap<Reverse<(u64, u16)>>,

@@ -1,4 +1,4 @@
-//! A search for the lengths of shortest walks: the nearest node that waits is settled, and each edge on from it is counted.
+//! Dijkstra's algorithm: the nearest waiting node is settled, and then each edge from it is relaxed.
 ghost use Rattle.std.specs.Prelude.{◌≡◌, ◌≤◌, ◌<◌, ◌∷◌, ◌^◌, ◌==◌, ℕ, [], true, List, Option, Some, None, All, Contains, IfOk, IfSome, IfNone, OnOk, MatchBool, length, slice_index_or, slice_set, if◌then◌else◌};
 ghost use Rattle.std.specs.List.Sorted.{IsPermutation};
 ghost use Rattle.wire_base.specs.model.Graph.{IsEdge, edges_of, is_overloaded};
@@ -10,8 +10,8 @@ use crate::ways::edges_of;
 use std::alloc::Global;
 use wire_base::{M, ViewEdge, ViewNode};
 
-/// The length of a shortest walk from `start` to each node, where a walk goes on from `start` and from nodes that aren't
-/// with its overload bit set.
+/// Returns the cost of a shortest path from `start` to each node. A path continues only from `start` and from nodes that do not
+/// have their overload bit set.
 pub(crate) fn search(alloc: Global, nodes: &[ViewNode], start: u16) -> M<Vec<Option<u64>>>
     requires few { length nodes.now ≤ 65536 }
     requires within { start < length nodes.now }
@@ -31,7 +31,7 @@ pub(crate) fn search(alloc: Global, nodes: &[ViewNode], start: u16) -> M<Vec<Opt
     Ok(found)
 }
 
-/// The lengths before the first turn: 0 at the start, and none elsewhere.
+/// Returns the initial costs: 0 at the start, and None elsewhere.
 fn first_lengths(alloc: Global, count: usize, start: u16) -> M<Vec<Option<u64>>>
     ensures rows { IfOk result (λ r. length r.items ≡ count) }
     ensures each { IfOk result (λ r. (k : ℕ) → k < count → lengths r.items k ≡ (if k == start then Some 0 else None)) }
@@ -47,7 +47,7 @@ fn first_lengths(alloc: Global, count: usize, start: u16) -> M<Vec<Option<u64>>>
     Ok(first)
 }
 
-/// Takes the nearest node that waits from the queue, with its length; entries of settled nodes are passed over.
+/// Removes the nearest waiting node from the queue, and returns it with its cost; entries of settled nodes are skipped.
 fn next_waiting(queue: &mut Queue, settled: &[bool]) -> Option<(u64, u16)>
     requires within { (entry : ℕ × ℕ) → Contains queue.old entry → entry.1 < length settled.now }
     ensures some { IfSome result (λ next. TakesNext settled.now queue.old next queue.new) }
@@ -61,7 +61,7 @@ fn next_waiting(queue: &mut Queue, settled: &[bool]) -> Option<(u64, u16)>
     None
 }
 
-/// The ways on from a node: none from a one with its overload bit set, unless the search starts there.
+/// Returns the edges from a node: none if its overload bit is set, unless the search starts there.
 fn ways_on(nodes: &[ViewNode], start: u16, node: u16) -> &[ViewEdge]
     requires within { node < length nodes.now }
     ensures { result.now ≡ (if may_enter nodes.now start node then edges_of nodes.now node else []) }
@@ -73,7 +73,7 @@ fn ways_on(nodes: &[ViewNode], start: u16, node: u16) -> &[ViewEdge]
     }
 }
 
-/// Counts each edge that leads on from a node of that length.
+/// Relaxes each edge from a node of that cost.
 fn relax(edges: &[ViewEdge], reached: u64, found: &mut Vec<Option<u64>>, queue: &mut Queue) -> M<()>
     requires edges { All (λ e. IsEdge (length found.old.items) e) edges.now }
     requires small { reached ≤ 2 ^ 48 }
@@ -85,7 +85,7 @@ fn relax(edges: &[ViewEdge], reached: u64, found: &mut Vec<Option<u64>>, queue: 
     Ok(())
 }
 
-/// Keeps a length where it is the first of a node or shorter than the one before.
+/// Records a cost if the node had none or a greater one.
 fn improve(found: &mut Vec<Option<u64>>, queue: &mut Queue, node: u16, reach: u64) -> M<()>
     requires within { node < length found.old.items }
     ensures found { OnOk result (found.new.items ≡ (if is_shorter reach (lengths found.old.items node) then slice_set found.old.items node (Some reach) else found.old.items)) }

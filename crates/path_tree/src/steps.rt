@@ -1,4 +1,4 @@
-//! The steps on shortest walks.
+//! The steps on shortest paths.
 ghost use Rattle.std.specs.Prelude.{◌≡◌, ◌↔◌, ◌<◌, ℕ, None, AllPairs, Contains, IfOk, length, slice_index_or};
 ghost use Rattle.wire_base.specs.model.Walk.{AreDists};
 ghost use Rattle.wire_base.specs.model.Tight.{IsTight, is_tight, tight_from};
@@ -7,9 +7,9 @@ use crate::ways::edges_of;
 use std::alloc::Global;
 use wire_base::{M, Rows, View, ViewEdge, ViewNode};
 
-/// Where the tight steps from `u` toward `d` lead, in the order of the nodes: those over an edge whose metric and the
-/// distance from its end make up the distance from `u`, to `d` itself or to a node that doesn't have its overload bit set. `dist` has the
-/// distances to `d`.
+/// Returns the nodes that the tight steps from `u` toward `d` lead to, in the order of the nodes. A step is tight if the metric of
+/// its edge plus the cost from its end equals the cost from `u`, and it leads to `d` itself or to a node that does not have its
+/// overload bit set. `dist` has the costs to `d`.
 pub fn tight_steps(
     alloc: Global,
     v: &View,

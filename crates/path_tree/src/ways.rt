@@ -1,4 +1,4 @@
-//! The edges of a search: those of the nodes, or those that lead into them, turned round.
+//! The edges of a search: those of the nodes, or those that lead into them, reversed.
 ghost use Rattle.std.specs.Prelude.{◌≡◌, ◌<◌, ◌≤◌, ℕ, [], List, All, IfOk, OnOk, length, map, replicate, fold};
 ghost use Rattle.wire_base.specs.model.Graph.{IsEdge, IsGraph, edges_of};
 ghost use Rattle.path_tree.specs.Ways.{AreIncoming, IsTurned, put, turned};
@@ -6,7 +6,7 @@ ghost use Rattle.path_tree.specs.Ways.{AreIncoming, IsTurned, put, turned};
 use std::alloc::Global;
 use wire_base::{EdgeList, M, SubList, ViewEdge, ViewNode};
 
-/// The nodes with each edge turned round, and with no places in sub-domains.
+/// Returns the nodes with each edge reversed, and with no sub-domains.
 pub(crate) fn turned_round(alloc: Global, nodes: &[ViewNode]) -> M<Vec<ViewNode>>
     requires graph { IsGraph nodes.now }
     ensures turned { IfOk result (λ turned. IsTurned nodes.now turned.items) }
@@ -16,7 +16,7 @@ pub(crate) fn turned_round(alloc: Global, nodes: &[ViewNode]) -> M<Vec<ViewNode>
     with_edges(alloc, nodes, ways)
 }
 
-/// The nodes with those edges in place of their own, and with no places in sub-domains.
+/// Returns the nodes with those edges instead of their own, and with no sub-domains.
 fn with_edges(alloc: Global, nodes: &[ViewNode], ways: Vec<EdgeList>) -> M<Vec<ViewNode>>
     requires rows { length ways.items ≡ length nodes.now }
     ensures edges { IfOk result (λ made. map (λ n. n.edges) made.items ≡ ways.items) }
@@ -35,7 +35,7 @@ fn with_edges(alloc: Global, nodes: &[ViewNode], ways: Vec<EdgeList>) -> M<Vec<V
     Ok(made)
 }
 
-/// For each node the edges that lead into it, turned round.
+/// Returns for each node the edges that lead into it, reversed.
 fn incoming(alloc: Global, nodes: &[ViewNode]) -> M<Vec<EdgeList>>
     requires graph { IsGraph nodes.now }
     ensures ways { IfOk result (λ ways. AreIncoming nodes.now ways.items) }
@@ -48,7 +48,7 @@ fn incoming(alloc: Global, nodes: &[ViewNode]) -> M<Vec<EdgeList>>
     Ok(ways)
 }
 
-/// No way from any node.
+/// Returns an empty edge list for each node.
 fn no_ways(alloc: Global, count: usize) -> M<Vec<EdgeList>>
     ensures { IfOk result (λ ways. ways.items ≡ replicate count []) }
 {
@@ -59,7 +59,7 @@ fn no_ways(alloc: Global, count: usize) -> M<Vec<EdgeList>>
     Ok(ways)
 }
 
-/// Puts the edges from a node to the ways of the nodes that they lead to.
+/// Adds the edges from a node, reversed, to the lists of the nodes that they lead to.
 fn turn_round(ways: &mut Vec<EdgeList>, from: u16, edges: &[ViewEdge]) -> M<()>
     requires edges { All (λ e. IsEdge (length ways.old.items) e) edges.now }
     ensures { OnOk result (ways.new.items ≡ fold (put from) ways.old.items edges.now) }
@@ -81,7 +81,7 @@ fn put_back(ways: &mut Vec<EdgeList>, from: u16, edge: ViewEdge) -> M<()>
     Ok(())
 }
 
-/// The edges that leave a node, none where there is no such node.
+/// Returns the edges of a node, none if there is no such node.
 pub(crate) fn edges_of(nodes: &[ViewNode], u: u16) -> &[ViewEdge]
     ensures { result.now ≡ edges_of nodes.now u }
 {

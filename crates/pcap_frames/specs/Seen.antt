@@ -1,4 +1,4 @@
--- How contracts see a reader and its records.
+-- How contracts model a reader and its records.
 use Rattle.std.specs.Prelude.{◌≡◌, ◌≤◌, ◌-◌, nat_lt, if◌then◌else◌, ℕ, List, length, drop, Result, Ok, Err, Option, Some, None, option_map}
 use Rattle.wire_base.specs.declared.faults.CaptureFault.{CaptureFault}
 use Rattle.wire_base.specs.declared.faults.CaptureFault.TheVariants as faults
@@ -19,7 +19,7 @@ stage_seen steps.Header = HeaderToCome
 stage_seen (steps.Records form) = HeaderRead (form_seen form)
 stage_seen (steps.Refused fault) = Refused fault
 
--- What a call that takes memory returned, seen by view, is what reading gives; out of memory may come in its place.
+-- The result of a call that allocates, converted by view, equals that of parsing, or is out of memory.
 abbrev pub Answers : {X Y : Type 0} → (X → Y) → Result X CaptureFault → Result Y CaptureFault → Type 0
 Answers view (Ok x) read = read ≡ Ok (view x)
 Answers view (Err faults.Memory) read = Unit {0}
@@ -30,7 +30,7 @@ Answers view (Err faults.CutHeader) read = read ≡ Err faults.CutHeader
 Answers view (Err faults.CutRecord) read = read ≡ Err faults.CutRecord
 Answers view (Err faults.LongRecord) read = read ≡ Err faults.LongRecord
 
--- what stands after an answer: after out of memory all is as before
+-- the state after a result: after out of memory it is unchanged
 abbrev pub after_answer : {X Y : Type 0} → Result X CaptureFault → Y → Y → Y
 after_answer (Ok x) before now = now
 after_answer (Err faults.Memory) before now = before
@@ -41,11 +41,11 @@ after_answer (Err faults.CutHeader) before now = now
 after_answer (Err faults.CutRecord) before now = now
 after_answer (Err faults.LongRecord) before now = now
 
--- a fault that stays, once a reader has met it
+-- an error that is permanent, once a reader has met it
 abbrev pub IsLasting : CaptureFault → Type 0
 IsLasting fault = (fault ≡ faults.Memory) → ⊥
 
--- the form, and the octets after the header
+-- the format, and the octets after the header
 abbrev pub opened : List ℕ → Option Form → Option (CaptureForm × List ℕ)
 opened octets = option_map (λ form. (form_seen form, drop 24 octets))
 
@@ -53,32 +53,32 @@ opened octets = option_map (λ form. (form_seen form, drop 24 octets))
 abbrev pub taken : List ℕ → Option (CapRecord × ℕ) → Option (CaptureRecord × List ℕ)
 taken octets = option_map (λ read. (record_seen read.0, drop read.1 octets))
 
--- a header that was read is there
+-- a parsed header is present
 abbrev pub HasHeader : ℕ → Option Form → Type 0
 HasHeader n (Some form) = 24 ≤ n
 HasHeader n None = Unit {0}
 
--- a record that was read lies in so many octets
+-- a parsed record is within that many octets
 abbrev pub IsWithin : ℕ → Option (CapRecord × ℕ) → Type 0
 IsWithin n (Some (read, size)) = size ≤ n
 IsWithin n None = Unit {0}
 
--- a reader's fault stays
+-- a reader's error is kept
 abbrev pub IsKept : Step → Type 0
 IsKept steps.Header = Unit {0}
 IsKept (steps.Records form) = Unit {0}
 IsKept (steps.Refused fault) = IsLasting fault
 
--- and its place lies in its octets
+-- and its index is within its octets
 abbrev pub IsSound : Step → ℕ → List ℕ → Type 0
 IsSound step at octets = (at ≤ length octets) × IsKept step
 
--- the fault of an answer
+-- the error of a result
 abbrev pub fault_in : Result (Unit {0}) CaptureFault → Option CaptureFault
 fault_in (Ok u) = None
 fault_in (Err fault) = Some fault
 
--- what the end makes of so many octets after the last record, and of so many before which nothing was read
+-- the result at the end with that many octets after the last record, and with that many before which nothing was parsed
 abbrev pub cut_end : ℕ → Option CaptureFault
 cut_end held = if nat_lt 0 held then Some faults.CutRecord else None
 

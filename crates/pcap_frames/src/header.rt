@@ -7,13 +7,13 @@ ghost use Rattle.pcap_frames.specs.Seen.{form_seen, opened, HasHeader, IsLasting
 use byteorder::{BigEndian, ByteOrder, LittleEndian};
 use wire_base::CaptureFault;
 
-/// The octets of a capture's header.
+/// The length in octets of a capture's header.
 pub const HEADER: usize = 24;
 
 /// The link type of Ethernet.
 const ETHERNET: u32 = 1;
 
-/// How a capture writes its numbers: the lowest octet first or the highest, and fractions of a second in nanoseconds
+/// The format of a capture: its byte order, and whether fractions of a second are in nanoseconds
 /// or in microseconds.
 #[derive(Clone, Copy, Debug, PartialEq, Eq)]
 pub struct Form {
@@ -22,7 +22,7 @@ pub struct Form {
 }
 
 impl Form {
-    /// The form that a magic number tells, read with its highest octet first.
+    /// Returns the format of a magic number, which was read with its highest octet first.
     pub fn of_magic(number: u32) -> Option<Form>
         ensures { option_map form_seen result ≡ form_of number }
     {
@@ -39,7 +39,7 @@ impl Form {
         })
     }
 
-    /// The number of two octets at a place.
+    /// Returns the 16-bit number at index `at`.
     pub fn two_at(self, bytes: &[u8], at: usize) -> u16
         requires { at + 2 ≤ length bytes.now }
         ensures { result ≡ number_in (form_seen self) 2 (drop at bytes.now) }
@@ -51,7 +51,7 @@ impl Form {
         }
     }
 
-    /// The number of four octets at a place.
+    /// Returns the 32-bit number at index `at`.
     pub fn four_at(self, bytes: &[u8], at: usize) -> u32
         requires { at + 4 ≤ length bytes.now }
         ensures { result ≡ number_in (form_seen self) 4 (drop at bytes.now) }
@@ -64,7 +64,7 @@ impl Form {
     }
 }
 
-/// The form of the capture whose first octets these are; None where the header isn't whole yet.
+/// Returns the format of the capture that begins with these octets; None if the header is not complete yet.
 #[tactic(auto, unfolding(wire_base::specs::model::Capture::header_at))]
 pub fn read_header(bytes: &[u8]) -> Result<Option<Form>, CaptureFault>
     ensures exact { Gives (opened bytes.now) result (header_at bytes.now) }
@@ -80,7 +80,7 @@ pub fn read_header(bytes: &[u8]) -> Result<Option<Form>, CaptureFault>
     }
 }
 
-/// The same, where the magic number is known.
+/// The same, after the magic number was recognized.
 fn read_formed(form: Form, bytes: &[u8]) -> Result<Option<Form>, CaptureFault>
     ensures exact { Gives (opened bytes.now) result (formed_at (Some (form_seen form)) bytes.now) }
     ensures within { IfOk result (HasHeader (length bytes.now)) }

@@ -1,6 +1,7 @@
-//! Capture files of the libpcap format: records out of octets that come in any pieces, and records as octets.
+//! Capture files in the libpcap format: parses records from octets that arrive in chunks, and writes records.
 //!
-//! It stands on `wire_base` alone, and promises the records of all that was fed, however it was cut, or the first broken rule.
+//! This crate depends only on `wire_base`. The records are those of all octets that were fed, however they were split, up to
+//! the first broken rule.
 #![tactic(auto)]
 
 mod header;

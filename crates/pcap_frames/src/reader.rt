@@ -1,4 +1,4 @@
-//! A reader of a capture file whose octets come in pieces.
+//! A reader of a capture file whose octets arrive in chunks.
 ghost use Rattle.std.specs.Prelude.{◌≡◌, ◌≤◌, ◌↔◌, ℕ, List, length, drop, OnOk, OnErr, Ok, None, option_map};
 ghost use Rattle.std.specs.List.{concat};
 ghost use Rattle.wire_base.specs.model.Capture.{CaptureRecord, IsCapture, Reading, unread, fed, drained, read_pieces, capture_at, next_of, by_header, by_record, header_at, record_at, end_of, HeaderToCome};
@@ -11,7 +11,7 @@ use std::alloc::Global;
 use std::marker::Model;
 use wire_base::{CaptureFault, M};
 
-/// Where a reader stands: before the header, at a record, or at a fault, which stays.
+/// The state of a reader: before the header, at a record, or at an error, which is permanent.
 #[derive(Clone, Copy, Debug, PartialEq, Eq)]
 enum Step {
     Header,
@@ -19,8 +19,8 @@ enum Step {
     Refused(CaptureFault),
 }
 
-/// A reader of a capture file. It is fed the file in any pieces, and gives each record as soon as it is whole. It holds
-/// what it was fed and has not yet given out, and at most as many octets more.
+/// A reader of a capture file. It is fed the file in chunks of any size, and returns each record as soon as it is complete. It
+/// stores what it was fed and has not yet returned, and at most as many octets more.
 #[derive(Drop)]
 pub struct Reader {
     step: Step,
@@ -41,7 +41,7 @@ impl Model for Reader {
 }
 
 impl Reader {
-    /// A reader that was fed nothing. The records are those of all octets that it is fed, however they are cut.
+    /// Creates a reader that was fed nothing. Its records are those of all octets that it is fed, however they are split.
     pub fn new(alloc: Global) -> Reader
         ensures empty { result ≡ unread }
         ensures captures { (octets : List ℕ) (records : List CaptureRecord) → AreOctets octets → (capture_at octets ≡ (records, None)) ↔ IsCapture octets records }
@@ -66,7 +66,7 @@ impl Reader {
         Ok(())
     }
 
-    /// Moves what is left to the front. What was given out is as long at least, so that all moves together take no more
+    /// Moves the remaining octets to the front. The returned part is at least as long, so that all moves together take no more
     /// time than all octets that were fed.
     fn shift(&mut self)
         ensures { self.new ≡ self.old }
@@ -77,11 +77,12 @@ impl Reader {
         self.at = 0;
     }
 
-    /// The next record. None exactly where what was fed has neither a further whole record nor one of these faults.
+    /// Returns the next record. None exactly where the octets fed so far have neither a further complete record nor one of these
+    /// errors.
     ///
-    /// Refuses: 1 Magic, the first four octets aren't A1B2C3D4 or A1B23C4D in either order; 2 Version, it isn't 2.4;
-    /// 3 LinkType, the low 16 bits aren't 1, for Ethernet; 6 LongRecord, a frame of more than 262,144 octets; or
-    /// Memory. After Memory the same record is still to come; any other fault is answered from then on.
+    /// Errors: 1 Magic, the first four octets are not A1B2C3D4 or A1B23C4D in either byte order; 2 Version, it is not 2.4;
+    /// 3 LinkType, the low 16 bits are not 1, for Ethernet; 6 LongRecord, a frame of more than 262,144 octets; or
+    /// Memory. After Memory the same record is still available; any other error is returned from then on.
     #[tactic(auto, unfolding(wire_base::specs::model::Capture::next_of))]
     pub fn next(&mut self) -> Result<Option<CapRecord>, CaptureFault>
         ensures exact { Answers (option_map record_seen) result (next_of self.old).0 }
@@ -95,7 +96,7 @@ impl Reader {
         }
     }
 
-    /// Takes the header, which is to come, and then a record.
+    /// Reads the header, and then a record.
     fn open(&mut self) -> Result<Option<CapRecord>, CaptureFault>
         requires { self.old.stage ≡ HeaderToCome }
         ensures exact { Answers (option_map record_seen) result (by_header self.old.octets (header_at self.old.octets)).0 }
@@ -112,7 +113,7 @@ impl Reader {
         }
     }
 
-    /// Takes a record, after octets that go first.
+    /// Reads a record, after `skip` octets that are removed first.
     fn take_record(&mut self, form: Form, skip: usize) -> Result<Option<CapRecord>, CaptureFault>
         requires { skip ≤ length self.old.octets }
         ensures exact { Answers (option_map record_seen) result (by_record (form_seen form) (drop skip self.old.octets) (record_at (form_seen form) (drop skip self.old.octets))).0 }
@@ -141,9 +142,9 @@ impl Reader {
         }
     }
 
-    /// What the end of the file makes of a reader that has no further record.
+    /// Ends the file, for a reader that has no further record.
     ///
-    /// Refuses: 4 CutHeader, fewer than 24 octets were fed; 5 CutRecord, octets of a record that isn't whole are left.
+    /// Errors: 4 CutHeader, fewer than 24 octets were fed; 5 CutRecord, octets of an incomplete record are left.
     pub fn finish(self) -> Result<(), CaptureFault>
         requires { (next_of self).0 ≡ Ok None }
         ensures { fault_in result ≡ end_of (next_of self).1 }
@@ -157,7 +158,7 @@ impl Reader {
     }
 }
 
-/// What the end makes of so many octets before which nothing was read.
+/// Returns the result at the end of the file, if only that many octets of the header were fed.
 fn end_of_header(held: usize) -> Result<(), CaptureFault>
     ensures { fault_in result ≡ opened_end held }
 {
@@ -167,7 +168,7 @@ fn end_of_header(held: usize) -> Result<(), CaptureFault>
     end_of_records(held - HEADER)
 }
 
-/// What the end makes of so many octets after the last record.
+/// Returns the result at the end of the file, with that many octets after the last record.
 fn end_of_records(held: usize) -> Result<(), CaptureFault>
     ensures { fault_in result ≡ cut_end held }
 {

@@ -8,10 +8,10 @@ use std::alloc::Global;
 use wire_base::limits::MOST_CAPTURED;
 use wire_base::{CaptureFault, Octets};
 
-/// The octets of a record's header.
+/// The length in octets of a record's header.
 pub const RECORD: usize = 16;
 
-/// A frame, and when it was taken: the second and the microsecond, and whether all of the frame is there.
+/// A captured frame: the second and the microsecond of its capture, and whether the frame is complete.
 #[derive(Drop)]
 pub struct CapRecord {
     pub sec: u32,
@@ -20,7 +20,7 @@ pub struct CapRecord {
     pub octets: Octets,
 }
 
-/// The record at the front, and how many octets it takes; None where it isn't whole yet.
+/// Returns the record at the front and its length in octets; None if it is not complete yet.
 #[tactic(auto, unfolding(wire_base::specs::model::Capture::record_at))]
 pub fn read_record(
     alloc: Global,
@@ -51,7 +51,7 @@ pub fn read_record(
     Ok(Some((record, size)))
 }
 
-/// The microseconds of a fraction of a second.
+/// Converts a fraction of a second to microseconds.
 fn microseconds_of(form: Form, fraction: u32) -> u32
     ensures { result ≡ microseconds (form_seen form) fraction }
 {

@@ -1,4 +1,4 @@
-//! Capture files as they are written: microseconds, the lowest octet first, version 2.4, at most 65,535 octets of a
+//! Capture files as they are written: microseconds, little-endian, version 2.4, at most 65,535 octets of a
 //! frame, Ethernet.
 ghost use Rattle.std.specs.Prelude.{◌≡◌, ◌≤◌, ◌++◌, ℕ, List, true, length, drop, Ok, Some, OnOk, OnErr};
 ghost use Rattle.wire_base.specs.model.Capture.{header_at, record_at, written_header, written_record, octets_in, written_form};
@@ -6,7 +6,7 @@ ghost use Rattle.wire_base.specs.model.Capture.{header_at, record_at, written_he
 use byteorder::{ByteOrder, LittleEndian};
 use wire_base::{M, Octets};
 
-/// The header of each capture that is written.
+/// The header of each written capture.
 const WRITTEN_HEADER: [u8; 24] = [
     0xd4, 0xc3, 0xb2, 0xa1, 0x02, 0x00, 0x04, 0x00, 0x00, 0x00, 0x00, 0x00, 0x00, 0x00, 0x00, 0x00,
     0xff, 0xff, 0x00, 0x00, 0x01, 0x00, 0x00, 0x00,
@@ -21,7 +21,7 @@ pub fn write_cap_header(out: &mut Octets) -> M<()>
     out.append(&WRITTEN_HEADER)
 }
 
-/// Appends a record of a whole frame of at most 65,535 octets, and the second and the microsecond at which it was sent.
+/// Appends a record of a complete frame of at most 65,535 octets, with the second and the microsecond of its sending.
 pub fn write_cap_record(out: &mut Octets, sec: u32, usec: u32, frame: &[u8]) -> M<()>
     requires { length frame.now ≤ 65535 }
     ensures ok { OnOk result (out.new ≡ out.old ++ written_record sec usec frame.now) }
@@ -31,7 +31,7 @@ pub fn write_cap_record(out: &mut Octets, sec: u32, usec: u32, frame: &[u8]) -> 
     append_record(out, sec, usec, frame)
 }
 
-/// Appends the record's header and the frame, or neither.
+/// Appends the record's header and the frame, or neither if an allocation fails.
 fn append_record(out: &mut Octets, sec: u32, usec: u32, frame: &[u8]) -> M<()>
     requires { length frame.now ≤ 65535 }
     ensures ok { OnOk result (out.new ≡ out.old ++ written_record sec usec frame.now) }
@@ -40,7 +40,7 @@ fn append_record(out: &mut Octets, sec: u32, usec: u32, frame: &[u8]) -> M<()>
     out.append_two(&record_head(sec, usec, frame.len() as u32), frame)
 }
 
-/// The 16 octets before a frame of so many octets.
+/// Returns the 16-octet header of a record with a frame of that many octets.
 fn record_head(sec: u32, usec: u32, captured: u32) -> [u8; 16]
     ensures { result ≡ octets_in written_form 4 sec ++ (octets_in written_form 4 usec ++ (octets_in written_form 4 captured ++ octets_in written_form 4 captured)) }
 {

@@ -7,7 +7,7 @@ use Rattle.domain_model.specs.declared.step_out.WireFrame.{WireFrame}
 use Rattle.domain_model.specs.Moves.{Sending}
 use Rattle.frames_in_flight.specs.Framed.{frame_over}
 
--- A frame is recorded with the line of its event as the second, and no microseconds.
+-- The timestamp of a frame's record, in seconds, is the line number of its event, with no microseconds.
 unfoldable pub frame_record : ℕ → List ℕ → List ℕ
 frame_record line octets = written_record line 0 octets
 
@@ -19,11 +19,11 @@ wire_record line f = frame_record line f.octets
 abbrev pub sending_record : List RouterConf → ℕ × Sending → List ℕ
 sending_record routers sent = frame_record sent.0 (frame_over routers sent.1.from sent.1.link sent.1.item)
 
--- a capture that holds what was sent
+-- a capture of what was sent
 abbrev pub capture_of : List RouterConf → List (ℕ × Sending) → List ℕ
 capture_of routers sent = written_header ++ flat_map (sending_record routers) sent
 
--- a capture that gained records, where what is sent goes into it
+-- a capture with more records, if the run has a capture
 abbrev pub with_records : (captures : Bool) → (frames records : List ℕ) → List ℕ
 with_records true frames records = frames ++ records
 with_records false frames records = frames

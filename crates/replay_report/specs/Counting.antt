@@ -10,7 +10,7 @@ use Rattle.replay_report.specs.declared.counts.Counts.{Counts}
 
 -- ---- one event
 
--- how many injections an event is
+-- how many injections an event is: one or none
 abbrev pub injected_by : Event → ℕ
 injected_by (event.Inject router sd bsl ids ttl entropy payload) = 1
 injected_by (event.Take from to i) = 0
@@ -45,7 +45,7 @@ NamesOnce e = distinct (ids_of e) ≡ ids_of e
 abbrev pub dropped_ids : DropLine → ℕ
 dropped_ids dropped = length dropped.ids
 
--- the counts with one event more: each delivery is one BFR-id
+-- the counts with one more event: each delivery is one BFR-id
 abbrev pub counted : Counts → Event → List GotLine → List DropLine → Counts
 counted counts e gots drops =
     record {

@@ -17,7 +17,7 @@ use Rattle.replay_report.specs.declared.counts.Counts.{Counts}
 
 -- ---- what an event did
 
--- the name of the router at a place
+-- the name of the router at an index
 abbrev pub name_at : List RouterConf → ℕ → List ℕ
 name_at routers place = unwrap_or (option_map (λ r. r.name) (slice_get routers place)) []
 
@@ -48,7 +48,7 @@ done_text lines counts flight =
     line_of (codes "done" ∷ codes "lines" ∷ decimal lines ∷ codes "injected" ∷ decimal counts.injected ∷ codes "named" ∷ decimal counts.named
     ∷ codes "got" ∷ decimal counts.got ∷ codes "dropped" ∷ decimal counts.dropped ∷ codes "flight" ∷ decimal flight ∷ [])
 
--- ---- a line that is refused
+-- ---- a line that is rejected
 
 -- the rule that a text of more than 67,108,864 octets breaks
 abbrev pub too_long : List ℕ
@@ -58,7 +58,7 @@ too_long = rule_text 6 (codes "TooLong")
 abbrev pub text_refused_text : ℕ → List ℕ → List ℕ
 text_refused_text line why = line_of (codes "refused" ∷ decimal line ∷ codes "text" ∷ why ∷ [])
 
--- why a router makes no packets, with the BFR-id whose set identifier is too large
+-- why a router creates no packets, with the BFR-id whose set identifier is too large
 abbrev pub edge_values : EdgeFault → List ℕ
 edge_values edge.NoEgress = []
 edge_values edge.IdZero = []
@@ -70,7 +70,7 @@ edge_values edge.Memory = []
 abbrev pub edge_fault : EdgeFault → List ℕ
 edge_fault why = rule_text (edge_number why) (edge_name why) ++ edge_values why
 
--- the number and the name of the reason why an event isn't allowed, with its values; out of memory is no reason
+-- the number and the name of the reason why an event is not allowed, with its values; out of memory is not a reason
 abbrev pub event_fault : EventFault → List ℕ
 event_fault event.Events = rule_text 1 (codes "Events")
 event_fault event.NoLink = rule_text 2 (codes "NoLink")

@@ -6,7 +6,7 @@ use domain_model::WireFrames;
 use pcap_frames::write_cap_record;
 use wire_base::{M, Octets};
 
-/// Appends the record of a frame of those octets.
+/// Appends the record of a frame with those octets.
 #[tactic(auto, unfolding(crate::specs::Captures::frame_record))]
 fn push_frame(out: &mut Octets, line: u32, octets: &[u8]) -> M<()>
     requires { length octets.now < 65536 }
@@ -16,7 +16,7 @@ fn push_frame(out: &mut Octets, line: u32, octets: &[u8]) -> M<()>
     write_cap_record(out, line, 0, octets)
 }
 
-/// The same as `push_frames`, but for what stands behind the old end where memory runs out.
+/// Does the same as `push_frames`, except that octets may follow the old end if an allocation fails.
 #[tactic(auto, using(replay_text::proofs::Appended::front, replay_text::proofs::Appended::front_of_front, crate::proofs::RecordLaws::is_short))]
 fn push_each(out: &mut Octets, line: u32, frames: &WireFrames) -> M<()>
     requires { AreShort frames.now }
@@ -29,8 +29,8 @@ fn push_each(out: &mut Octets, line: u32, frames: &WireFrames) -> M<()>
     Ok(())
 }
 
-/// Appends a record of each frame, in order, with the line of the event that sent it as the second. Where memory runs out,
-/// nothing is appended.
+/// Appends a record of each frame, in order. The timestamp of a record, in seconds, is the line number of the event
+/// that sent the frame. If an allocation fails, nothing is appended.
 pub fn push_frames(out: &mut Octets, line: u32, frames: &WireFrames) -> M<()>
     requires { AreShort frames.now }
     ensures ok { OnOk result (out.new ≡ out.old ++ flat_map (wire_record line) frames.now) }

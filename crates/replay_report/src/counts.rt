@@ -1,4 +1,4 @@
-//! How much a run did.
+//! Counts of what a run did.
 ghost use Rattle.std.specs.Prelude.{◌≡◌, ◌+◌, sum_by, IfOk};
 ghost use Rattle.replay_report.specs.Counting as spec;
 
@@ -6,8 +6,8 @@ use domain_model::{DropLine, StepOut};
 use replay_text::Event;
 use wire_base::{M, Memory};
 
-/// How many injections a run had, and in numbers of BFR-ids what they named, what was delivered, and what was dropped. A BFR-id
-/// that an injection names twice counts once.
+/// The number of injections of a run, and the numbers of BFR-ids that they named, that were delivered, and that were
+/// dropped. A BFR-id that an injection names twice counts once.
 #[derive(Clone, Copy, Debug, PartialEq, Eq)]
 pub struct Counts {
     pub injected: u64,
@@ -16,7 +16,7 @@ pub struct Counts {
     pub dropped: u64,
 }
 
-/// How many injections an event is: one or none.
+/// Returns the number of injections of an event: one or none.
 fn injected_by(event: &Event) -> usize
     ensures { result ≡ spec.injected_by event.now }
 {
@@ -33,7 +33,7 @@ fn injected_by(event: &Event) -> usize
     }
 }
 
-/// How many BFR-ids an event names.
+/// Returns how many BFR-ids an event names.
 fn named_by(event: &Event) -> usize
     requires { spec.NamesOnce event.now }
     ensures { result ≡ spec.named_by event.now }
@@ -51,7 +51,7 @@ fn named_by(event: &Event) -> usize
     }
 }
 
-/// The sum; there is no memory for more than can be counted.
+/// Returns the sum. An overflow is reported as out of memory.
 fn sum(count: u64, more: usize) -> M<u64>
     ensures { IfOk result (λ sum. sum ≡ count + more) }
 {
@@ -61,7 +61,7 @@ fn sum(count: u64, more: usize) -> M<u64>
     }
 }
 
-/// The count with the BFR-ids of drops.
+/// Returns the count increased by the BFR-ids of drops.
 fn with_drops(count: u64, drops: &[DropLine]) -> M<u64>
     ensures { IfOk result (λ sum. sum ≡ count + sum_by spec.dropped_ids drops.now) }
 {
@@ -73,7 +73,7 @@ fn with_drops(count: u64, drops: &[DropLine]) -> M<u64>
 }
 
 impl Counts {
-    /// Nothing was done.
+    /// Returns counts of zero.
     pub fn none() -> Self
         ensures { result ≡ spec.no_counts }
     {
@@ -85,7 +85,7 @@ impl Counts {
         }
     }
 
-    /// The counts with one event more, which names no BFR-id twice, and what it did.
+    /// Returns the counts with one more event, which names no BFR-id twice, and its effects.
     pub fn with(&self, event: &Event, made: &StepOut) -> M<Counts>
         requires { spec.NamesOnce event.now }
         ensures { IfOk result (λ counts. counts ≡ spec.counted self.now event.now made.now.got made.now.drops) }

@@ -10,7 +10,7 @@ use std::marker::Model;
 use wire_base::limits::MOST_ROUTERS;
 use wire_base::{M, RouterConf, Rows};
 
-/// A direction of a link: from a router over one of its ends to the router there, both by their places.
+/// A direction of a link: from a router over one of its interfaces to the router at the far end, both by their indices.
 #[derive(Clone, Copy, Drop)]
 pub struct Direction {
     pub from: u16,
@@ -28,7 +28,7 @@ impl Model for Direction {
     ghost inverse = { λ d. record { from = d.from; link = d.link; to = d.to } };
 }
 
-/// Appends the directions in which the router at a place sends, over so many ends.
+/// Appends the directions in which the router at an index sends, over that many interfaces.
 fn push_from(out: &mut Rows<Direction>, routers: &[RouterConf], from: u16, ends: u16) -> M<()>
     requires { length routers.now ≤ MOST_ROUTERS }
     ensures { OnOk result (out.new ≡ out.old ++ map (spec.direction_over routers.now from) (range_with_len 0 ends)) }
@@ -40,7 +40,7 @@ fn push_from(out: &mut Rows<Direction>, routers: &[RouterConf], from: u16, ends:
     Ok(())
 }
 
-/// All directions, in the order of the routers and of their ends.
+/// Returns all directions, in the order of the routers and of their interfaces.
 #[tactic(auto, unfolding(domain_model::specs::Run::directions))]
 pub fn directions(alloc: Global, routers: &[RouterConf]) -> M<Rows<Direction>>
     requires few { length routers.now ≤ MOST_ROUTERS }

@@ -1,7 +1,8 @@
-//! What is reported of a domain at work, as texts: its frames in a capture, its deliveries and drops in the lines of a report, and how
-//! much was done; and the directions of its links.
+//! What is reported of a running domain, as text: its frames in a capture, its deliveries and drops in the lines of a
+//! report, and its counts; and the directions of its links.
 //!
-//! It stands on `domain_model` and `frames_in_flight`, and promises that the texts of an event are those of its definitions.
+//! It depends on `domain_model` and `frames_in_flight`, and promises that the texts of an event are those of its
+//! definitions.
 #![tactic(auto)]
 
 mod capture;

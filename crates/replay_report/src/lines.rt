@@ -9,7 +9,7 @@ use replay_text::{push_loss, push_number, push_payload};
 use std::alloc::Global;
 use wire_base::{M, Octets, RouterConf};
 
-/// The name of the router at a place; none of another place.
+/// Returns the name of the router at an index; empty if there is no such router.
 fn name_at(routers: &[RouterConf], place: u16) -> &[u8]
     ensures { result.now ≡ spec.name_at routers.now place }
 {
@@ -19,7 +19,7 @@ fn name_at(routers: &[RouterConf], place: u16) -> &[u8]
     }
 }
 
-/// Appends the number of a line, what it tells, and the name of a router, with a blank behind.
+/// Appends the number of a line, its keyword, and the name of a router, followed by a space.
 fn push_front(out: &mut Octets, line: u32, what: &[u8], router: &[u8]) -> M<()>
     ensures { OnOk result (out.new ≡ out.old ++ (decimal line ++ (what.now ++ (router.now ++ 32 ∷ [])))) }
 {
@@ -40,7 +40,7 @@ fn push_got(out: &mut Octets, routers: &[RouterConf], line: u32, got: &GotLine) 
     out.push(b'\n')
 }
 
-/// Appends the number of an injection, or `-` where there is none.
+/// Appends the number of an injection, or `-` if there is none.
 fn push_injection(out: &mut Octets, injection: Option<u32>) -> M<()>
     ensures { OnOk result (out.new ≡ out.old ++ spec.injection_text injection) }
 {
@@ -78,7 +78,7 @@ fn push_drops(out: &mut Octets, routers: &[RouterConf], line: u32, drops: &[Drop
     Ok(())
 }
 
-/// The lines of an event, apart.
+/// Returns the lines of an event as a text of their own.
 fn lines_of(alloc: Global, routers: &[RouterConf], line: u32, made: &StepOut) -> M<Octets>
     ensures { IfOk result (λ text. text ≡ spec.event_text routers.now line made.now.got made.now.drops) }
 {
@@ -88,9 +88,9 @@ fn lines_of(alloc: Global, routers: &[RouterConf], line: u32, made: &StepOut) ->
     Ok(text)
 }
 
-/// Appends the lines of an event that stands in a line of the schedule: its deliveries, as
-/// `LINE got ROUTER INJECTION ID PAYLOAD`, and then its drops, as `LINE drop ROUTER INJECTION CAUSE IDS`, where the injection is
-/// `-` for what carries no packet. Where memory runs out, nothing is appended.
+/// Appends the lines of an event of a schedule line: its deliveries, as `LINE got ROUTER INJECTION ID PAYLOAD`, and
+/// then its drops, as `LINE drop ROUTER INJECTION CAUSE IDS`, where the injection is `-` if the frame carries no
+/// packet. If an allocation fails, nothing is appended.
 pub fn push_event(
     alloc: Global,
     out: &mut Octets,
@@ -102,14 +102,14 @@ pub fn push_event(
     ensures err { OnErr result (out.new ≡ out.old) }
 {
     if made.got.len() == 0 && made.drops.len() == 0 {
-        // So it is of most events.
+        // Most events have no lines.
         return Ok(());
     }
     let text = lines_of(alloc, routers, line, made)?;
     out.append(text.as_slice())
 }
 
-/// Appends words and the number behind them.
+/// Appends a keyword and the number after it.
 fn push_count(out: &mut Octets, what: &[u8], count: u64) -> M<()>
     ensures { OnOk result (out.new ≡ out.old ++ (what.now ++ decimal count)) }
 {
@@ -117,7 +117,7 @@ fn push_count(out: &mut Octets, what: &[u8], count: u64) -> M<()>
     out.append_number(count)
 }
 
-/// The last line, apart.
+/// Returns the last line as a text of its own.
 fn done_line(alloc: Global, lines: u64, counts: &Counts, flight: u64) -> M<Octets>
     ensures { IfOk result (λ text. text ≡ spec.done_text lines counts.now flight) }
 {
@@ -132,9 +132,9 @@ fn done_line(alloc: Global, lines: u64, counts: &Counts, flight: u64) -> M<Octet
     Ok(text)
 }
 
-/// Appends the last line of a report on a schedule of so many lines, all of which were done:
-/// `done lines L injected I named N got G dropped D flight F`, with the counts of the run and the number of BFR-ids that are on
-/// the way. Where memory runs out, nothing is appended.
+/// Appends the last line of a report on a schedule with that many lines, all of which were done:
+/// `done lines L injected I named N got G dropped D flight F`, with the counts of the run and the number of BFR-ids
+/// that are in flight. If an allocation fails, nothing is appended.
 pub fn push_done(alloc: Global, out: &mut Octets, lines: u64, counts: &Counts, flight: u64) -> M<()>
     ensures ok { OnOk result (out.new ≡ out.old ++ spec.done_text lines counts.now flight) }
     ensures err { OnErr result (out.new ≡ out.old) }

@@ -1,4 +1,4 @@
-//! What an event made, in both outputs.
+//! The effects of an event, in both outputs.
 ghost use Rattle.std.specs.Prelude.{◌≡◌, ◌++◌, OnOk, OnErr, flat_map};
 ghost use Rattle.replay_report.specs.Captures.{wire_record, with_records, AreShort};
 ghost use Rattle.replay_report.specs.Lines.{event_text};
@@ -10,7 +10,7 @@ use run_texts::Texts;
 use std::alloc::Global;
 use wire_base::{M, Octets, RouterConf};
 
-/// Appends a record of each frame that was sent, where the run has a capture; or nothing, where an allocation fails.
+/// Appends a record of each frame that was sent, if the run has a capture. If an allocation fails, nothing is appended.
 fn push_sent(out: &mut Octets, captures: bool, line: u32, sent: &WireFrames) -> M<()>
     requires { AreShort sent.now }
     ensures ok { OnOk result (out.new ≡ with_records captures out.old (flat_map (wire_record line) sent.now)) }
@@ -23,8 +23,9 @@ fn push_sent(out: &mut Octets, captures: bool, line: u32, sent: &WireFrames) -> 
     }
 }
 
-/// Appends what an event of a line made: to the frames a record of each frame that was sent, where the run has a capture
-/// (`captures`), and to the report the lines of its deliveries and drops. Where an allocation fails, nothing is appended.
+/// Appends the effects of an event of a line. If the run has a capture (`captures`), the frames gain a record of each
+/// frame that was sent. The report gains the lines of its deliveries and drops. If an allocation fails, nothing is
+/// appended.
 #[tactic(auto, using(replay_text::proofs::Appended::front))]
 pub fn push_made(
     alloc: Global,
@@ -43,7 +44,7 @@ pub fn push_made(
     push_sent(&mut texts.frames, captures, line, &made.sent)?;
     let pushed = push_event(alloc, &mut texts.report, routers, line, made);
     if pushed.is_err() {
-        // The capture shows no event that the report lacks.
+        // The capture must not have an event that the report lacks.
         texts.frames.truncate(len);
     }
     pushed

@@ -1,4 +1,4 @@
-//! The line that ends a report where a line of a schedule is refused.
+//! The line that ends a report when a line of a schedule is rejected.
 ghost use Rattle.std.specs.Prelude.{◌≡◌, ◌≢◌, ◌++◌, ◌∷◌, [], IfOk, OnOk, OnErr, codes};
 ghost use Rattle.std.specs.Fmt.{decimal};
 ghost use Rattle.wire_base.specs.declared.faults.EdgeFault.TheVariants as edges;
@@ -12,7 +12,7 @@ use replay_text::{TextFault, push_rule};
 use std::alloc::Global;
 use wire_base::{EdgeFault, M, Memory, Octets};
 
-/// The line of a text that breaks a rule, apart.
+/// Returns the line for a text that breaks a rule, as a text of its own.
 fn text_line(alloc: Global, line: u64, number: u8, name: &[u8]) -> M<Octets>
     ensures { IfOk result (λ text. text ≡ spec.text_refused_text line (rule_text number name.now)) }
 {
@@ -25,8 +25,8 @@ fn text_line(alloc: Global, line: u64, number: u8, name: &[u8]) -> M<Octets>
     Ok(text)
 }
 
-/// Appends the line of a schedule's line that isn't in the grammar: `refused LINE text N NAME`. Want of memory is passed on, and
-/// then, or where memory runs out, nothing is appended.
+/// Appends the line for a schedule line that is not in the grammar: `refused LINE text N NAME`. If `why` is out of
+/// memory, that is returned. In this case, and if an allocation fails, nothing is appended.
 pub fn push_text_refused(alloc: Global, out: &mut Octets, line: u64, why: TextFault) -> M<()>
     ensures known { OnOk result (why ≢ texts.Memory) }
     ensures ok { OnOk result (out.new ≡ out.old ++ spec.text_refused_text line (fault_text why)) }
@@ -39,8 +39,8 @@ pub fn push_text_refused(alloc: Global, out: &mut Octets, line: u64, why: TextFa
     out.append(text.as_slice())
 }
 
-/// Appends the line of a schedule's line with which the schedule becomes too long: `refused LINE text 6 TooLong`. Where memory is
-/// refused, nothing is appended.
+/// Appends the line for the schedule line with which the schedule becomes too long: `refused LINE text 6 TooLong`. If
+/// an allocation fails, nothing is appended.
 pub fn push_too_long(alloc: Global, out: &mut Octets, line: u64) -> M<()>
     ensures ok { OnOk result (out.new ≡ out.old ++ spec.text_refused_text line spec.too_long) }
     ensures err { OnErr result (out.new ≡ out.old) }
@@ -49,7 +49,7 @@ pub fn push_too_long(alloc: Global, out: &mut Octets, line: u64) -> M<()>
     out.append(text.as_slice())
 }
 
-/// Appends the BFR-id for which a router makes no packets, where it is for one.
+/// Appends the BFR-id for which a router creates no packets, if the reason has one.
 fn push_edge_values(out: &mut Octets, why: EdgeFault) -> M<()>
     ensures { OnOk result (out.new ≡ out.old ++ spec.edge_values why) }
 {
@@ -66,7 +66,7 @@ fn push_edge_values(out: &mut Octets, why: EdgeFault) -> M<()>
     }
 }
 
-/// Appends why a router makes no packets.
+/// Appends why a router creates no packets.
 fn push_edge(out: &mut Octets, why: EdgeFault) -> M<()>
     ensures { OnOk result (out.new ≡ out.old ++ spec.edge_fault why) }
 {
@@ -74,7 +74,7 @@ fn push_edge(out: &mut Octets, why: EdgeFault) -> M<()>
     push_edge_values(out, why)
 }
 
-/// Appends why a place has no frame.
+/// Appends why an index has no frame.
 fn push_no_frame(out: &mut Octets, place: u32, count: usize) -> M<()>
     ensures { OnOk result (out.new ≡ out.old ++ spec.event_fault (events.NoFrame place count)) }
 {
@@ -85,7 +85,7 @@ fn push_no_frame(out: &mut Octets, place: u32, count: usize) -> M<()>
     out.append_number(count as u64)
 }
 
-/// Appends why an event isn't allowed.
+/// Appends why an event is not allowed.
 fn push_reason(out: &mut Octets, why: EventFault) -> M<()>
     ensures { OnOk result (out.new ≡ out.old ++ spec.event_fault why) }
 {
@@ -105,7 +105,7 @@ fn push_reason(out: &mut Octets, why: EventFault) -> M<()>
     }
 }
 
-/// The line of an event that isn't allowed, apart.
+/// Returns the line for an event that is not allowed, as a text of its own.
 fn event_line(alloc: Global, line: u64, why: EventFault) -> M<Octets>
     ensures { IfOk result (λ text. text ≡ spec.event_refused_text line why) }
 {
@@ -118,8 +118,9 @@ fn event_line(alloc: Global, line: u64, why: EventFault) -> M<Octets>
     Ok(text)
 }
 
-/// Appends the line of an event that isn't allowed: `refused LINE event N NAME`, with the reason's values, as `5 NoFrame 5 3` or
-/// `7 Edge 3 SiLarge 65535`. Want of memory is passed on, and then, or where memory runs out, nothing is appended.
+/// Appends the line for an event that is not allowed: `refused LINE event N NAME`, with the reason's values, such as
+/// `5 NoFrame 5 3` or `7 Edge 3 SiLarge 65535`. If `why` is out of memory, that is returned. In this case, and if an
+/// allocation fails, nothing is appended.
 pub fn push_event_refused(alloc: Global, out: &mut Octets, line: u64, why: EventFault) -> M<()>
     ensures known { OnOk result (why ≢ events.Memory) }
     ensures ok { OnOk result (out.new ≡ out.old ++ spec.event_refused_text line why) }

@@ -1,3 +1,4 @@
+pub mod Answered
 pub mod Owed
 pub mod Replays
 pub mod Nodes

@@ -71,7 +71,7 @@ pub in_form : (form known : Form) (router : List ℕ) (conf left : Option (List 
 in_form form known router conf left Holds is holds = subst (λ (f : Form). OnHeld f router conf left Holds) (sym is) holds
 
 -- without a count that rose there is no fault
-pub no_fault : (result : Status) (reads reads_now writes writes_now takes takes_now : ℕ)
+no_fault : (result : Status) (reads reads_now writes writes_now takes takes_now : ℕ)
     → (result ≡ ReadFault → reads < reads_now) → (result ≡ WriteFault → (writes < writes_now) ⊎ (takes < takes_now))
     → reads_now ≡ reads → writes_now ≡ writes → takes_now ≡ takes → IsDecided result ⊎ (result ≡ Memory)
 no_fault Done reads reads_now writes writes_now takes takes_now read write r w t = inl tt

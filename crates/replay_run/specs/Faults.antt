@@ -1,9 +1,19 @@
 -- What the counts of the four objects of a run say of it.
 use Rattle.std.specs.Prelude.{◌≡◌, ◌≢◌, ◌⊎◌, ◌<◌}
+use Rattle.wire_base.specs.Causes.{last_count}
 use Rattle.wire_base.specs.declared.outside.Source as source
 use Rattle.wire_base.specs.declared.outside.Sink as sink
 use Rattle.wire_base.specs.declared.status.Status.{Status}
 use Rattle.wire_base.specs.declared.status.Status.TheVariants.{ReadFault, WriteFault}
+
+-- each counter of errors can still rise
+pub record MayRise {D S C R : Type 0} (d : source.Ghosts D) (s : source.Ghosts S) (c : sink.Ghosts C) (r : sink.Ghosts R) (conf : D) (input : S) (frames : C) (report : R) : Type 0 where
+  pub conf_faults : d.faults conf < last_count
+  pub input_faults : s.faults input < last_count
+  pub frames_faults : c.faults frames < last_count
+  pub frames_zeros : c.zeros frames < last_count
+  pub report_faults : r.faults report < last_count
+  pub report_zeros : r.zeros report < last_count
 
 -- no read of a source failed
 abbrev pub SourceIsQuiet : {S : Type 0} → source.Ghosts S → (old new : S) → Type 0

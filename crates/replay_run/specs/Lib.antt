@@ -4,3 +4,4 @@ pub mod Replayed
 pub mod RunDone
 pub mod Faults
 pub mod Endings
+pub mod Run

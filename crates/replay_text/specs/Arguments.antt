@@ -1,5 +1,5 @@
--- The arguments of a schedule's lines: each reading takes the words that are left, and gives the value of the first and the
--- words after it, or the argument's fault.
+-- The arguments of a schedule's lines. Each reading takes the words that are left, and returns the value of the first
+-- and the words after it, or the argument's error.
 use Rattle.std.specs.Prelude.{ℕ, List, [], ◌∷◌, ◌++◌, ◌==◌, length, nat_lt, position, Option, Some, None, option_map, option_and_then, Result, Ok, Err, if◌then◌else◌}
 use Rattle.std.specs.Result.{result_ok}
 use Rattle.std.specs.Str.{bytes_eq}
@@ -15,21 +15,21 @@ use Rattle.replay_text.specs.Pieces.{pieces}
 use Rattle.replay_text.specs.Tokens.{number_of}
 use Rattle.replay_text.specs.Ids.{id_of}
 
--- the words, where there are so many
+-- the words, if there are that many
 abbrev pub counted : ℕ → List (List ℕ) → Result (List (List ℕ)) TextFault
 counted n words = if length words == n then Ok words else Err Word
 
 abbrev pub and_words : {X : Type 0} → List (List ℕ) → X → Result (X × List (List ℕ)) TextFault
 and_words more x = Ok (x, more)
 
--- the first word, read so
+-- the first word, read in that way
 abbrev pub argument : {X : Type 0} → TextFault → (List ℕ → Option X) → List (List ℕ) → Result (X × List (List ℕ)) TextFault
 argument fault reading [] = Err Word
 argument fault reading (word ∷ more) = or_fault fault (reading word) >>= and_words more
 
 -- ---- single words
 
--- the place of the router of that name
+-- the index of the router with that name
 abbrev pub place_of : List (List ℕ) → List ℕ → Option ℕ
 place_of names word = position (λ name. bytes_eq name word) names
 
@@ -40,24 +40,25 @@ at_most bound n = if nat_lt bound n then None else Some n
 abbrev pub number_to : ℕ → List ℕ → Option ℕ
 number_to bound word = option_and_then (at_most bound) (number_of word)
 
--- the length of bit strings
+-- the BitStringLength
 abbrev pub length_from : List ℕ → Option Bsl
 length_from word = option_and_then bsl_with (number_of word)
 
--- the numbers that texts write, each up to the bound
+-- the numbers that texts encode, each up to the bound
 unfoldable pub numbers_to : ℕ → List (List ℕ) → Option (List ℕ)
 numbers_to bound [] = Some []
 numbers_to bound (text ∷ more) = option_and_then (λ n. option_map (λ ns. n ∷ ns) (numbers_to bound more)) (number_to bound text)
 
--- the list with that number too, where it is new
+-- the list with that number appended, if it is new
 abbrev pub with_new : List ℕ → ℕ → List ℕ
 with_new ids id = if has ids id then ids else ids ++ id ∷ []
 
--- IDS: numbers up to 65,535 joined by commas, in any order, or `-` for none. A repeated id counts once, where it first comes.
+-- IDS: numbers up to 65,535 separated by commas, in any order, or `-` for none. A repeated id counts once, at its first
+-- occurrence.
 unfoldable pub listed_ids : List ℕ → Option (List ℕ)
 listed_ids word = if bytes_eq word (45 ∷ []) then Some [] else option_map distinct (numbers_to 65535 (pieces 44 word))
 
--- the octets that pairs of hexadecimal digits write, in either case
+-- the octets that pairs of hexadecimal digits encode, in upper or lower case
 abbrev pub octets_of_digits : List ℕ → Option (List ℕ)
 octets_of_digits word = result_ok (decode_of word)
 

@@ -1,4 +1,4 @@
--- What holds of each event that a line gives, in a domain of so many routers.
+-- What is true of each event that a line contains, in a domain of that many routers.
 use Rattle.std.specs.Prelude.{ℕ, ◌<◌, ◌≤◌, ◌^◌, List, length}
 use Rattle.replay_text.specs.declared.event.Event.{Event}
 use Rattle.replay_text.specs.declared.event.Event.TheVariants as event
@@ -11,7 +11,7 @@ pub record LinkFits (count from to : ℕ) : Type 0 where
   pub from_within : from < count
   pub to_within : to < count
 
--- the router is in the domain, and the header and the payload have their ranges (RFC 8296, 2.1.1.1 and 2.1.2)
+-- the router is in the domain, and the header and the payload are within their ranges (RFC 8296, 2.1.1.1 and 2.1.2)
 pub record InjectFits (count router ttl entropy : ℕ) (payload : List ℕ) : Type 0 where
   pub within : router < count
   pub ttl_left : 0 < ttl

@@ -1,4 +1,4 @@
--- The grammar of a hop text's lines: what a line spells, and where it may stand.
+-- The grammar of a hop text's lines: what a line spells, and where it is allowed.
 use Rattle.std.specs.Prelude.{ℕ, ◌≡◌, ◌≤◌, ◌⊎◌, true, false, List, [], ◌∷◌, length, Some, None, is_some, codes}
 use Rattle.wire_base.specs.declared.limits.TheConstants.{LINE_LIMIT}
 use Rattle.wire_base.specs.declared.bsl.Bsl.{Bsl}
@@ -13,14 +13,14 @@ use Rattle.replay_text.specs.Tokens.{number_of}
 use Rattle.replay_text.specs.Ids.{ids_of}
 use Rattle.replay_text.specs.Hop.{has_row, is_comment}
 
--- `bsl L` stands first: no length is known yet
+-- `bsl L` is first: no length is known yet
 pub record IsLength (state : HopState) (words : List (List ℕ)) (bsl : Bsl) : Type 0 where
   pub text : List ℕ
   pub words_are : words ≡ codes "bsl" ∷ text ∷ []
   pub number : number_of text ≡ Some (bits_of bsl)
   pub first : state.bsl ≡ None
 
--- `self K` stands after it, once, with K from 0 to the length
+-- `self K` follows it, once, with K from 0 to the length
 pub record IsOwn (state : HopState) (words : List (List ℕ)) (own : ℕ) : Type 0 where
   pub text : List ℕ
   pub words_are : words ≡ codes "self" ∷ text ∷ []
@@ -30,7 +30,7 @@ pub record IsOwn (state : HopState) (words : List (List ℕ)) (own : ℕ) : Type
   pub within : own ≤ bits_of bsl
   pub once : state.own ≡ None
 
--- `row K NAME` stands after both and before the packets, with K from 1 to the length and no row yet
+-- `row K NAME` is after both and before the packets, with K from 1 to the length and no row yet
 pub record IsRow (state : HopState) (words : List (List ℕ)) (id : ℕ) (name : List ℕ) : Type 0 where
   pub text : List ℕ
   pub words_are : words ≡ codes "row" ∷ text ∷ name ∷ []
@@ -44,7 +44,7 @@ pub record IsRow (state : HopState) (words : List (List ℕ)) (id : ℕ) (name :
   pub unique : has_row state.rows id ≡ false
   pub named : is_name name ≡ true
 
--- `packet IDS` stands after `bsl` and `self`, with ids from 1 to the length
+-- `packet IDS` is after `bsl` and `self`, with ids from 1 to the length
 pub record IsPacket (state : HopState) (words : List (List ℕ)) (bsl : Bsl) (ids : List ℕ) : Type 0 where
   pub text : List ℕ
   pub words_are : words ≡ codes "packet" ∷ text ∷ []
@@ -59,7 +59,7 @@ IsSaid state words (line.Own own) = IsOwn state words own
 IsSaid state words (line.Row row) = IsRow state words row.id row.name
 IsSaid state words (line.Packet bits) = IsPacket state words (bsl_of bits) (positions_of bits)
 
--- A line of at most 16,384 octets, without its line end: a comment, or words that say something here.
+-- A line of at most 16,384 octets, without its line ending: a comment, or words that are valid here.
 pub record IsLine (state : HopState) (text : List ℕ) (said : HopLine) : Type 0 where
   pub short : length text ≤ LINE_LIMIT
   pub says : ((is_comment text ≡ true) × (said ≡ line.Empty)) ⊎ ((is_comment text ≡ false) × IsSaid state (words_of text) said)

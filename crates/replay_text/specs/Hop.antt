@@ -24,7 +24,7 @@ abbrev pub length_said : Option Bsl → Result HopLine TextFault
 length_said None = Err Number
 length_said (Some bsl) = Ok (line.Length bsl)
 
--- the length with that many bits
+-- the BitStringLength with that many bits
 abbrev pub length_of : ℕ → Result HopLine TextFault
 length_of n = length_said (bsl_with n)
 
@@ -33,7 +33,7 @@ length_line state args = do
   text ← or_fault Word (only_word args)
   if is_some state.bsl then Err Word else (or_fault Number (number_of text) >>= length_of)
 
--- the length, where `self` may follow
+-- the BitStringLength, if `self` may follow
 abbrev pub for_own : HopState → Result Bsl TextFault
 for_own state = if is_some state.own then Err Word else or_fault Word state.bsl
 
@@ -47,7 +47,7 @@ own_line state args = do
   n ← or_fault Number (number_of text)
   own_in (bits_of bsl) n
 
--- the length, where rows or packets may follow
+-- the BitStringLength, if rows or packets may follow
 abbrev pub for_rows : HopState → Result Bsl TextFault
 for_rows state = if is_some state.own then or_fault Word state.bsl else Err Word
 
@@ -78,7 +78,7 @@ words_line state word args =
     if bytes_eq word (codes "packet") then packet_line state args else
     Err Word
 
--- what a line says in a state, or its first fault
+-- what a line contains in a state, or its first error
 abbrev pub line_of_words : HopState → List (List ℕ) → Result HopLine TextFault
 line_of_words state [] = Ok line.Empty
 line_of_words state (word ∷ args) = words_line state word args
@@ -88,14 +88,14 @@ abbrev pub is_comment : List ℕ → Bool
 is_comment [] = false
 is_comment (c ∷ text) = c == 35
 
--- a line of at most 16,384 octets, that is no comment, by its words
+-- a line of at most 16,384 octets that is not a comment, by its words
 unfoldable pub hop_line : List ℕ → HopState → Result HopLine TextFault
 hop_line text state =
     if nat_lt LINE_LIMIT (length text) then Err LineLong else
     if is_comment text then Ok line.Empty else
     line_of_words state (words_of text)
 
--- A packet's ids ascend from 1 to the length of its bit string.
+-- A packet's ids ascend from 1 to the BitStringLength.
 abbrev pub IsOrdered : HopLine → Type 0
 IsOrdered line.Empty = Unit {0}
 IsOrdered (line.Length bsl) = Unit {0}

@@ -1,12 +1,12 @@
--- What the reports of all commands share: lines of words; and the causes of drops: a word, and where a reader refused octets the
--- number of its rule.
+-- What the reports of all commands share: lines of words; and the causes of drops: a keyword and, if a parser rejected
+-- octets, the number of its rule.
 use Rattle.std.specs.Prelude.{ℕ, List, [], ◌∷◌, ◌++◌, codes}
 use Rattle.std.specs.Fmt.{decimal}
 use Rattle.wire_base.specs.declared.cause.Cause.{Cause}
 use Rattle.wire_base.specs.declared.cause.Cause.TheVariants as cause
 use Rattle.wire_base.specs.model.Faults.{head_number, frame_number, ip_number, pdu_number}
 
--- A line is words with a blank between them, and LF.
+-- A line is words separated by one space each, and LF.
 abbrev pub line_of : List (List ℕ) → List ℕ
 line_of [] = 10 ∷ []
 line_of (word ∷ []) = word ++ 10 ∷ []

@@ -1,4 +1,4 @@
--- The lines of a schedule: what happens to a domain, one event a line, or some rounds of all that is due.
+-- The lines of a schedule: what happens in a domain, one event per line, or some rounds of all that is due.
 use Rattle.std.specs.Prelude.{ℕ, ◌≡◌, true, List, [], ◌∷◌, nat_lt, length, Result, Ok, Err, IsOk, codes, if◌then◌else◌}
 use Rattle.wire_base.specs.declared.bsl.Bsl.{Bsl}
 use Rattle.std.specs.Str.{bytes_eq}
@@ -21,7 +21,7 @@ router_named names args = do
   router ← name_at names words
   Ok router.0
 
--- `A B`, the two ends of a link
+-- `A B`, the two routers of a link
 unfoldable pub link_named : List (List ℕ) → List (List ℕ) → Result (ℕ × ℕ) TextFault
 link_named names args = do
   words ← counted 2 args
@@ -60,12 +60,13 @@ inject_front names args = do
   bsl ← length_at sd.1
   Ok (router.0, sd.0, bsl.0)
 
--- Reading words takes memory for the ids and the payload of what enters, once what stands before them is right, and for nothing else.
+-- Reading words allocates for the ids and the payload of an injection, once what precedes them is valid, and for
+-- nothing else.
 abbrev pub TakesMemory : (names words : List (List ℕ)) → Type 0
 TakesMemory names [] = ⊥
 TakesMemory names (word ∷ args) = (bytes_eq word (codes "inject") ≡ true) × IsOk (inject_front names args)
 
--- the event that a word names, with the words after it
+-- the event that a keyword names, with the words after it
 unfoldable pub event_line : List (List ℕ) → List ℕ → List (List ℕ) → Result Event TextFault
 event_line names word args =
     if bytes_eq word (codes "inject") then inject_event names args else
@@ -94,8 +95,8 @@ abbrev pub line_of_words : List (List ℕ) → List (List ℕ) → Result Line T
 line_of_words names [] = Ok line.Empty
 line_of_words names (word ∷ args) = schedule_words names word args
 
--- What a line says in a domain whose routers have those names, in that order, or the first rule that it breaks: a line of at
--- most 16,384 octets, that is no comment, by its words. The line comes without its line end.
+-- What a line contains in a domain whose routers have those names, in that order, or the first rule that it breaks: a
+-- line of at most 16,384 octets that is not a comment, by its words. The line comes without its line ending.
 unfoldable pub schedule_line : List ℕ → List (List ℕ) → Result Line TextFault
 schedule_line text names =
     if nat_lt LINE_LIMIT (length text) then Err LineLong else

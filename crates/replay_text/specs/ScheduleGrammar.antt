@@ -24,7 +24,7 @@ pub record IsOne (names args : List (List ℕ)) (router : ℕ) : Type 0 where
   pub args_are : args ≡ word ∷ []
   pub named : place_of names word ≡ Some router
 
--- `A B`: the two ends of a link
+-- `A B`: the two routers of a link
 pub record IsLink (names args : List (List ℕ)) (from to : ℕ) : Type 0 where
   pub first : List ℕ
   pub second : List ℕ
@@ -32,7 +32,7 @@ pub record IsLink (names args : List (List ℕ)) (from to : ℕ) : Type 0 where
   pub first_named : place_of names first ≡ Some from
   pub second_named : place_of names second ≡ Some to
 
--- `A B I`: a frame on the way
+-- `A B I`: a frame in flight
 pub record IsFrame (names args : List (List ℕ)) (from to i : ℕ) : Type 0 where
   pub first : List ℕ
   pub second : List ℕ
@@ -42,7 +42,7 @@ pub record IsFrame (names args : List (List ℕ)) (from to i : ℕ) : Type 0 whe
   pub second_named : place_of names second ≡ Some to
   pub is_place : IsNumber 0 4294967295 place i
 
--- `R SD BSL IDS TTL ENTROPY PAYLOAD`: what enters, with ranges by RFC 8296, 2.1
+-- `R SD BSL IDS TTL ENTROPY PAYLOAD`: what is injected, with ranges by RFC 8296, 2.1
 pub record IsInjection (names args : List (List ℕ)) (router sd : ℕ) (bsl : Bsl) (ids : List ℕ) (ttl entropy : ℕ) (payload : List ℕ) : Type 0 where
   pub name : List ℕ
   pub subdomain : List ℕ
@@ -60,7 +60,7 @@ pub record IsInjection (names args : List (List ℕ)) (router sd : ℕ) (bsl : B
   pub is_entropy : IsNumber 0 1048575 flow entropy
   pub spelled : payload_of digits ≡ Some payload
 
--- a word, and arguments after it
+-- a keyword, and arguments after it
 pub record Says (words : List (List ℕ)) (word : List ℕ) (Args : List (List ℕ) → Type 0) : Type 0 where
   pub args : List (List ℕ)
   pub words_are : words ≡ word ∷ args
@@ -77,7 +77,7 @@ IsEvent names words (event.Send from to) = Says words (codes "send") (λ args. I
 IsEvent names words (event.Tick router) = Says words (codes "tick") (λ args. IsOne names args router)
 IsEvent names words (event.Restart router) = Says words (codes "restart") (λ args. IsOne names args router)
 
--- `settle N`: so many rounds
+-- `settle N`: that many rounds
 pub record IsRounds (args : List (List ℕ)) (rounds : ℕ) : Type 0 where
   pub word : List ℕ
   pub args_are : args ≡ word ∷ []
@@ -88,7 +88,7 @@ IsSaid names words line.Empty = words ≡ []
 IsSaid names words (line.One e) = IsEvent names words e
 IsSaid names words (line.Settle rounds) = Says words (codes "settle") (λ args. IsRounds args rounds)
 
--- A line of at most 16,384 octets, without its line end: a comment, or words that say something.
+-- A line of at most 16,384 octets, without its line ending: a comment, or words that are a valid line.
 pub record IsScheduleLine (names : List (List ℕ)) (text : List ℕ) (said : Line) : Type 0 where
   pub short : length text ≤ LINE_LIMIT
   pub says : ((is_comment text ≡ true) × (said ≡ line.Empty)) ⊎ ((is_comment text ≡ false) × IsSaid names (words_of text) said)

@@ -1,5 +1,5 @@
-//! The arguments of a schedule's lines. Each reading takes the text that is left, and gives the value of its first word and
-//! the text after it.
+//! The arguments of a schedule's lines. Each function takes the text that is left, and returns the value of its first
+//! word and the text after it.
 ghost use Rattle.std.specs.Prelude.{◌≡◌, ◌≢◌, ◌≤◌, ◌<◌, ◌==◌, length, IfOk, IfErr, IfSome};
 ghost use Rattle.replay_text.specs.declared.fault.TextFault.TheVariants as texts;
 ghost use Rattle.std.specs.Str.{bytes_eq};
@@ -18,7 +18,7 @@ use std::alloc::Global;
 use wire_base::limits::MOST_PAYLOAD;
 use wire_base::{Bsl, Name, Octets, Rows};
 
-/// Whether a text has so many words.
+/// Returns whether a text has that many words.
 pub fn has_words(text: &[u8], count: usize) -> bool
     ensures { result ≡ (length (words_of text.now) == count) }
 {
@@ -32,7 +32,7 @@ pub fn has_words(text: &[u8], count: usize) -> bool
     next_word(rest).is_none()
 }
 
-/// The text, where it has so many words.
+/// Returns the text if it has that many words.
 pub fn counted(text: &[u8], count: usize) -> Result<&[u8], TextFault>
     ensures value { Gives (λ text. words_of text.now) result (arguments.counted count (words_of text.now)) }
     ensures quiet { IfErr result (λ why. why ≢ texts.Memory) }
@@ -57,7 +57,7 @@ fn position_of(names: &[Name], word: &[u8]) -> Option<usize>
     names.iter().position(|name| is_name(name, word))
 }
 
-/// The place of the router of that name.
+/// Returns the index of the router with that name.
 fn place_of(names: &[Name], word: &[u8]) -> Option<u16>
     requires { length names.now ≤ 65536 }
     ensures value { result ≡ arguments.place_of names.now word.now }
@@ -67,7 +67,7 @@ fn place_of(names: &[Name], word: &[u8]) -> Option<u16>
     Some(place as u16)
 }
 
-/// The router that is named.
+/// Parses the name of a router.
 pub fn name_at<'a>(names: &Rows<Name>, args: &'a [u8]) -> Result<(u16, &'a [u8]), TextFault>
     requires { length names.now ≤ 65536 }
     ensures value { Gives (λ found. (found.0, words_of found.1.now)) result (arguments.name_at names.now (words_of args.now)) }
@@ -79,7 +79,7 @@ pub fn name_at<'a>(names: &Rows<Name>, args: &'a [u8]) -> Result<(u16, &'a [u8])
     Ok((place, rest))
 }
 
-/// A number up to the bound.
+/// Parses a number up to the bound.
 pub fn number_at(bound: u64, args: &[u8]) -> Result<(u64, &[u8]), TextFault>
     ensures value { Gives (λ found. (found.0, words_of found.1.now)) result (arguments.number_at bound (words_of args.now)) }
     ensures quiet { IfErr result (λ why. why ≢ texts.Memory) }
@@ -96,7 +96,7 @@ fn length_from(word: &[u8]) -> Option<Bsl>
     length_with(number(word)?)
 }
 
-/// The length of a bit string.
+/// Parses a BitStringLength.
 pub fn length_at(args: &[u8]) -> Result<(Bsl, &[u8]), TextFault>
     ensures value { Gives (λ found. (found.0, words_of found.1.now)) result (arguments.length_at (words_of args.now)) }
     ensures quiet { IfErr result (λ why. why ≢ texts.Memory) }
@@ -106,7 +106,7 @@ pub fn length_at(args: &[u8]) -> Result<(Bsl, &[u8]), TextFault>
     Ok((bsl, rest))
 }
 
-/// A TTL, above 0.
+/// Parses a TTL, which must be above 0.
 pub fn ttl_at(args: &[u8]) -> Result<(u8, &[u8]), TextFault>
     ensures value { Gives (λ found. (found.0, words_of found.1.now)) result (arguments.ttl_at (words_of args.now)) }
     ensures low { IfOk result (λ found. 1 ≤ found.0) }
@@ -116,7 +116,7 @@ pub fn ttl_at(args: &[u8]) -> Result<(u8, &[u8]), TextFault>
     Ok((ttl as u8, rest))
 }
 
-/// A list of BFR-ids.
+/// Parses a list of BFR-ids.
 pub fn ids_at(alloc: Global, args: &[u8]) -> Result<(Rows<u16>, &[u8]), TextFault>
     ensures { Gives (λ found. (found.0, words_of found.1.now)) result (arguments.ids_at (words_of args.now)) }
 {
@@ -127,7 +127,7 @@ pub fn ids_at(alloc: Global, args: &[u8]) -> Result<(Rows<u16>, &[u8]), TextFaul
     }
 }
 
-/// A payload.
+/// Parses a payload.
 pub fn payload_at(alloc: Global, args: &[u8]) -> Result<(Octets, &[u8]), TextFault>
     ensures value { Gives (λ found. (found.0, words_of found.1.now)) result (arguments.payload_at (words_of args.now)) }
     ensures short { IfOk result (λ found. length found.0 ≤ MOST_PAYLOAD) }

@@ -1,4 +1,4 @@
-//! Numbers that are put next to each other on the stack, and then appended to a text together.
+//! Numbers that are collected on the stack, and then appended to a text together.
 ghost use Rattle.std.specs.Prelude.{◌≡◌, ◌<◌, ◌≤◌, ◌+◌, ◌++◌, ◌∷◌, [], ℕ, List, OnOk, OnErr, take, length};
 ghost use Rattle.std.specs.Fmt.{decimal};
 ghost use Rattle.arrayvec.specs.ArrayVec.{array_vec_len};
@@ -9,7 +9,7 @@ use wire_base::{M, Octets};
 /// Octets that are appended together.
 pub type Block = ArrayVec<u8, 64>;
 
-/// The decimal digit of a number below 10.
+/// Returns the decimal digit of a number below 10.
 fn digit(number: u16) -> u8
     requires { number < 10 }
     ensures { result ≡ 48 + number }
@@ -17,7 +17,7 @@ fn digit(number: u16) -> u8
     b'0' + number as u8
 }
 
-/// Puts the decimal digits of a number below 10,000 into a block that has room for four.
+/// Appends the decimal digits of a number below 10,000 to a block that has room for four.
 #[tactic(auto, using(crate::proofs::Digits::one_digit, crate::proofs::Digits::two_digits, crate::proofs::Digits::three_digits, crate::proofs::Digits::four_digits))]
 pub fn put_number(block: &mut Block, number: u16)
     requires small { number < 10000 }
@@ -42,7 +42,7 @@ pub fn put_number(block: &mut Block, number: u16)
     }
 }
 
-/// Appends a block to a text and empties it, where it has no room for a comma and four digits. Where memory runs out, the
+/// Appends a block to a text and empties it, if it has no room for a comma and four digits. If an allocation fails, the
 /// text is unchanged.
 pub fn make_room(out: &mut Octets, block: &mut Block) -> M<()>
     ensures same { OnOk result (out.new ++ block.new.items ≡ out.old ++ block.old.items) }

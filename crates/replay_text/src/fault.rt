@@ -5,25 +5,25 @@ ghost use Rattle.replay_text.specs.Fault.{number_of, name_of, rule_text};
 use thiserror::Error;
 use wire_base::{M, Octets};
 
-/// Why a line is refused. The rules are numbered in this order, from 1.
+/// Why a line is rejected. The rules are numbered in this order, from 1.
 #[derive(Clone, Copy, Debug, PartialEq, Eq, Error)]
 pub enum TextFault {
-    /// The first word is unknown, may not stand here, or has the wrong count of words after it.
+    /// The first word is unknown, is not allowed here, or is followed by the wrong number of words.
     #[error("unknown or misplaced word, or a wrong count of words")]
     Word,
-    /// A number isn't of its form or in its range.
+    /// A number is malformed or out of range.
     #[error("a number that is malformed or out of range")]
     Number,
-    /// A router's name isn't of its form, or no router has it.
+    /// A router name is malformed or unknown.
     #[error("a malformed or unknown router name")]
     Name,
-    /// A payload isn't of its form.
+    /// A payload is malformed.
     #[error("a malformed payload")]
     Hex,
     /// The line has more than 16,384 octets.
     #[error("a line of more than 16384 octets")]
     LineLong,
-    /// Memory ran out.
+    /// An allocation failed.
     #[error("out of memory")]
     Memory,
 }
@@ -37,7 +37,7 @@ impl From<wire_base::Memory> for TextFault {
 }
 
 impl TextFault {
-    /// The number of the rule, from 1; 0 for out of memory, which is no rule.
+    /// Returns the number of the rule, from 1. Out of memory is not a rule and returns 0.
     pub fn number(self) -> u8
         ensures { result ≡ number_of self }
     {
@@ -51,7 +51,7 @@ impl TextFault {
         }
     }
 
-    /// The name of the rule, as a report says it.
+    /// Returns the name of the rule, as reports have it.
     pub fn name(self) -> &'static [u8]
         ensures { result.now ≡ name_of self }
     {
@@ -66,7 +66,7 @@ impl TextFault {
     }
 }
 
-/// Appends the number and the name of a rule, with a blank between them, as reports say it.
+/// Appends the number and the name of a rule, separated by a space, as reports have it.
 pub fn push_rule(out: &mut Octets, number: u8, name: &[u8]) -> M<()>
     ensures { OnOk result (out.new ≡ out.old ++ rule_text number name.now) }
 {

@@ -1,16 +1,16 @@
-//! What the lines of a hop text say.
+//! What the lines of a hop text contain.
 use bier_bits::AnyBits;
 use wire_base::{Bsl, Name, Rows};
 
-/// A row: packets for the BFR-id go to the neighbor of that name.
+/// A row: packets for the BFR-id go to the neighbor with that name.
 #[derive(Drop)]
 pub struct HopRow {
     pub id: u16,
     pub name: Name,
 }
 
-/// What the lines so far have said: the length of bit strings, the router's own BFR-id, 0 for none, the rows in
-/// their order, and whether a packet has come.
+/// The state after the lines so far: the BitStringLength, the router's own BFR-id, 0 for none, the rows in order, and
+/// whether a packet line was read.
 #[derive(Drop)]
 pub struct HopState {
     pub bsl: Option<Bsl>,
@@ -19,17 +19,17 @@ pub struct HopState {
     pub packets: bool,
 }
 
-/// What one line says.
+/// What one line contains.
 #[derive(Drop)]
 pub enum HopLine {
     /// Nothing: the line is blank or a comment.
     Empty,
-    /// The length of bit strings.
+    /// The BitStringLength.
     Length(Bsl),
     /// The router's own BFR-id, 0 for none.
     Own(u16),
-    /// One row more.
+    /// One more row.
     Row(HopRow),
-    /// A packet for the BFR-ids at these positions; the set identifier is 0.
+    /// A packet for the BFR-ids at these bit positions. Its set identifier is 0.
     Packet(AnyBits),
 }

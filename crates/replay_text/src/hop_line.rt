@@ -16,7 +16,7 @@ use std::alloc::Global;
 use wire_base::limits::LINE_LIMIT;
 use wire_base::{Bsl, Name};
 
-/// The length with that many bits.
+/// Returns the BitStringLength with that many bits.
 pub fn length_with(bits: u64) -> Option<Bsl>
     ensures { result ≡ bsl_with bits }
 {
@@ -26,7 +26,7 @@ pub fn length_with(bits: u64) -> Option<Bsl>
     Bsl::from_bits(bits as u32)
 }
 
-/// What `bsl` says with those words after it.
+/// Parses a `bsl` line from the words after it.
 #[tactic(auto, unfolding(crate::specs::Hop::length_line))]
 fn length_line(state: &HopState, args: &[u8]) -> Result<HopLine, TextFault>
     ensures value { Gives (λ x. x) result (hop.length_line state.now (words_of args.now)) }
@@ -43,7 +43,7 @@ fn length_line(state: &HopState, args: &[u8]) -> Result<HopLine, TextFault>
     }
 }
 
-/// The length, where `self` may follow.
+/// Returns the BitStringLength if a `self` line may follow.
 fn for_own(state: &HopState) -> Result<Bsl, TextFault>
     ensures value { Gives (λ x. x) result (hop.for_own state.now) }
     ensures quiet { IfErr result (λ why. why ≢ texts.Memory) }
@@ -54,7 +54,7 @@ fn for_own(state: &HopState) -> Result<Bsl, TextFault>
     state.bsl.ok_or(TextFault::Word)
 }
 
-/// What `self` says with those words after it.
+/// Parses a `self` line from the words after it.
 #[tactic(auto, unfolding(crate::specs::Hop::own_line))]
 fn own_line(state: &HopState, args: &[u8]) -> Result<HopLine, TextFault>
     ensures value { Gives (λ x. x) result (hop.own_line state.now (words_of args.now)) }
@@ -69,7 +69,7 @@ fn own_line(state: &HopState, args: &[u8]) -> Result<HopLine, TextFault>
     Ok(HopLine::Own(own as u16))
 }
 
-/// The length, where rows or packets may follow.
+/// Returns the BitStringLength if rows or packets may follow.
 fn for_rows(state: &HopState) -> Result<Bsl, TextFault>
     ensures value { Gives (λ x. x) result (hop.for_rows state.now) }
     ensures quiet { IfErr result (λ why. why ≢ texts.Memory) }
@@ -86,7 +86,7 @@ fn has_row(rows: &[HopRow], id: u16) -> bool
     rows.iter().any(|row| row.id == id)
 }
 
-/// What `row` says with those words after it.
+/// Parses a `row` line from the words after it.
 #[tactic(auto, unfolding(crate::specs::Hop::row_line))]
 fn row_line(alloc: Global, state: &HopState, args: &[u8]) -> Result<HopLine, TextFault>
     ensures value { Gives (λ x. x) result (hop.row_line state.now (words_of args.now)) }
@@ -108,7 +108,7 @@ fn row_line(alloc: Global, state: &HopState, args: &[u8]) -> Result<HopLine, Tex
     Ok(HopLine::Row(HopRow { id, name }))
 }
 
-/// What `packet` says with those words after it.
+/// Parses a `packet` line from the words after it.
 #[tactic(auto, unfolding(crate::specs::Hop::packet_line))]
 fn packet_line(state: &HopState, args: &[u8]) -> Result<HopLine, TextFault>
     ensures value { Gives (λ x. x) result (hop.packet_line state.now (words_of args.now)) }
@@ -143,7 +143,7 @@ fn words_line(
     }
 }
 
-/// Whether a line is a comment.
+/// Returns whether a line is a comment.
 pub fn is_comment(line: &[u8]) -> bool
     ensures { result ≡ hop.is_comment line.now }
 {
@@ -153,7 +153,7 @@ pub fn is_comment(line: &[u8]) -> bool
     }
 }
 
-/// The same, as the first fault or what is said.
+/// Parses a line, and returns what it contains or its first error.
 #[tactic(auto, unfolding(crate::specs::Hop::hop_line))]
 fn line_of(alloc: Global, line: &[u8], state: &HopState) -> Result<HopLine, TextFault>
     ensures value { Gives (λ x. x) result (hop.hop_line line.now state.now) }
@@ -171,12 +171,12 @@ fn line_of(alloc: Global, line: &[u8], state: &HopState) -> Result<HopLine, Text
     }
 }
 
-/// What a line of a hop text says after the lines before it. The line comes without its line end.
+/// Parses a line of a hop text, given the lines before it. The line comes without its line ending.
 ///
-/// Refused, in this order, as `LineLong` where the line has more than 16,384 octets; as `Word` where its first word
-/// is unknown, has the wrong count of words after it, or may not stand here: `bsl L` comes first, `self K` second,
-/// then `row K NAME` lines, then `packet IDS` lines; then its arguments from left to right, as `Number` or `Name`.
-/// `Memory` may come in place of what a line says, and never of a refusal.
+/// The errors, in order of precedence. `LineLong`: the line has more than 16,384 octets. `Word`: its first word is
+/// unknown, is followed by the wrong number of words, or is not allowed here. The order is `bsl L` first, `self K`
+/// second, then `row K NAME` lines, then `packet IDS` lines. `Number` or `Name`: an argument is invalid; arguments are
+/// checked from left to right. `Memory` may be returned instead of what a line contains, and never instead of an error.
 #[tactic(auto, using(crate::proofs::Spelled::found, crate::proofs::Spelled::only, crate::proofs::Ordered::ordered))]
 pub fn read_hop_line(alloc: Global, line: &[u8], state: &HopState) -> Result<HopLine, TextFault>
     ensures value { Gives (λ x. x) result (hop.hop_line line.now state.now) }

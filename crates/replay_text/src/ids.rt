@@ -1,4 +1,4 @@
-//! Lists of ids: how they are read, and how they are written.
+//! Lists of ids, and how they are read and written.
 ghost use Rattle.std.specs.Prelude.{◌≡◌, ◌≤◌, ◌++◌, ◌∷◌, [], length, take, option_map, IfSome, OnOk, OnErr};
 ghost use Rattle.std.specs.Fmt.{decimal};
 ghost use Rattle.std.specs.List.{flat_map};
@@ -12,7 +12,7 @@ use crate::tokens::number;
 use bier_bits::AnyBits;
 use wire_base::{Bsl, M, Octets};
 
-/// A number from 1 to the bound.
+/// Parses a number from 1 to the bound.
 #[tactic(auto, unfolding(crate::specs::Ids::id_of))]
 pub fn id(text: &[u8], bound: u16) -> Option<u16>
     ensures value { result ≡ id_of bound text.now }
@@ -26,7 +26,8 @@ pub fn id(text: &[u8], bound: u16) -> Option<u16>
     Some(number as u16)
 }
 
-/// The set of a list of ids: numbers from 1 to the length's bits with commas, in any order, or `-` for none.
+/// Parses a list of ids into a set: numbers from 1 to the number of bits, separated by commas, in any order, or `-` for
+/// none.
 #[tactic(auto, unfolding(crate::specs::Ids::ids_of))]
 pub fn read_ids(text: &[u8], bsl: Bsl) -> Option<AnyBits>
     ensures { result ≡ option_map (any_of bsl) (ids_of (bits_of bsl) text.now) }
@@ -52,8 +53,8 @@ fn read_pieces(text: &[u8], bsl: Bsl) -> Option<AnyBits>
     }
 }
 
-/// Appends the ids with commas between them, or `-` for none. Ascending ids from 1 on are read again as what they
-/// are. Where memory runs out, nothing is appended.
+/// Appends the ids separated by commas, or `-` for none. Parsing the text returns the same ids, if they ascend from 1
+/// on. If an allocation fails, nothing is appended.
 #[tactic(auto, using(crate::proofs::Again::are_read_again))]
 pub fn push_ids(out: &mut Octets, ids: &[u16]) -> M<()>
     ensures ok { OnOk result (out.new ≡ out.old ++ ids_text ids.now) }
@@ -68,7 +69,7 @@ pub fn push_ids(out: &mut Octets, ids: &[u16]) -> M<()>
     pushed
 }
 
-/// The same, but for what stands behind the old end where memory runs out.
+/// Does the same, except that text may follow the old end if an allocation fails.
 #[tactic(auto, using(crate::proofs::Appended::front, crate::proofs::Appended::front_of_front))]
 fn push_each(out: &mut Octets, ids: &[u16]) -> M<()>
     ensures ok { OnOk result (out.new ≡ out.old ++ ids_text ids.now) }

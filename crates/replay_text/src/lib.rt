@@ -1,6 +1,6 @@
-//! The lines of the program's inputs, and the texts that its reports are made of.
+//! The lines of the program's inputs, and the texts that its reports consist of.
 //!
-//! It stands on `wire_base` and `bier_bits`, and promises what a line says or the first rule that it breaks.
+//! It depends on `wire_base` and `bier_bits`, and promises what a line contains or the first rule that it breaks.
 #![tactic(auto)]
 
 mod arguments;

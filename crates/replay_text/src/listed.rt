@@ -1,4 +1,4 @@
-//! The BFR-ids for which a payload enters.
+//! The BFR-ids for which a payload is injected.
 ghost use Rattle.std.specs.Prelude.{◌≡◌, ◌≤◌, ℕ, OnOk, option_map};
 ghost use Rattle.std.specs.Ordering.{nat_cmp};
 ghost use Rattle.std.specs.BTreeSet.{contains};
@@ -15,7 +15,7 @@ use std::alloc::Global;
 use std::collections::BTreeSet;
 use wire_base::{M, Rows};
 
-/// Adds an id, unless it is there. `seen` has the same ids.
+/// Adds an id, unless the list has it. `seen` has the same ids.
 fn add_new(ids: &mut Rows<u16>, seen: &mut BTreeSet<u16>, id: u16) -> M<()>
     requires same { (k : ℕ) → contains nat_cmp seen.old k ≡ has ids.old k }
     ensures added { OnOk result (ids.new ≡ with_new ids.old id) }
@@ -45,8 +45,8 @@ fn read_pieces(alloc: Global, text: &[u8]) -> Result<Rows<u16>, TextFault>
     }
 }
 
-/// A list of BFR-ids: numbers up to 65,535 with commas, in any order, or `-` for none. Each id is given once, where it first
-/// comes.
+/// Parses a list of BFR-ids: numbers up to 65,535 separated by commas, in any order, or `-` for none. A repeated id is
+/// returned once, at its first occurrence.
 #[tactic(auto, unfolding(crate::specs::Arguments::listed_ids))]
 pub fn read_listed(alloc: Global, text: &[u8]) -> Result<Rows<u16>, TextFault>
     ensures { Gives (λ ids. ids) result (or_fault fault.Number (listed_ids text.now)) }

@@ -1,4 +1,4 @@
-//! Payloads: how they are read, and how they are written.
+//! Payloads, and how they are read and written.
 ghost use Rattle.std.specs.Prelude.{◌≡◌, ◌≤◌, ◌*◌, ◌++◌, length, take, OnOk, OnErr, IfOk};
 ghost use Rattle.std.specs.List.{flat_map};
 ghost use Rattle.replay_text.specs.declared.fault.TextFault.TheVariants as fault;
@@ -12,12 +12,12 @@ use std::alloc::Global;
 use wire_base::limits::MOST_PAYLOAD;
 use wire_base::{M, Octets};
 
-/// The most digits of a payload.
+/// The greatest number of digits of a payload.
 const DIGITS_LIMIT: usize = 2 * MOST_PAYLOAD;
 
 const DIGITS: &[u8; 16] = b"0123456789abcdef";
 
-/// The octets that pairs of hexadecimal digits write, in either case.
+/// Returns the octets that pairs of hexadecimal digits encode, in upper or lower case.
 #[tactic(auto, using(crate::proofs::PayloadLemmas::half_as_long))]
 fn octets_of_digits(alloc: Global, text: &[u8]) -> Result<Octets, TextFault>
     ensures value { Gives (λ octets. octets) result (or_fault fault.Hex (octets_of_digits text.now)) }
@@ -30,7 +30,7 @@ fn octets_of_digits(alloc: Global, text: &[u8]) -> Result<Octets, TextFault>
     }
 }
 
-/// The octets of a payload: at most 4,000 hexadecimal digits, an even number of them, or `-` for none.
+/// Parses a payload: an even number of hexadecimal digits, at most 4,000, or `-` for none.
 #[tactic(auto, unfolding(crate::specs::Arguments::payload_of))]
 pub fn read_payload(alloc: Global, text: &[u8]) -> Result<Octets, TextFault>
     ensures value { Gives (λ octets. octets) result (or_fault fault.Hex (payload_of text.now)) }
@@ -53,7 +53,7 @@ fn push_octet(out: &mut Octets, octet: u8) -> M<()>
     out.append(&[DIGITS[(octet / 16) as usize], DIGITS[(octet % 16) as usize]])
 }
 
-/// Appends the two digits of each octet. Where memory runs out, some may stand behind the old end.
+/// Appends the two digits of each octet. If an allocation fails, some may follow the old end.
 #[tactic(auto, using(crate::proofs::Appended::front, crate::proofs::Appended::front_of_front))]
 fn push_octets(out: &mut Octets, octets: &[u8]) -> M<()>
     ensures ok { OnOk result (out.new ≡ out.old ++ flat_map digits_of octets.now) }
@@ -65,8 +65,8 @@ fn push_octets(out: &mut Octets, octets: &[u8]) -> M<()>
     Ok(())
 }
 
-/// Appends a payload as lower-case hexadecimal digits, two for each octet, or `-` for none. The text of at most 2,000 octets
-/// is read again as what they are. Where memory runs out, nothing is appended.
+/// Appends a payload as lower-case hexadecimal digits, two for each octet, or `-` for none. Parsing the text returns
+/// the same payload, if it has at most 2,000 octets. If an allocation fails, nothing is appended.
 #[tactic(auto, using(crate::proofs::PayloadLemmas::is_read_again))]
 pub fn push_payload(out: &mut Octets, payload: &[u8]) -> M<()>
     ensures ok { OnOk result (out.new ≡ out.old ++ payload_text payload.now) }

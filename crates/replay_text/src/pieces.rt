@@ -1,9 +1,9 @@
-//! Texts cut into lines, words and the pieces of a list.
+//! Text that is split into lines, words and the items of a list.
 ghost use Rattle.std.specs.Prelude.{◌≡◌, ◌<◌, [], ◌∷◌, length, MatchOption, IfSome, option_map};
 ghost use Rattle.std.specs.Str.Lines.{strip_carriage_return};
 ghost use Rattle.replay_text.specs.Pieces.{pieces, more_pieces, lines_in, words_of, only_word, two_words};
 
-/// The text before the first octet of that value, and the text after it, where it has one.
+/// Returns the text before the first octet of that value, and the text after it, or `None` if the octet does not occur.
 pub fn cut(text: &[u8], stop: u8) -> (&[u8], Option<&[u8]>)
     ensures pieces { pieces stop text.now ≡ result.0.now ∷ more_pieces stop (option_map (λ after. after.now) result.1) }
     ensures shorter { IfSome result.1 (λ after. length after.now < length text.now) }
@@ -16,7 +16,7 @@ pub fn cut(text: &[u8], stop: u8) -> (&[u8], Option<&[u8]>)
     (text, None)
 }
 
-/// The line without the CR at its end, where it has one.
+/// Returns the line without the CR at its end, if it has one.
 fn without_cr(line: &[u8]) -> &[u8]
     ensures { result.now ≡ strip_carriage_return line.now }
 {
@@ -26,9 +26,9 @@ fn without_cr(line: &[u8]) -> &[u8]
     }
 }
 
-/// The first line of a text without its line end, and what follows it. `ended` says that the text goes no further, so
-/// that its last line may lack its LF; otherwise octets after the last LF are no line yet. None exactly where there
-/// is no line.
+/// Returns the first line of a text without its line ending, and what follows it. With `ended`, the text is complete,
+/// and its last line may lack the LF. Otherwise octets after the last LF do not form a line yet. None exactly where
+/// there is no line.
 #[tactic(auto, using(crate::proofs::Cutting::line_first, crate::proofs::Cutting::line_last, crate::proofs::Cutting::line_none, crate::proofs::Cutting::line_open))]
 pub fn next_line(text: &[u8], ended: bool) -> Option<(&[u8], &[u8])>
     ensures lines { MatchOption result (lines_in ended text.now ≡ []) (λ found. lines_in ended text.now ≡ found.0.now ∷ lines_in ended found.1.now) }
@@ -45,7 +45,7 @@ pub fn next_line(text: &[u8], ended: bool) -> Option<(&[u8], &[u8])>
     }
 }
 
-/// The first word of a line, and what follows it. None exactly where there is no word.
+/// Returns the first word of a line, and what follows it. None exactly where there is no word.
 #[tactic(auto, using(crate::proofs::Cutting::words_last, crate::proofs::Cutting::words_end, crate::proofs::Cutting::words_first, crate::proofs::Cutting::words_skip))]
 pub fn next_word(line: &[u8]) -> Option<(&[u8], &[u8])>
     ensures { MatchOption result (words_of line.now ≡ []) (λ found. words_of line.now ≡ found.0.now ∷ words_of found.1.now) }
@@ -69,7 +69,7 @@ pub fn next_word(line: &[u8]) -> Option<(&[u8], &[u8])>
     }
 }
 
-/// The word of a text that has exactly one.
+/// Returns the word of a text that has exactly one.
 pub fn only_word_of(text: &[u8]) -> Option<&[u8]>
     ensures { option_map (λ word. word.now) result ≡ only_word (words_of text.now) }
 {
@@ -80,7 +80,7 @@ pub fn only_word_of(text: &[u8]) -> Option<&[u8]>
     }
 }
 
-/// The words of a text that has exactly two.
+/// Returns the words of a text that has exactly two.
 pub fn two_words_of(text: &[u8]) -> Option<(&[u8], &[u8])>
     ensures { option_map (λ found. (found.0.now, found.1.now)) result ≡ two_words (words_of text.now) }
 {

@@ -1,4 +1,4 @@
-//! The positions of bit strings, written as ids with no list between.
+//! The bit positions of bit strings, written as ids without an intermediate list.
 ghost use Rattle.std.specs.Prelude.{◌≡◌, ◌≤◌, ◌*◌, ◌++◌, ◌∷◌, length, take, IsTrue, OnOk, OnErr};
 ghost use Rattle.std.specs.Fmt.{decimal};
 ghost use Rattle.std.specs.List.{flat_map};
@@ -10,8 +10,8 @@ use crate::block::{Block, make_room, put_number};
 use bier_bits::{AnyBits, BitString};
 use wire_base::{M, Octets};
 
-/// Appends the positions of a bit string with commas between them, or `-` for none. Where memory runs out, nothing is
-/// appended.
+/// Appends the bit positions of a bit string, from 1, separated by commas, or `-` for none. If an allocation fails,
+/// nothing is appended.
 pub fn push_positions(out: &mut Octets, bits: &AnyBits) -> M<()>
     ensures ok { OnOk result (out.new ≡ out.old ++ ids_text (positions_of bits.now)) }
     ensures err { OnErr result (out.new ≡ out.old) }
@@ -27,7 +27,7 @@ pub fn push_positions(out: &mut Octets, bits: &AnyBits) -> M<()>
     }
 }
 
-/// The same of a bit string of one width.
+/// Does the same for a bit string of one width.
 pub fn push_set<const W: usize>(out: &mut Octets, set: &BitString<W>) -> M<()>
     requires { IsTrue (is_width W) }
     ensures ok { OnOk result (out.new ≡ out.old ++ ids_text set.now) }
@@ -41,7 +41,7 @@ pub fn push_set<const W: usize>(out: &mut Octets, set: &BitString<W>) -> M<()>
     pushed
 }
 
-/// The same, but for what stands behind the old end where memory runs out.
+/// Does the same, except that text may follow the old end if an allocation fails.
 #[tactic(auto, using(crate::proofs::Appended::front, bier_bits::proofs::Widths::width_le))]
 fn push_members<const W: usize>(out: &mut Octets, set: &BitString<W>) -> M<()>
     requires { IsTrue (is_width W) }
@@ -56,7 +56,7 @@ fn push_members<const W: usize>(out: &mut Octets, set: &BitString<W>) -> M<()>
     push_from(out, set, first + 1, block)
 }
 
-/// Appends a block, and a comma and the number of each position from one on.
+/// Appends a block, and then a comma and the number of each bit position from a given one on.
 #[tactic(auto, using(crate::proofs::Appended::front, bier_bits::proofs::Widths::width_le))]
 fn push_from<const W: usize>(
     out: &mut Octets,

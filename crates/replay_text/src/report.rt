@@ -8,7 +8,8 @@ use crate::ids::push_ids;
 use itoa::Buffer;
 use wire_base::{Cause, M, Octets};
 
-/// Appends what names a reader, and the number of the rule by which it refused octets; or nothing, where memory runs out.
+/// Appends the name of a parser, and the number of the rule for which it rejected octets. If an allocation fails,
+/// nothing is appended.
 fn push_rule_of(out: &mut Octets, reader: &[u8], rule: u8) -> M<()>
     ensures ok { OnOk result (out.new ≡ out.old ++ (reader.now ++ decimal rule)) }
     ensures err { OnErr result (out.new ≡ out.old) }
@@ -17,8 +18,8 @@ fn push_rule_of(out: &mut Octets, reader: &[u8], rule: u8) -> M<()>
     out.append_two(reader, digits.format(rule).as_bytes())
 }
 
-/// Appends the word of a cause; where a reader refused octets, the word has the number of its rule, as `pdu-7`. Where memory
-/// is refused, nothing is appended.
+/// Appends the keyword of a cause. If a parser rejected octets, the keyword has the number of the rule, such as
+/// `pdu-7`. If an allocation fails, nothing is appended.
 pub fn push_cause(out: &mut Octets, cause: &Cause) -> M<()>
     ensures ok { OnOk result (out.new ≡ out.old ++ cause_text cause.now) }
     ensures err { OnErr result (out.new ≡ out.old) }
@@ -40,7 +41,7 @@ pub fn push_cause(out: &mut Octets, cause: &Cause) -> M<()>
     }
 }
 
-/// Appends a number, with a blank behind; or nothing, where memory runs out.
+/// Appends a number and a space. If an allocation fails, nothing is appended.
 pub fn push_number(out: &mut Octets, number: u32) -> M<()>
     ensures ok { OnOk result (out.new ≡ out.old ++ (decimal number ++ 32 ∷ [])) }
     ensures err { OnErr result (out.new ≡ out.old) }
@@ -49,7 +50,7 @@ pub fn push_number(out: &mut Octets, number: u32) -> M<()>
     out.append_two(digits.format(number).as_bytes(), b" ")
 }
 
-/// The same as `push_loss`, but for what stands behind the old end where memory runs out.
+/// Does the same as `push_loss`, except that text may follow the old end if an allocation fails.
 #[tactic(auto, using(crate::proofs::Appended::front, crate::proofs::Appended::front_of_front))]
 fn push_parts(out: &mut Octets, cause: &Cause, ids: &[u16]) -> M<()>
     ensures ok { OnOk result (out.new ≡ out.old ++ (cause_text cause.now ++ 32 ∷ (ids_text ids.now ++ 10 ∷ []))) }
@@ -61,7 +62,7 @@ fn push_parts(out: &mut Octets, cause: &Cause, ids: &[u16]) -> M<()>
     out.push(b'\n')
 }
 
-/// Appends a cause and BFR-ids, which end a line; or nothing, where memory runs out.
+/// Appends a cause and BFR-ids, which end a line. If an allocation fails, nothing is appended.
 pub fn push_loss(out: &mut Octets, cause: &Cause, ids: &[u16]) -> M<()>
     ensures ok { OnOk result (out.new ≡ out.old ++ (cause_text cause.now ++ 32 ∷ (ids_text ids.now ++ 10 ∷ []))) }
     ensures err { OnErr result (out.new ≡ out.old) }

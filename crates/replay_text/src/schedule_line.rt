@@ -18,7 +18,7 @@ use std::alloc::Global;
 use wire_base::limits::{LINE_LIMIT, MOST_ROUNDS};
 use wire_base::{Name, Rows};
 
-/// The one router that is named.
+/// Parses the name of one router.
 #[tactic(auto, unfolding(crate::specs::Schedule::router_named))]
 fn router_named(names: &Rows<Name>, args: &[u8]) -> Result<u16, TextFault>
     requires { length names.now ≤ 65536 }
@@ -31,7 +31,7 @@ fn router_named(names: &Rows<Name>, args: &[u8]) -> Result<u16, TextFault>
     Ok(router)
 }
 
-/// The two ends of the link that is named.
+/// Parses the names of the two routers of a link.
 #[tactic(auto, unfolding(crate::specs::Schedule::link_named))]
 fn link_named(names: &Rows<Name>, args: &[u8]) -> Result<(u16, u16), TextFault>
     requires { length names.now ≤ 65536 }
@@ -46,7 +46,7 @@ fn link_named(names: &Rows<Name>, args: &[u8]) -> Result<(u16, u16), TextFault>
     Ok((from, to))
 }
 
-/// The two ends of the link that is named, and the place of a frame on it.
+/// Parses the names of the two routers of a link, and the index of a frame on it.
 #[tactic(auto, unfolding(crate::specs::Schedule::frame_named))]
 fn frame_named(names: &Rows<Name>, args: &[u8]) -> Result<(u16, u16, u32), TextFault>
     requires { length names.now ≤ 65536 }
@@ -62,7 +62,7 @@ fn frame_named(names: &Rows<Name>, args: &[u8]) -> Result<(u16, u16, u32), TextF
     Ok((from, to, i as u32))
 }
 
-/// What `inject` says with those words after it.
+/// Parses an `inject` line from the words after it.
 #[tactic(auto, unfolding(crate::specs::Schedule::inject_event, crate::specs::Schedule::inject_front))]
 fn inject_event(alloc: Global, names: &Rows<Name>, args: &[u8]) -> Result<Event, TextFault>
     requires { length names.now ≤ 65536 }
@@ -89,7 +89,7 @@ fn inject_event(alloc: Global, names: &Rows<Name>, args: &[u8]) -> Result<Event,
     })
 }
 
-/// The event that a word names, with the words after it.
+/// Parses an event from its first word and the words after it.
 #[tactic(auto, unfolding(crate::specs::Schedule::event_line))]
 fn event_line(
     alloc: Global,
@@ -133,7 +133,7 @@ fn event_line(
     }
 }
 
-/// What `settle` says with those words after it.
+/// Parses a `settle` line from the words after it.
 #[tactic(auto, unfolding(crate::specs::Schedule::settle_line))]
 fn settle_line(args: &[u8]) -> Result<u32, TextFault>
     ensures value { Gives (λ rounds. Line.Settle rounds) result (schedule.settle_line (words_of args.now)) }
@@ -164,7 +164,7 @@ fn schedule_words(
     }
 }
 
-/// The same, as the first fault or what is said.
+/// Parses a line, and returns what it contains or its first error.
 #[tactic(auto, unfolding(crate::specs::Schedule::schedule_line))]
 fn line_of(alloc: Global, line: &[u8], names: &Rows<Name>) -> Result<Line, TextFault>
     requires few { length names.now ≤ 65536 }
@@ -185,12 +185,13 @@ fn line_of(alloc: Global, line: &[u8], names: &Rows<Name>) -> Result<Line, TextF
     }
 }
 
-/// What a line of a schedule says in a domain whose routers have those names, in that order. The names differ; a name that
-/// stood twice would name the first router that has it. The line comes without its line end.
+/// Parses a line of a schedule, for a domain whose routers have those names, in that order. The names differ; if one
+/// occurred twice, it would name the first router that has it. The line comes without its line ending.
 ///
-/// Refused, in this order, as `LineLong` where the line has more than 16,384 octets; as `Word` where its first word is unknown
-/// or has the wrong count of words after it; then its arguments from left to right, as `Name`, `Number` or `Hex`. `Memory` may
-/// come in place of any answer from the ids of an `inject` line on, and of no other. What is given is an event that may be asked of that domain.
+/// The errors, in order of precedence. `LineLong`: the line has more than 16,384 octets. `Word`: its first word is
+/// unknown or is followed by the wrong number of words. `Name`, `Number` or `Hex`: an argument is invalid; arguments
+/// are checked from left to right. `Memory` may be returned instead of any result from the ids of an `inject` line on,
+/// and of no other. An event that is returned is valid for that domain.
 #[tactic(auto, using(crate::proofs::ScheduleSpelled::found, crate::proofs::ScheduleSpelled::only))]
 pub fn read_line(alloc: Global, line: &[u8], names: &Rows<Name>) -> Result<Line, TextFault>
     requires few { length names.now ≤ 65536 }

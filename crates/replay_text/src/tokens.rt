@@ -5,7 +5,7 @@ ghost use Rattle.wire_base.specs.model.Configuration as configuration;
 ghost use Rattle.replay_text.specs.Tokens.{number_of};
 ghost use Rattle.replay_text.specs.Arguments as arguments;
 
-/// The number that 1 to 10 decimal digits write. None for any other text.
+/// Parses a number of 1 to 10 decimal digits. Returns `None` for any other text.
 #[tactic(auto, unfolding(crate::specs::Tokens::number_of))]
 pub fn number(text: &[u8]) -> Option<u64>
     ensures { result ≡ number_of text.now }
@@ -23,7 +23,7 @@ pub fn number(text: &[u8]) -> Option<u64>
     Some(value)
 }
 
-/// A number up to the bound.
+/// Parses a number up to the bound.
 pub fn number_to(text: &[u8], bound: u64) -> Option<u64>
     ensures value { result ≡ arguments.number_to bound text.now }
     ensures within { IfSome result (λ n. n ≤ bound) }
@@ -47,7 +47,7 @@ fn are_name_octets(text: &[u8]) -> bool
     text.iter().all(|octet| is_name_octet(*octet))
 }
 
-/// Whether the text is a router's name: a letter, and then at most 31 letters, digits, `_` and `-`.
+/// Returns whether the text is a valid router name: a letter, followed by at most 31 letters, digits, `_` and `-`.
 pub fn is_router_name(text: &[u8]) -> bool
     ensures { result ≡ configuration.is_name text.now }
 {

@@ -1,4 +1,4 @@
--- What a frame of any octets may do to a router: which drops leave it as it was, and how much it sends.
+-- What a frame of arbitrary octets may do to a router: which drops leave it unchanged, and how much it sends.
 use Rattle.std.specs.Prelude.{ℕ, Bool, true, false, List, length, Option, Some, None, Result, Ok, Err, if◌then◌else◌}
 use Rattle.std.specs.Str.{bytes_eq}
 use Rattle.wire_base.specs.declared.cause.Cause.{Cause}
@@ -12,7 +12,8 @@ use Rattle.wire_base.specs.model.OnFrame.{Drop, Packet}
 use Rattle.wire_base.specs.model.Tunnel.{TunnelPacket, tunnel_at}
 use Rattle.bier_forward.specs.Packets.{packet_at}
 
--- A drop that leaves the control state as it was: each but that of what finds no room, beside which more may have been taken.
+-- A drop that leaves the control state unchanged. This is each but the drop for a full LSDB, besides which more may
+-- have been accepted.
 abbrev pub is_untaken : Cause → Bool
 is_untaken cause.NoRow = true
 is_untaken cause.Ttl = true
@@ -31,13 +32,13 @@ is_untaken cause.Full = false
 abbrev pub leaves_state : Drop → Bool
 leaves_state d = is_untaken d.cause
 
--- ---- the packet that is hopped here
+-- ---- the packet that is forwarded here
 
 abbrev pub packet_read : Result Packet Cause → Option Packet
 packet_read (Ok p) = Some p
 packet_read (Err why) = None
 
--- the inside of a tunnel that ends here
+-- the packet inside a tunnel that ends here
 abbrev pub packet_inside : RouterConf → Result TunnelPacket IpFault → Option Packet
 packet_inside r (Ok t) = if bytes_eq t.dst.0 r.prefix.0 then packet_read (packet_at r t.inner t.carried) else None
 packet_inside r (Err fault) = None
@@ -50,11 +51,11 @@ packet_carried r (Ok (IpPacket octets)) = packet_inside r (tunnel_at octets)
 packet_carried r (Ok OtherFrame) = None
 packet_carried r (Err fault) = None
 
--- the packet of a frame that a router hops, where there is one: on its own, or in a tunnel that ends here
+-- the packet of a frame that a router forwards, if there is one: on its own, or in a tunnel that ends here
 unfoldable pub packet_hopped : RouterConf → List ℕ → Option Packet
 packet_hopped r octets = packet_carried r (frame_at octets)
 
--- how many frames a frame may make the router send: of a packet that is hopped one for each of its positions
+-- how many frames a frame may make the router send: for a packet that is forwarded, one per bit position
 abbrev pub most_sent : Option Packet → ℕ
 most_sent None = 1
 most_sent (Some p) = length p.header.positions

@@ -1,4 +1,4 @@
--- A router's own LSP past a sequence number (ISO/IEC 10589, 7.3.16.1).
+-- A router's own LSP after a sequence number (ISO/IEC 10589, 7.3.16.1).
 use Rattle.std.specs.Prelude.{ℕ, ◌+◌, ◌==◌, ◌||◌, Bool, List, if◌then◌else◌}
 use Rattle.wire_base.specs.declared.conf.RouterConf.{RouterConf}
 use Rattle.wire_base.specs.declared.entry.Entry.{Entry}
@@ -6,10 +6,10 @@ use Rattle.wire_base.specs.model.Control.{fragment_0, purge}
 use Rattle.wire_base.specs.model.Flooding.{last_sequence}
 use Rattle.wire_base.specs.model.OwnLsp.{own_lsp}
 
--- what is issued past a sequence number; past the last one, its purge
+-- what is originated after a sequence number; after the last one, its purge
 unfoldable pub own_past : RouterConf → List Bool → ℕ → Entry
 own_past r up s = if s == last_sequence then purge (fragment_0 r.system) s else own_lsp r up (s + 1)
 
--- whether the router is spent then
+-- whether the sequence number space is exhausted then
 abbrev pub spent_past : Bool → ℕ → Bool
 spent_past spent s = spent || (s == last_sequence)

@@ -12,16 +12,16 @@ use Rattle.wire_base.specs.model.OnFrame.{frames_of}
 use Rattle.wire_base.specs.model.Item.{isis_frame}
 use Rattle.laws_router.specs.State.{control_of}
 
--- a control state of a configuration, where nothing else of it matters
+-- a control state with that configuration, where nothing else of it matters
 abbrev pub conf_alone : RouterConf → Control
 conf_alone r = control_of r (new_flood r.system []) [] false
 
--- what stands for an entry, where there is one
+-- what is sent for an entry, if there is one
 abbrev pub found : {X : Type 0} → (Entry → List X) → Option Entry → List X
 found f None = []
 found f (Some e) = f e
 
--- for the entry of a row's identifier, where the row has the flag
+-- what is sent for the entry of a row's LSP ID, if the row has the flag
 abbrev pub found_at : {X : Type 0} → (Entry → List X) → List Entry → LspId → Bool → List X
 found_at f es id flag = if flag then found f (entry_in es id) else []
 
@@ -34,18 +34,18 @@ entry_frames r link e = frames_of r link (lsp_of e ∷ [])
 abbrev pub entry_summary : Entry → List Summary
 entry_summary e = summary_of e ∷ []
 
--- what a row of flags sends on a link, and what it asks for there
+-- what a row of flags sends on a link, and what it requests there
 abbrev pub row_frames : RouterConf → List Entry → ℕ → FlagRow → List Sent
 row_frames r es link row = found_at (entry_frames r link) es row.id (slice_index_or row.srm link false)
 
 abbrev pub row_asked : List Entry → ℕ → FlagRow → List Summary
 row_asked es link row = found_at entry_summary es row.id (slice_index_or row.ssn link false)
 
--- the frame of an entry, where it is to be sent on a link
+-- the frame of an entry, if it is to be sent on a link
 abbrev pub lsp_frames : RouterConf → List FlagRow → ℕ → Entry → List Sent
 lsp_frames r rows link e = if srm_in rows e.id link then frames_of r link (lsp_of e ∷ []) else []
 
--- the frame of a PDU's octets on an end
+-- the frame of a PDU's octets on an interface
 abbrev pub octets_on : Option End → List ℕ → List ℕ
 octets_on None octets = []
 octets_on (Some e) octets = isis_frame e.own_mac octets

@@ -9,15 +9,15 @@ use std::marker::Model;
 use view_graph::view;
 use wire_base::{M, RouterConf, Summary, View};
 
-/// The control state of a router: its configuration, its LSDB and what flooding keeps beside it, and whether it has
-/// used the last sequence number.
+/// The control state of a router: its configuration, its LSDB, the flooding flags, and whether it has used the last
+/// sequence number.
 #[derive(Drop)]
 pub(crate) struct Control {
     pub(crate) conf: RouterConf,
     pub(crate) store: Store,
     pub(crate) flood: Flood,
     pub(crate) spent: bool,
-    /// Memory for what a partial sequence numbers PDU lists, kept from one to the next.
+    /// A buffer for the entries that a PSNP lists, reused from one PSNP to the next.
     pub(crate) room: Vec<Summary>,
 }
 
@@ -53,7 +53,7 @@ impl Control {
         usize::from(link) < self.conf.ends.len() && self.flood.is_up(link)
     }
 
-    /// The view that the router has now.
+    /// Returns the current topology.
     pub(crate) fn view(&self) -> M<View>
         ensures nodes { IfOk result (λ v. v.nodes ≡ control_view self.now) }
     {
@@ -61,7 +61,7 @@ impl Control {
         view(self.allocator(), &self.conf, up.as_slice(), &self.store)
     }
 
-    /// The allocator that the LSDB keeps.
+    /// Returns the allocator of the LSDB.
     pub(crate) fn allocator(&self) -> Global {
         self.store.allocator()
     }

@@ -1,4 +1,4 @@
-//! Ends that come up and go down, and a start (ISO/IEC 10589, 7.3.6 and 7.3.17).
+//! Interfaces that come up and go down, and the start of a router (ISO/IEC 10589, 7.3.6 and 7.3.17).
 ghost use Rattle.std.specs.Prelude.{◌≡◌, ◌<◌, true, false, length, replicate, IfOk, OnOk, OnErr};
 ghost use Rattle.wire_base.specs.model.Configuration.{IsSound};
 ghost use Rattle.wire_base.specs.model.Control.{IsDatabase, put_entry};
@@ -14,7 +14,7 @@ use lsp_store::Store;
 use std::alloc::Global;
 use wire_base::{Entry, LspId, M, RouterConf};
 
-/// A link comes up, and the own LSP is issued; or nothing has changed.
+/// Brings a link up and originates the own LSP. If an allocation fails, nothing has changed.
 fn link_up_issuing(store: &mut Store, flood: &mut Flood, link: u16, own: Entry) -> M<()>
     requires link { link < length flood.old.flood.up }
     requires known { is_refused store.old.entries own.id ≡ false }
@@ -29,7 +29,7 @@ fn link_up_issuing(store: &mut Store, flood: &mut Flood, link: u16, own: Entry) 
     Ok(())
 }
 
-/// A link goes down, and the own LSP is issued; or nothing has changed.
+/// Takes a link down and originates the own LSP. If an allocation fails, nothing has changed.
 fn link_down_issuing(store: &mut Store, flood: &mut Flood, link: u16, own: Entry) -> M<()>
     requires link { link < length flood.old.flood.up }
     requires known { is_refused store.old.entries own.id ≡ false }
@@ -44,7 +44,7 @@ fn link_down_issuing(store: &mut Store, flood: &mut Flood, link: u16, own: Entry
     Ok(())
 }
 
-/// The LSDB and the flags of a router that has just started.
+/// Returns the LSDB and the flags of a router that has just started.
 #[tactic(auto, unfolding(wire_base::specs::model::Flooding::started))]
 fn started(alloc: Global, conf: &RouterConf, up: &[bool]) -> M<(Store, Flood)>
     requires sound { IsSound conf.now }
@@ -60,7 +60,7 @@ fn started(alloc: Global, conf: &RouterConf, up: &[bool]) -> M<(Store, Flood)>
     Ok((store, flood))
 }
 
-/// That many ends that are up.
+/// Returns that many interfaces, all of them up.
 fn all_up(alloc: Global, ends: usize) -> M<Vec<bool>>
     ensures { IfOk result (λ up. up.items ≡ replicate ends true) }
 {
@@ -71,7 +71,7 @@ fn all_up(alloc: Global, ends: usize) -> M<Vec<bool>>
     Ok(up)
 }
 
-/// The LSDB and the flags of a router that has just started, with all its ends up.
+/// Returns the LSDB and the flags of a router that has just started, with all its interfaces up.
 fn first_started(alloc: Global, conf: &RouterConf) -> M<(Store, Flood)>
     requires { IsSound conf.now }
     ensures entries { IfOk result (λ s. s.0.entries ≡ (started conf.now (replicate (length conf.now.ends) true)).entries) }
@@ -83,7 +83,7 @@ fn first_started(alloc: Global, conf: &RouterConf) -> M<(Store, Flood)>
 }
 
 impl Control {
-    /// A router that has just started, with all its ends up.
+    /// Returns a router that has just started, with all its interfaces up.
     pub(crate) fn new(alloc: Global, conf: RouterConf) -> M<Control>
         requires { IsSound conf }
         ensures { IfOk result (λ c. c ≡ first_control conf) }
@@ -98,7 +98,7 @@ impl Control {
         })
     }
 
-    /// Starts again; or nothing has changed.
+    /// Restarts the router. If an allocation fails, nothing has changed.
     pub(crate) fn restart(&mut self) -> M<()>
         ensures ok { OnOk result (self.new ≡ (restart self.old).control) }
         ensures err { OnErr result (self.new ≡ self.old) }
@@ -111,7 +111,7 @@ impl Control {
         Ok(())
     }
 
-    /// The end at a place comes up; or nothing has changed.
+    /// Brings the interface at an index up. If an allocation fails, nothing has changed.
     pub(crate) fn end_up(&mut self, link: u16) -> M<()>
         requires { link < length self.old.conf.ends }
         ensures ok { OnOk result (self.new ≡ (end_up self.old link).control) }
@@ -129,7 +129,7 @@ impl Control {
         Ok(())
     }
 
-    /// The end at a place goes down; or nothing has changed.
+    /// Takes the interface at an index down. If an allocation fails, nothing has changed.
     pub(crate) fn end_down(&mut self, link: u16) -> M<()>
         requires { is_up self.old link ≡ true }
         ensures ok { OnOk result (self.new ≡ (end_down self.old link).control) }

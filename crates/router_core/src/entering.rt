@@ -1,4 +1,4 @@
-//! Payloads that enter the domain (RFC 8279, 3; RFC 8296, 3).
+//! Payloads that are injected into the domain (RFC 8279, 3; RFC 8296, 3).
 ghost use Rattle.std.specs.Prelude.{◌≡◌, ◌<◌, ◌≤◌, ◌^◌, ℕ, List, None, IfOk, OnOk, MatchResult, length, map};
 ghost use Rattle.std.specs.List.{AllByRecursion};
 ghost use Rattle.wire_base.specs.declared.bsl.Bsl.{Bsl as Length};
@@ -15,7 +15,7 @@ use wire_base::limits::MOST_PAYLOAD;
 use wire_base::{Bsl, EdgeFault, M, Memory};
 
 impl Control {
-    /// Forwards packets that enter the domain by the view that the router has now, which is kept for the next ones.
+    /// Forwards injected packets by the router's current topology, which is cached for the packets that follow.
     fn enter(
         &self,
         kept: &mut Option<Kept>,
@@ -33,7 +33,7 @@ impl Control {
     {
         self.keep(kept)?;
         match kept {
-            // Something is kept now.
+            // The cache has just been filled.
             None => Err(Memory),
             Some(now) => enter_packets(
                 self.allocator(),
@@ -48,7 +48,7 @@ impl Control {
         }
     }
 
-    /// A payload enters for a list of BFR-ids.
+    /// Injects a payload for a list of BFR-ids.
     pub(crate) fn inject(
         &self,
         kept: &mut Option<Kept>,

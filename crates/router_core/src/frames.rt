@@ -1,4 +1,4 @@
-//! Frames that are taken, class by class (ISO/IEC 10589, 7.3.15; RFC 8279, 6; RFC 8296, 2 and 3; RFC 2784).
+//! Frames that are received, class by class (ISO/IEC 10589, 7.3.15; RFC 8279, 6; RFC 8296, 2 and 3; RFC 2784).
 ghost use Rattle.std.specs.Prelude.{◌≡◌, ◌≤◌, true, false, length, IfOk, OnOk, OnErr};
 ghost use Rattle.std.specs.Str.{bytes_eq};
 ghost use Rattle.wire_base.specs.model.Ethernet.{IsFrame};
@@ -21,7 +21,7 @@ use wire_base::limits::MOST_FRAME;
 use wire_base::{Cause, Kind, M, Memory};
 
 impl Control {
-    /// Forwards a packet that was read by the view that the router has now, which is kept for the next one.
+    /// Forwards a parsed packet by the router's current topology, which is cached for the packet that follows.
     fn hop(&self, kept: &mut Option<Kept>, packet: &Incoming<'_>) -> M<Effects>
         requires short { IsShort packet.now }
         requires kept { MayKeep self.now kept.old }
@@ -30,7 +30,7 @@ impl Control {
     {
         self.keep(kept)?;
         match kept {
-            // Something is kept now.
+            // The cache has just been filled.
             None => Err(Memory),
             Some(now) => hop_packet(
                 self.allocator(),
@@ -43,7 +43,8 @@ impl Control {
         }
     }
 
-    /// The octets of a BIER packet, whose BIFT-id is of that kind. One that isn't read needs no view.
+    /// Handles the octets of a BIER packet whose BIFT-id is of that kind. A packet that does not parse needs no
+    /// topology.
     fn on_packet(&self, kept: &mut Option<Kept>, kind: Kind, octets: &[u8]) -> M<Effects>
         requires short { length octets.now ≤ MOST_FRAME }
         requires kept { MayKeep self.now kept.old }
@@ -61,7 +62,7 @@ impl Control {
         }
     }
 
-    /// Sends a tunnel packet for another router on, by the view that the router has now.
+    /// Forwards a tunnel packet for another router by the router's current topology.
     fn forward_tunnel(&self, kept: &mut Option<Kept>, octets: &[u8], tunnel: &Tunnel) -> M<Effects>
         requires places { HasTunnel octets.now tunnel.now }
         requires elsewhere { bytes_eq tunnel.now.dst.0 self.now.conf.prefix.0 ≡ false }
@@ -71,7 +72,7 @@ impl Control {
     {
         self.keep(kept)?;
         match kept {
-            // Something is kept now.
+            // The cache has just been filled.
             None => Err(Memory),
             Some(now) => forward_tunnel(
                 self.allocator(),
@@ -84,7 +85,8 @@ impl Control {
         }
     }
 
-    /// A tunnel packet that was read: where it ends here, its inside is a packet that came without a tunnel; else it goes on.
+    /// Handles a parsed tunnel packet. If the tunnel ends here, the inner packet is handled as one that arrived without
+    /// a tunnel. Otherwise the tunnel packet is forwarded.
     fn take_tunnel(&self, kept: &mut Option<Kept>, octets: &[u8], tunnel: &Tunnel) -> M<Effects>
         requires short { length octets.now ≤ MOST_FRAME }
         requires places { HasTunnel octets.now tunnel.now }
@@ -100,7 +102,7 @@ impl Control {
         effects
     }
 
-    /// The octets of an IPv4 packet.
+    /// Handles the octets of an IPv4 packet.
     #[tactic(auto, unfolding(wire_base::specs::model::OnFrame::on_tunnel))]
     fn on_tunnel(&self, kept: &mut Option<Kept>, octets: &[u8]) -> M<Effects>
         requires short { length octets.now ≤ MOST_FRAME }
@@ -115,8 +117,8 @@ impl Control {
         }
     }
 
-    /// What a BIER packet does to the outside takes the place of what was done before. It has a function of its own, and so have
-    /// IPv4 packets, so that the way of an IS-IS PDU, which most frames carry, has no room to make for it.
+    /// Handles a BIER packet, whose effects replace the ones in `effects`. BIER and IPv4 packets have functions of
+    /// their own, so that the path of an IS-IS PDU, which most frames carry, needs no stack space for them.
     fn take_packet(
         &self,
         kept: &mut Option<Kept>,
@@ -133,7 +135,7 @@ impl Control {
         Ok(())
     }
 
-    /// The same of an IPv4 packet.
+    /// Handles an IPv4 packet in the same way.
     fn take_ip(&self, kept: &mut Option<Kept>, octets: &[u8], effects: &mut Effects) -> M<()>
         requires short { length octets.now ≤ MOST_FRAME }
         requires kept { MayKeep self.now kept.old }
@@ -144,7 +146,7 @@ impl Control {
         Ok(())
     }
 
-    /// What a frame carries, by its class; or nothing has changed.
+    /// Handles what a frame carries, by its class. If an allocation fails, nothing has changed.
     fn take_class(
         &mut self,
         kept: &mut Option<Kept>,
@@ -177,8 +179,8 @@ impl Control {
         }
     }
 
-    /// A frame that came on a link; or nothing has changed. What it does to the outside is written in place, since to most
-    /// frames it is nothing.
+    /// Handles a frame that arrived on a link. If an allocation fails, nothing has changed. The effects are written in
+    /// place, since most frames have none.
     #[tactic(auto, unfolding(wire_base::specs::model::OnFrame::on_frame))]
     pub(crate) fn frame(
         &mut self,

@@ -1,4 +1,4 @@
-//! Frames of IS-IS (IEEE 802.3, 3.1.1; ISO/IEC 10589, 8.4).
+//! IS-IS frames (IEEE 802.3, 3.1.1; ISO/IEC 10589, 8.4).
 ghost use Rattle.std.specs.Prelude.{◌≡◌, ◌<◌, ◌≤◌, ◌++◌, ◌∷◌, [], ℕ, List, length, slice_get, OnOk};
 ghost use Rattle.wire_base.specs.model.Flooding.{csnp_of, psnp_of, lsp_of};
 ghost use Rattle.wire_base.specs.model.Item as item;
@@ -16,17 +16,17 @@ use std::marker::Model;
 use wire_base::limits::{MOST_CONTENT, MOST_LISTED};
 use wire_base::{Entry, LspId, M, Mac, Octets, RouterConf, Summary};
 
-/// All intermediate systems of a link (ISO/IEC 10589, 8.4.8).
+/// The multicast address of all intermediate systems on a link (ISO/IEC 10589, 8.4.8).
 const ALL_ROUTERS: Mac = Mac([0x09, 0x00, 0x2b, 0x00, 0x00, 0x05]);
 
-/// The octets before the PDU: the Ethernet header and that of the logical link control, FE FE 03.
+/// The number of octets before the PDU: the Ethernet header and the LLC header, FE FE 03.
 const HEAD: usize = 17;
 
-/// The room that a first frame takes at least: that of most LSPs.
+/// The least capacity in octets that is reserved for the first frame, which is enough for most LSPs.
 const FIRST_ROOM: usize = 256;
 
-/// Frames to be sent. Each is built in the same octets before it is put behind the others, so that a frame takes no memory of
-/// its own.
+/// Frames to be sent. Each frame is built in one shared buffer before it is appended to the others, so that it needs no
+/// allocation of its own.
 #[derive(Drop)]
 pub(crate) struct FramesOut {
     sent: SentFrames,
@@ -43,7 +43,7 @@ impl Model for FramesOut {
 }
 
 impl FramesOut {
-    /// No frames. Takes no memory.
+    /// Returns an empty list of frames. Does not allocate.
     pub(crate) fn new(alloc: Global) -> Self
         ensures { result ≡ [] }
     {
@@ -53,12 +53,13 @@ impl FramesOut {
         }
     }
 
-    /// The allocator that the frames keep.
+    /// Returns the allocator of the frames.
     pub(crate) fn allocator(&self) -> Global {
         self.sent.allocator()
     }
 
-    /// Room for a frame of a PDU of that length and for those of others that are a little longer, where none was built yet.
+    /// Reserves room for a frame with a PDU of that length. If no frame was built yet, it reserves a little more, for
+    /// frames that are slightly longer.
     fn make_room(&mut self, size: usize) -> M<()>
         requires { size ≤ 1497 }
         ensures { OnOk result (self.new ≡ self.old) }
@@ -69,7 +70,7 @@ impl FramesOut {
         Ok(())
     }
 
-    /// The frames.
+    /// Returns the frames.
     pub(crate) fn into_sent(self) -> SentFrames
         ensures { result ≡ self }
     {
@@ -77,7 +78,7 @@ impl FramesOut {
     }
 }
 
-/// Begins a frame of a PDU of that length: the Ethernet header and that of the logical link control, FE FE 03.
+/// Begins a frame with a PDU of that length: the Ethernet header and the LLC header, FE FE 03.
 fn begin(frame: &mut Octets, own: Mac, size: usize) -> M<()>
     requires { size ≤ 1497 }
     ensures { OnOk result ((pdu : List ℕ) → length pdu ≡ size → frame.new ++ pdu ≡ item.isis_frame own pdu) }
@@ -88,7 +89,7 @@ fn begin(frame: &mut Octets, own: Mac, size: usize) -> M<()>
     frame.append(&head)
 }
 
-/// The same on the end at a place.
+/// Begins a frame on the interface at an index.
 fn begin_on(frame: &mut Octets, conf: &RouterConf, link: u16, size: usize) -> M<()>
     requires link { link < length conf.now.ends }
     requires short { size ≤ 1497 }

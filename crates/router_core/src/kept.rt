@@ -1,4 +1,4 @@
-//! The view that a router keeps from one packet to the next, with what it keeps of it to forward packets by.
+//! The topology that a router caches from one packet to the next, with the forwarding state that is derived from it.
 ghost use Rattle.std.specs.Prelude.{◌≡◌, ◌↔◌, List, None, if◌then◌else◌, false, IfOk, OnOk};
 ghost use Rattle.wire_base.specs.declared.conf.RouterConf.{RouterConf as Conf};
 ghost use Rattle.wire_base.specs.declared.view.ViewNode.{ViewNode};
@@ -11,18 +11,18 @@ use std::alloc::Global;
 use view_graph::ViewKeep;
 use wire_base::{M, Rows, SystemId};
 
-/// A view of a control state, and what is kept of it.
+/// The topology of a control state, and what is cached of it.
 #[derive(Drop)]
 pub struct Kept {
     pub(crate) view: ViewKeep,
-    /// Whether nothing that the view is made of has changed since it was renewed.
+    /// Whether nothing that the topology is derived from has changed since it was last renewed.
     pub(crate) is_current: bool,
-    /// The other systems that may say something else since then.
+    /// The other systems that may advertise something else since then.
     pub(crate) changed: Rows<SystemId>,
     pub(crate) routes: Routes,
 }
 
-/// What is kept stays or goes.
+/// Keeps the cache, or drops it.
 pub(crate) fn keep_if(kept: &mut Option<Kept>, stays: bool)
     ensures { kept.new ≡ (if stays then kept.old else None) }
 {
@@ -31,7 +31,7 @@ pub(crate) fn keep_if(kept: &mut Option<Kept>, stays: bool)
     }
 }
 
-/// What is kept of a view once it was renewed: where it is another one, nothing.
+/// Renews the forwarding state after its topology was renewed: if the topology is a new one, the state is emptied.
 fn renew_routes(alloc: Global, routes: &mut Routes, is_new: bool)
     ensures { (r : Conf) (before now : List ViewNode) → AreRoutes r before routes.old → ((is_new ≡ false) ↔ (now ≡ before)) → AreRoutes r now routes.new }
 {
@@ -41,7 +41,7 @@ fn renew_routes(alloc: Global, routes: &mut Routes, is_new: bool)
 }
 
 impl Control {
-    /// Renews what is kept, where something has changed since; where nothing is kept, the view of now is.
+    /// Renews the cache if something has changed since. If nothing is cached, caches the current topology.
     pub(crate) fn keep(&self, kept: &mut Option<Kept>) -> M<()>
         requires { MayKeep self.now kept.old }
         ensures { OnOk result (IsNow self.now kept.new) }
@@ -52,7 +52,7 @@ impl Control {
         }
     }
 
-    /// The view of now is kept, with nothing of it yet.
+    /// Caches the current topology, with no forwarding state yet.
     fn keep_first(&self, kept: &mut Option<Kept>) -> M<()>
         ensures { OnOk result (IsNow self.now kept.new) }
     {
@@ -61,7 +61,7 @@ impl Control {
         Ok(())
     }
 
-    /// The view of now, with nothing kept of it yet.
+    /// Returns the current topology, with no forwarding state yet.
     fn first_kept(&self) -> M<Kept>
         ensures { IfOk result (IsCurrent self.now) }
     {
@@ -75,7 +75,7 @@ impl Control {
         })
     }
 
-    /// Renews what is kept. Where the view is the same then, all that is kept of it stays.
+    /// Renews the cache. If the topology is the same as before, everything cached is kept.
     fn renew(&self, kept: &mut Kept) -> M<()>
         requires { IsKept self.now kept.old }
         ensures { OnOk result (IsCurrent self.now kept.new) }

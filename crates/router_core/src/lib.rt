@@ -1,8 +1,8 @@
-//! One router on frames: what it floods, what it forwards and what it delivers (ISO/IEC 10589, 7.3.15 to 7.3.17;
-//! RFC 8279, 6; RFC 8296, 2 and 3; RFC 8401).
+//! One router that handles frames: what it floods, what it forwards and what it delivers (ISO/IEC 10589, 7.3.15 to
+//! 7.3.17; RFC 8279, 6; RFC 8296, 2 and 3; RFC 8401).
 //!
-//! It stands on all crates of one router, and promises that a router is its control state, which each call changes as the
-//! definitions say, and whose answers are theirs, for any octets.
+//! It depends on all crates of one router. It promises that a router is its control state, and that each call changes
+//! this state, and returns, what the definitions say, for arbitrary octets.
 #![tactic(auto)]
 
 mod control;

@@ -13,10 +13,10 @@ use lsp_store::{Store, purge};
 use std::alloc::Global;
 use wire_base::{Entry, LspId, M, RouterConf};
 
-/// The last sequence number.
+/// The last sequence number, after which the sequence number space is exhausted.
 const LAST_SEQUENCE: u32 = u32::MAX;
 
-/// The own LSP past a sequence number; past the last one, its purge.
+/// Returns the own LSP with the sequence number after `seq`. After the last sequence number, returns its purge.
 #[tactic(auto, unfolding(crate::specs::Own::own_past))]
 pub(crate) fn own_past(alloc: Global, conf: &RouterConf, up: &[bool], seq: u32) -> M<Entry>
     requires sound { IsSound conf.now }
@@ -29,14 +29,15 @@ pub(crate) fn own_past(alloc: Global, conf: &RouterConf, up: &[bool], seq: u32) 
     originate(alloc, conf, up, seq + 1)
 }
 
-/// Whether a router is spent that has issued its own LSP past a sequence number.
+/// Returns whether the sequence number space of a router is exhausted once it has originated its own LSP after a
+/// sequence number.
 pub(crate) fn spent_past(spent: bool, seq: u32) -> bool
     ensures { result ≡ spent_past spent seq }
 {
     spent || seq == LAST_SEQUENCE
 }
 
-/// Which ends are up.
+/// Returns for each interface whether it is up.
 pub(crate) fn ends_up(alloc: Global, flood: &Flood, ends: u16) -> M<Vec<bool>>
     requires { ends ≡ length flood.now.flood.up }
     ensures { IfOk result (λ up. up.items ≡ flood.now.flood.up) }
@@ -48,7 +49,7 @@ pub(crate) fn ends_up(alloc: Global, flood: &Flood, ends: u16) -> M<Vec<bool>>
     Ok(up)
 }
 
-/// The own LSP past a sequence number, by the ends that are up.
+/// Returns the own LSP after a sequence number, from the interfaces that are up.
 pub(crate) fn own_now(alloc: Global, conf: &RouterConf, flood: &Flood, seq: u32) -> M<Entry>
     requires sound { IsSound conf.now }
     requires ends { length flood.now.flood.up ≡ length conf.now.ends }
@@ -58,7 +59,7 @@ pub(crate) fn own_now(alloc: Global, conf: &RouterConf, flood: &Flood, seq: u32)
     own_past(alloc, conf, up.as_slice(), seq)
 }
 
-/// The same, once the end at a place is up or down.
+/// Returns the same LSP as if the interface at an index were up or down.
 pub(crate) fn own_with(
     alloc: Global,
     conf: &RouterConf,
@@ -77,7 +78,7 @@ pub(crate) fn own_with(
     own_past(alloc, conf, up.as_slice(), seq)
 }
 
-/// Puts the own LSP, and marks it on all links that are up; or nothing has changed.
+/// Stores the own LSP, and marks it for sending on all links that are up. If an allocation fails, nothing has changed.
 pub(crate) fn issue(store: &mut Store, flood: &mut Flood, own: Entry) -> M<()>
     requires { is_refused store.old.entries own.id ≡ false }
     ensures ok { OnOk result ((flood.new.flood ≡ mark_all flood.old.flood own.id) × (store.new.entries ≡ put_entry own store.old.entries)) }
@@ -90,8 +91,8 @@ pub(crate) fn issue(store: &mut Store, flood: &mut Flood, own: Entry) -> M<()>
     Ok(())
 }
 
-/// Puts the own LSP, and marks it on all links that are up, where there is the memory for it already. It needs
-/// none in the LSDB where it stands there.
+/// Stores the own LSP, and marks it for sending on all links that are up, in memory that is already reserved. The LSDB
+/// needs no more memory if it has this LSP already.
 #[tactic(auto, using(crate::proofs::OwnLaws::put_is_ok))]
 pub(crate) fn issue_within(store: &mut Store, flood: &mut Flood, own: Entry)
     requires known { is_refused store.old.entries own.id ≡ false }
@@ -107,14 +108,14 @@ pub(crate) fn issue_within(store: &mut Store, flood: &mut Flood, own: Entry)
 }
 
 impl Control {
-    /// Which ends are up.
+    /// Returns for each interface whether it is up.
     pub(crate) fn ends_up(&self) -> M<Vec<bool>>
         ensures { IfOk result (λ up. up.items ≡ self.now.flood.up) }
     {
         ends_up(self.allocator(), &self.flood, self.conf.ends.len() as u16)
     }
 
-    /// Issues the own LSP past a sequence number; or nothing has changed.
+    /// Originates the own LSP after a sequence number. If an allocation fails, nothing has changed.
     pub(crate) fn reissue(&mut self, seq: u32) -> M<()>
         requires { self.old.spent ≡ false }
         ensures ok { OnOk result (self.new ≡ reissue self.old seq) }

@@ -1,4 +1,4 @@
-//! PDUs of IS-IS that are received (ISO/IEC 10589, 7.3.15 and 7.3.16).
+//! IS-IS PDUs that are received (ISO/IEC 10589, 7.3.15 and 7.3.16).
 ghost use Rattle.std.specs.Prelude.{◌≡◌, ◌<◌, ◌≤◌, ◌+◌, ◌^◌, ◌∷◌, [], ℕ, true, false, length, IfOk, OnOk, OnErr};
 ghost use Rattle.wire_base.specs.declared.addresses.SystemId.{SystemId};
 ghost use Rattle.wire_base.specs.declared.flood_out.FloodOut.TheVariants as out;
@@ -24,7 +24,7 @@ use std::mem::replace;
 use wire_base::limits::MOST_CONTENT;
 use wire_base::{Cause, FloodOut, LspId, M, Rows, SnpOut, Summary};
 
-/// A frame was dropped as a whole, and nothing else came of it.
+/// Reports that a whole frame was dropped, with no other effect.
 pub(crate) fn drop_frame(effects: &mut Effects, cause: Cause) -> M<()>
     requires { effects.old ≡ nothing }
     ensures { OnOk result (effects.new ≡ dropped cause) }
@@ -32,7 +32,7 @@ pub(crate) fn drop_frame(effects: &mut Effects, cause: Cause) -> M<()>
     effects.note(DropNote { cause, sets: None })
 }
 
-/// A frame was passed over.
+/// Reports that a frame was ignored.
 pub(crate) fn pass_over(effects: &mut Effects)
     requires { effects.old ≡ nothing }
     ensures { effects.new ≡ passed_over }
@@ -40,7 +40,7 @@ pub(crate) fn pass_over(effects: &mut Effects)
     effects.passed = true;
 }
 
-/// Those entries are dropped, and nothing else comes of a list.
+/// Reports the drops of those entries as the only effects of a list.
 fn drop_each(effects: &mut Effects, drops: Rows<DropNote>)
     requires { effects.old ≡ nothing }
     ensures { effects.new ≡ record nothing { drops = drops } }
@@ -48,7 +48,7 @@ fn drop_each(effects: &mut Effects, drops: Rows<DropNote>)
     effects.drops = drops;
 }
 
-/// How many rows of flags a list of entries may need.
+/// Returns the greatest number of flag rows that a list of entries may need.
 fn list_room(range: Option<(LspId, LspId)>, rows: usize, entries: usize) -> usize
     requires { rows + entries < 2 ^ 64 }
     ensures { result ≡ list_room range rows entries }
@@ -59,7 +59,7 @@ fn list_room(range: Option<(LspId, LspId)>, rows: usize, entries: usize) -> usiz
     }
 }
 
-/// Applies the entries of a complete list, which has a range, or of a partial one.
+/// Applies the entries of a CSNP, which has a range, or of a PSNP.
 fn apply_list(
     flood: &mut Flood,
     store: &mut Store,
@@ -80,7 +80,7 @@ fn apply_list(
 }
 
 impl Control {
-    /// The PSNP that acknowledges an entry at once.
+    /// Sends the PSNP that acknowledges an entry at once.
     fn acknowledge(&self, link: u16, entry: Summary, effects: &mut Effects) -> M<()>
         requires link { link < length self.now.conf.ends }
         requires empty { effects.old ≡ nothing }
@@ -92,7 +92,8 @@ impl Control {
         Ok(())
     }
 
-    /// What an LSP asks for beside what flooding has done; or nothing has changed, and flooding has done nothing.
+    /// Does what an LSP requires besides the changes of flooding. If an allocation fails, nothing has changed, and
+    /// flooding has changed nothing.
     #[tactic(auto, unfolding(wire_base::specs::model::OnFrame::framed))]
     fn answer_lsp(&mut self, link: u16, answer: FloodOut, effects: &mut Effects) -> M<()>
         requires link { link < length self.old.conf.ends }
@@ -110,7 +111,8 @@ impl Control {
         }
     }
 
-    /// An LSP; or nothing has changed. Where flooding has changed something, nothing is asked for that takes memory.
+    /// Handles an LSP. If an allocation fails, nothing has changed. Once flooding has changed something, no further
+    /// step allocates.
     #[tactic(auto, unfolding(wire_base::specs::model::Flooding::on_pdu))]
     fn on_lsp(&mut self, link: u16, head: &LspHead, tlvs: &[u8], effects: &mut Effects) -> M<()>
         requires up { is_up self.old link ≡ true }
@@ -126,8 +128,8 @@ impl Control {
         self.answer_lsp(link, answer, effects)
     }
 
-    /// The entries that a sequence numbers PDU lists; or nothing has changed. What they ask for is made ready before anything
-    /// changes.
+    /// Handles the entries that a CSNP or PSNP lists. If an allocation fails, nothing has changed: all that they
+    /// require is prepared before anything changes.
     fn take_list(
         &mut self,
         link: u16,
@@ -158,7 +160,7 @@ impl Control {
         Ok(())
     }
 
-    /// A complete sequence numbers PDU; or nothing has changed.
+    /// Handles a CSNP. If an allocation fails, nothing has changed.
     #[tactic(auto, unfolding(wire_base::specs::model::Flooding::on_pdu, wire_base::specs::model::Flooding::on_csnp))]
     fn on_csnp(
         &mut self,
@@ -178,7 +180,7 @@ impl Control {
         self.take_list(link, Some((start, last)), rows.as_slice(), effects)
     }
 
-    /// The entries that those TLVs list, in the memory that those of the last list had.
+    /// Returns the entries that those TLVs list, in the buffer of the last list.
     fn list(&mut self, tlvs: &[u8]) -> M<Rows<Summary>>
         ensures rows { IfOk result (λ rows. rows ≡ rows_of tlvs.now) }
         ensures few { IfOk result (λ rows. length rows ≤ length tlvs.now) }
@@ -192,7 +194,7 @@ impl Control {
         Ok(rows)
     }
 
-    /// A partial sequence numbers PDU; or nothing has changed.
+    /// Handles a PSNP. If an allocation fails, nothing has changed.
     #[tactic(auto, unfolding(wire_base::specs::model::Flooding::on_pdu, wire_base::specs::model::Flooding::on_psnp))]
     fn on_psnp(&mut self, link: u16, tlvs: &[u8], effects: &mut Effects) -> M<()>
         requires up { is_up self.old link ≡ true }
@@ -207,7 +209,8 @@ impl Control {
         done
     }
 
-    /// A PDU that floods; hellos and other types are passed over. Or nothing has changed.
+    /// Handles a PDU that floods. Hellos and PDUs of other types are ignored. If an allocation fails, nothing has
+    /// changed.
     fn flood_pdu(&mut self, link: u16, pdu: Pdu<'_>, effects: &mut Effects) -> M<()>
         requires up { is_up self.old link ≡ true }
         requires short { HasRoom (pdu_of pdu) }
@@ -231,7 +234,8 @@ impl Control {
         }
     }
 
-    /// A PDU, which may change what systems say: that is noted first. Or everything else is unchanged.
+    /// Handles a PDU. It may change what systems advertise, which is noted first. If an allocation fails, everything
+    /// else is unchanged.
     fn take_pdu(
         &mut self,
         kept: &mut Option<Kept>,
@@ -251,7 +255,7 @@ impl Control {
         self.flood_pdu(link, pdu, effects)
     }
 
-    /// The octets of a PDU, as a frame of IS-IS carries them; or nothing has changed.
+    /// Handles the octets of a PDU, as an IS-IS frame carries them. If an allocation fails, nothing has changed.
     pub(crate) fn on_pdu(
         &mut self,
         kept: &mut Option<Kept>,

@@ -1,4 +1,4 @@
-//! How much is to be sent on a link (ISO/IEC 10589, 7.3.15.4 and 7.3.17).
+//! How many frames are due on a link (ISO/IEC 10589, 7.3.15.4 and 7.3.17).
 ghost use Rattle.std.specs.Prelude.{◌≡◌, [], ◌+◌, ◌/◌, ◌<◌, ◌≤◌, Bool, true, false, length, max, filter, slice_index_or, if◌then◌else◌};
 ghost use Rattle.wire_base.specs.model.Control.{srm_in, ssn_in};
 ghost use Rattle.wire_base.specs.model.Flooding.{send, send_of, is_known};
@@ -18,7 +18,7 @@ pub(crate) fn is_known(e: &Entry) -> bool
     e.seq > 0
 }
 
-/// How many entries a CSNP lists.
+/// Returns how many entries a CSNP lists.
 fn known(entries: &[Entry]) -> usize
     ensures known { result ≡ length (filter is_known entries.now) }
     ensures few { result ≤ length entries.now }
@@ -26,7 +26,7 @@ fn known(entries: &[Entry]) -> usize
     entries.iter().filter(|e| is_known(e)).count()
 }
 
-/// How many entries are to be sent on a link.
+/// Returns how many entries are to be sent on a link.
 fn marked(entries: &[Entry], flood: &Flood, link: u16) -> usize
     requires { link < length flood.now.flood.up }
     ensures marked { result ≡ length (filter (λ e. srm_in flood.now.flood.rows e.id link) entries.now) }
@@ -38,7 +38,7 @@ fn marked(entries: &[Entry], flood: &Flood, link: u16) -> usize
     entries.iter().filter(|e| flood.srm(e.id, link)).count()
 }
 
-/// How many entries are to be acknowledged or asked for on a link.
+/// Returns how many entries are to be acknowledged or requested on a link.
 fn asked(entries: &[Entry], flood: &Flood, link: u16) -> usize
     requires { link < length flood.now.flood.up }
     ensures asked { result ≡ length (filter (λ e. ssn_in flood.now.flood.rows e.id link) entries.now) }
@@ -50,7 +50,7 @@ fn asked(entries: &[Entry], flood: &Flood, link: u16) -> usize
     entries.iter().filter(|e| flood.ssn(e.id, link)).count()
 }
 
-/// How many sequence numbers PDUs list so many entries.
+/// Returns how many sequence numbers PDUs are needed to list that many entries.
 fn lists(entries: usize) -> usize
     requires { entries ≤ MOST_ENTRIES }
     ensures lists { result ≡ (entries + 89) / MOST_LISTED }
@@ -59,7 +59,7 @@ fn lists(entries: usize) -> usize
     (entries + (MOST_LISTED - 1)) / MOST_LISTED
 }
 
-/// How many CSNPs list those entries, where they are due.
+/// Returns how many CSNPs list those entries, if CSNPs are due.
 fn csnps(entries: &[Entry], due: bool) -> usize
     requires { length entries.now ≤ MOST_ENTRIES }
     ensures csnps { result ≡ (if due then max ((length (filter is_known entries.now) + 89) / MOST_LISTED) 1 else 0) }
@@ -71,7 +71,7 @@ fn csnps(entries: &[Entry], due: bool) -> usize
     0
 }
 
-/// How many frames are due on a link that is up.
+/// Returns how many frames are due on a link that is up.
 #[tactic(auto, using(crate::proofs::CountLaws::up_within))]
 pub(crate) fn pending(store: &Store, flood: &Flood, link: u16) -> usize
     requires { slice_index_or flood.now.flood.up link false ≡ true }
@@ -84,7 +84,7 @@ pub(crate) fn pending(store: &Store, flood: &Flood, link: u16) -> usize
         + lists(asked(entries, flood, link))
 }
 
-/// Whether anything may be due on a link.
+/// Returns whether anything may be due on a link.
 fn may_owe(flood: &Flood, link: u16) -> bool
     ensures due { result ≡ false → slice_index_or flood.now.flood.due link false ≡ false }
     ensures sends { result ≡ false → has_srm flood.now.flood.rows link ≡ false }
@@ -94,7 +94,7 @@ fn may_owe(flood: &Flood, link: u16) -> bool
 }
 
 impl Control {
-    /// Whether anything may be due on a link: false only where nothing is.
+    /// Returns whether anything may be due on a link. If it returns false, nothing is due.
     #[tactic(auto, using(crate::proofs::IdleLaws::idle_send))]
     pub(crate) fn may_owe(&self, link: u16) -> bool
         ensures { result ≡ false → send self.now link ≡ record { control = self.now; sent = []; drops = [] } }
@@ -102,7 +102,7 @@ impl Control {
         may_owe(&self.flood, link)
     }
 
-    /// How many frames are due on a link that is up.
+    /// Returns how many frames are due on a link that is up.
     pub(crate) fn pending(&self, link: u16) -> usize
         requires { is_up self.now link ≡ true }
         ensures { result ≡ length (send_of self.now link) }

@@ -19,12 +19,13 @@ use std::marker::Model;
 use wire_base::limits::{MOST_ENTRIES, MOST_FRAME, MOST_PAYLOAD};
 use wire_base::{Bsl, EdgeFault, M, Memory, RouterConf, View};
 
-/// One router: its configuration, its LSDB and what flooding keeps beside it, and how many frames it has taken.
-/// Contracts see its control state and that count.
+/// One router: its configuration, its LSDB, its flooding flags, and how many frames it has received. Contracts see its
+/// control state and that count.
 ///
-/// It also keeps the view by which it forwarded the last packet, with rows, tables and ways of that view, and which systems
-/// may say something else since then. Its type keeps that all other systems say what they said, and that rows, tables and
-/// ways are of the kept view. The next packet renews the view, and where it is the same, they stay.
+/// It also caches the topology by which it forwarded the last packet, with the rows, tables and tunnel routes of that
+/// topology, and the systems that may advertise something else since then. The invariant of the type is that all other
+/// systems advertise what they did, and that rows, tables and routes belong to the cached topology. The next packet
+/// renews the topology. If the topology is unchanged, everything cached is kept.
 #[derive(Drop)]
 pub struct Router {
     control: Control,
@@ -44,8 +45,8 @@ impl Model for Router {
 }
 
 impl Router {
-    /// A router that has just started, with all its ends up: its own LSP of sequence number 1 is all that it
-    /// knows, and it and a CSNP are to be sent on every link (ISO/IEC 10589, 7.3.17).
+    /// Returns a router that has just started, with all its interfaces up. Its LSDB has only its own LSP, with sequence
+    /// number 1. That LSP and a CSNP are to be sent on every link (ISO/IEC 10589, 7.3.17).
     pub fn new(alloc: Global, conf: RouterConf) -> M<Router>
         requires { IsSound conf }
         ensures control { IfOk result (λ r. r.control ≡ first_control conf) }
@@ -58,9 +59,9 @@ impl Router {
         })
     }
 
-    /// Its configuration. What its LSDB has of its own system and is live is its fragment 0, with the content and the
-    /// flags that it issues by this configuration and its ends that are up; one that isn't spent has it, and one that is
-    /// spent has none.
+    /// Returns its configuration. The only live entry of its LSDB with its own system ID is its fragment 0, with the
+    /// content and the flags that it originates from this configuration and its interfaces that are up. Once its
+    /// sequence number space is exhausted, it has no such entry; until then it has one.
     pub fn conf(&self) -> &RouterConf
         ensures conf { result.now ≡ self.now.control.conf }
         ensures keeps { IsRouter self.now.control }
@@ -69,43 +70,43 @@ impl Router {
         self.control.conf()
     }
 
-    /// How many frames it has taken, up to 2^64 - 1, where the count stands still.
+    /// Returns how many frames it has received. The count stops at 2^64 - 1.
     pub fn heard(&self) -> u64
         ensures { result ≡ self.now.heard }
     {
         self.heard
     }
 
-    /// Whether the end at a place is up; false where there is no such end.
+    /// Returns whether the interface at an index is up; false if there is no such interface.
     pub fn is_up(&self, link: u16) -> bool
         ensures { result ≡ is_up self.now.control link }
     {
         self.control.is_up(link)
     }
 
-    /// Its LSDB. It takes no memory.
+    /// Returns its LSDB. Does not allocate.
     pub fn store(&self) -> &Store
         ensures { result.now.entries ≡ self.now.control.entries }
     {
         self.control.store()
     }
 
-    /// The view that it has now (ISO/IEC 10589, 7.2.5; RFC 8401, 4).
+    /// Returns its current topology (ISO/IEC 10589, 7.2.5; RFC 8401, 4).
     pub fn current_view(&self) -> M<View>
         ensures { IfOk result (λ v. v.nodes ≡ control_view self.now.control) }
     {
         self.control.view()
     }
 
-    /// Takes a frame of at most 65,000 octets that came on a link. It has no refusal: what isn't taken is a drop with its
-    /// cause. An IS-IS PDU is flooded, and a BIER packet is delivered and forwarded by the view that the router has now. A
-    /// tunnel packet to the router's own prefix has such a packet inside; another one is sent on toward its destination. A
-    /// frame of another class, a hello and a PDU of another type are passed over (ISO/IEC 10589, 7.3.15; RFC 8279, 6;
-    /// RFC 2784). Where memory runs out, nothing has changed.
+    /// Receives a frame of at most 65,000 octets on a link. Invalid input is not an error: it is reported as a drop
+    /// with its cause. An IS-IS PDU is flooded. A BIER packet is delivered and forwarded by the router's current
+    /// topology. A tunnel packet to the router's own prefix contains such a packet; any other tunnel packet is
+    /// forwarded toward its destination. A frame of another class, a hello and a PDU of another type are ignored
+    /// (ISO/IEC 10589, 7.3.15; RFC 8279, 6; RFC 2784). If an allocation fails, nothing has changed.
     ///
-    /// Whatever the octets are, a drop of any cause but a full LSDB leaves the control state as it was; a packet that is
-    /// hopped here makes the router send at most one frame for each of its positions, and any other frame at most one; and
-    /// the LSDB has at most 4,096 entries.
+    /// For arbitrary octets, a drop leaves the control state unchanged, unless its cause is a full LSDB. A packet that
+    /// is forwarded here makes the router send at most one frame per bit position, and any other frame makes it send at
+    /// most one. The LSDB has at most 4,096 entries.
     pub fn frame(&mut self, link: u16, bytes: &[u8]) -> M<Effects>
         requires link { link < length self.old.control.conf.ends }
         requires short { length bytes.now ≤ MOST_FRAME }
@@ -125,8 +126,8 @@ impl Router {
         Ok(effects)
     }
 
-    /// One second: each entry of the LSDB ages, and the router's own one is issued anew when 300 seconds of its life
-    /// are left (ISO/IEC 10589, 7.3.16.3 and 7.3.16.4).
+    /// Lets one second pass: each entry of the LSDB ages, and the router's own LSP is refreshed when its Remaining
+    /// Lifetime is 300 seconds (ISO/IEC 10589, 7.3.16.3 and 7.3.16.4).
     pub fn tick(&mut self) -> M<Effects>
         ensures control { OnOk result (self.new.control ≡ (tick self.old.control).control) }
         ensures effects { IfOk result (λ e. e ≡ nothing) }
@@ -138,8 +139,8 @@ impl Router {
         Ok(Effects::nothing(self.control.allocator()))
     }
 
-    /// Sends what is due on a link that is up: CSNPs, LSPs, and a PSNP with what is acknowledged or asked for.
-    /// An LSP stays to be sent until it is acknowledged (ISO/IEC 10589, 7.3.15.4 and 7.3.17).
+    /// Sends what is due on a link that is up: CSNPs, LSPs, and PSNPs with the entries that are acknowledged or
+    /// requested. An LSP remains due until it is acknowledged (ISO/IEC 10589, 7.3.15.4 and 7.3.17).
     pub fn send(&mut self, link: u16) -> M<Effects>
         requires { is_up self.old.control link ≡ true }
         ensures next { IfOk result (λ e. record { control = self.new.control; effects = e } ≡ framed link (send self.old.control link)) }
@@ -149,17 +150,18 @@ impl Router {
         self.control.send(link)
     }
 
-    /// Whether [`Router::send`] may have anything to send on a link. False only where it would send nothing, and leave the
-    /// router as it is. It reads no entry of the LSDB and no row of flags, so that a router that owes nothing, as most do
-    /// most of the time, is passed over at once.
+    /// Returns whether [`Router::send`] may have anything to send on a link. If it returns false, `send` would send
+    /// nothing and leave the router unchanged. It reads no LSDB entry and no row of flags, so that an idle router, the
+    /// usual case, can be skipped at once.
     pub fn may_owe(&self, link: u16) -> bool
         ensures { result ≡ false → send self.now.control link ≡ record { control = self.now.control; sent = []; drops = [] } }
     {
         self.control.may_owe(link)
     }
 
-    /// What [`Router::send`] would send now on a link that is up. Nothing changes: who has found room for it says by
-    /// [`Router::sent`] that it went out, and nothing has to be undone where there is none.
+    /// Returns what [`Router::send`] would send now on a link that is up, without changing the router. A caller that
+    /// has queued these frames reports by [`Router::sent`] that they were sent. If there is no memory to queue them,
+    /// nothing needs to be undone.
     pub fn due(&self, link: u16) -> M<Effects>
         requires { is_up self.now.control link ≡ true }
         ensures { IfOk result (λ e. e ≡ (framed link (send self.now.control link)).effects) }
@@ -167,7 +169,8 @@ impl Router {
         self.control.due(link)
     }
 
-    /// What is due on a link that is up, as [`Router::due`] gives it, went out. Takes no memory.
+    /// Records that the frames that are due on a link that is up, as [`Router::due`] returns them, were sent. Does not
+    /// allocate.
     pub fn sent(&mut self, link: u16)
         requires { is_up self.old.control link ≡ true }
         ensures control { self.new.control ≡ (send self.old.control link).control }
@@ -176,7 +179,7 @@ impl Router {
         self.control.sent(link);
     }
 
-    /// How many frames [`Router::send`] would send now on a link that is up.
+    /// Returns how many frames [`Router::send`] would send now on a link that is up.
     pub fn pending(&self, link: u16) -> usize
         requires { is_up self.now.control link ≡ true }
         ensures { result ≡ length (send_of self.now.control link) }
@@ -184,8 +187,8 @@ impl Router {
         self.control.pending(link)
     }
 
-    /// The end at a place, which is down, comes up: a CSNP and all that is known are to be sent there, and the router
-    /// issues its own LSP anew (ISO/IEC 10589, 7.3.6 and 7.3.17).
+    /// Brings up the interface at an index, which is down. A CSNP and all known LSPs are to be sent there, and the
+    /// router originates its own LSP again (ISO/IEC 10589, 7.3.6 and 7.3.17).
     pub fn end_up(&mut self, link: u16) -> M<()>
         requires link { link < length self.old.control.conf.ends }
         requires down { is_up self.old.control link ≡ false }
@@ -197,8 +200,8 @@ impl Router {
         self.control.end_up(link)
     }
 
-    /// The end at a place, which is up, goes down: nothing is to be sent there any more, and the router issues its own
-    /// LSP anew (ISO/IEC 10589, 7.3.6).
+    /// Takes down the interface at an index, which is up. Nothing is to be sent there any more, and the router
+    /// originates its own LSP again (ISO/IEC 10589, 7.3.6).
     pub fn end_down(&mut self, link: u16) -> M<()>
         requires { is_up self.old.control link ≡ true }
         ensures control { OnOk result (self.new.control ≡ (end_down self.old.control link).control) }
@@ -209,7 +212,8 @@ impl Router {
         self.control.end_down(link)
     }
 
-    /// Starts again: all but the configuration and the state of the ends is forgotten (ISO/IEC 10589, 7.3.17).
+    /// Restarts the router: it loses all state except its configuration and which interfaces are up (ISO/IEC 10589,
+    /// 7.3.17).
     pub fn restart(&mut self) -> M<()>
         ensures control { OnOk result (self.new.control ≡ (restart self.old.control).control) }
         ensures err { OnErr result (self.new ≡ self.old) }
@@ -219,12 +223,12 @@ impl Router {
         self.control.restart()
     }
 
-    /// A payload enters here for the routers of a list of BFR-ids in a sub-domain, in bit strings of that length. Its copies
-    /// carry that TTL (RFC 8279, 3; RFC 8296, 3).
+    /// Injects a payload at this router, which is the BFIR, for the routers with the listed BFR-ids in a sub-domain,
+    /// with bit strings of that length. The copies carry that TTL (RFC 8279, 3; RFC 8296, 3).
     ///
-    /// Refused is, in this order: a list without ids, the id 0 in it, an id whose set identifier is above 255, a router
-    /// without a BFR-id in the sub-domain, and one that supports no triple of the sub-domain and the length. Memory may come
-    /// in place of any answer.
+    /// The errors, in order of precedence: a list without ids, the id 0 in it, an id whose set identifier is above 255,
+    /// a router without a BFR-id in the sub-domain, and a router that supports no triple of the sub-domain and the
+    /// length. Out of memory may be returned instead of any result.
     pub fn inject(
         &mut self,
         sd: u8,

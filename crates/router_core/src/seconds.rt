@@ -1,4 +1,4 @@
-//! A second (ISO/IEC 10589, 7.3.16.3 and 7.3.16.4).
+//! The passing of a second (ISO/IEC 10589, 7.3.16.3 and 7.3.16.4).
 ghost use Rattle.std.specs.Prelude.{◌≡◌, ◌+◌, ◌<◌, ◌≤◌, ◌++◌, false, length, take, drop, fold, slice_get, option_to_list, IfSome, OnOk, OnErr};
 ghost use Rattle.std.specs.List.{filter_map};
 ghost use Rattle.wire_base.specs.model.Control.{IsDatabase, after_second, entry_in, put_entry};
@@ -13,8 +13,8 @@ use lsp_store::Store;
 use wire_base::limits::{MOST_ENTRIES, REFRESH_LIFE};
 use wire_base::{Aged, Entry, LspId, M};
 
-/// What a second means for the flags of an entry: one that expires is to be sent on all links that are up, and one that
-/// goes loses its flags.
+/// Updates the flags of an entry after a second. An entry that expires is to be sent on all links that are up, and an
+/// entry that is removed loses its flags.
 fn flag_aged(flood: &mut Flood, id: LspId, answer: Aged)
     requires { 1 ≤ flood.old.spare }
     ensures flags { flood.new.flood ≡ flags_aged flood.old.flood id answer }
@@ -27,7 +27,7 @@ fn flag_aged(flood: &mut Flood, id: LspId, answer: Aged)
     }
 }
 
-/// The place of the entry after one at a place that has aged.
+/// Returns the index of the entry that follows one that has aged.
 fn next_place(place: usize, answer: Aged) -> usize
     requires { place < MOST_ENTRIES }
     ensures { result ≡ place + count_left answer }
@@ -38,7 +38,7 @@ fn next_place(place: usize, answer: Aged) -> usize
     }
 }
 
-/// The entry at a place is a second older. The answer is the place of the next one.
+/// Ages the entry at an index by a second, and returns the index of the next one.
 fn age_one(store: &mut Store, flood: &mut Flood, place: usize) -> usize
     requires place { place < length store.old.entries }
     requires flags { 1 ≤ flood.old.spare }
@@ -54,7 +54,7 @@ fn age_one(store: &mut Store, flood: &mut Flood, place: usize) -> usize
     next_place(place, answer)
 }
 
-/// Each entry, in order, is a second older.
+/// Ages each entry by a second, in order.
 fn age_all(store: &mut Store, flood: &mut Flood)
     requires { length store.old.entries ≤ flood.old.spare }
     ensures flood { flood.new.flood ≡ fold flood_aged flood.old.flood store.old.entries }
@@ -69,7 +69,7 @@ fn age_all(store: &mut Store, flood: &mut Flood)
     }
 }
 
-/// Each entry is a second older; or nothing has changed.
+/// Ages each entry by a second. If an allocation fails, nothing has changed.
 fn age(store: &mut Store, flood: &mut Flood) -> M<()>
     ensures ok { OnOk result ((flood.new.flood ≡ fold flood_aged flood.old.flood store.old.entries) × (store.new.entries ≡ filter_map after_second store.old.entries)) }
     ensures err { OnErr result ((flood.new.flood ≡ flood.old.flood) × (store.new.entries ≡ store.old.entries)) }
@@ -80,7 +80,7 @@ fn age(store: &mut Store, flood: &mut Flood) -> M<()>
     Ok(())
 }
 
-/// Each entry is a second older, and then the own LSP is issued; or nothing has changed.
+/// Ages each entry by a second, and then originates the own LSP. If an allocation fails, nothing has changed.
 fn age_issuing(store: &mut Store, flood: &mut Flood, own: Entry) -> M<()>
     requires { is_refused (filter_map after_second store.old.entries) own.id ≡ false }
     ensures ok { OnOk result ((flood.new.flood ≡ mark_all (fold flood_aged flood.old.flood store.old.entries) own.id) × (store.new.entries ≡ put_entry own (filter_map after_second store.old.entries))) }
@@ -94,7 +94,7 @@ fn age_issuing(store: &mut Store, flood: &mut Flood, own: Entry) -> M<()>
     Ok(())
 }
 
-/// Whether an entry is to be issued anew after the next second.
+/// Returns whether an entry is to be refreshed after the next second.
 fn is_near(store: &Store, id: &LspId) -> bool
     ensures { result ≡ is_near (entry_in store.now.entries id.now) }
 {
@@ -105,7 +105,7 @@ fn is_near(store: &Store, id: &LspId) -> bool
 }
 
 impl Control {
-    /// One second; or nothing has changed.
+    /// Lets one second pass. If an allocation fails, nothing has changed.
     pub(crate) fn tick(&mut self) -> M<()>
         ensures ok { OnOk result (self.new ≡ (tick self.old).control) }
         ensures err { OnErr result (self.new ≡ self.old) }

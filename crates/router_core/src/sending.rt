@@ -19,21 +19,21 @@ use std::alloc::Global;
 use wire_base::limits::{MOST_CONTENT, MOST_LISTED};
 use wire_base::{Entry, LspId, M, RouterConf, Rows, Summary, SystemId};
 
-/// The least identifier.
+/// The least LSP ID.
 const ZERO_ID: LspId = LspId {
     system: SystemId([0; 6]),
     pseudonode: 0,
     fragment: 0,
 };
 
-/// The greatest identifier.
+/// The greatest LSP ID.
 const LAST_ID: LspId = LspId {
     system: SystemId([255; 6]),
     pseudonode: 255,
     fragment: 255,
 };
 
-/// What a sequence numbers PDU says of an entry.
+/// Returns what a sequence numbers PDU lists of an entry.
 fn summary_of(e: &Entry) -> Summary
     ensures { result ≡ summary_of e.now }
 {
@@ -45,7 +45,7 @@ fn summary_of(e: &Entry) -> Summary
     }
 }
 
-/// The entries that a CSNP lists.
+/// Returns the entries that a CSNP lists.
 fn known_rows(alloc: Global, entries: &[Entry]) -> M<Vec<Summary>>
     ensures { IfOk result (λ rows. rows.items ≡ map summary_of (filter is_known entries.now)) }
 {
@@ -58,7 +58,7 @@ fn known_rows(alloc: Global, entries: &[Entry]) -> M<Vec<Summary>>
     )
 }
 
-/// Appends what a sequence numbers PDU says of an identifier's entry, which mostly stands at that place.
+/// Appends what a sequence numbers PDU lists of the entry with an LSP ID, which is usually at the given index.
 fn push_summary(rows: &mut Vec<Summary>, store: &Store, id: LspId, place: usize) -> M<()>
     ensures { OnOk result (rows.new.items ≡ rows.old.items ++ found entry_summary (entry_in store.now.entries id)) }
 {
@@ -77,7 +77,7 @@ fn push_known(rows: &mut Vec<Summary>, entry: Option<&Entry>) -> M<()>
     }
 }
 
-/// The entries to be acknowledged or asked for on a link. Where there is none, mostly no row of flags is looked at.
+/// Returns the entries to be acknowledged or requested on a link. If there are none, usually no row of flags is read.
 fn asked_rows(store: &Store, flood: &Flood, link: u16) -> M<Vec<Summary>>
     requires link { link < length flood.now.flood.up }
     requires order { AreAscending (row_ids flood.now.flood.rows) }
@@ -98,7 +98,7 @@ fn asked_rows(store: &Store, flood: &Flood, link: u16) -> M<Vec<Summary>>
     Ok(rows)
 }
 
-/// The identifier one above; after the greatest one the least.
+/// Returns the LSP ID that follows; after the greatest one comes the least.
 #[tactic(auto, unfolding(wire_base::specs::model::Flooding::id_after))]
 fn id_after(id: LspId) -> LspId
     ensures { result ≡ id_after id }
@@ -113,8 +113,8 @@ fn id_after(id: LspId) -> LspId
     }
 }
 
-/// Appends the CSNPs that list those entries, in blocks of 90. Together they cover all identifiers: the first begins at the
-/// least, each other one above the one before, and the last ends at the greatest.
+/// Appends the CSNPs that list those entries, in blocks of 90. Together they cover all LSP IDs. The first starts at the
+/// least, each further one starts right after the end of the one before, and the last ends at the greatest.
 fn push_csnps(out: &mut FramesOut, conf: &RouterConf, link: u16, rows: &[Summary]) -> M<()>
     requires { link < length conf.now.ends }
     ensures { OnOk result (out.new ≡ out.old ++ frames_of conf.now link (csnps (conf_alone conf.now) zero_id (blocks MOST_LISTED rows.now))) }
@@ -132,7 +132,7 @@ fn push_csnps(out: &mut FramesOut, conf: &RouterConf, link: u16, rows: &[Summary
     Ok(())
 }
 
-/// Appends the frame of an entry, where there is one.
+/// Appends the frame of an entry, if there is one.
 fn push_entry(out: &mut FramesOut, conf: &RouterConf, link: u16, entry: Option<&Entry>) -> M<()>
     requires end { link < length conf.now.ends }
     requires short { IfSome entry (λ e. length e.now.content ≤ MOST_CONTENT) }
@@ -144,7 +144,7 @@ fn push_entry(out: &mut FramesOut, conf: &RouterConf, link: u16, entry: Option<&
     }
 }
 
-/// Appends the frame of an identifier's entry, which mostly stands at that place.
+/// Appends the frame of the entry with an LSP ID, which is usually at the given index.
 fn push_found(
     out: &mut FramesOut,
     conf: &RouterConf,
@@ -160,8 +160,8 @@ fn push_found(
     push_entry(out, conf, link, store.get_near(&id, place))
 }
 
-/// Appends the frames of the entries that are to be sent on a link. Where there is none, mostly no row of flags is looked
-/// at; and never an entry but those that are sent.
+/// Appends the frames of the entries that are to be sent on a link. If there are none, usually no row of flags is read.
+/// No entry is read but those that are sent.
 fn push_lsps(
     out: &mut FramesOut,
     conf: &RouterConf,
@@ -203,7 +203,7 @@ fn push_psnps(out: &mut FramesOut, conf: &RouterConf, link: u16, rows: &[Summary
     Ok(())
 }
 
-/// Appends the CSNPs, where they are due.
+/// Appends the CSNPs, if they are due.
 fn push_due(
     out: &mut FramesOut,
     conf: &RouterConf,
@@ -222,7 +222,7 @@ fn push_due(
     Ok(())
 }
 
-/// The frames to be sent on a link that is up.
+/// Returns the frames to be sent on a link that is up.
 fn due_frames(conf: &RouterConf, store: &Store, flood: &Flood, link: u16) -> M<SentFrames>
     requires end { link < length conf.now.ends }
     requires link { link < length flood.now.flood.up }
@@ -241,7 +241,7 @@ fn due_frames(conf: &RouterConf, store: &Store, flood: &Flood, link: u16) -> M<S
 }
 
 impl Control {
-    /// What is due on a link that is up.
+    /// Returns what is due on a link that is up.
     #[tactic(auto, unfolding(wire_base::specs::model::Flooding::send, wire_base::specs::model::OnFrame::framed))]
     pub(crate) fn due(&self, link: u16) -> M<Effects>
         requires { is_up self.now link ≡ true }
@@ -257,7 +257,7 @@ impl Control {
         })
     }
 
-    /// What is due on a link that is up went out.
+    /// Records that what is due on a link that is up was sent.
     #[tactic(auto, unfolding(wire_base::specs::model::Flooding::send))]
     pub(crate) fn sent(&mut self, link: u16)
         requires { is_up self.old link ≡ true }
@@ -266,7 +266,7 @@ impl Control {
         self.flood.sent(link);
     }
 
-    /// Sends what is due on a link that is up; or nothing has changed.
+    /// Sends what is due on a link that is up. If an allocation fails, nothing has changed.
     #[tactic(auto, unfolding(wire_base::specs::model::OnFrame::framed))]
     pub(crate) fn send(&mut self, link: u16) -> M<Effects>
         requires { is_up self.old link ≡ true }

@@ -1,5 +1,5 @@
-//! What a list of entries will ask for, told and made ready before anything changes (ISO/IEC 10589, 7.3.15.2). So a
-//! sequence numbers PDU that memory runs out on leaves the router as it was.
+//! What a list of entries will require, computed and prepared before anything changes (ISO/IEC 10589, 7.3.15.2). So a
+//! sequence numbers PDU that runs out of memory leaves the router unchanged.
 ghost use Rattle.std.specs.Prelude.{◌≡◌, ◌≤◌, ◌<◌, ◌+◌, ◌^◌, false, length, map, replicate, option_map, IfOk, IfSome, OnOk};
 ghost use Rattle.std.specs.List.{list_any};
 ghost use Rattle.wire_base.specs.declared.cause.Cause.TheVariants as cause;
@@ -18,18 +18,18 @@ use std::alloc::Global;
 use wire_base::limits::MOST_ENTRIES;
 use wire_base::{Age, Cause, Entry, LspId, M, Rows, Summary};
 
-/// What is made ready for a list of entries.
+/// What is prepared for a list of entries.
 #[derive(Drop)]
 pub(crate) struct Ready {
-    /// The own LSP, where it is to be issued anew.
+    /// The own LSP, if it is to be originated again.
     pub(crate) own: Option<Entry>,
-    /// Whether the router is spent then.
+    /// Whether the sequence number space is exhausted then.
     pub(crate) spent: bool,
-    /// One drop for each entry that finds no room.
+    /// One drop for each entry that does not fit the LSDB.
     pub(crate) drops: Rows<DropNote>,
 }
 
-/// The identifiers that a list makes an LSDB wait for, and how many of its entries find no room.
+/// The LSP IDs that a list makes the LSDB wait for, and how many of its entries do not fit.
 #[derive(Drop)]
 pub(crate) struct Look {
     added: Rows<LspId>,
@@ -45,21 +45,21 @@ fn is_confused(age: Age) -> bool
     }
 }
 
-/// Whether a listed entry is at odds with the LSDB's of its identifier.
+/// Returns whether a listed entry is in LSP confusion with the LSDB's entry of the same LSP ID.
 fn is_confusing(store: &Store, s: &Summary) -> bool
     ensures { result ≡ is_confusing store.now.entries s.now }
 {
     is_confused(store.compare(s))
 }
 
-/// Whether one of a list is.
+/// Returns whether any entry of a list is in LSP confusion with the LSDB.
 pub(crate) fn any_confusing(store: &Store, rows: &[Summary]) -> bool
     ensures { result ≡ list_any (is_confusing store.now.entries) rows.now }
 {
     rows.iter().any(|s| is_confusing(store, s))
 }
 
-/// Whether a listed entry has an identifier, and is at odds with the LSDB's.
+/// Returns whether a listed entry has this LSP ID and is in LSP confusion with the LSDB's.
 fn is_at_odds(store: &Store, id: &LspId, s: &Summary) -> bool
     ensures { result ≡ is_at_odds store.now.entries id.now s.now }
 {
@@ -72,7 +72,7 @@ fn any_at_odds(store: &Store, id: &LspId, rows: &[Summary]) -> bool
     rows.iter().any(|s| is_at_odds(store, id, s))
 }
 
-/// Past which sequence number a list asks that the own LSP be issued anew.
+/// Returns the sequence number after which a list requires the own LSP to be originated again, if it requires that.
 fn past_asked(store: &Store, own: &LspId, rows: &[Summary], spent: bool) -> Option<u32>
     ensures { result ≡ past_asked spent store.now.entries own.now rows.now }
 {
@@ -82,7 +82,8 @@ fn past_asked(store: &Store, own: &LspId, rows: &[Summary], spent: bool) -> Opti
     None
 }
 
-/// Whether a router is spent once its own LSP is issued past a sequence number, where one is asked for.
+/// Returns whether the sequence number space is exhausted once the own LSP is originated after a sequence number, if a
+/// list requires that.
 fn spent_if(spent: bool, past: Option<u32>) -> bool
     ensures { result ≡ spent_if spent past }
 {
@@ -104,14 +105,14 @@ fn has_id(ids: &[LspId], id: &LspId) -> bool
     ids.iter().any(|i| i == id)
 }
 
-/// Whether the LSDB is to wait for a listed entry, beside those that it waits for already.
+/// Returns whether the LSDB is to wait for a listed entry, besides those that it already waits for.
 fn is_wanted(store: &Store, added: &[LspId], s: &Summary) -> bool
     ensures { result ≡ is_wanted store.now.entries added.now s.now }
 {
     s.is_live() && is_new(store, &s.id) && !has_id(added, &s.id)
 }
 
-/// One entry of a list.
+/// Handles one entry of a list.
 #[tactic(auto, unfolding(crate::specs::SnpNeeds::looked))]
 fn look_at(store: &Store, look: &mut Look, s: &Summary) -> M<()>
     requires { look.old.full + 1 < 2 ^ 64 }
@@ -128,7 +129,7 @@ fn look_at(store: &Store, look: &mut Look, s: &Summary) -> M<()>
     look.added.push(s.id)
 }
 
-/// How many entries of a list find no room. The list is gone through only where it can fill the LSDB.
+/// Returns how many entries of a list do not fit the LSDB. The list is read only if it can fill the LSDB.
 #[tactic(auto, unfolding(crate::specs::SnpNeeds::count_full))]
 fn count_full(store: &Store, rows: &[Summary]) -> M<usize>
     ensures { IfOk result (λ full. full ≡ count_full store.now.entries rows.now) }
@@ -146,7 +147,7 @@ fn count_full(store: &Store, rows: &[Summary]) -> M<usize>
     Ok(look.full)
 }
 
-/// One drop for each entry that finds no room. Where there is none, nothing is prepared for one.
+/// Returns one drop for each entry that does not fit. If there are none, nothing is prepared.
 fn full_drops(alloc: Global, full: usize) -> M<Rows<DropNote>>
     ensures { IfOk result (λ drops. drops ≡ map full_drop (replicate full cause.Full)) }
 {
@@ -169,7 +170,7 @@ fn repeated_drops(alloc: Global, full: usize) -> M<Rows<DropNote>>
     Ok(drops)
 }
 
-/// Issues the own LSP that was made ready, where one was; it takes no memory.
+/// Originates the own LSP that was prepared, if one was. Does not allocate.
 pub(crate) fn issue_ready(store: &mut Store, flood: &mut Flood, own: Option<Entry>)
     requires known { IfSome own (λ e. is_new store.old.entries e.id ≡ false) }
     requires flags { 1 ≤ flood.old.spare }
@@ -185,7 +186,7 @@ pub(crate) fn issue_ready(store: &mut Store, flood: &mut Flood, own: Option<Entr
 }
 
 impl Control {
-    /// The own LSP past a sequence number, where one is asked for.
+    /// Returns the own LSP after a sequence number, if a list requires one.
     fn own_asked(&self, past: Option<u32>) -> M<Option<Entry>>
         ensures { IfOk result (λ own. own ≡ option_map (own_past self.now.conf self.now.flood.up) past) }
     {
@@ -198,7 +199,7 @@ impl Control {
         }
     }
 
-    /// All that a list of entries asks for.
+    /// Prepares all that a list of entries requires.
     pub(crate) fn ready(&self, rows: &[Summary]) -> M<Ready>
         ensures { IfOk result (λ r. IsReady self.now rows.now r) }
     {

@@ -1,5 +1,5 @@
-//! What may change the view that is kept, noted before it happens: which systems may say something else then. The view is
-//! renewed when it is next needed, and where it is the same then, nothing that is kept of it is lost.
+//! What may change the cached topology. The systems that may advertise something else are noted before the change
+//! happens. The topology is renewed when it is next needed, and if it is the same then, nothing cached is lost.
 ghost use Rattle.std.specs.Prelude.{◌≡◌, ℕ, true, false};
 ghost use Rattle.std.specs.List.{list_any};
 ghost use Rattle.wire_base.specs.model.Control.{Control as ControlState};
@@ -18,7 +18,7 @@ use isis_flood::listed;
 use isis_pdu::Pdu;
 use wire_base::{Entry, SystemId};
 
-/// So many systems are noted; where more change, the view is made anew.
+/// The greatest number of systems that are noted. If more systems change, the topology is computed anew.
 const MOST_CHANGED: usize = 64;
 
 fn is_named(systems: &[SystemId], system: &SystemId) -> bool
@@ -27,14 +27,14 @@ fn is_named(systems: &[SystemId], system: &SystemId) -> bool
     systems.iter().any(|s| s == system)
 }
 
-/// Whether an entry dies within the second.
+/// Returns whether an entry expires within the second.
 fn any_last(entries: &[Entry]) -> bool
     ensures { result ≡ list_any is_last entries.now }
 {
     entries.iter().any(|e| e.life == 1)
 }
 
-/// The router itself may say something else.
+/// Notes that the router itself may advertise something else.
 pub(crate) fn note_own(kept: &mut Option<Kept>)
     ensures { StaysOwn kept.old kept.new }
 {
@@ -43,7 +43,7 @@ pub(crate) fn note_own(kept: &mut Option<Kept>)
     }
 }
 
-/// Notes that a system may say something else, where there is room to note it.
+/// Notes that a system may advertise something else, if there is room to note it.
 fn noted(kept: &mut Kept, system: SystemId) -> bool
     ensures { result ≡ true → (c next : ControlState) → IsKept c kept.old → SaysSame system c next → IsKept next kept.new }
 {
@@ -57,7 +57,7 @@ fn noted(kept: &mut Kept, system: SystemId) -> bool
     kept.changed.push(system).is_ok()
 }
 
-/// The same where anything is kept.
+/// Does the same if anything is cached.
 fn may_go_stale(kept: &mut Option<Kept>, system: SystemId) -> bool
     ensures { result ≡ true → StaysKept system kept.old kept.new }
 {
@@ -67,7 +67,8 @@ fn may_go_stale(kept: &mut Option<Kept>, system: SystemId) -> bool
     }
 }
 
-/// A system, and the router itself, may say something else. Nothing is kept where there is no room to note that system.
+/// Notes that a system, and the router itself, may advertise something else. If there is no room to note that system,
+/// the cache is dropped.
 fn note(kept: &mut Option<Kept>, system: SystemId)
     ensures { StaysKept system kept.old kept.new }
 {
@@ -76,7 +77,7 @@ fn note(kept: &mut Option<Kept>, system: SystemId)
 }
 
 impl Control {
-    /// Whether one of the entries that those TLVs list may be at odds with the LSDB's.
+    /// Returns whether one of the entries that those TLVs list may be in LSP confusion with the LSDB's.
     fn may_confuse(&self, tlvs: &[u8]) -> bool
         ensures { result ≡ false → list_any (is_confusing self.now.entries) (rows_of tlvs.now) ≡ false }
     {
@@ -86,8 +87,8 @@ impl Control {
         }
     }
 
-    /// A sequence numbers PDU of those TLVs comes. An entry at odds with the LSDB's becomes a purge, and its system says
-    /// something else; else the PDU changes at most what the LSDB waits for.
+    /// Notes that a sequence numbers PDU with those TLVs arrives. An entry in LSP confusion with the LSDB's becomes a
+    /// purge, so its system advertises something else. Otherwise the PDU changes at most what the LSDB waits for.
     fn note_list(&self, kept: &mut Option<Kept>, tlvs: &[u8])
         requires { MayKeep self.now kept.old }
         ensures { (next : ControlState) → (list_any (is_confusing self.now.entries) (rows_of tlvs.now) ≡ false → SaysSame self.now.conf.system self.now next) → MayKeep next kept.new }
@@ -102,7 +103,7 @@ impl Control {
         }
     }
 
-    /// A PDU comes, which is taken or not.
+    /// Notes that a PDU arrives, whether or not it is accepted.
     pub(crate) fn note_pdu(&self, kept: &mut Option<Kept>, pdu: Pdu<'_>)
         requires { MayKeep self.now kept.old }
         ensures now { MayKeep self.now kept.new }
@@ -121,7 +122,7 @@ impl Control {
         }
     }
 
-    /// A second passes or not. What a system says ends where an entry dies.
+    /// Notes that a second may pass. A system stops advertising what an entry contains when that entry expires.
     pub(crate) fn note_second(&self, kept: &mut Option<Kept>)
         requires { MayKeep self.now kept.old }
         ensures now { MayKeep self.now kept.new }

@@ -1,6 +1,7 @@
-//! What a run still has to write: the octets of its frames and of its report.
+//! The pending output of a run: the octets of its frames and of its report.
 //!
-//! It stands on `wire_base` alone, so that what makes these octets and what writes them out need not wait for each other.
+//! This crate depends only on `wire_base`, so that the crates that produce the output and those that write it do not depend on
+//! each other.
 #![tactic(auto)]
 
 mod texts;

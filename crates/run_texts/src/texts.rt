@@ -1,4 +1,4 @@
-//! Both outputs of a run, as far as they are made and not yet written.
+//! Both outputs of a run, as far as they are produced and not yet written.
 ghost use Rattle.std.specs.Prelude.{◌≡◌, []};
 
 use std::alloc::Global;
@@ -12,7 +12,7 @@ pub struct Texts {
 }
 
 impl Texts {
-    /// Nothing is to be written yet.
+    /// Creates empty outputs.
     pub fn new(alloc: Global) -> Texts
         ensures frames { result.frames ≡ [] }
         ensures report { result.report ≡ [] }

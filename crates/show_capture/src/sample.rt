@@ -1,4 +1,4 @@
-//! The frames of the sample, each made by the calls that a router will use.
+//! The frames of the sample, built with the same calls that a router uses.
 use bier_subtlv::push_info;
 use isis_pdu::{LspHead, checksum_at, write_csnp, write_lsp, write_psnp};
 use isis_tlv::{PrefixEntry, Reach, push_prefix, push_reach, push_tlv};
@@ -11,7 +11,7 @@ use wire_base::codepoints::{
 };
 use wire_base::{Bsl, LabelRange, Level, LspId, M, Mac, Octets, OwnSub, Rows, Summary, SystemId};
 
-/// Where IS-IS frames go (ISO/IEC 10589, 8.4).
+/// The destination address of IS-IS frames (ISO/IEC 10589, 8.4).
 const ALL_ROUTERS: Mac = Mac([0x09, 0x00, 0x2b, 0x00, 0x00, 0x05]);
 
 fn system(n: u8) -> SystemId {
@@ -26,7 +26,7 @@ fn fragment_0(n: u8) -> LspId {
     }
 }
 
-/// The BIER Info of a router, with a label range for strings of 64 and of 256 bits.
+/// Returns the BIER Info of a router, with label ranges for BitStrings of 64 and of 256 bits.
 fn info(alloc: Global, n: u8) -> M<Octets> {
     let mut ranges = Rows::new(alloc);
     ranges.push(LabelRange {
@@ -46,7 +46,7 @@ fn info(alloc: Global, n: u8) -> M<Octets> {
     Ok(out)
 }
 
-/// The links of a router to its two neighbors.
+/// Returns the links of a router to its two neighbors.
 fn links(alloc: Global, neighbours: [u8; 2]) -> M<Octets> {
     let mut out = Octets::new(alloc);
     for neighbour in neighbours {
@@ -63,7 +63,7 @@ fn links(alloc: Global, neighbours: [u8; 2]) -> M<Octets> {
     Ok(out)
 }
 
-/// The prefix of a router, with its BIER Info.
+/// Returns the prefix of a router, with its BIER Info.
 fn prefix(alloc: Global, n: u8) -> M<Octets> {
     let info = info(alloc, n)?;
     let mut out = Octets::new(alloc);
@@ -82,7 +82,7 @@ fn prefix(alloc: Global, n: u8) -> M<Octets> {
     Ok(out)
 }
 
-/// The TLVs of a router's own LSP.
+/// Returns the TLVs of a router's own LSP.
 fn tlvs(alloc: Global, n: u8, neighbours: [u8; 2]) -> M<Octets> {
     let links = links(alloc, neighbours)?;
     let prefix = prefix(alloc, n)?;
@@ -97,7 +97,7 @@ fn tlvs(alloc: Global, n: u8, neighbours: [u8; 2]) -> M<Octets> {
     Ok(out)
 }
 
-/// The checksum of an LSP in which it is still 0.
+/// Returns the checksum of an LSP whose checksum field is still 0.
 fn sum_of(lsp: &[u8]) -> u16 {
     if lsp.len() < 27 || lsp.len() > 65_535 || lsp[24] != 0 || lsp[25] != 0 {
         return 0;
@@ -105,7 +105,7 @@ fn sum_of(lsp: &[u8]) -> u16 {
     checksum_at(&lsp[12..], 12)
 }
 
-/// A live LSP with its checksum.
+/// Returns a live LSP with its checksum.
 fn lsp(alloc: Global, n: u8, seq: u32, neighbours: [u8; 2]) -> M<Octets> {
     let tlvs = tlvs(alloc, n, neighbours)?;
     let mut head = LspHead {
@@ -123,7 +123,7 @@ fn lsp(alloc: Global, n: u8, seq: u32, neighbours: [u8; 2]) -> M<Octets> {
     write_lsp(alloc, Level::Two, &head, tlvs.as_slice())
 }
 
-/// A purge: its header alone, with lifetime 0.
+/// Returns a purge: only the LSP header, with Remaining Lifetime 0.
 fn purge(alloc: Global, n: u8, seq: u32) -> M<Octets> {
     let head = LspHead {
         life: 0,
@@ -135,7 +135,7 @@ fn purge(alloc: Global, n: u8, seq: u32) -> M<Octets> {
     write_lsp(alloc, Level::Two, &head, &[])
 }
 
-/// A row of a sequence numbers PDU for an LSP that was written.
+/// Returns the entry of a CSNP or PSNP for a written LSP.
 fn row(n: u8, seq: u32, lsp: &[u8]) -> Summary {
     let sum = if lsp.len() < 27 {
         0
@@ -170,7 +170,7 @@ fn push_record(alloc: Global, out: &mut Octets, sec: u32, from: u8, pdu: &[u8]) 
     write_cap_record(out, sec, 0, frame.as_slice())
 }
 
-/// The capture.
+/// Returns the capture.
 pub fn capture(alloc: Global) -> M<Octets> {
     let one = lsp(alloc, 1, 1, [2, 3])?;
     let two = lsp(alloc, 2, 1, [1, 3])?;

@@ -1,12 +1,12 @@
-//! Reads a domain file from standard input, and says how many routers and links it has, or which rule it breaks first and
-//! where. `bench/domain` times it on a large file.
+//! Reads a domain file from standard input. Reports how many routers and links it has, or the first rule that it breaks
+//! and where. `bench/domain` times it on a large file.
 #![tactic(auto)]
 
 use domain_conf::{ConfFault, read_domain};
 use std::io::{self, Read};
 use std::process::ExitCode;
 
-/// What the fault says, as text.
+/// Returns octets of an error report as text.
 fn text(octets: &[u8]) -> &str {
     std::str::from_utf8(octets).unwrap_or("?")
 }
@@ -18,7 +18,7 @@ fn show_fault(rt: &HostRuntime, fault: &ConfFault) -> io::Result<()> {
     println!(rt; "refused conf {number} {name} {path}")
 }
 
-/// Prints what the file says.
+/// Prints what the file describes.
 fn show(rt: &HostRuntime, bytes: &[u8]) -> io::Result<()> {
     match read_domain(rt.alloc(), bytes) {
         Ok(domain) => {

@@ -1,4 +1,4 @@
-//! The configuration of the router that looks: A of the example `replay-ring`.
+//! The configuration of the router whose view is shown: A of the example `replay-ring`.
 ghost use Rattle.std.specs.Prelude.{◌≡◌, IfOk, length};
 ghost use Rattle.wire_base.specs.model.Configuration.{IsSound};
 ghost use Rattle.examples_model.specs.Domains.{ring_a};

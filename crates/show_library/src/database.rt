@@ -1,4 +1,4 @@
-//! The LSDB that a capture makes.
+//! The LSDB built from a capture.
 
 use isis_pdu::{LspHead, Pdu, read_pdu};
 use link_frame::{Class, classify};
@@ -7,7 +7,7 @@ use pcap_frames::Reader;
 use std::alloc::Global;
 use wire_base::{Age, CaptureFault, Entry, Level, M, Memory, Octets, PutFault, Status, Summary};
 
-/// The status of a capture that isn't read.
+/// Returns the exit status of a capture that could not be read.
 fn status_of(why: CaptureFault) -> Status {
     match why {
         CaptureFault::Memory => Status::Memory,
@@ -15,7 +15,7 @@ fn status_of(why: CaptureFault) -> Status {
     }
 }
 
-/// Of each LSP in a capture the newest.
+/// Returns the LSDB with the newest LSP of each LSP ID in a capture.
 pub fn database(alloc: Global, level: Level, capture: &[u8]) -> Result<Store, Status> {
     let mut store = Store::new(alloc);
     let mut reader = Reader::new(alloc);
@@ -33,7 +33,7 @@ pub fn database(alloc: Global, level: Level, capture: &[u8]) -> Result<Store, St
     }
 }
 
-/// Puts the LSP of a frame; of another frame, and of one that breaks a rule, nothing.
+/// Adds the LSP in a frame. Other frames, and malformed ones, are ignored.
 fn put_frame(alloc: Global, store: &mut Store, level: Level, frame: &[u8]) -> M<()> {
     let Ok(Class::Isis { from, to }) = classify(frame) else {
         return Ok(());
@@ -44,8 +44,8 @@ fn put_frame(alloc: Global, store: &mut Store, level: Level, frame: &[u8]) -> M<
     }
 }
 
-/// Puts an LSP that is newer than the entry of its identifier (ISO/IEC 10589, 7.3.16.2). An LSDB that is full takes no
-/// new identifier.
+/// Adds an LSP that is newer than the entry of its LSP ID (ISO/IEC 10589, 7.3.16.2). A new LSP ID is not added to a full
+/// LSDB.
 fn put_lsp(alloc: Global, store: &mut Store, head: &LspHead, tlvs: &[u8]) -> M<()> {
     let summary = Summary {
         life: head.life,
@@ -62,7 +62,7 @@ fn put_lsp(alloc: Global, store: &mut Store, head: &LspHead, tlvs: &[u8]) -> M<(
     }
 }
 
-/// What an LSDB keeps of an LSP: of a dead one a purge.
+/// Returns the LSDB entry for an LSP: a purge if it has expired.
 fn entry_of(alloc: Global, head: &LspHead, tlvs: &[u8]) -> M<Entry> {
     if head.life == 0 {
         return Ok(purge(alloc, head.id, head.seq));

@@ -1,7 +1,7 @@
-//! Reads a capture of IS-IS from standard input, builds the LSDB and the view that a router makes of it, and says how
-//! far each router is and where each bit goes. `docs/library.md` quotes it.
+//! Reads an IS-IS capture from standard input, builds the LSDB and the topology that a router derives from it, and prints
+//! the distance of each router and the next hops of each bit position. `docs/library.md` quotes it.
 //!
-//! It stands on the codecs, the LSDB, the view and the routes.
+//! This program depends on the codecs, the LSDB, the topology and the routes.
 #![tactic(auto)]
 
 mod conf;
@@ -18,7 +18,7 @@ use std::process::ExitCode;
 use view_graph::view;
 use wire_base::Status;
 
-/// What the program says of a capture.
+/// Returns the output of the program for a capture.
 fn report(alloc: Global, capture: &[u8]) -> Result<String, Status> {
     let conf = own_conf(alloc)?;
     let store = database(alloc, conf.level, capture)?;

@@ -1,4 +1,4 @@
-//! What a view says: distances, and the rows of a forwarding table.
+//! What follows from a topology: distances, and the entries of a BIFT.
 ghost use Rattle.std.specs.Prelude.{◌≤◌, length};
 
 use birt_rows::rows;
@@ -7,7 +7,7 @@ use std::alloc::Global;
 use std::fmt::Write;
 use wire_base::{Bsl, FirstList, M, RouterConf, Triple, View};
 
-/// A line for each router: how far each router is from it, `-` where no walk leads to it.
+/// Returns a line for each router, with the distance of each router from it, `-` if it is unreachable.
 pub fn show_distances(alloc: Global, text: &mut String, seen: &View) -> M<()> {
     let nodes = seen.as_slice();
     for d in 0..nodes.len() {
@@ -24,8 +24,8 @@ pub fn show_distances(alloc: Global, text: &mut String, seen: &View) -> M<()> {
     Ok(())
 }
 
-/// A line for each bit position of set 0 of 64 bits in sub-domain 0 that has a row at the view's first router: the routers
-/// to which its bit may be sent, and the end where each is reached directly.
+/// Returns a line for each bit position of SI 0 with a BSL of 64 bits in sub-domain 0 that has a BIFT entry at the first
+/// router of the topology: its possible BFR-NBRs, and the link to each that is directly connected.
 pub fn show_rows(alloc: Global, text: &mut String, seen: &View, conf: &RouterConf) -> M<()>
     requires { length conf.now.ends ≤ 65536 }
 {
@@ -46,7 +46,7 @@ pub fn show_rows(alloc: Global, text: &mut String, seen: &View, conf: &RouterCon
     Ok(())
 }
 
-/// The bit position is the place in the set, from 1.
+/// The bit position in the set, from 1.
 fn show_row(text: &mut String, place: usize, row: &FirstList) -> M<()> {
     let position = place.saturating_add(1);
     write!(text, "bit {position}:")?;

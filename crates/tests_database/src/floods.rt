@@ -8,13 +8,13 @@ use lsp_store::{Store, purge};
 use std::alloc::Global;
 use wire_base::{Entry, LspId, M, Memory, Octets, Summary, SystemId};
 
-/// System, fragment, sequence number, lifetime and checksum of what comes.
+/// System, fragment, sequence number, lifetime and checksum of what arrives.
 type Said = (u8, u8, u32, u16, u16);
 
-/// To be sent on link 0 and on link 1, to be acknowledged or asked for on link 0 and on link 1.
+/// To be sent on link 0 and on link 1, to be acknowledged or requested on link 0 and on link 1.
 type Flags = [bool; 4];
 
-/// Sequence number, lifetime and hold of the entry that is left.
+/// Sequence number, lifetime and hold time of the remaining entry.
 type Left = Option<(u32, u16, u16)>;
 
 const NONE: Flags = [false; 4];
@@ -42,13 +42,13 @@ const DEAD: Summary = Summary {
     sum: 0,
 };
 
-/// What comes on link 1, whether the router is spent, and what is answered and left.
+/// What arrives on link 1, whether the sequence number space is exhausted, and the reply and the state after it.
 static LSPS: [(Said, bool, FloodOut, Flags, Left); 15] = [
     ((2, 0, 0, 900, 7), false, FloodOut::Zero, AT_START, OTHERS),
     ((1, 0, 4, 900, 9), false, FloodOut::Reissue(4), NONE, OURS),
     ((1, 0, 4, 0, 0), false, FloodOut::Reissue(4), NONE, OURS),
     ((1, 0, 3, 900, 8), false, FloodOut::Reissue(3), NONE, OURS),
-    // what the router never issued, or can't issue past
+    // what the router never originated, or what it cannot supersede
     (
         (1, 0, 4, 900, 9),
         true,
@@ -70,10 +70,10 @@ static LSPS: [(Said, bool, FloodOut, Flags, Left); 15] = [
         MARKED,
         Some((1, 0, 60)),
     ),
-    // unknown: dead, live
+    // unknown: expired, live
     ((3, 0, 5, 0, 0), false, FloodOut::Ack(DEAD), NONE, None),
     ((3, 0, 5, 900, 7), false, FloodOut::Kept, PASSED, OTHERS),
-    // newer: live, dead
+    // newer: live, expired
     (
         (2, 0, 6, 900, 7),
         false,
@@ -88,7 +88,7 @@ static LSPS: [(Said, bool, FloodOut, Flags, Left); 15] = [
         PASSED,
         Some((5, 0, 60)),
     ),
-    // at odds; equal, also with another lifetime; older
+    // LSP confusion; equal, also with another lifetime; older
     (
         (2, 0, 5, 900, 8),
         false,
@@ -113,10 +113,10 @@ static LSPS: [(Said, bool, FloodOut, Flags, Left); 15] = [
     ((2, 0, 4, 900, 7), false, FloodOut::Kept, AT_START, OTHERS),
 ];
 
-/// What is listed on a link, whether the router is spent, the sequence number past which the own one must be issued, and
-/// what is left.
+/// What is listed on a link, whether the sequence number space is exhausted, the sequence number after which the own
+/// LSP must be originated, and the state after it.
 static LISTED: [(u16, Said, bool, Option<u32>, Flags, Left); 13] = [
-    // of sequence number 0: what is asked for, what is unknown
+    // of sequence number 0: what is requested, what is unknown
     (0, (2, 0, 0, 900, 0), false, None, MARKED, OTHERS),
     (0, (3, 0, 0, 900, 7), false, None, NONE, None),
     // equal, older, newer
@@ -138,11 +138,12 @@ static LISTED: [(u16, Said, bool, Option<u32>, Flags, Left); 13] = [
         [false, false, true, true],
         OTHERS,
     ),
-    // at odds: with another's, with the own one, with the own one of a router that is spent
+    // LSP confusion: with another's, with the own one, with the own one of a router whose sequence number space is
+    // exhausted
     (0, (2, 0, 5, 900, 8), false, None, MARKED, Some((5, 0, 60))),
     (0, (1, 0, 3, 900, 8), false, Some(3), NONE, OURS),
     (0, (1, 0, 3, 900, 8), true, None, MARKED, Some((3, 0, 60))),
-    // unknown: live, dead, without a checksum, without a sequence number
+    // unknown: live, expired, without a checksum, without a sequence number
     (
         1,
         (3, 0, 5, 900, 7),
@@ -156,7 +157,7 @@ static LISTED: [(u16, Said, bool, Option<u32>, Flags, Left); 13] = [
     (1, (3, 0, 0, 900, 7), false, None, NONE, None),
 ];
 
-/// The first row after which the router tells something else.
+/// Returns the first row for which the router's result differs.
 fn wrong_lsp(alloc: Global) -> M<Option<Said>> {
     for place in 0..LSPS.len() {
         let (said, spent, answer, flags, left) = LSPS[place];
@@ -172,7 +173,7 @@ fn link_state_pdus(rt: HostRuntime) {
     assert_eq!(rt; wrong_lsp(rt.alloc()), Ok(None));
 }
 
-/// The same of the rows that are listed.
+/// Returns the first row of the listed entries for which it differs.
 fn wrong_listed(alloc: Global) -> M<Option<Said>> {
     for place in 0..LISTED.len() {
         let (link, said, spent, reissue, flags, left) = LISTED[place];
@@ -189,7 +190,7 @@ fn listed_entries(rt: HostRuntime) {
     assert_eq!(rt; wrong_listed(rt.alloc()), Ok(None));
 }
 
-/// What a CSNP from the other system's identifier on doesn't list is to be sent, and nothing that is below it.
+/// What a CSNP that starts at the other system's LSP ID does not list is to be sent, and nothing below that LSP ID.
 #[test]
 fn what_a_list_lacks(rt: HostRuntime) {
     let listed = entries_tlv((2, 0, 5, 900, 7));
@@ -203,7 +204,7 @@ fn what_a_list_lacks(rt: HostRuntime) {
     );
 }
 
-/// Where the LSDB is full, what is new is dropped, and no flag is set for it.
+/// If the LSDB is full, a new entry is dropped, and no flag is set for it.
 #[test]
 fn a_full_database(rt: HostRuntime) {
     let dropped = SnpOut {
@@ -216,13 +217,14 @@ fn a_full_database(rt: HostRuntime) {
     );
 }
 
-/// Sending ends no SRM, a link that comes up is to be sent all that is known, and one that goes down has no flag.
+/// Sending clears no SRM flag. On a link that comes up all that is known is to be sent, and a link that goes down has
+/// no flag.
 #[test]
 fn links(rt: HostRuntime) {
     assert_eq!(rt; on_links(rt.alloc()), Ok(LINKS));
 }
 
-/// What is answered to an LSP that comes on link 1, and what is left.
+/// Returns the reply to an LSP that arrives on link 1, and the state after it.
 fn after_lsp(alloc: Global, said: Said, spent: bool) -> M<(FloodOut, Flags, Left)> {
     let mut flood = no_flags(alloc)?;
     let mut store = Store::new(alloc);
@@ -243,7 +245,7 @@ fn lsp_told(
     Ok((answer, flags_of(flood, head.id), left_of(store, head.id)))
 }
 
-/// What is answered to a PSNP that lists an entry, and what is left.
+/// Returns the reply to a PSNP that lists an entry, and the state after it.
 fn after_listed(alloc: Global, link: u16, said: Said, spent: bool) -> M<(SnpOut, Flags, Left)> {
     let mut flood = no_flags(alloc)?;
     let mut store = Store::new(alloc);
@@ -266,7 +268,7 @@ fn listed_told(
     Ok((answer, flags_of(flood, id), left_of(store, id)))
 }
 
-/// The flags of the other system and of the own one after a CSNP on link 0.
+/// Returns the flags of the other system and of the own one after a CSNP on link 0.
 fn after_csnp(alloc: Global, tlvs: &[u8]) -> M<[Flags; 2]>
     requires { length tlvs.now ≤ 18 }
 {
@@ -289,8 +291,8 @@ fn csnp_told(flood: &mut Flood, store: &mut Store, tlvs: &[u8]) -> M<[Flags; 2]>
     Ok([flags_of(flood, id(2, 0)), flags_of(flood, id(1, 0))])
 }
 
-/// How many entries there are; what is answered to two that are new, one of them of the own system, and to a list of a
-/// new one; and the flags of both systems' new ones.
+/// How many entries there are; the replies to two that are new, one of them of the own system, and to a list of a new
+/// one; and the flags of both systems' new ones.
 type Full = (usize, [FloodOut; 2], SnpOut, [Flags; 2]);
 
 fn when_full(alloc: Global) -> M<Full> {
@@ -313,7 +315,7 @@ fn full_told(flood: &mut Flood, store: &mut Store) -> M<Full>
     Ok((len, [others, own], listed, flags))
 }
 
-/// Puts purges of another system, 4,094 of them.
+/// Stores purges of another system, 4,094 of them.
 fn fill(store: &mut Store) -> M<()> {
     for number in 2..4096u16 {
         let other = LspId {
@@ -325,14 +327,15 @@ fn fill(store: &mut Store) -> M<()> {
     Ok(())
 }
 
-/// On each link, whether a CSNP is due, whether something may be to be sent, and whether something may be to be acknowledged
-/// or asked for.
+/// On each link, whether a CSNP is due, whether something may be due to be sent, and whether something may be due to be
+/// acknowledged or requested.
 type Links = ([bool; 3], [bool; 3], [bool; 3]);
 
-/// The links at the start and once all was sent on the two that are up, and the other system's flags then. Of link 2, once
-/// it is up: whether it is, whether a CSNP is due, and whether the own system's and the other one's are to be sent. Of
-/// link 1, once it is down: whether it is up, and whether something may be to be sent, and to be acknowledged or asked
-/// for. Of link 2, once the other system's flags went: whether something may be to be sent, and whether that system's is.
+/// The links at the start and after all was sent on the two that are up, and the other system's flags then. Of link 2,
+/// after it came up: whether it is up, whether a CSNP is due, and whether the own system's and the other one's are to
+/// be sent. Of link 1, after it went down: whether it is up, and whether something may be due to be sent, and to be
+/// acknowledged or requested. Of link 2, after the other system's flags were removed: whether something may be due to
+/// be sent, and whether that system's is.
 type Told = (Links, Links, Flags, [bool; 4], [bool; 3], [bool; 2]);
 
 const LINKS: Told = (
@@ -391,7 +394,7 @@ fn no_flags(alloc: Global) -> M<Flood>
     Flood::new(alloc, SystemId([0, 0, 0, 0, 0, 1]), 3, &[true, true, false])
 }
 
-/// Puts both systems' LSPs, and sets the flags of the other one's.
+/// Stores both systems' LSPs, and sets the flags of the other one's.
 fn start(flood: &mut Flood, store: &mut Store) -> M<()>
     requires { length flood.old.flood.up ≡ 3 }
     ensures { length flood.new.flood.up ≡ 3 }
@@ -440,7 +443,7 @@ fn head((system, fragment, seq, life, sum): Said) -> LspHead {
     }
 }
 
-/// The TLV that lists one entry.
+/// Returns the TLV that lists one entry.
 fn entries_tlv((system, fragment, seq, life, sum): Said) -> [u8; 18] {
     let seq = seq.to_be_bytes();
     let life = life.to_be_bytes();

@@ -1,5 +1,5 @@
-//! A router's LSDB, its flooding, its own LSP and the view that it takes of them, case by case. There is nothing
-//! here but tests, and what several of them build.
+//! A router's LSDB, its flooding, its own LSP and its topology, case by case. This crate contains only tests, and what
+//! several of them build.
 #![tactic(auto)]
 
 #[cfg(test)]

@@ -11,7 +11,7 @@ use wire_base::{Entry, LspId, M, RouterConf, Rows, SystemId};
 const CONTENT: &[u8] =
     b"\x01\x04\x03\x49\0\x01\x81\x01\xcc\x89\x01\x41\x16\x0b\0\0\0\0\0\x02\0\0\0\x0a\0\x87\x17\0\0\0\0\x60\x0a\0\0\x01\x0d\x20\x0b\0\0\0\0\x01\x01\x04\0\x10\0\x64";
 
-/// Whether the content is that; sequence number, life and hold; checksum and flags.
+/// Whether the content is as expected; sequence number, lifetime and hold time; checksum and flags.
 type Told = (bool, (u32, u16, u16), (u16, u8));
 
 /// The first LSP of a router with one link and one label range, octet by octet, and its purge.
@@ -24,7 +24,7 @@ fn issues_its_first_pdu(rt: HostRuntime) {
     assert_eq!(rt; its_purge(rt.alloc()), (7, 0, 60));
 }
 
-/// A router with one link and one label range.
+/// Returns a router with one link and one label range.
 fn pair_a(alloc: Global) -> M<RouterConf>
     ensures { IfOk result (λ r. r ≡ pair_a) }
 {
@@ -52,7 +52,7 @@ fn told(entry: &Entry) -> Told {
     )
 }
 
-/// Sequence number, life and hold of the purge of its identifier.
+/// Returns the sequence number, lifetime and hold time of the purge of its LSP ID.
 fn its_purge(alloc: Global) -> (u32, u16, u16) {
     let id = LspId::fragment_0(SystemId([0, 0, 0, 0, 0, 1]));
     let gone = purge(alloc, id, 7);

@@ -1,4 +1,4 @@
-//! Router A of small domains, and its ends.
+//! Router A of small domains, and its interfaces.
 ghost use Rattle.std.specs.Prelude.{◌≡◌, ◌<◌, IfOk};
 ghost use Rattle.examples_model.specs.Domains as domains;
 ghost use Rattle.examples_model.specs.Domains.{pair_a};

@@ -2,16 +2,16 @@ use lsp_store::{Age, Aged, Entry, PutFault, Store, purge};
 use std::alloc::Global;
 use wire_base::{LspId, Octets, Summary, SystemId};
 
-/// The answer to a put.
+/// The result of storing an entry.
 type Put = Result<(), PutFault>;
 
-/// Identifier, life and hold of the entry at a place.
+/// LSP ID, lifetime and hold time of the entry at an index.
 type At = Option<(LspId, u16, u16)>;
 
 /// Sequence number, lifetime and checksum of what is compared with an entry.
 type Said = (u32, u16, u16);
 
-/// How new summaries are beside a live entry.
+/// The result of comparing summaries with a live entry.
 const AGES: [(Said, Age); 5] = [
     ((6, 0, 0), Age::Newer),
     ((4, 9, 7), Age::Older),
@@ -20,7 +20,7 @@ const AGES: [(Said, Age); 5] = [
     ((5, 0, 7), Age::Newer),
 ];
 
-/// An LSDB that is full takes each identifier that it has, and no other.
+/// An LSDB that is full accepts each LSP ID that it has, and no other.
 #[test]
 fn takes_no_new_identifier_when_full(rt: HostRuntime) {
     let wanted: Full = (
@@ -32,7 +32,8 @@ fn takes_no_new_identifier_when_full(rt: HostRuntime) {
     assert_eq!(rt; when_full(rt.alloc()), wanted);
 }
 
-/// How new those summaries are, and what the live entry's last two seconds and its purge's last sixty are.
+/// The result of comparing those summaries, and what happens in the live entry's last two seconds and in its purge's
+/// last sixty.
 #[test]
 fn tells_age_and_passes_seconds(rt: HostRuntime) {
     let seconds = [
@@ -77,9 +78,9 @@ fn at(store: &Store, place: usize) -> At {
     Some((entry.id, entry.life, entry.hold))
 }
 
-/// The answers to 4,096 identifiers, to one more and to one that is there; how many entries there are before and after
-/// those two; one that was there and the one that was put; and whether there was none of the new identifier, and nothing
-/// against one entry more.
+/// The results for 4,096 LSP IDs, for one more and for one that exists; how many entries there are before and after
+/// those two; one that existed and the one that was stored; and whether there was none with the new LSP ID, and no
+/// error against one more entry.
 type Full = ([Put; 3], [usize; 2], [At; 2], [bool; 2]);
 
 fn when_full(alloc: Global) -> Full {
@@ -102,7 +103,7 @@ fn full_told(store: &mut Store) -> Full {
     )
 }
 
-/// Takes 4,096 identifiers from both ends in turn.
+/// Stores 4,096 LSP IDs, from both ends in turn.
 fn fill(store: &mut Store) -> Put {
     for number in 0..4096u16 {
         let place = if number % 2 == 0 {
@@ -115,8 +116,9 @@ fn fill(store: &mut Store) -> Put {
     Ok(())
 }
 
-/// The answer to an entry of two seconds; the first of the rows above whose age is another; the first second, the second
-/// one, the 59 after it and the last one; the entry after two seconds; and how many entries there are at the end.
+/// The result for an entry with a lifetime of two seconds; the first of the rows above with another age; the first
+/// second, the second one, the 59 after it and the last one; the entry after two seconds; and how many entries there
+/// are at the end.
 type Time = (Put, Option<Said>, [Option<Aged>; 4], At, usize);
 
 fn with_time(alloc: Global) -> Time {
@@ -145,7 +147,7 @@ fn wrong_age(store: &Store) -> Option<Said> {
     None
 }
 
-/// A second of the first entry.
+/// Lets a second pass for the first entry.
 fn second(store: &mut Store) -> Option<Aged> {
     if store.len() > 0 {
         Some(store.age_at(0))
@@ -154,7 +156,7 @@ fn second(store: &mut Store) -> Option<Aged> {
     }
 }
 
-/// What 59 seconds are: held, or the first that is something else.
+/// Returns the result of 59 seconds: held, or the first that differs.
 fn held(store: &mut Store) -> Option<Aged> {
     for _ in 0..59u8 {
         let answer = second(store);

@@ -46,7 +46,7 @@ const NEXT_TO_B: &[ViewEdge] = &[
     ViewEdge { to: 2, metric: 10 },
 ];
 
-/// Which ends of A are up, and the edges of A, B, C and D.
+/// Which interfaces of A are up, and the edges of A, B, C and D.
 static RING: [([bool; 2], [&[ViewEdge]; 4]); 2] = [
     ([true, true], [BOTH, NEXT_TO_B, BOTH, NEXT_TO_B]),
     (
@@ -60,11 +60,11 @@ static RING: [([bool; 2], [&[ViewEdge]; 4]); 2] = [
     ),
 ];
 
-/// What B alone says, its edges, and how many places it and A have.
+/// What B alone advertises, its edges, and how many memberships it and A have.
 static ALONE: [(&[u8], &[ViewEdge], usize, usize); 10] = [
     // no link of B: none from A to it either
     (b"", &[], 0, 1),
-    // a metric of 0; of 9 and 4; of 16,777,215; to a pseudonode; a cut entry after a whole one
+    // a metric of 0; of 9 and 4; of 16,777,215; to a pseudonode; a truncated entry after a whole one
     (
         b"\x16\x0b\0\0\0\0\0\x01\0\0\0\0\0",
         &[ViewEdge { to: 0, metric: 1 }],
@@ -85,7 +85,7 @@ static ALONE: [(&[u8], &[ViewEdge], usize, usize); 10] = [
         0,
         1,
     ),
-    // a place; one of an unknown sub-domain; two whose labels overlap; the prefix of A
+    // a membership; one of an unknown sub-domain; two whose labels overlap; the prefix of A
     (
         b"\x87\x17\0\0\0\0\x60\x0a\0\0\x02\x0d\x20\x0b\0\0\0\0\x02\x01\x04\0\x10\0\xc8",
         &[],
@@ -112,9 +112,10 @@ static ALONE: [(&[u8], &[ViewEdge], usize, usize); 10] = [
     ),
 ];
 
-/// What B said before and says now, whether A's end to B is up, whether the view changes, and the edges of A then.
+/// What B advertised before and advertises now, whether A's interface to B is up, whether the topology changes, and the
+/// edges of A then.
 static RENEWALS: [(Option<&[u8]>, Option<&[u8]>, bool, bool, &[ViewEdge]); 9] = [
-    // a refresh; a lost link, as B says it and as A knows it; both
+    // a refresh; a lost link, as B advertises it and as A detects it; both
     (Some(B_SAYS), Some(B_SAYS), true, false, BOTH),
     (
         Some(B_SAYS),
@@ -141,7 +142,7 @@ static RENEWALS: [(Option<&[u8]>, Option<&[u8]>, bool, bool, &[ViewEdge]); 9] = 
     (Some(B_SAYS_LESS), Some(B_SAYS), true, true, BOTH),
     (Some(B_SAYS), Some(B_SAYS_FAR), true, true, BOTH),
     (Some(B_SAYS), Some(B_SAYS_ELSEWHERE), true, true, BOTH),
-    // a system that goes; one that comes
+    // a system that disappears; one that appears
     (
         Some(B_SAYS),
         None,
@@ -152,8 +153,8 @@ static RENEWALS: [(Option<&[u8]>, Option<&[u8]>, bool, bool, &[ViewEdge]); 9] = 
     (None, Some(B_SAYS), true, true, BOTH),
 ];
 
-/// In the settled ring each router has an edge to both neighbors and one label; an end that is down takes its edge away
-/// at both ends.
+/// In the converged ring each router has an edge to both neighbors and one label. An interface that is down removes its
+/// edge in both directions.
 #[test]
 fn the_settled_ring(rt: HostRuntime) {
     assert_eq!(rt; wrong_ring(rt.alloc()), Ok(None));
@@ -164,13 +165,13 @@ fn links_and_places(rt: HostRuntime) {
     assert_eq!(rt; wrong_alone(rt.alloc()), Ok(None));
 }
 
-/// A view that is renewed is that from nothing.
+/// A topology that is renewed is the one that is computed from scratch.
 #[test]
 fn a_kept_view_is_renewed(rt: HostRuntime) {
     assert_eq!(rt; wrong_renewal(rt.alloc()), Ok(None));
 }
 
-/// The first row of the ring that A sees otherwise.
+/// Returns the first row of the ring for which A's topology differs.
 fn wrong_ring(alloc: Global) -> M<Option<usize>> {
     let conf = ring_a(alloc)?;
     wrong_ring_of(alloc, &conf)
@@ -189,8 +190,8 @@ fn wrong_ring_of(alloc: Global, conf: &RouterConf) -> M<Option<usize>>
     Ok(None)
 }
 
-/// Of the ring's view: how many nodes it has, whether their edges are those, and whether D has a label for set 0 and for
-/// set 1.
+/// Of the ring's topology: how many nodes it has, whether their edges are as expected, and whether D has a label for
+/// set 0 and for set 1.
 type Ring = (usize, [bool; 4], [bool; 2]);
 
 fn ring(alloc: Global, conf: &RouterConf, up: &[bool], wanted: [&[ViewEdge]; 4]) -> M<Ring>
@@ -225,7 +226,7 @@ fn ring_told(conf: &RouterConf, seen: &View, [a, b, c, d]: [&[ViewEdge]; 4]) -> 
     )
 }
 
-/// The first row of what B alone says that A sees otherwise.
+/// Returns the first row of what B alone advertises for which A's topology differs.
 fn wrong_alone(alloc: Global) -> M<Option<usize>> {
     let conf = ring_a(alloc)?;
     wrong_alone_of(alloc, &conf)
@@ -244,7 +245,7 @@ fn wrong_alone_of(alloc: Global, conf: &RouterConf) -> M<Option<usize>>
     Ok(None)
 }
 
-/// Whether the edges of B are those, how many A has, and how many places B and A have.
+/// Whether the edges of B are as expected, how many A has, and how many memberships B and A have.
 type Alone = (bool, usize, usize, usize);
 
 fn alone(alloc: Global, conf: &RouterConf, content: &[u8], wanted: &[ViewEdge]) -> M<Alone>
@@ -273,7 +274,7 @@ fn alone_told(seen: &View, wanted: &[ViewEdge]) -> Alone {
     )
 }
 
-/// The first renewal that gives something else.
+/// Returns the first renewal with another result.
 fn wrong_renewal(alloc: Global) -> M<Option<usize>> {
     let conf = ring_a(alloc)?;
     wrong_renewal_of(alloc, &conf)
@@ -293,10 +294,11 @@ fn wrong_renewal_of(alloc: Global, conf: &RouterConf) -> M<Option<usize>>
     Ok(None)
 }
 
-/// What B said, and says.
+/// What B advertised, and what it advertises now.
 type Says<'a> = (Option<&'a [u8]>, Option<&'a [u8]>);
 
-/// Whether the view changed, whether the edges of A are those, and whether the view is that from nothing.
+/// Whether the topology changed, whether the edges of A are as expected, and whether the topology is the one computed
+/// from scratch.
 type Renewal = (bool, bool, bool);
 
 fn renewal(
@@ -333,7 +335,8 @@ fn renewal_in(
     renewed(conf, up, before, after, changed.as_slice(), wanted)
 }
 
-/// Renews the view of a store; Memory too where either store has other systems than those that changed.
+/// Renews the topology of a store. Returns out of memory also if either store has systems other than those that
+/// changed.
 fn renewed(
     conf: &RouterConf,
     up: &[bool],
@@ -379,7 +382,7 @@ fn renew(
     ))
 }
 
-/// Whether each entry is of one of those systems.
+/// Returns whether each entry is of one of those systems.
 fn names_all(entries: &[Entry], systems: &[SystemId]) -> bool
     ensures { result ≡ true → (s : SystemId) → is_named systems.now s ≡ false → filter (is_first_of s) entries.now ≡ [] }
 {
@@ -446,7 +449,7 @@ fn put(store: &mut Store, n: u8, seq: u32, content: &[u8]) -> M<()> {
     }
 }
 
-/// Stores the own LSPs of the ring's routers but A, where B has one.
+/// Stores the own LSPs of the ring's routers except A, and B's only if it has one.
 fn put_ring(store: &mut Store, seq: u32, b_says: Option<&[u8]>) -> M<()> {
     if let Some(content) = b_says {
         put(store, 2, seq, content)?;

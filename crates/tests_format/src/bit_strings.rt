@@ -28,7 +28,7 @@ fn tell_position(told: &mut Told, word: &str, position: Option<u16>) {
     }
 }
 
-/// How many positions a set has, the least, and whether it has those about its ends.
+/// Reports how many bit positions a set has, the least, and whether it has those at its ends.
 fn tell_ends(told: &mut Told, set: &AnyBits) {
     let bits = set.bsl().bits();
     told.number("", u64::from(set.count()));
@@ -40,7 +40,7 @@ fn tell_ends(told: &mut Told, set: &AnyBits) {
     told.number(" empty ", u64::from(set.is_empty()));
 }
 
-/// The set of one position, alone, and joined with the full set and with the empty one.
+/// Reports the set of one bit position, on its own, and joined with the full set and with the empty one.
 fn tell_one(told: &mut Told, bsl: Bsl, bp: u16)
     requires low { 1 ≤ bp }
     requires high { bp ≤ bits_of bsl }
@@ -59,7 +59,8 @@ fn tell_one(told: &mut Told, bsl: Bsl, bp: u16)
     told.number(" or ", u64::from(one.or(&AnyBits::zero(bsl)).count()));
 }
 
-/// The octets at both ends of the set of the positions 1, 3 and the last one, and the set that they are read as.
+/// Reports the octets at both ends of the set of the bit positions 1, 3 and the last one, and the set that is parsed
+/// from them.
 fn tell_octets(told: &mut Told, bsl: Bsl) {
     let last = usize::from(bsl.bits() / 8) - 1;
     let mut set = AnyBits::zero(bsl);
@@ -95,7 +96,7 @@ fn sets_of_each_length(rt: HostRuntime) -> Result<(), Fail> {
     Ok(())
 }
 
-// The positions at the ends of the first word and of the last one.
+// The bit positions at the ends of the first word and of the last one.
 #[test]
 fn positions_at_the_ends_of_words(rt: HostRuntime) -> Result<(), Fail> {
     let alloc = rt.alloc();

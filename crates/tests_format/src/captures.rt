@@ -1,4 +1,4 @@
-//! Captures whose records were written down by hand.
+//! Captures whose records were written by hand.
 ghost use Rattle.std.specs.Prelude.{◌<◌};
 
 use crate::told::Told;
@@ -6,8 +6,8 @@ use pcap_frames::{CapRecord, Reader};
 use std::test::Fail;
 use wire_base::CaptureFault;
 
-/// Captures, their records, and what stands after these. A record has its second and microsecond, whether its frame is whole, and
-/// its octets.
+/// Captures, their records, and what follows these. A record has its second and microsecond, whether its frame is
+/// complete, and its octets.
 const CAPTURES: &str = "\
 d4c3b2a1020004000700000008000000ffff00000100000064000000050000000300000003000000010203ffffffff3f420f000000000007000000 -> 100.5 whole 010203, 4294967295.999999 cut -, end
 a1b2c3d40002000400000007000000080000ffff0000000100000064000000050000000300000003010203ffffffff000f423f0000000000000007 -> 100.5 whole 010203, 4294967295.999999 cut -, end
@@ -35,7 +35,7 @@ fn tell_record(told: &mut Told, record: &CapRecord) {
     told.word(", ");
 }
 
-/// Tells the records that a reader gives until it has none, of which there are few, and answers its fault.
+/// Reports the records that a reader returns until it has none, and returns its error. There are few records.
 fn tell_records(told: &mut Told, reader: &mut Reader) -> Result<(), CaptureFault> {
     for _ in 0..9 {
         match reader.next()? {
@@ -46,7 +46,7 @@ fn tell_records(told: &mut Told, reader: &mut Reader) -> Result<(), CaptureFault
     Ok(())
 }
 
-/// Tells the records of a capture that comes in pieces of so many octets, and answers the fault behind them.
+/// Reports the records of a capture that arrives in chunks of that many octets, and returns the error after them.
 fn read_pieces(
     told: &mut Told,
     mut reader: Reader,

@@ -1,4 +1,4 @@
-//! Files that break one rule each, and domains whose values are known.
+//! Files that break one rule each, and domains with known values.
 use crate::told::Told;
 use domain_conf::read_domain;
 use std::alloc::{AllocError, Global};
@@ -9,15 +9,15 @@ use wire_base::{Domain, End, OwnSub, RouterConf};
 const ROUTERS: &str =
     "router = [{name='A',system='0000.0000.000a',prefix='10.0.0.1'},{name='B',system='0000.0000.0002',prefix='10.0.0.2'},{name='C-d_3',system='00FF.0000.0003',prefix='223.255.0.3',overload=true}]";
 
-// And three sub-domains.
+// Three sub-domains as well.
 const BASE: &str =
     "subdomain = [{sd=0,kind='mpls'},{sd=1,kind='configured'},{sd=2,kind='mpls'}]\nrouter = [{name='A',system='0000.0000.000a',prefix='10.0.0.1'},{name='B',system='0000.0000.0002',prefix='10.0.0.2'},{name='C-d_3',system='00FF.0000.0003',prefix='223.255.0.3',overload=true}]";
 
-// And who is in them.
+// Their members as well.
 const FULL: &str =
     "subdomain = [{sd=0,kind='mpls'},{sd=1,kind='configured'},{sd=2,kind='mpls'}]\nrouter = [{name='A',system='0000.0000.000a',prefix='10.0.0.1'},{name='B',system='0000.0000.0002',prefix='10.0.0.2'},{name='C-d_3',system='00FF.0000.0003',prefix='223.255.0.3',overload=true}]\nbier = [{router='A',sd=0,id=1},{router='A',sd=1,id=1},{router='A',sd=2,id=7},{router='B',sd=0,id=1}]";
 
-// What a file begins with, what follows, where `~` stands for the end of a line, and what is said of it.
+// The start of a file, the rest, where `~` represents an LF, and the expected result.
 const BROKEN: &str = "\
 - | [[ => 1 Toml -
 - | level = 1~level = 1 => 1 Toml -
@@ -88,7 +88,7 @@ routers | link = [{a='A',b='B',metric_ab=1,metric_ba=1},{a='B',b='A',metric_ab=1
 routers | link = [{a='A',b='B',metric_ab=1,metric_ba=1,mac_b='02:00:00:02:00:00'},{a='C-d_3',b='A',metric_ab=1,metric_ba=1}] => 3 Duplicate link[1].mac_a
 routers | link = [{a='A',b='B',metric_ab=1,metric_ba=1,mac_a='02:00:00:00:00:0a'},{a='B',b='C-d_3',metric_ab=1,metric_ba=1,mac_b='02:00:00:00:00:0A'}] => 3 Duplicate link[1].mac_b";
 
-// What a file begins with, by its name in the table.
+// Returns the start of a file, by its name in the table.
 fn head_of(name: &str) -> &'static str {
     match name {
         "routers" => ROUTERS,
@@ -98,7 +98,7 @@ fn head_of(name: &str) -> &'static str {
     }
 }
 
-// The file of a line of the table.
+// Returns the file of a line of the table.
 fn file_of(alloc: Global, head: &str, more: &str) -> Result<String, AllocError> {
     let mut text = String::from_str(alloc, head_of(head))?;
     for line in more.split('~') {
@@ -108,7 +108,7 @@ fn file_of(alloc: Global, head: &str, more: &str) -> Result<String, AllocError> 
     Ok(text)
 }
 
-// Tells a copy of what a file says, or the first rule that it breaks.
+// Reports what a copy of a file describes, or the first rule that it breaks.
 fn tell_file(told: &mut Told, alloc: Global, text: &str) {
     match read_domain(alloc, text.as_bytes()) {
         Ok(domain) => match domain.copy() {
@@ -218,7 +218,7 @@ fn gives_what_a_file_says(rt: HostRuntime) -> Result<(), Fail> {
     Ok(())
 }
 
-// A router with that many links.
+// Returns a router with that many links.
 fn star(alloc: Global, links: usize) -> Result<String, AllocError> {
     let mut text = String::new(alloc);
     text.push_str("[[router]]\nname='hub'\nsystem='0000.0000.0000'\nprefix='9.0.0.1'\n")?;
@@ -231,7 +231,7 @@ fn star(alloc: Global, links: usize) -> Result<String, AllocError> {
     Ok(text)
 }
 
-// A router in that many sub-domains, in the first five of them with labels of each length.
+// Returns a router in that many sub-domains. In the first five of them it has labels of each length.
 fn member(alloc: Global, subdomains: usize) -> Result<String, AllocError> {
     let mut text = String::new(alloc);
     text.push_str("[[router]]\nname='A'\nsystem='0000.0000.0000'\nprefix='9.0.0.1'\n")?;

@@ -2,7 +2,7 @@
 use crate::told::Told;
 use isis_tlv::{TlvWalk, read_prefix, read_reach};
 
-/// Entries of TLV 22 as another implementation reads them.
+/// Entries of TLV 22 as another implementation parses them.
 pub const REACHES: &str = "\
 reach 2fc7d702a7c9e98e905900d8f3 -> neighbour 2fc7d702a7c9 pseudonode 233 metric 9343065 subs - size 11
 reach 73bcc9eae73603997ec600 -> neighbour 73bcc9eae736 pseudonode 3 metric 10059462 subs - size 11
@@ -27,7 +27,7 @@ reach fcccff53c3 -> fault 2 EntryShort
 reach 23 -> fault 2 EntryShort
 reach f5d672746cc1cfb9fb00 -> fault 2 EntryShort";
 
-/// Entries of TLV 135 as another implementation reads them.
+/// Entries of TLV 135 as another implementation parses them.
 pub const PREFIXES: &str = "\
 prefix d50ba9562861d33f0cc8 -> fault 3 PrefixLen
 prefix c9642a0a28a0326b1ad2 -> fault 3 PrefixLen
@@ -52,7 +52,7 @@ prefix d8a646758818 -> metric 3634775669 control 136 length 8 octets 18000000 su
 prefix d54e7b3d80 -> metric 3578690365 control 128 length 0 octets 00000000 subs - size 5
 prefix f306cc -> fault 2 EntryShort";
 
-/// Walks over TLVs: code and value of each, and how the walk ends.
+/// Sequences of TLVs: code and value of each, and how the sequence ends.
 pub const WALKS: &str = "\
 walk 01 -> overrun
 walk  -> end

@@ -1,8 +1,8 @@
-//! Frames and stacks of labels whose readings were computed elsewhere.
+//! Frames and label stacks whose parsed values were computed by other software.
 use crate::told::Told;
 use link_frame::{Class, classify, read_stack};
 
-/// Frames, their classes, and where what they carry begins and an IS-IS PDU may end.
+/// Frames, their classes, and the index where their payload starts and where an IS-IS PDU may end.
 pub const FRAMES: &str = "\
 frame 1501db0cf1ea94aab58367a70003fefe03061a5086e1ec8a5e06eaf9d26d5b -> isis 17 17
 frame 7be66c31008089f830c53e608847fefe0351013792060b61bcf94386f45001 -> mpls 14
@@ -32,7 +32,7 @@ frame 6f2809d65f4351449aa97fe3ab37fefe034e -> bier 14
 frame 1739f095065a4082077489410800354de0b33e02 -> ip 14
 frame b8f2a6f67fde5a9010dfe1f70800fefe038bf6ad2e3447ba490dd46b1f0f4d24f55a -> ip 14";
 
-/// Octets, and the value, traffic class and TTL of each label of the stack at their front.
+/// Octets, and the value, traffic class and TTL of each label of the stack at their start.
 pub const STACKS: &str = "\
 stack 069e9e4342c1bf657f94df53cb42e6b2 -> 27113/7/67 273435/7/101
 stack 5c96a225ca864201eefd2af5a48f7a75ea8c299ee693b39c9ab3ee512a9574225f02e0decd -> 379242/1/37 829540/1/1 978898/5/245 674039/5/117 960706/4/158

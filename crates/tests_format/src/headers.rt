@@ -1,4 +1,4 @@
-//! BIER headers whose readings were computed elsewhere.
+//! BIER headers whose parsed values were computed by other software.
 ghost use Rattle.bier_head.specs.Views.{header_of};
 ghost use Rattle.wire_base.specs.model.BierHeader.{FieldsFit};
 
@@ -6,7 +6,7 @@ use crate::told::Told;
 use bier_head::{Header, read_by_field, read_header, write_header};
 use wire_base::{Bsl, Kind};
 
-/// Headers, read with the length that the BIFT-id gives and with the one that the field gives.
+/// Headers, parsed with the length that the BIFT-id implies and with the one in the length field.
 pub const HEADERS: &str = "\
 mpls-64 000641405010000a000400010000000000000005 -> bift 100 tc 0 s 1 ttl 64 nibble 5 bsl_code 1 entropy 10 oam 0 rsv 0 dscp 0 proto 4 bfir 1 positions 1,3
 mpls 000641405010000a000400010000000000000005 -> bift 100 tc 0 s 1 ttl 64 nibble 5 bsl_code 1 entropy 10 oam 0 rsv 0 dscp 0 proto 4 bfir 1 positions 1,3
@@ -51,7 +51,7 @@ mpls 3eab79ef50393f8a2f299609000000000040000000000000000000000000000000000000000
 mpls-512 7d799299504ae10e83d0b4a400000000000000000000000000000000000000000000000000000000000000000000000000000000400000000000000000000000000000000000000000000004 -> bift 513945 tc 1 s 0 ttl 153 nibble 5 bsl_code 4 entropy 712974 oam 2 rsv 0 dscp 15 proto 16 bfir 46244 positions 3,191
 mpls 7d799299504ae10e83d0b4a400000000000000000000000000000000000000000000000000000000000000000000000000000000400000000000000000000000000000000000000000000004 -> bift 513945 tc 1 s 0 ttl 153 nibble 5 bsl_code 4 entropy 712974 oam 2 rsv 0 dscp 15 proto 16 bfir 46244 positions 3,191";
 
-/// The length in the word of a reader.
+/// Returns the length in the keyword of a parser.
 pub fn bsl_in(reader: &str) -> Bsl {
     match reader {
         "mpls-64" | "bier-64" => Bsl::B64,
@@ -96,7 +96,7 @@ fn tell_fields(told: &mut Told, header: &Header) {
     told.positions(" positions ", &header.bits);
 }
 
-// Whether a header is written as what stands at the front of octets.
+// Returns whether a header is written as the octets at the start of a slice.
 fn stands_at(header: &Header, octets: &[u8]) -> bool
     requires { FieldsFit (header_of header.now) }
 {

@@ -2,7 +2,7 @@
 use crate::told::Told;
 use bier_subtlv::read_info;
 
-/// Values of a sub-TLV 32 as another implementation reads them.
+/// Values of a sub-TLV 32 as another implementation parses them.
 pub const INFOS: &str = "\
 info 01076de88f0204ff1fffff0104ff6fffff -> fault 3 Algorithm
 info 0000ff5c020104ffdffff0 -> sd 255 id 23554 ranges -

@@ -1,5 +1,5 @@
-//! Tables of octets and of what the readers of bit strings, headers, frames, tunnels, TLVs, PDUs, captures and domain files make
-//! of them, most of it computed elsewhere. There is nothing here but tests.
+//! Tables of octets, and of the results of the parsers of bit strings, headers, frames, tunnels, TLVs, PDUs, captures
+//! and domain files. Most of the results were computed by other software. This crate contains only tests.
 #![tactic(auto)]
 
 #[cfg(test)]

@@ -4,7 +4,7 @@ use isis_pdu::{LspHead, Pdu, checksum_at, read_pdu};
 use isis_tlv::{TlvWalk, read_summary};
 use wire_base::{Level, LspId};
 
-/// PDUs of a level, 1 or 2, as another implementation reads them.
+/// PDUs of a level, 1 or 2, as another implementation parses them.
 pub const PDUS: &str = "\
 pdu-2 831b010014010000001b000025a48dc965b532cde8a2cac202a701 -> lsp life 0 id 25a48dc965b532cd seq 3902982850 sum 679 flags 1 tlvs -
 pdu-1 831101001a01000000337f07ac50f44f0009200000b2680cec75bb3e6effffffffe0840000e664adb33ac69260ffffffff2e50 -> psnp source 7f07ac50f44f rows 0/b2680cec75bb3e6e/4294967295/57476 0/e664adb33ac69260/4294967295/11856
@@ -60,7 +60,7 @@ pdu-2 831101001b01000000110000000000020a -> psnp source 000000000002 rows -
 pdu-2 831001001b010000001100000000000200 -> fault 5 HeaderLength
 pdu-2 831101001b010000001000000000000200 -> fault 6 PduLength";
 
-/// The checksum of the octets at the place 12, where they have 0 and 0.
+/// The checksum of the octets at index 12, where they have 0 and 0.
 pub const CHECKSUMS: &str = "\
 checksum 25a48dc965b532cde8a2cac2000001 -> 679
 checksum 585bfa96f6a08bb4671ef9aa000002e501dfe5049c9ae7c3 -> 56900

@@ -1,4 +1,4 @@
-//! Each row of a table is the word of a reader, octets, and what the reader makes of them.
+//! Each row of a table has the keyword of a parser, octets, and what the parser returns for them.
 use crate::entries::{PREFIXES, REACHES, WALKS, tell_prefix, tell_reach, tell_walk};
 use crate::frames::{FRAMES, STACKS, tell_frame, tell_stack};
 use crate::headers::{HEADERS, bsl_in, tell_coded, tell_header};
@@ -13,7 +13,7 @@ const TABLES: [&str; 10] = [
     FRAMES, STACKS, TUNNELS, HEADERS, REACHES, PREFIXES, WALKS, INFOS, PDUS, CHECKSUMS,
 ];
 
-/// Tells what the reader of that word makes of octets.
+/// Reports what the parser with that keyword returns for octets.
 fn tell(told: &mut Told, reader: &str, octets: &[u8]) {
     match reader {
         "frame" => tell_frame(told, octets),
@@ -32,7 +32,7 @@ fn tell(told: &mut Told, reader: &str, octets: &[u8]) {
     }
 }
 
-/// Tells a header whose length of BitStrings stands in the reader's word.
+/// Reports a header whose BitStringLength is in the parser's keyword.
 fn tell_by_length(told: &mut Told, reader: &str, octets: &[u8]) {
     let kind = if reader.starts_with("mpls") {
         Kind::Mpls

@@ -1,4 +1,4 @@
-//! A text that tells what was read. What goes into it answers nothing, so that what tells has no way out in its middle.
+//! A text that reports what was parsed. Its methods return no error, so that a reporting function has no early exit.
 use bier_bits::AnyBits;
 use replay_text::{push_payload, push_positions};
 use std::alloc::Global;
@@ -19,7 +19,7 @@ impl Told {
         }
     }
 
-    /// The text, where there was memory for it.
+    /// Returns the text, if there was memory for it.
     pub fn text(&self) -> &[u8] {
         if self.is_whole {
             self.text.as_slice()
@@ -47,7 +47,7 @@ impl Told {
         self.keep(pushed);
     }
 
-    /// Octets in hexadecimal digits, or a dash for none.
+    /// Appends octets in hexadecimal digits, or a dash for none.
     pub fn digits(&mut self, word: &str, octets: &[u8]) {
         self.word(word);
         let pushed = push_payload(&mut self.text, octets);
@@ -60,7 +60,7 @@ impl Told {
         self.keep(pushed);
     }
 
-    /// The first rule that is broken.
+    /// Appends the first rule that is broken.
     pub fn fault(&mut self, number: u8, name: &[u8]) {
         self.number("fault ", u64::from(number));
         self.word(" ");

@@ -1,10 +1,10 @@
-//! Tunnels whose readings were computed elsewhere.
+//! Tunnels whose parsed values were computed by other software.
 use crate::told::Told;
 use gre_ip::{Tunnel, read_tunnel, write_onward, write_tunnel};
 use std::test::Fail;
 use wire_base::{Ipv4, Kind};
 
-/// Octets, and the ends, the TTL, the kind and the place of what is in the tunnel.
+/// Octets, and the endpoints, the TTL, the encapsulation and the index of what is in the tunnel.
 pub const TUNNELS: &str = "\
 tunnel 45000020000040ffe32f60fcc41b24c7688e00410000ff47c21a4c849932114d8aec24 -> fault 5 Checksum
 tunnel 4500002000006000892f47ee8d -> fault 1 Short
@@ -115,7 +115,7 @@ pub fn tell_tunnel(told: &mut Told, octets: &[u8]) {
     }
 }
 
-/// A tunnel packet where the tunnel begins, and after the next router, with two octets behind it.
+/// A tunnel packet at the start of the tunnel, and after the next router, followed by two octets.
 const FIRST: [u8; 48] =
     *b"\x45\x00\x00\x2e\x00\x00\x40\x00\xff\x2f\x67\x9d\x0a\x00\x00\x01\x0a\x00\x00\x03\x00\x00\x88\x47\x00\x12\xc1\x08\x50\x10\x00\x00\x00\x04\x00\x01\x00\x00\x00\x00\x00\x00\x00\x04\x00\xff\xab\xcd";
 

@@ -1,22 +1,23 @@
-//! A disk of one file, whose calls answer by a list.
+//! A disk with one file, whose calls return the results of a list.
 ghost use Rattle.std.specs.Prelude.{None};
 ghost use Rattle.std.specs.Io.{ReadsAtMost, WritesAtMost};
 
 use std::io::{Error, ErrorKind, Read, Result, Write};
 use tool_host::FileSystem;
 
-/// What a call of a file answers.
+/// The result of a call of a file.
 #[derive(Clone, Copy)]
 pub enum Call {
-    /// A read gives these octets, or a write takes them.
+    /// A read returns these octets, or a write accepts them.
     Moves(&'static [u8]),
     /// A flush succeeds.
     Flushes,
-    /// The call fails so.
+    /// The call fails with that kind of error.
     Fails(ErrorKind),
 }
 
-/// The one file of a disk, and whether it is opened to be read, or to be made or cut and written. Nothing else is there.
+/// The one file of a disk, and whether it is opened for reading, or created or truncated for writing. There are no
+/// other files.
 #[derive(Clone, Copy)]
 pub struct Disk {
     pub path: &'static str,
@@ -36,7 +37,7 @@ impl OpenCalls {
         OpenCalls { calls, at: 0 }
     }
 
-    /// What the next call answers; after the last one each fails.
+    /// Returns the result of the next call; after the last one each fails.
     fn next(&mut self) -> Call {
         match self.calls.get(self.at) {
             Some(call) => {
@@ -52,7 +53,7 @@ fn missing() -> Error {
     Error::from(ErrorKind::NotFound)
 }
 
-/// How many octets of a piece are taken, where these are to be.
+/// Returns how many octets of a chunk are accepted, if these are the expected ones.
 fn taken(octets: &[u8], piece: &[u8]) -> Result<usize>
     ensures { WritesAtMost result piece.now }
 {
@@ -62,7 +63,7 @@ fn taken(octets: &[u8], piece: &[u8]) -> Result<usize>
     Ok(octets.len())
 }
 
-/// Gives octets, where there is room for them.
+/// Returns octets, if there is room for them.
 fn given(octets: &[u8], into: &mut [u8]) -> Result<usize>
     ensures { ReadsAtMost result into.new }
 {
@@ -102,7 +103,7 @@ impl Write for OpenCalls {
 }
 
 impl Disk {
-    /// The file, where it stands at that path and is opened as it is to be.
+    /// Returns the file, if it is at that path and is opened as it should be.
     fn opened(&self, path: &str, written: bool) -> Result<OpenCalls> {
         if path == self.path && written == self.written {
             Ok(OpenCalls::new(self.calls))

@@ -1,4 +1,4 @@
-//! Files as sources and sinks, over a disk whose calls fail and over a real one, and those that never fail.
+//! Files as sources and sinks, on a disk whose calls fail and on a real one, and sources and sinks that never fail.
 use crate::disk::{Call, Disk, OpenCalls};
 use std::fs;
 use std::io::ErrorKind;
@@ -31,7 +31,7 @@ const WRITTEN: Disk = Disk {
     ],
 };
 
-/// A read is a fault exactly where the file's is, interrupted or not, and the end exactly where nothing was read.
+/// A read is an error exactly where the file's is, interrupted or not, and the end exactly where nothing was read.
 #[test]
 fn reads_fail_as_the_file_does(rt: HostRuntime) -> Result<(), Fail> {
     let mut source = FileSource::new(&READ, "domain.toml");
@@ -50,7 +50,7 @@ fn reads_fail_as_the_file_does(rt: HostRuntime) -> Result<(), Fail> {
     Ok(())
 }
 
-/// A write and a finish fail exactly where the file's write and flush do; a finish where nothing was written opens nothing.
+/// A write and a finish fail exactly where the file's write and flush do. A finish with nothing written opens no file.
 #[test]
 fn writes_fail_as_the_file_does(rt: HostRuntime) -> Result<(), Fail> {
     let mut sink = FileSink::new(&WRITTEN, "frames.pcap");
@@ -67,7 +67,8 @@ fn writes_fail_as_the_file_does(rt: HostRuntime) -> Result<(), Fail> {
     Ok(())
 }
 
-/// What a writer is asked to write as standard output is what the sink was given, as far as it takes it, and a finish flushes it.
+/// What a writer receives as standard output is what the sink received, as far as the writer accepts it, and a finish
+/// flushes it.
 #[test]
 fn a_writer_takes_two_of_five_octets(rt: HostRuntime) -> Result<(), Fail> {
     let mut sink = StdoutSink::new(OpenCalls::new(&[
@@ -85,7 +86,7 @@ fn a_writer_takes_two_of_five_octets(rt: HostRuntime) -> Result<(), Fail> {
     Ok(())
 }
 
-/// A file that isn't there fails each read; one that was there is cut, written, and read back to its end.
+/// For a file that does not exist each read fails. One that exists is truncated, written, and read back to its end.
 #[test]
 fn a_file_written_and_read_back(rt: HostRuntime) -> Result<(), Fail> {
     let path = "bier_domain.test";
@@ -108,7 +109,7 @@ fn a_file_written_and_read_back(rt: HostRuntime) -> Result<(), Fail> {
     Ok(())
 }
 
-/// What a source that never fails gives, a sink that never fails takes, as far as it has room.
+/// A sink that never fails accepts what a source that never fails returns, as far as the sink has room.
 #[test]
 fn quiet_objects_pass_octets_on(rt: HostRuntime) -> Result<(), Fail> {
     let mut source = QuietSource::new(Octets::from_slice(rt.alloc(), b"abcde")?);

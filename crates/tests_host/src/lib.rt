@@ -1,5 +1,5 @@
-//! Files as sources and sinks whose calls fail one by one, a real one, and runs of the program on real files. There is nothing here
-//! but tests.
+//! Files as sources and sinks whose calls fail one by one, a real file, and runs of the program on real files. This
+//! crate contains only tests.
 #![tactic(auto)]
 
 #[cfg(test)]

@@ -7,7 +7,8 @@ use std::test::Fail;
 use tool_host::{StdoutSink, SystemFiles};
 use wire_base::Status;
 
-/// A domain file and an input, the arguments of a run on them, how it ends, and what the writer of its report answers.
+/// A domain file and an input, the arguments of a run on them, how it ends, and the results of the writer of its
+/// report.
 struct Run {
     conf: &'static str,
     input: &'static str,
@@ -88,7 +89,8 @@ const RUNS: &[Run] = &[
     },
 ];
 
-/// How a run ends on files that are written for it. The report's writer takes exactly the report, and a finish.
+/// Returns how a run ends on files that are written for it. The report's writer receives exactly the report, and a
+/// finish.
 fn ended(rt: &HostRuntime, run: &Run) -> Result<Status, Fail> {
     fs::write(rt, "run.conf", run.conf)?;
     fs::write(rt, "run.input", run.input)?;
@@ -101,7 +103,7 @@ fn ended(rt: &HostRuntime, run: &Run) -> Result<Status, Fail> {
     Ok(run_arguments(rt.alloc(), &args, &files, &mut report)?)
 }
 
-/// Each run reads the files at the paths that its arguments give, ends as it is to, and reports that alone.
+/// Each run reads the files at the paths in its arguments, ends as expected, and reports only that.
 #[test]
 fn runs_on_real_files(rt: HostRuntime) -> Result<(), Fail> {
     for run in RUNS {

@@ -1,9 +1,9 @@
-//! A failure at each call of a source or a sink in turn, and what stands after it.
+//! A failure at each call of a source or a sink in turn, and the state after it.
 use crate::runs::{FREE, Limits, Object, Outcome, run_row};
 use std::alloc::Global;
 use wire_base::Status;
 
-// One packet on written rows.
+// One packet with configured rows.
 const HOP: &str = "hop input | bsl 64 / self 1 / row 2 B / row 3 B / row 4 D / packet 1,2,3,4";
 
 // A frame with a label and a BIER header.
@@ -14,10 +14,10 @@ const HEADERS: &str =
 const REPLAY: &str =
     "replay ring schedule frames | settle 4 / inject A 0 64 3 8 0 00ff / inject A 0 64 3 8 1 00ff / settle 4";
 
-// What the first router of two says of itself, twice, five seconds apart.
+// What the first router of two advertises, twice, five seconds apart.
 const NODE: &str = "node pair B capture frames | 100 A 105 A";
 
-/// How many octets of frames are written before the first line or record is read.
+/// Returns how many octets of frames are written before the first line or record is read.
 fn head_of(work: &str) -> usize {
     if work.starts_with("hop") || work.starts_with("headers") {
         0
@@ -26,7 +26,7 @@ fn head_of(work: &str) -> usize {
     }
 }
 
-/// Whether a run stands as promised in which a call of an object failed, beside the whole run.
+/// Returns whether a run in which a call of an object failed is as promised, compared with the complete run.
 fn stands(work: &str, limits: Limits, stopped: &Outcome, whole: &Outcome) -> bool {
     let report = stopped.report.as_slice();
     let frames = stopped.frames.as_slice();
@@ -40,7 +40,7 @@ fn stands(work: &str, limits: Limits, stopped: &Outcome, whole: &Outcome) -> boo
                 && report.is_empty()
                 && frames.len() == head_of(work)
         }
-        // All lines and records were read, and done; the last line alone is missing.
+        // All lines and records were read and processed; only the last line is missing.
         Object::Input => {
             stopped.status == Status::ReadFault
                 && report.len() < all.len()
@@ -55,15 +55,15 @@ fn stands(work: &str, limits: Limits, stopped: &Outcome, whole: &Outcome) -> boo
     }
 }
 
-/// Whether both runs answered and wrote the same.
+/// Returns whether both runs returned and wrote the same.
 fn same(one: &Outcome, other: &Outcome) -> bool {
     one.status == other.status
         && one.report.as_slice() == other.report.as_slice()
         && one.frames.as_slice() == other.frames.as_slice()
 }
 
-/// Whether the call that is to fail is past the last one, so that all is as without a failure; none where it isn't and the run
-/// doesn't stand as promised.
+/// Returns whether the call that should fail is after the last one, so that the run is as without a failure. Returns
+/// none if it is not and the run is not as promised.
 fn is_past(alloc: Global, work: &str, limits: Limits, whole: &Outcome) -> Option<bool> {
     let stopped = run_row(alloc, work, limits)?;
     let is_past = same(&stopped, whole);
@@ -74,7 +74,7 @@ fn is_past(alloc: Global, work: &str, limits: Limits, whole: &Outcome) -> Option
     }
 }
 
-/// Whether each of an object's calls fails as promised, and the fourth is past the last one.
+/// Returns whether each of an object's calls fails as promised, and the fourth is after the last one.
 fn fails_in_turn(alloc: Global, work: &str, broken: Object, whole: &Outcome) -> bool {
     let mut last = None;
     for call in 1..5 {
@@ -91,7 +91,7 @@ fn fails_in_turn(alloc: Global, work: &str, broken: Object, whole: &Outcome) -> 
     last == Some(true)
 }
 
-/// The same of the objects of a run, of which there are four.
+/// Returns the same for the four objects of a run.
 fn each_fails_in_turn(alloc: Global, work: &str) -> Option<[bool; 4]> {
     let whole = run_row(alloc, work, FREE)?;
     Some([
@@ -112,7 +112,7 @@ fn each_call_fails_in_turn(rt: HostRuntime) {
     }
 }
 
-/// Whether a report's sink that takes nothing has failed, behind a capture that is whole.
+/// Returns whether a report's sink that accepts nothing has failed, after a complete capture.
 fn no_report(alloc: Global, whole: &[u8]) -> Option<bool> {
     let run = run_row(alloc, REPLAY, Limits { report: 0, ..FREE })?;
     Some(
@@ -122,7 +122,7 @@ fn no_report(alloc: Global, whole: &[u8]) -> Option<bool> {
     )
 }
 
-/// Whether a capture's sink that takes nothing has failed with its header.
+/// Returns whether a capture's sink that accepts nothing has failed at its header.
 fn no_frames(alloc: Global) -> Option<bool> {
     let run = run_row(alloc, REPLAY, Limits { frames: 0, ..FREE })?;
     Some(
@@ -137,7 +137,8 @@ fn no_report_of_whole(alloc: Global) -> Option<bool> {
     no_report(alloc, whole.frames.as_slice())
 }
 
-/// A sink that takes none of a piece has failed: the report's, behind a capture that is whole, and the capture's, with its header.
+/// A sink that accepts no octet of a chunk has failed: the report's, after a complete capture, and the capture's, at
+/// its header.
 #[test]
 fn sinks_that_take_nothing(rt: HostRuntime) {
     assert!(rt; no_report_of_whole(rt.alloc()) == Some(true));

@@ -1,4 +1,4 @@
-//! The links of small grown domains.
+//! The links of small generated domains.
 ghost use Rattle.std.specs.Prelude.{◌≤◌};
 
 use grown_domain::grown;
@@ -40,7 +40,7 @@ const TWELVE: &[(u16, u16)] = &[
     (10, 4),
 ];
 
-/// Whether the links of a grown domain join those routers, in order.
+/// Returns whether the links of a generated domain join those routers, in order.
 fn joins(alloc: Global, n: u16, wanted: &[(u16, u16)]) -> M<bool>
     requires some { 3 ≤ n }
     requires few { n ≤ 250 }
@@ -54,7 +54,7 @@ fn joins(alloc: Global, n: u16, wanted: &[(u16, u16)]) -> M<bool>
     Ok(are_same)
 }
 
-// In three routers the chord is a link of the ring; in ten the second one is the first turned round.
+// In three routers the chord is a link of the ring; in ten the second one is the reverse of the first.
 #[test]
 fn chords_join_routers_without_a_link(rt: HostRuntime) -> Result<(), Fail> {
     assert!(rt; joins(rt.alloc(), 3, THREE)?);

@@ -2,7 +2,7 @@
 use std::alloc::Global;
 use wire_base::{M, Octets};
 
-// A's own LSP, as it sends it first.
+// A's own LSP, as A sends it first.
 pub const LSP_OF_A: &str =
     "09002b0000050200000000010050fefe03831b010014010000004d04b0000000000001000000000001554e030104034900018101cc890141160b0000000000020000000a00871700000000600a0000010d200b0000000001010400100064";
 
@@ -10,8 +10,8 @@ const HEADER: [u8; 24] = [
     0xd4, 0xc3, 0xb2, 0xa1, 2, 0, 4, 0, 0, 0, 0, 0, 0, 0, 0, 0, 0xff, 0xff, 0, 0, 1, 0, 0, 0,
 ];
 
-/// Lines that stand with ` / ` between them. A `$` at the end of one says that no line end is there, and a star and a number that
-/// the character before them stands so often.
+/// Returns lines that are separated by ` / `. A `$` at the end of a line means that the LF is missing. A star and a
+/// number mean that many repetitions of the character before them.
 pub fn lines_of(alloc: Global, text: &str) -> M<Octets> {
     let mut lines = Octets::new(alloc);
     if text.is_empty() {
@@ -39,7 +39,7 @@ fn push_line(lines: &mut Octets, line: &str) -> M<()> {
     lines.append(end.as_bytes())
 }
 
-/// Appends octets, of which the last stands so often.
+/// Appends octets, the last of which is repeated that many times.
 fn push_often(lines: &mut Octets, front: &[u8], count: u32) -> M<()> {
     lines.append(front)?;
     if let [.., last] = front {
@@ -50,7 +50,7 @@ fn push_often(lines: &mut Octets, front: &[u8], count: u32) -> M<()> {
     Ok(())
 }
 
-/// A capture without records.
+/// Returns a capture without records.
 pub fn no_records(alloc: Global) -> M<Octets> {
     Octets::from_slice(alloc, &HEADER)
 }
@@ -63,13 +63,13 @@ pub fn push_record(out: &mut Octets, second: u32, frame: &[u8]) -> M<()> {
     out.append(frame)
 }
 
-/// Octets by their digits; none where those are no digits, or out of memory.
+/// Returns octets from their digits; none if those are not digits, or if an allocation fails.
 pub fn octets_of(alloc: Global, digits: &str) -> Option<Octets> {
     let octets = hex::decode(alloc, digits).ok()?;
     Some(Octets::from_vec(octets))
 }
 
-/// Appends a record of a frame by its digits, where `A` is A's own LSP.
+/// Appends a record of a frame from its digits, where `A` is A's own LSP.
 fn push_digits(out: &mut Octets, alloc: Global, second: &str, frame: &str) -> Option<()> {
     let digits = if frame == "A" { LSP_OF_A } else { frame };
     let frame = octets_of(alloc, digits)?;
@@ -86,14 +86,15 @@ fn push_records(out: &mut Octets, alloc: Global, records: &str) -> Option<()> {
     Some(())
 }
 
-/// The capture of records.
+/// Returns the capture with those records.
 fn capture_of(alloc: Global, records: &str) -> Option<Octets> {
     let mut out = no_records(alloc).ok()?;
     push_records(&mut out, alloc, records)?;
     Some(out)
 }
 
-/// What a command reads: records for `node`, digits for `headers`, else lines. None where it isn't that, or out of memory.
+/// Returns what a command reads: records for `node`, digits for `headers`, otherwise lines. Returns none if the text is
+/// invalid, or if an allocation fails.
 pub fn input_of(alloc: Global, words: &str, text: &str) -> Option<Octets> {
     if words.starts_with("node") {
         capture_of(alloc, text)

@@ -1,5 +1,6 @@
-//! Schedules on small domains, captures at one router, grown domains, and texts of `hop` and `headers`, with their whole reports and
-//! what their captures hold; each call of a source or a sink that fails; and the view of a router. There is nothing here but tests.
+//! Schedules on small domains, captures at one router, generated domains, and texts of `hop` and `headers`, with their
+//! complete reports and what their captures contain; each call of a source or a sink that fails; and the topology of a
+//! router. This crate contains only tests.
 #![tactic(auto)]
 
 #[cfg(test)]

@@ -1,4 +1,5 @@
-//! Runs with their whole reports: the words of the program and an input, and its status and the lines of its report.
+//! Runs with their complete reports: the arguments of the program and an input, and its status and the lines of its
+//! report.
 use crate::inputs::lines_of;
 use crate::runs::{FREE, parts_of, run_row};
 use std::alloc::Global;
@@ -80,9 +81,10 @@ replay ring schedule frames | inject A 0 64 16385 8 0 00 => 4 | refused 1 event 
 replay ring schedule frames | inject A 9 64 3 8 0 00 => 4 | refused 1 event 7 Edge 4 NotBfr
 replay pair schedule frames | restart A / settle 1 => 0 | done lines 2 injected 0 named 0 got 0 dropped 0 flight 0";
 
-// The router, and what it heard: a second and a frame each. Behind them stand a router that isn't there, and LSPs of B's own
-// that B didn't send, with sequence number 9 and with the last one; then frames that are dropped, each by another rule of another
-// reader or for another cause; then a packet of which one copy goes on and one arrives.
+// The router, and what it received: a second and a frame each. After these come a router that does not exist, and LSPs
+// with B's system ID that B did not send, with sequence number 9 and with the last one; then frames that are dropped,
+// each for another rule of another parser or for another cause; then a packet of which one copy is forwarded and one is
+// delivered.
 const NODES: &str = "\
 node pair B capture frames | 100 A 105 A => 0 | done records 2 used 2 passed 0 got 0 dropped 0 sent 3
 node pair B capture frames | 100 A 1000 A => 0 | done records 2 used 2 passed 0 got 0 dropped 0 sent 182
@@ -120,7 +122,7 @@ headers input | d4c3b2a1020004000000000000000000ffff0000010000000100000000000000
 headers input |  => 8 | refused record 0 4 CutHeader
 headers input | 010000000000000022000000220000000200000100000200000000018847000641405010000a000400010000000000000005 => 8 | refused record 0 1 Magic";
 
-// The number of routers: it has no sign, no leading zero and no blank, and is neither too small nor too large.
+// The number of routers: it has no sign, no leading zero and no space, and is neither too small nor too large.
 const GROWN: &str = "\
 grow 3 |  => 0 | grow 3 injected 16 named 48 got 48 dropped 0 flight 0
 grow 12 |  => 0 | grow 12 injected 16 named 192 got 192 dropped 0 flight 0
@@ -134,13 +136,13 @@ grow +12 |  => 2 | usage: bier_domain replay CONF SCHEDULE FRAMES | node CONF RO
 grow 12a |  => 2 | usage: bier_domain replay CONF SCHEDULE FRAMES | node CONF ROUTER CAPTURE FRAMES | hop INPUT | headers CAPTURE | grow N
 grow  |  => 2 | usage: bier_domain replay CONF SCHEDULE FRAMES | node CONF ROUTER CAPTURE FRAMES | hop INPUT | headers CAPTURE | grow N";
 
-/// Whether a run answers with that status and that report.
+/// Returns whether a run ends with that status and that report.
 fn reports(alloc: Global, given: &str, status: Option<u8>, report: &[u8]) -> Option<bool> {
     let outcome = run_row(alloc, given, FREE)?;
     Some(status == Some(outcome.status.number()) && outcome.report.as_slice() == report)
 }
 
-/// Whether the run of a row answers and reports what the row wants.
+/// Returns whether the run of a row ends and reports as the row expects.
 fn stands(alloc: Global, line: &str) -> Option<bool> {
     let (given, status, report) = parts_of(line)?;
     let report = lines_of(alloc, report).ok()?;

@@ -1,4 +1,4 @@
-//! The one place where the program is run.
+//! The one function that runs the program.
 ghost use Rattle.std.specs.Prelude.{◌≡◌, IfOk};
 
 use crate::domains::domain_of;
@@ -7,7 +7,7 @@ use replay_run::run;
 use std::alloc::{AllocError, Global};
 use wire_base::{BytesSink, BytesSource, M, Octets, Rows, Sink, Source, Status};
 
-/// The objects that a run is handed.
+/// The objects that a run receives.
 #[derive(Clone, Copy, PartialEq, Eq)]
 pub enum Object {
     Conf,
@@ -16,8 +16,8 @@ pub enum Object {
     Report,
 }
 
-/// The object of which one call fails, the number of that call, where 0 is none, and how many octets of frames and of a report
-/// there is room for.
+/// The object of which one call fails, the number of that call, where 0 is none, and how many octets of frames and of a
+/// report there is room for.
 #[derive(Clone, Copy)]
 pub struct Limits {
     pub broken: Object,
@@ -34,7 +34,7 @@ pub const FREE: Limits = Limits {
     report: 20_000,
 };
 
-/// What a run answered and wrote.
+/// What a run returned and wrote.
 #[derive(Drop)]
 pub struct Outcome {
     pub status: Status,
@@ -42,7 +42,7 @@ pub struct Outcome {
     pub frames: BytesSink,
 }
 
-/// The numbers of an object's calls that fail.
+/// Returns the numbers of an object's calls that fail.
 fn fails(alloc: Global, limits: Limits, object: Object) -> M<Rows<u32>> {
     if limits.broken == object {
         return Rows::from_slice(alloc, &[limits.call]);
@@ -50,7 +50,7 @@ fn fails(alloc: Global, limits: Limits, object: Object) -> M<Rows<u32>> {
     Ok(Rows::new(alloc))
 }
 
-/// A source of those octets that fails as the limits say of that object.
+/// Returns a source of those octets that fails as the limits specify for that object.
 fn source(alloc: Global, limits: Limits, object: Object, octets: Octets) -> M<BytesSource>
     ensures { IfOk result (λ s. ⟦<BytesSource as Source>⟧.faults s ≡ 0) }
 {
@@ -58,7 +58,7 @@ fn source(alloc: Global, limits: Limits, object: Object, octets: Octets) -> M<By
     Ok(BytesSource::new(octets, fails))
 }
 
-/// A sink with so much room that fails as the limits say of that object.
+/// Returns a sink with that much room that fails as the limits specify for that object.
 fn sink(alloc: Global, limits: Limits, object: Object, room: usize) -> M<BytesSink>
     ensures faults { IfOk result (λ s. ⟦<BytesSink as Sink>⟧.faults s ≡ 0) }
     ensures zeros { IfOk result (λ s. ⟦<BytesSink as Sink>⟧.zeros s ≡ 0) }
@@ -67,7 +67,7 @@ fn sink(alloc: Global, limits: Limits, object: Object, room: usize) -> M<BytesSi
     BytesSink::new(alloc, room, fails)
 }
 
-/// The run of those words on a domain file and an input.
+/// Runs those arguments on a domain file and an input.
 fn run_between(
     alloc: Global,
     words: &[&str],
@@ -88,7 +88,7 @@ fn run_between(
     })
 }
 
-/// The domain file that the second word names.
+/// Returns the domain file that the second argument names.
 fn conf_of(alloc: Global, words: &[&str]) -> M<Octets> {
     let name = match words {
         [_, name, ..] => *name,
@@ -97,7 +97,7 @@ fn conf_of(alloc: Global, words: &[&str]) -> M<Octets> {
     Octets::from_slice(alloc, domain_of(name).as_bytes())
 }
 
-/// The run of those words on an input, and on the domain file that the second word names.
+/// Runs those arguments on an input, and on the domain file that the second argument names.
 pub fn run_on(alloc: Global, words: &[&str], input: Octets, limits: Limits) -> M<Outcome> {
     let mut input = source(alloc, limits, Object::Input, input)?;
     let conf = conf_of(alloc, words)?;
@@ -113,29 +113,30 @@ fn words_of<'a>(alloc: Global, text: &'a str) -> Result<Vec<&'a str>, AllocError
     Ok(words)
 }
 
-/// The run of those words, with blanks between them, on an input as the tables have it; none where that isn't one, or for want of
-/// memory.
+/// Runs those arguments, separated by spaces, on an input in the format of the tables. Returns none if the input is
+/// invalid, or if an allocation fails.
 fn run_words(alloc: Global, words: &str, input: &str, limits: Limits) -> Option<Outcome> {
     let list = words_of(alloc, words).ok()?;
     let input = input_of(alloc, words, input)?;
     run_on(alloc, list.as_slice(), input, limits).ok()
 }
 
-/// The run of a row of a table: words and an input, with ` | ` between them. None where the row has another form, or for want of
-/// memory.
+/// Runs a row of a table: arguments and an input, separated by ` | `. Returns none if the row is invalid, or if an
+/// allocation fails.
 pub fn run_row(alloc: Global, given: &str, limits: Limits) -> Option<Outcome> {
     let (words, input) = given.split_once(" | ")?;
     run_words(alloc, words, input, limits)
 }
 
-/// The three parts of a row of a table: words and an input, and behind an arrow two things that are wanted of their run.
+/// Returns the three parts of a row of a table: arguments and an input, and after an arrow two expected results of
+/// their run.
 pub fn parts_of(line: &str) -> Option<(&str, &str, &str)> {
     let (given, wanted) = line.split_once(" => ")?;
     let (first, second) = wanted.split_once(" | ")?;
     Some((given, first, second))
 }
 
-/// Whether octets stand somewhere in others.
+/// Returns whether octets occur somewhere in others.
 pub fn holds(octets: &[u8], wanted: &[u8]) -> bool {
     for at in 0..octets.len() {
         if octets[at..].starts_with(wanted) {

@@ -1,8 +1,8 @@
-//! Twelve routers in a ring with three chords, and twenty injections: each reaches each of the twelve.
+//! Twelve routers in a ring with three chords, and twenty injections: each reaches all of the twelve.
 use crate::runs::{FREE, holds, run_row};
 use std::alloc::Global;
 
-// Sub-domain 0 has labels, and sub-domain 1 a written table.
+// Sub-domain 0 has labels, and sub-domain 1 a BIFT-id table.
 pub const TWELVE: &str = "\
 subdomain = [{ sd = 0, kind = 'mpls' }, { sd = 1, kind = 'configured' }]
 row = [{ sd = 1, bsl = 64, si = 0, bift = 5000 }]
@@ -67,7 +67,7 @@ link = [
 ]
 ";
 
-// Ten routers inject for all twelve, in the one sub-domain and then in the other.
+// Ten routers inject for all twelve, in one sub-domain and then in the other.
 const GIVEN: &str = "\
 replay twelve schedule frames | settle 40 / \
 inject r0 0 256 1,2,3,4,5,6,7,8,9,10,11,12 64 0 00 / \
@@ -92,7 +92,7 @@ inject r8 1 64 1,2,3,4,5,6,7,8,9,10,11,12 64 8 00 / \
 inject r9 1 64 1,2,3,4,5,6,7,8,9,10,11,12 64 9 00 / \
 settle 40";
 
-// As another implementation tells it.
+// The report as another implementation produces it.
 const REPORT: &str = "\
 2 got r0 1 1 00
 3 got r1 2 2 00
@@ -341,7 +341,7 @@ done lines 22 injected 20 named 240 got 240 dropped 0 flight 0
 const FIRST_COPY: &[u8] =
     b"\x0c\x00\x00\x00\x00\x00\x00\x00\x23\x00\x00\x00\x23\x00\x00\x00\x02\x00\x00\x01\x00\x00\x02\x00\x00\x00\x00\x01\xab\x37\x01\x38\x81\x40";
 
-/// Whether the run reports that, and sends the copy.
+/// Returns whether the run has that report, and sends the copy.
 fn reaches_all(alloc: Global) -> Option<(bool, bool)> {
     let outcome = run_row(alloc, GIVEN, FREE)?;
     Some((

@@ -1,4 +1,4 @@
-//! What a router sees once others have told it of themselves.
+//! The topology of a router after others have advertised themselves.
 ghost use Rattle.std.specs.Prelude.{◌<◌};
 ghost use Rattle.std.specs.List.{AllByRecursion};
 ghost use Rattle.wire_base.specs.model.Configuration.{IsSound};
@@ -11,20 +11,20 @@ use router_core::Router;
 use std::alloc::Global;
 use wire_base::{Domain, M, RouterConf, View, ViewEdge};
 
-// What the second, the third and the fourth router of the ring say of themselves first, as another implementation writes it.
+// What the second, the third and the fourth router of the ring advertise first, as another implementation writes it.
 const OTHERS_OF_THE_RING: [&str; 3] = [
     "09002b000005020000010000005bfefe03831b010014010000005804b0000000000002000000000001899a030104034900018101cc89014216160000000000010000000a000000000000030000000a00871700000000600a0000020d200b00000000020104001000c8",
     "09002b000005020000020001005bfefe03831b010014010000005804b00000000000030000000000017b3e030104034900018101cc89014316160000000000020000000a000000000000040000000a00871700000000600a0000030d200b000000000301040010012c",
     "09002b000005020000030002005bfefe03831b010014010000005804b0000000000004000000000001ed65030104034900018101cc89014416160000000000030000000a000000000000010000000a00871700000000600a0000040d200b0000000004010400100190",
 ];
 
-/// The first edge of a node.
+/// Returns the first edge of a node.
 fn edge_of(view: &View, place: usize) -> Option<ViewEdge> {
     let node = view.as_slice().get(place)?;
     node.edges.as_slice().get(0).copied()
 }
 
-/// Whether both routers have an edge to the other, and the way from the second to the first is that edge.
+/// Returns whether both routers have an edge to the other, and the path from the second to the first is that edge.
 fn is_pair(alloc: Global, view: &View) -> M<bool> {
     if view.as_slice().len() < 2 {
         return Ok(false);
@@ -39,24 +39,24 @@ fn is_pair(alloc: Global, view: &View) -> M<bool> {
     )
 }
 
-/// Whether a router sees the pair.
+/// Returns whether a router's topology is the pair.
 fn sees_pair(alloc: Global, router: &Router) -> M<bool> {
     let view = router.current_view()?;
     is_pair(alloc, &view)
 }
 
-/// How many routers one sees.
+/// Returns the number of routers in a router's topology.
 fn nodes_seen(router: &Router) -> Option<usize> {
     let view = router.current_view().ok()?;
     Some(view.as_slice().len())
 }
 
-/// Whether a router took a frame on its first link.
+/// Returns whether a router accepted a frame on its first link.
 fn takes(router: &mut Router, frame: &[u8]) -> bool {
     router.conf().ends.len() > 0 && frame.len() <= 65_000 && router.frame(0, frame).is_ok()
 }
 
-/// Whether a router took a frame, by its digits, on its first link.
+/// Returns whether a router accepted a frame, given by its digits, on its first link.
 fn takes_digits(alloc: Global, router: &mut Router, digits: &str) -> bool {
     match octets_of(alloc, digits) {
         Some(frame) => takes(router, frame.as_slice()),
@@ -64,14 +64,14 @@ fn takes_digits(alloc: Global, router: &mut Router, digits: &str) -> bool {
     }
 }
 
-/// The configurations of a domain's routers, each of which is sound.
+/// Returns the configurations of a domain's routers, each of which is sound.
 fn confs(domain: &Domain) -> &[RouterConf]
     ensures { AllByRecursion IsSound result.now }
 {
     domain.routers.as_slice()
 }
 
-/// The second router of a domain, which has two.
+/// Returns the second router of a domain that has two.
 fn second(alloc: Global, domain: &Domain) -> Option<Router> {
     match confs(domain) {
         [_, conf] => Router::new(alloc, conf.copy().ok()?).ok(),
@@ -79,7 +79,7 @@ fn second(alloc: Global, domain: &Domain) -> Option<Router> {
     }
 }
 
-/// Whether the second router of a domain takes what the first says of itself, and then sees the pair.
+/// Returns whether the second router of a domain accepts what the first advertises, and its topology is then the pair.
 fn second_sees_pair(alloc: Global, domain: &Domain) -> bool {
     match second(alloc, domain) {
         Some(mut router) => takes_digits(alloc, &mut router, LSP_OF_A)
@@ -100,7 +100,7 @@ fn the_pair_sees_itself(rt: HostRuntime) {
     assert!(rt; pair_sees_itself(rt.alloc()));
 }
 
-/// How many routers one sees once it took a frame on its first link.
+/// Returns the number of routers in a router's topology after it received a frame on its first link.
 fn nodes_then(alloc: Global, router: &mut Router, digits: &str) -> Option<usize> {
     if takes_digits(alloc, router, digits) {
         nodes_seen(router)
@@ -109,7 +109,8 @@ fn nodes_then(alloc: Global, router: &mut Router, digits: &str) -> Option<usize>
     }
 }
 
-/// How many routers one sees before three others tell it of themselves one after the other, and once each has.
+/// Returns the number of routers in a router's topology before three others advertise themselves one after the other,
+/// and after each of them.
 fn seen_in_turn(alloc: Global, router: &mut Router) -> [Option<usize>; 4] {
     let [second, third, fourth] = OTHERS_OF_THE_RING;
     [
@@ -120,7 +121,7 @@ fn seen_in_turn(alloc: Global, router: &mut Router) -> [Option<usize>; 4] {
     ]
 }
 
-/// The first router of a domain.
+/// Returns the first router of a domain.
 fn first(alloc: Global, domain: &Domain) -> Option<Router> {
     match confs(domain) {
         [conf, ..] => Router::new(alloc, conf.copy().ok()?).ok(),

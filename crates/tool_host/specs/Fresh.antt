@@ -1,4 +1,4 @@
--- Files that no call was made of.
+-- Files on which no call was made.
 use Rattle.std.specs.Prelude.{◌≡◌, None, false}
 use Rattle.tool_host.specs.declared.files.StdoutSink.{StdoutSink}
 use Rattle.tool_host.specs.declared.objects.Objects.{Objects}
@@ -14,7 +14,7 @@ pub record AreFresh {F D : Type 0} (objects : Objects F D) : Type 0 where
   pub taken : objects.frames.tally.zeros ≡ 0
   pub finished : objects.frames.tally.unfinished ≡ false
 
--- nothing was counted, and nothing is to be finished
+-- nothing was counted, and nothing remains to be finished
 pub record IsFresh {W : Type 0} (report : StdoutSink W) : Type 0 where
   pub faults : report.tally.faults ≡ 0
   pub taken : report.tally.zeros ≡ 0

@@ -30,7 +30,7 @@ frames_path (Headers capture) = None
 frames_path (Grow routers) = None
 frames_path Unknown = None
 
--- Each object is the file at the path that the command line gives it.
+-- Each object is the file at the path that the command line has for it.
 pub record AreNamed {F D : Type 0} (line : CommandLine) (objects : Objects F D) : Type 0 where
   pub conf : IfSome (conf_path line) (λ path. objects.conf.path.now ≡ path)
   pub input : IfSome (input_path line) (λ path. objects.input.path.now ≡ path)

@@ -1,4 +1,4 @@
-//! How often the calls of a file failed, and of a sink how often they took nothing.
+//! Counts of I/O errors for files and sinks, and for sinks also of writes that accepted no octet.
 ghost use Rattle.std.specs.Prelude.{◌≡◌, false};
 ghost use Rattle.std.specs.Io.{ReadsAtMost, WritesAtMost};
 ghost use Rattle.wire_base.specs.Causes.{HasCause, CountsZeros, after_write, after_finish};
@@ -7,8 +7,8 @@ ghost use Rattle.tool_host.specs.Opened.{IsPassedOn};
 use std::io;
 use wire_base::Failed;
 
-/// Passes on what a read answered. It is a fault exactly where the file's is, one that was interrupted included, and it is the end
-/// exactly where the file gave nothing.
+/// Returns the result of a read. It is an error exactly where the file's read failed, interrupted reads included. It is
+/// the end of the file exactly where the file returned no octets.
 pub fn count_read(faults: &mut u64, answer: io::Result<usize>) -> Result<usize, Failed>
     ensures same { IsPassedOn answer result }
     ensures cause { HasCause faults.old faults.new result }
@@ -29,7 +29,7 @@ pub struct Tally {
 }
 
 impl Tally {
-    /// Nothing counted.
+    /// Returns counters that have counted nothing.
     pub fn new() -> Self
         ensures { result ≡ record { faults = 0; zeros = 0; unfinished = false } }
     {
@@ -40,7 +40,8 @@ impl Tally {
         }
     }
 
-    /// Counts what a write of that piece answered, and passes it on: a fault exactly where the file's is.
+    /// Counts the result of a write of that chunk, and returns it. It is an error exactly where the file's write
+    /// failed.
     pub fn count_write(&mut self, piece: &[u8], answer: io::Result<usize>) -> Result<usize, Failed>
         requires { WritesAtMost answer piece.now }
         ensures same { IsPassedOn answer result }
@@ -61,7 +62,7 @@ impl Tally {
         Ok(count)
     }
 
-    /// Counts what a flush answered, and passes it on.
+    /// Counts the result of a flush, and returns it.
     pub fn count_flush(&mut self, answer: io::Result<()>) -> Result<(), Failed>
         ensures same { IsPassedOn answer result }
         ensures cause { HasCause self.old.faults self.new.faults result }

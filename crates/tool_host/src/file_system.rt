@@ -1,4 +1,4 @@
-//! The files that the program is handed.
+//! The files that the program uses.
 ghost use Rattle.std.specs.Prelude.{◌≡◌, ℕ, List, Option, None, IfOk};
 ghost use Rattle.tool_host.specs.Opened.{Tells};
 
@@ -6,26 +6,26 @@ use std::io::{Read, Write};
 use std::rt::Files;
 use std::{fs, io};
 
-/// What opens files by their paths.
+/// Opens files by their paths.
 pub trait FileSystem {
     type File: Read + Write + Drop;
 
-    /// The octets of the file at a path, where it tells them.
+    /// The octets of the file at a path, if the file system specifies them.
     ghost at: { Self → List ℕ → Option (List ℕ) };
 
-    /// The octets that a file which was just made holds, where it tells them.
+    /// The octets of a file that was just created, if the file system specifies them.
     ghost made: { Self → Option (List ℕ) };
 
-    /// Opens the file at that path, to be read from its beginning.
+    /// Opens the file at that path for reading from its beginning.
     fn open(&self, path: &str) -> io::Result<Self::File>
         ensures { IfOk result (λ file. Tells (at self.now path.now) (Self.File.remaining file)) };
 
-    /// Makes a file at that path, or truncates the one that is there, to be written from its beginning.
+    /// Creates a file at that path, or truncates an existing one, for writing from its beginning.
     fn create(&self, path: &str) -> io::Result<Self::File>
         ensures { IfOk result (λ file. Tells (made self.now) (Self.File.contents file)) };
 }
 
-/// The files of a runtime, which tell nothing.
+/// The files of the runtime. Nothing is specified of their content.
 #[derive(Drop)]
 pub struct SystemFiles<R: Files> {
     rt: R,

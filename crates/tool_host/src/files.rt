@@ -1,5 +1,5 @@
-//! Sources and sinks over the files of a file system, and a sink over the writer of standard output. Each tells of its octets what
-//! that file system or writer tells.
+//! Sources and sinks that use the files of a file system, and a sink that uses the writer of standard output. Each
+//! specifies of its octets what that file system or writer specifies.
 ghost use Rattle.std.specs.Prelude.{◌≡◌, ℕ, List, Option, None, false};
 ghost use Rattle.std.specs.Io.{ReadsAtMost, WritesAtMost};
 ghost use Rattle.std.specs.Io.KnownBytes.{ReadConsumes, WriteAppends, Keeps};
@@ -12,8 +12,8 @@ use std::io;
 use std::io::{Read, Write};
 use wire_base::{Failed, Sink, Source};
 
-/// A file that is read from its beginning. It is opened at the first read; where it can't be opened, that read and
-/// each later one fails.
+/// A file that is read from its beginning. It is opened at the first read. If it cannot be opened, that read and each
+/// later one fails.
 #[derive(Drop)]
 pub struct FileSource<'a, F: FileSystem> {
     files: &'a F,
@@ -23,7 +23,7 @@ pub struct FileSource<'a, F: FileSystem> {
 }
 
 impl<'a, F: FileSystem> FileSource<'a, F> {
-    /// The file at that path, which isn't opened yet.
+    /// Returns the file at that path, without opening it.
     pub fn new(files: &'a F, path: &'a str) -> Self
         ensures files { result.files ≡ files.entry }
         ensures path { result.path ≡ path.entry }
@@ -39,7 +39,7 @@ impl<'a, F: FileSystem> FileSource<'a, F> {
     }
 }
 
-/// Reads once from the file at that path, which it opens where it isn't open.
+/// Reads once from the file at that path, which is opened if it is not open yet.
 fn read_at<F: FileSystem>(
     files: &F,
     path: &str,
@@ -71,8 +71,8 @@ impl<'a, F: FileSystem> Source for FileSource<'a, F> {
     }
 }
 
-/// A file that is written from its beginning. It is made, or cut to no octets where it is there, at the first write;
-/// where it can't be opened, that write and each later one fails.
+/// A file that is written from its beginning. At the first write it is created, or truncated if it exists. If it cannot
+/// be opened, that write and each later one fails.
 #[derive(Drop)]
 pub struct FileSink<'a, F: FileSystem> {
     files: &'a F,
@@ -82,7 +82,7 @@ pub struct FileSink<'a, F: FileSystem> {
 }
 
 impl<'a, F: FileSystem> FileSink<'a, F> {
-    /// The file at that path, which isn't made yet.
+    /// Returns the file at that path, without creating it.
     pub fn new(files: &'a F, path: &'a str) -> Self
         ensures files { result.files ≡ files.entry }
         ensures path { result.path ≡ path.entry }
@@ -98,7 +98,7 @@ impl<'a, F: FileSystem> FileSink<'a, F> {
     }
 }
 
-/// Writes once to the file at that path, which it makes or truncates where it isn't open.
+/// Writes once to the file at that path, which is created or truncated if it is not open yet.
 fn write_at<F: FileSystem>(
     files: &F,
     path: &str,
@@ -119,7 +119,7 @@ fn write_at<F: FileSystem>(
     }
 }
 
-/// Flushes a file, where it is open.
+/// Flushes a file, if it is open.
 fn flush_open<W: Write>(file: &mut Option<W>) -> io::Result<()>
     ensures { (before : Option (List ℕ)) → Keeps (told W.contents before file.old) (told W.contents before file.new) }
 {
@@ -157,7 +157,7 @@ pub struct StdoutSink<W: Write> {
 }
 
 impl<W: Write> StdoutSink<W> {
-    /// A sink into that writer, to which it has written nothing yet.
+    /// Returns a sink for that writer, to which it has written nothing yet.
     pub fn new(out: W) -> Self
         ensures out { result.out ≡ out }
         ensures fresh { IsFresh result }

@@ -1,9 +1,9 @@
-//! What stands between the program and the system: the files that a command line names and standard output as sources and sinks,
-//! the arguments, and the exit status.
+//! The layer between the program and the system: the files that a command line names and standard output as sources and
+//! sinks, the arguments, and the exit status.
 //!
-//! It promises that each object is the file at its own path, that no octet is made up and none lost, that a fault is counted where
-//! the file's call failed, and that the status is the exit number. Only `SystemFiles` is proved to be no more than safe: what the
-//! system's files hold, and at which paths, no contract states.
+//! It promises that each object is the file at its own path, that octets are neither invented nor lost, that an I/O
+//! error is counted where the file's call failed, and that the status is the exit number. For `SystemFiles` only safety
+//! is proved: no contract states what the system's files contain, and at which paths.
 #![tactic(auto)]
 
 mod counts;

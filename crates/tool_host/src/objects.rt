@@ -17,7 +17,7 @@ pub struct Objects<'a, F: FileSystem> {
 }
 
 impl<'a, F: FileSystem> Objects<'a, F> {
-    /// The files at those paths, none of which is open yet.
+    /// Returns the files at those paths, without opening them.
     fn at(files: &'a F, conf: &'a str, input: &'a str, frames: &'a str) -> Self
         ensures conf { result.conf.path ≡ conf.entry }
         ensures input { result.input.path ≡ input.entry }
@@ -34,7 +34,7 @@ impl<'a, F: FileSystem> Objects<'a, F> {
         }
     }
 
-    /// The files that the arguments name. One that they don't name has an empty path, and isn't to be used.
+    /// Returns the files that the arguments name. One that they do not name has an empty path, and must not be used.
     pub fn named(files: &'a F, arguments: &Arguments<'a>) -> Self
         ensures named { AreNamed (meaning arguments.now) result }
         ensures conf_files { result.conf.files ≡ files.entry }

@@ -20,7 +20,7 @@ fn after_name(args: &[String]) -> &[String]
     }
 }
 
-/// The arguments that follow the program's name.
+/// Returns the arguments that follow the program's name.
 pub fn words_of<'a>(alloc: Global, args: &'a [String]) -> Result<Vec<&'a str>, AllocError>
     ensures { IfOk result (λ words. map (λ word. word.now) words.items ≡ map string_bytes (drop 1 args.now)) }
 {
@@ -32,15 +32,16 @@ pub fn words_of<'a>(alloc: Global, args: &'a [String]) -> Result<Vec<&'a str>, A
     Ok(words)
 }
 
-/// Whether an argument isn't UTF-8, so that the command line is an unknown one; otherwise the program was out of memory.
+/// Returns whether the error is an argument that is not UTF-8, which makes the command line an unknown one. Otherwise
+/// the program was out of memory.
 pub fn is_no_text(error: &io::Error) -> bool
     ensures { result ≡ false ↔ error_kind error.now ≡ ErrorKind.OutOfMemory }
 {
     error.kind() != ErrorKind::OutOfMemory
 }
 
-/// The exit status of the program: the number of the run's status, or that of `Status::Memory` where the program was out of memory
-/// before the run.
+/// Returns the exit status of the program: the number of the run's status, or that of `Status::Memory` if the program
+/// was out of memory before the run.
 pub fn exit_code(ended: Result<Status, AllocError>) -> ExitCode
     ensures { MatchResult ended (λ status. exit_status result ≡ number_of status) (λ e. exit_status result ≡ number_of statuses.Memory) }
 {

@@ -1,4 +1,4 @@
-//! Each command as one call.
+//! Each command as one function.
 ghost use Rattle.std.specs.Prelude.{◌≡◌, ◌<◌, length, slice_get, IfSome};
 ghost use Rattle.wire_base.specs.Causes.{last_count};
 ghost use Rattle.wire_base.specs.declared.status.Status.TheVariants as status;
@@ -11,8 +11,8 @@ ghost use Rattle.command_node.specs.Owed.{node_means};
 use std::alloc::Global;
 use wire_base::{Domain, Sink, Source, Status};
 
-/// One router's forwarding of packets on written rows: the input is read line by line, and the report has the outcomes of each
-/// packet, up to the end of the input or to the first line that is rejected.
+/// Runs `hop`, the forwarding of packets by one router with configured rows. The input is read line by line, and the
+/// report has the outcomes of each packet, up to the end of the input or to the first line that is rejected.
 pub fn hop<S: Source, R: Sink>(alloc: Global, input: &mut S, report: &mut R) -> Status
     requires input_faults { S.faults input.old < last_count }
     requires report_faults { R.faults report.old < last_count }
@@ -22,8 +22,8 @@ pub fn hop<S: Source, R: Sink>(alloc: Global, input: &mut S, report: &mut R) -> 
     command_hop::run_hop(alloc, input, report)
 }
 
-/// The BIER header of each record of a capture that carries a BIER packet, up to the end of the capture or to the record that is
-/// rejected.
+/// Runs `headers`: reports the BIER header of each record of a capture that carries a BIER packet, up to the end of the
+/// capture or to the record that is rejected.
 pub fn headers<S: Source, R: Sink>(alloc: Global, input: &mut S, report: &mut R) -> Status
     requires input_faults { S.faults input.old < last_count }
     requires report_faults { R.faults report.old < last_count }
@@ -33,8 +33,8 @@ pub fn headers<S: Source, R: Sink>(alloc: Global, input: &mut S, report: &mut R)
     command_headers::run_headers(alloc, input, report)
 }
 
-/// The router at an index of a domain on the records of a capture: what it sends is written as a capture, and what it delivers and
-/// drops is reported.
+/// Runs `node`, the router at an index of a domain on the records of a capture. What it sends is written as a capture,
+/// and what it delivers and drops is reported.
 pub fn node<S: Source, C: Sink, R: Sink>(
     alloc: Global,
     domain: &Domain,

@@ -1,4 +1,4 @@
--- Which system has a prefix, where one alone has it.
+-- The owner of each prefix, where exactly one system has it.
 use Rattle.std.specs.Prelude.{◌≡◌, ℕ, ◌+◌, ◌&&◌, nat_lt, max, not, Bool, true, false, List, [], ◌∷◌, map, filter, slice_get, Option, Some, None, if◌then◌else◌}
 use Rattle.std.specs.Ordering.{nat_cmp}
 use Rattle.std.specs.BTreeMap.{BTreeMap, get_by}
@@ -14,7 +14,7 @@ use Rattle.wire_base.specs.declared.view.ViewSub.{ViewSub}
 use Rattle.wire_base.specs.model.Control.{same_system}
 use Rattle.wire_base.specs.model.View.{Claim, own_subs}
 
--- a prefix of a place in a sub-domain, and the system whose place it is
+-- a prefix of a membership, and the system whose membership it is
 pub record Prefix : Type 0 where
   pub prefix : Ipv4
   pub system : SystemId
@@ -28,11 +28,11 @@ prefixes_in c = prefixes_at c.system c.subs
 abbrev pub prefixes_of : List Claim → List Prefix
 prefixes_of claims = flat_map prefixes_in claims
 
--- what a map has at a prefix: the one system that has it, none within where several have it
+-- what a map has for a prefix: the one system that has it, none within where several have it
 abbrev pub owner_at : BTreeMap Ipv4 (Option SystemId) → Ipv4 → Option (Option SystemId)
 owner_at owners p = get_by (λ (q : Ipv4). slice_cmp nat_cmp p.0 q.0) owners
 
--- the same with one system more
+-- the same with one more system
 abbrev pub owner_with : SystemId → Option (Option SystemId) → Option SystemId
 owner_with s None = Some s
 owner_with s (Some None) = None
@@ -61,19 +61,19 @@ IsOwner xs p (Some None) = (s : SystemId) → is_shared_in xs s p ≡ true
 abbrev pub AreOwners : List Prefix → BTreeMap Ipv4 (Option SystemId) → Type 0
 AreOwners xs owners = (p : Ipv4) → IsOwner xs p (owner_at owners p)
 
--- no prefix is one of several systems
+-- no prefix belongs to several systems
 abbrev pub AreAlone : BTreeMap Ipv4 (Option SystemId) → Type 0
 AreAlone owners = (p : Ipv4) → is_several (owner_at owners p) ≡ false
 
--- the places whose prefix isn't one of several systems there are those of which no other system has the prefix
+-- the memberships whose prefix does not belong to several systems there are those whose prefix no other system has
 abbrev pub AreTold : List Claim → BTreeMap Ipv4 (Option SystemId) → Type 0
 AreTold claims owners = (i : ℕ) (c : Claim) → slice_get claims i ≡ Some c → filter (λ s. not (is_several (owner_at owners s.prefix))) c.subs ≡ own_subs claims c
 
--- the node of a system with all places in sub-domains that it tells
+-- the node of a system with all memberships of sub-domains that it advertises
 abbrev pub whole_node : List ViewEdge → Claim → ViewNode
 whole_node edges c = record { system = c.system; overload = c.overload; edges = edges; subs = c.subs }
 
--- a node with the places alone whose prefix isn't one of several systems there
+-- a node with only the memberships whose prefix does not belong to several systems there
 abbrev pub alone_node : BTreeMap Ipv4 (Option SystemId) → ViewNode → ViewNode
 alone_node owners n = record n { subs = filter (λ s. not (is_several (owner_at owners s.prefix))) n.subs }
 

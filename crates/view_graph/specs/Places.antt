@@ -1,4 +1,4 @@
--- Words of the code on claims.
+-- Definitions for the code about claims.
 use Rattle.std.specs.Prelude.{◌≡◌, ℕ, suc, Bool, List, [], ◌∷◌, ◌++◌, ◌==◌, ◌&&◌, nat_lt, if◌then◌else◌}
 use Rattle.std.specs.List.{flat_map, list_any}
 use Rattle.std.specs.Ordering.{is_lt}
@@ -9,7 +9,7 @@ use Rattle.wire_base.specs.model.Control.{system_order}
 use Rattle.wire_base.specs.model.Tlv.{Tlv}
 use Rattle.wire_base.specs.model.View.{Claim, is_overload_flag, links_in, subs_in}
 
--- how many claims stand before the first whose system is above this one
+-- how many claims precede the first whose system is above this one
 abbrev pub place_before : SystemId → List Claim → ℕ
 place_before s [] = 0
 place_before s (c ∷ cs) = if is_lt (system_order s c.system) then 0 else suc (place_before s cs)
@@ -18,14 +18,14 @@ place_before s (c ∷ cs) = if is_lt (system_order s c.system) then 0 else suc (
 abbrev pub has_sd : ℕ → List ViewSub → Bool
 has_sd sd subs = list_any (λ s. s.sd == sd) subs
 
--- what a claim is once those TLVs were added to it
+-- a claim after those TLVs were added to it
 pub record IsWith (tlvs : List Tlv) (before now : Claim) : Type 0 where
   pub system : now.system ≡ before.system
   pub overload : now.overload ≡ before.overload
   pub links : now.links ≡ before.links ++ flat_map links_in tlvs
   pub subs : now.subs ≡ before.subs ++ flat_map subs_in tlvs
 
--- what a claim is while all those TLVs are added to it and the rest is left
+-- a claim while all those TLVs are being added to it and the rest is left
 pub record IsAdding (rest all : List Tlv) (before now : Claim) : Type 0 where
   pub system : now.system ≡ before.system
   pub overload : now.overload ≡ before.overload
@@ -41,6 +41,6 @@ abbrev pub Begins : SystemId → List Entry → Type 0
 Begins s [] = Unit {0}
 Begins s (e ∷ es) = e.id.system ≡ s
 
--- a claim of the system of a fragment 0, to which nothing was added
+-- an empty claim of the system of a fragment 0
 abbrev pub bare_claim : Entry → Claim
 bare_claim e = record { system = e.id.system; overload = is_overload_flag e.flags; links = []; subs = [] }

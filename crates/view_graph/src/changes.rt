@@ -1,4 +1,4 @@
-//! The places of the nodes that may be other ones, where systems say something else.
+//! The indices of the nodes that may change when systems advertise something new.
 ghost use Rattle.std.specs.Prelude.{◌≡◌, ◌≤◌, ◌∷◌, ℕ, true, false, length, Option, Some, IfOk, IfSome, OnOk};
 ghost use Rattle.wire_base.specs.model.Control.{AreAscending, ids_of};
 ghost use Rattle.wire_base.specs.model.View.{Claim as ClaimItem};
@@ -18,7 +18,7 @@ fn has(places: &[usize], place: usize) -> bool
     places.iter().any(|p| *p == place)
 }
 
-/// Adds a place that isn't there.
+/// Adds an index that is not in the list yet.
 fn add_place(places: &mut Vec<usize>, place: usize) -> M<()>
     ensures { OnOk result (IsAdded place places.old.items places.new.items) }
 {
@@ -29,7 +29,7 @@ fn add_place(places: &mut Vec<usize>, place: usize) -> M<()>
     Ok(())
 }
 
-/// Adds the places that these edges lead to and those don't.
+/// Adds the indices that exactly one of two edge lists leads to: those of `edges` that are not in `others`.
 fn add_ends(places: &mut Vec<usize>, edges: &[ViewEdge], others: &[ViewEdge]) -> M<()>
     ensures stays { OnOk result (Stays places.old.items places.new.items) }
     ensures ends { OnOk result ((i : ℕ) → leads_to i edges.now ≡ true → has places.new.items i ≡ false → leads_to i others.now ≡ true) }
@@ -42,7 +42,7 @@ fn add_ends(places: &mut Vec<usize>, edges: &[ViewEdge], others: &[ViewEdge]) ->
     Ok(())
 }
 
-/// Whether a node has all edges that its system lists, and no others, and has its overload bit set where it says so.
+/// Returns whether a node has exactly the edges that its system lists, and the overload bit that its system advertises.
 fn is_as_listed(node: &ViewNode, claim: &Claim, halves: &[ViewEdge]) -> bool
     ensures { result ≡ true → (node.now.overload ≡ claim.now.overload) × (node.now.edges ≡ halves.now) }
 {
@@ -50,7 +50,7 @@ fn is_as_listed(node: &ViewNode, claim: &Claim, halves: &[ViewEdge]) -> bool
     node.overload == claim.overload && are_same
 }
 
-/// Adds the place of a node, unless it is as its system lists itself, and the places of the systems to which one of its
+/// Adds the index of a node, unless it matches what its system lists, and the indices of the systems to which either one of its
 /// edges leads or its links now lead, but not both.
 fn add_all(
     places: &mut Vec<usize>,
@@ -69,7 +69,7 @@ fn add_all(
     add_unlike(places, place, node, claim, halves.as_slice())
 }
 
-/// The same by the edges that the system lists.
+/// The same, by the edges that the system lists.
 fn add_unlike(
     places: &mut Vec<usize>,
     place: usize,
@@ -89,8 +89,8 @@ fn add_unlike(
     add_place(places, place)
 }
 
-/// Adds the places of the nodes that may be other ones for what a system says now. False where that cannot be told: where
-/// the system has no node or says nothing, or tells other places in sub-domains than its node has.
+/// Adds the indices of the nodes that may change because of what a system advertises now. Returns false if that cannot be
+/// determined: if the system has no node or advertises nothing, or advertises other sub-domains than its node has.
 fn add_changed(
     places: &mut Vec<usize>,
     nodes: &[ViewNode],
@@ -112,7 +112,7 @@ fn add_changed(
     add_said(places, nodes, system, &claim)
 }
 
-/// The same by what the system says.
+/// The same, by what the system advertises.
 fn add_said(
     places: &mut Vec<usize>,
     nodes: &[ViewNode],
@@ -136,8 +136,8 @@ fn add_said(
     Ok(true)
 }
 
-/// The places of the nodes that may be other ones for what the router and those systems say now. None where that cannot be
-/// told.
+/// Returns the indices of the nodes that may change because of what the router and those systems advertise now. None if that
+/// cannot be determined.
 pub(crate) fn changed_places(
     nodes: &[ViewNode],
     conf: &RouterConf,

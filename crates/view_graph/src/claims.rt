@@ -1,4 +1,4 @@
-//! What each system claims of itself: its links, and its places in sub-domains.
+//! What each system advertises: its links, and its memberships of sub-domains.
 ghost use Rattle.std.specs.Prelude.{◌≡◌, ◌++◌, ◌≤◌, ◌∷◌, [], true, map, filter, length, IfOk, OnOk, if◌then◌else◌};
 ghost use Rattle.std.specs.List.{flat_map};
 ghost use Rattle.wire_base.specs.model.Control.{AreAscending, ids_of, same_system, system_order};
@@ -23,7 +23,8 @@ use wire_base::{
     kind_of,
 };
 
-/// A system: whether it has its overload bit set, its links, and its places in sub-domains, in the order of its LSPs.
+/// The advertisement of a system: whether it has its overload bit set, its links, and its memberships of sub-domains, in the
+/// order of its LSPs.
 #[derive(Drop)]
 pub(crate) struct Claim {
     pub(crate) system: SystemId,
@@ -51,7 +52,7 @@ fn no_claim(alloc: Global, system: SystemId, overload: bool) -> Claim
     }
 }
 
-/// Adds what a TLV says.
+/// Adds the content of a TLV.
 fn add_tlv(claim: &mut Claim, tlv: Tlv<'_>) -> M<()>
     ensures links { OnOk result (claim.new.links ≡ claim.old.links ++ links_in (item tlv.entry)) }
     ensures subs { OnOk result (claim.new.subs ≡ claim.old.subs ++ subs_in (item tlv.entry)) }
@@ -65,7 +66,7 @@ fn add_tlv(claim: &mut Claim, tlv: Tlv<'_>) -> M<()>
     }
 }
 
-/// Adds what a fragment says, to its end or to an overrun.
+/// Adds the content of a fragment, to its end or to an overrun.
 fn add_content(claim: &mut Claim, content: &[u8]) -> M<()>
     ensures links { OnOk result (claim.new.links ≡ claim.old.links ++ flat_map links_in (tlvs_before content.now)) }
     ensures subs { OnOk result (claim.new.subs ≡ claim.old.subs ++ flat_map subs_in (tlvs_before content.now)) }
@@ -80,21 +81,21 @@ fn add_content(claim: &mut Claim, content: &[u8]) -> M<()>
     Ok(())
 }
 
-/// Whether an entry is one of that system, or of one of its pseudonodes.
+/// Returns whether an entry belongs to that system or to one of its pseudonodes.
 fn is_of(system: &SystemId, entry: &Entry) -> bool
     ensures { result ≡ same_system entry.now.id.system system.now }
 {
     entry.id.system == *system
 }
 
-/// Whether an entry is a live fragment of a system itself, not of one of its pseudonodes.
+/// Returns whether an entry is a live fragment of a router itself, not of one of its pseudonodes.
 fn is_live_part(entry: &Entry) -> bool
     ensures { result ≡ is_live_part entry.now }
 {
     entry.id.pseudonode == 0 && entry.life > 0
 }
 
-/// Adds what an entry of its system says, where it is such a fragment.
+/// Adds the content of an entry of its system, if it is such a fragment.
 #[tactic(auto, using(crate::proofs::FragmentLaws::part_is_live))]
 fn add_entry(claim: &mut Claim, entry: &Entry) -> M<()>
     requires { same_system entry.now.id.system claim.old.system ≡ true }
@@ -110,7 +111,7 @@ fn add_entry(claim: &mut Claim, entry: &Entry) -> M<()>
     }
 }
 
-/// Adds what the fragments of its system say. Entries ascend, and the first is one of them, so the first entry of another
+/// Adds the content of the fragments of its system. Entries ascend, and the first is one of them, so the first entry of another
 /// system ends them.
 fn add_fragments(claim: &mut Claim, entries: &[Entry]) -> M<()>
     requires ascending { AreAscending (ids_of entries.now) }
@@ -129,14 +130,14 @@ fn add_fragments(claim: &mut Claim, entries: &[Entry]) -> M<()>
     Ok(())
 }
 
-/// A claim of the system of a fragment 0, to which nothing was added; it has its overload bit set where that fragment says so.
+/// Returns an empty claim of the system of a fragment 0; its overload bit is the one in that fragment.
 fn bare_claim(alloc: Global, entry: &Entry) -> Claim
     ensures { result ≡ bare_claim entry.now }
 {
     no_claim(alloc, entry.id.system, entry.flags / 4 % 2 == 1)
 }
 
-/// What the system of a fragment 0 claims, by the entries from that one on.
+/// Returns what the system of a fragment 0 advertises, by the entries from that one on.
 pub(crate) fn claim_of(alloc: Global, entries: &[Entry], entry: &Entry) -> M<Claim>
     requires ascending { AreAscending (ids_of entries.now) }
     requires begins { Begins entry.now.id.system entries.now }
@@ -147,7 +148,7 @@ pub(crate) fn claim_of(alloc: Global, entries: &[Entry], entry: &Entry) -> M<Cla
     Ok(claim)
 }
 
-/// A claim with the places alone that count by what the router knows of sub-domains.
+/// Returns a claim with only the memberships that count, given the sub-domains that the router knows.
 pub(crate) fn with_known(kinds: &[SubKind], mut claim: Claim) -> M<Claim>
     ensures { IfOk result (λ c. c ≡ with_known kinds.now claim) }
 {
@@ -155,7 +156,7 @@ pub(crate) fn with_known(kinds: &[SubKind], mut claim: Claim) -> M<Claim>
     Ok(claim)
 }
 
-/// The links over the ends that are up.
+/// Returns the links of the interfaces that are up.
 fn own_links(alloc: Global, up: &[bool], ends: &[End]) -> M<LinkList>
     requires { length up.now ≡ length ends.now }
     ensures { IfOk result (λ links. links ≡ map end_link (picked up.now ends.now)) }
@@ -182,7 +183,7 @@ fn append_end(links: &mut LinkList, is_up: bool, end: &End) -> M<()>
     }
 }
 
-/// The label ranges of a sub-domain that gives its BIFT-ids by labels; none of another.
+/// Returns the label ranges of an MPLS sub-domain; none for another one.
 fn own_ranges(kinds: &[SubKind], sub: &OwnSub) -> M<RangeList>
     ensures { IfOk result (λ ranges. ranges ≡ (info_of kinds.now sub.now).ranges) }
 {
@@ -193,7 +194,7 @@ fn own_ranges(kinds: &[SubKind], sub: &OwnSub) -> M<RangeList>
     }
 }
 
-/// One of the router's own places in sub-domains.
+/// Returns one of the router's own memberships.
 fn own_sub(conf: &RouterConf, sub: &OwnSub) -> M<ViewSub>
     ensures { IfOk result (λ s. s ≡ sub_of conf.now.prefix.0 (info_of conf.now.kinds sub.now)) }
 {
@@ -205,7 +206,7 @@ fn own_sub(conf: &RouterConf, sub: &OwnSub) -> M<ViewSub>
     })
 }
 
-/// The router's own places in sub-domains.
+/// Returns the router's own memberships of sub-domains.
 fn own_subs(alloc: Global, conf: &RouterConf) -> M<SubList>
     ensures { IfOk result (λ subs. subs ≡ map (λ s. sub_of conf.now.prefix.0 (info_of conf.now.kinds s)) conf.now.subs) }
 {
@@ -216,7 +217,7 @@ fn own_subs(alloc: Global, conf: &RouterConf) -> M<SubList>
     Ok(subs)
 }
 
-/// What the router claims: by its configuration and its ends that are up.
+/// Returns what the router itself contributes, by its configuration and its interfaces that are up.
 pub(crate) fn own_claim(alloc: Global, conf: &RouterConf, up: &[bool]) -> M<Claim>
     requires { length up.now ≡ length conf.now.ends }
     ensures { IfOk result (λ c. c ≡ own_claim conf.now up.now) }
@@ -229,14 +230,14 @@ pub(crate) fn own_claim(alloc: Global, conf: &RouterConf, up: &[bool]) -> M<Clai
     })
 }
 
-/// A live fragment 0 of another system.
+/// Returns whether an entry is a live fragment 0 of another system.
 fn is_other(own: &SystemId, entry: &Entry) -> bool
     ensures { result ≡ is_other own.now entry.now }
 {
     entry.id.system != *own && entry.id.pseudonode == 0 && entry.id.fragment == 0 && entry.life > 0
 }
 
-/// Fills a claim to which nothing was added, with the places alone that count by what the router knows of sub-domains.
+/// Fills an empty claim, with only the memberships that count, given the sub-domains that the router knows.
 fn fill(claim: &mut Claim, kinds: &[SubKind], entries: &[Entry], entry: &Entry) -> M<()>
     requires ascending { AreAscending (ids_of entries.now) }
     requires begins { Begins entry.now.id.system entries.now }
@@ -247,7 +248,7 @@ fn fill(claim: &mut Claim, kinds: &[SubKind], entries: &[Entry], entry: &Entry) 
     keep_known(kinds, &mut claim.subs)
 }
 
-/// Appends what the system of a fragment 0 claims, by the entries from that one on. It is filled in its place, since a claim
+/// Appends what the system of a fragment 0 advertises, by the entries from that one on. It is filled in place, since a claim
 /// is large and each view has one for every system.
 fn push_claim(claims: &mut Vec<Claim>, kinds: &[SubKind], entries: &[Entry], entry: &Entry) -> M<()>
     requires ascending { AreAscending (ids_of entries.now) }
@@ -260,7 +261,7 @@ fn push_claim(claims: &mut Vec<Claim>, kinds: &[SubKind], entries: &[Entry], ent
     Ok(())
 }
 
-/// What all other systems claim, in the order of their entries. A system's fragments stand from its fragment 0 on.
+/// Returns what all other systems advertise, in the order of their entries. A system's fragments begin with its fragment 0.
 fn other_claims(alloc: Global, conf: &RouterConf, entries: &[Entry]) -> M<Vec<Claim>>
     requires { AreAscending (ids_of entries.now) }
     ensures { IfOk result (λ claims. claims.items ≡ map (with_known conf.now.kinds) (map (claim_of entries.now) (filter (is_other conf.now.system) entries.now))) }
@@ -282,7 +283,7 @@ fn is_before(a: &SystemId, b: &SystemId) -> bool
     is_system_above(*b, *a)
 }
 
-/// How many claims stand before the first whose system is above this one.
+/// Returns the number of claims before the first whose system ID is greater.
 fn place_of(claims: &[Claim], system: &SystemId) -> usize
     ensures within { result ≤ length claims.now }
     ensures place { result ≡ place_before system.now claims.now }
@@ -296,7 +297,7 @@ fn place_of(claims: &[Claim], system: &SystemId) -> usize
     claims.len()
 }
 
-/// What all systems claim, in the order of their systems.
+/// Returns what all systems advertise, in the order of their system IDs.
 #[tactic(auto, unfolding(wire_base::specs::model::View::claims_of))]
 pub(crate) fn claims_of(
     alloc: Global,

@@ -1,4 +1,4 @@
-//! Which links count: those that both systems list.
+//! The links that count: those that both systems list (two-way connectivity check).
 ghost use Rattle.std.specs.Prelude.{◌≡◌, ◌≤◌, ◌<◌, List, [], ◌∷◌, true, length, drop, map, IfOk, OnOk, slice_index_or, ◌++◌};
 ghost use Rattle.std.specs.List.{list_all};
 ghost use Rattle.std.specs.Ordering.{is_gt};
@@ -19,7 +19,7 @@ pub(crate) fn is_above(a: &SystemId, b: &SystemId) -> bool
     is_system_above(*a, *b)
 }
 
-/// The number of the system of each claim, so that two systems are compared at once.
+/// Returns the system ID of each claim as a number, so that two of them are compared at once.
 fn keys_of(alloc: Global, claims: &[Claim]) -> M<Vec<u64>>
     ensures { IfOk result (λ keys. AreKeys keys.items claims.now) }
 {
@@ -30,7 +30,7 @@ fn keys_of(alloc: Global, claims: &[Claim]) -> M<Vec<u64>>
     Ok(keys)
 }
 
-/// How many claims are of systems below the one of that number, by halving.
+/// Returns the number of claims with a smaller system ID, by binary search.
 fn place_in(claims: &[Claim], keys: &[u64], key: u64) -> usize
     requires order { AreInOrder claims.now }
     requires keys { AreKeys keys.now claims.now }
@@ -50,14 +50,14 @@ fn place_in(claims: &[Claim], keys: &[u64], key: u64) -> usize
     low
 }
 
-/// Whether that number stands at a place.
+/// Returns whether that number is at an index.
 fn is_number_at(keys: &[u64], place: usize, key: u64) -> bool
     ensures { result ≡ is_number_at keys.now place key }
 {
     place < keys.len() && keys[place] == key
 }
 
-/// Where a number stands if the numbers up to it follow one another, as those of systems often do.
+/// Guesses the index of a number: it is right if the numbers up to it are consecutive, as system IDs often are.
 fn guess_of(keys: &[u64], key: u64) -> usize {
     match keys.first() {
         Some(first) => key.saturating_sub(*first) as usize,
@@ -65,7 +65,7 @@ fn guess_of(keys: &[u64], key: u64) -> usize {
     }
 }
 
-/// The same as by halving, which a right guess saves.
+/// Returns the same as the binary search, which a right guess avoids.
 fn find(claims: &[Claim], keys: &[u64], key: u64) -> usize
     requires order { AreInOrder claims.now }
     requires keys { AreKeys keys.now claims.now }
@@ -78,7 +78,7 @@ fn find(claims: &[Claim], keys: &[u64], key: u64) -> usize
     place_in(claims, keys, key)
 }
 
-/// How many edges lead to a place before that one.
+/// Returns the number of edges that lead to an index below that one.
 fn edge_place(edges: &[ViewEdge], to: u16) -> usize
     ensures within { result ≤ length edges.now }
     ensures place { result ≡ edge_place to edges.now }
@@ -97,7 +97,7 @@ fn leads_at(edges: &[ViewEdge], place: usize, to: u16) -> bool
     place < edges.len() && edges[place].to == to
 }
 
-/// Adds an edge at its place; of two to one system the lesser metric stays.
+/// Inserts an edge in order. Of two edges to one system, the lesser metric is kept.
 pub(crate) fn put_edge(edges: &mut EdgeList, to: u16, metric: u32) -> M<()>
     ensures { OnOk result (edges.new ≡ put_edge to metric edges.old) }
 {
@@ -117,7 +117,7 @@ pub(crate) fn put_edge(edges: &mut EdgeList, to: u16, metric: u32) -> M<()>
     Ok(())
 }
 
-/// Adds the edge of one link more, where the system that it leads to is known.
+/// Adds the edge of one more link, if the system that it leads to is known.
 fn count(claims: &[Claim], keys: &[u64], edges: &mut EdgeList, link: &Link) -> M<()>
     requires order { AreInOrder claims.now }
     requires keys { AreKeys keys.now claims.now }
@@ -133,7 +133,7 @@ fn count(claims: &[Claim], keys: &[u64], edges: &mut EdgeList, link: &Link) -> M
     Ok(())
 }
 
-/// Fills an empty list with the edges that a system lists itself, in the order of the systems that they lead to.
+/// Fills an empty list with the edges that a system itself lists, in the order of the systems that they lead to.
 fn fill_half_edges(edges: &mut EdgeList, claims: &[Claim], keys: &[u64], links: &[Link]) -> M<()>
     requires order { AreInOrder claims.now }
     requires keys { AreKeys keys.now claims.now }
@@ -147,7 +147,7 @@ fn fill_half_edges(edges: &mut EdgeList, claims: &[Claim], keys: &[u64], links: 
     Ok(())
 }
 
-/// Appends the list of those edges, which is filled in its place.
+/// Appends the list of those edges, which is filled in place.
 fn push_half_edges(
     halves: &mut Vec<EdgeList>,
     claims: &[Claim],
@@ -165,7 +165,7 @@ fn push_half_edges(
     Ok(())
 }
 
-/// For each system the edges that it lists itself, in the order of the systems that they lead to.
+/// Returns for each system the edges that it lists itself, in the order of the systems that they lead to.
 pub(crate) fn all_half_edges(alloc: Global, claims: &[Claim]) -> M<Vec<EdgeList>>
     requires order { AreInOrder claims.now }
     requires few { length claims.now ≤ 65536 }
@@ -175,7 +175,7 @@ pub(crate) fn all_half_edges(alloc: Global, claims: &[Claim]) -> M<Vec<EdgeList>
     half_edges_by(alloc, claims, keys.as_slice())
 }
 
-/// The same by the numbers of the systems.
+/// The same, by the system IDs as numbers.
 fn half_edges_by(alloc: Global, claims: &[Claim], keys: &[u64]) -> M<Vec<EdgeList>>
     requires order { AreInOrder claims.now }
     requires keys { AreKeys keys.now claims.now }
@@ -195,7 +195,7 @@ pub(crate) fn leads_to(place: u16, edges: &[ViewEdge]) -> bool
     edges.iter().any(|edge| edge.to == place)
 }
 
-/// Whether the systems at the other ends of the edges that a system lists list them too.
+/// Returns whether all systems that a system lists also list it.
 fn lead_back(halves: &[EdgeList], place: u16) -> bool
     ensures { result ≡ list_all (λ e. leads_to place (slice_index_or halves.now e.to [])) (slice_index_or halves.now place []) }
 {
@@ -204,7 +204,7 @@ fn lead_back(halves: &[EdgeList], place: u16) -> bool
         .all(|edge| leads_to(place, halves_at(halves, edge.to)))
 }
 
-/// Whether that is so of all systems.
+/// Returns whether that holds for all systems.
 fn all_lead_back(halves: &[EdgeList]) -> bool
     requires few { length halves.now ≤ 65536 }
     ensures { result ≡ true → AreWhole halves.now halves.now }
@@ -217,8 +217,8 @@ fn all_lead_back(halves: &[EdgeList]) -> bool
     true
 }
 
-/// For each system the edges that the systems at their other ends list too. Once an LSDB is settled these are all that it
-/// lists, and its list is taken as it is.
+/// Returns for each system those of its edges that the other side lists too. In a settled LSDB these are all of its edges, and
+/// its list is used as it is.
 pub(crate) fn all_whole_edges(alloc: Global, halves: Vec<EdgeList>) -> M<Vec<EdgeList>>
     requires few { length halves.items ≤ 65536 }
     ensures { IfOk result (λ edges. AreWhole halves.items edges.items) }
@@ -229,7 +229,7 @@ pub(crate) fn all_whole_edges(alloc: Global, halves: Vec<EdgeList>) -> M<Vec<Edg
     whole_copies(alloc, halves.as_slice())
 }
 
-/// The same in lists of their own.
+/// The same in new lists.
 fn whole_copies(alloc: Global, halves: &[EdgeList]) -> M<Vec<EdgeList>>
     requires few { length halves.now ≤ 65536 }
     ensures { IfOk result (λ edges. AreWhole halves.now edges.items) }
@@ -241,7 +241,7 @@ fn whole_copies(alloc: Global, halves: &[EdgeList]) -> M<Vec<EdgeList>>
     Ok(edges)
 }
 
-/// The edges of a system that the systems at their other ends list too.
+/// Returns the edges of a system that the other side lists too.
 fn whole_edges(alloc: Global, halves: &[EdgeList], place: u16) -> M<EdgeList>
     ensures { IfOk result (λ edges. edges ≡ whole_edges halves.now place) }
 {

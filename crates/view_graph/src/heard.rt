@@ -1,4 +1,4 @@
-//! What a system says in an LSDB.
+//! What a system advertises in an LSDB.
 ghost use Rattle.std.specs.Prelude.{◌≡◌, IfOk};
 ghost use Rattle.wire_base.specs.model.Control.{AreAscending, ids_of};
 ghost use Rattle.view_graph.specs.Keep.{is_first_of, said_in};
@@ -8,7 +8,7 @@ use lsp_store::place_of;
 use std::alloc::Global;
 use wire_base::{Entry, LspId, M, SubKind, SystemId};
 
-/// A live fragment 0 of a system.
+/// Returns whether an entry is a live fragment 0 of a system.
 fn is_first_of(system: &SystemId, entry: &Entry) -> bool
     ensures { result ≡ is_first_of system.now entry.now }
 {
@@ -18,7 +18,7 @@ fn is_first_of(system: &SystemId, entry: &Entry) -> bool
         && entry.life > 0
 }
 
-/// What a system says in an LSDB. None where it has no live fragment 0.
+/// Returns what a system advertises in an LSDB. None if it has no live fragment 0.
 pub(crate) fn said_in(
     alloc: Global,
     kinds: &[SubKind],

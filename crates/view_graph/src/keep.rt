@@ -1,4 +1,4 @@
-//! A view that is kept, and renewed where systems changed.
+//! A topology that is kept, and updated when systems change.
 ghost use Rattle.std.specs.Prelude.{◌≡◌, ◌↔◌, ◌≤◌, ◌<◌, length, map, true, false, IfOk, OnOk, OnErr};
 ghost use Rattle.std.specs.List.{AllByRecursion};
 ghost use Rattle.wire_base.specs.model.Configuration.{IsSound};
@@ -20,18 +20,18 @@ use std::alloc::Global;
 use std::marker::Model;
 use wire_base::{Entry, M, RouterConf, Rows, SubKind, SystemId, View};
 
-/// The view of a router, which is renewed without reading the whole LSDB: a renewal reads what the systems that changed
-/// say, and those that they list.
+/// The topology of a router, which is updated without reading the whole LSDB: an update reads what the changed systems advertise,
+/// and what the systems that they list advertise.
 ///
-/// Contracts see the view, the router's system and kinds of sub-domains, and for each other system with a live fragment 0
-/// what its LSPs say: whether it has its overload bit set, its links before both ends are compared, and its places in sub-domains before
-/// prefixes of two systems are compared.
+/// Contracts model it as the topology, the router's system ID and kinds of sub-domains, and what the LSPs of each other system
+/// with a live fragment 0 contain: its overload bit, its links before the two-way connectivity check, and its memberships of
+/// sub-domains before prefixes of two systems are compared.
 #[derive(Drop)]
 pub struct ViewKeep {
     system: SystemId,
     kinds: Rows<SubKind>,
     others: Others,
-    /// Whether no node lacks a place in a sub-domain because another system has its prefix.
+    /// Whether no node lacks a membership because another system has its prefix.
     is_whole: bool,
     view: View,
 }
@@ -46,7 +46,7 @@ impl Model for ViewKeep {
     ghost invariant = { λ k. IsKept k.system k.others.claims k.is_whole k.view.nodes };
 }
 
-/// What all systems claim.
+/// Builds the topology from what all systems advertise.
 #[tactic(auto, using(crate::proofs::GraphLaws::claims_in_order, crate::proofs::GraphLaws::few_claims, crate::proofs::KeepLaws::heard_is))]
 fn all_claims(alloc: Global, conf: &RouterConf, up: &[bool], entries: &[Entry]) -> M<Vec<Claim>>
     requires one_each { length up.now ≡ length conf.now.ends }
@@ -59,7 +59,7 @@ fn all_claims(alloc: Global, conf: &RouterConf, up: &[bool], entries: &[Entry]) 
     claims_of(alloc, conf, up, entries)
 }
 
-/// Puts nodes made anew in their places. Takes no memory.
+/// Replaces nodes by rebuilt ones. Does not allocate.
 fn turn(view: &mut View, anew: Vec<NewNode>)
     requires within { AllByRecursion (λ n. n.place < length view.old.nodes) anew.items }
     requires graph { IsGraph (put_all anew.items view.old.nodes) }
@@ -69,7 +69,7 @@ fn turn(view: &mut View, anew: Vec<NewNode>)
 }
 
 impl ViewKeep {
-    /// The view by a configuration, which of its ends are up, one truth value for each end, and an LSDB.
+    /// Builds the topology from a configuration, a truth value for each interface (whether it is up), and an LSDB.
     #[tactic(auto, unfolding(wire_base::specs::model::View::view_of), using(crate::proofs::ViewLaws::made_graph))]
     pub fn new(alloc: Global, conf: &RouterConf, up: &[bool], store: &Store) -> M<ViewKeep>
         requires one_each { length up.now ≡ length conf.now.ends }
@@ -90,9 +90,9 @@ impl ViewKeep {
         })
     }
 
-    /// Renews the view by a configuration of the same system and kinds of sub-domains, by its ends that are up and by a
-    /// LSDB. `changed` names each other system of which the LSDB says something else than what is kept; systems of
-    /// which it says the same may be named too. True exactly where the view changed. After Memory all is as before.
+    /// Updates the topology for a configuration of the same system and kinds of sub-domains, for its interfaces that are up and an
+    /// LSDB. `changed` must name each other system that advertises something new in the LSDB; unchanged systems may be named too.
+    /// Returns true exactly where the topology changed. After Memory the topology is unchanged.
     pub fn renew(
         &mut self,
         conf: &RouterConf,
@@ -125,7 +125,7 @@ impl ViewKeep {
         Ok(!are_same)
     }
 
-    /// The same from nothing.
+    /// The same, by building everything again.
     fn make_anew(&mut self, conf: &RouterConf, up: &[bool], store: &Store) -> M<bool>
         requires one_each { length up.now ≡ length conf.now.ends }
         requires sound { IsSound conf.now }
@@ -142,7 +142,7 @@ impl ViewKeep {
         Ok(!is_same)
     }
 
-    /// The view. Takes no memory.
+    /// Returns the topology. Does not allocate.
     pub fn view(&self) -> &View
         ensures { result.now.nodes ≡ self.now.nodes }
     {

@@ -1,4 +1,4 @@
-//! Which places in sub-domains count.
+//! Which memberships of sub-domains count.
 ghost use Rattle.std.specs.Prelude.{◌≡◌, ◌&&◌, ◌++◌, ◌∷◌, [], true, false, not, is_some, filter, IfOk, OnOk, if◌then◌else◌};
 ghost use Rattle.std.specs.List.{list_any};
 ghost use Rattle.std.specs.Str.{bytes_eq};
@@ -15,7 +15,7 @@ use std::alloc::Global;
 use std::collections::BTreeMap;
 use wire_base::{Ipv4, LabelRange, M, SubKind, SubList, SystemId, ViewNode, ViewSub, kind_of};
 
-/// Whether two label ranges of a system share a label.
+/// Returns whether two label ranges of a system share a label.
 fn any_overlap(alloc: Global, subs: &[ViewSub]) -> M<bool>
     ensures { IfOk result (λ b. b ≡ any_overlap (all_ranges subs.now)) }
 {
@@ -23,7 +23,7 @@ fn any_overlap(alloc: Global, subs: &[ViewSub]) -> M<bool>
     Ok(overlaps(ranges.as_slice()))
 }
 
-/// The label ranges of all places of a system.
+/// Returns the label ranges of all memberships of a system.
 fn all_ranges(alloc: Global, subs: &[ViewSub]) -> M<Vec<LabelRange>>
     ensures { IfOk result (λ ranges. ranges.items ≡ all_ranges subs.now) }
 {
@@ -40,7 +40,7 @@ fn has_sd(subs: &[ViewSub], sd: u8) -> bool
     subs.iter().any(|sub| sub.sd == sd)
 }
 
-/// An equal one.
+/// Returns an equal membership.
 fn copy_of(sub: &ViewSub) -> M<ViewSub>
     ensures { IfOk result (λ s. s ≡ sub.now) }
 {
@@ -58,7 +58,7 @@ fn push_copy(copied: &mut SubList, sub: &ViewSub) -> M<()>
     copied.push(copy_of(sub)?)
 }
 
-/// Equal ones.
+/// Returns equal memberships.
 pub(crate) fn copy_subs(alloc: Global, subs: &[ViewSub]) -> M<SubList>
     ensures { IfOk result (λ copied. copied ≡ subs.now) }
 {
@@ -69,7 +69,7 @@ pub(crate) fn copy_subs(alloc: Global, subs: &[ViewSub]) -> M<SubList>
     Ok(copied)
 }
 
-/// Whether the place is in a sub-domain that the router knows, and the first there.
+/// Returns whether the membership is in a sub-domain that the router knows, and the first there.
 fn is_first_known(kinds: &[SubKind], kept: &[ViewSub], sub: &ViewSub) -> bool
     ensures { result ≡ (is_some (kind_of kinds.now sub.now.sd) && not (has_sd sub.now.sd kept.now)) }
 {
@@ -86,7 +86,7 @@ fn keep_first(kept: &mut SubList, kinds: &[SubKind], sub: &ViewSub) -> M<()>
     }
 }
 
-/// Whether each place is the first in its sub-domain, and the router knows that one.
+/// Returns whether each membership is the first in its sub-domain, and the router knows the sub-domain.
 fn are_first_known(kinds: &[SubKind], subs: &[ViewSub]) -> bool
     ensures { result ≡ true → first_each (filter (λ s. is_some (kind_of kinds.now s.sd)) subs.now) ≡ subs.now }
 {
@@ -98,7 +98,7 @@ fn are_first_known(kinds: &[SubKind], subs: &[ViewSub]) -> bool
     true
 }
 
-/// The first place in each sub-domain that the router knows.
+/// Returns the first membership in each sub-domain that the router knows.
 fn first_known(alloc: Global, kinds: &[SubKind], subs: &[ViewSub]) -> M<SubList>
     ensures { IfOk result (λ kept. kept ≡ first_each (filter (λ s. is_some (kind_of kinds.now s.sd)) subs.now)) }
 {
@@ -109,7 +109,7 @@ fn first_known(alloc: Global, kinds: &[SubKind], subs: &[ViewSub]) -> M<SubList>
     Ok(kept)
 }
 
-/// Whether there is one place at most and it counts, as of most systems.
+/// Returns whether there is at most one membership and it counts, as for most systems.
 fn does_one_count(kinds: &[SubKind], subs: &[ViewSub]) -> bool
     ensures { result ≡ true → known_subs kinds.now subs.now ≡ subs.now }
 {
@@ -120,8 +120,8 @@ fn does_one_count(kinds: &[SubKind], subs: &[ViewSub]) -> bool
     }
 }
 
-/// Keeps the places that count by what the router knows of sub-domains: none where two label ranges of the system share a
-/// label, else the first in each sub-domain that is known.
+/// Keeps only the memberships that count, given the sub-domains that the router knows: none if two label ranges of the system
+/// share a label, otherwise the first in each known sub-domain.
 pub(crate) fn keep_known(kinds: &[SubKind], subs: &mut SubList) -> M<()>
     ensures { OnOk result (subs.new ≡ known_subs kinds.now subs.old) }
 {
@@ -131,7 +131,7 @@ pub(crate) fn keep_known(kinds: &[SubKind], subs: &mut SubList) -> M<()>
     keep_known_of_several(kinds, subs)
 }
 
-/// The same, however many there are.
+/// The same, for any number of memberships.
 #[tactic(auto, using(crate::proofs::ListLaws::known_overlap, crate::proofs::ListLaws::known_apart))]
 fn keep_known_of_several(kinds: &[SubKind], subs: &mut SubList) -> M<()>
     ensures { OnOk result (subs.new ≡ known_subs kinds.now subs.old) }
@@ -147,7 +147,7 @@ fn keep_known_of_several(kinds: &[SubKind], subs: &mut SubList) -> M<()>
     Ok(())
 }
 
-/// Keeps the places of a node whose prefix is no other system's, by the systems that have the prefixes.
+/// Keeps only the memberships of a node whose prefix no other system has, given the owners of the prefixes.
 pub(crate) fn keep_alone(owners: &BTreeMap<Ipv4, Option<SystemId>>, node: &mut ViewNode) -> M<()>
     ensures { OnOk result (node.new ≡ alone_node owners.now node.old) }
 {
@@ -157,7 +157,7 @@ pub(crate) fn keep_alone(owners: &BTreeMap<Ipv4, Option<SystemId>>, node: &mut V
     Ok(())
 }
 
-/// Whether one of those prefixes is one of several systems.
+/// Returns whether one of those prefixes belongs to several systems.
 fn one_of_several(owners: &BTreeMap<Ipv4, Option<SystemId>>, subs: &[ViewSub]) -> bool
     ensures { result ≡ list_any (λ s. is_several (owner_at owners.now s.prefix)) subs.now }
 {

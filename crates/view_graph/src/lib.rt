@@ -1,7 +1,7 @@
-//! The view of a router: the nodes and edges that its configuration, its ends that are up and its LSDB make up
+//! The topology of a router: the nodes and edges that follow from its configuration, its interfaces that are up and its LSDB
 //! (ISO/IEC 10589, 7.2.5 and 7.2.8; RFC 5305, 3 and 4; RFC 8401, 4 and 5).
 //!
-//! It stands on `lsp_store` and the codecs, and promises the view of every LSDB, which is a graph.
+//! This crate depends on `lsp_store` and the codecs. It returns the topology of every LSDB, which is always a valid graph.
 #![tactic(auto)]
 
 mod changes;

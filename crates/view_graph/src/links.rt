@@ -24,10 +24,10 @@ impl Model for Link {
     ghost view = { λ l. record { neighbour = l.neighbour; metric = l.metric } };
 }
 
-/// The links of a system; most routers have two or three, and each view reads those of all.
+/// The links of a system; most routers have two or three, and each topology reads those of all.
 pub(crate) type LinkList = Few<Link, 4>;
 
-/// A link to a router, not to a pseudonode, of a metric that counts; 0 counts as 1 (RFC 5305, 3).
+/// Returns a link to a router, not to a pseudonode, with a metric that counts; 0 counts as 1 (RFC 5305, 3).
 fn link_of(reach: &Reach<'_>) -> Option<Link>
     ensures { result ≡ link_of (reach_of reach.now) }
 {
@@ -50,7 +50,7 @@ fn append_link(links: &mut LinkList, reach: &Reach<'_>) -> M<()>
     }
 }
 
-/// Appends the links of a TLV 22; an entry that can't be read ends them.
+/// Appends the links of a TLV 22, up to the first invalid entry.
 pub(crate) fn append_links(links: &mut LinkList, value: &[u8]) -> M<()>
     ensures { OnOk result (links.new ≡ links.old ++ filter_map link_of (entries_of reach_at value.now)) }
 {

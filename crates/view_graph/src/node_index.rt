@@ -1,4 +1,4 @@
-//! Where a system stands among the nodes of a view, and the edges that it lists to them.
+//! The index of a system among the nodes of a topology, and the edges that it lists to them.
 ghost use Rattle.std.specs.Prelude.{◌≡◌, ◌≤◌, List, [], ◌∷◌, ◌++◌, length, IfOk, OnOk};
 ghost use Rattle.wire_base.specs.model.View.{Link as LinkItem};
 ghost use Rattle.view_graph.specs.Edges.{AreInOrder, half_edges, metrics_to, place_in, stands_at};
@@ -9,7 +9,7 @@ use crate::links::Link;
 use std::alloc::Global;
 use wire_base::{EdgeList, M, SystemId, ViewNode};
 
-/// How many nodes are of systems below this one, by halving.
+/// Returns the number of nodes with a smaller system ID, by binary search.
 pub(crate) fn index_of(nodes: &[ViewNode], system: &SystemId) -> usize
     requires { AreInOrder (node_claims nodes.now) }
     ensures { result ≡ place_in system.now (node_claims nodes.now) }
@@ -28,7 +28,7 @@ pub(crate) fn index_of(nodes: &[ViewNode], system: &SystemId) -> usize
     low
 }
 
-/// Whether the node at a place is of that system.
+/// Returns whether the node at an index is that of the system.
 pub(crate) fn is_at(nodes: &[ViewNode], place: usize, system: &SystemId) -> bool
     ensures { result ≡ stands_at (node_claims nodes.now) place system.now }
 {
@@ -40,7 +40,7 @@ pub(crate) fn is_at(nodes: &[ViewNode], place: usize, system: &SystemId) -> bool
     }
 }
 
-/// Adds the edge of one link more, where the system that it leads to has a node.
+/// Adds the edge of one more link, if the system that it leads to has a node.
 fn count(nodes: &[ViewNode], edges: &mut EdgeList, link: &Link) -> M<()>
     requires order { AreInOrder (node_claims nodes.now) }
     requires few { length nodes.now ≤ 65536 }
@@ -54,7 +54,7 @@ fn count(nodes: &[ViewNode], edges: &mut EdgeList, link: &Link) -> M<()>
     Ok(())
 }
 
-/// The edges that a system lists itself, in the order of the systems that they lead to.
+/// Returns the edges that a system lists itself, in the order of the systems that they lead to.
 pub(crate) fn half_edges(alloc: Global, nodes: &[ViewNode], links: &[Link]) -> M<EdgeList>
     requires order { AreInOrder (node_claims nodes.now) }
     requires few { length nodes.now ≤ 65536 }

@@ -1,4 +1,4 @@
-//! The view: a node for each system.
+//! The topology: a node for each system.
 ghost use Rattle.std.specs.Prelude.{◌≡◌, ◌≤◌, ◌++◌, ◌∷◌, [], map, length, true, false, IfOk, OnOk};
 ghost use Rattle.wire_base.specs.model.View.{nodes_of, view_of};
 ghost use Rattle.wire_base.specs.model.Configuration.{IsSound};
@@ -17,7 +17,7 @@ use std::collections::BTreeMap;
 use std::mem;
 use wire_base::{EdgeList, Entry, Ipv4, M, RouterConf, Rows, SystemId, Triple, View, ViewNode};
 
-/// The node of a system with all places in sub-domains that it tells.
+/// Returns the node of a system with all memberships of sub-domains that it advertises.
 fn whole_node(edges: EdgeList, claim: Claim) -> ViewNode
     ensures { result ≡ whole_node edges claim }
 {
@@ -48,7 +48,7 @@ fn push_node(
     Ok(())
 }
 
-/// The nodes, by the edges of each system, by the systems that have the prefixes and by whether several have one.
+/// Returns the nodes, given the edges of each system, the owners of the prefixes and whether a prefix has several owners.
 fn all_nodes(
     alloc: Global,
     mut edges: Vec<EdgeList>,
@@ -69,7 +69,7 @@ fn all_nodes(
     Ok(Rows::from_vec(nodes))
 }
 
-/// The nodes, and whether each has all places in sub-domains that its system tells.
+/// Returns the nodes, and whether each has all memberships of sub-domains that its system advertises.
 pub(crate) fn nodes_of(alloc: Global, claims: Vec<Claim>) -> M<(Rows<ViewNode>, bool)>
     requires order { AreInOrder claims.items }
     requires few { length claims.items ≤ 65536 }
@@ -94,14 +94,14 @@ fn viewed(alloc: Global, conf: &RouterConf, up: &[bool], entries: &[Entry]) -> M
     Ok(nodes)
 }
 
-/// The view of a router: by its configuration, which of its ends are up, one truth value for each end, and its LSDB
+/// Returns the topology of a router: from its configuration, a truth value for each interface (whether it is up), and its LSDB
 /// (ISO/IEC 10589, 7.2.5 and 7.2.8; RFC 5305, 3 and 4; RFC 8401, 4 and 5).
 ///
-/// It has a node for the router itself and one for each other system whose fragment 0 is live. Of a system its live
-/// fragments count, in order. A link is one to a router with a metric below 16,777,215, where 0 counts as 1, and it
-/// counts where both systems list each other, with the least metric of several. Where two label ranges of a system share
-/// a label, none of its places in sub-domains counts; else the first in each sub-domain that `conf` knows, unless another
-/// system has such a place with the same prefix.
+/// It has a node for the router itself and one for each other system whose fragment 0 is live. All live fragments of a system
+/// count, in order. A link is one to a router with a metric below 16,777,215, where 0 counts as 1. It counts if both systems
+/// list each other, with the least metric of several. If two label ranges of a system share a label, none of its memberships of
+/// sub-domains counts. Otherwise the first in each sub-domain that `conf` knows counts, unless another system has such a
+/// membership with the same prefix.
 #[tactic(auto, using(crate::proofs::ViewLaws::view_is_graph))]
 pub fn view(alloc: Global, conf: &RouterConf, up: &[bool], store: &Store) -> M<View>
     requires one_each { length up.now ≡ length conf.now.ends }
@@ -113,9 +113,9 @@ pub fn view(alloc: Global, conf: &RouterConf, up: &[bool], store: &Store) -> M<V
     Ok(View { nodes })
 }
 
-/// Whether a node forwards packets of a triple: in a sub-domain with labels it has a range of that length up to the set
-/// identifier; in one with a written table it is in the sub-domain and the table has the triple's row (RFC 8279, 6.9;
-/// RFC 8401, 6.2).
+/// Returns whether a node supports a triple. In an MPLS sub-domain it needs a label range of that BSL that includes the set
+/// identifier. In a non-MPLS sub-domain it must be in the sub-domain, and the configured table must have an entry for the
+/// triple (RFC 8279, 6.9; RFC 8401, 6.2).
 pub fn supports(conf: &RouterConf, node: &ViewNode, t: Triple) -> bool
     ensures { result ≡ covers conf.now.kinds conf.now.table t node.now }
 {

@@ -1,4 +1,4 @@
-//! What the other systems say, for proofs alone: a renewal is held to it, and the program keeps none of it.
+//! What the other systems advertise, for proofs only: an update is checked against it, and the program stores none of it.
 ghost use Rattle.std.specs.Prelude.{◌≡◌, List};
 ghost use Rattle.std.specs.Borrow.{ftrue};
 ghost use Rattle.wire_base.specs.model.View.{Claim};
@@ -8,7 +8,7 @@ use lsp_store::Store;
 use std::marker::Model;
 use wire_base::RouterConf;
 
-/// It takes no memory.
+/// It occupies no memory.
 #[derive(Drop)]
 pub struct Others {
     pub ghost claims: { List Claim },
@@ -19,7 +19,7 @@ impl Model for Others {
 }
 
 impl Others {
-    /// What they say in an LSDB.
+    /// What they advertise in an LSDB.
     pub(crate) fn heard(_conf: &RouterConf, _store: &Store) -> Others
         ensures { result.claims ≡ heard _conf.now.system _conf.now.kinds _store.now.entries }
     {

@@ -1,4 +1,4 @@
-//! Which system has a prefix, where one alone has it: so that prefixes of two systems are found in one pass.
+//! The owner of each prefix, if exactly one system has it, so that prefixes of two systems are found in one pass.
 ghost use Rattle.std.specs.Prelude.{◌≡◌, List, ◌++◌, Some, false, IfOk, OnOk, if◌then◌else◌};
 ghost use Rattle.std.specs.Str.{bytes_eq};
 ghost use Rattle.wire_base.specs.declared.addresses.Ipv4.{Ipv4};
@@ -15,7 +15,7 @@ fn owner_at(owners: &BTreeMap<Ipv4, Option<SystemId>>, prefix: &Ipv4) -> Option<
     owners.get(prefix).copied()
 }
 
-/// The one system that has a prefix, once one more has it. None where several have it.
+/// Returns the owner of a prefix after one more system has it. None if several have it.
 fn owner_with(system: SystemId, owner: Option<Option<SystemId>>) -> Option<SystemId>
     ensures { result ≡ owner_with system owner }
 {
@@ -26,7 +26,7 @@ fn owner_with(system: SystemId, owner: Option<Option<SystemId>>) -> Option<Syste
     if other == system { Some(other) } else { None }
 }
 
-/// Adds a prefix of a system. Whether several systems have it now.
+/// Adds a prefix of a system. Returns whether several systems have it now.
 fn add_prefix(
     owners: &mut BTreeMap<Ipv4, Option<SystemId>>,
     prefix: Ipv4,
@@ -44,7 +44,7 @@ fn add_prefix(
     Ok(true)
 }
 
-/// Adds the prefixes of a system. False where several systems have one only if that was so before.
+/// Adds the prefixes of a system. If it returns false, no prefix has several owners unless one had before.
 fn add_prefixes(
     owners: &mut BTreeMap<Ipv4, Option<SystemId>>,
     system: SystemId,
@@ -60,7 +60,7 @@ fn add_prefixes(
     Ok(is_any)
 }
 
-/// For each prefix the system that has it, None where several have it; and whether several have one.
+/// Returns for each prefix the system that has it, or None if several have it; and whether several have one.
 fn all_owners(alloc: Global, claims: &[Claim]) -> M<(BTreeMap<Ipv4, Option<SystemId>>, bool)>
     ensures owners { IfOk result (λ o. AreOwners (prefixes_of claims.now) o.0) }
     ensures alone { IfOk result (λ o. o.1 ≡ false → AreAlone o.0) }
@@ -73,7 +73,7 @@ fn all_owners(alloc: Global, claims: &[Claim]) -> M<(BTreeMap<Ipv4, Option<Syste
     Ok((owners, is_any))
 }
 
-/// The four octets of a prefix, as one number.
+/// Returns the four octets of a prefix as one number.
 #[tactic(auto, unfolding(crate::specs::Owners::prefix_number))]
 fn prefix_number(prefix: Ipv4) -> u32
     ensures { result ≡ prefix_number prefix }
@@ -81,7 +81,7 @@ fn prefix_number(prefix: Ipv4) -> u32
     u32::from_be_bytes(prefix.0)
 }
 
-/// Whether no prefix is below that number.
+/// Returns whether no prefix is below that number.
 fn are_above(low: u64, subs: &[ViewSub]) -> bool
     ensures { result ≡ are_above low subs.now }
 {
@@ -89,7 +89,7 @@ fn are_above(low: u64, subs: &[ViewSub]) -> bool
         .all(|sub| u64::from(prefix_number(sub.prefix)) >= low)
 }
 
-/// That number, or a greater one that is above all of the prefixes.
+/// Returns that number, or a greater one that is above all of the prefixes.
 fn top_of(low: u64, subs: &[ViewSub]) -> u64
     ensures { result ≡ top_of low subs.now }
 {
@@ -100,7 +100,7 @@ fn top_of(low: u64, subs: &[ViewSub]) -> u64
     top
 }
 
-/// Whether the prefixes of each system are above those of all systems before it.
+/// Returns whether the prefixes of each system are above those of all systems before it.
 fn do_ascend(claims: &[Claim]) -> bool
     ensures { result ≡ do_ascend 0 claims.now }
 {
@@ -115,8 +115,8 @@ fn do_ascend(claims: &[Claim]) -> bool
     true
 }
 
-/// What tells the prefixes that several systems have, and whether there is one. Most systems are named after their prefixes,
-/// so that these ascend too: then no two systems have one, and nothing is kept of them.
+/// Returns the prefixes that several systems have, and whether there is one. System IDs are mostly derived from the prefixes,
+/// so that these ascend too: then no two systems share one, and nothing is stored.
 #[tactic(auto, using(crate::proofs::AscentLaws::ascent_told, crate::proofs::OwnerLaws::owners_told))]
 pub(crate) fn owners_of(
     alloc: Global,
@@ -131,7 +131,7 @@ pub(crate) fn owners_of(
     all_owners(alloc, claims)
 }
 
-/// Whether several systems have a prefix.
+/// Returns whether several systems have a prefix.
 pub(crate) fn is_several(owners: &BTreeMap<Ipv4, Option<SystemId>>, prefix: &Ipv4) -> bool
     ensures { result ≡ is_several (owner_at owners.now prefix.now) }
 {

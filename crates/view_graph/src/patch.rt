@@ -1,4 +1,4 @@
-//! Nodes made anew, which are put in the place of the present ones.
+//! Rebuilt nodes that replace the present ones.
 ghost use Rattle.std.specs.Prelude.{◌≡◌, ◌<◌, Decides, length};
 ghost use Rattle.std.specs.List.{AllByRecursion};
 ghost use Rattle.view_graph.specs.Renewal.{IsAt, put_all};
@@ -6,7 +6,7 @@ ghost use Rattle.view_graph.specs.Renewal.{IsAt, put_all};
 use crate::same::is_same_node;
 use wire_base::{Rows, ViewNode};
 
-/// A node made anew, and its place.
+/// A rebuilt node, and its index.
 #[derive(Drop)]
 pub(crate) struct NewNode {
     pub(crate) place: usize,
@@ -22,7 +22,7 @@ fn is_present(nodes: &[ViewNode], new: &NewNode) -> bool
     }
 }
 
-/// Whether all are the present ones.
+/// Returns whether all are equal to the present ones.
 pub(crate) fn are_present(nodes: &[ViewNode], anew: &[NewNode]) -> bool
     ensures { Decides result (AllByRecursion (IsAt nodes.now) anew.now) }
 {
@@ -34,7 +34,7 @@ pub(crate) fn are_present(nodes: &[ViewNode], anew: &[NewNode]) -> bool
     true
 }
 
-/// Puts them in their places. Takes no memory.
+/// Replaces the nodes at their indices. Does not allocate.
 pub(crate) fn put_all(nodes: &mut Rows<ViewNode>, anew: Vec<NewNode>)
     requires { AllByRecursion (λ n. n.place < length nodes.old) anew.items }
     ensures { nodes.new ≡ put_all anew.items nodes.old }

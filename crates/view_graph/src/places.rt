@@ -1,4 +1,4 @@
-//! The places in sub-domains that a system tells in its TLVs 135.
+//! The memberships of sub-domains that a system advertises in its TLVs 135.
 ghost use Rattle.std.specs.Prelude.{◌≡◌, ◌++◌, ◌∷◌, [], OnOk, IfOk, option_to_list};
 ghost use Rattle.std.specs.List.{filter_map, flat_map};
 ghost use Rattle.wire_base.specs.model.Tlv.{entries_of, prefix_at, prefix_bits, tlvs_before};
@@ -23,7 +23,7 @@ fn sub_of(alloc: Global, prefix: [u8; 4], info: &Info) -> M<ViewSub>
     })
 }
 
-/// Appends the place that a sub-TLV 32 tells, where its reader takes it.
+/// Appends the membership in a sub-TLV 32, if it is valid.
 fn append_sub(subs: &mut SubList, prefix: [u8; 4], tlv: Tlv<'_>) -> M<()>
     ensures { OnOk result (subs.new ≡ subs.old ++ option_to_list (sub_at prefix (item tlv.entry))) }
 {
@@ -39,7 +39,7 @@ fn append_sub(subs: &mut SubList, prefix: [u8; 4], tlv: Tlv<'_>) -> M<()>
     }
 }
 
-/// Appends the places that the sub-TLVs of a prefix tell; an overrun ends them.
+/// Appends the memberships in the sub-TLVs of a prefix, up to an overrun.
 fn append_infos(subs: &mut SubList, prefix: [u8; 4], octets: &[u8]) -> M<()>
     ensures { OnOk result (subs.new ≡ subs.old ++ filter_map (sub_at prefix) (tlvs_before octets.now)) }
 {
@@ -51,7 +51,7 @@ fn append_infos(subs: &mut SubList, prefix: [u8; 4], octets: &[u8]) -> M<()>
     Ok(())
 }
 
-/// Appends the places that an entry of TLV 135 tells: one of a prefix of 32 bits.
+/// Appends the memberships in an entry of TLV 135, if its prefix has 32 bits.
 fn append_prefix(subs: &mut SubList, entry: &PrefixEntry<'_>) -> M<()>
     requires { entry.now.length ≡ prefix_bits entry.now.control }
     ensures { OnOk result (subs.new ≡ subs.old ++ subs_of (prefix_of entry.now)) }
@@ -63,7 +63,7 @@ fn append_prefix(subs: &mut SubList, entry: &PrefixEntry<'_>) -> M<()>
     }
 }
 
-/// Appends the places of a TLV 135; an entry that can't be read ends them.
+/// Appends the memberships in a TLV 135, up to the first invalid entry.
 pub(crate) fn append_places(subs: &mut SubList, value: &[u8]) -> M<()>
     ensures { OnOk result (subs.new ≡ subs.old ++ flat_map subs_of (entries_of prefix_at value.now)) }
 {

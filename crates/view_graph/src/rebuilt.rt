@@ -1,4 +1,4 @@
-//! Nodes made anew, by what systems say now.
+//! Nodes rebuilt from what systems advertise now.
 ghost use Rattle.std.specs.Prelude.{◌≡◌, ◌≤◌, length, map, filter, IfOk, IfSome};
 ghost use Rattle.std.specs.List.{AllByRecursion, list_any};
 ghost use Rattle.wire_base.specs.model.Control.{AreAscending, ids_of, same_system};
@@ -20,14 +20,14 @@ fn leads(links: &[Link], system: &SystemId) -> bool
     links.iter().any(|link| link.neighbour == *system)
 }
 
-/// Whether a system lists a link to that one.
+/// Returns whether a system lists a link to that one.
 fn lists(claim: &Claim, system: &SystemId) -> bool
     ensures { result ≡ lists claim.now system.now }
 {
     leads(claim.links.as_slice(), system)
 }
 
-/// The same of what a system says, if anything.
+/// The same for what a system advertises, if anything.
 fn is_listed_by(said: &Option<Claim>, system: &SystemId) -> bool
     ensures { result ≡ is_listed_by said.now system.now }
 {
@@ -37,7 +37,7 @@ fn is_listed_by(said: &Option<Claim>, system: &SystemId) -> bool
     }
 }
 
-/// The same of the system of the node at a place.
+/// The same for the system of the node at an index.
 fn lists_at(
     nodes: &[ViewNode],
     conf: &RouterConf,
@@ -57,7 +57,7 @@ fn lists_at(
     Ok(is_listed_by(&said, system))
 }
 
-/// The edges of a system with those links.
+/// Returns the edges of a system with those links.
 fn edges_now(
     nodes: &[ViewNode],
     conf: &RouterConf,
@@ -76,7 +76,7 @@ fn edges_now(
     both_ways(nodes, conf, up, entries, system, halves.as_slice())
 }
 
-/// Those of its edges that the systems at their other ends list too.
+/// Returns those of its edges that the other side lists too.
 fn both_ways(
     nodes: &[ViewNode],
     conf: &RouterConf,
@@ -98,7 +98,7 @@ fn both_ways(
     Ok(edges)
 }
 
-/// A node made anew by what its system says, with the places in sub-domains as before.
+/// Returns a node rebuilt from what its system advertises, with the memberships of sub-domains as before.
 fn made_of(
     nodes: &[ViewNode],
     conf: &RouterConf,
@@ -123,7 +123,7 @@ fn made_of(
     })
 }
 
-/// The node at a place made anew. None where there is none, or its system says nothing.
+/// Returns the node at an index, rebuilt. None if there is none, or its system advertises nothing.
 fn node_now(
     nodes: &[ViewNode],
     conf: &RouterConf,
@@ -148,7 +148,7 @@ fn node_now(
     Ok(Some(NewNode { place, node }))
 }
 
-/// The same of all those places.
+/// The same for all those indices.
 pub(crate) fn nodes_now(
     nodes: &[ViewNode],
     conf: &RouterConf,

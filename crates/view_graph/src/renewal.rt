@@ -1,4 +1,4 @@
-//! What systems say now, and the nodes made anew by it.
+//! What systems advertise now, and the nodes rebuilt from it.
 ghost use Rattle.std.specs.Prelude.{◌≡◌, ◌≤◌, ◌∷◌, length, IfOk, IfSome};
 ghost use Rattle.wire_base.specs.model.Control.{AreAscending, ids_of};
 ghost use Rattle.view_graph.specs.Edges.{AreInOrder};
@@ -11,7 +11,7 @@ use crate::patch::NewNode;
 use crate::rebuilt::nodes_now;
 use wire_base::{Entry, M, RouterConf, SystemId, ViewNode};
 
-/// What a system says now.
+/// Returns what a system advertises now.
 #[tactic(auto, unfolding(crate::specs::Renewal::said_now))]
 pub(crate) fn said_now(
     conf: &RouterConf,
@@ -33,7 +33,8 @@ pub(crate) fn said_now(
     }
 }
 
-/// The nodes made anew for what the router and those systems say now. None where the whole view is to be made anew.
+/// Returns the nodes rebuilt for what the router and those systems advertise now. None if the whole topology must be built
+/// again.
 pub(crate) fn patch_of(
     nodes: &[ViewNode],
     conf: &RouterConf,

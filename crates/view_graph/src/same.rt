@@ -1,4 +1,4 @@
-//! Whether two views are equal.
+//! Equality of topologies.
 ghost use Rattle.std.specs.Prelude.{◌≡◌, Decides};
 
 use wire_base::{LabelRange, ViewEdge, ViewNode, ViewSub};

@@ -2,10 +2,10 @@
 use Rattle.std.specs.Prelude.{ℕ, ◌+◌, ◌-◌, ◌^◌, ◌==◌, Bool, List, min}
 use Rattle.std.specs.List.{list_any}
 
--- the number of the call after so many, which stands still at its last value
+-- the number of the next call after that many calls; it stops at its last value
 abbrev pub next_call : ℕ → ℕ
 next_call calls = min (calls + 1) (2 ^ 32 - 1)
 
--- whether the call after so many is among those that fail
+-- whether the next call after that many calls is among those that fail
 abbrev pub is_to_fail : List ℕ → ℕ → Bool
 is_to_fail fails calls = list_any (λ n. n == next_call calls) fails

@@ -1,4 +1,4 @@
--- The exit status of each way in which a run ends.
+-- The exit status for each way in which a run ends.
 use Rattle.std.specs.Prelude.{ℕ}
 use Rattle.wire_base.specs.declared.status.Status.{Status}
 use Rattle.wire_base.specs.declared.status.Status.TheVariants.{Done, Usage, ConfRefused, InputRefused, ReadFault, WriteFault, Memory, CaptureRefused}

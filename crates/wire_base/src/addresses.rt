@@ -4,7 +4,7 @@ ghost use Rattle.std.specs.Prelude.{◌≡◌};
 ghost use Rattle.std.specs.Str.{bytes_eq};
 ghost use Rattle.wire_base.specs.model.Control.{fragment_0};
 
-/// The system identifier of an IS-IS router: six octets (ISO/IEC 10589, 7.1).
+/// The system ID of an IS-IS router: six octets (ISO/IEC 10589, 7.1).
 #[derive(Clone, Copy, Debug, Default, Eq, PartialOrd, Ord)]
 pub struct SystemId(pub [u8; 6]);
 
@@ -13,7 +13,7 @@ impl PartialEq for SystemId {
 
     ghost laws = { Prim.search (comparing, rules) };
 
-    // The last octets are compared first, in which the systems of a network mostly differ.
+    // Compares the last octet first: system IDs in one network mostly differ there.
     fn eq(&self, other: &SystemId) -> bool {
         let [a0, a1, a2, a3, a4, a5] = self.0;
         let [b0, b1, b2, b3, b4, b5] = other.0;
@@ -29,8 +29,8 @@ pub struct Mac(pub [u8; 6]);
 #[derive(Clone, Copy, Debug, Default, PartialEq, Eq, PartialOrd, Ord)]
 pub struct Ipv4(pub [u8; 4]);
 
-/// The identifier of an LSP: the system that issued it, the number of its pseudonode, 0 for the system
-/// itself, and the number of the fragment (ISO/IEC 10589, 9.8). The order is that of its eight octets.
+/// An LSP ID: the system ID of the originator, the pseudonode number (0 for the router itself)
+/// and the fragment number (ISO/IEC 10589, 9.8). LSP IDs are ordered by their eight octets.
 #[derive(Clone, Copy, Debug, Default, PartialEq, Eq, PartialOrd, Ord)]
 pub struct LspId {
     pub system: SystemId,
@@ -39,7 +39,7 @@ pub struct LspId {
 }
 
 impl LspId {
-    /// The identifier of fragment 0 of a system, in which its own entries are.
+    /// Returns the LSP ID of fragment 0 of a router, the fragment that lists the router's own entries.
     pub fn fragment_0(system: SystemId) -> LspId
         ensures { result ≡ fragment_0 system }
     {
@@ -52,7 +52,7 @@ impl LspId {
 }
 
 impl std::fmt::Display for SystemId {
-    /// As `0000.0000.0001`.
+    /// Writes the system ID as `0000.0000.0001`.
     fn fmt<W: std::fmt::Write>(&self, f: &mut std::fmt::Formatter<W>) -> std::fmt::Result {
         let [a, b, c, d, e, g] = self.0;
         write!(f, "{a:02x}{b:02x}.{c:02x}{d:02x}.{e:02x}{g:02x}")
@@ -60,7 +60,7 @@ impl std::fmt::Display for SystemId {
 }
 
 impl std::fmt::Display for Mac {
-    /// As `02:00:00:01:00:00`.
+    /// Writes the address as `02:00:00:01:00:00`.
     fn fmt<W: std::fmt::Write>(&self, f: &mut std::fmt::Formatter<W>) -> std::fmt::Result {
         let [a, b, c, d, e, g] = self.0;
         write!(f, "{a:02x}:{b:02x}:{c:02x}:{d:02x}:{e:02x}:{g:02x}")
@@ -68,7 +68,7 @@ impl std::fmt::Display for Mac {
 }
 
 impl std::fmt::Display for Ipv4 {
-    /// As `10.0.0.1`.
+    /// Writes the address as `10.0.0.1`.
     fn fmt<W: std::fmt::Write>(&self, f: &mut std::fmt::Formatter<W>) -> std::fmt::Result {
         let [a, b, c, d] = self.0;
         write!(f, "{a}.{b}.{c}.{d}")
@@ -76,7 +76,7 @@ impl std::fmt::Display for Ipv4 {
 }
 
 impl std::fmt::Display for LspId {
-    /// As `0000.0000.0001.00-00`: the system, the pseudonode and the fragment.
+    /// Writes the LSP ID as `0000.0000.0001.00-00`: system ID, pseudonode number, fragment number.
     fn fmt<W: std::fmt::Write>(&self, f: &mut std::fmt::Formatter<W>) -> std::fmt::Result {
         write!(
             f,

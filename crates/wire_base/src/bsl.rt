@@ -1,7 +1,7 @@
 ghost use Rattle.std.specs.Prelude.{◌≡◌, ℕ, IfSome, IfNone};
 ghost use Rattle.wire_base.specs.model.Place.{bits_of, bsl_with, code_of, bsl_coded, place};
 
-/// The length of a bit string, one of the seven that the BIER header can carry (RFC 8296, 2.1.2).
+/// A BitStringLength (BSL): one of the seven lengths that a BIER header can carry (RFC 8296, 2.1.2).
 #[derive(Clone, Copy, Debug, Default, PartialEq, Eq)]
 pub enum Bsl {
     #[default]
@@ -15,7 +15,7 @@ pub enum Bsl {
 }
 
 impl Bsl {
-    /// How many bits a string of this length has.
+    /// Returns the length in bits.
     pub fn bits(self) -> u16
         ensures { result ≡ bits_of self }
     {
@@ -30,8 +30,8 @@ impl Bsl {
         }
     }
 
-    /// The code of this length, 1 to 7, in the BSL field of a header and in the BS Len field of an advertisement
-    /// (RFC 8296, 2.1.2; RFC 8401, 6.2).
+    /// Returns the code of this length, 1 to 7, as the BSL field of a BIER header and the BS Len field of an advertisement
+    /// carry it (RFC 8296, 2.1.2; RFC 8401, 6.2).
     pub fn code(self) -> u8
         ensures { result ≡ code_of self }
     {
@@ -46,7 +46,7 @@ impl Bsl {
         }
     }
 
-    /// The length with that many bits. None exactly where no length has that many.
+    /// Returns the BSL of that many bits. None exactly where no BSL has that many bits.
     pub fn from_bits(bits: u32) -> Option<Bsl>
         ensures value { result ≡ bsl_with bits }
         ensures found { IfSome result (λ bsl. bits_of bsl ≡ bits) }
@@ -64,7 +64,7 @@ impl Bsl {
         }
     }
 
-    /// The length with that code. None exactly where no length has it.
+    /// Returns the BSL with that code. None exactly where no BSL has it.
     pub fn from_code(code: u8) -> Option<Bsl>
         ensures value { result ≡ bsl_coded code }
         ensures found { IfSome result (λ bsl. code_of bsl ≡ code) }
@@ -82,8 +82,8 @@ impl Bsl {
         }
     }
 
-    /// The set identifier of a BFR-id and its bit position, from 1, in strings of this length
-    /// (RFC 8279, 3). None exactly where the id is 0.
+    /// Returns the set identifier (SI) and the bit position, from 1, of BFR-id `k` in BitStrings of this length
+    /// (RFC 8279, 3). None exactly where the BFR-id is 0.
     pub fn place(self, k: u16) -> Option<(u16, u16)>
         ensures { result ≡ place (bits_of self) k }
     {

@@ -11,7 +11,7 @@ use crate::memory::M;
 use crate::outside::{Failed, Sink, Source};
 use std::alloc::Global;
 
-/// Copies as many octets as both have, and answers how many.
+/// Copies as many octets as both slices have, and returns that number.
 fn copy_front(from: &[u8], into: &mut [u8]) -> usize
     ensures count { result ≡ min (length from.now) (length into.old) }
     ensures copied { into.new ≡ take result from.now ++ drop result into.old }
@@ -21,7 +21,7 @@ fn copy_front(from: &[u8], into: &mut [u8]) -> usize
     count
 }
 
-/// What a source in memory still has to give.
+/// The unread octets of a source in memory.
 #[derive(Drop)]
 struct Unread {
     octets: Octets,
@@ -30,7 +30,7 @@ struct Unread {
 }
 
 impl Unread {
-    /// Gives as many octets as the buffer has room for.
+    /// Copies as many octets as the buffer has room for, and returns their number.
     #[tactic(auto, using(crate::proofs::Unread::gives_all))]
     fn give(&mut self, into: &mut [u8]) -> usize
         ensures count { result ≡ min (length self.old.octets - self.old.at) (length into.old) }
@@ -44,7 +44,7 @@ impl Unread {
     }
 }
 
-/// A source in memory, which fails at the calls that it is given, and at no other.
+/// A source in memory that fails at the given calls and at no other.
 #[derive(Drop)]
 pub struct BytesSource {
     unread: Unread,
@@ -54,7 +54,7 @@ pub struct BytesSource {
 }
 
 impl BytesSource {
-    /// A source of those octets, whose calls with those numbers, from 1, fail.
+    /// Creates a source of those octets. The calls with the numbers in `fails`, counted from 1, fail.
     pub fn new(octets: Octets, fails: Rows<u32>) -> BytesSource
         ensures left { ⟦<BytesSource as Source>⟧.left result ≡ Some octets }
         ensures faults { ⟦<BytesSource as Source>⟧.faults result ≡ 0 }
@@ -74,7 +74,7 @@ impl Source for BytesSource {
 
     ghost faults = { λ s. s.faults };
 
-    /// Fails exactly at the calls that are to fail, and else gives as many octets as there are and the buffer holds.
+    /// Fails exactly at the given calls. Otherwise reads as many octets as are left and the buffer holds.
     fn read(&mut self, into: &mut [u8]) -> Result<usize, Failed>
         ensures bound { ReadsAtMost result into.new }
         ensures bytes { ReadConsumes (Some (drop self.old.unread.at self.old.unread.octets)) (Some (drop self.new.unread.at self.new.unread.octets)) result into.new }
@@ -99,7 +99,7 @@ pub struct QuietSource {
 }
 
 impl QuietSource {
-    /// A source of those octets.
+    /// Creates a source of those octets.
     pub fn new(octets: Octets) -> QuietSource
         ensures left { ⟦<QuietSource as Source>⟧.left result ≡ Some octets }
         ensures faults { ⟦<QuietSource as Source>⟧.faults result ≡ 0 }
@@ -115,7 +115,7 @@ impl Source for QuietSource {
 
     ghost faults = { λ _. 0 };
 
-    /// Gives as many octets as there are and the buffer holds.
+    /// Reads as many octets as are left and the buffer holds.
     fn read(&mut self, into: &mut [u8]) -> Result<usize, Failed>
         ensures bound { ReadsAtMost result into.new }
         ensures bytes { ReadConsumes (Some (drop self.old.unread.at self.old.unread.octets)) (Some (drop self.new.unread.at self.new.unread.octets)) result into.new }
@@ -126,7 +126,7 @@ impl Source for QuietSource {
     }
 }
 
-/// What a sink in memory holds, and room for more.
+/// The octets that a sink in memory holds, and its free room.
 #[derive(Drop)]
 struct Room {
     bytes: Vec<u8>,
@@ -145,7 +145,7 @@ impl Room {
         })
     }
 
-    /// Takes as many octets of the piece as still fit.
+    /// Appends as many octets of the slice as still fit, and returns their number.
     fn take(&mut self, piece: &[u8]) -> usize
         ensures count { result ≡ min (length piece.now) (self.old.room - vec_len self.old.bytes) }
         ensures bytes { self.new.bytes.items ≡ self.old.bytes.items ++ take result piece.now }
@@ -157,8 +157,8 @@ impl Room {
     }
 }
 
-/// A sink in memory, which fails at the calls that it is given, of writing and finishing alike, and at no other. The
-/// memory for its room is taken when it is made.
+/// A sink in memory that fails at the given calls and at no other; `write` and `finish` are counted together.
+/// It allocates its room when it is created.
 #[derive(Drop)]
 pub struct BytesSink {
     taken: Room,
@@ -170,7 +170,7 @@ pub struct BytesSink {
 }
 
 impl BytesSink {
-    /// An empty sink with room for so many octets, whose calls with those numbers, from 1, fail.
+    /// Creates an empty sink with room for `room` octets. The calls with the numbers in `fails`, counted from 1, fail.
     pub fn new(alloc: Global, room: usize, fails: Rows<u32>) -> M<BytesSink>
         ensures written { IfOk result (λ s. ⟦<BytesSink as Sink>⟧.written s ≡ Some []) }
         ensures faults { IfOk result (λ s. ⟦<BytesSink as Sink>⟧.faults s ≡ 0) }
@@ -189,14 +189,14 @@ impl BytesSink {
         })
     }
 
-    /// What was written.
+    /// Returns the octets written so far.
     pub fn as_slice(&self) -> &[u8]
         ensures { ⟦<BytesSink as Sink>⟧.written self.now ≡ Some result.now }
     {
         self.taken.bytes.as_slice()
     }
 
-    /// Counts a call, and says whether it is to fail.
+    /// Counts a call, and returns whether it has to fail.
     fn fails_now(&mut self) -> bool
         ensures counted { self.new ≡ record self.old { calls = next_call self.old.calls } }
         ensures fails { result ≡ is_to_fail self.old.fails self.old.calls }
@@ -215,7 +215,7 @@ impl Sink for BytesSink {
 
     ghost unfinished = { λ s. s.unfinished };
 
-    /// Fails exactly at the calls that are to fail, and else takes as many octets as still fit.
+    /// Fails exactly at the given calls. Otherwise appends as many octets as still fit.
     fn write(&mut self, piece: &[u8]) -> Result<usize, Failed>
         ensures bound { WritesAtMost result piece.now }
         ensures bytes { WriteAppends (Some self.old.taken.bytes.items) (Some self.new.taken.bytes.items) result piece.now }
@@ -240,7 +240,7 @@ impl Sink for BytesSink {
         Ok(count)
     }
 
-    /// Fails exactly at the calls that are to fail.
+    /// Fails exactly at the given calls.
     fn finish(&mut self) -> Result<(), Failed>
         ensures bytes { Keeps (Some self.old.taken.bytes.items) (Some self.new.taken.bytes.items) }
         ensures cause { HasCause self.old.faults self.new.faults result }
@@ -259,7 +259,7 @@ impl Sink for BytesSink {
     }
 }
 
-/// A sink in memory that never fails. The memory for its room is taken when it is made.
+/// A sink in memory that never fails. It allocates its room when it is created.
 #[derive(Drop)]
 pub struct QuietSink {
     taken: Room,
@@ -268,7 +268,7 @@ pub struct QuietSink {
 }
 
 impl QuietSink {
-    /// An empty sink with room for so many octets.
+    /// Creates an empty sink with room for `room` octets.
     pub fn new(alloc: Global, room: usize) -> M<QuietSink>
         ensures written { IfOk result (λ s. ⟦<QuietSink as Sink>⟧.written s ≡ Some []) }
         ensures faults { IfOk result (λ s. ⟦<QuietSink as Sink>⟧.faults s ≡ 0) }
@@ -283,7 +283,7 @@ impl QuietSink {
         })
     }
 
-    /// What was written.
+    /// Returns the octets written so far.
     pub fn as_slice(&self) -> &[u8]
         ensures { ⟦<QuietSink as Sink>⟧.written self.now ≡ Some result.now }
     {
@@ -300,7 +300,7 @@ impl Sink for QuietSink {
 
     ghost unfinished = { λ s. s.unfinished };
 
-    /// Takes as many octets as still fit.
+    /// Appends as many octets as still fit.
     fn write(&mut self, piece: &[u8]) -> Result<usize, Failed>
         ensures bound { WritesAtMost result piece.now }
         ensures bytes { WriteAppends (Some self.old.taken.bytes.items) (Some self.new.taken.bytes.items) result piece.now }
@@ -319,7 +319,7 @@ impl Sink for QuietSink {
         Ok(count)
     }
 
-    /// Always succeeds, and keeps the room.
+    /// Always succeeds. The free room is unchanged.
     fn finish(&mut self) -> Result<(), Failed>
         ensures bytes { Keeps (Some self.old.taken.bytes.items) (Some self.new.taken.bytes.items) }
         ensures cause { HasCause 0 0 result }

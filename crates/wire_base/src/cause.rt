@@ -1,33 +1,33 @@
-//! Why a frame, or part of its bit positions, goes no further.
+//! The causes for which a router drops a frame, or some bit positions of a packet.
 use crate::faults::{FrameFault, HeadFault, IpFault, PduFault};
 
 /// Why a router drops a frame or some of the bit positions of a packet.
 #[derive(Clone, Copy, Debug, PartialEq, Eq)]
 pub enum Cause {
-    /// The forwarding table has no row for the position (RFC 8279, 6.5).
+    /// The BIFT has no entry for the bit position (RFC 8279, 6.5).
     NoRow,
-    /// The time to live was 0 or 1 (RFC 8296, 2.1.1.1).
+    /// The TTL was 0 or 1 (RFC 8296, 2.1.1.1).
     Ttl,
-    /// The BIFT-id has no meaning here.
+    /// The BIFT-id is unknown at this router.
     Label,
-    /// The BIER header isn't readable.
+    /// The BIER header is invalid.
     Head(HeadFault),
-    /// The frame isn't readable.
+    /// The Ethernet frame is invalid.
     Frame(FrameFault),
-    /// The tunnel isn't readable.
+    /// The tunnel packet is invalid.
     Ip(IpFault),
-    /// The PDU isn't readable.
+    /// The IS-IS PDU is invalid.
     Pdu(PduFault),
-    /// The tunnel's time to live was 0 or 1.
+    /// The outer TTL of the tunnel packet was 0 or 1.
     Outer,
-    /// No walk leads to a router with the tunnel's destination.
+    /// There is no path to a router with the tunnel's destination address.
     Route,
     /// The link lost the frame.
     Lost,
-    /// The end of the link at which the frame came is down.
+    /// The interface at which the frame arrived is down.
     Link,
-    /// An LSP with the sequence number 0.
+    /// The LSP has the sequence number 0.
     Sequence,
-    /// The LSDB has no room for another entry.
+    /// The LSDB is full.
     Full,
 }

@@ -1,4 +1,4 @@
-//! The configuration of a router: what a domain file says of it.
+//! The configuration of a router, as a domain file describes it.
 ghost use Rattle.std.specs.Prelude.{◌≡◌, ◌≤◌, length};
 ghost use Rattle.wire_base.specs.model.Choice.{end_toward};
 
@@ -7,22 +7,22 @@ use crate::bsl::Bsl;
 use crate::lists::{Name, Octets, Rows};
 use crate::triple::Triple;
 
-/// The level of the area's routing (ISO/IEC 10589, 6.3).
+/// The IS-IS level of the domain (ISO/IEC 10589, 6.3).
 #[derive(Clone, Copy, Debug, PartialEq, Eq)]
 pub enum Level {
     One,
     Two,
 }
 
-/// How a sub-domain gives its BIFT-ids: by MPLS labels that each router advertises, or by a table that all routers
-/// have (RFC 8296, 2.1.1 and 2.2.1).
+/// The encapsulation of a sub-domain. With MPLS, BIFT-ids are labels that each router advertises. Without MPLS, all routers
+/// share one configured table of BIFT-ids (RFC 8296, 2.1.1 and 2.2.1).
 #[derive(Clone, Copy, Debug, PartialEq, Eq)]
 pub enum Kind {
     Mpls,
     Configured,
 }
 
-/// A range of labels: for bit strings of that length, set identifier s up to `max_si` has the label `label` + s
+/// A label range for BitStrings of one length. Set identifier s, from 0 to `max_si`, has the label `label` + s
 /// (RFC 8401, 6.2).
 #[derive(Clone, Copy, Debug, Default, PartialEq, Eq)]
 pub struct LabelRange {
@@ -31,8 +31,8 @@ pub struct LabelRange {
     pub label: u32,
 }
 
-/// A router's place in a sub-domain: its BFR-id, 0 for a router that only passes packets on, and its label ranges
-/// (RFC 8401, 6.1).
+/// A router's membership of a sub-domain: its BFR-id and its label ranges. The BFR-id is 0 for a router that only
+/// forwards packets (RFC 8401, 6.1).
 #[derive(Drop)]
 pub struct OwnSub {
     pub sd: u8,
@@ -40,22 +40,22 @@ pub struct OwnSub {
     pub ranges: Rows<LabelRange>,
 }
 
-/// A row of the written table: the BIFT-id of a triple in a configured sub-domain.
+/// An entry of the configured BIFT-id table: the BIFT-id of a triple in a non-MPLS sub-domain.
 #[derive(Clone, Copy, Debug, PartialEq, Eq)]
 pub struct TableRow {
     pub triple: Triple,
     pub bift: u32,
 }
 
-/// A sub-domain, and how it gives its BIFT-ids.
+/// A sub-domain and its encapsulation.
 #[derive(Clone, Copy, Debug, PartialEq, Eq)]
 pub struct SubKind {
     pub sd: u8,
     pub kind: Kind,
 }
 
-/// A router's end of a link: the router at the other end, the Ethernet addresses of both ends, and the metric of
-/// the link from here to there.
+/// An interface of a router: the router at the other end of the link, the Ethernet addresses of both interfaces,
+/// and the metric in the direction away from this router.
 #[derive(Clone, Copy, Debug, PartialEq, Eq)]
 pub struct End {
     pub peer: SystemId,
@@ -64,7 +64,8 @@ pub struct End {
     pub metric: u32,
 }
 
-/// The place of the first end whose peer is that system. Condition: at most 65,536 ends, so that the place fits.
+/// Returns the index of the first interface whose peer has that system ID. Precondition: at most 65,536 interfaces,
+/// so that the index fits.
 pub fn end_toward(ends: &[End], system: SystemId) -> Option<u16>
     requires { length ends.now ≤ 65536 }
     ensures { result ≡ end_toward ends.now system }
@@ -77,7 +78,7 @@ pub fn end_toward(ends: &[End], system: SystemId) -> Option<u16>
     None
 }
 
-/// A link, by the places in the domain of the two routers that it joins.
+/// A link, given by the indices in the domain of the two routers that it connects.
 #[derive(Clone, Copy, Debug, PartialEq, Eq)]
 pub struct LinkConf {
     pub a: u16,

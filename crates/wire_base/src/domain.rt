@@ -7,8 +7,8 @@ use crate::memory::M;
 use std::alloc::Global;
 use std::marker::Model;
 
-/// A valid domain: each place that the rest names is a router's, each router is sound, and what must differ or agree
-/// between routers does.
+/// A valid domain. Each index in it refers to a router of the domain, each router's configuration is sound, and the values
+/// that must differ or agree between routers do so.
 #[derive(Drop)]
 pub struct Domain {
     pub routers: Rows<RouterConf>,
@@ -26,7 +26,7 @@ impl Model for Domain {
 }
 
 impl Domain {
-    /// An equal domain.
+    /// Returns an equal domain. Errors if an allocation fails.
     pub fn copy(&self) -> M<Self>
         ensures { IfOk result (λ copied. copied ≡ self.now) }
     {

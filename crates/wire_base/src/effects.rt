@@ -1,15 +1,15 @@
-//! What one router does to the outside.
+//! The externally visible actions of one router.
 use crate::lists::Octets;
 
-/// A frame sent on a link, which is named by the place of the end.
+/// A frame that a router sends, with the index of the interface that it leaves by.
 #[derive(Drop)]
 pub struct Sent {
     pub link: u16,
     pub octets: Octets,
 }
 
-/// A packet delivered here: the sub-domain and the BFR-id for which it came, and from its header the ingress's BFR-id, the
-/// entropy and the protocol of the payload (RFC 8296, 2.1.2).
+/// A packet delivered at this router: the sub-domain and BFR-id that it was delivered for, and the ingress's BFR-id, the
+/// entropy and the payload's protocol from its header (RFC 8296, 2.1.2).
 #[derive(Drop)]
 pub struct Got {
     pub sd: u8,

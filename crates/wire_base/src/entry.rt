@@ -1,9 +1,9 @@
-//! What a router's LSDB holds of each LSP, and how new a received one is.
+//! An entry of a router's LSDB, and the comparison of a received LSP with it.
 use crate::addresses::LspId;
 use crate::lists::Octets;
 
-/// An entry of the LSDB. A live one has `life` seconds to live and a `hold` of 0. A dead one, a purge, has a
-/// `life` of 0 and stays for `hold` seconds more; it has no content (ISO/IEC 10589, 7.3.16).
+/// An entry of the LSDB. A live LSP has a Remaining Lifetime of `life` seconds and a `hold` of 0. An expired LSP, a purge,
+/// has a `life` of 0 and no content. It is kept for `hold` more seconds (ISO/IEC 10589, 7.3.16).
 #[derive(Drop)]
 pub struct Entry {
     pub id: LspId,
@@ -12,34 +12,34 @@ pub struct Entry {
     pub hold: u16,
     pub sum: u16,
     pub flags: u8,
-    /// The octets of its TLVs.
+    /// The octets of the LSP's TLVs.
     pub content: Octets,
 }
 
-/// How new an LSP is beside the entry of its identifier (ISO/IEC 10589, 7.3.16.2).
+/// The result of comparing an LSP with the LSDB entry of the same LSP ID (ISO/IEC 10589, 7.3.16.2).
 #[derive(Clone, Copy, Debug, PartialEq, Eq)]
 pub enum Age {
-    /// There is no such entry.
+    /// The LSDB has no entry with this LSP ID.
     Unknown,
-    /// It is newer than the entry.
+    /// The LSP is newer than the entry.
     Newer,
-    /// It is the entry.
+    /// The LSP and the entry are the same.
     Equal,
-    /// It is older than the entry.
+    /// The LSP is older than the entry.
     Older,
-    /// Both live and have one sequence number, but their checksums differ.
+    /// LSP confusion: both are live and have the same sequence number, but their checksums differ.
     Confused,
 }
 
-/// What a second does to an entry (ISO/IEC 10589, 7.3.16.3 and 7.3.16.4).
+/// The effect of one second on an entry (ISO/IEC 10589, 7.3.16.3 and 7.3.16.4).
 #[derive(Clone, Copy, Debug, PartialEq, Eq)]
 pub enum Aged {
-    /// It has lost a second of its life.
+    /// The entry is live; its Remaining Lifetime is one second less.
     Live,
-    /// Its life has ended: it is a purge now.
+    /// The Remaining Lifetime has reached 0; the entry is now a purge.
     Expired,
-    /// A dead one has lost a second of its hold.
+    /// The entry is a purge; its hold time is one second less.
     Held,
-    /// It is gone.
+    /// The entry has been removed.
     Removed,
 }

@@ -1,72 +1,72 @@
-//! Why a reader refuses octets: in each type the variants are the rules, in the order of their numbers from 1.
+//! The errors of the parsers. The variants of each type are its rules, in the order of their numbers from 1.
 ghost use Rattle.std.specs.Prelude.{◌≡◌};
 
 use crate::memory::Memory;
 
-/// Why octets are no BIER header.
+/// Why octets are not a valid BIER header.
 #[derive(Clone, Copy, Debug, PartialEq, Eq)]
 pub enum HeadFault {
     /// The octets end before the header does.
     Short,
-    /// Behind a label, the first four bits after it aren't 5.
+    /// After an MPLS label, the first nibble is not 5.
     Nibble,
-    /// The version isn't 0.
+    /// The version is not 0.
     Version,
-    /// The BSL field names no length.
+    /// The code in the BSL field is not assigned to a length.
     BslCode,
 }
 
-/// Why octets are no Ethernet frame.
+/// Why octets are not a valid Ethernet frame.
 #[derive(Clone, Copy, Debug, PartialEq, Eq)]
 pub enum FrameFault {
     /// There are fewer than 14 octets.
     Short,
-    /// The length field counts more octets than follow.
+    /// The length field exceeds the number of octets after it.
     Length,
 }
 
-/// Why octets are no label stack.
+/// Why octets are not a valid label stack.
 #[derive(Clone, Copy, Debug, PartialEq, Eq)]
 pub enum StackFault {
-    /// The octets end before a label that is the bottom of the stack.
+    /// The octets end before a label with the bottom-of-stack bit.
     NoBottom,
-    /// None of the first eight labels is the bottom of the stack.
+    /// None of the first eight labels has the bottom-of-stack bit.
     Deep,
 }
 
-/// Why octets are no tunnel packet.
+/// Why octets are not a valid tunnel packet.
 #[derive(Clone, Copy, Debug, PartialEq, Eq)]
 pub enum IpFault {
     /// There are fewer than 20 octets.
     Short,
-    /// The version isn't 4.
+    /// The IP version is not 4.
     Version,
-    /// The header has options.
+    /// The IP header has options.
     Options,
-    /// The total length is below 20, or above the octets that are there.
+    /// The total length is below 20 or exceeds the octets received.
     Length,
-    /// The header's checksum is wrong.
+    /// The IP header checksum is wrong.
     Checksum,
     /// The packet is a fragment.
     Fragment,
-    /// The protocol isn't GRE.
+    /// The protocol is not GRE.
     NotGre,
     /// The total length leaves no room for a GRE header.
     GreShort,
-    /// The GRE header has a flag or a version.
+    /// The GRE header has a flag set or a version other than 0.
     GreFlags,
-    /// The GRE header names neither MPLS nor BIER.
+    /// The GRE protocol type is neither MPLS nor BIER.
     GreType,
 }
 
-/// Why octets are no capture file, or out of memory.
+/// Why octets are not a valid capture file, or out of memory.
 #[derive(Clone, Copy, Debug, PartialEq, Eq)]
 pub enum CaptureFault {
-    /// The first four octets are no known magic number.
+    /// The first four octets are not a known magic number.
     Magic,
-    /// The version isn't 2.4.
+    /// The version is not 2.4.
     Version,
-    /// The link type isn't Ethernet.
+    /// The link type is not Ethernet.
     LinkType,
     /// The capture ends within its header.
     CutHeader,
@@ -74,7 +74,7 @@ pub enum CaptureFault {
     CutRecord,
     /// A record has more than 262,144 octets.
     LongRecord,
-    /// Memory ran out.
+    /// An allocation failed.
     Memory,
 }
 
@@ -88,10 +88,10 @@ impl From<Memory> for CaptureFault {
     }
 }
 
-/// Why octets are no list of TLVs, or no entry of one.
+/// Why octets are not a valid list of TLVs, or not a valid entry of a TLV.
 #[derive(Clone, Copy, Debug, PartialEq, Eq)]
 pub enum TlvFault {
-    /// One octet is left, or the length passes the end.
+    /// Only one octet is left, or the length of the TLV exceeds the octets after it.
     Overrun,
     /// The octets end before the entry does.
     EntryShort,
@@ -99,44 +99,44 @@ pub enum TlvFault {
     PrefixLen,
 }
 
-/// Why octets are no BIER Info.
+/// Why octets are not a valid BIER Info sub-TLV.
 #[derive(Clone, Copy, Debug, PartialEq, Eq)]
 pub enum InfoFault {
-    /// The octets end before a field does, or a label range hasn't four octets.
+    /// The octets end before a field does, or a label range is not four octets long.
     Short,
-    /// Two label ranges have one length of bit strings.
+    /// Two label ranges have the same BSL.
     RepeatedLength,
-    /// The algorithm isn't shortest path first.
+    /// The algorithm is not SPF.
     Algorithm,
 }
 
-/// Why octets are no IS-IS PDU.
+/// Why octets are not a valid IS-IS PDU.
 #[derive(Clone, Copy, Debug, PartialEq, Eq)]
 pub enum PduFault {
     /// There are fewer than 8 octets.
     Short,
-    /// The first octet isn't 0x83.
+    /// The first octet is not 0x83.
     Discriminator,
-    /// One of the two versions isn't 1.
+    /// One of the two version fields is not 1.
     Version,
-    /// The length of system identifiers isn't six octets.
+    /// The ID length is not six octets.
     IdLength,
-    /// The header's length isn't that of the PDU's type.
+    /// The header length is not the one of the PDU type.
     HeaderLength,
-    /// The PDU's length is below its header's, or above the octets that are there.
+    /// The PDU length is below the header length or exceeds the octets received.
     PduLength,
     /// The checksum of a live LSP is wrong.
     Checksum,
-    /// A TLV passes the end, or the entries of a sequence number PDU aren't whole.
+    /// A TLV exceeds the PDU, or the LSP entries of a CSNP or PSNP are incomplete.
     Tlv,
 }
 
-/// Why an LSDB doesn't take an entry.
+/// Why an LSDB rejects an entry.
 #[derive(Clone, Copy, Debug, PartialEq, Eq)]
 pub enum PutFault {
-    /// Its identifier is new, and so many entries are there already, which is the most.
+    /// The LSP ID is new and the LSDB is full. The value is its number of entries, the maximum.
     Full(usize),
-    /// Memory ran out.
+    /// An allocation failed.
     Memory,
 }
 
@@ -150,20 +150,20 @@ impl From<Memory> for PutFault {
     }
 }
 
-/// Why a router sends no packet to a list of BFR-ids.
+/// Why a router cannot send a packet to a list of BFR-ids.
 #[derive(Clone, Copy, Debug, PartialEq, Eq)]
 pub enum EdgeFault {
     /// The list is empty.
     NoEgress,
-    /// The id 0 stands in it.
+    /// The list contains the BFR-id 0.
     IdZero,
-    /// The set identifier of this one, the first such in the list, is above 255.
+    /// The set identifier of this BFR-id, the first such in the list, exceeds 255.
     SiLarge(u16),
     /// The router has no BFR-id in the sub-domain.
     NotBfr,
-    /// The router supports no triple of the sub-domain and the length.
+    /// The router supports no triple with this sub-domain and BSL.
     BslUnknown,
-    /// Memory ran out.
+    /// An allocation failed.
     Memory,
 }
 

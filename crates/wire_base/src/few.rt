@@ -6,8 +6,8 @@ use std::alloc::Global;
 use std::default::MadeWith;
 use std::marker::Model;
 
-/// A list of values, which contracts see as one. It takes no memory of its own while it has `N` values at most: a view has
-/// several lists for each router, most of one or two values.
+/// A list of values, modeled in contracts as a list. It does not allocate for up to `N` values: a topology has several
+/// short lists for each router, most of one or two values.
 #[derive(Drop)]
 pub struct Few<T, const N: usize> {
     items: SmallVec<T, N>,
@@ -22,28 +22,28 @@ impl<T, const N: usize> Model for Few<T, N> {
 }
 
 impl<T, const N: usize> Few<T, N> {
-    /// The values as a slice.
+    /// Returns the values as a slice.
     pub fn as_slice(&self) -> &[T]
         ensures { result.now ≡ self.now }
     {
         self.items.as_slice()
     }
 
-    /// How many values there are.
+    /// Returns the number of values.
     pub fn len(&self) -> usize
         ensures { result ≡ length self.now }
     {
         self.items.len()
     }
 
-    /// The allocator that the list keeps.
+    /// Returns the allocator of the list.
     pub fn allocator(&self) -> Global {
         *self.items.allocator()
     }
 }
 
 impl<T: MadeWith<Global> + Drop, const N: usize> Few<T, N> {
-    /// No values. Takes no memory.
+    /// Creates an empty list. Does not allocate.
     pub fn new(alloc: Global) -> Self
         ensures { result ≡ [] }
     {
@@ -52,7 +52,7 @@ impl<T: MadeWith<Global> + Drop, const N: usize> Few<T, N> {
         }
     }
 
-    /// Appends one value; where memory runs out, the value is dropped.
+    /// Appends a value. If an allocation fails, the value is dropped.
     pub fn push(&mut self, item: T) -> M<()>
         ensures ok { OnOk result (self.new ≡ self.old ++ item ∷ []) }
         ensures err { OnErr result (self.new ≡ self.old) }
@@ -61,7 +61,7 @@ impl<T: MadeWith<Global> + Drop, const N: usize> Few<T, N> {
         Ok(())
     }
 
-    /// Puts a value before the one at a place, or behind the last; where memory runs out, the value is dropped.
+    /// Inserts a value before the one at index `place`, or at the end. If an allocation fails, the value is dropped.
     pub fn insert(&mut self, place: usize, item: T) -> M<()>
         requires { place ≤ length self.old }
         ensures ok { OnOk result (self.new ≡ insert self.old place item) }
@@ -71,7 +71,7 @@ impl<T: MadeWith<Global> + Drop, const N: usize> Few<T, N> {
         Ok(())
     }
 
-    /// Puts a value in the place of the one at a place. Takes no memory.
+    /// Replaces the value at index `place`. Does not allocate.
     pub fn put(&mut self, place: usize, item: T)
         requires { place < length self.old }
         ensures { self.new ≡ set self.old place item }
@@ -81,7 +81,7 @@ impl<T: MadeWith<Global> + Drop, const N: usize> Few<T, N> {
 }
 
 impl<T: MadeWith<Global> + Copy, const N: usize> Few<T, N> {
-    /// The same values.
+    /// Creates a list of those values. Errors if an allocation fails.
     pub fn from_slice(alloc: Global, values: &[T]) -> M<Self>
         ensures { IfOk result (λ copied. copied ≡ values.now) }
     {
@@ -90,7 +90,7 @@ impl<T: MadeWith<Global> + Copy, const N: usize> Few<T, N> {
         })
     }
 
-    /// An equal list.
+    /// Returns an equal list. Errors if an allocation fails.
     pub fn copy(&self) -> M<Self>
         ensures { IfOk result (λ copied. copied ≡ self.now) }
     {

@@ -1,11 +1,12 @@
-//! Fields at the front of octets: each reader gives a value and the octets after it, or the fault that it was given.
+//! Parsers of fields at the start of a slice. Each returns the value and the rest of the slice, or the given error if the slice
+//! is too short.
 ghost use Rattle.std.specs.Prelude.{◌≡◌, ◌≤◌, ◌+◌, length, take, drop};
 ghost use Rattle.byteorder.specs.Endian.{big_bytes, big_number};
 ghost use Rattle.wire_base.specs.model.Fields.{Gives, octet_at, octets_at, number_at, counted_at};
 
 use byteorder::{BigEndian, ByteOrder};
 
-/// So many octets.
+/// Reads the first `n` octets.
 pub fn read_octets<E: Copy>(fault: E, n: usize, bytes: &[u8]) -> Result<(&[u8], &[u8]), E>
     ensures { Gives (λ x. (x.0.now, x.1.now)) result (octets_at fault n bytes.now) }
 {
@@ -15,7 +16,7 @@ pub fn read_octets<E: Copy>(fault: E, n: usize, bytes: &[u8]) -> Result<(&[u8], 
     Ok(bytes.split_at(n))
 }
 
-/// One octet.
+/// Reads one octet.
 pub fn read_u8<E: Copy>(fault: E, bytes: &[u8]) -> Result<(u8, &[u8]), E>
     ensures { Gives (λ x. (x.0, x.1.now)) result (octet_at fault bytes.now) }
 {
@@ -25,7 +26,7 @@ pub fn read_u8<E: Copy>(fault: E, bytes: &[u8]) -> Result<(u8, &[u8]), E>
     }
 }
 
-/// A number of two octets, the highest first.
+/// Reads a 16-bit number in network byte order.
 pub fn read_u16<E: Copy>(fault: E, bytes: &[u8]) -> Result<(u16, &[u8]), E>
     ensures { Gives (λ x. (x.0, x.1.now)) result (number_at fault 2 bytes.now) }
 {
@@ -35,7 +36,7 @@ pub fn read_u16<E: Copy>(fault: E, bytes: &[u8]) -> Result<(u16, &[u8]), E>
     Ok((BigEndian::read_u16(bytes), &bytes[2..]))
 }
 
-/// A number of three octets, the highest first.
+/// Reads a 24-bit number in network byte order.
 pub fn read_u24<E: Copy>(fault: E, bytes: &[u8]) -> Result<(u32, &[u8]), E>
     ensures { Gives (λ x. (x.0, x.1.now)) result (number_at fault 3 bytes.now) }
 {
@@ -45,7 +46,7 @@ pub fn read_u24<E: Copy>(fault: E, bytes: &[u8]) -> Result<(u32, &[u8]), E>
     Ok((BigEndian::read_u24(bytes), &bytes[3..]))
 }
 
-/// A number of four octets, the highest first.
+/// Reads a 32-bit number in network byte order.
 pub fn read_u32<E: Copy>(fault: E, bytes: &[u8]) -> Result<(u32, &[u8]), E>
     ensures { Gives (λ x. (x.0, x.1.now)) result (number_at fault 4 bytes.now) }
 {
@@ -55,7 +56,7 @@ pub fn read_u32<E: Copy>(fault: E, bytes: &[u8]) -> Result<(u32, &[u8]), E>
     Ok((BigEndian::read_u32(bytes), &bytes[4..]))
 }
 
-/// Six octets, as an address.
+/// Reads six octets, as of a system ID or an Ethernet address.
 pub fn read_six<E: Copy>(fault: E, bytes: &[u8]) -> Result<([u8; 6], &[u8]), E>
     ensures { Gives (λ x. (x.0, x.1.now)) result (octets_at fault 6 bytes.now) }
 {
@@ -65,7 +66,7 @@ pub fn read_six<E: Copy>(fault: E, bytes: &[u8]) -> Result<([u8; 6], &[u8]), E>
     Ok((six, rest))
 }
 
-/// One octet with a count, and so many octets.
+/// Reads one octet as a length, and then that many octets.
 pub fn read_counted<E: Copy>(fault: E, bytes: &[u8]) -> Result<(&[u8], &[u8]), E>
     ensures { Gives (λ x. (x.0.now, x.1.now)) result (counted_at fault bytes.now) }
 {
@@ -73,7 +74,7 @@ pub fn read_counted<E: Copy>(fault: E, bytes: &[u8]) -> Result<(&[u8], &[u8]), E
     read_octets(fault, usize::from(n), rest)
 }
 
-/// The number of four octets at a place, the highest first.
+/// Returns the 32-bit number in network byte order at index `at`.
 pub fn word_at(bytes: &[u8], at: usize) -> u32
     requires { at + 4 ≤ length bytes.now }
     ensures octets { take 4 (drop at bytes.now) ≡ big_bytes 4 result }

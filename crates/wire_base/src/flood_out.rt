@@ -1,23 +1,23 @@
-//! What a received IS-IS PDU asks for beside what flooding does itself.
+//! The actions that a received IS-IS PDU requests of the router, beyond the flooding itself.
 use crate::triple::Summary;
 
-/// What an LSP asks for.
+/// The action that a received LSP requests.
 #[derive(Clone, Copy, Debug, PartialEq, Eq)]
 pub enum FloodOut {
-    /// Nothing: all is done.
+    /// No further action.
     Kept,
-    /// The own LSP must be issued with a sequence number above this one.
+    /// Originate the router's own LSP with a sequence number above this one.
     Reissue(u32),
-    /// This summary must be acknowledged at once.
+    /// Acknowledge this summary at once.
     Ack(Summary),
-    /// The LSDB has no room for it.
+    /// Drop the LSP: the LSDB is full.
     Full,
-    /// Its sequence number is 0.
+    /// Drop the LSP: its sequence number is 0.
     Zero,
 }
 
-/// What a sequence number PDU asks for: a sequence number above which the own LSP must be issued, and how many of its
-/// entries found no room.
+/// The actions that a received CSNP or PSNP requests: the sequence number above which the router must originate its own LSP,
+/// if any, and the number of listed LSPs for which the LSDB had no room.
 #[derive(Clone, Copy, Debug, PartialEq, Eq)]
 pub struct SnpOut {
     pub reissue: Option<u32>,

@@ -1,7 +1,7 @@
-//! What every other crate stands on: small list types, the identifiers and the configuration of a BIER domain,
-//! the faults of the readers, fields at the front of octets, and the outside as traits.
+//! The types that all other crates share: small list types, the identifiers and the configuration of a BIER domain,
+//! parse errors, parsers of fields at the start of a slice, and traits for input and output.
 //!
-//! The definitions that contracts cite stand in `specs/model`, one file a subject.
+//! The definitions that contracts use are in `specs/model`, one file a subject.
 #![tactic(auto)]
 
 mod addresses;

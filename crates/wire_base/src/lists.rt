@@ -6,7 +6,7 @@ use itoa::Buffer;
 use std::alloc::Global;
 use std::marker::Model;
 
-/// A list of octets, which contracts see as a list of numbers below 256.
+/// A list of octets, modeled in contracts as a list of numbers below 256.
 #[derive(Drop)]
 pub struct Octets {
     items: Vec<u8>,
@@ -21,7 +21,7 @@ impl Model for Octets {
 }
 
 impl Octets {
-    /// No octets.
+    /// Creates an empty list.
     pub fn new(alloc: Global) -> Self
         ensures { result ≡ [] }
     {
@@ -30,7 +30,7 @@ impl Octets {
         }
     }
 
-    /// No octets, and room for that many.
+    /// Creates an empty list with capacity for `room` octets. Errors if the allocation fails.
     pub fn with_room(alloc: Global, room: usize) -> M<Self>
         ensures { IfOk result (λ octets. octets ≡ []) }
     {
@@ -39,7 +39,7 @@ impl Octets {
         })
     }
 
-    /// The same octets.
+    /// Creates a list of those octets. Errors if an allocation fails.
     pub fn from_slice(alloc: Global, octets: &[u8]) -> M<Self>
         ensures { IfOk result (λ copied. copied ≡ octets.now) }
     {
@@ -48,35 +48,35 @@ impl Octets {
         })
     }
 
-    /// The octets of a vector.
+    /// Creates a list from a vector of octets.
     pub fn from_vec(octets: Vec<u8>) -> Self
         ensures { result ≡ octets.items }
     {
         Octets { items: octets }
     }
 
-    /// An equal list.
+    /// Returns an equal list. Errors if an allocation fails.
     pub fn copy(&self) -> M<Self>
         ensures { IfOk result (λ copied. copied ≡ self.now) }
     {
         Octets::from_slice(*self.items.allocator(), self.as_slice())
     }
 
-    /// The octets as a slice.
+    /// Returns the octets as a slice.
     pub fn as_slice(&self) -> &[u8]
         ensures { result.now ≡ self.now }
     {
         self.items.as_slice()
     }
 
-    /// How many octets there are.
+    /// Returns the number of octets.
     pub fn len(&self) -> usize
         ensures { result ≡ length self.now }
     {
         self.items.len()
     }
 
-    /// Appends one octet.
+    /// Appends one octet. If an allocation fails, the list is unchanged.
     pub fn push(&mut self, octet: u8) -> M<()>
         ensures ok { OnOk result (self.new ≡ self.old ++ octet ∷ []) }
         ensures err { OnErr result (self.new ≡ self.old) }
@@ -85,7 +85,7 @@ impl Octets {
         Ok(())
     }
 
-    /// Appends those octets.
+    /// Appends a slice of octets. If an allocation fails, the list is unchanged.
     pub fn append(&mut self, octets: &[u8]) -> M<()>
         ensures ok { OnOk result (self.new ≡ self.old ++ octets.now) }
         ensures err { OnErr result (self.new ≡ self.old) }
@@ -94,7 +94,7 @@ impl Octets {
         Ok(())
     }
 
-    /// Appends both, or neither.
+    /// Appends both slices, or neither if an allocation fails.
     pub fn append_two(&mut self, first: &[u8], second: &[u8]) -> M<()>
         ensures ok { OnOk result (self.new ≡ self.old ++ (first.now ++ second.now)) }
         ensures err { OnErr result (self.new ≡ self.old) }
@@ -117,7 +117,7 @@ impl Octets {
         self.append(digits.format(number).as_bytes())
     }
 
-    /// Keeps the first octets.
+    /// Shortens the list to its first `len` octets.
     pub fn truncate(&mut self, len: usize)
         ensures { self.new ≡ take len self.old }
     {
@@ -125,7 +125,7 @@ impl Octets {
     }
 }
 
-/// A name in ASCII, which contracts see as the list of its octets.
+/// A name in ASCII, modeled in contracts as the list of its octets.
 #[derive(Drop)]
 pub struct Name {
     text: Vec<u8>,
@@ -140,7 +140,7 @@ impl Model for Name {
 }
 
 impl Name {
-    /// The name that those bytes spell.
+    /// Creates the name with those octets. Errors if an allocation fails.
     pub fn from_slice(alloc: Global, text: &[u8]) -> M<Self>
         ensures { IfOk result (λ name. name ≡ text.now) }
     {
@@ -149,14 +149,14 @@ impl Name {
         })
     }
 
-    /// An equal name.
+    /// Returns an equal name. Errors if an allocation fails.
     pub fn copy(&self) -> M<Self>
         ensures { IfOk result (λ copied. copied ≡ self.now) }
     {
         Name::from_slice(*self.text.allocator(), self.as_slice())
     }
 
-    /// The name's octets.
+    /// Returns the octets of the name.
     pub fn as_slice(&self) -> &[u8]
         ensures { result.now ≡ self.now }
     {
@@ -164,7 +164,7 @@ impl Name {
     }
 }
 
-/// A list of values, which contracts see as one.
+/// A list of values, modeled in contracts as a list.
 #[derive(Drop)]
 pub struct Rows<T> {
     items: Vec<T>,
@@ -179,7 +179,7 @@ impl<T> Model for Rows<T> {
 }
 
 impl<T> Rows<T> {
-    /// No values.
+    /// Creates an empty list.
     pub fn new(alloc: Global) -> Self
         ensures { result ≡ [] }
     {
@@ -188,33 +188,33 @@ impl<T> Rows<T> {
         }
     }
 
-    /// The values of a vector, with the room that it has.
+    /// Creates a list from a vector. It keeps the vector's capacity.
     pub fn from_vec(values: Vec<T>) -> Self
         ensures { result ≡ values.items }
     {
         Rows { items: values }
     }
 
-    /// The same values as a vector.
+    /// Converts the list to a vector of the same values.
     pub fn into_vec(self) -> Vec<T>
         ensures { result.items ≡ self }
     {
         self.items
     }
 
-    /// The values as a slice.
+    /// Returns the values as a slice.
     pub fn as_slice(&self) -> &[T]
         ensures { result.now ≡ self.now }
     {
         self.items.as_slice()
     }
 
-    /// The allocator that the list keeps.
+    /// Returns the allocator of the list.
     pub fn allocator(&self) -> Global {
         *self.items.allocator()
     }
 
-    /// How many values there are.
+    /// Returns the number of values.
     pub fn len(&self) -> usize
         ensures { result ≡ length self.now }
     {
@@ -223,7 +223,7 @@ impl<T> Rows<T> {
 }
 
 impl<T: Copy> Rows<T> {
-    /// The same values.
+    /// Creates a list of those values. Errors if an allocation fails.
     pub fn from_slice(alloc: Global, values: &[T]) -> M<Self>
         ensures { IfOk result (λ copied. copied ≡ values.now) }
     {
@@ -232,7 +232,7 @@ impl<T: Copy> Rows<T> {
         })
     }
 
-    /// An equal list.
+    /// Returns an equal list. Errors if an allocation fails.
     pub fn copy(&self) -> M<Self>
         ensures { IfOk result (λ copied. copied ≡ self.now) }
     {
@@ -241,7 +241,7 @@ impl<T: Copy> Rows<T> {
 }
 
 impl<T: Drop> Rows<T> {
-    /// Appends one value; where memory runs out, the value is dropped.
+    /// Appends a value. If an allocation fails, the value is dropped.
     pub fn push(&mut self, item: T) -> M<()>
         ensures ok { OnOk result (self.new ≡ self.old ++ item ∷ []) }
         ensures err { OnErr result (self.new ≡ self.old) }
@@ -250,7 +250,7 @@ impl<T: Drop> Rows<T> {
         Ok(())
     }
 
-    /// Puts a value in the place of the one at a place. Takes no memory.
+    /// Replaces the value at index `place`. Does not allocate.
     pub fn put(&mut self, place: usize, item: T)
         requires { place < length self.old }
         ensures { self.new ≡ set self.old place item }

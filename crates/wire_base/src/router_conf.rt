@@ -1,4 +1,4 @@
-//! What a router's configuration says of its sub-domains and BIFT-ids, and copies of it.
+//! Sub-domains and BIFT-ids in a router's configuration, and copies of the configuration.
 ghost use Rattle.std.specs.Prelude.{◌≡◌, ◌+◌, ◌*◌, ◌<◌, ◌≤◌, ◌&&◌, ℕ, length, sum_by, is_some, Some, IfOk, IfSome, if◌then◌else◌};
 ghost use Rattle.std.specs.List.{AllByRecursion};
 ghost use Rattle.wire_base.specs.model.Place.{kind_of, is_mpls, is_configured, sub_in, is_label_of, meaning_in, labelled, tells, written, means, IsMeaning};
@@ -11,7 +11,7 @@ use crate::triple::Triple;
 use std::alloc::Global;
 
 impl OwnSub {
-    /// An equal one.
+    /// Returns an equal membership. Errors if an allocation fails.
     pub fn copy(&self) -> M<Self>
         ensures { IfOk result (λ copied. copied ≡ self.now) }
     {
@@ -24,8 +24,8 @@ impl OwnSub {
 }
 
 impl RouterConf {
-    /// How many octets the router's sub-domains take in its own LSP: 7 for each, and 6 for each of its
-    /// label ranges.
+    /// Returns the size in octets of the router's sub-domains in its own LSP: 7 for each sub-domain and 6 for each
+    /// label range.
     #[tactic(auto, unfolding(crate::specs::model::Configuration::sub_octets))]
     pub fn sub_octets(&self) -> usize
         requires subs { length self.now.subs ≤ 8 }
@@ -35,8 +35,9 @@ impl RouterConf {
         octets_of_subs(self.subs.as_slice())
     }
 
-    /// What a BIFT-id of that kind stands for at this router: the one triple of a sub-domain of the kind that has it,
-    /// by the router's label ranges or by the written table (RFC 8279, 6.4). None exactly where there is none.
+    /// Returns the triple that a BIFT-id of that encapsulation stands for at this router, by the router's label ranges or by the
+    /// configured BIFT-id table: the only triple that has this BIFT-id in a sub-domain of the encapsulation (RFC 8279, 6.4).
+    /// None exactly where there is none.
     #[tactic(auto, using(crate::proofs::MeaningLemmas::means_found, crate::proofs::MeaningLemmas::means_only))]
     pub fn means(&self, kind: Kind, bift: u32) -> Option<Triple>
         requires { IsSound self.now }
@@ -47,7 +48,7 @@ impl RouterConf {
         meaning_of(self, kind, bift)
     }
 
-    /// An equal configuration.
+    /// Returns an equal configuration. Errors if an allocation fails.
     pub fn copy(&self) -> M<Self>
         ensures { IfOk result (λ copied. copied ≡ self.now) }
     {
@@ -100,7 +101,7 @@ fn copy_of_subs(alloc: Global, subs: &[OwnSub]) -> M<Rows<OwnSub>>
     Ok(copied)
 }
 
-/// How a sub-domain gives its BIFT-ids. None exactly where it isn't among those.
+/// Returns the encapsulation of a sub-domain. None exactly where the sub-domain is not in the list.
 pub fn kind_of(kinds: &[SubKind], sd: u8) -> Option<Kind>
     ensures { result ≡ kind_of kinds.now sd }
 {

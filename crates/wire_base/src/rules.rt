@@ -1,4 +1,4 @@
-//! The number and the name of the rule that octets break, as reports say them.
+//! Numbers and names of the parsers' rules, as reports print them.
 ghost use Rattle.std.specs.Prelude.{◌≡◌};
 ghost use Rattle.wire_base.specs.model.Faults.{head_number, head_name, frame_number, frame_name, stack_number, stack_name, ip_number, ip_name, capture_number, capture_name, tlv_number, tlv_name, info_number, info_name, pdu_number, pdu_name, edge_number, edge_name};
 
@@ -8,7 +8,7 @@ use crate::faults::{
 };
 
 impl HeadFault {
-    /// The number of the rule that is broken, from 1 in the order of the variants.
+    /// Returns the number of the broken rule, from 1 in the order of the variants.
     pub fn number(self) -> u8
         ensures { result ≡ head_number self }
     {
@@ -20,7 +20,7 @@ impl HeadFault {
         }
     }
 
-    /// The name of the rule, as a report says it.
+    /// Returns the name of the rule, as reports print it.
     pub fn name(self) -> &'static [u8]
         ensures { result.now ≡ head_name self }
     {
@@ -34,7 +34,7 @@ impl HeadFault {
 }
 
 impl FrameFault {
-    /// The number of the rule that is broken, from 1 in the order of the variants.
+    /// Returns the number of the broken rule, from 1 in the order of the variants.
     pub fn number(self) -> u8
         ensures { result ≡ frame_number self }
     {
@@ -44,7 +44,7 @@ impl FrameFault {
         }
     }
 
-    /// The name of the rule, as a report says it.
+    /// Returns the name of the rule, as reports print it.
     pub fn name(self) -> &'static [u8]
         ensures { result.now ≡ frame_name self }
     {
@@ -56,7 +56,7 @@ impl FrameFault {
 }
 
 impl StackFault {
-    /// The number of the rule that is broken, from 1 in the order of the variants.
+    /// Returns the number of the broken rule, from 1 in the order of the variants.
     pub fn number(self) -> u8
         ensures { result ≡ stack_number self }
     {
@@ -66,7 +66,7 @@ impl StackFault {
         }
     }
 
-    /// The name of the rule, as a report says it.
+    /// Returns the name of the rule, as reports print it.
     pub fn name(self) -> &'static [u8]
         ensures { result.now ≡ stack_name self }
     {
@@ -78,7 +78,7 @@ impl StackFault {
 }
 
 impl IpFault {
-    /// The number of the rule that is broken, from 1 in the order of the variants.
+    /// Returns the number of the broken rule, from 1 in the order of the variants.
     pub fn number(self) -> u8
         ensures { result ≡ ip_number self }
     {
@@ -96,7 +96,7 @@ impl IpFault {
         }
     }
 
-    /// The name of the rule, as a report says it.
+    /// Returns the name of the rule, as reports print it.
     pub fn name(self) -> &'static [u8]
         ensures { result.now ≡ ip_name self }
     {
@@ -116,7 +116,7 @@ impl IpFault {
 }
 
 impl CaptureFault {
-    /// The number of the rule that is broken, from 1 in the order of the variants; 0 for out of memory, which is no rule.
+    /// Returns the number of the broken rule, from 1 in the order of the variants; 0 for out of memory, which is not a rule.
     pub fn number(self) -> u8
         ensures { result ≡ capture_number self }
     {
@@ -131,7 +131,7 @@ impl CaptureFault {
         }
     }
 
-    /// The name of the rule, as a report says it.
+    /// Returns the name of the rule, as reports print it.
     pub fn name(self) -> &'static [u8]
         ensures { result.now ≡ capture_name self }
     {
@@ -148,7 +148,7 @@ impl CaptureFault {
 }
 
 impl TlvFault {
-    /// The number of the rule that is broken, from 1 in the order of the variants.
+    /// Returns the number of the broken rule, from 1 in the order of the variants.
     pub fn number(self) -> u8
         ensures { result ≡ tlv_number self }
     {
@@ -159,7 +159,7 @@ impl TlvFault {
         }
     }
 
-    /// The name of the rule, as a report says it.
+    /// Returns the name of the rule, as reports print it.
     pub fn name(self) -> &'static [u8]
         ensures { result.now ≡ tlv_name self }
     {
@@ -172,7 +172,7 @@ impl TlvFault {
 }
 
 impl InfoFault {
-    /// The number of the rule that is broken, from 1 in the order of the variants.
+    /// Returns the number of the broken rule, from 1 in the order of the variants.
     pub fn number(self) -> u8
         ensures { result ≡ info_number self }
     {
@@ -183,7 +183,7 @@ impl InfoFault {
         }
     }
 
-    /// The name of the rule, as a report says it.
+    /// Returns the name of the rule, as reports print it.
     pub fn name(self) -> &'static [u8]
         ensures { result.now ≡ info_name self }
     {
@@ -196,7 +196,7 @@ impl InfoFault {
 }
 
 impl PduFault {
-    /// The number of the rule that is broken, from 1 in the order of the variants.
+    /// Returns the number of the broken rule, from 1 in the order of the variants.
     pub fn number(self) -> u8
         ensures { result ≡ pdu_number self }
     {
@@ -212,7 +212,7 @@ impl PduFault {
         }
     }
 
-    /// The name of the rule, as a report says it.
+    /// Returns the name of the rule, as reports print it.
     pub fn name(self) -> &'static [u8]
         ensures { result.now ≡ pdu_name self }
     {
@@ -230,7 +230,7 @@ impl PduFault {
 }
 
 impl EdgeFault {
-    /// The number of the rule that is broken, from 1 in the order of the variants; 0 for out of memory, which is no rule.
+    /// Returns the number of the broken rule, from 1 in the order of the variants; 0 for out of memory, which is not a rule.
     pub fn number(self) -> u8
         ensures { result ≡ edge_number self }
     {
@@ -244,7 +244,7 @@ impl EdgeFault {
         }
     }
 
-    /// The name of the rule, as a report says it.
+    /// Returns the name of the rule, as reports print it.
     pub fn name(self) -> &'static [u8]
         ensures { result.now ≡ edge_name self }
     {

@@ -3,24 +3,24 @@ ghost use Rattle.wire_base.specs.Status.{number_of};
 
 use crate::memory::Memory;
 
-/// How a run of the program ended.
+/// The result of a run of the program.
 #[derive(Clone, Copy, Debug, PartialEq, Eq)]
 pub enum Status {
-    /// The input was read to its end, and every line or record was done.
+    /// The input was read to its end, and every line or record was processed.
     Done,
-    /// The words are no form of the command.
+    /// Invalid arguments: unknown command line.
     Usage,
-    /// The domain file breaks a rule.
+    /// The domain file is invalid.
     ConfRefused,
-    /// A line of the input isn't in the grammar or not allowed, or the input is too long.
+    /// The input is invalid: a line is not in the grammar or not allowed, or the input is too long.
     InputRefused,
-    /// A source failed.
+    /// A read error: a source failed.
     ReadFault,
-    /// A sink failed, or took nothing.
+    /// A write error: a sink failed, or wrote no octet.
     WriteFault,
-    /// Memory ran out.
+    /// Out of memory.
     Memory,
-    /// The capture breaks its grammar, or is too long.
+    /// The capture is invalid or too long.
     CaptureRefused,
 }
 
@@ -36,7 +36,7 @@ impl From<Memory> for Status {
 }
 
 impl Status {
-    /// The exit status of the program.
+    /// Returns the exit status of the program.
     pub fn number(self) -> u8
         ensures { result ≡ number_of self }
     {

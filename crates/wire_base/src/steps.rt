@@ -3,8 +3,8 @@ ghost use Rattle.std.specs.Prelude.{◌≡◌, ◌<◌, ◌+◌, ℕ};
 use std::marker::Model;
 use std::sync::ledger::{Blank, Book, Ledger, Share};
 
-/// How many steps a caller took, as contracts count them. It takes no bytes, and only `tick` changes it. A caller
-/// that counts nothing takes any ledger.
+/// A counter of a caller's steps, for contracts. It occupies no memory, and only `tick` changes it. A caller that counts
+/// nothing can pass any counter.
 #[derive(Drop)]
 pub struct Steps<L: Ledger> {
     book: Book<L>,
@@ -20,7 +20,7 @@ impl<L: Ledger> Model for Steps<L> {
 }
 
 impl<L: Ledger> Steps<L> {
-    /// A count of 0, of a ledger that nothing else uses.
+    /// Creates a counter at 0, on a blank that nothing else uses.
     pub fn new(blank: Blank) -> Self
         requires name { blank.name ≡ L.name }
         requires parts { blank.parts ≡ L.parts }

@@ -5,7 +5,7 @@ ghost use Rattle.wire_base.specs.model.Place.{position_in};
 use crate::addresses::LspId;
 use crate::bsl::Bsl;
 
-/// What a BIFT-id stands for: a sub-domain, a length of bit strings and a set identifier (RFC 8279, 6.4).
+/// The meaning of a BIFT-id: a sub-domain, a BitStringLength and a set identifier (RFC 8279, 6.4).
 #[derive(Clone, Copy, Debug, Default, PartialEq, Eq)]
 pub struct Triple {
     pub sd: u8,
@@ -14,8 +14,8 @@ pub struct Triple {
 }
 
 impl Triple {
-    /// The bit position, from 1, of a BFR-id in packets of this triple (RFC 8279, 3). None exactly where the id is 0
-    /// or lies in another set.
+    /// Returns the bit position, from 1, of BFR-id `k` in packets of this triple (RFC 8279, 3). None exactly where the BFR-id
+    /// is 0 or is in another set.
     pub fn place(self, k: u16) -> Option<u16>
         ensures { result ≡ position_in self k }
     {
@@ -26,8 +26,8 @@ impl Triple {
     }
 }
 
-/// What a sequence number PDU says of an LSP: the seconds that it still has to live, 0 where it is
-/// dead, its identifier, its sequence number and its checksum (ISO/IEC 10589, 9.10).
+/// An LSP entry of a CSNP or PSNP: the Remaining Lifetime in seconds (0 for an expired LSP), the LSP ID, the sequence
+/// number and the checksum (ISO/IEC 10589, 9.10).
 #[derive(Clone, Copy, Debug, Default, PartialEq, Eq)]
 pub struct Summary {
     pub life: u16,
@@ -37,7 +37,8 @@ pub struct Summary {
 }
 
 impl Summary {
-    /// Whether it is of a live LSP: one that has time, a sequence number and a checksum (ISO/IEC 10589, 7.3.15.2).
+    /// Returns whether it describes a live LSP: one whose Remaining Lifetime, sequence number and checksum are all above 0
+    /// (ISO/IEC 10589, 7.3.15.2).
     pub fn is_live(&self) -> bool
         ensures { result ≡ is_live_summary self.now }
     {

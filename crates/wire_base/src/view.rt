@@ -1,5 +1,5 @@
-//! The view of the domain that a router has: the routers that it knows of, the links between them and what each says of
-//! BIER; and the rows of a forwarding table.
+//! The topology that one router's LSDB describes: its routers, the links between them and the BIER information that each
+//! router advertises. Also the BFR-NBRs of a BIFT.
 ghost use Rattle.std.specs.Prelude.{◌≡◌, is_some, option_map};
 ghost use Rattle.wire_base.specs.model.Place.{bift_by, label_in, row_in, same_triple};
 ghost use Rattle.wire_base.specs.model.Graph.{IsGraph, covers, place_in};
@@ -14,7 +14,7 @@ use std::alloc::Global;
 use std::default::MadeWith;
 use std::marker::Model;
 
-/// An edge of a view: the place of the node that it leads to, and its metric (RFC 5305, 3).
+/// An edge of a topology: the index of the node that it leads to, and its metric (RFC 5305, 3).
 #[derive(Clone, Copy, Debug, Default, PartialEq, Eq)]
 pub struct ViewEdge {
     pub to: u16,
@@ -24,10 +24,10 @@ pub struct ViewEdge {
 /// The edges of a node; most routers have two or three.
 pub type EdgeList = Few<ViewEdge, 4>;
 
-/// The label ranges of a place in a sub-domain; most routers have bit strings of one length.
+/// The label ranges of a router in a sub-domain; most routers support a single BSL.
 pub type RangeList = Few<LabelRange, 1>;
 
-/// What a router says of its place in a sub-domain: its BFR-id, 0 for none, its BFR-prefix and its label ranges
+/// A router's membership of a sub-domain, as it advertises it: its BFR-id (0 for none), its BFR-prefix and its label ranges
 /// (RFC 8401, 6.1 and 6.2).
 #[derive(Drop)]
 pub struct ViewSub {
@@ -48,10 +48,10 @@ impl MadeWith<Global> for ViewSub {
     }
 }
 
-/// The places of a router in sub-domains; most domains have one sub-domain.
+/// The sub-domains of a router; most domains have one sub-domain.
 pub type SubList = Few<ViewSub, 1>;
 
-/// A router of a view.
+/// A router of a topology.
 #[derive(Drop)]
 pub struct ViewNode {
     pub system: SystemId,
@@ -60,10 +60,10 @@ pub struct ViewNode {
     pub subs: SubList,
 }
 
-/// The routers that a router knows of, in the order of their systems. Its type keeps that no system comes twice, that the
-/// edges of a node stand in the order of the nodes that they lead to, none twice, and that each names a node and has a
-/// metric above 0; that the sub-domains of a node differ, and the lengths of the ranges of one; that no two nodes share a
-/// BFR-prefix; and that there are at most 65,536 nodes.
+/// The topology that a router knows: its nodes in ascending order of their system IDs. The type guarantees that
+/// no system ID occurs twice; that the edges of a node are in ascending order of the nodes that they lead to, at most one for
+/// each; that each edge leads to a node and has a metric above 0; that the sub-domains of a node differ, and so do the BSLs of
+/// the label ranges of one sub-domain; that no two nodes share a BFR-prefix; and that there are at most 65,536 nodes.
 #[derive(Drop)]
 pub struct View {
     pub nodes: Rows<ViewNode>,
@@ -80,7 +80,7 @@ impl Model for View {
 }
 
 impl View {
-    /// The nodes, in the order of their systems.
+    /// Returns the nodes in ascending order of their system IDs.
     pub fn as_slice(&self) -> &[ViewNode]
         ensures nodes { result.now ≡ self.now.nodes }
         ensures graph { IsGraph result.now }
@@ -89,27 +89,27 @@ impl View {
     }
 }
 
-/// A router to which a bit may be sent: its system, and the place of the end where it is reached directly, or None where
-/// a tunnel leads to it.
+/// A BFR-NBR: a router to which a bit may be sent. It has its system ID, and the index of the interface to it,
+/// or None if it is reached by a tunnel.
 #[derive(Clone, Copy, Debug, Default, PartialEq, Eq)]
 pub struct First {
     pub system: SystemId,
     pub direct: Option<u16>,
 }
 
-/// The routers to which a bit may be sent; mostly one, or two of equal cost.
+/// The BFR-NBRs of a bit position; mostly one, or two at equal cost.
 pub type FirstList = Few<First, 2>;
 
-/// For each bit position the routers to which its bit may be sent: `bits[i]` belongs to position i + 1.
+/// The BFR-NBRs of each bit position: `bits[i]` belongs to position i + 1.
 #[derive(Drop)]
 pub struct RowSet {
     pub bits: Rows<FirstList>,
 }
 
 impl ViewNode {
-    /// Whether the node forwards packets of a triple: in a sub-domain with labels it has a range of that length up to the
-    /// set identifier; in one with a written table it is in the sub-domain and the table has the triple's row
-    /// (RFC 8279, 6.9; RFC 8401, 6.2).
+    /// Returns whether the node supports a triple. In an MPLS sub-domain it needs a label range of that BSL that includes the
+    /// set identifier. In a non-MPLS sub-domain it must be in the sub-domain, and the configured table must have an entry for
+    /// the triple (RFC 8279, 6.9; RFC 8401, 6.2).
     #[tactic(auto, unfolding(crate::specs::model::Graph::covers))]
     pub fn covers(&self, kinds: &Rows<SubKind>, table: &Rows<TableRow>, t: Triple) -> bool
         ensures { result ≡ covers kinds.now table.now t self.now }
@@ -121,7 +121,8 @@ impl ViewNode {
         }
     }
 
-    /// The node's place in a sub-domain: its BFR-id there, its prefix and its label ranges.
+    /// Returns the node's membership of a sub-domain: its BFR-id, its BFR-prefix and its label ranges there. None if it is
+    /// not a member.
     pub fn place_in(&self, sd: u8) -> Option<&ViewSub>
         ensures { option_map (λ s. s.now) result ≡ place_in self.now.subs sd }
     {

@@ -11,7 +11,7 @@ use std::alloc::Global;
 use std::marker::Model;
 use wire_base::{Failed, M, Octets, Source};
 
-/// A chunk of a text, of which the front is processed.
+/// A chunk of a text, with a prefix that is already processed.
 #[derive(Drop)]
 pub struct Unread {
     octets: Vec<u8>,
@@ -30,7 +30,7 @@ impl Model for Unread {
 }
 
 impl Unread {
-    /// Nothing, and room for a chunk.
+    /// Returns an empty chunk with room for one read.
     pub fn new(alloc: Global) -> M<Self>
         ensures { IfOk result (λ unread. unread ≡ []) }
     {
@@ -41,14 +41,14 @@ impl Unread {
         })
     }
 
-    /// What is not processed yet.
+    /// Returns what is not processed yet.
     fn as_slice(&self) -> &[u8]
         ensures { result.now ≡ self.now }
     {
         &self.octets[self.at..self.end]
     }
 
-    /// Drops octets from the front.
+    /// Skips octets at the front.
     fn skip(&mut self, count: usize)
         requires { count ≤ length self.old }
         ensures { self.new ≡ drop count self.old }
@@ -56,7 +56,7 @@ impl Unread {
         self.at += count;
     }
 
-    /// Reads a chunk in place of what is there, keeps so many octets of it, and returns how many there were.
+    /// Reads a chunk that replaces the current one, keeps at most `room` octets of it, and returns how many were read.
     pub fn fill<S: Source>(&mut self, input: &mut S, room: usize) -> Result<usize, Failed>
         requires { S.faults input.old < last_count }
         ensures octets { IfOk result (λ count. (octets : List ℕ) × Consumes (S.left input.old) (S.left input.new) octets × (length octets ≡ count) × (self.new ≡ take room octets)) }
@@ -74,7 +74,7 @@ impl Unread {
     }
 }
 
-/// The index of the first LF.
+/// Returns the index of the first LF.
 fn line_end(octets: &[u8]) -> Option<usize>
     ensures { MatchOption result (HasNoEnd octets.now) (λ i. (i < length octets.now) × HasNoEnd (take i octets.now) × (slice_index octets.now i ≡ 10)) }
 {
@@ -86,7 +86,7 @@ fn line_end(octets: &[u8]) -> Option<usize>
     None
 }
 
-/// Appends a part to a line, as far as a line is kept.
+/// Appends a part to a line, up to the number of octets that are kept of a line.
 fn keep(line: &mut Octets, part: &[u8]) -> M<()>
     requires { length line.old ≤ LINE_LIMIT + 2 }
     ensures ok { OnOk result (line.new ≡ kept (line.old ++ part.now)) }
@@ -102,8 +102,8 @@ fn keep(line: &mut Octets, part: &[u8]) -> M<()>
     }
 }
 
-/// Moves the octets before the first LF to a line and drops the LF, or moves all where there is none. Returns whether there
-/// was one.
+/// Moves the octets before the first LF to a line and drops the LF, or moves all if there is none. Returns whether
+/// there was one.
 pub fn take_part(unread: &mut Unread, line: &mut Octets) -> M<bool>
     requires { length line.old ≤ LINE_LIMIT + 2 }
     ensures short { length line.new ≤ LINE_LIMIT + 2 }

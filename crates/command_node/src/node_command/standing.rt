@@ -1,4 +1,4 @@
-//! Where a node stands: one router and the clock that the records of a capture set.
+//! The state of a node: one router and the clock that the records of a capture set.
 ghost use Rattle.std.specs.Prelude.{◌≡◌, ◌<◌, ◌≤◌, ◌-◌, ◌^◌, length, Some, IfOk, IfSome, OnOk};
 ghost use Rattle.std.specs.Str.{bytes_eq};
 ghost use Rattle.pcap_frames.specs.Seen.{record_seen};
@@ -16,14 +16,14 @@ use std::mem;
 use wire_base::limits::MOST_FRAME;
 use wire_base::{End, M, Octets, RouterConf};
 
-/// After so many seconds the router sends.
+/// The number of seconds after which the router sends.
 const SENDS_EVERY: u64 = 5;
 
-/// At most so many seconds pass between two records.
+/// The greatest number of seconds between two records.
 const MOST_GAP: u64 = 65_535;
 
-/// A router, the second of its clock, once a record has set it, how many seconds have passed, what was done in numbers, and the
-/// output that it appends to, which it is lent for each record.
+/// A router, the second of its clock, once a record has set it, the number of seconds that have passed, its counts, and
+/// the output that it appends to, which is lent to it for each record.
 #[derive(Drop)]
 pub struct Node {
     router: Router,
@@ -42,7 +42,7 @@ impl Model for Node {
     ghost view = { λ n. record { control = n.router.control; clock = n.clock; ticks = n.ticks; tally = n.tally; frames = n.frames; report = n.report } };
 }
 
-/// The place of the end whose peer has that Ethernet address.
+/// Returns the index of the interface whose peer has that Ethernet address.
 fn link_from(ends: &[End], mac: &[u8]) -> Option<u16>
     requires { length ends.now ≤ 65535 }
     ensures link { result ≡ run.link_from ends.now mac.now }
@@ -57,7 +57,7 @@ fn link_from(ends: &[End], mac: &[u8]) -> Option<u16>
 }
 
 impl Node {
-    /// A router with that configuration has just started; no record was read.
+    /// Returns a node whose router has that configuration and has just started; no record was read.
     pub fn new(alloc: Global, conf: RouterConf) -> M<Self>
         requires { IsSound conf }
         ensures { IfOk result (λ node. node ≡ run.first_node conf) }
@@ -74,7 +74,7 @@ impl Node {
         })
     }
 
-    /// Trades the output that it appends to for another.
+    /// Swaps the output that it appends to for another.
     pub fn trade(&mut self, texts: &mut Texts)
         ensures node { self.new ≡ record self.old { frames = texts.old.frames; report = texts.old.report } }
         ensures frames { texts.new.frames ≡ self.old.frames }
@@ -84,7 +84,7 @@ impl Node {
         mem::swap(&mut self.report, &mut texts.report);
     }
 
-    /// The two seconds of a gap that is too long, where a record of that second makes one.
+    /// Returns the two seconds of a gap that is too long, if a record with that timestamp makes one.
     pub fn gap_at(&self, sec: u32) -> Option<(u32, u32)>
         ensures { result ≡ run.gap_at self.now.clock sec }
     {
@@ -94,7 +94,7 @@ impl Node {
         }
     }
 
-    /// Frames go out at a time.
+    /// Adds frames to the capture, as sent at a given time.
     #[tactic(auto, unfolding(crate::specs::NodeRun::goes_out))]
     fn go_out(&mut self, sec: u32, usec: u32, sent: &SentFrames) -> M<()>
         ensures { OnOk result (self.new ≡ run.goes_out sec usec sent.now self.old) }
@@ -104,7 +104,7 @@ impl Node {
         Ok(())
     }
 
-    /// What is due on a link goes out, where the link is up.
+    /// Sends what is due on a link, if the link is up.
     #[tactic(auto, unfolding(crate::specs::NodeRun::sends_on))]
     fn send_on(&mut self, sec: u32, link: u16) -> M<()>
         ensures { OnOk result (self.new ≡ run.sends_on sec self.old link) }
@@ -117,7 +117,7 @@ impl Node {
         Ok(())
     }
 
-    /// What is due goes out on each link that is up, in order.
+    /// Sends what is due on each link that is up, in order.
     #[tactic(auto, unfolding(crate::specs::NodeRun::sends_all))]
     fn send_all(&mut self, sec: u32) -> M<()>
         ensures { OnOk result (self.new ≡ run.sends_all sec self.old) }
@@ -129,7 +129,7 @@ impl Node {
         Ok(())
     }
 
-    /// One second passes: the router's LSDB ages, and after every fifth second the router sends.
+    /// Lets one second pass: the router's LSDB ages, and after every fifth second the router sends.
     #[tactic(auto, unfolding(crate::specs::NodeRun::second_passes))]
     fn pass_second(&mut self, sec: u32) -> M<()>
         ensures { OnOk result (self.new ≡ run.second_passes sec self.old) }
@@ -143,7 +143,7 @@ impl Node {
         Ok(())
     }
 
-    /// The seconds after one pass, up to another.
+    /// Lets the seconds that follow a given one pass, up to another.
     #[tactic(auto, unfolding(crate::specs::NodeRun::seconds_pass))]
     fn pass_seconds(&mut self, from: u32, to: u32) -> M<()>
         ensures { OnOk result (self.new ≡ run.seconds_pass (to - from) from self.old) }
@@ -156,7 +156,7 @@ impl Node {
         Ok(())
     }
 
-    /// The clock moves to a record's second.
+    /// Advances the clock to a record's second.
     fn move_to(&mut self, sec: u32) -> M<()>
         ensures { OnOk result (self.new ≡ run.moved_to sec self.old) }
     {
@@ -167,7 +167,7 @@ impl Node {
         Ok(())
     }
 
-    /// The link that a record came on; none where the record is passed over.
+    /// Returns the link that a record arrived on; none if the record is ignored.
     fn link_of(&self, captured: &CapRecord) -> Option<u16>
         ensures link { result ≡ run.link_of self.now.control.conf (record_seen captured.now) }
         ensures there { IfSome result (λ link. link < length self.now.control.conf.ends) }
@@ -180,7 +180,7 @@ impl Node {
         link_from(self.router.conf().ends.as_slice(), &octets[6..12])
     }
 
-    /// A record is passed over.
+    /// Counts a record as ignored.
     fn pass_over(&mut self) -> M<()>
         ensures { OnOk result (self.new ≡ run.passes self.old) }
     {
@@ -188,7 +188,7 @@ impl Node {
         Ok(())
     }
 
-    /// What the router did with a frame is reported.
+    /// Reports what the router did with a frame.
     fn tell(&mut self, alloc: Global, captured: &CapRecord, effects: &Effects) -> M<()>
         ensures { OnOk result (self.new ≡ run.tells (record_seen captured.now) effects.now self.old) }
     {
@@ -199,7 +199,7 @@ impl Node {
         self.go_out(captured.sec, captured.usec, &effects.sent)
     }
 
-    /// The router is given the frame of a record, which came on a link.
+    /// Passes the frame of a record, which arrived on a link, to the router.
     fn give(&mut self, alloc: Global, captured: &CapRecord, link: u16) -> M<()>
         requires link { link < length self.old.control.conf.ends }
         requires short { length captured.now.octets ≤ MOST_FRAME }
@@ -213,7 +213,7 @@ impl Node {
         }
     }
 
-    /// Does a record: it is counted, the clock moves to its second, and then the router is given its frame.
+    /// Processes a record: it is counted, the clock advances to its second, and then the router receives its frame.
     #[tactic(auto, unfolding(crate::specs::NodeRun::record_done))]
     pub fn take(&mut self, alloc: Global, captured: &CapRecord) -> M<()>
         requires { self.old.tally.records < 2 ^ 63 }

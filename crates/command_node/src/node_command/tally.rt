@@ -1,11 +1,11 @@
-//! What a node has done, in numbers.
+//! Counts of what a node has done.
 ghost use Rattle.std.specs.Prelude.{◌≡◌, ◌+◌, IfOk};
 ghost use Rattle.command_node.specs.NodeRun.{no_tally};
 
 use wire_base::{M, Memory};
 
-/// How many records were read, how many of them the router was given and how many were passed over; its deliveries and drops;
-/// and the frames that it sent.
+/// The numbers of records that were read, that the router received and that were ignored; of its deliveries and drops;
+/// and of the frames that it sent.
 #[derive(Clone, Copy, Debug, PartialEq, Eq)]
 pub struct Tally {
     pub records: u64,
@@ -17,7 +17,7 @@ pub struct Tally {
 }
 
 impl Tally {
-    /// Nothing was done.
+    /// Returns counts of zero.
     pub fn none() -> Self
         ensures { result ≡ no_tally }
     {
@@ -32,7 +32,7 @@ impl Tally {
     }
 }
 
-/// The sum; there is no memory for more than can be counted.
+/// Returns the sum. An overflow is reported as out of memory.
 pub fn sum(count: u64, more: usize) -> M<u64>
     ensures { IfOk result (λ sum. sum ≡ count + more) }
 {

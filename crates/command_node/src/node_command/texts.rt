@@ -19,11 +19,12 @@ use router_core::{DropNote, Effects, Got, Packet, SentFrames};
 use std::alloc::Global;
 use wire_base::{M, Memory, Octets, Rows, Status, Triple};
 
-/// The most octets of a frame in a record of a capture.
+/// The greatest number of octets of a frame in a record of a capture.
 const MOST_RECORDED: usize = 65_535;
 
-/// Appends the record of a frame. There is no memory for one that fits no record, and a router sends none: a PDU has at most 1,500
-/// octets, and a packet that came in a frame of at most 65,000 is sent with at most 38 more.
+/// Appends the record of a frame. A frame that does not fit a record is reported as out of memory, and a router sends
+/// none: a PDU has at most 1,500 octets, and a packet that arrived in a frame of at most 65,000 is sent with at most 38
+/// more.
 fn push_frame(out: &mut Octets, sec: u32, usec: u32, octets: &[u8]) -> M<()>
     ensures { OnOk result (out.new ≡ out.old ++ written_record sec usec octets.now) }
 {
@@ -43,7 +44,7 @@ pub fn push_frames(out: &mut Octets, sec: u32, usec: u32, sent: &SentFrames) -> 
     Ok(())
 }
 
-/// Appends the number of a record, and what is reported of it.
+/// Appends the number of a record, and the keyword of what is reported of it.
 fn push_front(out: &mut Octets, number: u64, what: &[u8]) -> M<()>
     ensures { OnOk result (out.new ≡ out.old ++ (decimal number ++ what.now)) }
 {
@@ -63,7 +64,7 @@ fn push_got(out: &mut Octets, number: u64, got: &Got) -> M<()>
     out.push(b'\n')
 }
 
-/// Appends the BFR-id of a bit position, where the BitString has it and it is one.
+/// Appends the BFR-id of a bit position, if the BitString has that bit and the number is a BFR-id.
 fn push_id(ids: &mut Rows<u16>, triple: Triple, bits: &AnyBits, position: u16) -> M<()>
     requires low { 1 ≤ position }
     requires high { position ≤ bits_of (bsl_of bits.now) }
@@ -76,7 +77,8 @@ fn push_id(ids: &mut Rows<u16>, triple: Triple, bits: &AnyBits, position: u16) -
     Ok(())
 }
 
-/// The BFR-ids of bit positions of a triple, ascending. A number above 65,535 is no BFR-id, and isn't listed.
+/// Returns the BFR-ids of bit positions of a triple, ascending. A number above 65,535 is not a BFR-id, and is not
+/// listed.
 fn ids_listed(alloc: Global, triple: Triple, bits: &AnyBits) -> M<Rows<u16>>
     requires { bsl_of bits.now ≡ triple.bsl }
     ensures { IfOk result (λ ids. ids ≡ run.listed (map (id_at triple) (positions_of bits.now))) }
@@ -88,7 +90,7 @@ fn ids_listed(alloc: Global, triple: Triple, bits: &AnyBits) -> M<Rows<u16>>
     Ok(ids)
 }
 
-/// The BFR-ids of a drop; one of a frame as a whole has none.
+/// Returns the BFR-ids of a drop; the drop of a whole frame has none.
 fn ids_dropped(alloc: Global, sets: &Option<Packet>) -> M<Rows<u16>>
     requires { HaveLength sets.now }
     ensures { IfOk result (λ ids. ids ≡ run.dropped_ids (set_in sets.now)) }
@@ -135,7 +137,7 @@ pub fn push_effects(alloc: Global, out: &mut Octets, number: u64, effects: &Effe
     push_drops(alloc, out, number, effects.drops.as_slice())
 }
 
-/// Appends words and the number behind them.
+/// Appends a keyword and the number after it.
 fn push_count(out: &mut Octets, what: &[u8], count: u64) -> M<()>
     ensures { OnOk result (out.new ≡ out.old ++ (what.now ++ decimal count)) }
 {
@@ -143,7 +145,7 @@ fn push_count(out: &mut Octets, what: &[u8], count: u64) -> M<()>
     out.append_number(count)
 }
 
-/// Appends the last line, on all records.
+/// Appends the last line, with the counts of all records.
 fn push_counts(out: &mut Octets, tally: Tally) -> M<()>
     ensures { OnOk result (out.new ≡ out.old ++ (run.node_done tally).1) }
 {
@@ -164,7 +166,7 @@ pub fn push_done(out: &mut Octets, tally: Tally) -> M<Status>
     Ok(Status::Done)
 }
 
-/// Appends the line of a refusal at a record that makes a gap that is too long, with both seconds.
+/// Appends the line for the rejection of a record that makes a gap that is too long, with both seconds.
 pub fn push_gap(out: &mut Octets, number: u64, gap: (u32, u32)) -> M<()>
     ensures { OnOk result (out.new ≡ out.old ++ (refused_record number (decimal 7 ∷ codes "Gap" ∷ decimal gap.0 ∷ decimal gap.1 ∷ [])).1) }
 {

@@ -1,5 +1,5 @@
--- The BIER header (RFC 8296, 2): three numbers of 32 bits, each of which has its fields from the highest bit down, and
--- the BitString, the highest position first.
+-- The BIER header (RFC 8296, 2): three 32-bit words, whose fields are listed from the highest bit down, and then the
+-- BitString, highest position first.
 --
 --     BIFT-id 20, traffic class 3, S 1, TTL 8
 --     nibble 4, version 4, code of the length 4, entropy 20
@@ -14,8 +14,8 @@ use Rattle.wire_base.specs.declared.faults.HeadFault.TheVariants.{Short, Nibble,
 use Rattle.wire_base.specs.model.Place.{bits_of, bsl_coded}
 use Rattle.wire_base.specs.model.BitSet.{IsWithin, set_of, octets_of}
 
--- The header's fields, the length of its BitString and the positions in it. The version is 0, and the code need not be
--- that of the length: a router that forwards takes the length from the BIFT-id (RFC 8296, 2.1.2).
+-- The header's fields, the length of its BitString and the positions in it. The version is 0. The BSL code may differ from
+-- the length: a router that forwards takes the length from the BIFT-id (RFC 8296, 2.1.2).
 pub record BierHeader : Type 0 where
   pub bift : ℕ
   pub tc : ℕ
@@ -46,16 +46,16 @@ pub record FieldsFit (h : BierHeader) : Type 0 where
   pub proto : h.proto < 2 ^ 6
   pub bfir : h.bfir < 2 ^ 16
 
--- a header: its numbers fit, and its positions, in ascending order, lie within its length
+-- a header: its numbers fit, and its positions are ascending and within its length
 pub record IsHeader (h : BierHeader) : Type 0 where
   pub fields : FieldsFit h
   pub positions : IsWithin 0 (bits_of h.bsl) h.positions
 
--- how many octets a header with a BitString of that length has
+-- the length in octets of a header with a BitString of that length
 abbrev pub header_length : Bsl → ℕ
 header_length bsl = 12 + bits_of bsl / 8
 
--- the three numbers
+-- the three words
 abbrev pub first_word : BierHeader → ℕ
 first_word h = h.bift * 2 ^ 12 + h.tc * 2 ^ 9 + (if h.s then 1 else 0) * 2 ^ 8 + h.ttl
 
@@ -69,23 +69,23 @@ third_word h = h.oam * 2 ^ 30 + h.rsv * 2 ^ 28 + h.dscp * 2 ^ 22 + h.proto * 2 ^
 abbrev pub header_octets : BierHeader → List ℕ
 header_octets h = big_bytes 4 (first_word h) ++ (big_bytes 4 (second_word h) ++ (big_bytes 4 (third_word h) ++ octets_of (bits_of h.bsl / 8) h.positions))
 
--- the number of 32 bits at a place
+-- the 32-bit number at an index
 abbrev pub word_of : List ℕ → ℕ → ℕ
 word_of octets at = big_number 4 (drop at octets)
 
--- whether the second number has a wrong nibble: behind a label it is 5 (RFC 8296, 2.1.2), and without MPLS it isn't looked at
+-- whether the second word has a wrong nibble: after a label it must be 5 (RFC 8296, 2.1.2), and without MPLS it is not tested
 abbrev pub has_wrong_nibble : Kind → ℕ → Bool
 has_wrong_nibble Mpls word = not (word / 2 ^ 28 == 5)
 has_wrong_nibble Configured word = false
 
--- the version and the code in the second number
+-- the version and the BSL code in the second word
 abbrev pub version_of : ℕ → ℕ
 version_of word = word / 2 ^ 24 % 2 ^ 4
 
 abbrev pub bsl_code_of : ℕ → ℕ
 bsl_code_of word = word / 2 ^ 20 % 2 ^ 4
 
--- the fields of the octets at the front, with a BitString of that length
+-- the fields of the header at the front, with a BitString of that length
 abbrev pub fields_of : Bsl → List ℕ → BierHeader
 fields_of bsl octets = record {
   bift = word_of octets 0 / 2 ^ 12;
@@ -117,7 +117,7 @@ abbrev pub coded_at : Option Bsl → List ℕ → Result BierHeader HeadFault
 coded_at None octets = Err BslCode
 coded_at (Some bsl) octets = if nat_lt (length octets) (header_length bsl) then Err Short else Ok (fields_of bsl octets)
 
--- the header at the front, whose own code tells the length
+-- the header at the front, whose own code gives the length
 unfoldable pub coded_header_at : Kind → List ℕ → Result BierHeader HeadFault
 coded_header_at kind octets =
     if nat_lt (length octets) 12 then Err Short else

@@ -19,9 +19,9 @@ pub record Info : Type 0 where
   pub id : ℕ
   pub ranges : List LabelRange
 
--- ---- the spelling
+-- ---- encoding
 
--- the word of a range: its last set identifier, the code of its length, and its first label
+-- the 32-bit word of a range: its Max SI, the BSL code, and its first label
 abbrev pub range_word : LabelRange → ℕ
 range_word r = r.max_si * 16777216 + code_of r.bsl * 1048576 + r.label
 
@@ -38,12 +38,12 @@ info i = 0 ∷ 0 ∷ i.sd ∷ (big_bytes 2 i.id ++ flat_map range i.ranges)
 abbrev pub info_tlv : Info → Tlv
 info_tlv i = record { code = SUB_TLV_BIER_INFO; value = info i }
 
--- The last label of a range is one of 20 bits.
+-- The last label of a range has at most 20 bits.
 pub record RangeFits (r : LabelRange) : Type 0 where
   pub max_si : r.max_si < 256
   pub last : r.label + r.max_si ≤ LAST_LABEL
 
--- no two of the lengths are the same
+-- no two of the BSLs are equal
 abbrev pub AreApart : List Bsl → Type 0
 AreApart [] = Unit {0}
 AreApart (b ∷ bs) = AllByRecursion (λ c. c ≡ b → ⊥) bs × AreApart bs
@@ -55,13 +55,13 @@ pub record InfoFits (i : Info) : Type 0 where
   pub each : AllByRecursion RangeFits i.ranges
   pub apart : AreApart (map (λ r. r.bsl) i.ranges)
 
--- ---- the grammar: what a reader lets stand beside the spelling is other sub-sub-TLVs
+-- ---- grammar: beyond the encoding above, a reader accepts other sub-sub-TLVs
 
--- the length that the word of a range names
+-- the BSL that the word of a range contains
 abbrev pub word_bsl : ℕ → Option Bsl
 word_bsl word = bsl_coded (word / 1048576 % 16)
 
--- a range of that length, where its last label is one of 20 bits
+-- a range of that BSL, where its last label has at most 20 bits
 abbrev pub range_with : Option Bsl → ℕ → Option LabelRange
 range_with None word = None
 range_with (Some bsl) word = if nat_lt LAST_LABEL (word % 1048576 + word / 16777216) then None else Some (record { bsl = bsl; max_si = word / 16777216; label = word % 1048576 })
@@ -69,7 +69,7 @@ range_with (Some bsl) word = if nat_lt LAST_LABEL (word % 1048576 + word / 16777
 abbrev pub is_range : Tlv → Bool
 is_range t = t.code == SUB_SUB_TLV_BIER_MPLS
 
--- the length that a sub-sub-TLV names, and the range that it gives
+-- the BSL that a sub-sub-TLV contains, and its label range
 abbrev pub length_named : Tlv → Option Bsl
 length_named t = if is_range t then word_bsl (big_number 4 t.value) else None
 
@@ -79,8 +79,8 @@ range_given t = if is_range t then range_with (word_bsl (big_number 4 t.value)) 
 abbrev pub IsFour : Tlv → Type 0
 IsFour t = is_range t ≡ true → length t.value ≡ 4
 
--- The value is a BIER Info, with sub-sub-TLVs `parts`: those of type 1 have four octets, no two of them name one
--- length, and the ranges are what they give, in order.
+-- The value is a BIER Info with the sub-sub-TLVs `parts`: those of type 1 have four octets, no two of them have one
+-- BSL, and the ranges are those that they give, in order.
 pub record IsInfo (value : List ℕ) (i : Info) : Type 0 where
   pub parts : List Tlv
   pub spelled : value ≡ 0 ∷ 0 ∷ i.sd ∷ (big_bytes 2 i.id ++ flat_map tlv parts)
@@ -89,9 +89,9 @@ pub record IsInfo (value : List ℕ) (i : Info) : Type 0 where
   pub apart : AreApart (filter_map length_named parts)
   pub ranges : i.ranges ≡ filter_map range_given parts
 
--- ---- reading
+-- ---- parsing
 
--- which of the seven lengths have come, and the ranges that count
+-- which of the seven BSLs have occurred, and the ranges that count
 pub record Parts : Type 0 where
   pub seen : List Bool
   pub ranges : List LabelRange
@@ -109,15 +109,15 @@ abbrev pub take_if : Parts → Option Bsl → ℕ → Result Parts InfoFault
 take_if p None word = Ok p
 take_if p (Some bsl) word = take_known p bsl word
 
--- One sub-sub-TLV more. A range of an unknown length is skipped, and so is another type; a range whose last label
--- has more than 20 bits is skipped, and its length counts as seen.
+-- Adds one sub-sub-TLV. A range of an unknown BSL is skipped, and so is another type. A range whose last label
+-- has more than 20 bits is skipped, and its BSL counts as seen.
 unfoldable pub take_part : Parts → Tlv → Result Parts InfoFault
 take_part p t =
     if not (is_range t) then Ok p
     else if not (length t.value == 4) then Err faults.Short
     else take_if p (word_bsl (big_number 4 t.value)) (big_number 4 t.value)
 
--- what passes the end is short
+-- an overrun is the error Short
 abbrev pub short : {A : Type 0} → Result A TlvFault → Result A InfoFault
 short (Ok x) = Ok x
 short (Err f) = Err faults.Short
@@ -132,7 +132,7 @@ unfoldable pub parts_within : ℕ → Parts → List ℕ → Result Parts InfoFa
 parts_within zero p octets = Ok p
 parts_within (suc n) p octets = short (tlv_at octets) >>= λ o. then_parts p o (parts_within n)
 
--- the sub-sub-TLVs in octet order, or the first of them that is refused
+-- the sub-sub-TLVs in octet order, or the first of them that is rejected
 abbrev pub parts_of : Parts → List ℕ → Result Parts InfoFault
 parts_of p octets = parts_within (length octets) p octets
 
@@ -148,12 +148,12 @@ info_at value =
 abbrev pub last_label : LabelRange → ℕ
 last_label r = r.label + r.max_si
 
--- the label is one of the range's
+-- the label belongs to the range
 pub record HasLabel (r : LabelRange) (label : ℕ) : Type 0 where
   pub above : r.label ≤ label
   pub below : label ≤ last_label r
 
--- ranges at two places share a label
+-- ranges at two indices share a label
 pub record Overlap (ranges : List LabelRange) : Type 0 where
   pub first : ℕ
   pub second : ℕ
@@ -162,7 +162,7 @@ pub record Overlap (ranges : List LabelRange) : Type 0 where
   pub in_first : IsSomeAnd (slice_get ranges first) (λ r. HasLabel r label)
   pub in_second : IsSomeAnd (slice_get ranges second) (λ r. HasLabel r label)
 
--- the test of it
+-- the test for one label in both ranges
 abbrev pub share_label : LabelRange → LabelRange → Bool
 share_label a b = nat_le a.label (last_label b) && nat_le b.label (last_label a)
 

@@ -1,4 +1,4 @@
--- Where a router sends the bit of a BFR-id: one of the first supporting routers toward the owner (RFC 8279, 6.7 and 6.9).
+-- Where a router sends the bit of a BFR-id: to one of the BFR-NBRs toward the owner (RFC 8279, 6.7 and 6.9).
 use Rattle.std.specs.Prelude.{ℕ, ◌+◌, ◌%◌, ◌||◌, ◌&&◌, ◌==◌, not, Bool, false, List, [], ◌∷◌, length, slice_get, Option, Some, None, option_and_then, option_map, if◌then◌else◌}
 use Rattle.std.specs.List.{list_any, filter_map}
 use Rattle.std.specs.Str.{bytes_eq}
@@ -14,20 +14,20 @@ use Rattle.wire_base.specs.model.Place.{id_at}
 use Rattle.wire_base.specs.model.Walk.{dist}
 use Rattle.wire_base.specs.model.Supporting.{firsts}
 
--- the nodes to which u may send what is for d: none where d is u or doesn't support the triple
+-- the nodes to which u may send a bit for d: none where d is u or does not support the triple
 unfoldable pub candidates : List ViewNode → (ℕ → Bool) → ℕ → ℕ → List ℕ
 candidates g c d u = if (u == d) || not (c d) then [] else firsts g c d u
 
--- the member at the place `class` modulo the size
+-- the member at index `class` modulo the size
 abbrev pub member : List ℕ → ℕ → Option ℕ
 member [] class = None
 member (x ∷ xs) class = slice_get (x ∷ xs) (class % length (x ∷ xs))
 
--- where u sends what is for d
+-- the node to which u sends a bit for d
 unfoldable pub choice : List ViewNode → (ℕ → Bool) → ℕ → ℕ → ℕ → Option ℕ
 choice g c d class u = member (candidates g c d u) class
 
--- whether x is reached from u directly: an edge leads to it whose metric is its distance. Else a tunnel leads there.
+-- whether x is reached from u directly: by an edge whose metric is x's distance from u. Otherwise a tunnel leads there.
 abbrev pub is_length : Option ℕ → ℕ → Bool
 is_length None m = false
 is_length (Some n) m = n == m
@@ -35,11 +35,11 @@ is_length (Some n) m = n == m
 unfoldable pub is_direct : List ViewNode → ℕ → ℕ → Bool
 is_direct g u x = list_any (λ e. (e.to == x) && is_length (dist g u x) e.metric) (edges_of g u)
 
--- where u sends the id k in packets of a triple: none where no node, or more than one, has k in the triple's sub-domain
+-- the node to which u sends the id k in packets of a triple: none where no node, or more than one, has k in the sub-domain
 abbrev pub choose : List ViewNode → List SubKind → List TableRow → Triple → ℕ → ℕ → ℕ → Option ℕ
 choose g kinds table t class u k = option_and_then (λ d. choice g (covers_at kinds table t g) d class u) (owner g t.sd k)
 
--- The candidates of each bit position, as a forwarding table is built from them.
+-- The candidates of each bit position, from which a BIFT is built.
 
 -- the candidates of an owner
 abbrev pub toward : List ViewNode → (ℕ → Bool) → ℕ → Option ℕ → List ℕ
@@ -49,12 +49,12 @@ toward g c u (Some d) = candidates g c d u
 abbrev pub is_system : SystemId → SystemId → Bool
 is_system a b = bytes_eq a.0 b.0
 
--- the place of the first end whose peer is that system
+-- the index of the first interface whose peer has that system ID
 abbrev pub end_toward : List End → SystemId → Option ℕ
 end_toward [] s = None
 end_toward (e ∷ es) s = if is_system e.peer s then Some 0 else option_map (λ n. n + 1) (end_toward es s)
 
--- a candidate as a router names it: its system, and the place of the end where it is reached directly
+-- a candidate as a router represents it: its system ID, and the index of the interface where it is reached directly
 abbrev pub first_at : List End → List ViewNode → ℕ → ℕ → Option First
 first_at ends g u x = option_map (λ n. record { system = n.system; direct = if is_direct g u x then end_toward ends n.system else None }) (slice_get g x)
 

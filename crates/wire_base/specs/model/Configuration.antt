@@ -1,4 +1,4 @@
--- When the configuration of a router is sound, and when a domain is valid.
+-- The conditions for a sound router configuration and for a valid domain.
 use Rattle.std.specs.Prelude.{◌≡◌, ℕ, ◌+◌, ◌*◌, ◌%◌, ◌<◌, ◌≤◌, Bool, true, false, ◌==◌, ◌&&◌, ◌||◌, nat_le, List, [], ◌∷◌, length, slice_index, slice_get, sum_by, flat_map, filter_map, Option, Some, None, if◌then◌else◌}
 use Rattle.std.specs.List.{AllByRecursion, list_all}
 use Rattle.std.specs.Str.{bytes_eq}
@@ -35,22 +35,22 @@ is_between low high x = nat_le low x && nat_le x high
 abbrev pub is_letter : ℕ → Bool
 is_letter x = is_between 65 90 x || is_between 97 122 x
 
--- a letter, a digit, a low line or a hyphen
+-- a letter, a digit, an underscore or a hyphen
 abbrev pub is_name_octet : ℕ → Bool
 is_name_octet x = is_letter x || (is_between 48 57 x || ((x == 95) || (x == 45)))
 
--- a name is a letter and at most 31 letters, digits, low lines or hyphens
+-- a name is a letter and at most 31 letters, digits, underscores or hyphens
 abbrev pub is_name : List ℕ → Bool
 is_name [] = false
 is_name (x ∷ xs) = is_letter x && (list_all is_name_octet xs && nat_le (length xs) 31)
 
--- a prefix is the address of one router, not of a group
+-- a prefix is a unicast address
 pub record IsPrefix (octets : List ℕ) : Type 0 where
   pub octets_are : IsOctets 4 octets
   pub first : 1 ≤ slice_index octets 0
   pub one_router : slice_index octets 0 ≤ 223
 
--- an Ethernet address of one station: its first octet is even (IEEE 802.3, 3.2.3)
+-- a unicast Ethernet address: its first octet is even (IEEE 802.3, 3.2.3)
 pub record IsStation (octets : List ℕ) : Type 0 where
   pub octets_are : IsOctets 6 octets
   pub one_station : slice_index octets 0 % 2 ≡ 0
@@ -67,7 +67,7 @@ pub record IsTableRow (row : TableRow) : Type 0 where
   pub some : 1 ≤ row.bift
   pub last : row.bift ≤ LAST_LABEL
 
--- the metric is below the one that keeps a link out of paths (RFC 5305, 3)
+-- the metric is below the one that excludes a link from paths (RFC 5305, 3)
 pub record IsEnd (e : End) : Type 0 where
   pub peer : IsOctets 6 e.peer.0
   pub peer_mac : IsStation e.peer_mac.0
@@ -103,7 +103,7 @@ same_peer_mac e f = bytes_eq e.peer_mac.0 f.peer_mac.0
 
 -- ---- a router
 
--- the octets that a router's sub-domains take in its own LSP, beside the prefix
+-- the size in octets of a router's sub-domains in its own LSP, beside the prefix
 unfoldable pub sub_octets : List OwnSub → ℕ
 sub_octets subs = sum_by (λ s. 7 + 6 * length s.ranges) subs
 
@@ -118,8 +118,8 @@ pub record IsOwnSub (s : OwnSub) : Type 0 where
 abbrev pub all_ranges : List OwnSub → List LabelRange
 all_ranges subs = flat_map (λ s. s.ranges) subs
 
--- When a configuration is sound: each value has its range and form; what must differ does; no two label ranges
--- share a label, also not those of two sub-domains; and the router's own LSP has room for its sub-domains.
+-- A configuration is sound if each value has its range and form; if what must differ does; if no two label ranges
+-- share a label, including those of two sub-domains; and if the router's own LSP has room for its sub-domains.
 pub record IsSound (r : RouterConf) : Type 0 where
   pub area : IsArea r.area
   pub name : is_name r.name ≡ true
@@ -142,7 +142,7 @@ pub record IsSound (r : RouterConf) : Type 0 where
 
 -- ---- a domain
 
--- A domain: its routers by place, and its links, each named by the places of the two routers that it joins.
+-- A domain: its routers by index, and its links, each given by the indices of the two routers that it connects.
 pub record DomainConf : Type 0 where
   pub routers : List RouterConf
   pub links : List LinkConf
@@ -156,7 +156,7 @@ same_system r q = bytes_eq r.system.0 q.system.0
 abbrev pub same_prefix : RouterConf → RouterConf → Bool
 same_prefix r q = bytes_eq r.prefix.0 q.prefix.0
 
--- what all routers of a domain have in common
+-- the values that all routers of a domain have in common
 pub record IsAlike (r q : RouterConf) : Type 0 where
   pub level : q.level ≡ r.level
   pub area : q.area ≡ r.area
@@ -167,28 +167,28 @@ abbrev pub AreAlike : List RouterConf → Type 0
 AreAlike [] = Unit {0}
 AreAlike (r ∷ rs) = AllByRecursion (IsAlike r) rs
 
--- label ranges stand only in a sub-domain of kind mpls
+-- only an MPLS sub-domain may have label ranges
 abbrev pub MayStand : Option Kind → List LabelRange → Type 0
 MayStand None ranges = ⊥
 MayStand (Some Mpls) ranges = Unit {0}
 MayStand (Some Configured) ranges = ranges ≡ []
 
--- each sub-domain that a router is in has a kind, and rows stand only in configured ones
+-- each sub-domain of a router has a kind, and only non-MPLS sub-domains have entries in the configured table
 pub record KeepsKinds (r : RouterConf) : Type 0 where
   pub subs : AllByRecursion (λ s. MayStand (kind_of r.kinds s.sd) s.ranges) r.subs
   pub rows : AllByRecursion (λ row. kind_of r.kinds row.triple.sd ≡ Some Configured) r.table
 
--- a link joins two different routers
+-- a link connects two different routers
 pub record IsLink (routers : ℕ) (l : LinkConf) : Type 0 where
   pub a : l.a < routers
   pub b : l.b < routers
   pub differ : (l.a == l.b) ≡ false
 
--- whether two links join the same two routers
+-- whether two links connect the same two routers
 abbrev pub same_pair : LinkConf → LinkConf → Bool
 same_pair l m = ((l.a == m.a) && (l.b == m.b)) || ((l.a == m.b) && (l.b == m.a))
 
--- the other end of a link, where one end is at that router
+-- the router at the other side of a link, where one side is that router
 abbrev pub other_end : ℕ → LinkConf → Option ℕ
 other_end i l = if l.a == i then Some l.b else if l.b == i then Some l.a else None
 
@@ -196,34 +196,34 @@ other_end i l = if l.a == i then Some l.b else if l.b == i then Some l.a else No
 abbrev pub peers_of : ℕ → List LinkConf → List ℕ
 peers_of i links = filter_map (other_end i) links
 
--- the first end of a router with that peer
+-- the first interface of a router with that peer
 abbrev pub end_to : List End → SystemId → Option End
 end_to [] peer = None
 end_to (e ∷ es) peer = if bytes_eq e.peer.0 peer.0 then Some e else end_to es peer
 
--- the two ends of a link have each other's Ethernet addresses
+-- the two interfaces of a link have each other's Ethernet addresses
 abbrev pub IsBack : End → Option End → Type 0
 IsBack e None = ⊥
 IsBack e (Some f) = (f.peer_mac ≡ e.own_mac) × (f.own_mac ≡ e.peer_mac)
 
--- an end names the router that its link leads to, which has an end toward this router
+-- an interface has the router that its link leads to as its peer, and that router has an interface toward this one
 abbrev pub Faces : RouterConf → End → Option RouterConf → Type 0
 Faces r e None = ⊥
 Faces r e (Some q) = (e.peer ≡ q.system) × IsBack e (end_to q.ends r.system)
 
--- the ends of a router whose links lead to those places
+-- the interfaces of a router whose links lead to the routers at those indices
 abbrev pub AreEnds : List RouterConf → RouterConf → List ℕ → List End → Type 0
 AreEnds routers r [] [] = Unit {0}
 AreEnds routers r [] (e ∷ es) = ⊥
 AreEnds routers r (p ∷ ps) [] = ⊥
 AreEnds routers r (p ∷ ps) (e ∷ es) = Faces r e (slice_get routers p) × AreEnds routers r ps es
 
--- of each router, from place i on
+-- of each router, from index i on
 abbrev pub HaveEnds : DomainConf → ℕ → List RouterConf → Type 0
 HaveEnds d i [] = Unit {0}
 HaveEnds d i (r ∷ rs) = AreEnds d.routers r (peers_of i d.links) r.ends × HaveEnds d (i + 1) rs
 
--- When a domain is valid. BFR-ids may repeat between routers.
+-- The conditions for a valid domain. BFR-ids may repeat between routers.
 pub record IsValid (d : DomainConf) : Type 0 where
   pub some : 1 ≤ length d.routers
   pub few : length d.routers ≤ MOST_ROUTERS

@@ -1,4 +1,4 @@
--- The control state of one router: its LSDB, and which parts of it are to be sent or acknowledged on which links
+-- The control state of one router: its LSDB, and its SRM and SSN flags for each interface
 -- (ISO/IEC 10589, 7.3.14 to 7.3.17).
 use Rattle.std.specs.Prelude.{◌≡◌, ℕ, ◌-◌, ◌≤◌, ◌==◌, ◌&&◌, nat_lt, nat_le, Bool, true, false, List, [], ◌∷◌, length, map, replicate, slice_index_or, Option, Some, None, if◌then◌else◌}
 use Rattle.std.specs.declared.cmp.Ordering.{Ordering}
@@ -25,11 +25,11 @@ same_system a b = bytes_eq a.0 b.0
 abbrev pub same_id : LspId → LspId → Bool
 same_id a b = same_system a.system b.system && ((a.pseudonode == b.pseudonode) && (a.fragment == b.fragment))
 
--- the order of systems is that of their octets
+-- system IDs are ordered by their octets
 abbrev pub system_order : SystemId → SystemId → Ordering
 system_order a b = slice_cmp nat_cmp a.0 b.0
 
--- the order of LSPs is that of the eight octets of their identifiers
+-- LSP IDs are ordered by their eight octets
 abbrev pub id_order : LspId → LspId → Ordering
 id_order a b = ordering_then (system_order a.system b.system) (ordering_then (nat_cmp a.pseudonode b.pseudonode) (nat_cmp a.fragment b.fragment))
 
@@ -41,7 +41,7 @@ abbrev pub AreAscending : List LspId → Type 0
 AreAscending [] = Unit {0}
 AreAscending (x ∷ xs) = AllByRecursion (λ y. is_below x y ≡ true) xs × AreAscending xs
 
--- ---- the LSDB: entries in the order of their identifiers, none twice
+-- ---- the LSDB: entries in the order of their LSP IDs, no LSP ID twice
 
 abbrev pub most_entries : ℕ
 most_entries = MOST_ENTRIES
@@ -49,12 +49,12 @@ most_entries = MOST_ENTRIES
 abbrev pub ids_of : List Entry → List LspId
 ids_of entries = map (λ e. e.id) entries
 
--- the entry of an identifier
+-- the entry of an LSP ID
 abbrev pub entry_in : List Entry → LspId → Option Entry
 entry_in [] id = None
 entry_in (e ∷ es) id = if same_id e.id id then Some e else entry_in es id
 
--- the entry at its place, or in place of the one of its identifier
+-- the list with the entry inserted in order, or in place of the one with its LSP ID
 abbrev pub put_entry : Entry → List Entry → List Entry
 put_entry e [] = e ∷ []
 put_entry e (x ∷ xs) = match_ordering (id_order e.id x.id) (e ∷ x ∷ xs) (e ∷ xs) (x ∷ put_entry e xs)
@@ -67,17 +67,17 @@ abbrev pub seq_of : Option Entry → ℕ
 seq_of None = 0
 seq_of (Some e) = e.seq
 
--- what a sequence number PDU says of an entry (ISO/IEC 10589, 9.10)
+-- the summary of an entry in a CSNP or PSNP (ISO/IEC 10589, 9.10)
 abbrev pub summary_of : Entry → Summary
 summary_of e = record { life = e.life; id = e.id; seq = e.seq; sum = e.sum }
 
--- a dead entry: for a minute its sequence number is kept, and nothing else of it (ISO/IEC 10589, 7.3.16.4)
+-- a purge: for a minute its sequence number is kept, and nothing else of it (ISO/IEC 10589, 7.3.16.4)
 abbrev pub purge : LspId → ℕ → Entry
 purge id seq = record { id = id; seq = seq; life = 0; hold = PURGE_HOLD; sum = 0; flags = 0; content = [] }
 
--- ---- how new something is beside an entry (ISO/IEC 10589, 7.3.16.2)
+-- ---- comparison with an entry (ISO/IEC 10589, 7.3.16.2)
 
--- At one sequence number: whether the entry is dead, whether the other is, whether the checksums agree. Two live ones whose
+-- At equal sequence numbers: whether the entry is expired, whether the other is, whether the checksums agree. Two live ones whose
 -- checksums differ are LSP confusion (ISO/IEC 10589, 7.3.16.2).
 abbrev pub age_by_life : Bool → Bool → Bool → Age
 age_by_life true true sums = Equal
@@ -110,11 +110,11 @@ is_newer_or_confused Confused = true
 
 -- ---- one second (ISO/IEC 10589, 7.3.16.3 and 7.3.16.4)
 
--- A live entry loses a second, and expires at 0. A dead one loses a second of its hold, and goes at 0.
+-- A live entry loses a second, and expires at 0. A purge loses a second of its hold, and is removed at 0.
 abbrev pub aged : Entry → Aged
 aged e = if nat_lt 0 e.life then (if e.life == 1 then Expired else Live) else (if nat_le e.hold 1 then Removed else Held)
 
--- what it is then; one that expires is a purge
+-- the entry after that second; one that expires is a purge
 abbrev pub aged_to : Aged → Entry → Option Entry
 aged_to Live e = Some (record e { life = e.life - 1 })
 aged_to Expired e = Some (purge e.id e.seq)
@@ -126,7 +126,7 @@ after_second e = aged_to (aged e) e
 
 -- ---- flags
 
--- On which links an LSP is to be sent (SRM), and on which an entry of a PSNP is (SSN).
+-- The interfaces on which an LSP must be sent (SRM), and those on which its summary must be sent in a PSNP (SSN).
 pub record FlagRow : Type 0 where
   pub id : LspId
   pub srm : List Bool
@@ -135,7 +135,7 @@ pub record FlagRow : Type 0 where
 abbrev pub no_flags : ℕ → LspId → FlagRow
 no_flags links id = record { id = id; srm = replicate links false; ssn = replicate links false }
 
--- changes the row of an identifier, which has no flags where it isn't there yet
+-- changes the row of an LSP ID; without a row it starts with no flags
 abbrev pub at_row : ℕ → LspId → (FlagRow → FlagRow) → List FlagRow → List FlagRow
 at_row links id change [] = change (no_flags links id) ∷ []
 at_row links id change (row ∷ rows) =
@@ -144,7 +144,7 @@ at_row links id change (row ∷ rows) =
     (change row ∷ rows)
     (row ∷ at_row links id change rows)
 
--- without the row of an identifier
+-- without the row of an LSP ID
 abbrev pub without_row : LspId → List FlagRow → List FlagRow
 without_row id [] = []
 without_row id (row ∷ rows) = if same_id row.id id then rows else row ∷ without_row id rows
@@ -157,8 +157,8 @@ abbrev pub ssn_in : List FlagRow → LspId → ℕ → Bool
 ssn_in [] id link = false
 ssn_in (row ∷ rows) id link = if same_id row.id id then slice_index_or row.ssn link false else ssn_in rows id link
 
--- What flooding keeps beside the LSDB: the own system, which links are up, on which of them a CSNP is due, and
--- the flags, in the order of their identifiers, none twice. An identifier without a row has no flag.
+-- The state of flooding beside the LSDB: the router's own system ID, which interfaces are up, on which of them a CSNP is due, and
+-- the flags, in the order of their LSP IDs, none twice. An LSP ID without a row has no flags.
 pub record Flood : Type 0 where
   pub own : SystemId
   pub up : List Bool
@@ -173,14 +173,14 @@ ssn f id link = ssn_in f.rows id link
 
 -- ---- the state
 
--- A router that is spent has used the last sequence number and issues no LSP until it restarts.
+-- The sequence number space of a router that is spent is exhausted; it originates no LSP until it restarts.
 pub record Control : Type 0 where
   pub conf : RouterConf
   pub flood : Flood
   pub entries : List Entry
   pub spent : Bool
 
--- the identifier of a system's own fragment 0
+-- the LSP ID of a system's own fragment 0
 abbrev pub fragment_0 : SystemId → LspId
 fragment_0 system = record { system = system; pseudonode = 0; fragment = 0 }
 
@@ -188,7 +188,7 @@ fragment_0 system = record { system = system; pseudonode = 0; fragment = 0 }
 abbrev pub own_entry_in : Control → Option Entry
 own_entry_in c = entry_in c.entries (fragment_0 c.conf.system)
 
--- no flag stands at a link that is down
+-- no flag is set for an interface that is down
 abbrev pub IsWithinLinks : List Bool → List Bool → Type 0
 IsWithinLinks [] [] = Unit {0}
 IsWithinLinks [] (y ∷ ys) = ⊥
@@ -200,23 +200,23 @@ pub record IsFlagRow (up : List Bool) (row : FlagRow) : Type 0 where
   pub srm_up : IsWithinLinks row.srm up
   pub ssn_up : IsWithinLinks row.ssn up
 
--- what every flood state keeps
+-- the invariant of every flood state
 pub record IsFlood (f : Flood) : Type 0 where
   pub few : length f.up ≤ MOST_ENDS
   pub due_up : IsWithinLinks f.due f.up
   pub rows : AllByRecursion (IsFlagRow f.up) f.rows
   pub in_order : AreAscending (map (λ row. row.id) f.rows)
 
--- what every LSDB keeps
+-- the invariant of every LSDB
 pub record IsDatabase (entries : List Entry) : Type 0 where
   pub few : length entries ≤ most_entries
   pub in_order : AreAscending (ids_of entries)
 
--- the identifier has an entry
+-- the LSP ID has an entry
 abbrev pub HasEntry : List Entry → FlagRow → Type 0
 HasEntry entries row = (e : Entry) × (entry_in entries row.id ≡ Some e)
 
--- what every control state keeps
+-- the invariant of every control state
 pub record IsControl (c : Control) : Type 0 where
   pub flood : IsFlood c.flood
   pub entries : IsDatabase c.entries

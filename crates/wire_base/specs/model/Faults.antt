@@ -1,4 +1,5 @@
--- The number of each rule that a reader of octets tests, from 1 in the order of its type, and its name. Want of memory breaks no rule: its number is 0.
+-- The number and name of each rule that a parser tests, from 1 in the order of its type. Out of memory is no rule: its number
+-- is 0.
 use Rattle.std.specs.Prelude.{ℕ, List, codes}
 use Rattle.wire_base.specs.declared.faults.HeadFault.{HeadFault}
 use Rattle.wire_base.specs.declared.faults.HeadFault.TheVariants as head

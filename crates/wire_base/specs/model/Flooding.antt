@@ -1,8 +1,8 @@
--- Flooding on point-to-point links: what a control state becomes, what is sent, and what is dropped
+-- Flooding on point-to-point links: the next control state, what is sent, and what is dropped
 -- (ISO/IEC 10589, 7.3.15 to 7.3.17).
 --
--- A flood state and an LSDB change together; what is asked of the router beside that, as to issue its own LSP
--- again, is an answer, and the control state does it. All links here are up, unless it is said otherwise.
+-- A flood state and an LSDB change together. What else a PDU requests of the router, such as to originate its own LSP
+-- again, is returned, and the control state does it. All links here are up, unless stated otherwise.
 use Rattle.std.specs.Prelude.{ℕ, ◌+◌, ◌==◌, ◌&&◌, ◌||◌, not, nat_lt, Bool, true, false, List, [], ◌∷◌, ◌++◌, length, map, filter, fold, take, replicate, slice_index, slice_index_or, slice_set, Option, Some, None, if◌then◌else◌}
 use Rattle.std.specs.List.{filter_map, list_any}
 use Rattle.byteorder.specs.Endian.{big_bytes, big_number}
@@ -36,11 +36,11 @@ no_links f = replicate (length f.up) false
 abbrev pub with_row : Flood → LspId → (FlagRow → FlagRow) → Flood
 with_row f id change = record f { rows = at_row (length f.up) id change f.rows }
 
--- to be sent on a link, and no acknowledgement of it there
+-- sets SRM and clears SSN on a link: the LSP is to be sent, not acknowledged
 abbrev pub send_on : ℕ → FlagRow → FlagRow
 send_on link row = record row { srm = slice_set row.srm link true; ssn = slice_set row.ssn link false }
 
--- to be acknowledged or asked for on a link, and not sent there
+-- sets SSN and clears SRM on a link: the LSP is to be acknowledged or requested, not sent
 abbrev pub ask_on : ℕ → FlagRow → FlagRow
 ask_on link row = record row { srm = slice_set row.srm link false; ssn = slice_set row.ssn link true }
 
@@ -57,11 +57,11 @@ clear_both link row = record row { srm = slice_set row.srm link false; ssn = sli
 unfoldable pub mark_all : Flood → LspId → Flood
 mark_all f id = with_row f id (λ row. record row { srm = f.up; ssn = no_links f })
 
--- came on a link: to be acknowledged there, and to be sent on all other links that are up
+-- received on a link: to be acknowledged there, and to be sent on all other links that are up
 abbrev pub pass_on : Flood → LspId → ℕ → Flood
 pass_on f id link = with_row f id (λ row. record row { srm = slice_set f.up link false; ssn = slice_set (no_links f) link true })
 
--- the flags of an identifier go
+-- clears the flags of an LSP ID
 unfoldable pub forget : Flood → LspId → Flood
 forget f id = record f { rows = without_row id f.rows }
 
@@ -72,32 +72,32 @@ pub record LspAnswer : Type 0 where
   pub entries : List Entry
   pub answer : FloodOut
 
--- nothing is changed
+-- nothing changes
 abbrev pub only_says : Flood → List Entry → FloodOut → LspAnswer
 only_says f entries answer = record { flood = f; entries = entries; answer = answer }
 
--- its flags alone are changed
+-- only its flags change
 abbrev pub flags_alone : Flood → List Entry → LspAnswer
 flags_alone f entries = record { flood = f; entries = entries; answer = out.Kept }
 
--- an entry is put and marked on all links
+-- an entry is stored and marked for sending on all links
 abbrev pub puts_marked : Flood → List Entry → Entry → LspAnswer
 puts_marked f entries e = record { flood = mark_all f e.id; entries = put_entry e entries; answer = out.Kept }
 
--- what an LSDB keeps of an LSP: of a dead one a purge
+-- the LSDB entry of an LSP: a purge for an expired one
 abbrev pub kept : Head → List ℕ → Entry
 kept h tlvs =
     if h.life == 0
     then purge h.id h.seq
     else record { id = h.id; seq = h.seq; life = h.life; hold = 0; sum = h.sum; flags = h.flags; content = tlvs }
 
--- it is stored and passed on
+-- the LSP is stored and flooded further
 abbrev pub stores : Flood → List Entry → ℕ → Entry → LspAnswer
 stores f entries link e = record { flood = pass_on f e.id link; entries = put_entry e entries; answer = out.Kept }
 
--- By how new it is, where it isn't a matter of the own LSPs. One of equal sequence number and another checksum is LSP
--- confusion (ISO/IEC 10589, 7.3.16.2): nobody can tell which of the two its system meant, so the entry becomes a purge of
--- that sequence number, which goes out on all links, and the system that issued it issues a newer one when it hears the purge.
+-- The result by the comparison, except for the router's own LSPs. An equal sequence number with another checksum is LSP
+-- confusion (ISO/IEC 10589, 7.3.16.2): nobody can tell which of the two its originator meant. So the entry becomes a purge of
+-- that sequence number, which is sent on all links, and the originator originates a newer one when it receives the purge.
 abbrev pub lsp_aged : Flood → List Entry → ℕ → Head → List ℕ → Age → LspAnswer
 lsp_aged f entries link h tlvs Unknown =
     if h.life == 0 then only_says f entries (out.Ack (head_summary h))
@@ -108,11 +108,11 @@ lsp_aged f entries link h tlvs Confused = puts_marked f entries (purge h.id h.se
 lsp_aged f entries link h tlvs Equal = flags_alone (with_row f h.id (ask_on link)) entries
 lsp_aged f entries link h tlvs Older = flags_alone (with_row f h.id (send_on link)) entries
 
--- an LSP of the own system that the router didn't issue, or issued before it restarted
+-- a self-originated LSP that the router does not hold, or that it originated before it restarted
 abbrev pub is_unheld_own : Flood → Head → Age → Bool
 is_unheld_own f h age = same_system h.id.system f.own && (nat_lt 0 h.life && (is_unknown age || is_newer_or_confused age))
 
--- the own LSP, at another sequence number or another content than the router's
+-- the own LSP, with another sequence number or another content than the router's
 abbrev pub is_own_ahead : Flood → LspId → Bool → Age → Bool
 is_own_ahead f id spent age = same_id id (fragment_0 f.own) && (not spent && is_newer_or_confused age)
 
@@ -123,11 +123,11 @@ lsp_in f entries link h tlvs spent age =
     else if is_unheld_own f h age then (if is_unknown age && is_full entries then only_says f entries out.Full else puts_marked f entries (purge h.id h.seq))
     else lsp_aged f entries link h tlvs age
 
--- an LSP on a link; spent says that the router issues none itself
+-- an LSP on a link; `spent` means that the router originates none itself
 unfoldable pub on_lsp : Flood → List Entry → ℕ → Head → List ℕ → Bool → LspAnswer
 on_lsp f entries link h tlvs spent = lsp_in f entries link h tlvs spent (age_of (entry_in entries h.id) (head_summary h))
 
--- ---- a sequence number PDU on a link (ISO/IEC 10589, 7.3.15.2)
+-- ---- a CSNP or PSNP on a link (ISO/IEC 10589, 7.3.15.2)
 
 pub record SnpAnswer : Type 0 where
   pub flood : Flood
@@ -137,8 +137,8 @@ pub record SnpAnswer : Type 0 where
 abbrev pub with_flags : SnpAnswer → LspId → (FlagRow → FlagRow) → SnpAnswer
 with_flags a id change = record a { flood = with_row a.flood id change }
 
--- A peer has an LSP that is unknown here. An empty entry of sequence number 0 stands for it until it comes, and asks
--- for it.
+-- A neighbor has an LSP that is unknown here. An empty entry of sequence number 0 represents it until it comes, and requests
+-- it.
 abbrev pub wanted : Summary → Entry
 wanted s = record { id = s.id; seq = 0; life = 0; hold = PURGE_HOLD; sum = 0; flags = 0; content = [] }
 
@@ -151,8 +151,8 @@ asks a link s =
 abbrev pub is_live_summary : Summary → Bool
 is_live_summary s = nat_lt 0 s.life && (nat_lt 0 s.seq && nat_lt 0 s.sum)
 
--- By how new the listed one is; its sequence number is above 0. Confusion purges here too, but of the own LSP, which is issued
--- anew past that number.
+-- The result by the comparison with the listed one, whose sequence number is above 0. LSP confusion purges here too, except for
+-- the own LSP, which is originated again past that number.
 abbrev pub listed_aged : SnpAnswer → ℕ → Summary → Bool → Age → SnpAnswer
 listed_aged a link s spent Unknown = if is_live_summary s then asks a link s else a
 listed_aged a link s spent Newer = with_flags a s.id (ask_on link)
@@ -163,7 +163,7 @@ listed_aged a link s spent Confused =
     then record a { answer = record a.answer { reissue = Some s.seq } }
     else record a { flood = mark_all a.flood s.id; entries = put_entry (purge s.id s.seq) a.entries }
 
--- an entry of a sequence number PDU: one of sequence number 0 asks for what there is
+-- an LSP entry of a CSNP or PSNP; one of sequence number 0 requests the LSP
 unfoldable pub on_listed : ℕ → Bool → SnpAnswer → Summary → SnpAnswer
 on_listed link spent a s =
     if s.seq == 0
@@ -173,18 +173,18 @@ on_listed link spent a s =
 abbrev pub nothing_asked : SnpOut
 nothing_asked = record { reissue = None; full = 0 }
 
--- the entries of a sequence number PDU, in order
+-- the LSP entries of a CSNP or PSNP, in order
 unfoldable pub on_list : Flood → List Entry → ℕ → List Summary → Bool → SnpAnswer
 on_list f entries link rows spent = fold (on_listed link spent) (record { flood = f; entries = entries; answer = nothing_asked }) rows
 
 abbrev pub lists : List Summary → LspId → Bool
 lists rows id = list_any (λ s. same_id s.id id) rows
 
--- whether a CSNP from start to last that lists these rows should have listed a live entry, and doesn't
+-- whether a CSNP from start to last with these LSP entries lacks a live entry that it should list
 abbrev pub lacks : LspId → LspId → List Summary → Entry → Bool
 lacks start last rows e = nat_lt 0 e.life && (nat_lt 0 e.seq && (not (is_below e.id start) && (not (is_below last e.id) && not (lists rows e.id))))
 
--- what it lacks is to be sent
+-- what the CSNP lacks is to be sent
 abbrev pub send_lacking : ℕ → LspId → LspId → List Summary → Flood → Entry → Flood
 send_lacking link start last rows f e = if lacks start last rows e then with_row f e.id (set_srm link true) else f
 
@@ -207,15 +207,15 @@ new_flood own up = record { own = own; up = up; due = up; rows = [] }
 abbrev pub send_known : ℕ → Flood → Entry → Flood
 send_known link f e = if nat_lt 0 e.seq then with_row f e.id (set_srm link true) else f
 
--- a link comes up: all that is known is to be sent there
+-- a link comes up: all known LSPs are to be sent there
 unfoldable pub link_up : Flood → List Entry → ℕ → Flood
 link_up f entries link = fold (send_known link) (record f { up = slice_set f.up link true; due = slice_set f.due link true }) entries
 
--- a link goes down, and its flags go
+-- a link goes down: its flags are cleared
 unfoldable pub link_down : Flood → ℕ → Flood
 link_down f link = record f { up = slice_set f.up link false; due = slice_set f.due link false; rows = map (clear_both link) f.rows }
 
--- all that was due on a link was sent: an acknowledgement alone ends the sending of an LSP
+-- everything due on a link was sent: only an acknowledgement ends the sending of an LSP
 unfoldable pub sent_on : Flood → ℕ → Flood
 sent_on f link = record f { due = slice_set f.due link false; rows = map (clear_ssn link) f.rows }
 
@@ -230,14 +230,14 @@ pub record Reply : Type 0 where
 abbrev pub quiet : Control → Reply
 quiet c = record { control = c; sent = []; drops = [] }
 
--- an own LSP is put and marked on all links
+-- an own LSP is stored and marked for sending on all links
 abbrev pub issue : Control → Entry → Control
 issue c e = record c { flood = mark_all c.flood e.id; entries = put_entry e c.entries }
 
 abbrev pub last_sequence : ℕ
 last_sequence = 4294967295
 
--- Issues the own LSP past a sequence number. Past the last one there is none: the LSP is purged, and the router is
+-- Originates the own LSP past a sequence number. Past the last one there is none: the LSP is purged, and the router is
 -- spent (ISO/IEC 10589, 7.3.16.1).
 unfoldable pub reissue : Control → ℕ → Control
 reissue c s =
@@ -249,7 +249,7 @@ abbrev pub reissue_if : Control → Option ℕ → Control
 reissue_if c None = c
 reissue_if c (Some s) = reissue c s
 
--- issues it past the sequence number that it has
+-- originates it past its current sequence number
 unfoldable pub reissue_unless_spent : Control → Control
 reissue_unless_spent c = if c.spent then c else reissue c (seq_of (own_entry_in c))
 
@@ -268,7 +268,7 @@ answer_lsp c out.Zero = record { control = c; sent = []; drops = cause.Sequence 
 abbrev pub lsp_done : Control → LspAnswer → Reply
 lsp_done c a = answer_lsp (record c { flood = a.flood; entries = a.entries }) a.answer
 
--- one drop for each entry that found no room
+-- one drop for each entry for which there was no room
 abbrev pub snp_done : Control → SnpAnswer → Reply
 snp_done c a =
     record {
@@ -277,7 +277,7 @@ snp_done c a =
       drops = replicate a.answer.full cause.Full;
     }
 
--- a PDU on a link; hellos and other types change nothing
+-- a PDU on a link; hellos and other types have no effect
 unfoldable pub on_pdu : Control → ℕ → Pdu → Reply
 on_pdu c link (LspPdu h tlvs) = lsp_done c (on_lsp c.flood c.entries link h tlvs c.spent)
 on_pdu c link (CsnpPdu source start last tlvs) = snp_done c (on_csnp c.flood c.entries link start last tlvs c.spent)
@@ -300,7 +300,7 @@ flood_aged f e = flags_aged f e.id (aged e)
 unfoldable pub aged_all : Control → Control
 aged_all c = record c { flood = fold flood_aged c.flood c.entries; entries = filter_map after_second c.entries }
 
--- the own LSP is issued anew when so many seconds of its life are left
+-- the own LSP is refreshed when that many seconds of its Remaining Lifetime are left
 abbrev pub refresh_life : ℕ
 refresh_life = REFRESH_LIFE
 
@@ -325,11 +325,11 @@ last_id = record { system = record { 0 = replicate 6 255 }; pseudonode = 255; fr
 abbrev pub id_from : List ℕ → LspId
 id_from octets = record { system = record { 0 = take 6 octets }; pseudonode = slice_index octets 6; fragment = slice_index octets 7 }
 
--- the identifier one above
+-- the next LSP ID
 unfoldable pub id_after : LspId → LspId
 id_after id = id_from (big_bytes 8 (big_number 8 (lsp_id id) + 1))
 
--- the last identifier that a block lists
+-- the last LSP ID that a block lists
 abbrev pub last_listed : LspId → List Summary → LspId
 last_listed id [] = id
 last_listed id (s ∷ ss) = last_listed s.id ss
@@ -337,14 +337,14 @@ last_listed id (s ∷ ss) = last_listed s.id ss
 abbrev pub csnp_of : Control → LspId → LspId → List Summary → Pdu
 csnp_of c start last rows = CsnpPdu c.conf.system start last (row_tlvs rows)
 
--- Together the CSNPs cover all identifiers: the first begins at the least, each other one above the one before, and
+-- Together the CSNPs cover all LSP IDs: the first begins at the least, each other one directly after the one before, and
 -- the last ends at the greatest.
 abbrev pub csnps : Control → LspId → List (List Summary) → List Pdu
 csnps c start [] = csnp_of c start last_id [] ∷ []
 csnps c start (block ∷ []) = csnp_of c start last_id block ∷ []
 csnps c start (block ∷ next ∷ more) = csnp_of c start (last_listed start block) block ∷ csnps c (id_after (last_listed start block)) (next ∷ more)
 
--- a sequence number PDU lists so many entries
+-- the maximum number of LSP entries in a CSNP or PSNP
 abbrev pub most_listed : ℕ
 most_listed = MOST_LISTED
 
@@ -364,14 +364,14 @@ due_lsps c link = map lsp_of (filter (λ e. srm c.flood e.id link) c.entries)
 abbrev pub due_psnps : Control → ℕ → List Pdu
 due_psnps c link = map (psnp_of c) (blocks most_listed (map summary_of (filter (λ e. ssn c.flood e.id link) c.entries)))
 
--- what is to be sent on a link: the CSNPs that are due, the LSPs, and the entries that are acknowledged or asked for
+-- what is to be sent on a link: the CSNPs that are due, the LSPs, and the PSNP entries that acknowledge or request LSPs
 unfoldable pub send_of : Control → ℕ → List Pdu
 send_of c link = due_csnps c (slice_index_or c.flood.due link false) ++ (due_lsps c link ++ due_psnps c link)
 
 unfoldable pub send : Control → ℕ → Reply
 send c link = record { control = record c { flood = sent_on c.flood link }; sent = send_of c link; drops = [] }
 
--- ---- ends and restart
+-- ---- interfaces and restart
 
 unfoldable pub end_up : Control → ℕ → Reply
 end_up c link = quiet (reissue_unless_spent (record c { flood = link_up c.flood c.entries link }))
@@ -379,15 +379,15 @@ end_up c link = quiet (reissue_unless_spent (record c { flood = link_up c.flood 
 unfoldable pub end_down : Control → ℕ → Reply
 end_down c link = quiet (reissue_unless_spent (record c { flood = link_down c.flood link }))
 
--- a router that has just started: its own LSP is all that it knows
+-- a router that has just started: it knows only its own LSP
 unfoldable pub started : RouterConf → List Bool → Control
 started r up =
     issue (record { conf = r; flood = new_flood r.system up; entries = []; spent = false }) (own_lsp r up 1)
 
--- the first state of a router, with all its ends up
+-- the first state of a router, with all its interfaces up
 unfoldable pub first_control : RouterConf → Control
 first_control r = started r (replicate (length r.ends) true)
 
--- a restart forgets the LSDB; each end keeps its state
+-- a restart discards the LSDB; the state of each interface is kept
 unfoldable pub restart : Control → Reply
 restart c = quiet (started c.conf c.flood.up)

@@ -1,4 +1,4 @@
--- The routers that one router knows of and the links between them, as a graph. A node is named by its place in the list.
+-- The routers that one router knows and the links between them, as a graph. A node is identified by its index in the list.
 use Rattle.std.specs.Prelude.{◌≡◌, ℕ, ◌≤◌, ◌<◌, ◌^◌, ◌==◌, ◌&&◌, ◌||◌, nat_lt, Bool, true, false, List, [], ◌∷◌, length, slice_get, All, AllPairs, Option, Some, None, is_some, option_map, filter, if◌then◌else◌}
 use Rattle.std.specs.List.{list_any, range_with_len}
 use Rattle.wire_base.specs.declared.limits.TheConstants.{MOST_NODES}
@@ -11,11 +11,11 @@ use Rattle.wire_base.specs.declared.view.ViewNode.{ViewNode}
 use Rattle.wire_base.specs.declared.view.ViewSub.{ViewSub}
 use Rattle.wire_base.specs.model.Place.{bift_of}
 
--- what contracts see of a view
+-- a view, as contracts model it
 pub record Graph : Type 0 where
   pub nodes : List ViewNode
 
--- the edges that leave a node, none where there is no such node
+-- the edges of a node, none where there is no such node
 abbrev pub edges_at : Option ViewNode → List ViewEdge
 edges_at None = []
 edges_at (Some n) = n.edges
@@ -31,7 +31,7 @@ overload_at (Some n) = n.overload
 abbrev pub is_overloaded : List ViewNode → ℕ → Bool
 is_overloaded g u = overload_at (slice_get g u)
 
--- the order of system identifiers: the first octet that differs decides
+-- the order of system IDs: the first octet that differs decides
 abbrev pub octets_before : List ℕ → List ℕ → Bool
 octets_before xs [] = false
 octets_before [] (y ∷ ys) = true
@@ -40,36 +40,36 @@ octets_before (x ∷ xs) (y ∷ ys) = nat_lt x y || ((x == y) && octets_before x
 abbrev pub IsBefore : SystemId → SystemId → Type 0
 IsBefore a b = octets_before a.0 b.0 ≡ true
 
--- an edge leads to one of so many nodes, and its metric is a number of 32 bits above 0
+-- an edge leads to one of that many nodes, and its metric is a 32-bit number above 0
 pub record IsEdge (count : ℕ) (e : ViewEdge) : Type 0 where
   pub names : e.to < count
   pub positive : 0 < e.metric
   pub small : e.metric < 2 ^ 32
 
--- the edges of a node stand in the order of the nodes that they lead to, one for each
+-- the edges of a node are in the order of the nodes that they lead to, one for each
 pub record IsNode (count : ℕ) (n : ViewNode) : Type 0 where
   pub edges : All (λ e. IsEdge count e) n.edges
   pub edges_in_order : AllPairs (λ a b. a.to < b.to) n.edges
   pub subs_differ : AllPairs (λ a b. a.sd ≡ b.sd → ⊥) n.subs
   pub ranges_differ : All (λ s. AllPairs (λ a b. a.bsl ≡ b.bsl → ⊥) s.ranges) n.subs
 
--- no BFR-prefix of the one node is one of the other
+-- no BFR-prefix of one node is one of the other
 abbrev pub ShareNoPrefix : ViewNode → ViewNode → Type 0
 ShareNoPrefix a b = All (λ s. All (λ r. s.prefix ≡ r.prefix → ⊥) b.subs) a.subs
 
--- what every view keeps: the nodes stand in the order of their systems, each once
+-- the invariant of every view: the nodes are in the order of their system IDs, each once
 pub record IsGraph (g : List ViewNode) : Type 0 where
   pub few : length g ≤ MOST_NODES
   pub in_order : AllPairs (λ a b. IsBefore a.system b.system) g
   pub nodes : All (λ n. IsNode (length g) n) g
   pub prefixes_differ : AllPairs ShareNoPrefix g
 
--- what a node says of itself in a sub-domain
+-- what a node advertises for a sub-domain
 abbrev pub place_in : List ViewSub → ℕ → Option ViewSub
 place_in [] sd = None
 place_in (s ∷ subs) sd = if s.sd == sd then Some s else place_in subs sd
 
--- the BIFT-id that a node gives a triple (RFC 8279, 6.9; RFC 8401, 6.2)
+-- the BIFT-id of a triple at a node (RFC 8279, 6.9; RFC 8401, 6.2)
 unfoldable pub node_bift : List SubKind → List TableRow → Triple → ViewNode → Option ℕ
 node_bift kinds table t n = bift_of kinds table (option_map (λ s. s.ranges) (place_in n.subs t.sd)) t
 
@@ -81,7 +81,7 @@ abbrev pub node_covers : List SubKind → List TableRow → Triple → Option Vi
 node_covers kinds table t None = false
 node_covers kinds table t (Some n) = covers kinds table t n
 
--- the same of a node by its place
+-- the same for a node by its index
 abbrev pub covers_at : List SubKind → List TableRow → Triple → List ViewNode → ℕ → Bool
 covers_at kinds table t g u = node_covers kinds table t (slice_get g u)
 

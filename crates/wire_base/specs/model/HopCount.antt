@@ -1,4 +1,4 @@
--- How many routers a bit passes until the router that owns it, and how many links a tunnel has.
+-- How many routers a bit passes until it reaches its owner, and how many links a tunnel has.
 use Rattle.std.specs.Prelude.{◌≡◌, ℕ, zero, suc, ◌+◌, ◌≤◌, ◌==◌, Bool, List, length, Option, Some, None, option_map, option_and_then, if◌then◌else◌}
 use Rattle.wire_base.specs.declared.conf.SubKind.{SubKind}
 use Rattle.wire_base.specs.declared.conf.TableRow.{TableRow}
@@ -8,12 +8,12 @@ use Rattle.wire_base.specs.model.Graph.{has_id_at}
 use Rattle.wire_base.specs.model.Tight.{next_step}
 use Rattle.wire_base.specs.model.Choice.{choose}
 
--- how often next is followed from u until a node that passes the test, at most k times
+-- how many times next is followed from u until a node that passes the test, at most k times
 abbrev pub follow : (ℕ → Option ℕ) → (ℕ → Bool) → ℕ → ℕ → Option ℕ
 follow next ends zero u = if ends u then Some 0 else None
 follow next ends (suc k) u = if ends u then Some 0 else option_and_then (λ x. option_map (λ n. n + 1) (follow next ends k x)) (next u)
 
--- how often the choice is followed from u until the owner of k: 0 where u has k itself
+-- how many times the choice is followed from u until the owner of k: 0 where u has k itself
 unfoldable pub hops : List ViewNode → List SubKind → List TableRow → Triple → ℕ → ℕ → ℕ → Option ℕ
 hops g kinds table t class k u = follow (λ x. choose g kinds table t class x k) (has_id_at g t.sd k) (length g) u
 
@@ -23,6 +23,6 @@ pub record CoversPath (g : List ViewNode) (kinds : List SubKind) (table : List T
   pub is : hops g kinds table t class k u ≡ Some count
   pub enough : count ≤ ttl
 
--- how many tight steps of least system lead from u to x
+-- how many tight steps with the least system ID lead from u to x
 unfoldable pub tunnel_links : List ViewNode → ℕ → ℕ → Option ℕ
 tunnel_links g x u = follow (next_step g x) (λ z. z == x) (length g) u

@@ -1,4 +1,4 @@
--- Where a packet enters the domain: the packets that a list of BFR-ids makes, one for each set identifier, and what the
+-- Where a packet enters the domain: the packets for a list of BFR-ids, one for each set identifier, and what the
 -- router does with them (RFC 8279, 3 and 6.5; RFC 8296, 3).
 use Rattle.std.specs.Prelude.{ℕ, ◌+◌, ◌==◌, ◌&&◌, nat_lt, Bool, false, List, [], ◌∷◌, map, filter, find, is_none, Option, Some, None, unwrap_or, if◌then◌else◌}
 use Rattle.std.specs.List.{list_any}
@@ -45,12 +45,12 @@ packet_for sd bsl ids si = record { triple = record { sd = sd; bsl = bsl; si = s
 unfoldable pub packets_for : ℕ → Bsl → List ℕ → List IngressPacket
 packets_for sd bsl ids = map (packet_for sd bsl ids) (sets_of bsl ids)
 
--- ---- refusals
+-- ---- rejections
 
 abbrev pub is_large : Bsl → ℕ → Bool
 is_large bsl k = nat_lt 255 (set_identifier (bits_of bsl) k)
 
--- whether a router with those ranges in a sub-domain of that kind has a BIFT-id for some set of that length
+-- whether a router with those ranges in a sub-domain of that kind has a BIFT-id for some set of that BSL
 abbrev pub has_length : Option Kind → List TableRow → ℕ → Bsl → Option (List LabelRange) → Bool
 has_length kind table sd bsl None = false
 has_length None table sd bsl (Some ranges) = false
@@ -70,7 +70,7 @@ large_fault r sd bsl None = router_fault r sd bsl
 abbrev pub ids_fault : RouterConf → ℕ → Bsl → List ℕ → Option EdgeFault
 ids_fault r sd bsl ids = if list_any (λ k. k == 0) ids then Some IdZero else large_fault r sd bsl (find (is_large bsl) ids)
 
--- The first reason for which a router makes no packets for a list of BFR-ids.
+-- The first reason for which a router sends no packets to a list of BFR-ids.
 unfoldable pub edge_fault : RouterConf → ℕ → Bsl → List ℕ → Option EdgeFault
 edge_fault r sd bsl [] = Some NoEgress
 edge_fault r sd bsl (k ∷ ks) = ids_fault r sd bsl (k ∷ ks)
@@ -89,7 +89,7 @@ entering r ttl entropy payload p =
       payload = payload;
     }
 
--- A payload enters for a list of BFR-ids: each packet is hopped with one more than the given TTL, so that its copies
--- carry that TTL.
+-- A payload enters for a list of BFR-ids: each packet is processed with one more than the given TTL, so that its copies
+-- have that TTL.
 unfoldable pub inject : Control → ℕ → Bsl → List ℕ → ℕ → ℕ → List ℕ → Effects
 inject c sd bsl ids ttl entropy payload = joined (map (λ p. hop_in c (entering c.conf ttl entropy payload p) (ttl + 1)) (packets_for sd bsl ids))

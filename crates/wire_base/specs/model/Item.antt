@@ -1,4 +1,4 @@
--- What stands on a link, from one router to another, and the frame that it is there (RFC 8296, 2 and 3; RFC 2784;
+-- What is in flight on a link, from one router to another, and its frame there (RFC 8296, 2 and 3; RFC 2784;
 -- ISO/IEC 10589, 8.4 and 9.8 to 9.13).
 use Rattle.std.specs.Prelude.{◌≡◌, ℕ, ◌+◌, true, List, [], ◌∷◌, ◌++◌, length, map, Option, Some, None, if◌then◌else◌}
 use Rattle.std.specs.Str.{bytes_eq}
@@ -15,17 +15,17 @@ use Rattle.wire_base.specs.model.Pdu.{Pdu, pdu}
 use Rattle.wire_base.specs.model.Place.{bits_of, code_of, bit_position}
 use Rattle.wire_base.specs.model.Tunnel.{TunnelPacket, tunnel, protocol_of}
 
--- ---- frames on an end
+-- ---- frames on an interface
 
 -- IS-IS frames go to all routers of the link (ISO/IEC 10589, 8.4)
 abbrev pub all_routers : List ℕ
 all_routers = 9 ∷ 0 ∷ 43 ∷ 0 ∷ 0 ∷ 5 ∷ []
 
--- a PDU behind the logical link control FE FE 03
+-- a PDU after the LLC header FE FE 03
 abbrev pub isis_frame : Mac → List ℕ → List ℕ
 isis_frame own octets = ethernet all_routers own.0 (3 + length octets) ++ (254 ∷ 254 ∷ 3 ∷ octets)
 
--- a BIER packet behind the type of its kind
+-- a BIER packet after the EtherType of its kind
 abbrev pub bier_frame : Mac → Mac → Kind → List ℕ → List ℕ
 bier_frame peer own kind octets = ethernet peer.0 own.0 (protocol_of kind) ++ octets
 
@@ -34,14 +34,14 @@ ip_frame peer own octets = ethernet peer.0 own.0 ip_type ++ octets
 
 -- ---- items
 
--- The ends of a tunnel, and its time to live.
+-- The endpoints of a tunnel, and its TTL.
 pub record Outer : Type 0 where
   pub src : Ipv4
   pub dst : Ipv4
   pub ttl : ℕ
 
--- A copy of a packet: the number of the injection that it comes of, the entropy, the ingress's BFR-id and the payload;
--- its triple, how the sub-domain gives BIFT-ids, and the BIFT-id of its target; its BFR-ids, ascending, and its TTL; and
+-- A copy of a packet: the number of its injection, the entropy, the ingress's BFR-id and the payload; its triple, the kind of
+-- its sub-domain, and the BIFT-id at its target; its BFR-ids, ascending, and its TTL; and
 -- the tunnel that it is in.
 pub record DataItem : Type 0 where
   pub number : ℕ
@@ -63,8 +63,8 @@ pub data Item : Type 0 where
 abbrev pub positions_of : Triple → List ℕ → List ℕ
 positions_of t ids = map (bit_position (bits_of t.bsl)) ids
 
--- The header that an ingress writes: with nibble 5 and protocol 4, IPv4, and else 0 but for what is given. All copies of
--- the packet keep it but for the BIFT-id, the TTL and the BitString.
+-- The header that an ingress writes: nibble 5, protocol 4 (IPv4), the given values, and 0 for all other fields. All copies of
+-- the packet keep it except for the BIFT-id, the TTL and the BitString.
 unfoldable pub ingress_header : Triple → List ℕ → ℕ → ℕ → ℕ → ℕ → BierHeader
 ingress_header t positions bift ttl entropy bfir =
     record {
@@ -98,14 +98,14 @@ abbrev pub packet_frame : Mac → Mac → DataItem → Option Outer → List ℕ
 packet_frame peer own x None = bier_frame peer own x.kind (item_packet x)
 packet_frame peer own x (Some o) = ip_frame peer own (tunnel (item_tunnel x o))
 
--- The frame of an item on the end that sent it, in a domain of that level.
+-- The frame of an item on the interface that sent it, in a domain of that level.
 unfoldable pub frame_of : Level → End → Item → List ℕ
 frame_of level e (ControlItem p) = isis_frame e.own_mac (pdu level p)
 frame_of level e (PacketItem x) = packet_frame e.peer_mac e.own_mac x x.outer
 
 -- ---- the target
 
--- the place of the first router with a prefix
+-- the index of the first router with a prefix
 abbrev pub router_with : ℕ → List RouterConf → Ipv4 → Option ℕ
 router_with i [] prefix = None
 router_with i (r ∷ rs) prefix = if bytes_eq r.prefix.0 prefix.0 then Some i else router_with (i + 1) rs prefix
@@ -114,10 +114,10 @@ abbrev pub outer_target : List RouterConf → ℕ → Option Outer → Option �
 outer_target routers b None = Some b
 outer_target routers b (Some o) = router_with 0 routers o.dst
 
--- the router that an item on the way to router b is for: that at the tunnel's end, or b itself where there is none
+-- the router that an item in flight to router b is for: the one at the tunnel's end, or b itself where there is none
 abbrev pub target_of : List RouterConf → ℕ → DataItem → Option ℕ
 target_of routers b x = outer_target routers b x.outer
 
--- an item that is in no tunnel
+-- an item that is not in a tunnel
 abbrev pub IsDirect : DataItem → Type 0
 IsDirect x = x.outer ≡ None

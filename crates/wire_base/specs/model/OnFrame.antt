@@ -1,4 +1,4 @@
--- One router on the octets of a frame: what its control state becomes, what it sends and delivers, and what it drops
+-- What one router does with the octets of a frame: its next control state, what it sends and delivers, and what it drops
 -- (RFC 8279, 6; RFC 8296, 2 and 3; RFC 2784; ISO/IEC 10589, 7.3.15).
 use Rattle.std.specs.Prelude.{ℕ, ◌+◌, ◌-◌, ◌/◌, ◌%◌, ◌==◌, nat_lt, nat_le, Bool, true, false, List, [], ◌∷◌, ◌++◌, length, map, drop, slice_get, slice_index_or, option_map, option_and_then, Option, Some, None, Result, Ok, Err, if◌then◌else◌}
 use Rattle.std.specs.List.{flat_map}
@@ -42,12 +42,12 @@ pub record Positions : Type 0 where
   pub triple : Triple
   pub positions : List ℕ
 
--- A drop has its positions where they have no row or the time to live has ended.
+-- A drop has its positions where they have no BIFT entry or the TTL has expired.
 pub record Drop : Type 0 where
   pub cause : Cause
   pub set : Option Positions
 
--- What a router sends, delivers and drops, in order; and whether it passed a frame over.
+-- What a router sends, delivers and drops, in order; and whether it ignored a frame.
 pub record Effects : Type 0 where
   pub sent : List Sent
   pub got : List Got
@@ -66,7 +66,7 @@ one_sent link octets = record nothing { sent = record { link = link; octets = oc
 abbrev pub one_drop : Cause → Option Positions → Effects
 one_drop why set = record nothing { drops = record { cause = why; set = set } ∷ [] }
 
--- a drop of what a frame is as a whole
+-- a drop of a whole frame
 abbrev pub dropped : Cause → Effects
 dropped why = one_drop why None
 
@@ -92,7 +92,7 @@ pdu_frame r (Some e) p = isis_frame e.own_mac (pdu r.level p)
 abbrev pub frames_of : RouterConf → ℕ → List Pdu → List Sent
 frames_of r link pdus = map (λ p. record { link = link; octets = pdu_frame r (slice_get r.ends link) p }) pdus
 
--- what flooding did, where its PDUs go out on a link
+-- the result of flooding, whose PDUs are sent on a link as frames
 unfoldable pub framed : ℕ → Reply → Next
 framed link r =
     record {
@@ -100,7 +100,7 @@ framed link r =
       effects = record nothing { sent = frames_of r.control.conf link r.sent; drops = map (λ why. record { cause = why; set = None }) r.drops };
     }
 
--- hellos and PDUs of other types are passed over
+-- hellos and PDUs of other types are ignored
 abbrev pub pdu_taken : Control → ℕ → Pdu → Next
 pdu_taken c link (LspPdu h tlvs) = framed link (on_pdu c link (LspPdu h tlvs))
 pdu_taken c link (CsnpPdu source start last tlvs) = framed link (on_pdu c link (CsnpPdu source start last tlvs))
@@ -112,22 +112,22 @@ abbrev pub pdu_read : Control → ℕ → Result Pdu PduFault → Next
 pdu_read c link (Ok p) = pdu_taken c link p
 pdu_read c link (Err fault) = unchanged c (dropped (cause.Pdu fault))
 
--- ---- where a frame goes
+-- ---- the next hop
 
--- the place of a system's node; past the end where there is none
+-- the index of a system's node; past the end where there is none
 abbrev pub node_place : List ViewNode → SystemId → ℕ
 node_place [] s = 0
 node_place (n ∷ g) s = if same_system n.system s then 0 else 1 + node_place g s
 
--- the end toward a node
+-- the interface toward a node
 abbrev pub link_to : RouterConf → List ViewNode → ℕ → Option ℕ
 link_to r g x = option_and_then (λ n. end_toward r.ends n.system) (slice_get g x)
 
--- the end on the way to a node: that of the tight step of least system
+-- the interface on the path to a node: that of the tight step with the least system ID
 abbrev pub next_link : RouterConf → List ViewNode → ℕ → ℕ → Option ℕ
 next_link r g u x = option_and_then (link_to r g) (next_step g x u)
 
--- the BIFT-id that a node gives a triple, and its BFR-prefix in the sub-domain
+-- the BIFT-id of a triple at a node, and the node's BFR-prefix in the sub-domain
 abbrev pub bift_at : RouterConf → List ViewNode → Triple → ℕ → Option ℕ
 bift_at r g t x = option_and_then (node_bift r.kinds r.table t) (slice_get g x)
 
@@ -136,7 +136,7 @@ prefix_of g sd x = option_and_then (λ n. option_map (λ s. s.prefix) (place_in 
 
 -- ---- a BIER packet
 
--- A packet that is hopped: its triple, how its sub-domain gives BIFT-ids, its header, and what follows.
+-- A packet in processing: its triple, the kind of its sub-domain, its header, and what follows.
 pub record Packet : Type 0 where
   pub triple : Triple
   pub kind : Kind
@@ -159,7 +159,7 @@ abbrev pub copy_of : Packet → ℕ → List ℕ → ℕ → List ℕ
 copy_of p bift ids ttl =
     header_octets (record p.header { bift = bift; ttl = ttl; positions = positions_of p.triple ids }) ++ p.payload
 
--- a frame on an end, where there is one
+-- a frame on an interface, where there is one
 abbrev pub sent_on : RouterConf → Option ℕ → (End → List ℕ) → Option Effects
 sent_on r None frame = None
 sent_on r (Some link) frame = option_map (λ e. one_sent link (frame e)) (slice_get r.ends link)
@@ -175,7 +175,7 @@ outer_ttl = 255
 abbrev pub tunnel_for : RouterConf → Packet → List ℕ → Ipv4 → TunnelPacket
 tunnel_for r p octets dst = record { src = r.prefix; dst = dst; ttl = outer_ttl; inner = p.kind; carried = octets }
 
--- a copy to any other router goes in a tunnel to its BFR-prefix
+-- a copy to any other router is sent in a tunnel to its BFR-prefix
 abbrev pub tunnel_copy : RouterConf → List ViewNode → ℕ → Packet → ℕ → List ℕ → Option Effects
 tunnel_copy r g u p x octets =
     option_and_then
@@ -189,7 +189,7 @@ abbrev pub or_drop : Packet → List ℕ → Option Effects → Effects
 or_drop p ids None = one_drop cause.NoRow (Some (positions_in p ids))
 or_drop p ids (Some e) = e
 
--- a copy to the node x; where no way leads there it is dropped
+-- a copy to the node x; without a path there it is dropped
 abbrev pub copied : RouterConf → List ViewNode → ℕ → Packet → ℕ → List ℕ → ℕ → Effects
 copied r g u p x ids ttl = or_drop p ids (option_and_then (λ bift. copy_sent r g u p x (copy_of p bift ids ttl)) (bift_at r g p.triple x))
 
@@ -207,7 +207,7 @@ outcome_done r g u p (NoRow ids) = one_drop cause.NoRow (Some (positions_in p id
 abbrev pub choice_of : RouterConf → List ViewNode → ℕ → Packet → ℕ → Option ℕ
 choice_of r g u p k = choose g r.kinds r.table p.triple (class_of p) u k
 
--- the hop of a packet with a TTL, at the router whose node of the view g is u
+-- the processing of a packet with a TTL, at the router whose node in the view g is u
 unfoldable pub hop_at : RouterConf → List ViewNode → ℕ → Packet → ℕ → Effects
 hop_at r g u p ttl =
     joined (map (outcome_done r g u p) (hop (own_id r p.triple.sd) (choice_of r g u p) (ids_in p) ttl))
@@ -227,12 +227,12 @@ abbrev pub meaning_read : Control → Kind → List ℕ → Option Triple → Ef
 meaning_read c kind octets None = dropped cause.Label
 meaning_read c kind octets (Some t) = header_read c kind t octets (header_at kind t.bsl octets)
 
--- whether a label isn't the last of its stack
+-- whether a label is not the bottom of its stack
 abbrev pub is_not_last : Kind → ℕ → Bool
 is_not_last Mpls word = word / 256 % 2 == 0
 is_not_last Configured word = false
 
--- A packet whose BIFT-id is of that kind. Its first number has the BIFT-id, which tells the length of its BitString.
+-- A packet whose BIFT-id is of that kind. Its first word has the BIFT-id, which determines the length of its BitString.
 unfoldable pub on_packet : Control → Kind → List ℕ → Effects
 on_packet c kind octets =
     if nat_lt (length octets) 4 then dropped (cause.Head head_fault.Short) else
@@ -241,7 +241,7 @@ on_packet c kind octets =
 
 -- ---- tunnels
 
--- the place of the first node with a BFR-prefix
+-- the index of the first node with a BFR-prefix
 abbrev pub node_with : List ViewNode → Ipv4 → Option ℕ
 node_with [] prefix = None
 node_with (n ∷ g) prefix = if has_prefix prefix n.subs then Some 0 else option_map (λ x. 1 + x) (node_with g prefix)
@@ -250,7 +250,7 @@ abbrev pub or_no_route : Option Effects → Effects
 or_no_route None = dropped cause.Route
 or_no_route (Some e) = e
 
--- a tunnel packet is sent on toward the router with that prefix
+-- a tunnel packet is forwarded toward the router with that prefix
 abbrev pub forwarded : RouterConf → List ViewNode → ℕ → List ℕ → TunnelPacket → Effects
 forwarded r g u octets t =
     or_no_route (sent_on r (option_and_then (next_link r g u) (node_with g t.dst)) (λ e. ip_frame e.peer_mac e.own_mac (tunnel_on octets (t.ttl - 1))))
@@ -260,7 +260,7 @@ in_transit c octets t =
     if nat_le t.ttl 1 then dropped cause.Outer
     else forwarded c.conf (control_view c) (node_place (control_view c) c.conf.system) octets t
 
--- at its end its inside is a packet that came without a tunnel
+-- at the end of the tunnel, the inner packet is treated as one that came without a tunnel
 abbrev pub tunnel_taken : Control → List ℕ → TunnelPacket → Effects
 tunnel_taken c octets t =
     if bytes_eq t.dst.0 c.conf.prefix.0 then on_packet c t.inner t.carried else in_transit c octets t
@@ -269,7 +269,7 @@ abbrev pub tunnel_read : Control → List ℕ → Result TunnelPacket IpFault �
 tunnel_read c octets (Ok t) = tunnel_taken c octets t
 tunnel_read c octets (Err fault) = dropped (cause.Ip fault)
 
--- A packet that came in IPv4.
+-- A packet received in IPv4.
 unfoldable pub on_tunnel : Control → List ℕ → Effects
 on_tunnel c octets = tunnel_read c octets (tunnel_at octets)
 
@@ -286,7 +286,7 @@ abbrev pub frame_read : Control → ℕ → Result Carried FrameFault → Next
 frame_read c link (Ok carried) = carried_taken c link carried
 frame_read c link (Err fault) = unchanged c (dropped (cause.Frame fault))
 
--- A frame on a link of a router.
+-- A frame received on a link of a router.
 unfoldable pub on_frame : Control → ℕ → List ℕ → Next
 on_frame c link octets =
     if slice_index_or c.flood.up link false

@@ -1,4 +1,4 @@
--- The LSP that a router issues of itself: fragment 0 alone (ISO/IEC 10589, 7.3.7 and 9.8; RFC 5301, 3;
+-- The LSP that a router originates: only fragment 0 (ISO/IEC 10589, 7.3.7 and 9.8; RFC 5301, 3;
 -- RFC 5305, 3 and 4; RFC 8401, 6.1 and 6.2).
 use Rattle.std.specs.Prelude.{ℕ, ◌+◌, Bool, true, false, List, [], ◌∷◌, ◌++◌, length, map, if◌then◌else◌}
 use Rattle.std.specs.List.{flat_map}
@@ -18,7 +18,7 @@ use Rattle.wire_base.specs.model.BierInfo.{Info, info_tlv}
 use Rattle.wire_base.specs.model.Pdu.{Head, lsp_sum}
 use Rattle.wire_base.specs.model.Control.{fragment_0}
 
--- the elements at which a list of truth values has true
+-- the elements at whose index a list of truth values has true
 abbrev pub picked : {X : Type 0} → List Bool → List X → List X
 picked [] xs = []
 picked (b ∷ bs) [] = []
@@ -29,7 +29,7 @@ picked (false ∷ bs) (x ∷ xs) = picked bs xs
 abbrev pub area_tlv : List ℕ → Tlv
 area_tlv area = record { code = TLV_AREA_ADDRESSES; value = length area ∷ area }
 
--- the protocols that the router routes: IPv4, 0xCC
+-- the protocols supported: IPv4, 0xCC
 abbrev pub protocols_tlv : Tlv
 protocols_tlv = record { code = TLV_PROTOCOLS_SUPPORTED; value = NLPID_IPV4 ∷ [] }
 
@@ -40,7 +40,7 @@ name_tlv name = record { code = TLV_DYNAMIC_HOSTNAME; value = name }
 abbrev pub reach_of : End → Reach
 reach_of e = record { neighbour = e.peer; pseudonode = 0; metric = e.metric; subs = [] }
 
--- links of 11 octets each, of which 23 find room in a TLV
+-- links have 11 octets each, and 23 of them fit a TLV
 abbrev pub most_in_tlv : ℕ
 most_in_tlv = 23
 
@@ -50,14 +50,14 @@ reach_tlv ends = record { code = TLV_EXTENDED_IS_REACH; value = flat_map (λ e. 
 abbrev pub reach_tlvs : List End → List Tlv
 reach_tlvs ends = map reach_tlv (blocks most_in_tlv ends)
 
--- label ranges stand only in sub-domains that give their BIFT-ids by labels
+-- only MPLS sub-domains have label ranges
 abbrev pub info_of : List SubKind → OwnSub → Info
 info_of kinds s = record { sd = s.sd; id = s.id; ranges = if is_mpls (kind_of kinds s.sd) then s.ranges else [] }
 
 abbrev pub infos_of : List SubKind → List OwnSub → List ℕ
 infos_of kinds subs = flat_map (λ s. tlv (info_tlv (info_of kinds s))) subs
 
--- a prefix of 32 bits; bit 64 says that sub-TLVs follow, which a router in no sub-domain doesn't have
+-- a prefix of 32 bits; bit 64 indicates that sub-TLVs follow, which a router in no sub-domain does not have
 abbrev pub control_for : List OwnSub → ℕ
 control_for [] = 32
 control_for (s ∷ subs) = 96
@@ -68,7 +68,7 @@ own_prefix r = record { metric = 0; control = control_for r.subs; octets = r.pre
 abbrev pub prefix_tlv : RouterConf → Tlv
 prefix_tlv r = record { code = TLV_EXTENDED_IP_REACH; value = prefix (own_prefix r) }
 
--- the TLVs of a router's own LSP, where those ends are up
+-- the TLVs of a router's own LSP, where those interfaces are up
 abbrev pub own_tlvs : RouterConf → List Bool → List Tlv
 own_tlvs r up = area_tlv r.area ∷ protocols_tlv ∷ name_tlv r.name ∷ (reach_tlvs (picked up r.ends) ++ prefix_tlv r ∷ [])
 
@@ -76,7 +76,7 @@ own_tlvs r up = area_tlv r.area ∷ protocols_tlv ∷ name_tlv r.name ∷ (reach
 unfoldable pub own_content : RouterConf → List Bool → List ℕ
 own_content r up = flat_map tlv (own_tlvs r up)
 
--- the type of the system, and whether it has its overload bit set
+-- the IS type, and whether the overload bit is set
 abbrev pub level_bits : Level → ℕ
 level_bits One = 1
 level_bits Two = 3
@@ -84,15 +84,15 @@ level_bits Two = 3
 abbrev pub own_flags : RouterConf → ℕ
 own_flags r = level_bits r.level + (if r.overload then 4 else 0)
 
--- the LSP lives for twenty minutes (ISO/IEC 10589, 7.3.16.3)
+-- the initial Remaining Lifetime of an LSP is twenty minutes (ISO/IEC 10589, 7.3.16.3)
 abbrev pub full_life : ℕ
 full_life = FULL_LIFE
 
--- its head; the checksum covers all but the lifetime
+-- its header; the checksum covers everything but the lifetime
 abbrev pub own_head : RouterConf → ℕ → Head
 own_head r seq = record { life = full_life; id = fragment_0 r.system; seq = seq; sum = 0; flags = own_flags r }
 
--- a router's own LSP of a sequence number, where those ends are up
+-- a router's own LSP with a sequence number, where those interfaces are up
 unfoldable pub own_lsp : RouterConf → List Bool → ℕ → Entry
 own_lsp r up seq =
     record {

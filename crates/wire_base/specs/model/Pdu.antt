@@ -1,4 +1,4 @@
--- IS-IS PDUs: what they are, the one spelling of each, their grammar, and how they are read
+-- IS-IS PDUs: their values, the encoding of each, their grammar, and how they are parsed
 -- (ISO/IEC 10589, 9.8 to 9.13).
 use Rattle.std.specs.Prelude.{◌≡◌, ℕ, zero, suc, ◌+◌, ◌-◌, ◌*◌, ◌%◌, ◌<◌, ◌^◌, ◌⊎◌, Bool, true, false, not, ◌&&◌, ◌||◌, List, [], ◌∷◌, ◌++◌, length, take, drop, slice_index, Result, Ok, Err, nat_lt, nat_le, ◌==◌, if◌then◌else◌}
 use Rattle.std.specs.List.{list_all, flat_map}
@@ -16,7 +16,7 @@ use Rattle.wire_base.specs.model.Fields.{◌>>=◌, octet_at, octets_at, number_
 use Rattle.wire_base.specs.model.Checksum.{IsRight, is_right, check_sum}
 use Rattle.wire_base.specs.model.Tlv.{Tlv, tlv, tlvs_of, LspIdFits, lsp_id, lsp_id_at, row}
 
--- ---- the values; TLVs are carried as the octets that spell them
+-- ---- the values; TLVs are kept as the octets that encode them
 
 pub record Head : Type 0 where
   pub life : ℕ
@@ -25,7 +25,7 @@ pub record Head : Type 0 where
   pub sum : ℕ
   pub flags : ℕ
 
--- what a sequence number PDU says of it
+-- its summary in a CSNP or PSNP
 abbrev pub head_summary : Head → Summary
 head_summary head = record { life = head.life; id = head.id; seq = head.seq; sum = head.sum }
 
@@ -38,7 +38,7 @@ pub data Pdu : Type 0 where
 
 -- ---- the TLVs of a PDU
 
--- Where entries are listed, a TLV 9 is so many entries of 16 octets.
+-- Where LSP entries are listed, a TLV 9 consists of entries of 16 octets.
 abbrev pub passes : Bool → Tlv → Bool
 passes rows t = if rows && (t.code == TLV_LSP_ENTRIES) then length t.value % 16 == 0 else true
 
@@ -48,7 +48,7 @@ pub record AreTlvs (rows : Bool) (octets : List ℕ) : Type 0 where
   pub spelled : octets ≡ flat_map tlv tlvs
   pub pass : list_all (passes rows) tlvs ≡ true
 
--- the test of it
+-- the test for such a list
 abbrev pub all_pass : Bool → Result (List Tlv) TlvFault → Bool
 all_pass rows (Ok ts) = list_all (passes rows) ts
 all_pass rows (Err f) = false
@@ -56,7 +56,7 @@ all_pass rows (Err f) = false
 unfoldable pub tlvs_pass : Bool → List ℕ → Bool
 tlvs_pass rows octets = all_pass rows (tlvs_of octets)
 
--- ---- the spellings
+-- ---- encodings
 
 abbrev pub lsp_type : Level → ℕ
 lsp_type One = 18
@@ -70,7 +70,7 @@ abbrev pub psnp_type : Level → ℕ
 psnp_type One = 26
 psnp_type Two = 27
 
--- the eight octets that begin each PDU: its header has that length, and it has that type
+-- the first eight octets of each PDU, with that header length and that type
 abbrev pub common : ℕ → ℕ → List ℕ
 common size number = 131 ∷ size ∷ 1 ∷ 0 ∷ number ∷ 1 ∷ 0 ∷ 0 ∷ []
 
@@ -78,7 +78,7 @@ common size number = 131 ∷ size ∷ 1 ∷ 0 ∷ number ∷ 1 ∷ 0 ∷ 0 ∷ [
 abbrev pub lsp_covered : Head → List ℕ → List ℕ
 lsp_covered head tlvs = lsp_id head.id ++ (big_bytes 4 head.seq ++ (big_bytes 2 head.sum ++ (head.flags ∷ tlvs)))
 
--- what follows the eight octets; of a sequence number PDU the last octet of the source stands first
+-- what follows the eight octets; the last octet of the source of a CSNP or PSNP comes first
 abbrev pub lsp_body : Head → List ℕ → List ℕ
 lsp_body head tlvs = big_bytes 2 (27 + length tlvs) ++ (big_bytes 2 head.life ++ lsp_covered head tlvs)
 
@@ -97,7 +97,7 @@ csnp level source start last tlvs = common 33 (csnp_type level) ++ csnp_body 0 s
 abbrev pub psnp : Level → SystemId → List ℕ → List ℕ
 psnp level source tlvs = common 17 (psnp_type level) ++ psnp_body 0 source tlvs
 
--- the spelling of a PDU; hellos and other types aren't written
+-- the encoding of a PDU; hellos and other types are not written
 abbrev pub pdu : Level → Pdu → List ℕ
 pdu level (LspPdu head tlvs) = lsp level head tlvs
 pdu level (CsnpPdu source start last tlvs) = csnp level source start last tlvs
@@ -105,11 +105,11 @@ pdu level (PsnpPdu source tlvs) = psnp level source tlvs
 pdu level HelloPdu = []
 pdu level (OtherPdu number) = []
 
--- the checksum that a live LSP carries
+-- the checksum of a live LSP
 abbrev pub lsp_sum : Head → List ℕ → ℕ
 lsp_sum head tlvs = check_sum (lsp_covered (record head { sum = 0 }) tlvs) 12
 
--- ---- entries in TLVs 9 of at most 15, full ones first
+-- ---- LSP entries in TLVs 9 of at most 15, full ones first
 
 unfoldable pub blocks_within : ℕ → List Summary → List (List Summary)
 blocks_within zero rows = []
@@ -134,7 +134,7 @@ pub record HeadFits (head : Head) : Type 0 where
   pub sum : head.sum < 256 ^ 2
   pub flags : head.flags < 256
 
--- a live one has right sums
+-- a live one has a right checksum
 pub record LspFits (head : Head) (tlvs : List ℕ) : Type 0 where
   pub head_fits : HeadFits head
   pub size : 27 + length tlvs < 256 ^ 2
@@ -156,7 +156,7 @@ pub record PsnpFits (source : SystemId) (tlvs : List ℕ) : Type 0 where
 abbrev pub is_hello : ℕ → Bool
 is_hello number = nat_le 15 number && nat_le number 17
 
--- no link state or sequence number PDU of the level, and no hello
+-- no LSP, CSNP or PSNP of the level, and no hello
 pub record IsOther (level : Level) (number : ℕ) : Type 0 where
   pub low : number < 32
   pub no_lsp : number ≡ lsp_type level → ⊥
@@ -164,8 +164,8 @@ pub record IsOther (level : Level) (number : ℕ) : Type 0 where
   pub no_psnp : number ≡ psnp_type level → ⊥
   pub no_hello : is_hello number ≡ false
 
--- what a reader lets stand as it is: a length of system identifiers of 0 or 6, the high bits of the type, the octets
--- 6 and 7, the last octet of a source; and of a hello or another type the length of the header and the type
+-- the fields that a reader does not fix: an ID length of 0 or 6, the high bits of the type, the octets 6 and 7, the last
+-- octet of a source; and for a hello or another type the header length and the type
 pub record Free : Type 0 where
   pub id_length : ℕ
   pub high : ℕ
@@ -192,7 +192,7 @@ PduFits level f (PsnpPdu source tlvs) = PsnpFits source tlvs
 PduFits level f HelloPdu = is_hello f.hello ≡ true
 PduFits level f (OtherPdu number) = IsOther level number
 
--- the PDU stands at the front of the octets
+-- the PDU is at the front of the octets
 pub record IsPdu (level : Level) (octets : List ℕ) (p : Pdu) : Type 0 where
   pub free : Free
   pub rest : List ℕ
@@ -200,9 +200,9 @@ pub record IsPdu (level : Level) (octets : List ℕ) (p : Pdu) : Type 0 where
   pub parts : octets ≡ shape level free p ++ rest
   pub fits : PduFits level free p
 
--- ---- reading
+-- ---- parsing
 
--- the octets of a PDU after its length, where that is at least the header's
+-- the octets of a PDU after its length, where that is at least the header length
 unfoldable pub sized_at : ℕ → List ℕ → Result (List ℕ × List ℕ) PduFault
 sized_at size octets = do
   n ← number_at faults.PduLength 2 octets
@@ -236,7 +236,7 @@ psnp_at octets = do
   circuit ← octet_at faults.PduLength source.1
   if tlvs_pass true circuit.1 then Ok (PsnpPdu (record { 0 = source.0 }) circuit.1) else Err faults.Tlv
 
--- by the header's length and the type, from the ninth octet on
+-- by the header length and the type, from the ninth octet on
 unfoldable pub body_at : Level → ℕ → ℕ → List ℕ → Result Pdu PduFault
 body_at level size number octets =
     if number == lsp_type level then (if size == 27 then lsp_at octets else Err faults.HeaderLength)

@@ -1,4 +1,4 @@
--- Where a BFR-id stands in a packet: its set and its bit position (RFC 8279, 3). And what a BIFT-id stands for at a
+-- The set and the bit position of a BFR-id in a packet (RFC 8279, 3), and the meaning of a BIFT-id at a
 -- router (RFC 8279, 6.4; RFC 8296, 2.1.1 and 2.2.1; RFC 8401, 6.2).
 use Rattle.std.specs.Prelude.{◌≡◌, ℕ, Bool, true, false, List, [], ◌∷◌, Option, Some, None, ◌==◌, ◌&&◌, nat_le, is_some, option_map, ◌+◌, ◌-◌, ◌*◌, ◌/◌, ◌%◌, if◌then◌else◌}
 use Rattle.wire_base.specs.declared.bsl.Bsl.{Bsl}
@@ -13,7 +13,7 @@ use Rattle.wire_base.specs.declared.conf.TableRow.{TableRow}
 use Rattle.wire_base.specs.declared.conf.RouterConf.{RouterConf}
 use Rattle.wire_base.specs.model.Lists.{or_else}
 
--- how many bits a string of a length has (RFC 8296, 2.1.2)
+-- the length in bits of a BitString (RFC 8296, 2.1.2)
 abbrev pub bits_of : Bsl → ℕ
 bits_of B64 = 64
 bits_of B128 = 128
@@ -23,7 +23,7 @@ bits_of B1024 = 1024
 bits_of B2048 = 2048
 bits_of B4096 = 4096
 
--- the length with that many bits
+-- the BSL with that many bits
 abbrev pub bsl_with : ℕ → Option Bsl
 bsl_with n =
     if n == 64 then Some B64 else
@@ -35,7 +35,7 @@ bsl_with n =
     if n == 4096 then Some B4096 else
     None
 
--- the code of a length in headers and advertisements (RFC 8296, 2.1.2; RFC 8401, 6.2)
+-- the code of a BSL in headers and advertisements (RFC 8296, 2.1.2; RFC 8401, 6.2)
 abbrev pub code_of : Bsl → ℕ
 code_of B64 = 1
 code_of B128 = 2
@@ -45,7 +45,7 @@ code_of B1024 = 5
 code_of B2048 = 6
 code_of B4096 = 7
 
--- the length with that code
+-- the BSL with that code
 abbrev pub bsl_coded : ℕ → Option Bsl
 bsl_coded n =
     if n == 1 then Some B64 else
@@ -57,7 +57,7 @@ bsl_coded n =
     if n == 7 then Some B4096 else
     None
 
--- the set identifier of a BFR-id, from 0, where strings have that many bits
+-- the set identifier of a BFR-id, from 0, where BitStrings have that many bits
 abbrev pub set_identifier : ℕ → ℕ → ℕ
 set_identifier bits k = (k - 1) / bits
 
@@ -65,28 +65,28 @@ set_identifier bits k = (k - 1) / bits
 abbrev pub bit_position : ℕ → ℕ → ℕ
 bit_position bits k = (k - 1) % bits + 1
 
--- both; the id 0 is none
+-- both; none for the id 0
 abbrev pub place : ℕ → ℕ → Option (ℕ × ℕ)
 place bits k = if k == 0 then None else Some (set_identifier bits k, bit_position bits k)
 
--- the position of a BFR-id in packets of a triple, where it lies in the triple's set
+-- the position of a BFR-id in packets of a triple, where it is in the triple's set
 abbrev pub position_in : Triple → ℕ → Option ℕ
 position_in t k = if k == 0 then None else if set_identifier (bits_of t.bsl) k == t.si then Some (bit_position (bits_of t.bsl) k) else None
 
--- the BFR-id at a position of a triple: the number may be above 65,535, and is then no BFR-id
+-- the BFR-id at a position of a triple; a number above 65,535 is no BFR-id
 abbrev pub id_at : Triple → ℕ → ℕ
 id_at t p = t.si * bits_of t.bsl + p
 
--- whether two triples are one
+-- whether two triples are equal
 abbrev pub same_triple : Triple → Triple → Bool
 same_triple a b = (a.sd == b.sd) && ((code_of a.bsl == code_of b.bsl) && (a.si == b.si))
 
--- how a sub-domain gives its BIFT-ids
+-- the kind of a sub-domain
 abbrev pub kind_of : List SubKind → ℕ → Option Kind
 kind_of [] sd = None
 kind_of (k ∷ kinds) sd = if k.sd == sd then Some k.kind else kind_of kinds sd
 
--- what a router says of itself in a sub-domain, where it is in it
+-- a router's configuration in a sub-domain, where it is in it
 abbrev pub sub_in : List OwnSub → ℕ → Option OwnSub
 sub_in [] sd = None
 sub_in (s ∷ subs) sd = if s.sd == sd then Some s else sub_in subs sd
@@ -95,12 +95,12 @@ sub_in (s ∷ subs) sd = if s.sd == sd then Some s else sub_in subs sd
 abbrev pub ranges_in : List OwnSub → ℕ → Option (List LabelRange)
 ranges_in subs sd = option_map (λ s. s.ranges) (sub_in subs sd)
 
--- the label of a set in the range of its length
+-- the label of a set in the range of its BSL
 abbrev pub label_in : List LabelRange → Triple → Option ℕ
 label_in [] t = None
 label_in (x ∷ xs) t = if code_of x.bsl == code_of t.bsl then (if nat_le t.si x.max_si then Some (x.label + t.si) else None) else label_in xs t
 
--- the BIFT-id of a triple in the written table
+-- the BIFT-id of a triple in the configured table
 abbrev pub row_in : List TableRow → Triple → Option ℕ
 row_in [] t = None
 row_in (row ∷ rows) t = if same_triple row.triple t then Some row.bift else row_in rows t
@@ -111,9 +111,9 @@ bift_by None table ranges t = None
 bift_by (Some Mpls) table ranges t = label_in ranges t
 bift_by (Some Configured) table ranges t = row_in table t
 
--- The BIFT-id of a triple at a router: in an MPLS sub-domain the label of its set, in a configured one that of the
--- written table. The kinds and the table are the domain's; the ranges are the router's in the triple's sub-domain,
--- none where it isn't in it. Where there is no BIFT-id the router doesn't cover the triple.
+-- The BIFT-id of a triple at a router: in an MPLS sub-domain the label of its set, in a non-MPLS one that of the
+-- configured table. The kinds and the table are the domain's. The ranges are the router's in the triple's sub-domain,
+-- none where it is not in it. Where there is no BIFT-id the router does not cover the triple.
 abbrev pub bift_of : List SubKind → List TableRow → Option (List LabelRange) → Triple → Option ℕ
 bift_of kinds table None t = None
 bift_of kinds table (Some ranges) t = bift_by (kind_of kinds t.sd) table ranges t
@@ -126,7 +126,7 @@ covers kinds table ranges t = is_some (bift_of kinds table ranges t)
 abbrev pub own_bift : RouterConf → Triple → Option ℕ
 own_bift r t = bift_of r.kinds r.table (ranges_in r.subs t.sd) t
 
--- that a BIFT-id of that kind stands for the triple at the router
+-- the BIFT-id of that kind means the triple at the router
 pub record IsMeaning (r : RouterConf) (kind : Kind) (bift : ℕ) (t : Triple) : Type 0 where
   pub kind_is : kind_of r.kinds t.sd ≡ Some kind
   pub bift_is : own_bift r t ≡ Some bift
@@ -151,26 +151,26 @@ is_configured None = false
 is_configured (Some Mpls) = false
 is_configured (Some Configured) = true
 
--- the triple of a label of a router that is in those sub-domains
+-- the triple of a label at a router that is in those sub-domains
 abbrev pub labelled : List SubKind → List OwnSub → ℕ → Option Triple
 labelled kinds [] label = None
 labelled kinds (s ∷ subs) label = or_else (if is_mpls (kind_of kinds s.sd) then meaning_in s.sd s.ranges label else None) (labelled kinds subs label)
 
--- whether a row of the written table says what that BIFT-id stands for at a router that is in those sub-domains
+-- whether an entry of the configured table gives the meaning of that BIFT-id at a router that is in those sub-domains
 abbrev pub tells : List SubKind → List OwnSub → ℕ → TableRow → Bool
 tells kinds subs bift row = (row.bift == bift) && (is_configured (kind_of kinds row.triple.sd) && is_some (sub_in subs row.triple.sd))
 
--- the triple of a BIFT-id of the written table
+-- the triple of a BIFT-id in the configured table
 abbrev pub written : List SubKind → List OwnSub → List TableRow → ℕ → Option Triple
 written kinds subs [] bift = None
 written kinds subs (row ∷ rows) bift = if tells kinds subs bift row then Some row.triple else written kinds subs rows bift
 
--- What a BIFT-id of that kind stands for at a router. At a sound one it is the one triple that has it.
+-- The meaning of a BIFT-id of that kind at a router. At a sound one it is the only triple that has the BIFT-id.
 unfoldable pub means : RouterConf → Kind → ℕ → Option Triple
 means r Mpls bift = labelled r.kinds r.subs bift
 means r Configured bift = written r.kinds r.subs r.table bift
 
--- the BFR-id of a router that is in those sub-domains; the id 0 is none (RFC 8279, 2)
+-- the BFR-id of a router in a sub-domain; 0 is none (RFC 8279, 2)
 abbrev pub id_of : Option OwnSub → Option ℕ
 id_of None = None
 id_of (Some s) = if s.id == 0 then None else Some s.id

@@ -1,4 +1,4 @@
--- TLVs, and the entries of the TLVs 22, 135 and 9: what they are, their one spelling, and how they are read
+-- TLVs, and the entries of the TLVs 22, 135 and 9: their values, their encoding, and how they are parsed
 -- (ISO/IEC 10589, 9.8 to 9.13; RFC 5305, 3 and 4).
 use Rattle.std.specs.Prelude.{◌≡◌, ℕ, zero, suc, ◌+◌, ◌-◌, ◌/◌, ◌%◌, ◌<◌, ◌≤◌, ◌^◌, Bool, true, false, List, [], ◌∷◌, ◌++◌, length, take, drop, replicate, Option, Some, None, Result, Ok, Err, nat_lt, ◌==◌, if◌then◌else◌}
 use Rattle.std.specs.List.{flat_map}
@@ -30,7 +30,7 @@ tlv_at [] = Ok None
 tlv_at (code ∷ []) = Err Overrun
 tlv_at (code ∷ n ∷ rest) = if nat_lt (length rest) n then Err Overrun else Ok (Some (record { code = code; value = take n rest }, drop n rest))
 
--- one octet is left, or the length passes the end
+-- one octet is left, or the length exceeds the octets after it
 abbrev pub IsOverrun : List ℕ → Type 0
 IsOverrun [] = ⊥
 IsOverrun (code ∷ []) = Unit {0}
@@ -44,16 +44,16 @@ then_tlvs (Some x) more = do
   ts ← more x.1
   Ok (x.0 ∷ ts)
 
--- Each TLV takes two octets or more, so that there are fewer than the octets: the number only makes this a recursion.
+-- Each TLV has two octets or more, so there are fewer TLVs than octets; the number only bounds the recursion.
 unfoldable pub tlvs_within : ℕ → List ℕ → Result (List Tlv) TlvFault
 tlvs_within zero octets = Ok []
 tlvs_within (suc n) octets = tlv_at octets >>= λ o. then_tlvs o (tlvs_within n)
 
--- the TLVs that the octets spell to their end
+-- the TLVs that the octets encode, to their end
 unfoldable pub tlvs_of : List ℕ → Result (List Tlv) TlvFault
 tlvs_of octets = tlvs_within (length octets) octets
 
--- ---- an entry of TLV 22: a neighbor that is reached (RFC 5305, 3)
+-- ---- an entry of TLV 22: a reachable neighbor (RFC 5305, 3)
 
 pub record Reach : Type 0 where
   pub neighbour : SystemId
@@ -78,24 +78,24 @@ reach_at octets = do
   subs ← counted_at EntryShort metric.1
   Ok (record { neighbour = record { 0 = neighbour.0 }; pseudonode = pseudonode.0; metric = metric.0; subs = subs.0 }, subs.1)
 
--- ---- an entry of TLV 135: a prefix that is reached (RFC 5305, 4)
+-- ---- an entry of TLV 135: a reachable prefix (RFC 5305, 4)
 
--- The octets are four, 0 after those of the prefix.
+-- The prefix is stored in four octets, 0 after those of the prefix length.
 pub record Prefix : Type 0 where
   pub metric : ℕ
   pub control : ℕ
   pub octets : List ℕ
   pub subs : List ℕ
 
--- how many bits the prefix has: the low six bits of the control octet
+-- the prefix length in bits: the low six bits of the control octet
 abbrev pub prefix_bits : ℕ → ℕ
 prefix_bits control = control % 64
 
--- how many octets a prefix of that many bits has
+-- the octets of a prefix of that many bits
 abbrev pub prefix_octets : ℕ → ℕ
 prefix_octets bits = (bits + 7) / 8
 
--- bit 40 of the control octet says that sub-TLVs follow
+-- bit 40 of the control octet indicates that sub-TLVs follow
 abbrev pub has_subs : ℕ → Bool
 has_subs control = control / 64 % 2 == 1
 
@@ -137,7 +137,7 @@ prefix_at octets = do
   subs ← subs_if_at (has_subs control.0) bare.1
   Ok (record { metric = metric.0; control = control.0; octets = padded bare.0; subs = subs.0 }, subs.1)
 
--- ---- an identifier of an LSP (ISO/IEC 10589, 9.8)
+-- ---- an LSP ID (ISO/IEC 10589, 9.8)
 
 pub record LspIdFits (id : LspId) : Type 0 where
   pub system : length id.system.0 ≡ 6
@@ -173,7 +173,7 @@ row_at octets = do
   sum ← number_at EntryShort 2 seq.1
   Ok (record { life = life.0; id = id.0; seq = seq.0; sum = sum.0 }, sum.1)
 
--- ---- the entries of a value, one after the other, to its end or to the first that can't be read
+-- ---- the entries of a value, one after the other, to its end or to the first invalid one
 
 abbrev pub then_entries : {X E : Type 0} → Result (X × List ℕ) E → (List ℕ → List X) → List X
 then_entries (Ok x) more = x.0 ∷ more x.1
@@ -186,7 +186,7 @@ entries_within read (suc n) octets = then_entries (read octets) (entries_within 
 unfoldable pub entries_of : {X E : Type 0} → (List ℕ → Result (X × List ℕ) E) → List ℕ → List X
 entries_of read octets = entries_within read (length octets) octets
 
--- the end counts as a TLV that can't be read
+-- the end counts as an invalid TLV
 abbrev pub some_tlv : Result (Option (Tlv × List ℕ)) TlvFault → Result (Tlv × List ℕ) TlvFault
 some_tlv (Ok (Some x)) = Ok x
 some_tlv (Ok None) = Err Overrun
@@ -199,7 +199,7 @@ one_tlv_at octets = some_tlv (tlv_at octets)
 abbrev pub tlvs_before : List ℕ → List Tlv
 tlvs_before octets = entries_of one_tlv_at octets
 
--- the entries that TLVs 9 list
+-- the LSP entries of TLVs 9
 abbrev pub rows_in : Tlv → List Summary
 rows_in t = if t.code == TLV_LSP_ENTRIES then entries_of row_at t.value else []
 

@@ -1,4 +1,4 @@
--- Tunnels: a BIER packet behind an IPv4 header and a GRE header (RFC 791, 3.1; RFC 1071; RFC 2784, 2).
+-- Tunnels: a BIER packet after an IPv4 header and a GRE header (RFC 791, 3.1; RFC 1071; RFC 2784, 2).
 use Rattle.std.specs.Prelude.{◌≡◌, ℕ, ◌+◌, ◌-◌, ◌*◌, ◌/◌, ◌%◌, ◌<◌, ◌==◌, not, nat_lt, Bool, List, [], ◌∷◌, ◌++◌, length, take, drop, slice_index, Result, Ok, Err, if◌then◌else◌}
 use Rattle.byteorder.specs.Endian.{big_bytes, big_number}
 use Rattle.wire_base.specs.declared.addresses.Ipv4.{Ipv4}
@@ -8,7 +8,7 @@ use Rattle.wire_base.specs.declared.faults.IpFault.{IpFault}
 use Rattle.wire_base.specs.declared.faults.IpFault.TheVariants as faults
 use Rattle.wire_base.specs.model.Ethernet.{mpls_type, bier_type}
 
--- The ends of a tunnel, its time to live, how the packet inside gives its BIFT-id, and the packet's octets.
+-- The endpoints of a tunnel, its TTL, the kind of the packet inside, and that packet's octets.
 pub record TunnelPacket : Type 0 where
   pub src : Ipv4
   pub dst : Ipv4
@@ -18,13 +18,13 @@ pub record TunnelPacket : Type 0 where
 
 -- ---- the checksum
 
--- the sum of the numbers of two octets
+-- the sum of the 16-bit numbers
 abbrev pub word_sum : List ℕ → ℕ
 word_sum [] = 0
 word_sum (x ∷ []) = x * 256
 word_sum (x ∷ y ∷ rest) = x * 256 + y + word_sum rest
 
--- The one's complement sum: what goes past 16 bits is added again. It is 0 of zeros alone.
+-- The one's complement sum: the carry above 16 bits is added again. It is 0 only if all octets are 0.
 abbrev pub ones_sum : ℕ → ℕ
 ones_sum n = if n == 0 then 0 else (n - 1) % 65535 + 1
 
@@ -32,20 +32,20 @@ ones_sum n = if n == 0 then 0 else (n - 1) % 65535 + 1
 abbrev pub is_right_header : List ℕ → Bool
 is_right_header header = ones_sum (word_sum header) == 65535
 
--- ---- the spelling
+-- ---- encoding
 
--- the fields of the header that a writer sets to one value and a reader lets stand: the type of service, the
+-- the fields of the header that a writer sets to one value and a reader ignores: the type of service, the
 -- identification, and the two bits above "more fragments"
 pub record IpFree : Type 0 where
   pub service : ℕ
   pub id : ℕ
   pub high : ℕ
 
--- as they are written: don't fragment, and all else 0
+-- as written: don't fragment, and everything else 0
 abbrev pub plain_ip : IpFree
 plain_ip = record { service = 0; id = 0; high = 1 }
 
--- the header of 20 octets with that checksum, where so many octets are in the packet
+-- the header of 20 octets with that checksum, for a packet with that many octets
 abbrev pub ip_header : IpFree → ℕ → ℕ → Ipv4 → Ipv4 → ℕ → List ℕ
 ip_header f total ttl src dst checksum =
     69 ∷ f.service ∷ (big_bytes 2 total ++ (big_bytes 2 f.id ++ (big_bytes 2 (f.high * 16384) ++ (ttl ∷ 47 ∷ (big_bytes 2 checksum ++ (src.0 ++ dst.0))))))
@@ -77,7 +77,7 @@ pub record TunnelFits (t : TunnelPacket) : Type 0 where
   pub ttl : t.ttl < 256
   pub size : 24 + length t.carried < 65536
 
--- The octets are a tunnel's: with a right checksum, and octets after the total length, which mean nothing.
+-- The octets are a tunnel packet: with a right checksum, and octets after the total length, which are ignored.
 pub record IsTunnel (octets : List ℕ) (t : TunnelPacket) : Type 0 where
   pub free : IpFree
   pub checksum : ℕ
@@ -87,7 +87,7 @@ pub record IsTunnel (octets : List ℕ) (t : TunnelPacket) : Type 0 where
   pub right : ones_sum (word_sum (ip_header free (24 + length t.carried) t.ttl t.src t.dst checksum)) ≡ 65535
   pub fits : TunnelFits t
 
--- ---- reading
+-- ---- parsing
 
 abbrev pub total_of : List ℕ → ℕ
 total_of octets = big_number 2 (drop 2 octets)
@@ -123,14 +123,14 @@ tunnel_at octets =
     if not (slice_index octets 9 == 47) then Err faults.NotGre else
     gre_at octets
 
--- ---- sending on
+-- ---- forwarding
 
--- the header with another time to live, and the checksum for it
+-- the header with another TTL, and the checksum for it
 abbrev pub header_with : List ℕ → ℕ → ℕ → List ℕ
 header_with octets ttl checksum =
     take 8 octets ++ (ttl ∷ slice_index octets 9 ∷ (big_bytes 2 checksum ++ take 8 (drop 12 octets)))
 
--- A tunnel packet, sent on with that time to live: within its total length nothing else is changed.
+-- A tunnel packet forwarded with that TTL: within its total length nothing else changes.
 unfoldable pub tunnel_on : List ℕ → ℕ → List ℕ
 tunnel_on octets ttl =
     header_with octets ttl (65535 - ones_sum (word_sum (header_with octets ttl 0)))

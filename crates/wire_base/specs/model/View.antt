@@ -1,7 +1,7 @@
--- The view of a router: the nodes and edges that its configuration and its LSDB make up (ISO/IEC 10589, 7.2.5 and
+-- The topology of a router: the nodes and edges that follow from its configuration and its LSDB (ISO/IEC 10589, 7.2.5 and
 -- 7.2.8; RFC 5305, 3 and 4; RFC 8401, 4 and 5).
 --
--- First stands what each system claims, then which of it counts beside what the others claim.
+-- First comes what each system advertises, then which of it counts, given what the others advertise.
 use Rattle.std.specs.Prelude.{ℕ, ◌+◌, ◌/◌, ◌%◌, ◌==◌, ◌&&◌, not, nat_lt, min, max, Bool, List, [], ◌∷◌, ◌++◌, map, filter, is_some, option_map, option_to_list, Option, Some, None, Result, Ok, Err, if◌then◌else◌}
 use Rattle.std.specs.List.{flat_map, filter_map, list_any}
 use Rattle.std.specs.Ordering.{is_lt}
@@ -24,21 +24,21 @@ use Rattle.wire_base.specs.model.BierInfo.{Info, info_at, any_overlap}
 use Rattle.wire_base.specs.model.Control.{same_system, system_order, Control}
 use Rattle.wire_base.specs.model.OwnLsp.{picked, info_of}
 
--- ---- what a system claims
+-- ---- what a system advertises
 
 -- a link to a neighbor
 pub record Link : Type 0 where
   pub neighbour : SystemId
   pub metric : ℕ
 
--- A system: whether it has its overload bit set, its links, and its places in sub-domains, in the order of its LSPs.
+-- A system: whether it has its overload bit set, its links, and its memberships of sub-domains, in the order of its LSPs.
 pub record Claim : Type 0 where
   pub system : SystemId
   pub overload : Bool
   pub links : List Link
   pub subs : List ViewSub
 
--- links of this metric are no part of paths (RFC 5305, 3)
+-- links of this metric are not used for paths (RFC 5305, 3)
 abbrev pub greatest_metric : ℕ
 greatest_metric = 16777215
 
@@ -49,7 +49,7 @@ link_of r =
     then Some (record { neighbour = r.neighbour; metric = max r.metric 1 })
     else None
 
--- an entry that can't be read ends its TLV
+-- an invalid entry ends its TLV
 abbrev pub links_in : Tlv → List Link
 links_in t = if t.code == TLV_EXTENDED_IS_REACH then filter_map link_of (entries_of reach_at t.value) else []
 
@@ -60,18 +60,18 @@ abbrev pub accepted : List ℕ → Result Info InfoFault → Option ViewSub
 accepted prefix (Ok i) = Some (sub_of prefix i)
 accepted prefix (Err fault) = None
 
--- a BIER Info, where its reader takes it
+-- a BIER Info, where it is valid
 abbrev pub sub_at : List ℕ → Tlv → Option ViewSub
 sub_at prefix t = if t.code == SUB_TLV_BIER_INFO then accepted prefix (info_at t.value) else None
 
--- of a prefix of 32 bits; an overrun ends the sub-TLVs
+-- those of a prefix of 32 bits; an overrun ends the sub-TLVs
 abbrev pub subs_of : Prefix → List ViewSub
 subs_of p = if prefix_bits p.control == 32 then filter_map (sub_at p.octets) (tlvs_before p.subs) else []
 
 abbrev pub subs_in : Tlv → List ViewSub
 subs_in t = if t.code == TLV_EXTENDED_IP_REACH then flat_map subs_of (entries_of prefix_at t.value) else []
 
--- a live entry of a system itself, not of one of its pseudonodes
+-- a live entry of a router itself, not of one of its pseudonodes
 abbrev pub is_part_of : SystemId → Entry → Bool
 is_part_of s e = same_system e.id.system s && ((e.id.pseudonode == 0) && nat_lt 0 e.life)
 
@@ -82,7 +82,7 @@ tlvs_of entries s = flat_map (λ e. tlvs_before e.content) (filter (is_part_of s
 abbrev pub is_overload_flag : ℕ → Bool
 is_overload_flag flags = flags / 4 % 2 == 1
 
--- what the system of a fragment 0 claims; it has its overload bit set where that fragment says so
+-- what the system of a fragment 0 advertises; its overload bit is the one in that fragment
 abbrev pub claim_of : List Entry → Entry → Claim
 claim_of entries e =
     record {
@@ -99,7 +99,7 @@ is_other own e = not (same_system e.id.system own) && ((e.id.pseudonode == 0) &&
 abbrev pub end_link : End → Link
 end_link e = record { neighbour = e.peer; metric = e.metric }
 
--- what the router claims: by its configuration and its ends that are up
+-- what the router itself contributes, by its configuration and its interfaces that are up
 abbrev pub own_claim : RouterConf → List Bool → Claim
 own_claim r up =
     record {
@@ -109,7 +109,7 @@ own_claim r up =
       subs = map (λ s. sub_of r.prefix.0 (info_of r.kinds s)) r.subs;
     }
 
--- in the order of the systems
+-- in the order of the system IDs
 abbrev pub put_claim : Claim → List Claim → List Claim
 put_claim c [] = c ∷ []
 put_claim c (x ∷ xs) = if is_lt (system_order c.system x.system) then c ∷ x ∷ xs else x ∷ put_claim c xs
@@ -117,21 +117,21 @@ put_claim c (x ∷ xs) = if is_lt (system_order c.system x.system) then c ∷ x 
 unfoldable pub claims_of : RouterConf → List Bool → List Entry → List Claim
 claims_of r up entries = put_claim (own_claim r up) (map (claim_of entries) (filter (is_other r.system) entries))
 
--- ---- which places in sub-domains count
+-- ---- which memberships of sub-domains count
 
 abbrev pub all_ranges : List ViewSub → List LabelRange
 all_ranges subs = flat_map (λ s. s.ranges) subs
 
--- where two label ranges of a system share a label, none of its places counts
+-- where two label ranges of a system share a label, none of its memberships counts
 abbrev pub unless_overlap : List ViewSub → List ViewSub
 unless_overlap subs = if any_overlap (all_ranges subs) then [] else subs
 
--- the first place in each sub-domain
+-- the first membership of each sub-domain
 abbrev pub first_each : List ViewSub → List ViewSub
 first_each [] = []
 first_each (s ∷ subs) = s ∷ filter (λ x. not (x.sd == s.sd)) (first_each subs)
 
--- of the sub-domains that the router knows
+-- those of the sub-domains that the router knows
 abbrev pub known_subs : List SubKind → List ViewSub → List ViewSub
 known_subs kinds subs = first_each (filter (λ s. is_some (kind_of kinds s.sd)) (unless_overlap subs))
 
@@ -141,7 +141,7 @@ with_known kinds c = record c { subs = known_subs kinds c.subs }
 abbrev pub has_prefix : Ipv4 → List ViewSub → Bool
 has_prefix prefix subs = list_any (λ s. bytes_eq s.prefix.0 prefix.0) subs
 
--- whether another system has a place with that prefix
+-- whether another system has a membership with that prefix
 abbrev pub is_shared : List Claim → SystemId → Ipv4 → Bool
 is_shared claims system prefix = list_any (λ c. not (same_system c.system system) && has_prefix prefix c.subs) claims
 
@@ -155,7 +155,7 @@ abbrev pub least_of : ℕ → Option ℕ → ℕ
 least_of m None = m
 least_of m (Some n) = min m n
 
--- the metric of a link to a system, of several the least
+-- the metric of a link to a system, the least of several
 abbrev pub metric_to : List Link → SystemId → Option ℕ
 metric_to [] s = None
 metric_to (l ∷ links) s = if same_system l.neighbour s then Some (least_of l.metric (metric_to links s)) else metric_to links s
@@ -163,11 +163,11 @@ metric_to (l ∷ links) s = if same_system l.neighbour s then Some (least_of l.m
 abbrev pub lists : Claim → SystemId → Bool
 lists c s = is_some (metric_to c.links s)
 
--- A link counts where both systems list each other.
+-- A link counts if both systems list each other.
 abbrev pub edge_to : Claim → ℕ → Claim → Option ViewEdge
 edge_to c place d = if lists d c.system then option_map (λ m. record { to = place; metric = m }) (metric_to c.links d.system) else None
 
--- the edges to the systems from a place on
+-- the edges to the systems from an index on
 abbrev pub edges_from : Claim → ℕ → List Claim → List ViewEdge
 edges_from c place [] = []
 edges_from c place (d ∷ ds) = option_to_list (edge_to c place d) ++ edges_from c (place + 1) ds
@@ -180,7 +180,7 @@ node_of claims c = record { system = c.system; overload = c.overload; edges = ed
 abbrev pub nodes_of : List Claim → List ViewNode
 nodes_of claims = map (node_of claims) claims
 
--- The view by a configuration, the ends that are up, and an LSDB, in the order of the systems.
+-- The view given by a configuration, the interfaces that are up, and an LSDB, in the order of the system IDs.
 unfoldable pub view_of : RouterConf → List Bool → List Entry → List ViewNode
 view_of r up entries = nodes_of (map (with_known r.kinds) (claims_of r up entries))
 

@@ -1,4 +1,5 @@
--- Walks of a graph and the lengths of the shortest (ISO/IEC 10589, 7.2.6): no walk goes through a router with its overload bit set.
+-- Walks (paths) in a graph and the costs of the shortest (ISO/IEC 10589, 7.2.6). No walk goes through a router with its overload
+-- bit set.
 use Rattle.std.specs.Prelude.{◌≡◌, ℕ, zero, suc, ◌+◌, ◌-◌, ◌<◌, ◌≤◌, ◌⊎◌, Bool, false, ◌==◌, ◌||◌, not, List, [], ◌∷◌, length, slice_index_or, Contains, Option, Some, None, min, option_map, if◌then◌else◌}
 use Rattle.wire_base.specs.declared.view.ViewEdge.{ViewEdge}
 use Rattle.wire_base.specs.declared.view.ViewNode.{ViewNode}
@@ -25,7 +26,7 @@ IsDist g u d None = (es : List ViewEdge) → IsWalk g u d es → ⊥
 IsDist g u d (Some n) =
     ((es : List ViewEdge) × IsWalk g u d es × (cost es ≡ n)) × ((es : List ViewEdge) → IsWalk g u d es → n ≤ cost es)
 
--- The distance as a function, by recursion on the number of edges of a walk; that it is the distance is a law.
+-- The distance as a function, by recursion on the number of edges of a walk; a law states that it is the distance.
 
 -- the lesser of two lengths
 abbrev pub least : Option ℕ → Option ℕ → Option ℕ
@@ -37,7 +38,7 @@ least (Some x) (Some y) = Some (min x y)
 abbrev pub may_enter : List ViewNode → ℕ → ℕ → Bool
 may_enter g d x = (x == d) || not (is_overloaded g x)
 
--- the length of going over an edge first, where f has the lengths from there on
+-- the length of a walk that starts with an edge, where f has the lengths from there on
 abbrev pub over : List ViewNode → ℕ → (ℕ → Option ℕ) → ViewEdge → Option ℕ
 over g d f e = if may_enter g d e.to then option_map (λ n. e.metric + n) (f e.to) else None
 

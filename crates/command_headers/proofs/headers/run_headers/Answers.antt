@@ -1,4 +1,4 @@
-use Rattle.std.proofs.Common.{◌≡◌, ◌∙◌, false, ℕ, List, refl, ap, sym}
+use Rattle.std.proofs.Common.{◌∙◌, false, refl, ap, sym}
 use Rattle.wire_base.specs.declared.limits.TheConstants.{CAPTURE_LIMIT}
 use Rattle.wire_base.specs.declared.status.Status.TheVariants.{CaptureRefused}
 use Rattle.wire_base.specs.model.Capture.{unread}

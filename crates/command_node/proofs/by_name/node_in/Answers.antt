@@ -1,6 +1,5 @@
-use Rattle.std.proofs.Common.{sym, subst, inl, inr, ◌≡◌, ◌∙◌, refl}
+use Rattle.std.proofs.Common.{sym, subst, inl, inr, ◌≡◌, ◌∙◌}
 use Rattle.std.specs.Prelude.{◌⊎◌}
-use Rattle.wire_base.specs.declared.conf.RouterConf.{RouterConf}
 use Rattle.wire_base.specs.declared.status.Status.{Status}
 use Rattle.wire_base.specs.declared.status.Status.TheVariants.{Done, ConfRefused, CaptureRefused, ReadFault, WriteFault, Memory}
 use Rattle.command_drive.specs.Answer.{IsDecided}

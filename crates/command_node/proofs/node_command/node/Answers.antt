@@ -1,12 +1,5 @@
-use Rattle.std.proofs.Common.{◌≡◌, ◌∙◌, [], false, ℕ, List, Option, Some, slice_get, sym, ap, ap₂, subst, refl}
-use Rattle.std.specs.Prelude.{IfSome}
-use Rattle.wire_base.specs.declared.conf.RouterConf.{RouterConf}
-use Rattle.wire_base.specs.declared.limits.TheConstants.{CAPTURE_LIMIT}
+use Rattle.std.proofs.Common.{slice_get}
 use Rattle.wire_base.specs.declared.status.Status.TheVariants.{CaptureRefused}
-use Rattle.wire_base.specs.model.Capture.{unread}
-use Rattle.command_drive.specs.Answer.{Verdict}
-use Rattle.command_drive.specs.Driving.{Drives}
-use Rattle.command_drive.specs.Reading.{Ends, Fails}
 use Rattle.command_drive.proofs.Meanings.{drives_as}
 use Rattle.command_drive.proofs.Untouched.{drives_none}
 use Rattle.command_node.specs.Owed.{node_means}

@@ -5,7 +5,7 @@ use Rattle.std.proofs.lemmas.List.{length-take, length-append}
 use Rattle.std.specs.Str.Lines.{strip_carriage_return}
 use Rattle.command_drive.specs.Lines.{shown, lines_read, HasNoEnd, TakesPart}
 use Rattle.command_drive.proofs.Seeking.{seeks_first}
-use Rattle.command_drive.proofs.LineSteps.{seeks_line, seeks_on, seeks_more, seeks_too_long, seeks_failed, seeks_end, seeks_last, part_less, end_passed, chunk_less, none_long}
+use Rattle.command_drive.proofs.LineSteps.{seeks_line, seeks_on, seeks_more, seeks_too_long, seeks_failed, seeks_end, seeks_last, part_less, chunk_less, none_long}
 use Rattle.command_drive.proofs.line_reader.LineReaderItemsOctets.next.Goals as goal
 
 bit : (b : Bool) → cond b 1 0 ≤ 1

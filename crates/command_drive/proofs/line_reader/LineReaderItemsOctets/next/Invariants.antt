@@ -1,4 +1,4 @@
-use Rattle.std.proofs.Common.{false, ◌≡◌, ◌≤◌, ◌+◌, ◌-◌, ◌++◌, length, cond}
+use Rattle.std.proofs.Common.{false, ◌≡◌, ◌≤◌, ◌+◌, ◌++◌, cond}
 use Rattle.command_drive.specs.Lines.{lines_read, lines_left}
 use Rattle.command_drive.proofs.Seeking.{Seeks}
 use Rattle.command_drive.proofs.line_reader.LineReaderItemsOctets.next.Given as goal

@@ -1,5 +1,5 @@
-use Rattle.std.proofs.Common.{◌≡◌, ◌≤◌, ◌<◌, ◌+◌, ◌-◌, ◌*◌, ◌∙◌, ◌++◌, ℕ, Bool, min, cond, List, [], length, take, Ok, refl, sym, ap, ap₂, subst, arith, append-nil}
-use Rattle.std.proofs.lemmas.List.{length-take-le, length-take, length-append, take_all}
+use Rattle.std.proofs.Common.{◌≡◌, ◌≤◌, ◌+◌, ◌-◌, ◌*◌, ◌∙◌, ◌++◌, ℕ, Bool, min, cond, List, [], length, take, Ok, refl, sym, ap, ap₂, subst, arith, append-nil}
+use Rattle.std.proofs.lemmas.List.{length-take-le, length-take, length-append}
 use Rattle.std.specs.Prelude.{option_map, Option, nat_lt}
 use Rattle.std.specs.Io.KnownBytes.{Consumes}
 use Rattle.std.proofs.KnownBytes.{Consumes-kept, Consumes-trans}
@@ -9,7 +9,7 @@ use Rattle.pcap_frames.specs.Seen.{record_seen}
 use Rattle.pcap_frames.proofs.Answered.{answered, moved_on}
 use Rattle.pcap_frames.proofs.Drained.{next_lowers, next_shorter}
 use Rattle.command_drive.specs.declared.items.Close.{Close}
-use Rattle.command_drive.specs.Reading.{Closed, Reads, Ends, Fails}
+use Rattle.command_drive.specs.Reading.{Closed, Ends, Fails}
 use Rattle.command_drive.specs.Records.{records_read, close_by}
 use Rattle.command_drive.proofs.LineSteps.{chunk_less}
 use Rattle.command_drive.proofs.Pieces.{piece_is, piece_short}
