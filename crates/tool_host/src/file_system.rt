@@ -1,5 +1,5 @@
 //! The files that the program uses.
-ghost use Rattle.std.specs.Prelude.{ℕ, List, Option, None, IfOk};
+ghost use Rattle.std.specs.Prelude.{◌≡◌, ℕ, List, Option, None, IfOk};
 ghost use Rattle.tool_host.specs.Opened.{Tells};
 
 use std::io::{Read, Write};
@@ -32,7 +32,10 @@ pub struct SystemFiles<R: Files> {
 }
 
 impl<R: Files> SystemFiles<R> {
-    pub fn new(rt: R) -> Self {
+    /// The files of that runtime.
+    pub fn new(rt: R) -> Self
+        ensures { result.rt ≡ rt }
+    {
         SystemFiles { rt }
     }
 }
