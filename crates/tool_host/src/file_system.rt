@@ -32,7 +32,7 @@ pub struct SystemFiles<R: Files> {
 }
 
 impl<R: Files> SystemFiles<R> {
-    /// The files of that runtime.
+    /// Returns the files of a runtime as a file system.
     pub fn new(rt: R) -> Self
         ensures { result.rt ≡ rt }
     {
