@@ -1,0 +1,199 @@
+"""A network from a capture: LSPs as `isis_dump` prints them, and MAC addresses from the frames of the links."""
+import os
+import subprocess
+from collections import Counter
+
+from . import capture, frames, places
+from .lsps import Lsp, network_of
+from .network import prefix_number, prefix_text
+from .trouble import Trouble
+
+DUMP = os.path.join(places.ROOT, "crates", "isis_dump", "out", "isis_dump")
+POINT_TO_POINT, LAN = (17,), (15, 16)  # types of hellos
+PCAPNG = b"\x0a\x0d\x0d\x0a"
+
+
+def dumped(path, program):
+    """The lines of isis_dump, as it writes them."""
+    program = program or os.environ.get("ISIS_DUMP") or DUMP
+    if not os.access(program, os.X_OK):
+        raise Trouble(f"{program}: isn't built (rt ci isis_dump builds it)")
+    line = ""
+    with open(path, "rb") as frames_in, subprocess.Popen([program], stdin=frames_in, stdout=subprocess.PIPE) as running:
+        for octets in running.stdout:
+            # Lists of LSPs say nothing of the network, and are most of the lines.
+            if not octets.startswith(b"  entry"):
+                line = octets.decode("utf-8", "replace").rstrip("\n")
+                yield line
+    if running.returncode == 8:
+        raise Trouble(f"{path}: {line}")
+    if running.returncode or not line.startswith("done"):
+        raise Trouble(f"{program}: status {running.returncode}")
+
+
+class Reader:
+    """The LSPs of a dump up to a second, and which system sent which record."""
+
+    def __init__(self, until):
+        self.until, self.lsps, self.sources, self.notes = until, {}, {}, []
+        self.rejected = {}  # the records that break a rule
+        self.lsp = self.info = None  # whose details follow
+
+    def read(self, lines):
+        for line in lines:
+            words = line.split()
+            if not line.startswith(" "):
+                self.lsp = self.info = None
+                if words[0].isdigit() and (self.until is None or int(words[1].split(".")[0]) <= self.until):
+                    self.head(int(words[0]), words[2:])
+            elif self.lsp is not None:
+                self.detail(words, line)
+        for rule, records in self.rejected.items():
+            count = f"{len(records)} records" if len(records) > 1 else "1 record"
+            self.notes.append(f"{rule}: {count} skipped, the first is record {records[0]}")
+
+    def head(self, record, words):
+        if words[0] == "lsp":
+            system, rest = words[2][:14], words[2][15:]
+            lsp = Lsp(int(words[1]), system, int(rest[:2], 16), int(rest[3:], 16), int(words[4]), int(words[6]))
+            lsp.overload = bool(int(words[-1], 16) & 4)
+            # Each LSP is flooded over many links: the details of the first copy are enough.
+            held = self.lsps.get((lsp.level, *lsp.key()))
+            if held is None or held.age() < lsp.age():
+                self.lsps[lsp.level, *lsp.key()] = self.lsp = lsp
+        elif words[0] in ("csnp", "psnp"):
+            self.sources[record] = words[3]
+        elif "refused" in words:
+            self.rejected.setdefault(" ".join(words), []).append(record)
+
+    def detail(self, words, line):
+        lsp, kind = self.lsp, words[0]
+        if kind == "area":
+            lsp.areas.append(words[1].replace(".", ""))
+        elif kind == "name":
+            lsp.name = line.strip()[5:] or None
+        elif kind == "reach":
+            lsp.reaches.append((words[1][:14], int(words[1][15:], 16), int(words[3])))
+        elif kind == "prefix":
+            prefix, bits = words[1].split("/")
+            lsp.prefixes.append((prefix, int(bits), int(words[3])))
+        elif kind == "bier":
+            self.info = (lsp.prefixes[-1][0], int(words[2]), int(words[4]), [])
+            # Only a router's own prefix is a BFR-prefix (RFC 8401, 6.1).
+            lsp.infos += [self.info] if lsp.prefixes[-1][1] == 32 else []
+        elif kind == "labels" and self.info:
+            self.info[3].append((int(words[2]), int(words[4]), int(words[6])))
+        elif kind == "tlv" and words[1] == "134" and len(words) == 3 and len(words[2]) == 8:
+            text = prefix_text(int(words[2], 16))
+            lsp.router_id = text if prefix_number(text) else None
+        elif kind == "refused":
+            note = f"LSP {lsp.text()}: {line.strip()}"
+            self.notes += [note] if note not in self.notes else []
+
+
+# ---- MAC addresses
+
+
+def system_of(octets):
+    digits = octets.hex()
+    return f"{digits[:4]}.{digits[4:8]}.{digits[8:]}"
+
+
+def three_way(octets):
+    """The neighbor that a point-to-point hello names (RFC 5303, 3); None where it names none."""
+    at, end = 17 + 20, 14 + frames.number(octets, 12, 2)
+    while at + 2 <= min(end, len(octets)):
+        kind, length = octets[at : at + 2]
+        if kind == 240 and length >= 11:
+            return system_of(octets[at + 7 : at + 13])
+        at += 2 + length
+    return None
+
+
+class Macs:
+    """What frames tell of MAC addresses: whose they are, and on which link."""
+
+    def __init__(self, records, sources):
+        self.owners = {}  # of an address, the systems that sent from it
+        self.on_links = {}  # of a system and the neighbor that its hellos name, its addresses
+        self.on_lans = {}  # of a system and a LAN
+        self.pairs = set()  # sender and receiver of frames to one receiver
+        for record in records:
+            octets = record.octets
+            if len(octets) < 14:
+                continue
+            system = sources.get(record.number)
+            if frames.is_isis(octets) and len(octets) >= 17 + 20:
+                system = self.hello(octets) or system
+            elif not octets[0] & 1:
+                self.pairs.add((octets[6:12], octets[:6]))
+            if system:
+                self.owners.setdefault(octets[6:12], set()).add(system)
+
+    def hello(self, octets):
+        """The sender of a hello; None for another frame."""
+        kind, system, mac = octets[21] & 31, system_of(octets[26:32]), octets[6:12]
+        if kind in POINT_TO_POINT:
+            neighbor = three_way(octets)
+            if neighbor:
+                self.on_links.setdefault((system, neighbor), set()).add(mac)
+        elif kind in LAN and len(octets) >= 17 + 27:
+            self.on_lans.setdefault((system, (system_of(octets[37:43]), octets[43])), set()).add(mac)
+        else:
+            return None
+        return system
+
+    def owner(self, mac):
+        owners = self.owners.get(mac, ())
+        return next(iter(owners)) if len(owners) == 1 else None
+
+    def of(self, system):
+        return [mac for mac in self.owners if self.owner(mac) == system]
+
+    def place(self, network, at):
+        """Gives links the addresses that are known for certain; how many, and of how many interfaces. `at` is a mirror's router."""
+        links = {}
+        for link in network.links:
+            links[link.a.system, link.b.system] = links[link.b.system, link.a.system] = link
+        counts = Counter(here for here, _ in links)
+        found = 0
+        for (here, there), link in links.items():
+            macs = self.told(here, there, link.lan, at)
+            if not macs and (counts[here] == 1 or there == at):
+                macs = set(self.of(here))
+            end, key = (link.a, "mac_a") if link.a.system == here else (link.b, "mac_b")
+            if len(macs) == 1:
+                setattr(link, key, next(iter(macs)).hex(":"))
+                found += 1
+            elif len(macs) > 1:
+                network.note(f"{link.shown()}: {len(macs)} MAC addresses at {end.shown()}, none is kept")
+        return found, len(links)
+
+    def told(self, here, there, lan, at):
+        """A router's addresses toward a neighbor: by its hellos, and by frames to one receiver between the two."""
+        macs = set(self.on_lans.get((here, lan), ()) if lan else self.on_links.get((here, there), ()))
+        for sender, receiver in self.pairs:
+            source, target = self.owner(sender), self.owner(receiver)
+            if (source, target) == (here, there):
+                macs.add(sender)
+            # What a mirror shows of a neighbor's frames is for the mirror's router.
+            if source == there and (target == here or target is None and here == at):
+                macs.add(receiver)
+        return macs
+
+
+def read(path, octets, options):
+    reader = Reader(options.until)
+    if octets[:4] == PCAPNG:
+        raise Trouble(f"{path}: a pcapng file; `editcap -F pcap` converts it")
+    reader.read(dumped(path, options.dump))
+    network, routers = network_of(reader.lsps.values(), options, path)
+    network.notes[:0] = reader.notes
+    at = None
+    if options.at:
+        at = next((system for system, router in routers.items() if options.at in (router.label, system)), None)
+        if at is None:
+            raise Trouble(f"--at {options.at}: no router of that name or system ID has an LSP in {path}")
+    placed, of = Macs(capture.records_in(path, octets), reader.sources).place(network, at)
+    network.head.append(f"MAC addresses of {placed} of {of} interfaces are in the capture; the others have the default.")
+    return network
