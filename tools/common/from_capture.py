@@ -158,7 +158,7 @@ class Macs:
         counts = Counter(here for here, _ in links)
         found = 0
         for (here, there), link in links.items():
-            macs = self.told(here, there, link.lan, at)
+            macs = self.addresses(here, there, link.lan, at)
             if not macs and (counts[here] == 1 or there == at):
                 macs = set(self.of(here))
             end, key = (link.a, "mac_a") if link.a.system == here else (link.b, "mac_b")
@@ -166,10 +166,10 @@ class Macs:
                 setattr(link, key, next(iter(macs)).hex(":"))
                 found += 1
             elif len(macs) > 1:
-                network.note(f"{link.shown()}: {len(macs)} MAC addresses at {end.shown()}, none is kept")
+                network.note(f"{link.shown()}: {len(macs)} MAC addresses at {end.shown()}, none imported")
         return found, len(links)
 
-    def told(self, here, there, lan, at):
+    def addresses(self, here, there, lan, at):
         """A router's addresses toward a neighbor: by its hellos, and by frames to one receiver between the two."""
         macs = set(self.on_lans.get((here, lan), ()) if lan else self.on_links.get((here, there), ()))
         for sender, receiver in self.pairs:

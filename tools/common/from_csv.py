@@ -73,7 +73,7 @@ def columns_of(cells, place, network):
         if name and name in found:
             raise Trouble(f"{place}: column {name!r} appears twice")
         if name and name not in known:
-            network.note(f"{os.path.basename(place)}: column {cell.strip()!r} isn't read")
+            network.note(f"{os.path.basename(place)}: column {cell.strip()!r} is ignored")
         found.append(name if name in known else "")
     return found
 
@@ -123,11 +123,11 @@ class Reader:
         form = "02:00:00:00:00:01, the first octet even"
         macs = [row.matching(column, is_mac, form) for column in ("mac_a", "mac_b")]
         link = Link(a, b, *(metric or self.options.metric for metric in metrics), *macs)
-        link.is_given, link.where = None in metrics, f"{os.path.basename(row.place)}: "
+        link.is_assigned, link.where = None in metrics, f"{os.path.basename(row.place)}: "
         self.network.add_link(link)
 
-    def give_labels(self):
-        """BFR-ids as they are told, and label ranges of the sets that they need."""
+    def assign_labels(self):
+        """BFR-ids of the source, and label ranges of the sets that they need."""
         subdomain, bits = self.options.sub_domain, self.options.bsl
         highest = (max([1, *(bfr_id for _, bfr_id, _, _ in self.lengths)]) - 1) // bits
         if highest > 255:
@@ -136,7 +136,7 @@ class Reader:
         for router, bfr_id, label, place in self.lengths:
             if is_mpls and label is None:
                 label = next_label
-                router.given.add(("label", subdomain, bits))
+                router.assigned.add(("label", subdomain, bits))
             if is_mpls and label + highest > MOST_LABEL:
                 raise Trouble(f"{place}: the labels {label} to {label + highest} pass {MOST_LABEL}")
             next_label += highest + 1
@@ -158,5 +158,5 @@ def read(sources, options):
         reader.link(row)
     if not reader.network.routers:
         raise Trouble(f"{sources[0][0]}: no routers")
-    reader.give_labels()
+    reader.assign_labels()
     return reader.network

@@ -72,7 +72,7 @@ def database(document):
         for level, inside in entries(area.get("levels"), f"{place}.levels"):
             if "lsp" in level:
                 raise Fault(
-                    f"{inside}: has the last LSP alone, since FRR 8 writes each over the one before; give the text of"
+                    f"{inside}: contains only the last LSP, since FRR 8.4 overwrites the others; give the text of"
                     " `show isis database detail` instead"
                 )
             number_of_level = number(level["id"], f"{inside}.id") if "id" in level else 2
@@ -168,7 +168,7 @@ def hosts(text):
     return {found.group(2): found.group(1) for found in map(HOST.match, text.splitlines()) if found}
 
 
-def give_systems(lsps, known, path):
+def assign_systems(lsps, known, path):
     """Puts system IDs in place of the names in LSP IDs."""
     for level in sorted({lsp.level for lsp in lsps}):
         own = [lsp for lsp in lsps if lsp.level == level]
@@ -178,7 +178,7 @@ def give_systems(lsps, known, path):
             systems = systems_by_order(groups, own)
         if systems is None:
             raise Trouble(
-                f"{path}: which system ID a router of level {level} has can't be told: give the output of `show isis hostname` too"
+                f"{path}: which system ID a router of level {level} has is ambiguous: give the output of `show isis hostname` too"
             )
         for group, system in zip(groups, systems):
             for lsp in group:
@@ -270,13 +270,13 @@ def read(sources, options):
             raise Trouble(f"{path}: {fault}")
     if main is None:
         raise Trouble(
-            f"{sources[0][0]}: no database: a topology has the tree of shortest paths alone, so give the output of"
+            f"{sources[0][0]}: no database: a topology has only the shortest-path tree; give the output of"
             " `show isis database detail json` too"
         )
     if not lsps:
         raise Trouble(f"{main}: no LSPs")
     lsps = [lsp for lsp in lsps if lsp.life > 0]
-    give_systems(lsps, known, main)
+    assign_systems(lsps, known, main)
     network, _ = network_of(lsps, options, main)
     if shown:
         note_unreached(network, shown)

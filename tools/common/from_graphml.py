@@ -90,7 +90,7 @@ def routers_of(document, network, options):
         # A node without a label is named by its id.
         name = node.data.get(options.name_key)
         routers[key] = Router(name or f"node-{key}")
-        routers[key].given |= set() if name else {"name"}
+        routers[key].assigned |= set() if name else {"name"}
         routers[key].where = f"{os.path.basename(document.path)}:{node.line}: "
         network.routers.append(routers[key])
     return routers
@@ -105,7 +105,7 @@ def read(path, octets, options):
         raise Trouble(f"{path}: no edge has {options.metric_key!r}; edges have {', '.join(sorted(names)) or 'no data'}")
     for link in links_of(document, routers_of(document, network, options), options):
         network.add_link(link)
-    given = sum(link.is_given for link in network.links)
+    given = sum(link.is_assigned for link in network.links)
     if given:
         network.head.append(f"{given} of {len(network.links)} links have the metric {options.metric} of --metric.")
     return network
@@ -119,13 +119,13 @@ def links_of(document, routers, options):
         for end in ends:
             if end not in routers:
                 raise Trouble(f"{document.path}:{edge.line}: no node has the id {end!r}")
-        metric, is_told = metric_of(edge, options, document.path)
+        metric, is_given = metric_of(edge, options, document.path)
         back = waiting.get(ends[::-1])
         if document.is_directed and back:
             back.pop(0).metric_ba = metric
             continue
         link = Link(routers[ends[0]], routers[ends[1]], metric, metric)
-        link.is_given, link.where = not is_told, f"{os.path.basename(document.path)}:{edge.line}: "
+        link.is_assigned, link.where = not is_given, f"{os.path.basename(document.path)}:{edge.line}: "
         waiting.setdefault(ends, []).append(link)
         found.append(link)
     return found

@@ -54,7 +54,7 @@ def network_of(lsps, options, what):
         if not lsp.pseudonode:
             systems.setdefault(lsp.system, []).append(lsp)
     for system in [system for system, own in systems.items() if own[0].fragment]:
-        network.note(f"system {system}: the LSP {system}.00-00 isn't there, not kept")
+        network.note(f"system {system}: the LSP {system}.00-00 isn't there, not imported")
         del systems[system]
     if not systems:
         raise Trouble(f"{what}: no LSPs of routers" + (f" of level {options.level}" if options.level else ""))
@@ -85,12 +85,12 @@ def router_of(system, own, network):
     router.prefix = choices[0] if choices else router_id
     shown = name or system
     for prefix in sorted({prefix for _, prefix in hosts} - {router.prefix}):
-        network.note(f"router {shown}: prefix {prefix}/32 beside {router.prefix}, not kept")
+        network.note(f"router {shown}: prefix {prefix}/32 beside {router.prefix}, not imported")
     for prefix, subdomain, bfr_id, ranges in infos:
         if prefix != router.prefix:
-            network.note(f"router {shown}: BIER Info at {prefix}, a second BFR-prefix, not kept")
+            network.note(f"router {shown}: BIER Info at {prefix}, a second BFR-prefix, not imported")
         elif subdomain in router.subs:
-            network.note(f"router {shown}: a second BIER Info of sub-domain {subdomain}, not kept")
+            network.note(f"router {shown}: a second BIER Info of sub-domain {subdomain}, not imported")
         else:
             router.subs[subdomain] = Sub(bfr_id, ranges)
     return router
@@ -131,15 +131,15 @@ def join(a, b, ends, routers, network):
     here, there = sorted(ends[a, b]), sorted(ends.get((b, a), []))
     what = f"link {label(a, routers)} to {label(b, routers)}"
     if b not in routers:
-        network.note(f"{what}: no LSP of {b}, not kept")
+        network.note(f"{what}: no LSP of {b}, not imported")
         return
     if len(here) != len(there) and a != b:
         more, fewer = (a, b) if len(here) > len(there) else (b, a)
         times = abs(len(here) - len(there))
-        network.note(f"{what}: {label(more, routers)} advertises {times} more than {label(fewer, routers)}, not kept")
+        network.note(f"{what}: {label(more, routers)} advertises {times} more than {label(fewer, routers)}, not imported")
     for metric_ab, metric_ba in zip(here, there):
         if UNREACHABLE in (metric_ab, metric_ba):
-            network.note(f"{what}: metric {UNREACHABLE}, which takes no traffic, not kept")
+            network.note(f"{what}: metric {UNREACHABLE}, which takes no traffic, not imported")
         else:
             network.add_link(Link(routers[a], routers[b], metric_ab, metric_ba))
 
@@ -150,12 +150,12 @@ def add_lan(lan, listed, metrics, routers, network, is_mesh):
     both = [system for system in routers if system in listed and metrics.get(system, UNREACHABLE) < UNREACHABLE]
     names = ", ".join(label(system, routers) for system in both)
     if len(both) < 2:
-        network.note(f"{name}: its pseudonode LSP joins no two routers, not kept")
+        network.note(f"{name}: its pseudonode LSP joins no two routers, not imported")
         return
     if len(both) > 2 and not is_mesh:
-        network.note(f"{name} of {names}: not kept (--mesh makes it links between each two)")
+        network.note(f"{name} of {names}: not imported (--mesh imports it as links between each two)")
         return
-    network.note(f"{name} of {names}: becomes " + ("a link" if len(both) == 2 else "links between each two"))
+    network.note(f"{name} of {names}: imported as " + ("a link" if len(both) == 2 else "links between each two"))
     for place, a in enumerate(both):
         for b in both[place + 1 :]:
             link = Link(routers[a], routers[b], metrics[a], metrics[b])

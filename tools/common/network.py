@@ -1,6 +1,6 @@
 """A network as tools/import reads it from any source, made to fit the rules of domain files, and written as one.
 
-What a source lacks is given out by rule and marked in the file; what a domain file can't have is left out, with a note for each.
+Values that a source lacks are assigned and marked in the file; what a domain file can't represent is left out, with a note each.
 """
 import ipaddress
 import re
@@ -14,7 +14,7 @@ MAC = re.compile(r"[0-9a-fA-F]{2}(:[0-9a-fA-F]{2}){5}\Z")
 MOST_ROUTERS, MOST_LINKS_OF_A_ROUTER, MOST_SUBDOMAINS, MOST_OCTETS, MOST_ROWS = 250, 64, 8, 245, 2048
 MOST_METRIC = 16777214
 MOST_LABEL = 1048575
-MARK = "  # given out"
+MARK = "  # assigned"
 # Letters that Unicode doesn't decompose into one of ASCII and a mark.
 LETTERS = str.maketrans(dict(zip("ŁłØøÆæĐđıß", ["L", "l", "O", "o", "AE", "ae", "D", "d", "i", "ss"])))
 
@@ -45,12 +45,12 @@ class Sub:
 
 
 class Router:
-    """A router; what is None is given out. `given` has the keys that were."""
+    """A router; what is None is assigned. `assigned` has the keys that were."""
 
     def __init__(self, label, system=None, prefix=None, overload=False):
         self.label, self.name = label, None
         self.system, self.prefix, self.overload = system, prefix, overload
-        self.subs, self.given = {}, set()
+        self.subs, self.assigned = {}, set()
         self.where = ""  # its place in the source, for notes
 
     def shown(self):
@@ -61,13 +61,13 @@ class Router:
         return f"{self.where}router {self.shown()}"
 
     def mark(self, key):
-        return MARK if key in self.given else ""
+        return MARK if key in self.assigned else ""
 
 
 class Link:
     def __init__(self, a, b, metric_ab, metric_ba, mac_a=None, mac_b=None):
         self.a, self.b, self.metric_ab, self.metric_ba, self.mac_a, self.mac_b = a, b, metric_ab, metric_ba, mac_a, mac_b
-        self.is_given = False  # whether the metrics are
+        self.is_assigned = False  # whether the metrics are
         self.lan = None  # the system and pseudonode of a LAN that it stands for
         self.where = ""  # its place in the source, for notes
 
@@ -80,13 +80,13 @@ class Link:
 
 
 class Network:
-    """Routers in the order of the file, links, and `notes`: a line for each thing that isn't kept as the source has it."""
+    """Routers in the order of the file, links, and `notes`: a line for each thing that isn't imported as the source has it."""
 
     def __init__(self, level=None, area=None):
         self.level, self.area = level, area
         self.routers, self.links = [], []
         self.kinds, self.rows = {}, []
-        self.has_bier = False  # whether the source says which routers are BFRs
+        self.has_bier = False  # whether the source has which routers are BFRs
         self.notes, self.head = [], []
         self.pairs = {}
 
@@ -97,11 +97,11 @@ class Network:
         """Adds a link; of several between two routers the one of the least metric stays."""
         what = link.shown()
         if link.a is link.b:
-            self.note(f"{what}: joins a router to itself, not kept")
+            self.note(f"{what}: joins a router to itself, not imported")
             return
         for metric in (link.metric_ab, link.metric_ba):
             if not 0 <= metric <= MOST_METRIC:
-                self.note(f"{what}: metric {metric} is above {MOST_METRIC}, not kept")
+                self.note(f"{what}: metric {metric} is above {MOST_METRIC}, not imported")
                 return
         if 0 in (link.metric_ab, link.metric_ba):
             self.note(f"{what}: metric 0 becomes 1")
@@ -116,32 +116,32 @@ class Network:
             self.links[self.links.index(held)] = self.pairs[pair] = link
             link, held = held, link
         metrics = f"metrics {link.metric_ab} and {link.metric_ba}"
-        self.note(f"{link.shown()}: another link between the two, with {metrics}, not kept")
+        self.note(f"{link.shown()}: another link between the two, with {metrics}, not imported")
 
     # ---- the rules of domain files
 
     def fit(self, options):
         self.keep_what_fits()
-        self.give_names()
-        self.give_systems()
-        self.give_prefixes(options.prefix_base)
+        self.assign_names()
+        self.assign_systems()
+        self.assign_prefixes(options.prefix_base)
         if self.has_bier:
             self.check_bier(options)
         else:
-            self.give_bier(options)
+            self.assign_bier(options)
         self.leave_default_macs()
 
     def keep_what_fits(self):
         for router in self.routers[MOST_ROUTERS:]:
-            self.note(f"{router.noted()}: a domain file has at most {MOST_ROUTERS} routers, not kept")
+            self.note(f"{router.noted()}: a domain file has at most {MOST_ROUTERS} routers, not imported")
         del self.routers[MOST_ROUTERS:]
         kept, counts, links = {id(router) for router in self.routers}, {}, []
         for link in self.links:
             full = [end.shown() for end in (link.a, link.b) if counts.get(id(end), 0) == MOST_LINKS_OF_A_ROUTER]
             if not link.ends() <= kept:
-                self.note(f"{link.shown()}: one of the two routers isn't kept")
+                self.note(f"{link.shown()}: one of the two routers isn't imported")
             elif full:
-                self.note(f"{link.shown()}: {full[0]} has {MOST_LINKS_OF_A_ROUTER} links already, not kept")
+                self.note(f"{link.shown()}: {full[0]} has {MOST_LINKS_OF_A_ROUTER} links already, not imported")
             else:
                 links.append(link)
                 for end in link.ends():
@@ -149,14 +149,14 @@ class Network:
         self.links = links
         for router in self.routers:
             if not counts.get(id(router)):
-                self.note(f"{router.noted()}: no link leads to it")
+                self.note(f"{router.noted()}: has no link")
         # Only one link of a router may lead to a MAC address.
         seen = set()
         for link in links:
             for end, key in ((link.a, "mac_b"), (link.b, "mac_a")):
                 mac = getattr(link, key)
                 if mac and (id(end), mac.lower()) in seen:
-                    self.note(f"{link.shown()}: {end.shown()} has another link to {mac}, address not kept")
+                    self.note(f"{link.shown()}: {end.shown()} has another link to {mac}, address not imported")
                     setattr(link, key, None)
                 elif mac:
                     seen.add((id(end), mac.lower()))
@@ -170,7 +170,7 @@ class Network:
                 if getattr(link, key) == f"02:00:{own >> 8:02x}:{own & 255:02x}:{peer >> 8:02x}:{peer & 255:02x}":
                     setattr(link, key, None)
 
-    def give_names(self):
+    def assign_names(self):
         taken = set()
         for place, router in enumerate(self.routers, 1):
             name = fitting_name(router.label or "", place)
@@ -181,11 +181,11 @@ class Network:
             taken.add(name)
             router.name = name
             if router.label is None:
-                router.given.add("name")
-            elif name != router.label and "name" not in router.given:
-                self.note(f"{router.noted()}: named {name}")
+                router.assigned.add("name")
+            elif name != router.label and "name" not in router.assigned:
+                self.note(f"{router.noted()}: renamed to {name}")
 
-    def give_systems(self):
+    def assign_systems(self):
         taken = self.unique("system", lambda router: router.system and router.system.lower())
         number = 1
         for router in self.routers:
@@ -193,10 +193,10 @@ class Network:
                 while system_text(number) in taken:
                     number += 1
                 router.system = system_text(number)
-                router.given.add("system")
+                router.assigned.add("system")
                 number += 1
 
-    def give_prefixes(self, base):
+    def assign_prefixes(self, base):
         taken = self.unique("prefix", lambda router: router.prefix)
         number = prefix_number(base)
         for router in self.routers:
@@ -204,7 +204,7 @@ class Network:
                 while prefix_text(number) in taken or prefix_number(prefix_text(number)) is None:
                     number = (number + 1) % 2**32
                 router.prefix = prefix_text(number)
-                router.given.add("prefix")
+                router.assigned.add("prefix")
                 number += 1
 
     def unique(self, key, value_of):
@@ -213,7 +213,7 @@ class Network:
         for router in self.routers:
             value = value_of(router)
             if value in taken:
-                self.note(f"{router.noted()}: another router has {key} {value}, given out anew")
+                self.note(f"{router.noted()}: another router has {key} {value}, assigned anew")
                 setattr(router, key, None)
             elif value is not None:
                 taken.add(value)
@@ -221,7 +221,7 @@ class Network:
 
     # ---- BIER
 
-    def give_bier(self, options):
+    def assign_bier(self, options):
         """Makes all routers BFRs, with BFR-ids in the order of the file."""
         subdomain, bits = options.sub_domain, options.bsl
         highest = (len(self.routers) - 1) // bits
@@ -232,14 +232,14 @@ class Network:
         for place, router in enumerate(self.routers):
             ranges = [(bits, highest, options.label_base + place * (highest + 1))] if options.kind == "mpls" else []
             router.subs[subdomain] = Sub(place + 1, ranges)
-            router.given |= {("id", subdomain), ("label", subdomain, bits)}
+            router.assigned |= {("id", subdomain), ("label", subdomain, bits)}
         self.head.append(f"The source has no BIER: BFR-ids count from 1 in sub-domain {subdomain}, with BSL {bits}.")
         if options.kind == "mpls":
             self.head.append(f"Labels are from {options.label_base} to {last}.")
         else:
-            self.give_rows(options)
+            self.assign_rows(options)
 
-    def give_rows(self, options):
+    def assign_rows(self, options):
         """Rows for the sets of all BFR-ids of sub-domains that have no labels."""
         bift = 1
         for subdomain, kind in sorted(self.kinds.items()):
@@ -253,7 +253,7 @@ class Network:
     def check_bier(self, options):
         subdomains = sorted({sd for router in self.routers for sd in router.subs})
         for subdomain in subdomains[MOST_SUBDOMAINS:]:
-            self.note(f"sub-domain {subdomain}: a domain file has at most {MOST_SUBDOMAINS}, not kept")
+            self.note(f"sub-domain {subdomain}: a domain file has at most {MOST_SUBDOMAINS}, not imported")
         for router in self.routers:
             router.subs = {sd: sub for sd, sub in router.subs.items() if sd in subdomains[:MOST_SUBDOMAINS]}
             self.check_ranges(router)
@@ -261,7 +261,7 @@ class Network:
             has_labels = any(router.subs[subdomain].ranges for router in self.routers if subdomain in router.subs)
             self.kinds[subdomain] = "mpls" if has_labels else "configured"
         if "configured" in self.kinds.values():
-            self.give_rows(options)
+            self.assign_rows(options)
 
     def check_ranges(self, router):
         """Leaves out label ranges that the file can't have: of a length that was, above the last label, overlapping, too many."""
@@ -279,7 +279,7 @@ class Network:
                 )
                 if why:
                     what = f"sub-domain {subdomain}, BSL {bits}, labels {label} to {last}"
-                    self.note(f"router {router.name}: {what}: {why}, not kept")
+                    self.note(f"router {router.name}: {what}: {why}, not imported")
                     continue
                 lengths.add(bits)
                 used.append((label, last))
@@ -304,8 +304,8 @@ class Network:
     def opening(self, source):
         """The comments of the head, and the top keys that aren't the default."""
         lines = [f"# Imported from {source}.", *(f"# {line}" for line in self.head)]
-        if any(router.given for router in self.routers) or self.rows or any(link.is_given for link in self.links):
-            lines.append("# Values marked `given out` are not of the source.")
+        if any(router.assigned for router in self.routers) or self.rows or any(link.is_assigned for link in self.links):
+            lines.append("# Values marked `assigned` are not from the source.")
         lines += [f"# Not as in the source: {note}" for note in self.notes]
         keys = [f"level = {self.level}"] if self.level not in (None, 2) else []
         keys += [f'area = "{self.area}"'] if self.area not in (None, "490001") else []
@@ -344,7 +344,7 @@ def labels_text(router, subdomain, entry):
 
 
 def link_text(link):
-    mark = MARK if link.is_given else ""
+    mark = MARK if link.is_assigned else ""
     macs = "".join(f'{key} = "{mac}"\n' for key, mac in (("mac_a", link.mac_a), ("mac_b", link.mac_b)) if mac)
     metrics = f"metric_ab = {link.metric_ab}{mark}\nmetric_ba = {link.metric_ba}{mark}\n"
     return f'[[link]]\na = "{link.a.name}"\nb = "{link.b.name}"\n{metrics}{macs}'

@@ -9,7 +9,7 @@ import national
 import zoo
 from support import EXAMPLES, places, program, read, scratch, tool, write
 
-from common import domain
+from common import capture, domain, network
 
 DUMP = os.environ.get("ISIS_DUMP") or os.path.join(places.ROOT, "crates", "isis_dump", "out", "isis_dump")
 FRR = os.path.join(places.ROOT, "tools", "tests", "frr")
@@ -55,6 +55,12 @@ class Import(unittest.TestCase):
         replay(path, "settle 1\n", "again.frames")
         return domain.read_domain(path), read(path), done.stderr.splitlines()
 
+    def node(self, *words):
+        """The lines of a report of `node`."""
+        done = subprocess.run([program(), "node", *words, scratch("node.frames")], capture_output=True, text=True)
+        self.assertEqual(done.returncode, 0)
+        return done.stdout.splitlines()
+
     # ---- captures
 
     @HAS_DUMP
@@ -70,7 +76,7 @@ class Import(unittest.TestCase):
                 self.assertEqual(links_of(again), links_of(first))
                 self.assertEqual(again.kinds, {sd: kind for sd, kind in first.kinds.items() if any(r.id_in(sd) for r in first.routers)})
                 self.assertEqual((again.confs[0]["level"], again.confs[0]["area"]), (first.confs[0]["level"], first.confs[0]["area"]))
-                self.assertEqual(notes, [f"import: router {r.name}: no link leads to it" for r in again.routers if not again.ends(r.place)])
+                self.assertEqual(notes, [f"import: router {r.name}: has no link" for r in again.routers if not again.ends(r.place)])
 
     @HAS_DUMP
     def test_until_a_second(self):
@@ -82,7 +88,7 @@ class Import(unittest.TestCase):
 
     @HAS_DUMP
     def test_addresses_at_a_mirror(self):
-        """The frames of west-4's links, with its neighbors' addresses and its own changed: all are told, its own by packets."""
+        """The frames of west-4's links, with its neighbors' addresses and its own changed: all are found, its own by packets."""
         first = domain.read_domain(os.path.join(EXAMPLES, "node-television", "domain.toml"))
         frames = replay(os.path.join(EXAMPLES, "node-television", "domain.toml"), "settle 12\n" + MIRRORED + "settle 12\n")
         links = {mac for end in first.ends(first.place["west-4"]) for mac in (end["own_mac"], end["peer_mac"])}
@@ -98,9 +104,9 @@ class Import(unittest.TestCase):
                 heard.append(bytes(record))
         it, _, notes = self.imported(write("heard.pcap", b"".join(heard)), "--at", "west-4")
         self.assertEqual(notes, [])
-        was, told = macs_of(first), {ends: mac for ends, mac in macs_of(it).items() if mac[3:5] == "aa"}
+        was, found = macs_of(first), {ends: mac for ends, mac in macs_of(it).items() if mac[3:5] == "aa"}
         pairs = [("west-4", "west-3"), ("west-4", "core-2"), ("west-3", "west-4"), ("core-2", "west-4")]
-        self.assertEqual(told, {ends: was[ends][:3] + "aa" + was[ends][5:] for ends in pairs})
+        self.assertEqual(found, {ends: was[ends][:3] + "aa" + was[ends][5:] for ends in pairs})
 
     # ---- FRR
 
@@ -109,7 +115,7 @@ class Import(unittest.TestCase):
         self.assertEqual([r.system for r in it.routers], [bytes([0, 0, 0, 0, 0, at]) for at in range(1, 9)])
         self.assertEqual(links_of(it), {**LAB_LINKS, **dict(extra)})
         self.assertEqual([r.ids() for r in it.routers], [[(0, at)] for at in range(1, 9)])
-        self.assertIn("import: link core-1 to core-2: another link between the two, with metrics 30 and 30, not kept", notes)
+        self.assertIn("import: link core-1 to core-2: another link between the two, with metrics 30 and 30, not imported", notes)
         lans = [note.split(": ", 1)[1] for note in notes if ": LAN " in note]
         self.assertEqual([lan.split(" of ")[1].split(":")[0] for lan in lans], ["core-3, core-4", "core-4, access-3, access-4"])
 
@@ -125,7 +131,7 @@ class Import(unittest.TestCase):
             with self.subTest(names=names):
                 it, _, notes = self.imported(*of_frr(*names))
                 self.check_lab(it, notes)
-                self.assertIn("import: router access-3: no link leads to it", notes)
+                self.assertIn("import: router access-3: has no link", notes)
         it, _, notes = self.imported(*of_frr("database.json"), "--mesh")
         self.check_lab(it, notes, MESH.items())
 
@@ -136,10 +142,17 @@ class Import(unittest.TestCase):
         # The lab gives each interface an address with the numbers of its router and its interface.
         numbers = {name: number for number, name in enumerate(LAB, 1)}
         wanted = {ends: f"02:aa:00:00:{numbers[ends[0]]:02x}:{interface:02x}" for ends, interface in LAB_INTERFACES.items()}
-        told = {ends: mac for ends, mac in macs_of(it).items() if not mac.startswith("02:00:")}
-        self.assertEqual(told, wanted)
+        found = {ends: mac for ends, mac in macs_of(it).items() if not mac.startswith("02:00:")}
+        self.assertEqual(found, wanted)
+        # With these addresses `node` receives what a router's neighbors sent to it.
+        neighbors = {bytes.fromhex(mac.replace(":", "")) for (_, peer), mac in wanted.items() if peer == "core-4"}
+        records = [record.octets for record in capture.read_capture(of_frr("capture.pcap")[0])]
+        count = sum(octets[6:12] in neighbors and octets[21] & 31 in (20, 25, 27) for octets in records)
+        report = self.node(scratch("imported.toml"), "core-4", of_frr("capture.pcap")[0])
+        self.assertEqual(report[-1].split()[:5], ["done", "records", str(len(records)), "used", str(count)])
+        self.assertEqual(report[:-1], [])
 
-    def test_systems_that_frr_does_not_tell(self):
+    def test_systems_that_frr_does_not_show(self):
         """Without its own LSP in others' lists a router's system ID isn't known, but by `show isis hostname`."""
         cut = read(of_frr("database.txt")[0]).replace("  Extended Reachability: 0000.0000.0005.00 (Metric: 5)\n", "")
         path = write("cut.txt", cut)
@@ -148,7 +161,7 @@ class Import(unittest.TestCase):
         self.assertIn("give the output of `show isis hostname` too", done.stderr)
         it, _, notes = self.imported(path, *of_frr("hostname.txt"))
         self.assertNotIn(("access-1", "access-2"), links_of(it))
-        self.assertIn("import: link access-1 to access-2: access-1 advertises 1 more than access-2, not kept", notes)
+        self.assertIn("import: link access-1 to access-2: access-1 advertises 1 more than access-2, not imported", notes)
 
     # ---- GraphML and CSV
 
@@ -182,7 +195,7 @@ class Import(unittest.TestCase):
         self.assertEqual([(r.system.hex(), ".".join(map(str, r.prefix)), r.overload) for r in it.routers],
                          [("00000000000a", "10.9.0.1", True), ("000000000001", "10.0.0.1", False)])
         self.assertEqual(macs_of(it), {("A", "B"): "02:00:00:00:00:0a", ("B", "A"): "02:00:00:00:00:0b"})
-        self.assertEqual(text.count("# given out"), 6)
+        self.assertEqual(text.count("# assigned"), 6)
 
     def test_configured_sub_domain(self):
         path = scratch("configured.toml")
@@ -200,12 +213,21 @@ class Import(unittest.TestCase):
         star = "a,b\n" + "".join(f"hub,leaf-{at}\n" for at in range(70))
         it, _, notes = self.imported(write("star.csv", star))
         self.assertEqual(len(list(it.links())), 64)
-        self.assertEqual(sum("hub has 64 links already, not kept" in note for note in notes), 6)
+        self.assertEqual(sum("hub has 64 links already, not imported" in note for note in notes), 6)
         chain = "a,b\n" + "".join(f"r{at},r{at + 1}\n" for at in range(259))
         it, _, notes = self.imported(write("chain.csv", chain))
         self.assertEqual((len(it.routers), len(list(it.links()))), (250, 249))
-        self.assertEqual(sum("at most 250 routers, not kept" in note for note in notes), 10)
-        self.assertEqual(sum("one of the two routers isn't kept" in note for note in notes), 10)
+        self.assertEqual(sum("at most 250 routers, not imported" in note for note in notes), 10)
+        self.assertEqual(sum("one of the two routers isn't imported" in note for note in notes), 10)
+
+    def test_label_ranges(self):
+        for ranges, kept, why in RANGES:
+            with self.subTest(ranges=ranges):
+                it, router = network.Network(), network.Router("x")
+                router.name, router.subs = "x", {1: network.Sub(1, ranges)}
+                it.check_ranges(router)
+                self.assertEqual(router.subs[1].ranges, kept)
+                self.assertEqual([note.split(": ")[-1] for note in it.notes], [f"{it}, not imported" for it in why])
 
     def test_errors(self):
         for text, words, status, line in ERRORS:
@@ -237,7 +259,7 @@ LAB_LINKS = {
     ("core-3", "core-4"): (10, 10),
 }
 MESH = {("access-3", "core-4"): (10, 10), ("access-4", "core-4"): (10, 10), ("access-3", "access-4"): (10, 10)}
-# the number of the interface at the first of two routers; core-1 and core-2 have two links, so theirs aren't told
+# the number of the interface at the first of two routers; core-1 and core-2 have two links, so theirs are ambiguous
 LAB_INTERFACES = {
     ("core-2", "core-3"): 2, ("core-3", "core-2"): 0, ("core-4", "core-1"): 0, ("core-1", "core-4"): 2,
     ("core-1", "access-1"): 3, ("access-1", "core-1"): 0, ("access-1", "access-2"): 1, ("access-2", "access-1"): 0,
@@ -325,7 +347,7 @@ SMALL = [
         ["--bsl", "64", "--label-base", "100", "--sub-domain", "2"],
         [("A", (2, 1), (2, 64, 0, 100)), ("B", (2, 2), (2, 64, 0, 101)), ("C", (2, 3), (2, 64, 0, 102))],
         {("A", "B"): (7, 7), ("B", "C"): (10, 10)},
-        ["small:4: link B to B: joins a router to itself, not kept"],
+        ["small:4: link B to B: joins a router to itself, not imported"],
     ),
     (
         "BFR-ids of the source",
@@ -333,7 +355,7 @@ SMALL = [
         ["--bsl", "64"],
         [("A", (0, 70), (0, 64, 1, 500)), ("B", (0, 0), (0, 64, 1, 16002)), ("r-9-lives",)],
         {("A", "B"): (2, 1), ("A", "r-9-lives"): (10, 10)},
-        ["small:1: column 'site' isn't read", "small:4: router 9 lives: named r-9-lives"],
+        ["small:1: column 'site' is ignored", "small:4: router 9 lives: renamed to r-9-lives"],
     ),
     (
         "a directed graph",
@@ -342,9 +364,17 @@ SMALL = [
         ["--metric-key", "cost"],
         [("A", (0, 1), (0, 256, 0, 16000)), ("A-2", (0, 2), (0, 256, 0, 16001)), ("node-3", (0, 3), (0, 256, 0, 16002))],
         {("A", "A-2"): (3, 5), ("A", "node-3"): (10, 10)},
-        ["small:1: router A: named A-2"],
+        ["small:1: router A: renamed to A-2"],
     ),
 ]  # fmt: skip
+
+# label ranges as BSL, highest set identifier and label of set 0; those that a domain file can have; why the others aren't
+RANGES = [
+    ([(64, 3, 100), (128, 3, 104)], [(64, 3, 100), (128, 3, 104)], []),
+    ([(64, 3, 100), (128, 0, 103), (256, 0, 99)], [(64, 3, 100), (256, 0, 99)], ["overlaps another range"]),
+    ([(64, 3, 100), (64, 0, 200)], [(64, 3, 100)], ["has a second range of that BSL"]),
+    ([(64, 0, 15), (128, 1, 1048575), (256, 0, 1048575)], [(256, 0, 1048575)], ["isn't within 16 to 1048575"] * 2),
+]
 
 FULL = """name,system,prefix,overload,id,label
 A,0000.0000.000A,10.9.0.1,yes,1,
@@ -385,7 +415,7 @@ ERRORS = [
     ("{\n}}", [], 1, "bad:2: not JSON"),
     ("{}", [], 1, "bad: no LSPs"),
     ('{"areas":[{"levels":[{"id":2,"lsps":[{"lsp":{"id":"A"}}]}]}]}', [], 1, "areas[0].levels[0].lsps[0].lsp.id: 'A' isn't an LSP ID"),
-    ('{"areas":[{"levels":[{"id":2,"lsp":{"id":"A.00-00"}}]}]}', [], 1, "areas[0].levels[0]: has the last LSP alone"),
+    ('{"areas":[{"levels":[{"id":2,"lsp":{"id":"A.00-00"}}]}]}', [], 1, "areas[0].levels[0]: contains only the last LSP"),
     ("[]", [], 1, "bad: no database"),
     (b"\xd4\xc3\xb2\xa2", ["--format", "capture"], 1, "bad: refused record 0 1 Magic"),
     (b"\x0a\x0d\x0d\x0a", [], 1, "a pcapng file; `editcap -F pcap` converts it"),
