@@ -1,7 +1,7 @@
 """A network from a capture: LSPs as `isis_dump` prints them, and MAC addresses from the frames of the links."""
 import os
 import subprocess
-from collections import Counter
+import threading
 
 from . import capture, frames, places
 from .lsps import Lsp, network_of
@@ -13,17 +13,26 @@ POINT_TO_POINT, LAN = (17,), (15, 16)  # types of hellos
 PCAPNG = b"\x0a\x0d\x0d\x0a"
 
 
-def dumped(path, program):
+def feed(pipe, octets):
+    try:
+        with pipe:
+            pipe.write(octets)
+    except BrokenPipeError:
+        pass  # the program rejected the capture before its end
+
+
+def dumped(path, octets, program):
     """The lines of isis_dump, as it writes them."""
     program = program or os.environ.get("ISIS_DUMP") or DUMP
     if not os.access(program, os.X_OK):
         raise Trouble(f"{program}: isn't built (rt ci isis_dump builds it)")
     line = ""
-    with open(path, "rb") as frames_in, subprocess.Popen([program], stdin=frames_in, stdout=subprocess.PIPE) as running:
-        for octets in running.stdout:
-            # Lists of LSPs say nothing of the network, and are most of the lines.
-            if not octets.startswith(b"  entry"):
-                line = octets.decode("utf-8", "replace").rstrip("\n")
+    with subprocess.Popen([program], stdin=subprocess.PIPE, stdout=subprocess.PIPE) as running:
+        threading.Thread(target=feed, args=(running.stdin, octets), daemon=True).start()
+        for read in running.stdout:
+            # Entries of CSNPs and PSNPs are most of the lines, and have nothing that is imported.
+            if not read.startswith(b"  entry"):
+                line = read.decode("utf-8", "replace").rstrip("\n")
                 yield line
     if running.returncode == 8:
         raise Trouble(f"{path}: {line}")
@@ -147,31 +156,27 @@ class Macs:
         owners = self.owners.get(mac, ())
         return next(iter(owners)) if len(owners) == 1 else None
 
-    def of(self, system):
-        return [mac for mac in self.owners if self.owner(mac) == system]
-
     def place(self, network, at):
         """Gives links the addresses that are known for certain; how many, and of how many interfaces. `at` is a mirror's router."""
-        links = {}
-        for link in network.links:
-            links[link.a.system, link.b.system] = links[link.b.system, link.a.system] = link
-        counts = Counter(here for here, _ in links)
         found = 0
-        for (here, there), link in links.items():
-            macs = self.addresses(here, there, link.lan, at)
-            if not macs and (counts[here] == 1 or there == at):
-                macs = set(self.of(here))
-            end, key = (link.a, "mac_a") if link.a.system == here else (link.b, "mac_b")
-            if len(macs) == 1:
-                setattr(link, key, next(iter(macs)).hex(":"))
-                found += 1
-            elif len(macs) > 1:
-                network.note(f"{link.shown()}: {len(macs)} MAC addresses at {end.shown()}, none imported")
-        return found, len(links)
+        for link in network.links:
+            for here, there, key in ((link.a, link.b, "mac_a"), (link.b, link.a, "mac_b")):
+                macs = self.addresses(here.system, there.system, link.lan, at)
+                if not macs and (here.adjacencies == 1 or there.system == at):
+                    macs = {mac for mac in self.owners if self.owner(mac) == here.system} - self.elsewhere(here.system)
+                if len(macs) == 1:
+                    setattr(link, key, next(iter(macs)).hex(":"))
+                    found += 1
+                elif len(macs) > 1:
+                    network.note(f"{link.shown()}: {len(macs)} MAC addresses at {here.shown()}, none imported")
+        return found, 2 * len(network.links)
 
     def addresses(self, here, there, lan, at):
-        """A router's addresses toward a neighbor: by its hellos, and by frames to one receiver between the two."""
-        macs = set(self.on_lans.get((here, lan), ()) if lan else self.on_links.get((here, there), ()))
+        """A router's addresses toward a neighbor: by its hellos, or else by frames to one receiver between the two."""
+        named = self.on_lans.get((here, lan)) if lan else self.on_links.get((here, there))
+        if named:
+            return named
+        macs = set()
         for sender, receiver in self.pairs:
             source, target = self.owner(sender), self.owner(receiver)
             if (source, target) == (here, there):
@@ -179,14 +184,19 @@ class Macs:
             # What a mirror shows of a neighbor's frames is for the mirror's router.
             if source == there and (target == here or target is None and here == at):
                 macs.add(receiver)
-        return macs
+        return macs - self.elsewhere(here)
+
+    def elsewhere(self, here):
+        """A router's addresses on links that its hellos name."""
+        named = [macs for found in (self.on_links, self.on_lans) for (system, _), macs in found.items() if system == here]
+        return set().union(*named)
 
 
 def read(path, octets, options):
     reader = Reader(options.until)
     if octets[:4] == PCAPNG:
         raise Trouble(f"{path}: a pcapng file; `editcap -F pcap` converts it")
-    reader.read(dumped(path, options.dump))
+    reader.read(dumped(path, octets, options.dump))
     network, routers = network_of(reader.lsps.values(), options, path)
     network.notes[:0] = reader.notes
     at = None

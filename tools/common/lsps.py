@@ -59,6 +59,8 @@ def network_of(lsps, options, what):
     if not systems:
         raise Trouble(f"{what}: no LSPs of routers" + (f" of level {options.level}" if options.level else ""))
     routers = {system: router_of(system, own, network) for system, own in systems.items()}
+    for system, own in systems.items():
+        routers[system].adjacencies = sum(len(lsp.reaches) for lsp in own)
     network.routers = list(routers.values())
     choose_area(live, options, network)
     add_links(systems, routers, live, network, options)
@@ -133,10 +135,12 @@ def join(a, b, ends, routers, network):
     if b not in routers:
         network.note(f"{what}: no LSP of {b}, not imported")
         return
-    if len(here) != len(there) and a != b:
+    if not there:
+        network.note(f"{what}: only {label(a, routers)} advertises it, not imported")
+    elif len(here) != len(there):
         more, fewer = (a, b) if len(here) > len(there) else (b, a)
-        times = abs(len(here) - len(there))
-        network.note(f"{what}: {label(more, routers)} advertises {times} more than {label(fewer, routers)}, not imported")
+        extra = f"{abs(len(here) - len(there))} more than {label(fewer, routers)}"
+        network.note(f"{what}: {label(more, routers)} advertises {extra}, not imported")
     for metric_ab, metric_ba in zip(here, there):
         if UNREACHABLE in (metric_ab, metric_ba):
             network.note(f"{what}: metric {UNREACHABLE}, which takes no traffic, not imported")

@@ -45,12 +45,13 @@ class Sub:
 
 
 class Router:
-    """A router; what is None is assigned. `assigned` has the keys that were."""
+    """A router. Keys that are None are assigned later, and are in `assigned` then."""
 
     def __init__(self, label, system=None, prefix=None, overload=False):
         self.label, self.name = label, None
         self.system, self.prefix, self.overload = system, prefix, overload
         self.subs, self.assigned = {}, set()
+        self.adjacencies = None  # how many its LSPs advertise
         self.where = ""  # its place in the source, for notes
 
     def shown(self):

@@ -161,7 +161,7 @@ class Import(unittest.TestCase):
         self.assertIn("give the output of `show isis hostname` too", done.stderr)
         it, _, notes = self.imported(path, *of_frr("hostname.txt"))
         self.assertNotIn(("access-1", "access-2"), links_of(it))
-        self.assertIn("import: link access-1 to access-2: access-1 advertises 1 more than access-2, not imported", notes)
+        self.assertIn("import: link access-1 to access-2: only access-1 advertises it, not imported", notes)
 
     # ---- GraphML and CSV
 
