@@ -135,6 +135,20 @@ class Import(unittest.TestCase):
         it, _, notes = self.imported(*of_frr("database.json"), "--mesh")
         self.check_lab(it, notes, MESH.items())
 
+    def test_both_levels_and_long_names(self):
+        """FRR cuts the names in LSP IDs to 14 characters, here all to the same; the system IDs are found all the same."""
+        for words, level, note in (
+            ([], 2, ["import: LSPs of level 1: level 2 is imported (--level 1 has the other)"]),
+            (["--level", "1"], 1, []),
+        ):
+            with self.subTest(words=words):
+                it, _, notes = self.imported(*of_frr("both-levels.txt"), *words)
+                self.assertEqual([r.name for r in it.routers], [f"frankfurt-main-{name}" for name in LAB])
+                self.assertEqual([r.system for r in it.routers], [bytes([0, 0, 0, 0, 0, at]) for at in range(1, 9)])
+                short = {tuple(name[15:] for name in pair): metrics for pair, metrics in links_of(it).items()}
+                self.assertEqual(short, LAB_LINKS)
+                self.assertEqual((it.confs[0]["level"], notes[: len(note)]), (level, note))
+
     @HAS_DUMP
     def test_what_frr_sends(self):
         it, _, notes = self.imported(*of_frr("capture.pcap"), "--mesh")
