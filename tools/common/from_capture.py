@@ -108,15 +108,13 @@ def system_of(octets):
     return f"{digits[:4]}.{digits[4:8]}.{digits[8:]}"
 
 
-def three_way(octets):
-    """The neighbor that a point-to-point hello names (RFC 5303, 3); None where it names none."""
-    at, end = 17 + 20, 14 + frames.number(octets, 12, 2)
-    while at + 2 <= min(end, len(octets)):
-        kind, length = octets[at : at + 2]
-        if kind == 240 and length >= 11:
-            return system_of(octets[at + 7 : at + 13])
+def tlvs(octets, at):
+    """The TLVs of a PDU, as code and value, from an offset of its frame on."""
+    end = min(14 + frames.number(octets, 12, 2), len(octets))
+    while at + 2 <= end:
+        code, length = octets[at : at + 2]
+        yield code, octets[at + 2 : at + 2 + length]
         at += 2 + length
-    return None
 
 
 class Macs:
@@ -126,6 +124,7 @@ class Macs:
         self.owners = {}  # of an address, the systems that sent from it
         self.on_links = {}  # of a system and the neighbor that its hellos name, its addresses
         self.on_lans = {}  # of a system and a LAN
+        self.hosts = {}  # of an address, the IP address of its interface, as a number
         self.pairs = set()  # sender and receiver of frames to one receiver
         for record in records:
             octets = record.octets
@@ -143,9 +142,12 @@ class Macs:
         """The sender of a hello; None for another frame."""
         kind, system, mac = octets[21] & 31, system_of(octets[26:32]), octets[6:12]
         if kind in POINT_TO_POINT:
-            neighbor = three_way(octets)
-            if neighbor:
-                self.on_links.setdefault((system, neighbor), set()).add(mac)
+            for code, value in tlvs(octets, 17 + 20):
+                if code == 240 and len(value) >= 11:
+                    # The neighbor of a three-way handshake (RFC 5303, 3).
+                    self.on_links.setdefault((system, system_of(value[5:11])), set()).add(mac)
+                elif code == 132 and len(value) >= 4:
+                    self.hosts[mac] = frames.number(value, 0, 4)
         elif kind in LAN and len(octets) >= 17 + 27:
             self.on_lans.setdefault((system, (system_of(octets[37:43]), octets[43])), set()).add(mac)
         else:
@@ -162,6 +164,8 @@ class Macs:
         for link in network.links:
             for here, there, key in ((link.a, link.b, "mac_a"), (link.b, link.a, "mac_b")):
                 macs = self.addresses(here.system, there.system, link.lan, at)
+                if len(macs) > 1:
+                    macs = self.on_subnets(macs, here, link.metric_ab if key == "mac_a" else link.metric_ba)
                 if not macs and (here.adjacencies == 1 or there.system == at):
                     macs = {mac for mac in self.owners if self.owner(mac) == here.system} - self.elsewhere(here.system)
                 if len(macs) == 1:
@@ -186,6 +190,14 @@ class Macs:
                 macs.add(receiver)
         return macs - self.elsewhere(here)
 
+    def on_subnets(self, macs, router, metric):
+        """Those of the addresses whose interface is in a prefix that the router advertises with a metric; all where none is."""
+        found = set()
+        for prefix, bits, of_prefix in router.prefixes:
+            if of_prefix == metric and bits < 32:
+                found |= {mac for mac in macs if mac in self.hosts and (self.hosts[mac] ^ prefix_number(prefix)) >> 32 - bits == 0}
+        return found or macs
+
     def elsewhere(self, here):
         """A router's addresses on links that its hellos name."""
         named = [macs for found in (self.on_links, self.on_lans) for (system, _), macs in found.items() if system == here]
@@ -205,5 +217,6 @@ def read(path, octets, options):
         if at is None:
             raise Trouble(f"--at {options.at}: no router of that name or system ID has an LSP in {path}")
     placed, of = Macs(capture.records_in(path, octets), reader.sources).place(network, at)
-    network.head.append(f"MAC addresses of {placed} of {of} interfaces are in the capture; the others have the default.")
+    rest = "" if placed == of else "; the others have the default"
+    network.head.append(f"MAC addresses of {placed} of {of} interfaces are in the capture{rest}.")
     return network

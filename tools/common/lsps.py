@@ -61,6 +61,7 @@ def network_of(lsps, options, what):
     routers = {system: router_of(system, own, network) for system, own in systems.items()}
     for system, own in systems.items():
         routers[system].adjacencies = sum(len(lsp.reaches) for lsp in own)
+        routers[system].prefixes = [it for lsp in own for it in lsp.prefixes if prefix_number(it[0])]
     network.routers = list(routers.values())
     choose_area(live, options, network)
     add_links(systems, routers, live, network, options)

@@ -51,7 +51,7 @@ class Router:
         self.label, self.name = label, None
         self.system, self.prefix, self.overload = system, prefix, overload
         self.subs, self.assigned = {}, set()
-        self.adjacencies = None  # how many its LSPs advertise
+        self.adjacencies, self.prefixes = None, []  # how many its LSPs advertise; and prefixes, lengths, metrics
         self.where = ""  # its place in the source, for notes
 
     def shown(self):

@@ -273,8 +273,9 @@ LAB_LINKS = {
     ("core-3", "core-4"): (10, 10),
 }
 MESH = {("access-3", "core-4"): (10, 10), ("access-4", "core-4"): (10, 10), ("access-3", "access-4"): (10, 10)}
-# the number of the interface at the first of two routers; core-1 and core-2 have two links, so theirs are ambiguous
+# the number of the interface at the first of two routers; of the two links of core-1 and core-2, that of metric 10
 LAB_INTERFACES = {
+    ("core-1", "core-2"): 0, ("core-2", "core-1"): 0,
     ("core-2", "core-3"): 2, ("core-3", "core-2"): 0, ("core-4", "core-1"): 0, ("core-1", "core-4"): 2,
     ("core-1", "access-1"): 3, ("access-1", "core-1"): 0, ("access-1", "access-2"): 1, ("access-2", "access-1"): 0,
     ("access-2", "core-2"): 1, ("core-2", "access-2"): 3, ("core-3", "access-4"): 1, ("access-4", "core-3"): 0,
