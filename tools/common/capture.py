@@ -24,7 +24,11 @@ class Record:
 
 def read_capture(path):
     """All records of a capture file."""
-    octets = read_octets(path)
+    return records_in(path, read_octets(path))
+
+
+def records_in(path, octets):
+    """All records of the octets of a capture file."""
     order = MAGICS.get(octets[:4])
     if order is None:
         raise Trouble(f"{path}: not a capture of the classic pcap format")
