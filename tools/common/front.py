@@ -10,6 +10,7 @@ import subprocess
 import sys
 import time
 
+from .command import as_called
 from .trouble import Trouble
 
 # the arguments of each command: what each file is to the program
@@ -134,7 +135,7 @@ def warn(files):
     for text in found[:MOST_WARNINGS]:
         say(f"warning: {text}")
     if len(found) > MOST_WARNINGS:
-        say(f"and {len(found) - MOST_WARNINGS} more warnings: tools/lint {path}")
+        say(as_called(f"and {len(found) - MOST_WARNINGS} more warnings: tools/lint ") + path)
 
 
 # ---- how far a run is
@@ -212,7 +213,7 @@ def main(program, before=None):
     status, last = run(program, arguments, files)
     explain(status, arguments, files, last)
     if status == 2:
-        print(EXAMPLES, file=sys.stderr)
+        print(as_called(EXAMPLES), file=sys.stderr)
     return status if status >= 0 else 128 - status
 
 
