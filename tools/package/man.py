@@ -195,11 +195,11 @@ def tool_page(name, help_text, version, date):
     texts, out = [], [".SH SYNOPSIS", f".B {literal(name)}", literal(usage)]
     for it in parts[1:]:
         first, *rest = it.splitlines()
-        if first in ("positional arguments:", "options:"):
-            out += [f'.SH "{"ARGUMENTS" if first[0] == "p" else "OPTIONS"}"', *options(rest)]
-        elif first.startswith("example"):
+        if first.startswith("example"):
             lines = [first.partition(":")[2], *rest]
             out += [".SH EXAMPLES", *code(line.strip() for line in lines if line.strip())]
+        elif first.endswith(":") and rest and rest[0].startswith("  "):
+            out += [heading("SH", first[:-1].replace("positional ", "")), *options(rest)]
         else:
             texts += [".PP", *(literal(line) for line in it.splitlines())]
     summary = parts[1].splitlines()[0].rstrip(".")

@@ -72,7 +72,7 @@ def folder(path, target, skip=()):
 
 def programs():
     found = {target: copied(crate_output(name), True) for name, target in PROGRAMS.items()}
-    front = File(target=f"../share/mastdamson/bier_domain")
+    front = File(target="../share/mastdamson/bier_domain")
     return {**found, "usr/bin/bier_domain": front, f"{SHARE}/bier_domain": copied(os.path.join(FILES, "bier_domain"), True)}
 
 
@@ -89,10 +89,11 @@ def tools():
 
 
 def completions():
-    shell = read_octets(os.path.join(FILES, "completion.zsh")).replace(b"@TOOLS@", " ".join(command_names()).encode())
     found = {f"{COMPLETIONS}/{name}": File(target="bier_domain") for name in command_names()}
-    found[f"{COMPLETIONS}/bier_domain"] = copied(os.path.join(FILES, "completion.bash"), False)
-    return {**found, "usr/share/zsh/vendor-completions/_bier_domain": File(shell)}
+    for shell, target in (("bash", f"{COMPLETIONS}/bier_domain"), ("zsh", "usr/share/zsh/vendor-completions/_bier_domain")):
+        octets = read_octets(os.path.join(FILES, f"completion.{shell}"))
+        found[target] = File(octets.replace(b"@TOOLS@", " ".join(command_names()).encode()))
+    return found
 
 
 def documents(build):
@@ -104,8 +105,8 @@ def documents(build):
     found[f"{DOC}/examples"] = File(target="../../mastdamson/examples")
     found[f"{DOC}/copyright"] = copied(os.path.join(FILES, "copyright"), False)
     found["usr/share/lintian/overrides/mastdamson"] = copied(os.path.join(FILES, "overrides"), False)
-    entry = f"mastdamson ({build.version}) unstable; urgency=medium\n\n  * Release {build.version}; CHANGELOG.md says what is new.\n\n"
-    found[f"{DOC}/changelog.gz"] = packed(f"{entry} -- {build.maintainer}  {build.date}\n")
+    entry = f"  * Release {build.version}; CHANGELOG.md says what is new.\n\n -- {build.maintainer}  {build.date}\n"
+    found[f"{DOC}/changelog.gz"] = packed(f"mastdamson ({build.version}) unstable; urgency=medium\n\n{entry}")
     return found
 
 
@@ -147,7 +148,8 @@ def pages(build, root):
 
 def build_file(build, files):
     """What the package was made from, and the sum of each file."""
-    lines = [f"version {build.version}", f"commit {build.commit}", f"date {build.date}", f"kit {build.kit}", f"gate {build.gate}", ""]
+    given = dataclasses.asdict(build)
+    lines = [f"{name} {given[name]}" for name in ("version", "commit", "date", "kit", "gate")] + [""]
     sums = [f"{hashlib.sha256(it.octets).hexdigest()}  {path}" for path, it in sorted(files.items()) if it.target is None]
     return File("\n".join([*lines, *sums, ""]).encode())
 

@@ -99,10 +99,12 @@ class ManPages(unittest.TestCase):
             with self.subTest(name):
                 self.assertEqual(sections_of(page)[:3], ["NAME", "SYNOPSIS", "DESCRIPTION"])
                 self.assertIn("OPTIONS", sections_of(page))
+                self.assertFalse([it for it in sections_of(page) if it != it.upper()])
 
     @needs("man", "man-db")
     def test_pages_are_right_for_groff(self):
-        for page in (man.program_page(GUIDE, "1.2.3", "14 Nov 2023", tree.command_names()), man.dump_page(GUIDE, "1.2.3", "14 Nov 2023")):
+        given = (GUIDE, "1.2.3", "14 Nov 2023")
+        for page in (man.program_page(*given, tree.command_names()), man.dump_page(*given)):
             done = subprocess.run(
                 ["man", "--warnings", "--local-file", "-"],
                 input=page,

@@ -21,7 +21,5 @@ _bier_domain() {
     esac
 }
 
-case ${1##*/} in
-mastdamson-*) complete -F _longopt "${1##*/}" ;; # the options that --help lists, and files
-*) complete -F _bier_domain bier_domain ;;
-esac
+complete -F _bier_domain bier_domain
+complete -F _longopt @TOOLS@ # the options that --help lists, and files
