@@ -10,7 +10,7 @@ import subprocess
 import sys
 import time
 
-from .command import as_called
+from .names import as_called
 from .trouble import Trouble
 
 # the arguments of each command: what each file is to the program

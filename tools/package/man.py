@@ -1,8 +1,8 @@
 """Man pages: of the programs from the user guide, of the tools from their --help."""
 import re
 
-from common.command import installed
 from common.front import EXAMPLES
+from common.names import installed
 
 WIDTH = 70  # columns of a table
 SHORT = 18  # columns of a cell that isn't wrapped

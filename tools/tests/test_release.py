@@ -10,7 +10,7 @@ import tempfile
 import unittest
 
 from support import needs, places, read
-from common import command, front
+from common import front, names
 from common.trouble import read_octets
 from package import deb, man, tree
 
@@ -122,7 +122,7 @@ class ManPages(unittest.TestCase):
             ("./bier_domain grow 40", "bier_domain grow 40"),
             ("examples/ring", "/usr/share/doc/mastdamson/examples/ring"),
         ):
-            self.assertEqual(command.installed(text), wanted)
+            self.assertEqual(names.installed(text), wanted)
 
 
 if __name__ == "__main__":
