@@ -5,6 +5,7 @@ import sys
 
 from .names import as_called
 
+
 class Parser(argparse.ArgumentParser):
     """Reads a tool's arguments; the help begins with the tool's docstring and ends with an example."""
 
