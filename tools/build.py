@@ -6,15 +6,13 @@ import subprocess
 import sys
 import time
 
+from common.front import say
+
 ROOT = os.path.dirname(os.path.dirname(os.path.realpath(__file__)))
 CRATE = os.path.join(ROOT, "crates", "bier_domain")
 PROGRAM = os.path.join(CRATE, "out", "bier_domain")
 STAMP = os.path.join(CRATE, "out", ".built")
 PARTS = ("src", "specs", "proofs")
-
-
-def say(text):
-    print(f"bier_domain: {text}", file=sys.stderr, flush=True)
 
 
 def sources():
@@ -51,6 +49,10 @@ def build():
     say(f"proved and built in {int(time.time() - started) // 60} min {int(time.time() - started) % 60} s")
 
 
-if __name__ == "__main__":
+def build_where_stale():
     if is_stale():
         build()
+
+
+if __name__ == "__main__":
+    build_where_stale()

@@ -7,17 +7,21 @@ from .trouble import Trouble
 
 ROOT = os.path.dirname(os.path.dirname(os.path.dirname(os.path.abspath(__file__))))
 TOOLS = os.path.join(ROOT, "tools")
-BUILT = os.path.join(ROOT, "crates", "bier_domain", "out", "bier_domain")
+IS_INSTALLED = not os.path.isdir(os.path.join(ROOT, "crates"))
+if IS_INSTALLED:  # as share/mastdamson of some prefix
+    BUILT = os.path.join(os.path.dirname(os.path.dirname(ROOT)), "libexec", "mastdamson", "bier_domain")
+else:
+    BUILT = os.path.join(ROOT, "crates", "bier_domain", "out", "bier_domain")
 
 sys.path.insert(0, os.path.join(TOOLS, "independent"))
 
 
 def program(given=None):
-    """The program's path: the option, or BIER_DOMAIN, or what the script at the root has built.
+    """The program's path: the option, or BIER_DOMAIN, or the one that is installed, or what the script at the root has built.
 
     It is run once without arguments, so that many runs at once don't each begin to build.
     """
-    path = given or os.environ.get("BIER_DOMAIN")
+    path = given or os.environ.get("BIER_DOMAIN") or (BUILT if IS_INSTALLED else None)
     script = os.path.abspath(path or os.path.join(ROOT, "bier_domain"))
     try:
         done = subprocess.run([script], stdin=subprocess.DEVNULL, stdout=subprocess.PIPE, timeout=None if path is None else 60)

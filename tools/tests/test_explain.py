@@ -1,6 +1,4 @@
 """The messages about a rejected domain file or line, and about a domain file that loses packets."""
-import importlib.machinery
-import importlib.util
 import os
 import subprocess
 import sys
@@ -56,27 +54,18 @@ def changed(name, old, new):
     return write(name, text)
 
 
-def root_script():
-    """The script at the root, as if its program were the one that is built."""
-    loader = importlib.machinery.SourceFileLoader("root_script", os.path.join(places.ROOT, "bier_domain"))
-    module = importlib.util.module_from_spec(importlib.util.spec_from_loader("root_script", loader))
-    loader.exec_module(module)
-    module.PROGRAM, module.is_stale = program(), lambda: False
-    return module
-
-
 RUN = """
 import sys
-sys.path[:0] = [{tests!r}]
-import test_explain
+sys.path[:0] = [{tools!r}]
+from common.front import end_with
 sys.argv[1:] = {words!r}
-sys.exit(test_explain.root_script().main())
+end_with({program!r})
 """
 
 
 def run_script(*words):
-    """Runs the script at the root in a process of its own."""
-    code = RUN.format(tests=os.path.dirname(os.path.abspath(__file__)), words=list(words))
+    """Runs the program as the script at the root and the installed command do."""
+    code = RUN.format(tools=places.TOOLS, words=list(words), program=program())
     return subprocess.run([sys.executable, "-c", code], capture_output=True, text=True, timeout=120)
 
 

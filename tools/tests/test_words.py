@@ -4,7 +4,7 @@ import unittest
 
 from support import program, python_alone, replayed, scratch, tool, write
 
-NAMES = ["picture", "player", "sweep", "heard", "lint", "storm", "fail-each", "check", "check-capture"]
+NAMES = ["picture", "player", "sweep", "heard", "lint", "storm", "fail-each", "check", "check-capture", "release", "release-test"]
 
 
 class Words(unittest.TestCase):
@@ -37,6 +37,7 @@ class Words(unittest.TestCase):
             self.refused("No such file", "player", *files, "-o", scratch("page.html"))
         self.refused("No such file", "sweep", gone, "--out", scratch("none"))
         self.refused("No such file", "check-capture", gone)
+        self.refused("No such file", "release-test", gone)
         self.refused("No such file", "heard", gone, "A", it.frames, scratch("out.pcap"))
         self.refused("No such file", "heard", it.domain, "A", gone, scratch("out.pcap"))
 

@@ -8,7 +8,11 @@
 -- A BIER header is in a frame of type 0xAB37, or begins with the last label of an MPLS stack that is followed by the four bits 5.
 -- Both are found in Ethernet and in GRE.
 
-local bier = Proto("bier", "Bit Index Explicit Replication")
+-- Wireshark 4.4 has a dissector of that name, which has no field for each position; this one is in its place.
+local is_free, bier = pcall(Proto, "bier", "Bit Index Explicit Replication")
+if not is_free then
+    bier = Proto("bier_bits", "BIER by position")
+end
 local stack = Proto("bier_mpls", "MPLS with BIER behind it")
 local after = Proto("bier_after_label", "BIER behind a label")
 
