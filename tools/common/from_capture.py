@@ -8,7 +8,6 @@ from .lsps import Lsp, network_of
 from .network import prefix_number, prefix_text
 from .trouble import Trouble
 
-DUMP = os.path.join(places.ROOT, "crates", "isis_dump", "out", "isis_dump")
 POINT_TO_POINT, LAN = (17,), (15, 16)  # types of hellos
 PCAPNG = b"\x0a\x0d\x0d\x0a"
 
@@ -23,7 +22,7 @@ def feed(pipe, octets):
 
 def dumped(path, octets, program):
     """The lines of isis_dump, as it writes them."""
-    program = program or os.environ.get("ISIS_DUMP") or DUMP
+    program = program or os.environ.get("ISIS_DUMP") or places.DUMP
     if not os.access(program, os.X_OK):
         raise Trouble(f"{program}: isn't built (rt ci isis_dump builds it)")
     line = ""

@@ -9,9 +9,12 @@ ROOT = os.path.dirname(os.path.dirname(os.path.dirname(os.path.abspath(__file__)
 TOOLS = os.path.join(ROOT, "tools")
 IS_INSTALLED = not os.path.isdir(os.path.join(ROOT, "crates"))
 if IS_INSTALLED:  # as share/mastdamson of some prefix
-    BUILT = os.path.join(os.path.dirname(os.path.dirname(ROOT)), "libexec", "mastdamson", "bier_domain")
+    PREFIX = os.path.dirname(os.path.dirname(ROOT))
+    BUILT = os.path.join(PREFIX, "libexec", "mastdamson", "bier_domain")
+    DUMP = os.path.join(PREFIX, "bin", "isis_dump")
 else:
     BUILT = os.path.join(ROOT, "crates", "bier_domain", "out", "bier_domain")
+    DUMP = os.path.join(ROOT, "crates", "isis_dump", "out", "isis_dump")
 
 sys.path.insert(0, os.path.join(TOOLS, "independent"))
 

@@ -12,7 +12,7 @@ from common.trouble import Trouble, read_octets
 
 from . import man
 
-TOOLS = ("check-capture", "fail-each", "heard", "lint", "picture", "player", "storm", "sweep")
+TOOLS = ("check-capture", "fail-each", "heard", "import", "lint", "picture", "player", "storm", "sweep")
 PROGRAMS = {"bier_domain": "usr/libexec/mastdamson/bier_domain", "isis_dump": "usr/bin/isis_dump"}
 SHARE, DOC, MAN = "usr/share/mastdamson", "usr/share/doc/mastdamson", "usr/share/man/man1"
 COMPLETIONS = "usr/share/bash-completion/completions"
