@@ -1,5 +1,5 @@
 //! The files that the program uses.
-ghost use Rattle.std.specs.Prelude.{◌≡◌, ℕ, List, Option, None, IfOk};
+ghost use Rattle.std.specs.Prelude.{ℕ, List, Option, None, IfOk};
 ghost use Rattle.tool_host.specs.Opened.{Tells};
 
 use std::io::{Read, Write};
@@ -32,10 +32,7 @@ pub struct SystemFiles<R: Files> {
 }
 
 impl<R: Files> SystemFiles<R> {
-    /// Returns the files of a runtime as a file system.
-    pub fn new(rt: R) -> Self
-        ensures { result.rt ≡ rt }
-    {
+    pub fn new(rt: R) -> Self {
         SystemFiles { rt }
     }
 }
