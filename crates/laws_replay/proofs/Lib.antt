@@ -5,3 +5,5 @@ pub mod ReportLaws
 pub mod Arriving
 pub mod Ending
 pub mod Holding
+pub mod UpLaws
+pub mod SmallViews

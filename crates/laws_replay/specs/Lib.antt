@@ -3,3 +3,4 @@ pub mod Moments
 pub mod Reports
 pub mod Once
 pub mod Promises
+pub mod Paths

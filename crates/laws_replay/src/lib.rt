@@ -3,6 +3,8 @@
 //! once. This crate has definitions and laws only, and no code that runs.
 #![tactic(auto)]
 
+mod paths;
 mod runs;
 
+pub use paths::{paths_are_up, topologies_are_small};
 pub use runs::replays_keep_promises;

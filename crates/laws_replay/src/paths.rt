@@ -1,0 +1,28 @@
+//! What holds of the links of a topology. The bodies are empty: the contracts are the laws.
+ghost use Rattle.std.specs.Prelude.{◌≡◌, ◌<◌, ◌≤◌, ℕ, List, Contains, Some, length, slice_get};
+ghost use Rattle.wire_base.specs.declared.view.ViewEdge.{ViewEdge};
+ghost use Rattle.wire_base.specs.declared.view.ViewNode.{ViewNode};
+ghost use Rattle.wire_base.specs.model.Control.{Control};
+ghost use Rattle.wire_base.specs.model.HopCount.{tunnel_links};
+ghost use Rattle.wire_base.specs.model.OnFrame.{node_place};
+ghost use Rattle.wire_base.specs.model.View.{control_view};
+ghost use Rattle.wire_base.specs.model.Walk.{dist};
+ghost use Rattle.domain_model.specs.Truth.{IsTruthful};
+ghost use Rattle.domain_model.specs.World.{WorldState};
+ghost use Rattle.laws_replay.specs.Paths.{IsUpToward};
+
+/// Where two routers have the same topology, and it has an edge from the one to the other, both interfaces of that link are up: so
+/// each interface on a path is, while topologies agree.
+pub fn paths_are_up()
+    ensures { (w : WorldState) (g : List ViewNode) (a b : ℕ) (ca cb : Control) (n : ViewNode) (e : ViewEdge) → IsTruthful w → slice_get w.routers a ≡ Some ca → slice_get w.routers b ≡ Some cb
+        → control_view ca ≡ g → control_view cb ≡ g → slice_get g (node_place g ca.conf.system) ≡ Some n → Contains n.edges e → e.to ≡ node_place g cb.conf.system
+        → IsUpToward ca cb.conf.system × IsUpToward cb ca.conf.system }
+{}
+
+/// In a truthful world a router's topology has no more nodes than the domain has routers. So a tunnel over it to a node that a path
+/// leads to arrives over fewer links than that, at most 249.
+pub fn topologies_are_small()
+    ensures nodes { (w : WorldState) (a : ℕ) (c : Control) → IsTruthful w → slice_get w.routers a ≡ Some c → length (control_view c) ≤ length w.domain.routers }
+    ensures tunnels { (w : WorldState) (a : ℕ) (c : Control) (u x n : ℕ) → IsTruthful w → slice_get w.routers a ≡ Some c → u < length (control_view c) → dist (control_view c) u x ≡ Some n
+        → (h : ℕ) × (tunnel_links (control_view c) x u ≡ Some h) × (h < length w.domain.routers) }
+{}
