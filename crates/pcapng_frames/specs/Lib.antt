@@ -1,0 +1,9 @@
+pub mod After
+pub mod Blocks
+pub mod Draining
+pub mod Packets
+pub mod Reading
+pub mod Seen
+pub mod Times
+pub mod Words
+pub mod Written
