@@ -1,0 +1,4 @@
+pub mod ContentLaws
+pub mod ObserverLaws
+pub mod ProjectedLaws
+pub mod WithoutLaws

@@ -1,0 +1,5 @@
+pub mod Examples
+pub mod Gather
+pub mod MultiTopology
+pub mod Observer
+pub mod Topology
