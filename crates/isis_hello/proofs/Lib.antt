@@ -1,0 +1,9 @@
+pub mod FrameLemmas
+pub mod HeldLaws
+pub mod LinkLaws
+pub mod MadeLemmas
+pub mod MoveLaws
+pub mod QueueLaws
+pub mod ReadLemmas
+pub mod StepLemmas
+pub mod WayLemmas

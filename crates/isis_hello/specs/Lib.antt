@@ -1,0 +1,7 @@
+pub mod Adjacency
+pub mod Circuits
+pub mod Events
+pub mod Examples
+pub mod Faults
+pub mod Hello
+pub mod History
