@@ -9,5 +9,6 @@ pub mod Events
 pub mod Arguments
 pub mod Schedule
 pub mod ScheduleGrammar
+pub mod Check
 pub mod Payload
 pub mod Report

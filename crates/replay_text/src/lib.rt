@@ -5,6 +5,8 @@
 
 mod arguments;
 mod block;
+mod check;
+mod check_line;
 mod event;
 mod fault;
 mod hop;
@@ -18,6 +20,8 @@ mod report;
 mod schedule_line;
 mod tokens;
 
+pub use check::CheckLine;
+pub use check_line::read_check_line;
 pub use event::{Event, Line};
 pub use fault::{TextFault, push_rule};
 pub use hop::{HopLine, HopRow, HopState};

@@ -47,6 +47,13 @@ impl Control {
         &self.store
     }
 
+    pub(crate) fn spent(&self) -> bool
+        ensures spent { result ≡ self.now.spent }
+        ensures issued { IssuesAlone self.now }
+    {
+        self.spent
+    }
+
     pub(crate) fn is_up(&self, link: u16) -> bool
         ensures { result ≡ is_up self.now link }
     {

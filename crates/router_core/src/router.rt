@@ -91,6 +91,15 @@ impl Router {
         self.control.store()
     }
 
+    /// Returns whether its sequence number space is exhausted; it then originates no LSP until it restarts (ISO/IEC 10589,
+    /// 7.3.16.1). Does not allocate.
+    pub fn spent(&self) -> bool
+        ensures spent { result ≡ self.now.control.spent }
+        ensures issued { IssuesAlone self.now.control }
+    {
+        self.control.spent()
+    }
+
     /// Returns its current topology (ISO/IEC 10589, 7.2.5; RFC 8401, 4).
     pub fn current_view(&self) -> M<View>
         ensures { IfOk result (λ v. v.nodes ≡ control_view self.now.control) }

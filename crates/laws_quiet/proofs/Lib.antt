@@ -1,0 +1,9 @@
+pub mod AgreeLaws
+pub mod ClaimLaws
+pub mod CoverLaws
+pub mod DeliverLaws
+pub mod EdgeLaws
+pub mod OwnLaws
+pub mod SaidLaws
+pub mod SameLaws
+pub mod UpLaws

@@ -1,0 +1,94 @@
+//! The comparison of two LSDBs.
+ghost use Rattle.std.specs.Prelude.{◌≡◌, ◌&&◌, [], ◌==◌, find, nat_lt, option_map};
+ghost use Rattle.std.specs.Str.{bytes_eq};
+ghost use Rattle.wire_base.specs.model.Control.{AreAscending, id_order, ids_of};
+ghost use Rattle.quiet_domain.specs.Live.{IsLeastDifference, are_alike, is_live};
+
+use lsp_store::Store;
+use std::cmp::Ordering;
+use wire_base::{Entry, LspId};
+
+fn is_live(entry: &Entry) -> bool
+    ensures { result ≡ is_live entry.now }
+{
+    entry.life > 0
+}
+
+/// Returns whether two entries are the same, except for their lifetimes and checksums.
+fn are_alike(a: &Entry, b: &Entry) -> bool
+    ensures { result ≡ are_alike a.now b.now }
+{
+    match (is_live(a), is_live(b)) {
+        (true, true) => {
+            a.seq == b.seq && a.flags == b.flags && a.content.as_slice() == b.content.as_slice()
+        }
+        (false, false) => true,
+        _ => false,
+    }
+}
+
+fn order_of(a: &Entry, b: &Entry) -> Ordering
+    ensures { result ≡ id_order a.now.id b.now.id }
+{
+    a.id.cmp(&b.id)
+}
+
+/// Returns the least LSP ID that has a live entry.
+fn first_live(entries: &[Entry]) -> Option<LspId>
+    ensures { result ≡ option_map (λ e. e.id) (find is_live entries.now) }
+{
+    for entry in entries {
+        if is_live(entry) {
+            return Some(entry.id);
+        }
+    }
+    None
+}
+
+/// Returns the least LSP ID at which two LSDBs differ: one of them has a live entry and the other has none, or both have one and
+/// the sequence numbers, the flags or the contents differ. None exactly where there is no such LSP ID. Remaining Lifetimes, and
+/// entries that are not live, do not count. Does not allocate (ISO/IEC 10589, 7.3.15 and 7.3.16).
+pub fn same_live(a: &Store, b: &Store) -> Option<LspId>
+    ensures { IsLeastDifference a.now.entries b.now.entries result }
+{
+    first_difference(a.as_slice(), b.as_slice())
+}
+
+/// Returns the same for the entries of two LSDBs, which are merged in the order of their LSP IDs.
+fn first_difference(a: &[Entry], b: &[Entry]) -> Option<LspId>
+    requires left { AreAscending (ids_of a.now) }
+    requires right { AreAscending (ids_of b.now) }
+    ensures { IsLeastDifference a.now b.now result }
+{
+    let mut left = a;
+    let mut right = b;
+    'merge: loop {
+        let [x, after_x @ ..] = left else {
+            return first_live(right);
+        };
+        let [y, after_y @ ..] = right else {
+            return first_live(left);
+        };
+        match order_of(x, y) {
+            Ordering::Less => {
+                if is_live(x) {
+                    return Some(x.id);
+                }
+                left = after_x;
+            }
+            Ordering::Greater => {
+                if is_live(y) {
+                    return Some(y.id);
+                }
+                right = after_y;
+            }
+            Ordering::Equal => {
+                if !are_alike(x, y) {
+                    return Some(x.id);
+                }
+                left = after_x;
+                right = after_y;
+            }
+        }
+    }
+}

@@ -1,0 +1,9 @@
+//! What is known of the path of a BFR-id.
+
+/// The path of a BFR-id from a router to the id's owner: how many hops it has, and how many links its longest tunnel has, 0 without
+/// a tunnel.
+#[derive(Clone, Copy, Debug, PartialEq, Eq)]
+pub struct Way {
+    pub hops: u16,
+    pub longest: u16,
+}
