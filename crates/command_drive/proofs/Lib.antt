@@ -5,6 +5,7 @@ pub mod Appends
 pub mod Meanings
 pub mod LineSteps
 pub mod Seeking
+pub mod AnyLaws
 pub mod RecordSteps
 pub mod Pieces
 pub mod Reported

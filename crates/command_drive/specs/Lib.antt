@@ -3,6 +3,7 @@ pub mod Outside
 pub mod Reading
 pub mod Doing
 pub mod Driving
+pub mod CaptureReading
 pub mod Captured
 pub mod Lines
 pub mod Records

@@ -5,14 +5,26 @@ ghost use Rattle.replay_text.specs.Fault.{rule_text};
 ghost use Rattle.command_drive.specs.Answer.{behind};
 ghost use Rattle.command_drive.specs.Captured as captured;
 
+use crate::capture_reader::RecordFault;
 use replay_text::push_rule;
 use wire_base::{CaptureFault, M, Octets, Status};
 
-/// Returns the number of the record that has an error, after the records that were done. The capture's header has the
-/// number 0.
-fn fault_record(records: u64, why: CaptureFault) -> u64
+/// Returns the number of the record that has an error, after the records that were done. The header of a pcap capture has
+/// the number 0. An error of a pcapng capture is at the next packet.
+fn fault_record(records: u64, why: RecordFault) -> u64
     requires { records < 2 ^ 63 }
     ensures { result ≡ captured.fault_record records why }
+{
+    match why {
+        RecordFault::Pcap(fault) => pcap_fault_record(records, fault),
+        RecordFault::Pcapng(_) => records + 1,
+    }
+}
+
+/// The same for a pcap capture.
+fn pcap_fault_record(records: u64, why: CaptureFault) -> u64
+    requires { records < 2 ^ 63 }
+    ensures { result ≡ captured.pcap_fault_record records why }
 {
     match why {
         CaptureFault::Magic
@@ -44,7 +56,7 @@ fn refuse(out: &mut Octets, number: u64, rule: u8, name: &[u8]) -> M<Status>
 }
 
 /// Ends a report at an error in the capture, after that many records.
-pub fn refuse_by(out: &mut Octets, records: u64, why: CaptureFault) -> M<Status>
+pub fn refuse_by(out: &mut Octets, records: u64, why: RecordFault) -> M<Status>
     requires { records < 2 ^ 63 }
     ensures { IfOk result (λ ended. (ended, out.new) ≡ behind out.old (captured.refused_by records why)) }
 {

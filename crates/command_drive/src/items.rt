@@ -4,8 +4,9 @@ ghost use Rattle.wire_base.specs.Causes.{last_count};
 ghost use Rattle.command_drive.specs.declared.items.Found.TheVariants as found;
 ghost use Rattle.command_drive.specs.Reading.{End, Reads, Finds, GoesOn, IsWaiting};
 
+use crate::capture_reader::RecordFault;
 use std::alloc::Global;
-use wire_base::{CaptureFault, M, Source};
+use wire_base::{M, Source};
 
 /// Why there is no further item, if no read failed.
 #[derive(Clone, Copy, Debug, PartialEq, Eq)]
@@ -15,7 +16,7 @@ pub enum Close {
     /// The input exceeds its size limit.
     TooLong,
     /// The octets that follow are not a valid item.
-    Broken(CaptureFault),
+    Broken(RecordFault),
 }
 
 /// The result of a call for the next item.

@@ -6,6 +6,7 @@
 //! sinks.
 #![tactic(auto)]
 
+mod capture_reader;
 mod captured;
 mod command;
 mod driving;
@@ -16,6 +17,7 @@ mod outputs;
 mod record_reader;
 mod whole;
 
+pub use capture_reader::{CaptureReader, RecordFault};
 pub use captured::{push_refused, refuse_by, refuse_length};
 pub use command::{Command, Flow};
 pub use driving::drive;

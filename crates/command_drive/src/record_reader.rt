@@ -1,38 +1,43 @@
 //! Captures that are read from a source in chunks and returned record by record.
-ghost use Rattle.std.specs.Prelude.{◌≡◌, ◌≢◌, ◌<◌, ◌≤◌, ◌-◌, ◌^◌, ℕ, List, Ok, None, true, false, IfOk, OnOk, length, take, min, nat_lt};
+ghost use Rattle.std.specs.Prelude.{◌≡◌, ◌<◌, ◌≤◌, ◌-◌, ◌^◌, ℕ, List, Ok, None, true, false, IfOk, OnOk, length, take, min, nat_lt};
 ghost use Rattle.wire_base.specs.declared.limits.TheConstants.{CAPTURE_LIMIT};
-ghost use Rattle.wire_base.specs.model.Capture.{unread, fed, next_of, end_of};
-ghost use Rattle.wire_base.specs.declared.faults.CaptureFault.TheVariants as fault;
+ghost use Rattle.command_drive.specs.CaptureReading.{any_unread, any_fed, any_next, any_end};
 ghost use Rattle.command_drive.specs.Reading.{End};
 ghost use Rattle.command_drive.specs.Records.{close_by};
 
+use crate::capture_reader::CaptureReader;
 use crate::items::{Close, Found, Items};
 use crate::whole::{PIECE, buffer};
-use pcap_frames::{CapRecord, Reader};
+use pcap_frames::CapRecord;
+use pcapng_frames::NgRecord;
 use std::alloc::Global;
 use std::mem;
 use wire_base::limits::CAPTURE_LIMIT;
-use wire_base::{CaptureFault, M, Memory, Octets, Source};
+use wire_base::{M, Octets, Source};
 
-/// Returns out of memory if that is the error; an error of the capture is accepted.
-fn known(why: CaptureFault) -> M<()>
-    ensures { OnOk result (why ≢ fault.Memory) }
-{
-    if why == CaptureFault::Memory {
-        return Err(Memory);
+/// Returns a record that stands where none was found yet.
+fn no_record(alloc: Global) -> NgRecord {
+    NgRecord {
+        interface: 0,
+        ethernet: true,
+        cap: CapRecord {
+            sec: 0,
+            usec: 0,
+            whole: true,
+            octets: Octets::new(alloc),
+        },
     }
-    Ok(())
 }
 
-/// A capture that is read record by record: at most 268,435,456 octets.
+/// A capture of either format that is read record by record: at most 268,435,456 octets.
 ///
 /// It holds one chunk of the capture, and what was read and is not returned yet. An error within the size limit is
 /// reported before the capture is found to be too long.
 #[derive(Drop)]
 pub struct RecordReader {
     buffer: Vec<u8>,
-    reader: Reader,
-    given: CapRecord,
+    reader: CaptureReader,
+    given: NgRecord,
     room: usize,
     over: bool,
     short: bool,
@@ -46,19 +51,14 @@ impl RecordReader {
 
     /// Returns a reader that has read nothing.
     pub fn new(alloc: Global) -> M<Self>
-        ensures fresh { IfOk result (λ made. (end : End) (octets : List ℕ) → records_read made.reader made.room made.over end octets ≡ records_read unread CAPTURE_LIMIT false end octets) }
+        ensures fresh { IfOk result (λ made. (end : End) (octets : List ℕ) → records_read made.reader made.room made.over end octets ≡ records_read any_unread CAPTURE_LIMIT false end octets) }
         ensures idle { IfOk result (λ made. made.waits ≡ false) }
         ensures few { IfOk result (λ made. records_left made.reader made.room made.short < 2 ^ 30) }
     {
         Ok(RecordReader {
             buffer: buffer(alloc)?,
-            reader: Reader::new(alloc),
-            given: CapRecord {
-                sec: 0,
-                usec: 0,
-                whole: true,
-                octets: Octets::new(alloc),
-            },
+            reader: CaptureReader::new(alloc),
+            given: no_record(alloc),
             room: CAPTURE_LIMIT,
             over: false,
             short: false,
@@ -69,7 +69,7 @@ impl RecordReader {
     /// Accepts that many octets that were read, up to the limit.
     fn take(&mut self, count: usize) -> M<()>
         requires { count ≤ length self.old.buffer.items }
-        ensures reader { OnOk result (self.new.reader ≡ fed self.old.reader (take (min count self.old.room) self.old.buffer.items)) }
+        ensures reader { OnOk result (self.new.reader ≡ any_fed self.old.reader (take (min count self.old.room) self.old.buffer.items)) }
         ensures room { OnOk result (self.new.room ≡ self.old.room - count) }
         ensures over { OnOk result (self.new.over ≡ nat_lt self.old.room count) }
         ensures waits { OnOk result (self.new.waits ≡ self.old.waits) }
@@ -86,17 +86,17 @@ impl RecordReader {
 
     /// Returns how the capture closes when the source ended.
     fn end(&mut self, alloc: Global) -> Close
-        requires { (next_of self.old.reader).0 ≡ Ok None }
-        ensures { result ≡ close_by (end_of (next_of self.old.reader).1) }
+        requires { any_next self.old.reader ≡ (Ok None, self.old.reader) }
+        ensures { result ≡ close_by (any_end self.old.reader) }
     {
-        match mem::replace(&mut self.reader, Reader::new(alloc)).finish() {
+        match mem::replace(&mut self.reader, CaptureReader::new(alloc)).finish() {
             Ok(()) => Close::Ended,
             Err(why) => Close::Broken(why),
         }
     }
 }
 
-impl<S: Source> Items<CapRecord, S> for RecordReader {
+impl<S: Source> Items<NgRecord, S> for RecordReader {
     ghost use Rattle.command_drive.specs.Records.{records_read, records_left};
 
     ghost reads = { λ s end octets. records_read s.reader s.room s.over end octets };
@@ -110,16 +110,14 @@ impl<S: Source> Items<CapRecord, S> for RecordReader {
     fn next(&mut self, alloc: Global, input: &mut S) -> M<Found> {
         self.waits = false;
         'chunks: loop {
-            match self.reader.next() {
+            let read = self.reader.next(alloc)?;
+            match read {
                 Ok(Some(record)) => {
                     self.given = record;
                     return Ok(Found::Item);
                 }
                 Ok(None) => {}
-                Err(why) => {
-                    known(why)?;
-                    return Ok(Found::Closed(Close::Broken(why)));
-                }
+                Err(why) => return Ok(Found::Closed(Close::Broken(why))),
             }
             if self.over {
                 return Ok(Found::Closed(Close::TooLong));
@@ -139,7 +137,7 @@ impl<S: Source> Items<CapRecord, S> for RecordReader {
         }
     }
 
-    fn item(&self) -> &CapRecord {
+    fn item(&self) -> &NgRecord {
         &self.given
     }
 }

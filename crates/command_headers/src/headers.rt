@@ -10,7 +10,7 @@ use crate::line::push_record;
 use command_drive::{
     Close, Command, Flow, NoSink, RecordReader, Texts, drive, refuse_by, refuse_length,
 };
-use pcap_frames::CapRecord;
+use pcapng_frames::NgRecord;
 use std::alloc::Global;
 use wire_base::{M, Octets, Sink, Source, Status};
 
@@ -35,7 +35,7 @@ fn push_done(out: &mut Octets, records: u64, headers: u64) -> M<Status>
     Ok(Status::Done)
 }
 
-impl Command<CapRecord> for Headers {
+impl Command<NgRecord> for Headers {
     ghost use Rattle.std.specs.Prelude.{◌-◌, ◌^◌};
     ghost use Rattle.wire_base.specs.declared.status.Status.TheVariants as status;
     ghost use Rattle.command_headers.specs.Owed.{owed, nothing_cut};
@@ -48,10 +48,9 @@ impl Command<CapRecord> for Headers {
 
     ghost room = { λ s. 2 ^ 62 - s.records };
 
-    fn item(&mut self, alloc: Global, item: &CapRecord, texts: &mut Texts) -> M<Flow> {
+    fn item(&mut self, alloc: Global, item: &NgRecord, texts: &mut Texts) -> M<Flow> {
         let number = self.records + 1;
-        let frame = item.octets.as_slice();
-        let found = push_record(alloc, &mut texts.report, number, frame)?;
+        let found = push_record(alloc, &mut texts.report, number, item)?;
         self.records = number;
         self.headers += found;
         Ok(Flow::On)

@@ -3,10 +3,12 @@ ghost use Rattle.std.specs.Prelude.{◌≡◌, ◌++◌, IfOk, OnOk};
 ghost use Rattle.wire_base.specs.model.Labels.{stack_at};
 ghost use Rattle.wire_base.specs.model.BierHeader.{coded_header_at};
 ghost use Rattle.bier_head.specs.Views.{header_of};
+ghost use Rattle.command_headers.specs.HeadersText.{sight_in};
 ghost use Rattle.command_headers.specs.Sight as sight;
 
 use bier_head::{Header, read_by_field};
 use link_frame::{Class, classify, read_stack};
+use pcapng_frames::NgRecord;
 use replay_text::{push_positions, push_rule};
 use std::alloc::Global;
 use wire_base::{HeadFault, Kind, M, Octets};
@@ -105,10 +107,21 @@ fn push_behind_stack(out: &mut Octets, number: u64, bytes: &[u8]) -> M<u64>
     }
 }
 
-/// Appends the line of a record with that frame, if it carries a BIER packet, and returns how many headers it has: one,
+/// Appends the line of a record, if it carries a BIER packet in an Ethernet frame, and returns how many headers it has: one,
 /// or none.
+pub fn push_record(alloc: Global, out: &mut Octets, number: u64, captured: &NgRecord) -> M<u64>
+    ensures text { OnOk result (out.new ≡ out.old ++ sight.sight_text number (sight_in captured.now)) }
+    ensures count { IfOk result (λ count. count ≡ sight.sight_count (sight_in captured.now)) }
+{
+    if !captured.ethernet {
+        return Ok(0);
+    }
+    push_frame(alloc, out, number, captured.cap.octets.as_slice())
+}
+
+/// The same for its frame.
 #[tactic(auto, unfolding(crate::specs::Sight::sight_of))]
-pub fn push_record(_alloc: Global, out: &mut Octets, number: u64, frame: &[u8]) -> M<u64>
+fn push_frame(_alloc: Global, out: &mut Octets, number: u64, frame: &[u8]) -> M<u64>
     ensures text { OnOk result (out.new ≡ out.old ++ sight.sight_text number (sight.sight_of frame.now)) }
     ensures count { IfOk result (λ count. count ≡ sight.sight_count (sight.sight_of frame.now)) }
 {

@@ -2,7 +2,7 @@
 use Rattle.std.proofs.Common.{◌≡◌, ℕ, zero, suc, ◌+◌, ◌-◌, ◌%◌, ◌==◌, max, Bool, true, false, if◌then◌else◌, List, [], ◌∷◌, ◌++◌, length, Option, Some, None, refl, sym, ap, subst, ◌∙◌, append_assoc, arith}
 use Rattle.std.specs.List.{fold, range_with_len}
 use Rattle.wire_base.specs.declared.effects.Sent.{Sent}
-use Rattle.wire_base.specs.model.Capture.{CaptureRecord}
+use Rattle.pcapng_frames.specs.declared.packet.NgRecord.{NgRecord}
 use Rattle.wire_base.specs.model.Flooding.{tick, send}
 use Rattle.wire_base.specs.model.OnFrame.{Effects, Next, on_frame, framed}
 use Rattle.laws_router.specs.State.{is_up}
@@ -53,19 +53,19 @@ module _ (frames report : List ℕ) where
   moved_past None sec n = refl
   moved_past (Some clock) sec n = seconds_past (sec - clock) clock n
 
-  tells_past : (read : CaptureRecord) (e : Effects) (n : Node) → tells read e (past frames report n) ≡ past frames report (tells read e n)
+  tells_past : (read : NgRecord) (e : Effects) (n : Node) → tells read e (past frames report n) ≡ past frames report (tells read e n)
   tells_past read e n =
-      ap (λ (l : List ℕ). goes_out read.sec read.usec e.sent (record n {
+      ap (λ (l : List ℕ). goes_out read.cap.sec read.cap.usec e.sent (record n {
         tally = record n.tally { used = n.tally.used + 1; got = n.tally.got + length e.got; dropped = n.tally.dropped + length e.drops };
         frames = frames ++ n.frames;
         report = l;
       })) (append_assoc report n.report (effects_text n.tally.records e))
-      ∙ goes_out_past read.sec read.usec e.sent (record n {
+      ∙ goes_out_past read.cap.sec read.cap.usec e.sent (record n {
         tally = record n.tally { used = n.tally.used + 1; got = n.tally.got + length e.got; dropped = n.tally.dropped + length e.drops };
         report = n.report ++ effects_text n.tally.records e;
       })
 
-  taken_past : (read : CaptureRecord) (n : Node) (next : Next) → taken_so read (past frames report n) next ≡ past frames report (taken_so read n next)
+  taken_past : (read : NgRecord) (n : Node) (next : Next) → taken_so read (past frames report n) next ≡ past frames report (taken_so read n next)
   taken_past read n next = by next.effects.passed
     where
       by : (b : Bool) → (if b then passes (record (past frames report n) { control = next.control }) else tells read next.effects (record (past frames report n) { control = next.control }))
@@ -73,24 +73,24 @@ module _ (frames report : List ℕ) where
       by true = refl
       by false = tells_past read next.effects (record n { control = next.control })
 
-  given_past : (read : CaptureRecord) (n : Node) (link : Option ℕ) → given_on read (past frames report n) link ≡ past frames report (given_on read n link)
+  given_past : (read : NgRecord) (n : Node) (link : Option ℕ) → given_on read (past frames report n) link ≡ past frames report (given_on read n link)
   given_past read n None = refl
-  given_past read n (Some link) = taken_past read n (on_frame n.control link read.octets)
+  given_past read n (Some link) = taken_past read n (on_frame n.control link read.cap.octets)
 
-  pub record_past : (n : Node) (read : CaptureRecord) → record_done (past frames report n) read ≡ past frames report (record_done n read)
+  pub record_past : (n : Node) (read : NgRecord) → record_done (past frames report n) read ≡ past frames report (record_done n read)
   unfolding record_done
   record_past n read =
-      let moved : Node = moved_to read.sec (counts_record n) in
-      ap (given_to read) (moved_past n.clock read.sec (counts_record n)) ∙ given_past read moved (link_of moved.control.conf read)
+      let moved : Node = moved_to read.cap.sec (counts_record n) in
+      ap (given_to read) (moved_past n.clock read.cap.sec (counts_record n)) ∙ given_past read moved (link_of moved.control.conf read)
 
   abbrev pub reached_past : Reached → Reached
   reached_past r = record { node = past frames report r.node; gap = r.gap }
 
-  pub records_past : (n : Node) (records : List CaptureRecord) → records_reach (past frames report n) records ≡ reached_past (records_reach n records)
+  pub records_past : (n : Node) (records : List NgRecord) → records_reach (past frames report n) records ≡ reached_past (records_reach n records)
   unfolding records_reach
   records_past n [] = refl
   records_past n (read ∷ more) =
-      by (gap_at n.clock read.sec) (ap (λ (m : Node). records_reach m more) (record_past n read) ∙ records_past (record_done n read) more)
+      by (gap_at n.clock read.cap.sec) (ap (λ (m : Node). records_reach m more) (record_past n read) ∙ records_past (record_done n read) more)
     where
       by : (gap : Option (ℕ × ℕ)) → records_reach (record_done (past frames report n) read) more ≡ reached_past (records_reach (record_done n read) more)
           → and_further (past frames report n) gap (records_reach (record_done (past frames report n) read) more) ≡ reached_past (and_further n gap (records_reach (record_done n read) more))
@@ -100,10 +100,10 @@ module _ (frames report : List ℕ) where
 -- ---- records after records
 
 -- once some records were done, more are done from there
-pub reach_on : (n m : Node) (xs ys : List CaptureRecord) → records_reach n xs ≡ record { node = m; gap = None } → records_reach n (xs ++ ys) ≡ records_reach m ys
+pub reach_on : (n m : Node) (xs ys : List NgRecord) → records_reach n xs ≡ record { node = m; gap = None } → records_reach n (xs ++ ys) ≡ records_reach m ys
 unfolding records_reach
 reach_on n m [] ys is = ap (λ (r : Reached). records_reach r.node ys) is
-reach_on n m (x ∷ xs) ys is = by (gap_at n.clock x.sec) is (reach_on (record_done n x) m xs ys)
+reach_on n m (x ∷ xs) ys is = by (gap_at n.clock x.cap.sec) is (reach_on (record_done n x) m xs ys)
   where
     apart : {X : Type 0} {x : X} → Some x ≡ None → ⊥
     apart e = cc
@@ -114,12 +114,12 @@ reach_on n m (x ∷ xs) ys is = by (gap_at n.clock x.sec) is (reach_on (record_d
     by (Some gap) so rest = absurd (apart (ap (λ (r : Reached). r.gap) so))
 
 -- one record more
-pub reach_one : (n : Node) (read : CaptureRecord) (more : List CaptureRecord) → gap_at n.clock read.sec ≡ None → records_reach n (read ∷ more) ≡ records_reach (record_done n read) more
+pub reach_one : (n : Node) (read : NgRecord) (more : List NgRecord) → gap_at n.clock read.cap.sec ≡ None → records_reach n (read ∷ more) ≡ records_reach (record_done n read) more
 unfolding records_reach
 reach_one n read more none = ap (λ (gap : Option (ℕ × ℕ)). and_further n gap (records_reach (record_done n read) more)) none
 
 -- or none, at a gap that is too long
-pub reach_gap : (n : Node) (read : CaptureRecord) (more : List CaptureRecord) (gap : ℕ × ℕ) → gap_at n.clock read.sec ≡ Some gap → records_reach n (read ∷ more) ≡ record { node = n; gap = Some gap }
+pub reach_gap : (n : Node) (read : NgRecord) (more : List NgRecord) (gap : ℕ × ℕ) → gap_at n.clock read.cap.sec ≡ Some gap → records_reach n (read ∷ more) ≡ record { node = n; gap = Some gap }
 unfolding records_reach
 reach_gap n read more gap is = ap (λ (g : Option (ℕ × ℕ)). and_further n g (records_reach (record_done n read) more)) is
 
@@ -187,17 +187,17 @@ moved_stays (Some clock) sec n is =
     let m : clock + (sec - clock) ≡ max clock sec = omega arith in
     (passed.0, passed.1 ∙ ap (λ (k : ℕ). Some k) m)
 
-told_stays : (read : CaptureRecord) (e : Effects) (n : Node) → Stays n (tells read e n)
+told_stays : (read : NgRecord) (e : Effects) (n : Node) → Stays n (tells read e n)
 told_stays read e n =
-    let out = goes_out_stays read.sec read.usec e.sent (record n {
+    let out = goes_out_stays read.cap.sec read.cap.usec e.sent (record n {
       tally = record n.tally { used = n.tally.used + 1; got = n.tally.got + length e.got; dropped = n.tally.dropped + length e.drops };
       report = n.report ++ effects_text n.tally.records e;
     }) in
     record { records = out.records; clock = out.clock }
 
-given_stays : (read : CaptureRecord) (n : Node) (link : Option ℕ) → Stays n (given_on read n link)
+given_stays : (read : NgRecord) (n : Node) (link : Option ℕ) → Stays n (given_on read n link)
 given_stays read n None = record { records = refl; clock = refl }
-given_stays read n (Some link) = by (on_frame n.control link read.octets) (on_frame n.control link read.octets).effects.passed
+given_stays read n (Some link) = by (on_frame n.control link read.cap.octets) (on_frame n.control link read.cap.octets).effects.passed
   where
     by : (next : Next) (b : Bool) → Stays n (if b then passes (record n { control = next.control }) else tells read next.effects (record n { control = next.control }))
     by next true = record { records = refl; clock = refl }
@@ -206,16 +206,16 @@ given_stays read n (Some link) = by (on_frame n.control link read.octets) (on_fr
         record { records = told.records; clock = told.clock }
 
 -- a record is one more, and its second is that of the clock, unless the clock is later
-pub record_counts : (n : Node) (read : CaptureRecord) → ((record_done n read).tally.records ≡ n.tally.records + 1) × ((record_done n read).clock ≡ Some (later n.clock read.sec))
+pub record_counts : (n : Node) (read : NgRecord) → ((record_done n read).tally.records ≡ n.tally.records + 1) × ((record_done n read).clock ≡ Some (later n.clock read.cap.sec))
 unfolding record_done
 record_counts n read =
-    let moved : Node = moved_to read.sec (counts_record n) in
-    let first = moved_stays n.clock read.sec (counts_record n) refl in
+    let moved : Node = moved_to read.cap.sec (counts_record n) in
+    let first = moved_stays n.clock read.cap.sec (counts_record n) refl in
     let rest = given_stays read moved (link_of moved.control.conf read) in
     (rest.records ∙ first.0, rest.clock ∙ first.1)
 
 -- records without a gap that is too long are all done
-pub all_done : (n : Node) (records : List CaptureRecord) → HasNoGap n.clock records → (records_reach n records).gap ≡ None
+pub all_done : (n : Node) (records : List NgRecord) → HasNoGap n.clock records → (records_reach n records).gap ≡ None
 unfolding records_reach
 all_done n [] steady = refl
 all_done n (read ∷ more) steady =

@@ -6,22 +6,25 @@ use Rattle.std.specs.Fmt.{decimal}
 use Rattle.wire_base.specs.declared.conf.End.{End}
 use Rattle.wire_base.specs.declared.conf.RouterConf.{RouterConf}
 use Rattle.wire_base.specs.declared.effects.Sent.{Sent}
-use Rattle.wire_base.specs.declared.faults.CaptureFault.{CaptureFault}
 use Rattle.wire_base.specs.declared.effects.Got.{Got}
 use Rattle.wire_base.specs.declared.limits.TheConstants.{CAPTURE_LIMIT, MOST_FRAME}
 use Rattle.wire_base.specs.declared.status.Status.{Status}
 use Rattle.wire_base.specs.declared.status.Status.TheVariants.{Done, ReadFault}
-use Rattle.wire_base.specs.model.Capture.{CaptureRecord, Stage, HeaderToCome, HeaderRead, Refused, Reading, unread, fed, drained, end_in, IsCapture, written_header, written_record}
+use Rattle.wire_base.specs.model.Capture.{written_header, written_record}
 use Rattle.wire_base.specs.model.Control.{Control}
 use Rattle.wire_base.specs.model.Flooding.{first_control, tick, send}
 use Rattle.wire_base.specs.model.OnFrame.{Effects, Drop, Positions, Next, on_frame, framed}
 use Rattle.wire_base.specs.model.Place.{id_at}
+use Rattle.pcapng_frames.specs.declared.packet.NgRecord.{NgRecord}
 use Rattle.replay_text.specs.Ids.{ids_text}
 use Rattle.replay_text.specs.Payload.{payload_text}
 use Rattle.laws_router.specs.State.{is_up}
 use Rattle.command_drive.specs.Answer.{Verdict}
 use Rattle.command_drive.specs.Captured.{refused_record, refused_by, too_long}
+use Rattle.command_drive.specs.CaptureReading.{any_unread, any_fed, any_drained, any_fault, any_end, HasRecords}
 use Rattle.command_drive.specs.Captures.{within_limit, is_within}
+use Rattle.command_drive.specs.declared.capture_reader.CaptureReader.{CaptureReader}
+use Rattle.command_drive.specs.declared.capture_reader.RecordFault.{RecordFault}
 use Rattle.replay_text.specs.Report.{line_of, cause_text}
 use Rattle.command_node.specs.declared.node_command.tally.Tally.{Tally}
 
@@ -104,13 +107,13 @@ abbrev pub link_from : List End → List ℕ → Option ℕ
 link_from [] mac = None
 link_from (e ∷ es) mac = if bytes_eq e.peer_mac.0 mac then Some 0 else option_map (λ link. 1 + link) (link_from es mac)
 
--- a frame that was captured whole, with both addresses, and is not too long for the router
-abbrev pub may_be_given : CaptureRecord → Bool
-may_be_given read = read.whole && (nat_le 12 (length read.octets) && nat_le (length read.octets) MOST_FRAME)
+-- an Ethernet frame that was captured whole, with both addresses, and is not too long for the router
+abbrev pub may_be_given : NgRecord → Bool
+may_be_given read = read.ethernet && (read.cap.whole && (nat_le 12 (length read.cap.octets) && nat_le (length read.cap.octets) MOST_FRAME))
 
 -- the link that a record arrived on; none if it is ignored
-abbrev pub link_of : RouterConf → CaptureRecord → Option ℕ
-link_of r read = if may_be_given read then link_from r.ends (take 6 (drop 6 read.octets)) else None
+abbrev pub link_of : RouterConf → NgRecord → Option ℕ
+link_of r read = if may_be_given read then link_from r.ends (take 6 (drop 6 read.cap.octets)) else None
 
 -- ---- what is reported of a record
 
@@ -145,28 +148,28 @@ abbrev pub passes : Node → Node
 passes n = record n { tally = record n.tally { passed = n.tally.passed + 1 } }
 
 -- what the router did with a frame is reported: what it sent has the record's time
-abbrev pub tells : CaptureRecord → Effects → Node → Node
+abbrev pub tells : NgRecord → Effects → Node → Node
 tells read e n =
-    goes_out read.sec read.usec e.sent
+    goes_out read.cap.sec read.cap.usec e.sent
     (record n {
       tally = record n.tally { used = n.tally.used + 1; got = n.tally.got + length e.got; dropped = n.tally.dropped + length e.drops };
       report = n.report ++ effects_text n.tally.records e;
     })
 
 -- frames that the router ignores are counted as those that it does not receive
-abbrev pub taken_so : CaptureRecord → Node → Next → Node
+abbrev pub taken_so : NgRecord → Node → Next → Node
 taken_so read n next = if next.effects.passed then passes (record n { control = next.control }) else tells read next.effects (record n { control = next.control })
 
-abbrev pub given_on : CaptureRecord → Node → Option ℕ → Node
+abbrev pub given_on : NgRecord → Node → Option ℕ → Node
 given_on read n None = passes n
-given_on read n (Some link) = taken_so read n (on_frame n.control link read.octets)
+given_on read n (Some link) = taken_so read n (on_frame n.control link read.cap.octets)
 
-abbrev pub given_to : CaptureRecord → Node → Node
+abbrev pub given_to : NgRecord → Node → Node
 given_to read n = given_on read n (link_of n.control.conf read)
 
 -- A record is counted, the clock advances to its second, and then the router receives its frame.
-unfoldable pub record_done : Node → CaptureRecord → Node
-record_done n read = given_to read (moved_to read.sec (counts_record n))
+unfoldable pub record_done : Node → NgRecord → Node
+record_done n read = given_to read (moved_to read.cap.sec (counts_record n))
 
 -- ---- all records
 
@@ -184,9 +187,9 @@ abbrev pub and_further : Node → Option (ℕ × ℕ) → Reached → Reached
 and_further n None rest = rest
 and_further n (Some gap) rest = record { node = n; gap = Some gap }
 
-unfoldable pub records_reach : Node → List CaptureRecord → Reached
+unfoldable pub records_reach : Node → List NgRecord → Reached
 records_reach n [] = record { node = n; gap = None }
-records_reach n (read ∷ more) = and_further n (gap_at n.clock read.sec) (records_reach (record_done n read) more)
+records_reach n (read ∷ more) = and_further n (gap_at n.clock read.cap.sec) (records_reach (record_done n read) more)
 
 -- ---- the end
 
@@ -202,40 +205,39 @@ node_done t = (
 abbrev pub gap_refused : ℕ → ℕ × ℕ → Status × List ℕ
 gap_refused n gap = refused_record (n + 1) (decimal 7 ∷ codes "Gap" ∷ decimal gap.0 ∷ decimal gap.1 ∷ [])
 
-abbrev pub node_at_end : Tally → Option CaptureFault → Status × List ℕ
+abbrev pub node_at_end : Tally → Option RecordFault → Status × List ℕ
 node_at_end t None = node_done t
 node_at_end t (Some fault) = refused_by t.records fault
 
--- How a report ends if no gap was too long: a parser error takes precedence over the limit.
-abbrev pub node_end : Bool → Tally → Stage → List ℕ → Status × List ℕ
-node_end short t (Refused fault) octets = refused_by t.records fault
-node_end true t HeaderToCome octets = node_at_end t (end_in HeaderToCome octets)
-node_end true t (HeaderRead form) octets = node_at_end t (end_in (HeaderRead form) octets)
-node_end false t HeaderToCome octets = too_long t.records
-node_end false t (HeaderRead form) octets = too_long t.records
+-- How a report ends if no gap was too long, by the fault that was met and the one at the end of the octets: a fault that was
+-- met takes precedence over the limit.
+abbrev pub node_end : Bool → Tally → (met ended : Option RecordFault) → Status × List ℕ
+node_end short t (Some fault) ended = refused_by t.records fault
+node_end true t None ended = node_at_end t ended
+node_end false t None ended = too_long t.records
 
-abbrev pub ending : Bool → Reading → Tally → Option (ℕ × ℕ) → Status × List ℕ
-ending short reading t (Some gap) = gap_refused t.records gap
-ending short reading t None = node_end short t reading.stage reading.octets
+abbrev pub ending : Bool → CaptureReader → Tally → Option (ℕ × ℕ) → Status × List ℕ
+ending short reader t (Some gap) = gap_refused t.records gap
+ending short reader t None = node_end short t (any_fault reader) (any_end reader)
 
 -- the texts of a node with the end of the report
 abbrev pub node_ends : Node → Status × List ℕ → Verdict
 node_ends n end = record { status = end.0; report = n.report ++ end.1; frames = n.frames }
 
-abbrev pub verdict_on : Bool → Reading → Reached → Verdict
-verdict_on short reading reached = node_ends reached.node (ending short reading reached.node.tally reached.gap)
+abbrev pub verdict_on : Bool → CaptureReader → Reached → Verdict
+verdict_on short reader reached = node_ends reached.node (ending short reader reached.node.tally reached.gap)
 
-abbrev pub node_answer_of : Bool → RouterConf → List CaptureRecord × Reading → Verdict
+abbrev pub node_answer_of : Bool → RouterConf → List NgRecord × CaptureReader → Verdict
 node_answer_of short r read = verdict_on short read.1 (records_reach (first_node r) read.0)
 
 -- The status and both texts of a capture, at the router with that configuration. A capture has at most 268,435,456
 -- octets; of a longer one the records are read that are complete within them.
 unfoldable pub node_answer : RouterConf → List ℕ → Verdict
-node_answer r capture = node_answer_of (is_within capture) r (drained (fed unread (within_limit capture)))
+node_answer r capture = node_answer_of (is_within capture) r (any_drained (any_fed any_unread (within_limit capture)))
 
 -- how far the records were processed that are complete in octets after which the source failed
 abbrev pub node_reached : RouterConf → List ℕ → Reached
-node_reached r octets = records_reach (first_node r) (drained (fed unread octets)).0
+node_reached r octets = records_reach (first_node r) (any_drained (any_fed any_unread octets)).0
 
 -- and their texts, without a last line
 unfoldable pub node_cut : RouterConf → List ℕ → Verdict
@@ -248,13 +250,13 @@ abbrev pub later : Option ℕ → ℕ → ℕ
 later None sec = sec
 later (Some clock) sec = max clock sec
 
-abbrev pub HasNoGap : Option ℕ → List CaptureRecord → Type 0
+abbrev pub HasNoGap : Option ℕ → List NgRecord → Type 0
 HasNoGap clock [] = Unit {0}
-HasNoGap clock (read ∷ more) = (gap_at clock read.sec ≡ None) × HasNoGap (Some (later clock read.sec)) more
+HasNoGap clock (read ∷ more) = (gap_at clock read.cap.sec ≡ None) × HasNoGap (Some (later clock read.cap.sec)) more
 
 -- octets that are a capture within the size limit, without a gap that is too long
 pub record IsReplayable (input : List ℕ) : Type 0 where
   pub short : length input ≤ CAPTURE_LIMIT
-  pub records : List CaptureRecord
-  pub capture : IsCapture input records
+  pub records : List NgRecord
+  pub capture : HasRecords input records
   pub steady : HasNoGap None records

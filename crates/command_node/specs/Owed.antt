@@ -3,11 +3,11 @@ use Rattle.std.specs.Prelude.{ℕ, ◌≡◌, List, [], ◌++◌, Option, Some, 
 use Rattle.wire_base.specs.declared.conf.RouterConf.{RouterConf}
 use Rattle.wire_base.specs.declared.status.Status.{Status}
 use Rattle.wire_base.specs.declared.status.Status.TheVariants.{ReadFault}
-use Rattle.wire_base.specs.model.Capture.{Stage, HeaderToCome, HeaderRead, Refused, unread, fed, drained}
-use Rattle.pcap_frames.specs.declared.record.CapRecord.{CapRecord}
+use Rattle.pcapng_frames.specs.declared.packet.NgRecord.{NgRecord}
 use Rattle.command_drive.specs.Answer.{Verdict}
 use Rattle.command_drive.specs.Captured.{refused_by, too_long}
-use Rattle.command_drive.specs.Captures.{records_seen}
+use Rattle.command_drive.specs.CaptureReading.{any_unread, any_fed, any_drained, any_fault}
+use Rattle.command_drive.specs.declared.capture_reader.RecordFault.{RecordFault}
 use Rattle.command_drive.specs.Doing.{nothing_more}
 use Rattle.command_drive.specs.Driving.{Meaning}
 use Rattle.command_drive.specs.Reading.{Ends, Fails, Behind, Closed, Cut}
@@ -41,8 +41,8 @@ end_by Cut t None = (ReadFault, [])
 abbrev pub verdict_by : Behind → Reached → Verdict
 verdict_by how reached = node_ends reached.node (end_by how reached.node.tally reached.gap)
 
-abbrev pub owed : Node → List CapRecord → Behind → Verdict
-owed n given how = verdict_by how (records_reach (bare n) (records_seen given))
+abbrev pub owed : Node → List NgRecord → Behind → Verdict
+owed n given how = verdict_by how (records_reach (bare n) given)
 
 -- nothing after a read error
 pub nothing_cut : (n : Node) → owed n [] Cut ≡ nothing_more
@@ -51,13 +51,12 @@ nothing_cut n = refl
 
 -- ---- on all octets of a capture, and on those after which a read failed
 
--- A gap that is too long, or an error in the capture, ends the report all the same.
-abbrev pub cut_end : Stage → Tally → Option (ℕ × ℕ) → Status × List ℕ
-cut_end stage t (Some gap) = gap_refused t.records gap
-cut_end HeaderToCome t None = (ReadFault, [])
-cut_end (HeaderRead form) t None = (ReadFault, [])
-cut_end (Refused why) t None = refused_by t.records why
+-- A gap that is too long, or a fault of the capture, ends the report all the same.
+abbrev pub cut_end : Option RecordFault → Tally → Option (ℕ × ℕ) → Status × List ℕ
+cut_end fault t (Some gap) = gap_refused t.records gap
+cut_end None t None = (ReadFault, [])
+cut_end (Some why) t None = refused_by t.records why
 
 abbrev pub node_means : RouterConf → Meaning
 node_means r Ends octets = node_answer r octets
-node_means r Fails octets = node_ends (node_reached r octets).node (cut_end (drained (fed unread octets)).1.stage (node_reached r octets).node.tally (node_reached r octets).gap)
+node_means r Fails octets = node_ends (node_reached r octets).node (cut_end (any_fault (any_drained (any_fed any_unread octets)).1) (node_reached r octets).node.tally (node_reached r octets).gap)

@@ -12,7 +12,7 @@ mod tally;
 mod texts;
 
 use command_drive::{Close, Command, Flow, RecordReader, Texts, drive, refuse_by, refuse_length};
-use pcap_frames::CapRecord;
+use pcapng_frames::NgRecord;
 use standing::Node;
 use std::alloc::Global;
 use tally::Tally;
@@ -41,7 +41,7 @@ fn conclude(out: &mut Octets, close: Close, tally: Tally) -> M<Status>
     }
 }
 
-impl Command<CapRecord> for Node {
+impl Command<NgRecord> for Node {
     ghost use Rattle.std.specs.Prelude.{◌-◌, ◌^◌};
     ghost use Rattle.wire_base.specs.declared.status.Status.TheVariants as status;
     ghost use Rattle.command_node.specs.Owed.{owed, nothing_cut};
@@ -54,8 +54,8 @@ impl Command<CapRecord> for Node {
 
     ghost room = { λ s. 2 ^ 63 - s.tally.records };
 
-    fn item(&mut self, alloc: Global, item: &CapRecord, texts: &mut Texts) -> M<Flow> {
-        if let Some(gap) = self.gap_at(item.sec) {
+    fn item(&mut self, alloc: Global, item: &NgRecord, texts: &mut Texts) -> M<Flow> {
+        if let Some(gap) = self.gap_at(item.cap.sec) {
             push_gap(&mut texts.report, self.tally.records + 1, gap)?;
             return Ok(Flow::Ends(Status::CaptureRefused));
         }
@@ -99,8 +99,8 @@ fn start(alloc: Global, domain: &Domain, router: u16) -> M<Node>
 /// while the seconds between them pass one by one. What it sends is written as a capture; what it delivers and drops is
 /// reported. Both outputs are written from time to time, so that neither is held in memory as a whole.
 ///
-/// A record arrived on the interface whose peer has the frame's source address. Ignored are records of other sources,
-/// of fewer than 12 or more than 65,000 octets, and those that were captured only in part; and frames of another class,
+/// A record arrived on the interface whose peer has the frame's source address. Ignored are records of other sources and
+/// of other link types than Ethernet, of fewer than 12 or more than 65,000 octets, and those that were captured only in part; and frames of another class,
 /// hellos and PDUs of another type. The first record sets the clock. The timestamp of a later one advances it by at
 /// most 65,535 seconds, and a timestamp that goes back does not change it. In each second the router's LSDB ages, and
 /// after every fifth it sends what is due on each interface.

@@ -7,9 +7,10 @@ ghost use Rattle.command_drive.specs.Reporting.{Reports};
 ghost use Rattle.command_hop.specs.HopText.{hop_answer, hop_cut};
 ghost use Rattle.command_headers.specs.HeadersText.{headers_answer, headers_cut};
 ghost use Rattle.command_node.specs.Owed.{node_means};
+ghost use Rattle.command_topo.specs.TopoText.{topo_answer, topo_cut};
 
 use std::alloc::Global;
-use wire_base::{Domain, Sink, Source, Status};
+use wire_base::{Domain, Level, Sink, Source, Status, SystemId};
 
 /// Runs `hop`, the forwarding of packets by one router with configured rows. The input is read line by line, and the
 /// report has the outcomes of each packet, up to the end of the input or to the first line that is rejected.
@@ -48,4 +49,23 @@ pub fn node<S: Source, C: Sink, R: Sink>(
     ensures { IfSome (slice_get domain.now.routers router) (λ conf. Drives S.Source C.Sink R.Sink status.CaptureRefused (node_means conf) result input.old input.new frames.old frames.new report.old report.new) }
 {
     command_node::node(alloc, domain, router, input, frames, report)
+}
+
+/// Runs `topo`: reports the topology `mt` (RFC 5120) of the newest LSPs of one level in a capture, and the cost of the path from the
+/// router `from` to each other one, after the last record or up to the record that is rejected. `mt` is 0 to 4095; a greater
+/// number is in no LSP.
+pub fn topo<S: Source, R: Sink>(
+    alloc: Global,
+    level: Level,
+    mt: u16,
+    from: SystemId,
+    input: &mut S,
+    report: &mut R,
+) -> Status
+    requires input_faults { S.faults input.old < last_count }
+    requires report_faults { R.faults report.old < last_count }
+    requires report_zeros { R.zeros report.old < last_count }
+    ensures { Reports S.Source R.Sink status.CaptureRefused (topo_answer (record { level = level; mt = mt; from = from })) (topo_cut (record { level = level; mt = mt; from = from })) result input.old input.new report.old report.new }
+{
+    command_topo::run_topo(alloc, level, mt, from, input, report)
 }

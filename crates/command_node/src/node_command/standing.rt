@@ -1,13 +1,13 @@
 //! The state of a node: one router and the clock that the records of a capture set.
 ghost use Rattle.std.specs.Prelude.{◌≡◌, ◌<◌, ◌≤◌, ◌-◌, ◌^◌, length, Some, IfOk, IfSome, OnOk};
 ghost use Rattle.std.specs.Str.{bytes_eq};
-ghost use Rattle.pcap_frames.specs.Seen.{record_seen};
 ghost use Rattle.command_node.specs.NodeRun as run;
 ghost use Rattle.wire_base.specs.model.Configuration.{IsSound};
 
 use super::tally::{Tally, sum};
 use super::texts::{push_effects, push_frames};
-use pcap_frames::{CapRecord, write_cap_header};
+use pcap_frames::write_cap_header;
+use pcapng_frames::NgRecord;
 use router_core::{Effects, Router, SentFrames};
 use run_texts::Texts;
 use std::alloc::Global;
@@ -168,13 +168,16 @@ impl Node {
     }
 
     /// Returns the link that a record arrived on; none if the record is ignored.
-    fn link_of(&self, captured: &CapRecord) -> Option<u16>
-        ensures link { result ≡ run.link_of self.now.control.conf (record_seen captured.now) }
+    fn link_of(&self, captured: &NgRecord) -> Option<u16>
+        ensures link { result ≡ run.link_of self.now.control.conf captured.now }
         ensures there { IfSome result (λ link. link < length self.now.control.conf.ends) }
-        ensures short { IfSome result (λ link. length captured.now.octets ≤ MOST_FRAME) }
+        ensures short { IfSome result (λ link. length captured.now.cap.octets ≤ MOST_FRAME) }
     {
-        let octets = captured.octets.as_slice();
-        if !captured.whole || octets.len() < 12 || octets.len() > MOST_FRAME {
+        let octets = captured.cap.octets.as_slice();
+        if !captured.ethernet || !captured.cap.whole {
+            return None;
+        }
+        if octets.len() < 12 || octets.len() > MOST_FRAME {
             return None;
         }
         link_from(self.router.conf().ends.as_slice(), &octets[6..12])
@@ -189,23 +192,23 @@ impl Node {
     }
 
     /// Reports what the router did with a frame.
-    fn tell(&mut self, alloc: Global, captured: &CapRecord, effects: &Effects) -> M<()>
-        ensures { OnOk result (self.new ≡ run.tells (record_seen captured.now) effects.now self.old) }
+    fn tell(&mut self, alloc: Global, captured: &NgRecord, effects: &Effects) -> M<()>
+        ensures { OnOk result (self.new ≡ run.tells captured.now effects.now self.old) }
     {
         self.tally.used = sum(self.tally.used, 1)?;
         self.tally.got = sum(self.tally.got, effects.got.len())?;
         self.tally.dropped = sum(self.tally.dropped, effects.drops.len())?;
         push_effects(alloc, &mut self.report, self.tally.records, effects)?;
-        self.go_out(captured.sec, captured.usec, &effects.sent)
+        self.go_out(captured.cap.sec, captured.cap.usec, &effects.sent)
     }
 
     /// Passes the frame of a record, which arrived on a link, to the router.
-    fn give(&mut self, alloc: Global, captured: &CapRecord, link: u16) -> M<()>
+    fn give(&mut self, alloc: Global, captured: &NgRecord, link: u16) -> M<()>
         requires link { link < length self.old.control.conf.ends }
-        requires short { length captured.now.octets ≤ MOST_FRAME }
-        ensures { OnOk result (self.new ≡ run.given_on (record_seen captured.now) self.old (Some link)) }
+        requires short { length captured.now.cap.octets ≤ MOST_FRAME }
+        ensures { OnOk result (self.new ≡ run.given_on captured.now self.old (Some link)) }
     {
-        let effects = self.router.frame(link, captured.octets.as_slice())?;
+        let effects = self.router.frame(link, captured.cap.octets.as_slice())?;
         if effects.passed {
             self.pass_over()
         } else {
@@ -215,12 +218,12 @@ impl Node {
 
     /// Processes a record: it is counted, the clock advances to its second, and then the router receives its frame.
     #[tactic(auto, unfolding(crate::specs::NodeRun::record_done))]
-    pub fn take(&mut self, alloc: Global, captured: &CapRecord) -> M<()>
+    pub fn take(&mut self, alloc: Global, captured: &NgRecord) -> M<()>
         requires { self.old.tally.records < 2 ^ 63 }
-        ensures { OnOk result (self.new ≡ run.record_done self.old (record_seen captured.now)) }
+        ensures { OnOk result (self.new ≡ run.record_done self.old captured.now) }
     {
         self.tally.records += 1;
-        self.move_to(captured.sec)?;
+        self.move_to(captured.cap.sec)?;
         match self.link_of(captured) {
             None => self.pass_over(),
             Some(link) => self.give(alloc, captured, link),

@@ -1,7 +1,7 @@
 use Rattle.std.proofs.Common.{◌∙◌, false, refl, ap, sym}
 use Rattle.wire_base.specs.declared.limits.TheConstants.{CAPTURE_LIMIT}
 use Rattle.wire_base.specs.declared.status.Status.TheVariants.{CaptureRefused}
-use Rattle.wire_base.specs.model.Capture.{unread}
+use Rattle.command_drive.specs.CaptureReading.{any_unread}
 use Rattle.command_drive.specs.Answer.{Verdict}
 use Rattle.command_drive.specs.Reading.{Ends, Fails}
 use Rattle.command_drive.specs.Records.{records_read}
@@ -17,7 +17,7 @@ returns-in_default g c = reports_none g.S.Source g.R.Sink CaptureRefused headers
 
 pub returns : goal.returns
 returns g c =
-    let means = means_first (records_read c.in-Ok.records.reader c.in-Ok.records.room c.in-Ok.records.over) (records_read unread CAPTURE_LIMIT false) (owed 0 0) (owed 0 0) c.new-texts.result c.new-texts.ensures.report c.new-texts.ensures.frames c.in-Ok.ensures.fresh refl in
+    let means = means_first (records_read c.in-Ok.records.reader c.in-Ok.records.room c.in-Ok.records.over) (records_read any_unread CAPTURE_LIMIT false) (owed 0 0) (owed 0 0) c.new-texts.result c.new-texts.ensures.report c.new-texts.ensures.frames c.in-Ok.ensures.fresh refl in
     reports_by g.S.Source _ g.R.Sink CaptureRefused _ headers_answer headers_cut c.drive.result c.args.input.now c.drive.new.input c.new-frames.result c.drive.new.frames c.args.report.now c.drive.new.report
     (λ octets. means Ends octets ∙ means_whole octets)
     (λ octets failed. means Fails octets ∙ means_front octets (sym (ap (λ (v : Verdict). v.status) (means Fails octets)) ∙ failed))

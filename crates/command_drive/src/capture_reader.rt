@@ -1,0 +1,197 @@
+//! Captures of either format, pcap and pcapng, whose octets arrive in chunks.
+ghost use Rattle.std.specs.Prelude.{◌≡◌, ◌≤◌, ℕ, [], length, Ok, Err, None, Some, IfOk, OnOk, option_map};
+ghost use Rattle.wire_base.specs.model.Capture.{next_of, end_of};
+ghost use Rattle.pcapng_frames.specs.Reading.{ng_next, ng_end};
+ghost use Rattle.command_drive.specs.declared.capture_reader.CaptureReader.TheVariants as readers;
+ghost use Rattle.command_drive.specs.CaptureReading.{chosen_of, chosen, any_fed, any_next, answer_of, by_pcap, by_pcapng, any_end, fault_of, fault_number, fault_name, pcap_record};
+
+use byteorder::{BigEndian, ByteOrder};
+use pcap_frames::{CapRecord, Reader};
+use pcapng_frames::{NgFault, NgReader, NgRecord};
+use std::alloc::Global;
+use wire_base::{CaptureFault, M, Memory, Octets};
+
+/// The first four octets of a pcapng capture: the type of a section header.
+const PCAPNG: u32 = 0x0a0d_0d0a;
+
+/// Why a capture is rejected.
+#[derive(Clone, Copy, Debug, PartialEq, Eq)]
+pub enum RecordFault {
+    Pcap(CaptureFault),
+    Pcapng(NgFault),
+}
+
+impl RecordFault {
+    /// Returns the number of the broken rule, as reports print it.
+    pub fn number(self) -> u8
+        ensures { result ≡ fault_number self }
+    {
+        match self {
+            RecordFault::Pcap(fault) => fault.number(),
+            RecordFault::Pcapng(fault) => fault.number(),
+        }
+    }
+
+    /// Returns the name of the rule, as reports print it.
+    pub fn name(self) -> &'static [u8]
+        ensures { result.now ≡ fault_name self }
+    {
+        match self {
+            RecordFault::Pcap(fault) => fault.name(),
+            RecordFault::Pcapng(fault) => fault.name(),
+        }
+    }
+}
+
+/// A reader of a capture in the format that its first four octets tell. Until they are there it holds what it was fed.
+#[derive(Drop)]
+pub enum CaptureReader {
+    Unknown(Octets),
+    Pcap(Reader),
+    Pcapng(NgReader),
+}
+
+impl CaptureReader {
+    /// Creates a reader that was fed nothing.
+    pub fn new(alloc: Global) -> CaptureReader
+        ensures { result ≡ readers.Unknown [] }
+    {
+        CaptureReader::Unknown(Octets::new(alloc))
+    }
+
+    /// Appends the next octets of the capture.
+    pub fn feed(&mut self, piece: &[u8]) -> M<()>
+        ensures { OnOk result (self.new ≡ any_fed self.old piece.now) }
+    {
+        match self {
+            CaptureReader::Unknown(octets) => octets.append(piece),
+            CaptureReader::Pcap(reader) => reader.feed(piece),
+            CaptureReader::Pcapng(reader) => reader.feed(piece),
+        }
+    }
+
+    /// Returns the next record, None if it is not complete yet, or why the capture is rejected, which is permanent.
+    #[tactic(auto, unfolding(crate::specs::CaptureReading::any_next))]
+    pub fn next(&mut self, alloc: Global) -> M<Result<Option<NgRecord>, RecordFault>>
+        ensures exact { IfOk result (λ found. found ≡ (any_next self.old).0) }
+        ensures after { OnOk result (self.new ≡ (any_next self.old).1) }
+    {
+        self.choose(alloc)?;
+        self.answer()
+    }
+
+    /// Chooses the format once four octets are there.
+    fn choose(&mut self, alloc: Global) -> M<()>
+        ensures { OnOk result (self.new ≡ chosen self.old) }
+    {
+        let made = match self {
+            CaptureReader::Unknown(octets) => reader_of(alloc, octets.as_slice())?,
+            CaptureReader::Pcap(_) | CaptureReader::Pcapng(_) => return Ok(()),
+        };
+        if let Some(reader) = made {
+            *self = reader;
+        }
+        Ok(())
+    }
+
+    /// Returns the next record in the format that was chosen.
+    fn answer(&mut self) -> M<Result<Option<NgRecord>, RecordFault>>
+        ensures exact { IfOk result (λ found. found ≡ (answer_of self.old).0) }
+        ensures after { OnOk result (self.new ≡ (answer_of self.old).1) }
+    {
+        match self {
+            CaptureReader::Unknown(_) => Ok(Ok(None)),
+            CaptureReader::Pcap(reader) => pcap_next(reader),
+            CaptureReader::Pcapng(reader) => pcapng_next(reader),
+        }
+    }
+
+    /// Ends the capture, for a reader that has no further record.
+    pub fn finish(self) -> Result<(), RecordFault>
+        requires { any_next self ≡ (Ok None, self) }
+        ensures { fault_of result ≡ any_end self }
+    {
+        match self {
+            CaptureReader::Unknown(_) => Err(RecordFault::Pcap(CaptureFault::CutHeader)),
+            CaptureReader::Pcap(reader) => pcap_end(reader),
+            CaptureReader::Pcapng(reader) => pcapng_end(reader),
+        }
+    }
+}
+
+/// Returns a reader of the format that these first octets tell, which was fed them; None if there are fewer than four.
+fn reader_of(alloc: Global, octets: &[u8]) -> M<Option<CaptureReader>>
+    ensures { IfOk result (λ made. made ≡ chosen_of octets.now) }
+{
+    if octets.len() < 4 {
+        return Ok(None);
+    }
+    if BigEndian::read_u32(octets) == PCAPNG {
+        let mut reader = NgReader::new(alloc);
+        reader.feed(octets)?;
+        return Ok(Some(CaptureReader::Pcapng(reader)));
+    }
+    let mut reader = Reader::new(alloc);
+    reader.feed(octets)?;
+    Ok(Some(CaptureReader::Pcap(reader)))
+}
+
+/// Returns the next record of a pcap capture.
+fn pcap_next(reader: &mut Reader) -> M<Result<Option<NgRecord>, RecordFault>>
+    ensures exact { IfOk result (λ found. found ≡ (by_pcap (next_of reader.old)).0) }
+    ensures after { OnOk result (readers.Pcap reader.new ≡ (by_pcap (next_of reader.old)).1) }
+{
+    let read = reader.next();
+    match read {
+        Ok(Some(cap)) => Ok(Ok(Some(on_ethernet(cap)))),
+        Ok(None) => Ok(Ok(None)),
+        Err(CaptureFault::Memory) => Err(Memory),
+        Err(fault) => Ok(Err(RecordFault::Pcap(fault))),
+    }
+}
+
+/// Returns the next record of a pcapng capture.
+fn pcapng_next(reader: &mut NgReader) -> M<Result<Option<NgRecord>, RecordFault>>
+    ensures exact { IfOk result (λ found. found ≡ (by_pcapng (ng_next reader.old)).0) }
+    ensures after { OnOk result (readers.Pcapng reader.new ≡ (by_pcapng (ng_next reader.old)).1) }
+{
+    let read = reader.next();
+    match read {
+        Ok(found) => Ok(Ok(found)),
+        Err(NgFault::Memory) => Err(Memory),
+        Err(fault) => Ok(Err(RecordFault::Pcapng(fault))),
+    }
+}
+
+/// Ends a pcap capture, for a reader that has no further record.
+fn pcap_end(reader: Reader) -> Result<(), RecordFault>
+    requires { next_of reader ≡ (Ok None, reader) }
+    ensures { fault_of result ≡ any_end (readers.Pcap reader) }
+{
+    match reader.finish() {
+        Ok(()) => Ok(()),
+        Err(fault) => Err(RecordFault::Pcap(fault)),
+    }
+}
+
+/// Ends a pcapng capture, for a reader that has no further packet.
+fn pcapng_end(reader: NgReader) -> Result<(), RecordFault>
+    requires { ng_next reader ≡ (Ok None, reader) }
+    ensures { fault_of result ≡ any_end (readers.Pcapng reader) }
+{
+    match reader.finish() {
+        Ok(()) => Ok(()),
+        Err(fault) => Err(RecordFault::Pcapng(fault)),
+    }
+}
+
+/// Returns a record of a pcap capture, which has one interface, of Ethernet.
+fn on_ethernet(cap: CapRecord) -> NgRecord
+    ensures { result ≡ pcap_record cap }
+{
+    NgRecord {
+        interface: 0,
+        ethernet: true,
+        cap,
+    }
+}

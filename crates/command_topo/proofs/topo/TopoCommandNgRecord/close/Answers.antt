@@ -1,0 +1,20 @@
+use Rattle.std.proofs.Common.{refl, ap}
+use Rattle.command_drive.specs.Reading.{Closed}
+use Rattle.command_drive.specs.declared.items.Close.TheVariants as closes
+use Rattle.command_topo.proofs.Steps.{concludes_ok}
+use Rattle.command_topo.proofs.topo.TopoCommandNgRecord.close.Goals as goal
+
+pub returns-in-Ended-clause-concluded : goal.returns-in-Ended-clause-concluded
+returns-in-Ended-clause-concluded c =
+    let s = c.args.self.now in
+    concludes_ok c.conclude.result s.query s.records s.store.entries (Closed closes.Ended) (Closed c.args.close) c.args.texts.now (record c.args.texts.now { report = c.conclude.new.out }) (ap (λ h. Closed h) c.in-Ended.is) c.conclude.ensures refl
+
+pub returns-in-TooLong-clause-concluded : goal.returns-in-TooLong-clause-concluded
+returns-in-TooLong-clause-concluded c =
+    let s = c.args.self.now in
+    concludes_ok c.refuse_length.result s.query s.records s.store.entries (Closed closes.TooLong) (Closed c.args.close) c.args.texts.now (record c.args.texts.now { report = c.refuse_length.new.out }) (ap (λ h. Closed h) c.in-TooLong.is) c.refuse_length.ensures refl
+
+pub returns-in-Broken-clause-concluded : goal.returns-in-Broken-clause-concluded
+returns-in-Broken-clause-concluded c =
+    let s = c.args.self.now in
+    concludes_ok c.refuse_by.result s.query s.records s.store.entries (Closed (closes.Broken c.in-Broken.why)) (Closed c.args.close) c.args.texts.now (record c.args.texts.now { report = c.refuse_by.new.out }) (ap (λ h. Closed h) c.in-Broken.is) c.refuse_by.ensures refl
