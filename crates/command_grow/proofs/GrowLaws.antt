@@ -22,15 +22,15 @@ use Rattle.domain_model.specs.declared.fault.EventFault.{EventFault}
 use Rattle.domain_model.specs.World.{first_world}
 use Rattle.domain_model.specs.Run.{Run, Progress, first_run, goes_unless, does, line_events, line_done, lines_done, schedule_done}
 use Rattle.replay_report.specs.declared.counts.Counts.{Counts}
+use Rattle.replay_report.specs.declared.recording.Recording.TheVariants.{Discarded}
 use Rattle.domain_replay.specs.Counting.{counts_of}
 use Rattle.domain_replay.specs.Lines.{done_text}
 use Rattle.domain_replay.specs.Telling as telling
-use Rattle.domain_replay.specs.Telling.{Telling, ReplayState, first_state, with_texts, uncaptured, uncaptured_told, tells_line, telling_of, IsRunOf, at_line, LineEnters, LineNamesOnce, IsToldSo}
+use Rattle.domain_replay.specs.Telling.{Telling, ReplayState, first_state, with_texts, tells_line, telling_of, IsRunOf, at_line, LineEnters, LineNamesOnce, IsToldSo}
 use Rattle.domain_replay.specs.Texts.{run_text}
 use Rattle.domain_replay.specs.Courses.{past}
-use Rattle.domain_replay.proofs.TellingLaws.{line_told, start_told}
+use Rattle.domain_replay.proofs.TellingLaws.{line_told, start_runs, start_told, none_captured}
 use Rattle.domain_replay.proofs.CourseLaws.{past_told, line_past}
-use Rattle.domain_replay.proofs.UncapturedLaws.{line_uncaptured}
 use Rattle.command_drive.specs.declared.items.Close.TheVariants as close
 use Rattle.command_drive.specs.Answer.{Verdict}
 use Rattle.command_drive.specs.Reading.{Behind, Closed, Reads, first}
@@ -71,7 +71,7 @@ enters n count (grown.Send entropy) some = some
 
 -- a domain at work that stands at a run
 abbrev state_at : Run → ReplayState
-state_at r = record { world = r.world; counts = counts_of r; captures = false }
+state_at r = record { world = r.world; counts = counts_of r; recording = Discarded }
 
 abbrev going : Run → Progress
 going r = record { run = r; refused = None }
@@ -81,19 +81,22 @@ module _ (d : DomainConf) (r : Run) (line : ℕ) (said : Line) (is : IsRunOf d r
   t = tells_line line (unsaid (state_at r)) said
 
   abbrev whole : telling.Told
-  whole = tells_line line (telling_of d r) said
+  whole = tells_line line (telling_of Discarded d r) said
 
   abbrev q : Progress
   q = line_done line (going r) said
 
-  so : IsToldSo d line q whole
-  so = line_told d line r said is there
+  so : IsToldSo Discarded d line q whole
+  so = line_told Discarded d line r said is there
 
-  padded : past [] (run_text d r) (unsaid (state_at r)) ≡ uncaptured (telling_of d r)
-  padded = let report = append-nil (run_text d r) in λ i. record { world = r.world; counts = counts_of r; frames = []; report = report i; captures = false }
+  padded : past [] (run_text d r) (unsaid (state_at r)) ≡ telling_of Discarded d r
+  padded =
+      let report = append-nil (run_text d r) in
+      let frames = sym (none_captured d r) in
+      λ i. record { world = r.world; counts = counts_of r; frames = frames i; report = report i; recording = Discarded }
 
-  same : past_told [] (run_text d r) t ≡ uncaptured_told whole
-  same = sym (line_past line [] (run_text d r) (unsaid (state_at r)) said) ∙ ap (λ (u : Telling). tells_line line u said) padded ∙ line_uncaptured line (telling_of d r) said
+  same : past_told [] (run_text d r) t ≡ whole
+  same = sym (line_past line [] (run_text d r) (unsaid (state_at r)) said) ∙ ap (λ (u : Telling). tells_line line u said) padded
 
   counted_run : IsRunOf d q.run
   counted_run = so.run
@@ -102,7 +105,7 @@ module _ (d : DomainConf) (r : Run) (line : ℕ) (said : Line) (is : IsRunOf d r
   counted_refused = so.refused ∙ ap (λ (u : telling.Told). at_line line u.refused) (sym same)
 
   counted_state : state_of t.telling ≡ state_at q.run
-  counted_state = ap (λ (u : telling.Told). state_of u.telling) same ∙ ap (λ (u : Telling). state_of (uncaptured u)) so.telling
+  counted_state = ap (λ (u : telling.Told). state_of u.telling) same ∙ ap state_of so.telling
 
 -- nothing is done after a line that was refused
 do_nothing : (line : ℕ) (p : Progress) (refused : ℕ × EventFault) → p.refused ≡ Some refused → (es : List Event) → fold (does line) p es ≡ p
@@ -154,23 +157,23 @@ pub routers_count : (n : ℕ) → length (grown_domain n).routers ≡ n
 unfolding grown_domain grown_routers
 routers_count n = length-map-range_with_len (router (grown_links n)) 0 n
 
-pub start_count : (n : ℕ) (s : ReplayState) → s ≡ first_state false (grown_domain n) → length s.world.domain.routers ≡ n
+pub start_count : (n : ℕ) (s : ReplayState) → s ≡ first_state Discarded (grown_domain n) → length s.world.domain.routers ≡ n
 unfolding first_world
 start_count n s is = ap (λ (x : ReplayState). length x.world.domain.routers) is ∙ routers_count n
 
-pub answer_met : (n m line given : ℕ) (s : ReplayState) (report frames : List ℕ) → 3 ≤ n → report ≡ [] → frames ≡ [] → m ≡ n → line ≡ 0 → given ≡ 0 → s ≡ first_state false (grown_domain n)
+pub answer_met : (n m line given : ℕ) (s : ReplayState) (report frames : List ℕ) → 3 ≤ n → report ≡ [] → frames ≡ [] → m ≡ n → line ≡ 0 → given ≡ 0 → s ≡ first_state Discarded (grown_domain n)
     → told report frames (lines_owe m line (lines_from given (18 - given)) (Closed close.Ended) s) ≡ alone (grow_answer n)
 unfolding grow_answer schedule_done first_run
 answer_met n m line given s report frames some no_report no_frames same_n first_line fresh starts =
     let routers : 0 < length (grown_domain n).routers = omega (arith, some, routers_count n) in
-    let start : ReplayState = first_state false (grown_domain n) in
+    let start : ReplayState = first_state Discarded (grown_domain n) in
     (λ i. told (no_report i) (no_frames i) (lines_owe (same_n i) (first_line i) (lines_from (fresh i) (18 - fresh i)) (Closed close.Ended) (starts i)))
     ∙ ap (λ (x : ReplayState). lines_owe n 0 (lines_from 0 18) (Closed close.Ended) x) (state_first (grown_domain n))
-    ∙ lines_met n (grown_domain n) routers (lines_from 0 18) 0 (first_run (grown_domain n)) (start_told (grown_domain n)).0
+    ∙ lines_met n (grown_domain n) routers (lines_from 0 18) 0 (first_run (grown_domain n)) (start_runs (grown_domain n))
     ∙ ap (λ (ls : List Line). ended n (lines_done (0 + 1) (going (first_run (grown_domain n))) ls)) (lines_are n)
   where
-    state_first : (d : DomainConf) → first_state false d ≡ state_at (first_run d)
-    state_first d = ap (λ (u : Telling). state_of (uncaptured u)) (start_told d).1
+    state_first : (d : DomainConf) → first_state Discarded d ≡ state_at (first_run d)
+    state_first d = ap state_of (start_told Discarded d)
 
 -- ---- the report
 

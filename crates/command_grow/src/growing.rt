@@ -1,12 +1,13 @@
 //! The schedule of a generated domain, line by line.
-ghost use Rattle.std.specs.Prelude.{◌≡◌, ◌≤◌, ◌++◌, false, length, IfOk, OnOk};
+ghost use Rattle.std.specs.Prelude.{◌≡◌, ◌≤◌, ◌++◌, length, IfOk, OnOk};
 ghost use Rattle.domain_model.specs.World.{ids_in_flight};
+ghost use Rattle.replay_report.specs.declared.recording.Recording.TheVariants as recordings;
 ghost use Rattle.domain_replay.specs.Telling.{first_state};
 ghost use Rattle.grown_domain.specs.Domain.{grown_domain};
 ghost use Rattle.command_grow.specs.Grow as spec;
 
 use command_drive::{Close, Command, Flow, Found, Items, NoSource, Texts};
-use domain_replay::{Replay, push_event_refused};
+use domain_replay::{Recording, Replay, push_event_refused};
 use grown_domain::{GrownLine, grown};
 use std::alloc::Global;
 use wire_base::{M, Octets, Status};
@@ -77,11 +78,11 @@ impl Growing {
     pub fn new(alloc: Global, n: u16) -> M<Self>
         requires some { 3 ≤ n }
         requires few { n ≤ 250 }
-        ensures replay { IfOk result (λ new. new.replay ≡ first_state false (grown_domain n)) }
+        ensures replay { IfOk result (λ new. new.replay ≡ first_state recordings.Discarded (grown_domain n)) }
         ensures n { IfOk result (λ new. new.n ≡ n) }
         ensures line { IfOk result (λ new. new.line ≡ 0) }
     {
-        let replay = Replay::uncaptured(alloc, grown(alloc, n)?)?;
+        let replay = Replay::new(alloc, grown(alloc, n)?, Recording::Discarded)?;
         Ok(Growing { replay, n, line: 0 })
     }
 

@@ -5,7 +5,6 @@ use Rattle.std.proofs.lemmas.List.{length-map, length-take, take_all}
 use Rattle.wire_base.specs.declared.limits.TheConstants.{LINE_LIMIT, TEXT_LIMIT}
 use Rattle.wire_base.specs.declared.status.Status.{Status}
 use Rattle.wire_base.specs.declared.status.Status.TheVariants.{Done, InputRefused, ReadFault}
-use Rattle.wire_base.specs.model.Capture.{written_header}
 use Rattle.wire_base.specs.model.Configuration.{DomainConf}
 use Rattle.replay_text.specs.declared.event.Line.{Line}
 use Rattle.replay_text.specs.declared.event.Line.TheVariants.{Empty, One, Settle}
@@ -16,6 +15,8 @@ use Rattle.replay_text.specs.Schedule.{schedule_line}
 use Rattle.domain_model.specs.declared.fault.EventFault.{EventFault}
 use Rattle.domain_model.specs.World.{first_world, ids_in_flight}
 use Rattle.domain_model.specs.Run.{Run, first_run, Progress, round_events, settle_events, world_after}
+use Rattle.replay_report.specs.declared.recording.Recording.{Recording}
+use Rattle.replay_report.specs.Captures.{capture_front}
 use Rattle.domain_replay.specs.Lines.{done_text, text_refused_text, event_refused_text}
 use Rattle.domain_replay.specs.Telling as telling
 use Rattle.domain_replay.specs.Telling.{Telling, ReplayState, first_state, tells_all, tells_line, at_line, LineEnters}
@@ -23,7 +24,7 @@ use Rattle.domain_replay.specs.Texts.{Refusal, TooLong, Reached, refusal_text, r
 use Rattle.domain_replay.specs.Courses.{Course, IsAt, past}
 use Rattle.domain_replay.proofs.CourseLaws.{past_told, line_past, written_at, after, refused_as, at_run}
 use Rattle.domain_replay.specs.Counting.{no_counts}
-use Rattle.domain_replay.proofs.TellingLaws.{start_told}
+use Rattle.domain_replay.proofs.TellingLaws.{start_runs, start_told}
 use Rattle.domain_replay.proofs.TellsLaws.{all_ended, all_joined, rounds_left}
 use Rattle.command_drive.specs.Texts.{Close, Ended, Longer, Cut, close_of, is_short, lines_within}
 use Rattle.command_drive.specs.Answer.{Verdict}
@@ -50,7 +51,7 @@ apart : (t : Telling) → t ≡ past t.frames t.report (unsaid (state_of t))
 apart t =
     let report = sym (append-nil t.report) in
     let frames = sym (append-nil t.frames) in
-    λ i. record { world = t.world; counts = t.counts; frames = frames i; report = report i; captures = t.captures }
+    λ i. record { world = t.world; counts = t.counts; frames = frames i; report = report i; recording = t.recording }
 
 -- ---- the rounds of a line
 
@@ -108,18 +109,18 @@ behind_of Cut = reading.Cut
 
 -- with that end of the report
 ends_there : (course : Course) (t : Telling) (status : Status) (text : List ℕ) → IsAt course t
-    → told (course.report ++ t.report) (course.frames ++ t.frames) (record { status = status; report = text; frames = [] }) ≡ ends_so course.domain course.run (status, text)
+    → told (course.report ++ t.report) (course.frames ++ t.frames) (record { status = status; report = text; frames = [] }) ≡ ends_so course.recording course.domain course.run (status, text)
 ends_there course t status text at =
     let report = ap (λ (u : Telling). u.report ++ text) (sym at.telling) in
     let frames = append-nil (course.frames ++ t.frames) ∙ ap (λ (u : Telling). u.frames) (sym at.telling) in
     λ i. record { status = status; report = report i; frames = frames i }
 
 unsaid_there : (course : Course) (s : ReplayState) (status : Status) (text : List ℕ) → IsAt course (unsaid s)
-    → told course.report course.frames (record { status = status; report = text; frames = [] }) ≡ ends_so course.domain course.run (status, text)
+    → told course.report course.frames (record { status = status; report = text; frames = [] }) ≡ ends_so course.recording course.domain course.run (status, text)
 unsaid_there course s status text at =
     ap₂ (λ (r f : List ℕ). told r f (record { status = status; report = text; frames = [] })) (sym (append-nil course.report)) (sym (append-nil course.frames)) ∙ ends_there course (unsaid s) status text at
 
-ends_met : (behind : Close) (n : ℕ) (course : Course) (s : ReplayState) → IsAt course (unsaid s) → told course.report course.frames (ends n (behind_of behind) s) ≡ ends_so course.domain course.run (ending behind n course.run None)
+ends_met : (behind : Close) (n : ℕ) (course : Course) (s : ReplayState) → IsAt course (unsaid s) → told course.report course.frames (ends n (behind_of behind) s) ≡ ends_so course.recording course.domain course.run (ending behind n course.run None)
 ends_met Ended n course s at =
     ap (λ (text : List ℕ). told course.report course.frames (record { status = Done; report = text; frames = [] })) (ap (λ (t : Telling). done_text n t.counts (ids_in_flight t.world.flights)) (sym at.telling))
     ∙ unsaid_there course s Done (run_done_text course.run n) at
@@ -135,7 +136,7 @@ names_at course = names_of course.domain
 abbrev AreMet : (behind : Close) (lines : List (List ℕ)) → Type 0
 AreMet behind lines =
     (n : ℕ) (course : Course) (s : ReplayState) → IsAt course (unsaid s)
-    → told course.report course.frames (lines_owe (names_at course) n lines (behind_of behind) s) ≡ answer_by behind course.domain (n + length lines) (lines_reach (names_at course) (n + 1) course.run lines)
+    → told course.report course.frames (lines_owe (names_at course) n lines (behind_of behind) s) ≡ answer_by course.recording behind course.domain (n + length lines) (lines_reach (names_at course) (n + 1) course.run lines)
 
 module _ (behind : Close) (more : List (List ℕ)) (each : AreMet behind more) (n : ℕ) (course : Course) (s : ReplayState) (at : IsAt course (unsaid s)) where
   -- what the lines behind one reach and owe
@@ -146,7 +147,7 @@ module _ (behind : Close) (more : List (List ℕ)) (each : AreMet behind more) (
   owe = lines_owe (names_at course) (n + 1) more (behind_of behind)
 
   abbrev answer : Reached → Verdict
-  answer reached = answer_by behind course.domain (n + suc (length more)) (and_further reached reach)
+  answer reached = answer_by course.recording behind course.domain (n + suc (length more)) (and_further reached reach)
 
   said_met : (said : Line) → LineEnters (length course.domain.routers) said → (t : telling.Told) → tells_line (n + 1) (unsaid s) said ≡ t
       → told course.report course.frames (told_then (n + 1) t owe) ≡ answer (line_reaches (n + 1) course.run (Ok said))
@@ -161,13 +162,13 @@ module _ (behind : Close) (more : List (List ℕ)) (each : AreMet behind more) (
       by : (o : Option EventFault) → t.refused ≡ o → told course.report course.frames (told_then (n + 1) t owe) ≡ answer (line_reaches (n + 1) course.run (Ok said))
       by None none =
           let reached = refused_as course (n + 1) said (unsaid s) t.telling t.refused at enters tells ∙ ap (at_line (n + 1)) none in
-          let next : Course = record { domain = course.domain; run = q.run; frames = course.frames ++ t.telling.frames; report = course.report ++ t.telling.report } in
+          let next : Course = record { recording = course.recording; domain = course.domain; run = q.run; frames = course.frames ++ t.telling.frames; report = course.report ++ t.telling.report } in
           let later : IsAt next (unsaid (state_of t.telling)) = written_at (record course { run = q.run }) t.telling (unsaid (state_of t.telling)) t.telling.frames t.telling.report on (apart t.telling) in
           let count : n + 1 + length more ≡ n + suc (length more) = omega arith in
           ap (λ (o : Option EventFault). told course.report course.frames (told t.telling.report t.telling.frames (unless_refused (n + 1) o (owe (state_of t.telling))))) none
           ∙ told_told course.report t.telling.report course.frames t.telling.frames (owe (state_of t.telling))
           ∙ each (n + 1) next (state_of t.telling) later
-          ∙ ap (λ (m : ℕ). answer_by behind course.domain m (reach q.run)) count
+          ∙ ap (λ (m : ℕ). answer_by course.recording behind course.domain m (reach q.run)) count
           ∙ sym (ap (λ (o : Option (ℕ × EventFault)). answer (reached_so q.run o)) reached)
       by (Some why) some =
           let reached = refused_as course (n + 1) said (unsaid s) t.telling t.refused at enters tells ∙ ap (at_line (n + 1)) some in
@@ -185,7 +186,7 @@ pub lines_met : (behind : Close) (lines : List (List ℕ)) → AreMet behind lin
 unfolding lines_reach
 lines_met behind [] n course s at =
     let count : n ≡ n + 0 = omega arith in
-    ends_met behind n course s at ∙ ap (λ (m : ℕ). ends_so course.domain course.run (ending behind m course.run None)) count
+    ends_met behind n course s at ∙ ap (λ (m : ℕ). ends_so course.recording course.domain course.run (ending behind m course.run None)) count
 lines_met behind (text ∷ more) n course s at =
     read_met behind more (lines_met behind more) n course s at (schedule_line text (names_at course))
     (λ said reads. subst (λ (k : ℕ). LineEnters k said) (length-map course.domain.routers _) (line_doable (names_at course) text said reads).0)
@@ -211,43 +212,43 @@ shown_owe names (text ∷ more) n behind =
     let rest = shown_owe names more (n + 1) behind in
     λ i s. read_owes (n + 1) (reads i) s (rest i)
 
--- with the capture's header before it
-module _ (d : DomainConf) (s : ReplayState) (names : List (List ℕ)) (line rounds : ℕ) (report frames : List ℕ)
-    (starts : s ≡ first_state true d) (named : names ≡ names_of d) (first : line ≡ 0) (none : rounds ≡ 0) (no_report : report ≡ []) (header : frames ≡ written_header) where
+-- with the front of the capture before it
+module _ (b : Recording) (d : DomainConf) (s : ReplayState) (names : List (List ℕ)) (line rounds : ℕ) (report frames : List ℕ)
+    (starts : s ≡ first_state b d) (named : names ≡ names_of d) (first : line ≡ 0) (none : rounds ≡ 0) (no_report : report ≡ []) (header : frames ≡ capture_front b d.routers) where
   -- what is owed on what a reader gives
   abbrev owed_on : Reads (List ℕ) → Verdict
   owed_on read = told report frames (rounds_owe line rounds s (lines_owe names line read.items read.behind))
 
   start : Course
-  start = record { domain = d; run = first_run d; frames = written_header; report = [] }
+  start = record { recording = b; domain = d; run = first_run d; frames = capture_front b d.routers; report = [] }
 
-  at_start : IsAt start (unsaid (first_state true d))
+  at_start : IsAt start (unsaid (first_state b d))
   unfolding start
   at_start =
-      let padded = sym (append-nil written_header) in
+      let padded = sym (append-nil (capture_front b d.routers)) in
       record {
-        run = (start_told d).0;
-        telling = sym (start_told d).1 ∙ (λ i. record { world = first_world d; counts = no_counts; frames = padded i; report = []; captures = true });
+        run = start_runs d;
+        telling = sym (start_told b d) ∙ (λ i. record { world = first_world d; counts = no_counts; frames = padded i; report = []; recording = b });
       }
 
-  met_by : (behind : Close) (lines : List (List ℕ)) → owed_on (record { items = map shown lines; behind = behind_of behind }) ≡ answer_to behind d lines
+  met_by : (behind : Close) (lines : List (List ℕ)) → owed_on (record { items = map shown lines; behind = behind_of behind }) ≡ answer_to b behind d lines
   unfolding start schedule_reaches
   met_by behind lines =
       let count : 0 + length lines ≡ length lines = omega arith in
       (λ i. told (no_report i) (header i) (rounds_owe (first i) (none i) (starts i) (lines_owe (named i) (first i) (map shown lines) (behind_of behind))))
-      ∙ ap (λ (owe : Rest). told [] written_header (owe (first_state true d))) (shown_owe (names_of d) lines 0 (behind_of behind))
-      ∙ lines_met behind lines 0 start (first_state true d) at_start
-      ∙ ap (λ (m : ℕ). answer_by behind d m (lines_reach (names_of d) 1 (first_run d) lines)) count
+      ∙ ap (λ (owe : Rest). told [] (capture_front b d.routers) (owe (first_state b d))) (shown_owe (names_of d) lines 0 (behind_of behind))
+      ∙ lines_met behind lines 0 start (first_state b d) at_start
+      ∙ ap (λ (m : ℕ). answer_by b behind d m (lines_reach (names_of d) 1 (first_run d) lines)) count
 
-  pub answer_met : (read : Reads (List ℕ)) (octets : List ℕ) → read ≡ lines_read [] TEXT_LIMIT false Ends octets → owed_on read ≡ schedule_answer d octets
+  pub answer_met : (read : Reads (List ℕ)) (octets : List ℕ) → read ≡ lines_read [] TEXT_LIMIT false Ends octets → owed_on read ≡ schedule_answer b d octets
   unfolding schedule_answer
   answer_met read octets is = ap owed_on (is ∙ lines_of_whole octets) ∙ by (is_short octets)
     where
-      by : (short : Bool) → owed_on (record { items = map shown (lines_within octets); behind = Closed (closes short) }) ≡ answer_to (close_of short) d (lines_within octets)
+      by : (short : Bool) → owed_on (record { items = map shown (lines_within octets); behind = Closed (closes short) }) ≡ answer_to b (close_of short) d (lines_within octets)
       by true = met_by Ended (lines_within octets)
       by false = met_by Longer (lines_within octets)
 
-  pub cut_met : (read : Reads (List ℕ)) (octets : List ℕ) → read ≡ lines_read [] TEXT_LIMIT false Fails octets → (owed_on read).status ≡ ReadFault → owed_on read ≡ schedule_cut d octets
+  pub cut_met : (read : Reads (List ℕ)) (octets : List ℕ) → read ≡ lines_read [] TEXT_LIMIT false Fails octets → (owed_on read).status ≡ ReadFault → owed_on read ≡ schedule_cut b d octets
   unfolding schedule_cut
   cut_met read octets is failed = elim (cases_lt TEXT_LIMIT (length octets)) [
     | inl over ↦
@@ -256,7 +257,7 @@ module _ (d : DomainConf) (s : ReplayState) (names : List (List ℕ)) (line roun
     | inr fits ↦ ap owed_on (is ∙ lines_of_front octets fits) ∙ met_by Cut (lines_in false octets)
   ]
     where
-      rejects : (reached : Reached) → (answer_by Longer d (length (lines_in false (take TEXT_LIMIT octets))) reached).status ≡ ReadFault → ⊥
+      rejects : (reached : Reached) → (answer_by b Longer d (length (lines_in false (take TEXT_LIMIT octets))) reached).status ≡ ReadFault → ⊥
       rejects reached = by reached.refused
         where
           by : (o : Option (ℕ × Refusal)) → (ending Longer (length (lines_in false (take TEXT_LIMIT octets))) reached.run o).0 ≡ ReadFault → ⊥

@@ -11,6 +11,7 @@ use Rattle.replay_text.specs.Schedule.{schedule_line}
 use Rattle.wire_base.specs.model.Configuration.{DomainConf}
 use Rattle.domain_model.specs.declared.fault.EventFault.{EventFault}
 use Rattle.domain_model.specs.World.{first_world}
+use Rattle.replay_report.specs.declared.recording.Recording.{Recording}
 use Rattle.domain_replay.specs.Lines.{event_refused_text}
 use Rattle.domain_replay.specs.Telling as telling
 use Rattle.domain_replay.specs.Telling.{Telling, ReplayState, first_state, with_texts, tells_line}
@@ -38,7 +39,7 @@ did_as (flow.Ends ended) refusal old other new newer texts texts_now first secon
 -- what stands in the outputs stands before what is reported
 said_behind : (line : ℕ) (s : ReplayState) (texts : Texts) (said : Line) → tells_line line (with_texts s texts) said ≡ past_told texts.frames texts.report (tells_line line (unsaid s) said)
 said_behind line s texts said =
-    ap (λ (t : Telling). tells_line line t said) (ap₂ (λ (f r : List ℕ). record { world = s.world; counts = s.counts; frames = f; report = r; captures = s.captures }) (sym (append-nil texts.frames)) (sym (append-nil texts.report)))
+    ap (λ (t : Telling). tells_line line t said) (ap₂ (λ (f r : List ℕ). record { world = s.world; counts = s.counts; frames = f; report = r; recording = s.recording }) (sym (append-nil texts.frames)) (sym (append-nil texts.report)))
     ∙ line_past line texts.frames texts.report (unsaid s) said
 
 module _ (line : ℕ) (s now : ReplayState) (texts mid : Texts) (said : Line) (why : Option EventFault)
@@ -156,6 +157,6 @@ if_ok_then P Q (Ok x) each is = each x is
 if_ok_then P Q (Err e) each is = tt
 
 -- the names of the domain at its start
-pub start_named : (d : DomainConf) (names : List (List ℕ)) (s : ReplayState) → names ≡ names_of d → s ≡ first_state true d → names ≡ names_of s.world.domain
+pub start_named : (b : Recording) (d : DomainConf) (names : List (List ℕ)) (s : ReplayState) → names ≡ names_of d → s ≡ first_state b d → names ≡ names_of s.world.domain
 unfolding first_world
-start_named d names s are is = are ∙ ap (λ (x : ReplayState). names_of x.world.domain) (sym is)
+start_named b d names s are is = are ∙ ap (λ (x : ReplayState). names_of x.world.domain) (sym is)

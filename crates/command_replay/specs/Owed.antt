@@ -27,7 +27,7 @@ abbrev pub unsaid : ReplayState → Telling
 unsaid s = with_texts s (record { frames = []; report = [] })
 
 abbrev pub state_of : Telling → ReplayState
-state_of t = record { world = t.world; counts = t.counts; captures = t.captures }
+state_of t = record { world = t.world; counts = t.counts; recording = t.recording }
 
 -- ---- a line
 

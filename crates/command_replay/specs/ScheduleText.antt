@@ -5,6 +5,7 @@ use Rattle.wire_base.specs.declared.status.Status.TheVariants.{Done, InputRefuse
 use Rattle.wire_base.specs.model.Configuration.{DomainConf}
 use Rattle.replay_text.specs.Pieces.{lines_in}
 use Rattle.domain_model.specs.Run.{Run}
+use Rattle.replay_report.specs.declared.recording.Recording.{Recording}
 use Rattle.domain_replay.specs.Texts.{Refusal, TooLong, Reached, capture_text, run_text, run_done_text, refusal_text, schedule_reaches}
 use Rattle.command_drive.specs.Answer.{Verdict}
 use Rattle.command_drive.specs.Reading.{Ends, Fails}
@@ -19,27 +20,27 @@ ending Ended lines r None = (Done, run_done_text r lines)
 ending Longer lines r None = (InputRefused, refusal_text (lines + 1) TooLong)
 ending Cut lines r None = (ReadFault, [])
 
--- the capture of a run, and its report with that end
-abbrev pub ends_so : DomainConf → Run → Status × List ℕ → Verdict
-ends_so d r end = record { status = end.0; report = run_text d r ++ end.1; frames = capture_text d r }
+-- the capture of a run in a format, and its report with that end
+abbrev pub ends_so : Recording → DomainConf → Run → Status × List ℕ → Verdict
+ends_so recording d r end = record { status = end.0; report = run_text d r ++ end.1; frames = capture_text recording d r }
 
 -- what that many lines reached, with the end of the report
-abbrev pub answer_by : Close → DomainConf → (lines : ℕ) → Reached → Verdict
-answer_by close d lines reached = ends_so d reached.run (ending close lines reached.run reached.refused)
+abbrev pub answer_by : Recording → Close → DomainConf → (lines : ℕ) → Reached → Verdict
+answer_by recording close d lines reached = ends_so recording d reached.run (ending close lines reached.run reached.refused)
 
 -- the status and the texts of a schedule that has those lines and closes in that way
-abbrev pub answer_to : Close → DomainConf → List (List ℕ) → Verdict
-answer_to close d lines = answer_by close d (length lines) (schedule_reaches d lines)
+abbrev pub answer_to : Recording → Close → DomainConf → List (List ℕ) → Verdict
+answer_to recording close d lines = answer_by recording close d (length lines) (schedule_reaches d lines)
 
 -- those of a schedule
-unfoldable pub schedule_answer : DomainConf → List ℕ → Verdict
-schedule_answer d schedule = answer_to (close_of (is_short schedule)) d (lines_within schedule)
+unfoldable pub schedule_answer : Recording → DomainConf → List ℕ → Verdict
+schedule_answer recording d schedule = answer_to recording (close_of (is_short schedule)) d (lines_within schedule)
 
 -- those of the complete lines in octets after which the source failed
-unfoldable pub schedule_cut : DomainConf → List ℕ → Verdict
-schedule_cut d octets = answer_to Cut d (lines_in false octets)
+unfoldable pub schedule_cut : Recording → DomainConf → List ℕ → Verdict
+schedule_cut recording d octets = answer_to recording Cut d (lines_in false octets)
 
 -- the verdict on a schedule, whether its source ends after those octets or fails
-abbrev pub schedule_means : DomainConf → Meaning
-schedule_means d Ends octets = schedule_answer d octets
-schedule_means d Fails octets = schedule_cut d octets
+abbrev pub schedule_means : Recording → DomainConf → Meaning
+schedule_means recording d Ends octets = schedule_answer recording d octets
+schedule_means recording d Fails octets = schedule_cut recording d octets

@@ -6,13 +6,14 @@ ghost use Rattle.command_replay.specs.ScheduleText.{schedule_means};
 
 use crate::replaying::Replaying;
 use command_drive::{LineReader, Texts, drive};
-use pcap_frames::write_cap_header;
+use domain_replay::{Recording, confs_of, push_front};
 use std::alloc::Global;
 use wire_base::{Domain, Sink, Source, Status};
 
 /// Runs the command `replay CONF SCHEDULE FRAMES` after the domain file was read: executes the schedule's lines in the
 /// domain, up to the end of the schedule or to the first line that is rejected, and writes the capture of what the
-/// routers sent and the report of what they delivered and dropped.
+/// routers sent, in the given format, and the report of what they delivered and dropped. `replay-ng` differs in the
+/// format alone.
 ///
 /// The status and both outputs are those of the schedule. After a read error the lines that are complete in what was
 /// read are executed and reported. After a write error, or if an allocation fails, a prefix of each output is written.
@@ -20,21 +21,22 @@ use wire_base::{Domain, Sink, Source, Status};
 pub fn play<S: Source, C: Sink, R: Sink>(
     alloc: Global,
     domain: Domain,
+    recording: Recording,
     input: &mut S,
     frames: &mut C,
     report: &mut R,
 ) -> Status
     requires { MayRise S.Source C.Sink R.Sink input.old frames.old report.old }
-    ensures { Drives S.Source C.Sink R.Sink status.InputRefused (schedule_means domain) result input.old input.new frames.old frames.new report.old report.new }
+    ensures { Drives S.Source C.Sink R.Sink status.InputRefused (schedule_means recording domain) result input.old input.new frames.old frames.new report.old report.new }
 {
     let Ok(mut reader) = LineReader::new(alloc) else {
         return Status::Memory;
     };
     let mut texts = Texts::new(alloc);
-    let Ok(()) = write_cap_header(&mut texts.frames) else {
+    let Ok(()) = push_front(&mut texts.frames, recording, confs_of(&domain)) else {
         return Status::Memory;
     };
-    let Ok(mut replaying) = Replaying::new(alloc, domain) else {
+    let Ok(mut replaying) = Replaying::new(alloc, domain, recording) else {
         return Status::Memory;
     };
     drive(

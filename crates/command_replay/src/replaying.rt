@@ -1,5 +1,5 @@
 //! A schedule, line by line.
-ghost use Rattle.std.specs.Prelude.{◌≡◌, ◌≢◌, ◌≤◌, ◌+◌, ℕ, List, true, length, IfOk, OnOk};
+ghost use Rattle.std.specs.Prelude.{◌≡◌, ◌≢◌, ◌≤◌, ◌+◌, ℕ, List, length, IfOk, OnOk};
 ghost use Rattle.wire_base.specs.declared.limits.TheConstants.{MOST_ROUTERS};
 ghost use Rattle.replay_text.specs.Events.{LineFits};
 ghost use Rattle.domain_replay.specs.Telling.{first_state, tells_line, LineNamesOnce};
@@ -8,7 +8,7 @@ ghost use Rattle.command_drive.specs.declared.command.Flow.TheVariants as flow;
 ghost use Rattle.command_replay.specs.Owed.{unsaid, Does, Begins};
 
 use command_drive::{Close, Command, Flow, Texts};
-use domain_replay::{Replay, push_event_refused, push_text_refused, push_too_long};
+use domain_replay::{Recording, Replay, push_event_refused, push_text_refused, push_too_long};
 use replay_text::{Line, read_line};
 use std::alloc::Global;
 use wire_base::limits::MOST_ROUTERS;
@@ -39,15 +39,15 @@ pub struct Replaying {
 }
 
 impl Replaying {
-    /// Returns a domain that has just started, before the first line.
-    pub fn new(alloc: Global, domain: Domain) -> M<Self>
-        ensures replay { IfOk result (λ new. new.replay ≡ first_state true domain) }
+    /// Returns a domain that has just started, before the first line, whose frames are recorded in that way.
+    pub fn new(alloc: Global, domain: Domain, recording: Recording) -> M<Self>
+        ensures replay { IfOk result (λ new. new.replay ≡ first_state recording domain) }
         ensures names { IfOk result (λ new. new.names ≡ names_of domain) }
         ensures line { IfOk result (λ new. new.line ≡ 0) }
         ensures rounds { IfOk result (λ new. new.rounds ≡ 0) }
     {
         let names = names_in(alloc, &domain)?;
-        let replay = Replay::new(alloc, domain)?;
+        let replay = Replay::new(alloc, domain, recording)?;
         Ok(Replaying {
             replay,
             names,

@@ -1,5 +1,6 @@
 //! The frames that an event sends, stored in one list of octets.
 ghost use Rattle.std.specs.Prelude.{◌≡◌, ◌<◌, [], length, slice_get, Some, option_map};
+ghost use Rattle.std.specs.List.{AllByRecursion};
 ghost use Rattle.domain_model.specs.Wires.{wires_in};
 
 use frame_list::FrameList;
@@ -47,6 +48,22 @@ impl WireFrames {
         ensures { result ≡ length self.now }
     {
         self.list.len()
+    }
+
+    /// Returns the router that sends all of them.
+    pub fn sender(&self) -> u16
+        ensures { AllByRecursion (λ f. f.from ≡ result) self.now }
+    {
+        self.from
+    }
+
+    /// Returns the router that the frame at an index goes to.
+    #[tactic(auto, using(crate::proofs::WireLaws::receivers_are))]
+    pub fn receiver_at(&self, i: usize) -> u16
+        requires { i < length self.now }
+        ensures { option_map (λ f. f.to) (slice_get self.now i) ≡ Some result }
+    {
+        self.list.note_at(i)
     }
 
     /// Returns the octets of the frame at an index.

@@ -1,5 +1,5 @@
 -- Runs in progress, as they are reported.
-use Rattle.std.proofs.Common.{◌≡◌, ℕ, Bool, true, false, List, [], ◌∷◌, ◌++◌, length, Option, Some, None, refl, sym, ap, subst, ◌∙◌, append_assoc}
+use Rattle.std.proofs.Common.{◌≡◌, ℕ, List, [], ◌∷◌, ◌++◌, length, Option, Some, None, refl, sym, ap, subst, ◌∙◌, append_assoc}
 use Rattle.std.specs.List.{fold}
 use Rattle.replay_text.specs.declared.event.Event.{Event}
 use Rattle.replay_text.specs.declared.event.Event.TheVariants as event
@@ -12,7 +12,6 @@ use Rattle.domain_model.specs.Step.{happens}
 use Rattle.domain_model.specs.Run.{Progress, line_done, line_events}
 use Rattle.domain_replay.specs.Courses.{Course, past, IsAt}
 use Rattle.domain_replay.specs.Telling.{Telling, Told, told, sent_records, tells, tells_or, tells_unless, reports_on, tells_all, tells_line, telling_of, at_line, IsEntered, LineEnters, IsToldSo}
-use Rattle.replay_report.specs.Captures.{with_records}
 use Rattle.domain_replay.specs.Texts.{made_text}
 use Rattle.domain_replay.proofs.TellingLaws.{line_told}
 
@@ -21,17 +20,13 @@ use Rattle.domain_replay.proofs.TellingLaws.{line_told}
 abbrev pub past_told : (frames report : List ℕ) → Told → Told
 past_told frames report t = record { telling = past frames report t.telling; refused = t.refused }
 
-records_past : (b : Bool) (f frames records : List ℕ) → with_records b (f ++ frames) records ≡ f ++ with_records b frames records
-records_past true f frames records = append_assoc f frames records
-records_past false f frames records = refl
-
 tells_past : (line : ℕ) (f g : List ℕ) (t : Telling) (e : Event) → tells line (past f g t) e ≡ past f g (tells line t e)
 unfolding tells
 tells_past line f g t e =
     let n = happens t.world e in
-    let frames = records_past t.captures f t.frames (sent_records t.world.domain.routers line n.made.sent) in
+    let frames = append_assoc f t.frames (sent_records t.recording t.world.domain.routers line n.made.sent) in
     let report = append_assoc g t.report (made_text t.world.domain.routers line n.made) in
-    λ i. record { world = (tells line t e).world; counts = (tells line t e).counts; frames = frames i; report = report i; captures = t.captures }
+    λ i. record { world = (tells line t e).world; counts = (tells line t e).counts; frames = frames i; report = report i; recording = t.recording }
 
 or_past : (line : ℕ) (f g : List ℕ) (t : Telling) (e : Event) (o : Option EventFault) → tells_or line (past f g t) e o ≡ past_told f g (tells_or line t e o)
 or_past line f g t e None = ap told (tells_past line f g t e)
@@ -60,7 +55,7 @@ pub past_past : (f r g s : List ℕ) (t : Telling) → past f r (past g s t) ≡
 past_past f r g s t =
     let frames = sym (append_assoc f g t.frames) in
     let report = sym (append_assoc r s t.report) in
-    λ i. record { world = t.world; counts = t.counts; frames = frames i; report = report i; captures = t.captures }
+    λ i. record { world = t.world; counts = t.counts; frames = frames i; report = report i; recording = t.recording }
 
 -- a replay behind fronts that were written out stands at the run
 pub written_at : (course : Course) (now later : Telling) (frames report : List ℕ) → IsAt course now → now ≡ past frames report later
@@ -75,10 +70,10 @@ after course line said = line_done line (record { run = course.run; refused = No
 
 module _ (course : Course) (line : ℕ) (said : Line) (old now : Telling) (why : Option EventFault) (at : IsAt course old) (enters : LineEnters (length course.domain.routers) said)
     (tells : tells_line line old said ≡ record { telling = now; refused = why }) where
-  so : IsToldSo course.domain line (after course line said) (tells_line line (telling_of course.domain course.run) said)
-  so = line_told course.domain line course.run said at.run enters
+  so : IsToldSo course.recording course.domain line (after course line said) (tells_line line (telling_of course.recording course.domain course.run) said)
+  so = line_told course.recording course.domain line course.run said at.run enters
 
-  told_as : tells_line line (telling_of course.domain course.run) said ≡ record { telling = past course.frames course.report now; refused = why }
+  told_as : tells_line line (telling_of course.recording course.domain course.run) said ≡ record { telling = past course.frames course.report now; refused = why }
   told_as = ap (λ (t : Telling). tells_line line t said) at.telling ∙ line_past line course.frames course.report old said ∙ ap (past_told course.frames course.report) tells
 
   pub refused_as : (after course line said).refused ≡ at_line line why

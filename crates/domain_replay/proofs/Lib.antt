@@ -9,4 +9,3 @@ pub mod SendLaws
 mod LineTells
 mod SameDomain
 pub mod CourseLaws
-pub mod UncapturedLaws

@@ -13,7 +13,7 @@ use Rattle.domain_replay.proofs.TellsLaws.{all_joined, world_told}
 
 -- the world alone went on
 abbrev pub in_world : ReplayState → WorldState → ReplayState
-in_world s w = record { world = w; counts = s.counts; captures = s.captures }
+in_world s w = record { world = w; counts = s.counts; recording = s.recording }
 
 -- nothing was done
 pub stops_before : (line : ℕ) (t now : Telling) (es : List Event) → now ≡ t → StopsIn line t es now

@@ -1,9 +1,8 @@
 -- A run as it is reported: with each event the world advances, the counts grow, and both texts gain the effects of the
 -- event.
-use Rattle.std.specs.Prelude.{ℕ, Bool, true, false, ◌≡◌, ◌<◌, ◌++◌, List, [], flat_map, length, Option, Some, None, option_map}
+use Rattle.std.specs.Prelude.{ℕ, ◌≡◌, ◌<◌, ◌++◌, List, [], flat_map, length, Option, Some, None, option_map}
 use Rattle.std.specs.List.{fold}
 use Rattle.wire_base.specs.declared.conf.RouterConf.{RouterConf}
-use Rattle.wire_base.specs.model.Capture.{written_header}
 use Rattle.wire_base.specs.model.Configuration.{DomainConf}
 use Rattle.replay_text.specs.declared.event.Event.{Event}
 use Rattle.replay_text.specs.declared.event.Event.TheVariants as event
@@ -17,39 +16,35 @@ use Rattle.domain_model.specs.Faults.{event_fault}
 use Rattle.domain_model.specs.Run.{Run, Progress, line_events, on_line}
 use Rattle.run_texts.specs.declared.texts.Texts.{Texts}
 use Rattle.replay_report.specs.declared.counts.Counts.{Counts}
-use Rattle.replay_report.specs.Captures.{sending_record, with_records}
+use Rattle.replay_report.specs.declared.recording.Recording.{Recording}
+use Rattle.replay_report.specs.Captures.{sending_record, capture_front}
 use Rattle.replay_report.specs.Counting.{no_counts, counted, counts_of, NamesOnce}
 use Rattle.domain_replay.specs.Texts.{world_after_all, made_text, capture_text, run_text}
 
--- The current world, the counts, the capture so far, the lines of the report so far, and whether what is sent goes into
--- the capture.
+-- The current world, the counts, the capture so far, the lines of the report so far, and how what is sent is recorded.
 pub record Telling : Type 0 where
   pub world : WorldState
   pub counts : Counts
   pub frames : List ℕ
   pub report : List ℕ
-  pub captures : Bool
+  pub recording : Recording
 
 -- before any event
-abbrev pub first_telling : DomainConf → Telling
-first_telling d = record { world = first_world d; counts = no_counts; frames = written_header; report = []; captures = true }
-
--- the same without a capture
-abbrev pub uncaptured : Telling → Telling
-uncaptured t = record { world = t.world; counts = t.counts; frames = []; report = t.report; captures = false }
+abbrev pub first_telling : Recording → DomainConf → Telling
+first_telling recording d = record { world = first_world d; counts = no_counts; frames = capture_front recording d.routers; report = []; recording = recording }
 
 -- the capture records of what an event sent
-abbrev pub sent_records : List RouterConf → ℕ → List Sending → List ℕ
-sent_records routers line sendings = flat_map (sending_record routers) (on_line line sendings)
+abbrev pub sent_records : Recording → List RouterConf → ℕ → List Sending → List ℕ
+sent_records recording routers line sendings = flat_map (sending_record recording routers) (on_line line sendings)
 
 abbrev pub tells_made : ℕ → Telling → Event → Happened → Telling
 tells_made line t e n =
     record {
       world = n.world;
       counts = counted t.counts e n.made.got n.made.drops;
-      frames = with_records t.captures t.frames (sent_records t.world.domain.routers line n.made.sent);
+      frames = t.frames ++ sent_records t.recording t.world.domain.routers line n.made.sent;
       report = t.report ++ made_text t.world.domain.routers line n.made;
-      captures = t.captures;
+      recording = t.recording;
     }
 
 -- one more event, of a line
@@ -58,19 +53,19 @@ tells line t e = tells_made line t e (happens t.world e)
 
 -- ---- a running domain
 
--- The current world, the counts, and whether what is sent goes into the capture: the reported run without its texts.
+-- The current world, the counts, and how what is sent is recorded: the reported run without its texts.
 pub record ReplayState : Type 0 where
   pub world : WorldState
   pub counts : Counts
-  pub captures : Bool
+  pub recording : Recording
 
 -- before any event
-abbrev pub first_state : (captures : Bool) → DomainConf → ReplayState
-first_state captures d = record { world = first_world d; counts = no_counts; captures = captures }
+abbrev pub first_state : Recording → DomainConf → ReplayState
+first_state recording d = record { world = first_world d; counts = no_counts; recording = recording }
 
 -- the reported run, with the contents of both texts
 abbrev pub with_texts : ReplayState → Texts → Telling
-with_texts s texts = record { world = s.world; counts = s.counts; frames = texts.frames; report = texts.report; captures = s.captures }
+with_texts s texts = record { world = s.world; counts = s.counts; frames = texts.frames; report = texts.report; recording = s.recording }
 
 -- ---- lines
 
@@ -78,10 +73,6 @@ with_texts s texts = record { world = s.world; counts = s.counts; frames = texts
 pub record Told : Type 0 where
   pub telling : Telling
   pub refused : Option EventFault
-
--- the same without a capture
-abbrev pub uncaptured_told : Told → Told
-uncaptured_told t = record { telling = uncaptured t.telling; refused = t.refused }
 
 abbrev pub told : Telling → Told
 told t = record { telling = t; refused = None }
@@ -108,8 +99,9 @@ tells_line line t said = tells_all line (told t) (line_events t.world said)
 -- ---- of a run
 
 -- what is reported of a run: its world, its counts and its texts
-abbrev pub telling_of : DomainConf → Run → Telling
-telling_of d r = record { world = r.world; counts = counts_of r; frames = capture_text d r; report = run_text d r; captures = true }
+abbrev pub telling_of : Recording → DomainConf → Run → Telling
+telling_of recording d r =
+    record { world = r.world; counts = counts_of r; frames = capture_text recording d r; report = run_text d r; recording = recording }
 
 -- The invariant of every run of a domain: its events led to its world, and the domain and its routers exist.
 pub record IsRunOf (d : DomainConf) (r : Run) : Type 0 where
@@ -145,7 +137,7 @@ abbrev pub at_line : ℕ → Option EventFault → Option (ℕ × EventFault)
 at_line line refused = option_map (λ why. (line, why)) refused
 
 -- A line that is reported is a line that is executed: as far, and rejected for the same reason.
-pub record IsToldSo (d : DomainConf) (line : ℕ) (p : Progress) (t : Told) : Type 0 where
+pub record IsToldSo (recording : Recording) (d : DomainConf) (line : ℕ) (p : Progress) (t : Told) : Type 0 where
   pub run : IsRunOf d p.run
-  pub telling : t.telling ≡ telling_of d p.run
+  pub telling : t.telling ≡ telling_of recording d p.run
   pub refused : p.refused ≡ at_line line t.refused

@@ -13,6 +13,7 @@ use Rattle.domain_model.specs.World.{WorldState, first_world, ids_in_flight}
 use Rattle.domain_model.specs.Moves.{Made}
 use Rattle.domain_model.specs.Step.{happens}
 use Rattle.domain_model.specs.Run.{Run, first_run, Progress, line_done}
+use Rattle.replay_report.specs.declared.recording.Recording.{Recording}
 use Rattle.replay_report.specs.Captures.{capture_of}
 use Rattle.replay_report.specs.Lines.{event_text, done_text, text_refused_text, event_refused_text, too_long}
 use Rattle.replay_text.specs.Fault.{fault_text}
@@ -33,9 +34,9 @@ unfoldable pub events_text : WorldState → List (ℕ × Event) → List ℕ
 events_text w [] = []
 events_text w (e ∷ es) = made_text w.domain.routers e.0 (happens w e.1).made ++ events_text (happens w e.1).world es
 
--- one record per frame that was sent
-unfoldable pub capture_text : DomainConf → Run → List ℕ
-capture_text d r = capture_of d.routers r.sent
+-- its capture: one record per frame that was sent
+unfoldable pub capture_text : Recording → DomainConf → Run → List ℕ
+capture_text recording d r = capture_of recording d.routers r.sent
 
 -- the lines of all events
 unfoldable pub run_text : DomainConf → Run → List ℕ

@@ -9,6 +9,9 @@ mod laws;
 mod replay;
 mod reported_world;
 
-pub use laws::{a_start_is_told, each_line_is_told, each_line_is_told_uncaptured};
+pub use domain_core::confs_of;
+pub use laws::{a_start_is_told, each_line_is_told};
 pub use replay::Replay;
-pub use replay_report::{push_event_refused, push_text_refused, push_too_long};
+pub use replay_report::{
+    Recording, push_event_refused, push_front, push_text_refused, push_too_long,
+};

@@ -1,5 +1,5 @@
 //! A domain that runs a schedule.
-ghost use Rattle.std.specs.Prelude.{◌≡◌, ◌≢◌, ◌++◌, length, Some, true, false, IfOk, IfErr, OnOk, OnErr};
+ghost use Rattle.std.specs.Prelude.{◌≡◌, ◌≢◌, ◌++◌, length, Some, IfOk, IfErr, OnOk, OnErr};
 ghost use Rattle.replay_text.specs.Events.{LineFits};
 ghost use Rattle.domain_model.specs.declared.fault.EventFault.TheVariants as fault;
 ghost use Rattle.domain_model.specs.World.{ids_in_flight};
@@ -10,7 +10,7 @@ ghost use Rattle.domain_replay.specs.Replaying.{StopsIn};
 
 use crate::reported_world::ReportedWorld;
 use domain_model::EventFault;
-use replay_report::{Direction, push_done};
+use replay_report::{Direction, Recording, push_done};
 use replay_text::Line;
 use run_texts::Texts;
 use std::alloc::Global;
@@ -39,26 +39,13 @@ impl Model for Replay {
 }
 
 impl Replay {
-    fn start(alloc: Global, domain: Domain, captures: bool) -> M<Self>
-        ensures { IfOk result (λ replay. replay ≡ first_state captures domain) }
+    /// Returns a domain that has just started, whose frames are recorded in that way.
+    pub fn new(alloc: Global, domain: Domain, recording: Recording) -> M<Self>
+        ensures { IfOk result (λ replay. replay ≡ first_state recording domain) }
     {
-        let told = ReportedWorld::new(alloc, domain, captures)?;
+        let told = ReportedWorld::new(alloc, domain, recording)?;
         let directions = told.directions(alloc)?;
         Ok(Replay { told, directions })
-    }
-
-    /// Returns a domain that has just started.
-    pub fn new(alloc: Global, domain: Domain) -> M<Self>
-        ensures { IfOk result (λ replay. replay ≡ first_state true domain) }
-    {
-        Replay::start(alloc, domain, true)
-    }
-
-    /// Returns the same for a run without a capture: no frame is appended. A domain sends far more than it delivers.
-    pub fn uncaptured(alloc: Global, domain: Domain) -> M<Self>
-        ensures { IfOk result (λ replay. replay ≡ first_state false domain) }
-    {
-        Replay::start(alloc, domain, false)
     }
 
     /// Executes a line of the schedule, up to an event that is not allowed, and reports it with the number of the line.

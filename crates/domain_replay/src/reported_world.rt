@@ -1,12 +1,12 @@
 //! A running domain whose events are reported as they are executed.
-ghost use Rattle.std.specs.Prelude.{◌≡◌, ◌≢◌, ◌∷◌, ◌++◌, length, Some, None, IfOk, OnOk, OnErr, [], flat_map};
+ghost use Rattle.std.specs.Prelude.{◌≡◌, ◌≢◌, ◌∷◌, ◌++◌, length, Some, None, IfOk, OnOk, OnErr, []};
 ghost use Rattle.std.specs.List.{AllByRecursion};
 ghost use Rattle.replay_text.specs.Events.{LineFits};
 ghost use Rattle.replay_text.specs.declared.event.Event.TheVariants as events;
 ghost use Rattle.domain_model.specs.World.{link_between, frames_between};
 ghost use Rattle.domain_model.specs.Run as run;
 ghost use Rattle.domain_model.specs.Run.{taken_now, round_events, line_events};
-ghost use Rattle.replay_report.specs.Captures.{wire_record, with_records, AreShort};
+ghost use Rattle.replay_report.specs.Captures.{wire_records, AreShort};
 ghost use Rattle.replay_report.specs.Counting.{counted, NamesOnce};
 ghost use Rattle.replay_report.specs.Lines.{event_text};
 ghost use Rattle.domain_replay.specs.Telling.{first_state, with_texts, told, reports_on, tells_all, tells_line, LineNamesOnce};
@@ -15,19 +15,19 @@ ghost use Rattle.domain_replay.specs.Replaying.{Tells, StopsIn, IsAsked, IsJoini
 use crate::asked::numbers_fit;
 use domain_core::{EventFault, World, confs_of};
 use domain_model::StepOut;
-use replay_report::{Counts, Direction, directions, push_made};
+use replay_report::{Counts, Direction, Recording, directions, push_made};
 use replay_text::{Event, Line};
 use run_texts::Texts;
 use std::alloc::Global;
 use std::marker::Model;
 use wire_base::{Domain, M, Rows};
 
-/// A running domain, its counts, and whether what is sent goes into a capture.
+/// A running domain, its counts, and how what is sent is recorded.
 #[derive(Drop)]
 pub struct ReportedWorld {
     pub world: World,
     pub counts: Counts,
-    pub captures: bool,
+    pub recording: Recording,
 }
 
 impl Model for ReportedWorld {
@@ -35,18 +35,18 @@ impl Model for ReportedWorld {
 
     ghost Value = { ReplayState };
 
-    ghost view = { λ t. record { world = t.world.world; counts = t.counts; captures = t.captures } };
+    ghost view = { λ t. record { world = t.world.world; counts = t.counts; recording = t.recording } };
 }
 
 impl ReportedWorld {
     /// Returns a domain that has just started, with counts of zero.
-    pub(crate) fn new(alloc: Global, domain: Domain, captures: bool) -> M<Self>
-        ensures { IfOk result (λ told. told ≡ first_state captures domain) }
+    pub(crate) fn new(alloc: Global, domain: Domain, recording: Recording) -> M<Self>
+        ensures { IfOk result (λ told. told ≡ first_state recording domain) }
     {
         Ok(ReportedWorld {
             world: World::new(alloc, domain)?,
             counts: Counts::none(),
-            captures,
+            recording,
         })
     }
 
@@ -63,13 +63,13 @@ impl ReportedWorld {
         requires once { NamesOnce event.now }
         requires short { AreShort made.now.sent }
         ensures state { OnOk result (self.new ≡ record self.old { counts = counted self.old.counts event.now made.now.got made.now.drops }) }
-        ensures frames { OnOk result (texts.new.frames ≡ with_records self.old.captures texts.old.frames (flat_map (wire_record line) made.now.sent)) }
+        ensures frames { OnOk result (texts.new.frames ≡ texts.old.frames ++ wire_records self.old.recording self.old.world.domain.routers line made.now.sent) }
         ensures report { OnOk result (texts.new.report ≡ texts.old.report ++ event_text self.old.world.domain.routers line made.now.got made.now.drops) }
         ensures err { OnErr result ((self.new ≡ self.old) × (texts.new ≡ texts.old)) }
     {
         let counts = self.counts.with(event, made)?;
-        let routers = self.world.domain().routers.as_slice();
-        push_made(alloc, texts, self.captures, routers, line, made)?;
+        let routers = confs_of(self.world.domain());
+        push_made(alloc, texts, self.recording, routers, line, made)?;
         self.counts = counts;
         Ok(())
     }

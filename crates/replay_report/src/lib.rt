@@ -8,13 +8,16 @@
 mod capture;
 mod counts;
 mod direction;
+mod interfaces;
 mod lines;
 mod made;
+mod recording;
 mod refused;
 
-pub use capture::push_frames;
+pub use capture::{push_frames, push_front};
 pub use counts::Counts;
 pub use direction::{Direction, directions};
 pub use lines::{push_done, push_event};
 pub use made::push_made;
+pub use recording::Recording;
 pub use refused::{push_event_refused, push_text_refused, push_too_long};

@@ -1,6 +1,7 @@
-use Rattle.std.proofs.Common.{◌≡◌, ℕ, List, ◌++◌, ap, ◌∙◌}
+use Rattle.std.proofs.Common.{◌≡◌, ℕ, List, ◌++◌, ap₂, ◌∙◌}
+use Rattle.wire_base.specs.declared.conf.RouterConf.{RouterConf}
 use Rattle.wire_base.specs.declared.status.Status.TheVariants as status
-use Rattle.wire_base.specs.model.Capture.{written_header}
+use Rattle.replay_report.specs.Captures.{capture_front}
 use Rattle.command_drive.specs.Reading.{Ends, Fails}
 use Rattle.command_drive.proofs.Meanings.{drives_as}
 use Rattle.command_drive.proofs.Untouched.{drives_none}
@@ -9,20 +10,21 @@ use Rattle.command_replay.proofs.Answered.{answer_met, cut_met}
 use Rattle.command_replay.proofs.replay_command.play.Goals as goal
 
 pub returns-in_default : goal.returns-in_default
-returns-in_default g c = drives_none g.S.Source g.C.Sink g.R.Sink status.InputRefused (schedule_means c.args.domain) c.args.input.now c.args.frames.now c.args.report.now
+returns-in_default g c = drives_none g.S.Source g.C.Sink g.R.Sink status.InputRefused (schedule_means c.args.recording c.args.domain) c.args.input.now c.args.frames.now c.args.report.now
 
-pub returns-in_default-write_cap_header : goal.returns-in_default-write_cap_header
-returns-in_default-write_cap_header g c = drives_none g.S.Source g.C.Sink g.R.Sink status.InputRefused (schedule_means c.args.domain) c.args.input.now c.args.frames.now c.args.report.now
+pub returns-in_default-push_front : goal.returns-in_default-push_front
+returns-in_default-push_front g c = drives_none g.S.Source g.C.Sink g.R.Sink status.InputRefused (schedule_means c.args.recording c.args.domain) c.args.input.now c.args.frames.now c.args.report.now
 
 pub returns-in_default-new : goal.returns-in_default-new
-returns-in_default-new g c = drives_none g.S.Source g.C.Sink g.R.Sink status.InputRefused (schedule_means c.args.domain) c.args.input.now c.args.frames.now c.args.report.now
+returns-in_default-new g c = drives_none g.S.Source g.C.Sink g.R.Sink status.InputRefused (schedule_means c.args.recording c.args.domain) c.args.input.now c.args.frames.now c.args.report.now
 
 pub returns : goal.returns
 returns g c =
     let r = c.in-Ok-new.replaying in
     let e = c.in-Ok-new.ensures in
-    let header : c.write_cap_header.new.out ≡ written_header = c.in-Ok-write_cap_header.ensures.ok ∙ ap (λ (l : List ℕ). l ++ written_header) c.new-texts.ensures.frames in
-    drives_as g.S.Source g.C.Sink g.R.Sink status.InputRefused _ (schedule_means c.args.domain) c.drive.result _ _ _ _ _ _
-    (λ octets. answer_met c.args.domain r.replay r.names r.line r.rounds c.new-texts.result.report c.write_cap_header.new.out e.replay e.names e.line e.rounds c.new-texts.ensures.report header _ octets (c.in-Ok.ensures.fresh Ends octets))
-    (λ octets failed. cut_met c.args.domain r.replay r.names r.line r.rounds c.new-texts.result.report c.write_cap_header.new.out e.replay e.names e.line e.rounds c.new-texts.ensures.report header _ octets (c.in-Ok.ensures.fresh Fails octets) failed)
+    let front = capture_front c.args.recording c.args.domain.routers in
+    let header : c.push_front.new.out ≡ front = c.in-Ok-push_front.ensures.ok ∙ ap₂ (λ (l : List ℕ) (rs : List RouterConf). l ++ capture_front c.args.recording rs) c.new-texts.ensures.frames c.confs_of.ensures.confs in
+    drives_as g.S.Source g.C.Sink g.R.Sink status.InputRefused _ (schedule_means c.args.recording c.args.domain) c.drive.result _ _ _ _ _ _
+    (λ octets. answer_met c.args.recording c.args.domain r.replay r.names r.line r.rounds c.new-texts.result.report c.push_front.new.out e.replay e.names e.line e.rounds c.new-texts.ensures.report header _ octets (c.in-Ok.ensures.fresh Ends octets))
+    (λ octets failed. cut_met c.args.recording c.args.domain r.replay r.names r.line r.rounds c.new-texts.result.report c.push_front.new.out e.replay e.names e.line e.rounds c.new-texts.ensures.report header _ octets (c.in-Ok.ensures.fresh Fails octets) failed)
     c.drive.ensures
