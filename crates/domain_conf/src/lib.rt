@@ -21,4 +21,5 @@ mod rows;
 mod subdomains;
 
 pub use fault::ConfFault;
+pub use forms::system_octets;
 pub use read::read_domain;

@@ -26,7 +26,7 @@ use Rattle.replay_text.specs.Schedule.{router_named, link_named, frame_named, ev
 use Rattle.replay_text.specs.Pieces.{words_of}
 use Rattle.replay_text.specs.Tokens.{number_of}
 use Rattle.domain_replay.specs.Texts.{events_text, capture_text, run_text, report_text, lines_reach, schedule_reaches}
-use Rattle.replay_report.specs.Captures.{frame_record}
+use Rattle.replay_report.specs.Captures.{frame_record, capture_front}
 use Rattle.std.specs.Fmt.{digits}
 use Rattle.hex.specs.Hex.{decode_pairs}
 use Rattle.replay_text.specs.Arguments.{listed_ids, numbers_to, payload_of}
@@ -55,7 +55,7 @@ runs_on_literals = tt
 
 -- the lines of a schedule, and both texts
 unfoldable pub texts_on_literals : ⊤
-unfolding router_named link_named frame_named event_line schedule_words schedule_line words_of number_of events_text capture_text run_text report_text lines_reach schedule_reaches frame_record frame_of digits
+unfolding router_named link_named frame_named event_line schedule_words schedule_line words_of number_of events_text capture_text run_text report_text lines_reach schedule_reaches frame_record capture_front frame_of digits
 texts_on_literals = tt
 
 -- the arguments of lines

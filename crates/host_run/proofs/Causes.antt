@@ -5,7 +5,7 @@ use Rattle.wire_base.specs.declared.outside.Source as source
 use Rattle.wire_base.specs.declared.outside.Sink as sink
 use Rattle.wire_base.specs.declared.status.Status.{Status}
 use Rattle.wire_base.specs.declared.status.Status.TheVariants.{ReadFault, WriteFault}
-use Rattle.command_line.specs.CommandLine.{CommandLine, Replay, Node, Hop, Headers, Grow, Unknown}
+use Rattle.command_line.specs.CommandLine.{CommandLine, Replay, Node, Hop, Headers, Grow, Topo, Unknown}
 use Rattle.command_line.specs.Form as form
 use Rattle.command_line.specs.Form.{Form}
 use Rattle.command_line.specs.Words.{form_of}
@@ -24,12 +24,13 @@ module _ {D S C R : Type 0} (d : source.Ghosts D) (s : source.Ghosts S) (c : sin
 
   pub read_from : (line : CommandLine) → LeavesAlone (form_of line) ended conf conf_now input input_now frames frames_now
       → CountsFaults d s c r ended conf conf_now input input_now frames frames_now report report_now → ended ≡ ReadFault → is_some (input_path line) ≡ true
-  read_from (Replay of_conf schedule of_frames) alone counts is = refl
+  read_from (Replay format of_conf schedule of_frames) alone counts is = refl
   read_from (Node of_conf router capture of_frames) alone counts is = refl
   read_from (Hop of_input) alone counts is = refl
   read_from (Headers capture) alone counts is = refl
-  read_from (Grow n) alone counts is = absurd (unread (form.Grow n) (alone.conf (λ e. cc) (λ e. cc)) (alone.unread (inr (n, refl))) counts is)
-  read_from Unknown alone counts is = absurd (unread form.Unknown (alone.conf (λ e. cc) (λ e. cc)) (alone.unread (inl refl)) counts is)
+  read_from (Topo capture level mt from) alone counts is = refl
+  read_from (Grow n) alone counts is = absurd (unread (form.Grow n) (alone.conf (λ format e. cc) (λ e. cc)) (alone.unread (inr (n, refl))) counts is)
+  read_from Unknown alone counts is = absurd (unread form.Unknown (alone.conf (λ format e. cc) (λ e. cc)) (alone.unread (inl refl)) counts is)
 
   -- where the frames aren't used, only the report fails
   unwritten : frames_now ≡ frames → CountsFaults d s c r ended conf conf_now input input_now frames frames_now report report_now → ended ≡ WriteFault
@@ -42,9 +43,10 @@ module _ {D S C R : Type 0} (d : source.Ghosts D) (s : source.Ghosts S) (c : sin
   pub written_to : (line : CommandLine) → LeavesAlone (form_of line) ended conf conf_now input input_now frames frames_now
       → CountsFaults d s c r ended conf conf_now input input_now frames frames_now report report_now → ended ≡ WriteFault
       → (is_some (frames_path line) ≡ true) ⊎ ((r.faults report < r.faults report_now) ⊎ (r.zeros report < r.zeros report_now))
-  written_to (Replay of_conf schedule of_frames) alone counts is = inl refl
+  written_to (Replay format of_conf schedule of_frames) alone counts is = inl refl
   written_to (Node of_conf router capture of_frames) alone counts is = inl refl
-  written_to (Hop of_input) alone counts is = inr (unwritten (alone.frames (λ e. cc) (λ e. cc)) counts is)
-  written_to (Headers capture) alone counts is = inr (unwritten (alone.frames (λ e. cc) (λ e. cc)) counts is)
-  written_to (Grow n) alone counts is = inr (unwritten (alone.frames (λ e. cc) (λ e. cc)) counts is)
-  written_to Unknown alone counts is = inr (unwritten (alone.frames (λ e. cc) (λ e. cc)) counts is)
+  written_to (Hop of_input) alone counts is = inr (unwritten (alone.frames (λ format e. cc) (λ e. cc)) counts is)
+  written_to (Headers capture) alone counts is = inr (unwritten (alone.frames (λ format e. cc) (λ e. cc)) counts is)
+  written_to (Topo capture level mt from) alone counts is = inr (unwritten (alone.frames (λ format e. cc) (λ e. cc)) counts is)
+  written_to (Grow n) alone counts is = inr (unwritten (alone.frames (λ format e. cc) (λ e. cc)) counts is)
+  written_to Unknown alone counts is = inr (unwritten (alone.frames (λ format e. cc) (λ e. cc)) counts is)

@@ -2,7 +2,7 @@
 use Rattle.std.proofs.Common.{◌≡◌, ℕ, List, [], Option, Some, None, subst}
 use Rattle.std.specs.Prelude.{IfSome}
 use Rattle.std.specs.Borrow.{Bor}
-use Rattle.command_line.specs.CommandLine.{CommandLine, Replay, Node, Hop, Headers, Grow, Unknown}
+use Rattle.command_line.specs.CommandLine.{CommandLine, Replay, Node, Hop, Headers, Grow, Topo, Unknown}
 use Rattle.command_line.specs.Form as form
 use Rattle.command_line.specs.Words.{form_of, router_of}
 use Rattle.tool_host.specs.Named.{AreNamed, conf_path, input_path}
@@ -16,14 +16,15 @@ pub at_paths : (at : List ℕ → Option (List ℕ)) (line : CommandLine) (conf 
     → IfSome (verdict (form_of line) (router_of line) (at conf) (at input)) Holds
     → IfSome (verdict (form_of line) (router_of line) (held at (conf_path line)) (held at (input_path line))) Holds
 unfolding verdict
-at_paths at (Replay conf schedule frames) c i Holds is_conf is_input holds =
-    subst (λ (p : List ℕ). IfSome (verdict form.Replay [] (at p) (at schedule)) Holds) is_conf
-    (subst (λ (p : List ℕ). IfSome (verdict form.Replay [] (at c) (at p)) Holds) is_input holds)
+at_paths at (Replay format conf schedule frames) c i Holds is_conf is_input holds =
+    subst (λ (p : List ℕ). IfSome (verdict (form.Replay format) [] (at p) (at schedule)) Holds) is_conf
+    (subst (λ (p : List ℕ). IfSome (verdict (form.Replay format) [] (at c) (at p)) Holds) is_input holds)
 at_paths at (Node conf router capture frames) c i Holds is_conf is_input holds =
     subst (λ (p : List ℕ). IfSome (verdict form.Node router (at p) (at capture)) Holds) is_conf
     (subst (λ (p : List ℕ). IfSome (verdict form.Node router (at c) (at p)) Holds) is_input holds)
 at_paths at (Hop input) c i Holds is_conf is_input holds = subst (λ (p : List ℕ). IfSome (verdict form.Hop [] None (at p)) Holds) is_input holds
 at_paths at (Headers capture) c i Holds is_conf is_input holds = subst (λ (p : List ℕ). IfSome (verdict form.Headers [] None (at p)) Holds) is_input holds
+at_paths at (Topo capture level mt from) c i Holds is_conf is_input holds = subst (λ (p : List ℕ). IfSome (verdict (form.Topo level mt from) [] None (at p)) Holds) is_input holds
 at_paths at (Grow routers) c i Holds is_conf is_input holds = holds
 at_paths at Unknown c i Holds is_conf is_input holds = holds
 

@@ -7,8 +7,8 @@ use Rattle.wire_base.specs.declared.outside.Sink as sink
 use Rattle.wire_base.specs.declared.status.Status.{Status}
 use Rattle.wire_base.specs.declared.status.Status.TheVariants.{Done, WriteFault, Memory}
 use Rattle.command_line.specs.Form.{Form}
-use Rattle.command_line.specs.Form.{Replay, Node}
-use Rattle.command_line.specs.Words.{IsGrow}
+use Rattle.command_line.specs.Form.{Node}
+use Rattle.command_line.specs.Words.{IsGrow, IsReplay}
 use Rattle.command_drive.specs.Answer.{IsDecided}
 use Rattle.command_drive.specs.Outside.{Meets}
 use Rattle.replay_run.specs.Endings.{ComesOn}
@@ -26,7 +26,7 @@ module _ {D S C R : Type 0} {d : source.Ghosts D} {s : source.Ghosts S} {c : sin
     {conf conf_now : D} {input input_now : S} {frames frames_now : C} {report report_now : R} where
   pub answers_by : (IsDecided ended → OnHeld form router (d.left conf) (s.left input) (λ owed. Meets owed ended (r.written report) (r.written report_now) (c.written frames) (c.written frames_now)))
       → ComesOn form ended → CountsFaults d s c r ended conf conf_now input input_now frames frames_now report report_now
-      → (ended ≡ Done → IsGrow form ⊎ IsAtEnd (s.left input_now)) → ((form ≡ Replay) ⊎ (form ≡ Node) → ended ≡ Done → IsAtEnd (d.left conf_now))
+      → (ended ≡ Done → IsGrow form ⊎ IsAtEnd (s.left input_now)) → (IsReplay form ⊎ (form ≡ Node) → ended ≡ Done → IsAtEnd (d.left conf_now))
       → Answers d s c r form router ended conf conf_now input input_now frames frames_now report report_now
   answers_by held comes counts whole whole_conf = record {
     verdict = λ decided.

@@ -8,32 +8,34 @@ use Rattle.wire_base.specs.declared.conf.RouterConf.{RouterConf}
 use Rattle.wire_base.specs.model.Configuration.{DomainConf}
 use Rattle.domain_conf.specs.Domain.{domain_of}
 use Rattle.domain_conf.specs.declared.fault.ConfFault.{ConfFault}
+use Rattle.command_line.specs.declared.arguments.CaptureFormat.{CaptureFormat}
 use Rattle.command_line.specs.Form.{Form}
-use Rattle.command_line.specs.Form.{Replay, Node, Hop, Headers, Grow, Unknown}
+use Rattle.command_line.specs.Form.{Replay, Node, Hop, Headers, Grow, Topo, Unknown}
+use Rattle.wire_base.specs.declared.addresses.SystemId.{SystemId}
+use Rattle.wire_base.specs.declared.conf.Level.{Level}
 use Rattle.command_line.specs.Words.{usage_text}
 use Rattle.command_node.specs.Routers.{router_named}
 use Rattle.command_grow.specs.Grow.{grow_answer, GoesThrough, ends_by, grown_run}
 use Rattle.domain_model.specs.declared.fault.EventFault.{EventFault}
-use Rattle.command_hop.specs.HopText.{hop_answer, packets_of, IsAllowed}
+use Rattle.command_hop.specs.HopText.{hop_answer, packets_of}
 use Rattle.command_hop.specs.Partition.{Reports}
 use Rattle.command_drive.specs.Answer.{Verdict}
-use Rattle.replay_run.specs.Verdict.{verdict, replay_on, node_on}
+use Rattle.replay_run.specs.Verdict.{verdict, query_of, replay_on, node_on}
+use Rattle.command_topo.specs.TopoText.{topo_answer}
 use Rattle.command_node.specs.Named.{reported, node_by}
 use Rattle.command_drive.specs.Answer.{IsDecided}
 use Rattle.replay_run.specs.Judged.{OnHeld}
 use Rattle.command_drive.specs.Outside.{Held, Gave, Meets, AppendsFront}
 use Rattle.command_hop.proofs.Packets.{all_parted}
-use Rattle.command_headers.specs.HeadersText.{headers_answer, IsRead}
-use Rattle.command_hop.proofs.Inputs.{allowed_done}
-use Rattle.command_headers.proofs.Steps.{read_done}
+use Rattle.command_headers.specs.HeadersText.{headers_answer}
 use Rattle.command_node.proofs.Told.{nothing_more, no_front, held_some, ended_so}
 
 -- ---- verdicts on what was held
 
 -- a domain file that is refused has its verdict without a schedule
-no_schedule : (read : Result DomainConf ConfFault) (octets : List ℕ) (Holds : Verdict → Type 0) → IfSome (replay_on read (Some octets)) Holds → IfSome (replay_on read None) Holds
-no_schedule (Err why) octets Holds holds = holds
-no_schedule (Ok d) octets Holds holds = tt
+no_schedule : (format : CaptureFormat) (read : Result DomainConf ConfFault) (octets : List ℕ) (Holds : Verdict → Type 0) → IfSome (replay_on format read (Some octets)) Holds → IfSome (replay_on format read None) Holds
+no_schedule format (Err why) octets Holds holds = holds
+no_schedule format (Ok d) octets Holds holds = tt
 
 -- and so has one whose domain has no router of that name, without a capture
 no_octets : (own : Option RouterConf) (octets : List ℕ) (Holds : Verdict → Type 0) → IfSome (node_by own (Some octets)) Holds → IfSome (node_by own None) Holds
@@ -47,12 +49,12 @@ no_capture (Ok d) router octets Holds holds = no_octets (router_named d router) 
 -- the verdict on octets that the sources may have held is that on what they told
 pub told : (form : Form) (router : List ℕ) (conf left : Option (List ℕ)) (Holds : Verdict → Type 0) → OnHeld form router conf left Holds → IfSome (verdict form router conf left) Holds
 unfolding verdict
-told Replay router None left Holds (file, octets, of_conf, of_input, holds) = tt
-told Replay router (Some told_file) None Holds (file, octets, of_conf, of_input, holds) =
-    subst (λ (f : List ℕ). IfSome (replay_on (domain_of f) None) Holds) (sym of_conf) (no_schedule (domain_of file) octets Holds holds)
-told Replay router (Some told_file) (Some told_octets) Holds (file, octets, of_conf, of_input, holds) =
-    subst (λ (f : List ℕ). IfSome (replay_on (domain_of f) (Some told_octets)) Holds) (sym of_conf)
-    (subst (λ (o : List ℕ). IfSome (replay_on (domain_of file) (Some o)) Holds) (sym of_input) holds)
+told (Replay format) router None left Holds (file, octets, of_conf, of_input, holds) = tt
+told (Replay format) router (Some told_file) None Holds (file, octets, of_conf, of_input, holds) =
+    subst (λ (f : List ℕ). IfSome (replay_on format (domain_of f) None) Holds) (sym of_conf) (no_schedule format (domain_of file) octets Holds holds)
+told (Replay format) router (Some told_file) (Some told_octets) Holds (file, octets, of_conf, of_input, holds) =
+    subst (λ (f : List ℕ). IfSome (replay_on format (domain_of f) (Some told_octets)) Holds) (sym of_conf)
+    (subst (λ (o : List ℕ). IfSome (replay_on format (domain_of file) (Some o)) Holds) (sym of_input) holds)
 told Node router None left Holds (file, octets, of_conf, of_input, holds) = tt
 told Node router (Some told_file) None Holds (file, octets, of_conf, of_input, holds) =
     subst (λ (f : List ℕ). IfSome (node_on (domain_of f) router None) Holds) (sym of_conf) (no_capture (domain_of file) router octets Holds holds)
@@ -64,6 +66,8 @@ told Hop router conf (Some held) Holds (file, octets, of_conf, of_input, holds) 
 told Headers router conf None Holds some = tt
 told Headers router conf (Some held) Holds (file, octets, of_conf, of_input, holds) = subst (λ (o : List ℕ). Holds (reported (headers_answer o))) (sym of_input) holds
 told (Grow n) router conf left Holds (file, octets, of_conf, of_input, holds) = holds
+told (Topo level mt from) router conf None Holds some = tt
+told (Topo level mt from) router conf (Some held) Holds (file, octets, of_conf, of_input, holds) = subst (λ (o : List ℕ). Holds (reported (topo_answer (query_of level mt from) o))) (sym of_input) holds
 told Unknown router conf left Holds (file, octets, of_conf, of_input, holds) = holds
 
 -- of a form that is known
@@ -86,57 +90,59 @@ no_fault WriteFault reads reads_now writes writes_now takes takes_now read write
   | inr rose ↦ absurd (omega (arith, rose, t))
 ]
 
--- ---- `hop`
+-- ---- commands that read an input and write a report
 
-pub hop_holds : (router : List ℕ) (conf left : Option (List ℕ)) (Holds : Verdict → Type 0) → ((octets : List ℕ) × Held left octets × Holds (reported (hop_answer octets))) → OnHeld Hop router conf left Holds
+-- the verdict on a form is what an answer to the input reports
+abbrev pub IsOnInput : Form → (List ℕ → Status × List ℕ) → Type 0
+IsOnInput form answer = (router : List ℕ) (conf : Option (List ℕ)) (octets : List ℕ) → verdict form router conf (Some octets) ≡ Some (reported (answer octets))
+
+pub hop_is : IsOnInput Hop hop_answer
 unfolding verdict
-hop_holds router conf left Holds some =
-    let file = held_some conf in
-    (file.0, some.0, file.1, some.1, some.2)
+hop_is router conf octets = refl
 
-pub hop_meets : (router : List ℕ) (conf left before now frames : Option (List ℕ)) (result : Status) → ((octets : List ℕ) × Held left octets × Gave (hop_answer octets) result before now)
-    → OnHeld Hop router conf left (λ owed. Meets owed result before now frames frames)
-hop_meets router conf left before now frames result gave =
-    hop_holds router conf left (λ owed. Meets owed result before now frames frames)
-    (gave.0, gave.1, record { status = gave.2.status; report = gave.2.report; frames = nothing_more frames })
+pub headers_is : IsOnInput Headers headers_answer
+unfolding verdict
+headers_is router conf octets = refl
 
-pub hop_front : (router : List ℕ) (conf left before now frames : Option (List ℕ)) → ((octets : List ℕ) × Held left octets × AppendsFront before now (hop_answer octets).1)
-    → OnHeld Hop router conf left (λ owed. AppendsFront before now owed.report × AppendsFront frames frames owed.frames)
-hop_front router conf left before now frames front =
-    hop_holds router conf left (λ owed. AppendsFront before now owed.report × AppendsFront frames frames owed.frames) (front.0, front.1, (front.2, no_front frames []))
+pub topo_is : (level : Level) (mt : ℕ) (from : SystemId) → IsOnInput (Topo level mt from) (topo_answer (query_of level mt from))
+unfolding verdict
+topo_is level mt from router conf octets = refl
 
-pub hop_done : (result : Status) (left before now : Option (List ℕ)) (reads reads_now writes writes_now takes takes_now : ℕ)
-    → (IsDecided result → (result ≡ Done) ⊎ (result ≡ InputRefused))
-    → (IsDecided result → (octets : List ℕ) × Held left octets × Gave (hop_answer octets) result before now)
+-- where the arguments are known by two equations
+pub topo_known : {level other : Level} {mt number : ℕ} {from start : SystemId} → (form : Form) → form ≡ Topo level mt from → form ≡ Topo other number start
+    → (level ≡ other) × ((mt ≡ number) × (from ≡ start))
+topo_known {level} {other} {mt} {number} {from} {start} form is_one is_other = let same : Topo level mt from ≡ Topo other number start = sym is_one ∙ is_other in (cc, (cc, cc))
+
+module _ (form : Form) (answer : List ℕ → Status × List ℕ) (is : IsOnInput form answer) (router : List ℕ) (conf left before now frames : Option (List ℕ)) where
+  input_holds : (Holds : Verdict → Type 0) → ((octets : List ℕ) × Held left octets × Holds (reported (answer octets))) → OnHeld form router conf left Holds
+  input_holds Holds some =
+      let file = held_some conf in
+      (file.0, some.0, file.1, some.1, subst (λ (v : Option Verdict). IfSome v Holds) (sym (is router (Some file.0) some.0)) some.2)
+
+  pub input_meets : (result : Status) → ((octets : List ℕ) × Held left octets × Gave (answer octets) result before now) → OnHeld form router conf left (λ owed. Meets owed result before now frames frames)
+  input_meets result gave =
+      input_holds (λ owed. Meets owed result before now frames frames) (gave.0, gave.1, record { status = gave.2.status; report = gave.2.report; frames = nothing_more frames })
+
+  pub input_front : ((octets : List ℕ) × Held left octets × AppendsFront before now (answer octets).1)
+      → OnHeld form router conf left (λ owed. AppendsFront before now owed.report × AppendsFront frames frames owed.frames)
+  input_front front = input_holds (λ owed. AppendsFront before now owed.report × AppendsFront frames frames owed.frames) (front.0, front.1, (front.2, no_front frames []))
+
+-- where inputs of a kind are done to their end, such an input is
+pub input_done : (answer : List ℕ → Status × List ℕ) (Asked : List ℕ → Type 0) → ((octets : List ℕ) → Asked octets → (answer octets).0 ≡ Done)
+    → (result : Status) (left before now : Option (List ℕ)) (reads reads_now writes writes_now takes takes_now : ℕ)
+    → (IsDecided result → (octets : List ℕ) × Held left octets × Gave (answer octets) result before now)
     → (result ≡ ReadFault → reads < reads_now) → (result ≡ WriteFault → (writes < writes_now) ⊎ (takes < takes_now))
-    → IfSome left (λ octets. IsAllowed octets → reads_now ≡ reads → writes_now ≡ writes → takes_now ≡ takes → (result ≡ Done) ⊎ (result ≡ Memory))
-hop_done result None before now reads reads_now writes writes_now takes takes_now statuses answer read write = tt
-hop_done Done (Some octets) before now reads reads_now writes writes_now takes takes_now statuses answer read write = λ allowed r w z. inl refl
-hop_done Memory (Some octets) before now reads reads_now writes writes_now takes takes_now statuses answer read write = λ allowed r w z. inr refl
-hop_done ReadFault (Some octets) before now reads reads_now writes writes_now takes takes_now statuses answer read write = λ allowed r w z. absurd (omega (arith, read refl, r))
-hop_done WriteFault (Some octets) before now reads reads_now writes writes_now takes takes_now statuses answer read write = λ allowed r w z. elim (write refl) [
-  | inl rose ↦ absurd (omega (arith, rose, w))
-  | inr rose ↦ absurd (omega (arith, rose, z))
-]
-hop_done InputRefused (Some octets) before now reads reads_now writes writes_now takes takes_now statuses answer read write = λ allowed r w z.
-    let gave = answer tt in
-    let is : InputRefused ≡ Done = gave.2.status ∙ sym (subst (λ (o : List ℕ). Done ≡ (hop_answer o).0) gave.1 (sym (allowed_done octets allowed))) in
-    absurd (apart is)
-  where
-    apart : InputRefused ≡ Done → ⊥
-    apart e = cc
-hop_done Usage (Some octets) before now reads reads_now writes writes_now takes takes_now statuses answer read write = λ allowed r w z. elim (statuses tt) [
-  | inl e ↦ absurd cc
-  | inr e ↦ absurd cc
-]
-hop_done ConfRefused (Some octets) before now reads reads_now writes writes_now takes takes_now statuses answer read write = λ allowed r w z. elim (statuses tt) [
-  | inl e ↦ absurd cc
-  | inr e ↦ absurd cc
-]
-hop_done CaptureRefused (Some octets) before now reads reads_now writes writes_now takes takes_now statuses answer read write = λ allowed r w z. elim (statuses tt) [
-  | inl e ↦ absurd cc
-  | inr e ↦ absurd cc
-]
+    → IfSome left (λ octets. Asked octets → reads_now ≡ reads → writes_now ≡ writes → takes_now ≡ takes → (result ≡ Done) ⊎ (result ≡ Memory))
+input_done answer Asked done result None before now reads reads_now writes writes_now takes takes_now gives read write = tt
+input_done answer Asked done result (Some octets) before now reads reads_now writes writes_now takes takes_now gives read write = λ asked r w z.
+    elim (no_fault result reads reads_now writes writes_now takes takes_now read write r w z) [
+      | inl decided ↦
+          let gave = gives decided in
+          inl (gave.2.status ∙ subst (λ (o : List ℕ). (answer o).0 ≡ Done) gave.1 (done octets asked))
+      | inr memory ↦ inr memory
+    ]
+
+-- ---- `hop`
 
 reports : (octets : List ℕ) (before now : Option (List ℕ)) (result : Status) → Gave (hop_answer octets) result before now → Reports octets before now
 unfolding hop_answer packets_of
@@ -145,36 +151,6 @@ reports octets before now result gave = record { lines = (_, gave.report); parte
 pub hop_reports : (left before now : Option (List ℕ)) (result : Status) → ((octets : List ℕ) × Held left octets × Gave (hop_answer octets) result before now) → IfSome left (λ octets. Reports octets before now)
 hop_reports None before now result gave = tt
 hop_reports (Some octets) before now result gave = subst (λ (o : List ℕ). Reports o before now) (sym gave.1) (reports gave.0 before now result gave.2)
-
--- ---- `headers`
-
-pub headers_meets : (router : List ℕ) (conf left before now frames : Option (List ℕ)) (result : Status) → ((octets : List ℕ) × Held left octets × Gave (headers_answer octets) result before now)
-    → OnHeld Headers router conf left (λ owed. Meets owed result before now frames frames)
-unfolding verdict
-headers_meets router conf left before now frames result gave =
-    let file = held_some conf in
-    (file.0, gave.0, file.1, gave.1, record { status = gave.2.status; report = gave.2.report; frames = nothing_more frames })
-
-pub headers_front : (router : List ℕ) (conf left before now frames : Option (List ℕ)) → ((octets : List ℕ) × Held left octets × AppendsFront before now (headers_answer octets).1)
-    → OnHeld Headers router conf left (λ owed. AppendsFront before now owed.report × AppendsFront frames frames owed.frames)
-unfolding verdict
-headers_front router conf left before now frames front =
-    let file = held_some conf in
-    (file.0, front.0, file.1, front.1, (front.2, no_front frames []))
-
-pub headers_done : (result : Status) (left before now : Option (List ℕ)) (reads reads_now writes writes_now takes takes_now : ℕ)
-    → (IsDecided result → (result ≡ Done) ⊎ (result ≡ CaptureRefused))
-    → (IsDecided result → (octets : List ℕ) × Held left octets × Gave (headers_answer octets) result before now)
-    → (result ≡ ReadFault → reads < reads_now) → (result ≡ WriteFault → (writes < writes_now) ⊎ (takes < takes_now))
-    → IfSome left (λ octets. IsRead octets → reads_now ≡ reads → writes_now ≡ writes → takes_now ≡ takes → (result ≡ Done) ⊎ (result ≡ Memory))
-headers_done result None before now reads reads_now writes writes_now takes takes_now statuses answer read write = tt
-headers_done result (Some octets) before now reads reads_now writes writes_now takes takes_now statuses answer read write = λ is r w z.
-    elim (no_fault result reads reads_now writes writes_now takes takes_now read write r w z) [
-      | inl decided ↦
-          let gave = answer decided in
-          inl (gave.2.status ∙ subst (λ (o : List ℕ). (headers_answer o).0 ≡ Done) gave.1 (read_done octets is))
-      | inr memory ↦ inr memory
-    ]
 
 -- ---- `grow`
 

@@ -1,5 +1,5 @@
 -- How a run ends: the status by the form of its words, and what it leaves.
-use Rattle.std.specs.Prelude.{ℕ, ◌≡◌, ◌≢◌, ◌⊎◌, ◌<◌, ◌↔◌, false, List, None}
+use Rattle.std.specs.Prelude.{ℕ, ◌≡◌, ◌≢◌, ◌⊎◌, ◌<◌, ◌↔◌, false, List, [], None}
 use Rattle.std.specs.Io.KnownBytes.{Consumes, Appends}
 use Rattle.wire_base.specs.declared.outside.Source as source
 use Rattle.wire_base.specs.declared.outside.Sink as sink
@@ -13,12 +13,14 @@ use Rattle.command_drive.specs.Captures.{IsOpen}
 use Rattle.command_headers.specs.HeadersText.{lines_of}
 use Rattle.command_node.specs.NodeRun.{node_cut, node_reached}
 use Rattle.command_drive.specs.Outside.{Gave, Meets}
+use Rattle.command_line.specs.declared.arguments.CaptureFormat.{CaptureFormat}
 use Rattle.command_line.specs.Form.{Form}
 use Rattle.command_line.specs.Form.{Replay, Node, Hop, Headers, Unknown}
 use Rattle.command_node.specs.DomainFile.{Says}
 use Rattle.command_node.specs.Routers.{SaysRouter}
 use Rattle.command_replay.specs.ScheduleText.{schedule_cut}
-use Rattle.command_line.specs.Words.{IsGrow}
+use Rattle.command_line.specs.Words.{IsGrow, IsReplay, ReadsCapture}
+use Rattle.replay_run.specs.Verdict.{recording_of}
 
 -- the status of a run that could be done, where no count rose
 abbrev pub DoneOrMemory : Status → Type 0
@@ -30,12 +32,12 @@ pub record ComesOn (form : Form) (ended : Status) : Type 0 where
   -- a status that words and octets decide is `Usage` exactly on unknown arguments
   pub usage : IsDecided ended → ((ended ≡ Usage) ↔ (form ≡ Unknown))
   pub usage_or_fault : form ≡ Unknown → (ended ≡ Usage) ⊎ (ended ≡ WriteFault)
-  pub conf_refused : ended ≡ ConfRefused → (form ≡ Replay) ⊎ (form ≡ Node)
-  pub input_refused : ended ≡ InputRefused → (form ≡ Replay) ⊎ ((form ≡ Hop) ⊎ IsGrow form)
-  pub capture_refused : ended ≡ CaptureRefused → (form ≡ Headers) ⊎ (form ≡ Node)
+  pub conf_refused : ended ≡ ConfRefused → IsReplay form ⊎ (form ≡ Node)
+  pub input_refused : ended ≡ InputRefused → IsReplay form ⊎ ((form ≡ Hop) ⊎ IsGrow form)
+  pub capture_refused : ended ≡ CaptureRefused → ReadsCapture form ⊎ (form ≡ Node)
 
--- what `replay` leaves
-pub record ReplayLeaves {D S C R : Type 0} (d : source.Ghosts D) (s : source.Ghosts S) (c : sink.Ghosts C) (r : sink.Ghosts R) (ended : Status)
+-- what `replay` leaves, with a capture in that format
+pub record ReplayLeaves {D S C R : Type 0} (d : source.Ghosts D) (s : source.Ghosts S) (c : sink.Ghosts C) (r : sink.Ghosts R) (format : CaptureFormat) (ended : Status)
     (conf_old conf_new : D) (input_old input_new : S) (frames_old frames_new : C) (report_old report_new : R) : Type 0 where
   -- where the domain file isn't accepted, schedule and frames are as before
   pub accepted : ((input_new ≡ input_old) × (frames_new ≡ frames_old)) ⊎ ((d.faults conf_new ≡ d.faults conf_old) × ((domain : DomainConf) × Says (d.left conf_old) domain))
@@ -48,7 +50,7 @@ pub record ReplayLeaves {D S C R : Type 0} (d : source.Ghosts D) (s : source.Gho
   -- are done and reported, none of them is refused, and there is no last line.
   pub stopped : ended ≡ ReadFault → ((d.faults conf_old < d.faults conf_new) × (input_new ≡ input_old) × (frames_new ≡ frames_old) × (report_new ≡ report_old))
       ⊎ ((d.faults conf_new ≡ d.faults conf_old) × ((domain : DomainConf) × Says (d.left conf_old) domain × ((octets : List ℕ) × Consumes (s.left input_old) (s.left input_new) octets
-      × Meets (schedule_cut domain octets) ended (r.written report_old) (r.written report_new) (c.written frames_old) (c.written frames_new))))
+      × Meets (schedule_cut (recording_of format) domain octets) ended (r.written report_old) (r.written report_new) (c.written frames_old) (c.written frames_new))))
 
 -- what `node` leaves, on the word that names a router
 pub record NodeLeaves {D S C R : Type 0} (d : source.Ghosts D) (s : source.Ghosts S) (c : sink.Ghosts C) (r : sink.Ghosts R) (router : List ℕ) (ended : Status)
@@ -79,11 +81,17 @@ pub record HeadersLeaves {S R : Type 0} (s : source.Ghosts S) (r : sink.Ghosts R
   pub stopped : ended ≡ ReadFault → (octets : List ℕ) × Consumes (s.left input_old) (s.left input_new) octets × IsOpen octets
       × Appends (r.written report_old) (r.written report_new) (lines_of octets)
 
+-- What `topo` leaves where its source failed: no fault of the capture's reader stands in what was taken, and nothing is reported.
+pub record TopoLeaves {S R : Type 0} (s : source.Ghosts S) (r : sink.Ghosts R) (ended : Status) (input_old input_new : S) (report_old report_new : R) : Type 0 where
+  pub finished : ended ≡ ReadFault → r.unfinished report_new ≡ false
+  pub stopped : ended ≡ ReadFault → (octets : List ℕ) × Consumes (s.left input_old) (s.left input_new) octets × IsOpen octets
+      × Appends (r.written report_old) (r.written report_new) []
+
 -- what a run leaves as it was
 pub record LeavesAlone {D S C : Type 0} (form : Form) (ended : Status) (conf_old conf_new : D) (input_old input_new : S) (frames_old frames_new : C) : Type 0 where
   -- what the words don't name
-  pub conf : form ≢ Replay → form ≢ Node → conf_new ≡ conf_old
-  pub frames : form ≢ Replay → form ≢ Node → frames_new ≡ frames_old
+  pub conf : ((format : CaptureFormat) → form ≢ Replay format) → form ≢ Node → conf_new ≡ conf_old
+  pub frames : ((format : CaptureFormat) → form ≢ Replay format) → form ≢ Node → frames_new ≡ frames_old
   pub unread : (form ≡ Unknown) ⊎ IsGrow form → input_new ≡ input_old
   -- schedule or capture and the frames, where the domain file is refused
   pub refused : ended ≡ ConfRefused → (input_new ≡ input_old) × (frames_new ≡ frames_old)

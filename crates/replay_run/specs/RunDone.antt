@@ -11,6 +11,8 @@ use Rattle.domain_model.specs.Run.{Run}
 use Rattle.domain_replay.specs.Texts.{run_text, run_done_text, schedule_reaches}
 use Rattle.command_node.specs.DomainFile.{Says}
 use Rattle.command_drive.specs.Outside.{Held, Meets}
+use Rattle.command_line.specs.declared.arguments.CaptureFormat.{CaptureFormat}
+use Rattle.replay_run.specs.Verdict.{recording_of}
 use Rattle.command_replay.specs.ScheduleText.{answer_to}
 use Rattle.command_drive.specs.Texts.{Close, Cut, close_of, is_short, lines_within}
 
@@ -31,8 +33,8 @@ abbrev pub AreRead : Status → (input input_now : Option (List ℕ)) → List (
 AreRead ReadFault input input_now lines close = (octets : List ℕ) × Consumes input input_now octets × (lines ≡ lines_in false octets) × (close ≡ Cut)
 AreRead ended input input_now lines close = (octets : List ℕ) × Held input octets × (lines ≡ lines_within octets) × (close ≡ close_of (is_short octets))
 
--- A replay ended so, and that holds of the run that it did.
-pub record RunDone {D S C R : Type 0} (d : source.Ghosts D) (s : source.Ghosts S) (c : sink.Ghosts C) (r : sink.Ghosts R) (ended : Status)
+-- A replay with a capture in that format ended so, and that holds of the run that it did.
+pub record RunDone {D S C R : Type 0} (d : source.Ghosts D) (s : source.Ghosts S) (c : sink.Ghosts C) (r : sink.Ghosts R) (format : CaptureFormat) (ended : Status)
     (conf : D) (input_old input_new : S) (frames_old frames_new : C) (report_old report_new : R) (Holds : DomainConf → Run → Type 0) : Type 0 where
   -- the domain that the file says
   pub domain : DomainConf
@@ -42,7 +44,7 @@ pub record RunDone {D S C R : Type 0} (d : source.Ghosts D) (s : source.Ghosts S
   pub close : Close
   pub read : AreRead ended (s.left input_old) (s.left input_new) lines close
   -- the status, the report and the capture are those of the run that the lines reach
-  pub texts : Meets (answer_to close domain lines) ended (r.written report_old) (r.written report_new) (c.written frames_old) (c.written frames_new)
+  pub texts : Meets (answer_to (recording_of format) close domain lines) ended (r.written report_old) (r.written report_new) (c.written frames_old) (c.written frames_new)
   -- where all lines are done, the report is the lines of that run and the last one, with its numbers
   pub last : ended ≡ Done → Appends (r.written report_old) (r.written report_new)
       (run_text domain (schedule_reaches domain lines).run ++ run_done_text (schedule_reaches domain lines).run (length lines))

@@ -6,28 +6,41 @@ use Rattle.domain_conf.specs.Domain.{domain_of}
 use Rattle.domain_conf.specs.declared.fault.ConfFault.{ConfFault}
 use Rattle.command_node.specs.DomainFile.{conf_refused_text}
 use Rattle.command_drive.specs.Answer.{Verdict}
+use Rattle.command_line.specs.declared.arguments.CaptureFormat.{CaptureFormat}
+use Rattle.command_line.specs.declared.arguments.CaptureFormat.TheVariants as formats
 use Rattle.command_line.specs.Form.{Form}
-use Rattle.command_line.specs.Form.{Replay, Node, Hop, Headers, Grow, Unknown}
+use Rattle.command_line.specs.Form.{Replay, Node, Hop, Headers, Grow, Topo, Unknown}
 use Rattle.command_line.specs.Words.{usage_text}
 use Rattle.command_node.specs.Routers.{router_named}
 use Rattle.command_hop.specs.HopText.{hop_answer}
 use Rattle.command_headers.specs.HeadersText.{headers_answer}
+use Rattle.replay_report.specs.declared.recording.Recording.{Recording}
+use Rattle.replay_report.specs.declared.recording.Recording.TheVariants as recordings
 use Rattle.command_replay.specs.ScheduleText.{schedule_answer}
 use Rattle.command_grow.specs.Grow.{grow_answer}
+use Rattle.command_topo.specs.TopoText.{topo_answer}
+use Rattle.command_topo.specs.declared.query.Query.{Query}
+use Rattle.wire_base.specs.declared.addresses.SystemId.{SystemId}
+use Rattle.wire_base.specs.declared.conf.Level.{Level}
 use Rattle.command_node.specs.Named.{reported, node_by}
 
 -- on a domain file that breaks a rule
 abbrev pub conf_refused : ConfFault → Verdict
 conf_refused why = reported (status.ConfRefused, conf_refused_text why)
 
--- on what a domain file says: where it breaks a rule, the schedule doesn't matter
-abbrev pub replay_on : Result DomainConf ConfFault → (schedule : Option (List ℕ)) → Option Verdict
-replay_on (Err why) schedule = Some (conf_refused why)
-replay_on (Ok d) schedule = option_map (λ (octets : List ℕ). schedule_answer d octets) schedule
+-- how frames are recorded in a capture of that format
+abbrev pub recording_of : CaptureFormat → Recording
+recording_of formats.Pcap = recordings.Pcap
+recording_of formats.Pcapng = recordings.Pcapng
 
-abbrev pub replay_verdict : (conf schedule : Option (List ℕ)) → Option Verdict
-replay_verdict None schedule = None
-replay_verdict (Some file) schedule = replay_on (domain_of file) schedule
+-- on what a domain file says: where it breaks a rule, the schedule doesn't matter
+abbrev pub replay_on : CaptureFormat → Result DomainConf ConfFault → (schedule : Option (List ℕ)) → Option Verdict
+replay_on format (Err why) schedule = Some (conf_refused why)
+replay_on format (Ok d) schedule = option_map (λ (octets : List ℕ). schedule_answer (recording_of format) d octets) schedule
+
+abbrev pub replay_verdict : CaptureFormat → (conf schedule : Option (List ℕ)) → Option Verdict
+replay_verdict format None schedule = None
+replay_verdict format (Some file) schedule = replay_on format (domain_of file) schedule
 
 -- on what a domain file says: where it breaks a rule, neither the router nor the capture matters
 abbrev pub node_on : Result DomainConf ConfFault → (router : List ℕ) → (capture : Option (List ℕ)) → Option Verdict
@@ -38,11 +51,16 @@ abbrev pub node_verdict : (router : List ℕ) → (conf capture : Option (List �
 node_verdict router None capture = None
 node_verdict router (Some file) capture = node_on (domain_of file) router capture
 
+-- what `topo` is asked
+abbrev pub query_of : Level → ℕ → SystemId → Query
+query_of level mt from = record { level = level; mt = mt; from = from }
+
 -- the verdict on the form, on the word that names a router, and on what the two sources hold, where those that the form reads tell it
 unfoldable pub verdict : Form → (router : List ℕ) → (conf input : Option (List ℕ)) → Option Verdict
-verdict Replay router conf input = replay_verdict conf input
+verdict (Replay format) router conf input = replay_verdict format conf input
 verdict Node router conf input = node_verdict router conf input
 verdict Hop router conf input = option_map (λ (octets : List ℕ). reported (hop_answer octets)) input
 verdict Headers router conf input = option_map (λ (octets : List ℕ). reported (headers_answer octets)) input
 verdict (Grow n) router conf input = Some (reported (grow_answer n))
+verdict (Topo level mt from) router conf input = option_map (λ (octets : List ℕ). reported (topo_answer (query_of level mt from) octets)) input
 verdict Unknown router conf input = Some (reported (status.Usage, usage_text))

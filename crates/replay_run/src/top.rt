@@ -1,10 +1,11 @@
 //! The top call.
-ghost use Rattle.std.specs.Prelude.{[]};
+ghost use Rattle.std.specs.Prelude.{◌≡◌, []};
 ghost use Rattle.wire_base.specs.declared.status.Status.TheVariants as status;
 ghost use Rattle.command_line.specs.Form as form;
 ghost use Rattle.command_line.specs.Words.{form_in, router_in};
 ghost use Rattle.replay_run.specs.Endings.{ReplayLeaves};
 ghost use Rattle.replay_run.specs.Faults.{MayRise};
+ghost use Rattle.replay_run.specs.Verdict as verdicts;
 ghost use Rattle.replay_run.specs.Run.{Answers, Completes, Leaves, Promises, ReadsDomain};
 
 use crate::node::node;
@@ -12,30 +13,43 @@ use command_drive::deliver;
 use command_grow::grow;
 use command_headers::run_headers;
 use command_hop::{packets_are_parted, run_hop};
-use command_line::{Arguments, USAGE, parse};
+use command_line::{Arguments, CaptureFormat, USAGE, parse};
 use command_node::{NoDomain, domain_in};
 use command_replay::play;
+use command_topo::run_topo;
+use domain_replay::Recording;
 use laws_replay::replays_keep_promises;
 use std::alloc::Global;
 use wire_base::{Sink, Source, Status};
 
-/// All that the program does on the arguments `replay CONF SCHEDULE FRAMES`: where the domain file breaks a rule, it reports that;
-/// else it does the schedule in the domain.
+/// Returns how frames are recorded in a capture of that format.
+fn recording_of(format: CaptureFormat) -> Recording
+    ensures { result ≡ verdicts.recording_of format }
+{
+    match format {
+        CaptureFormat::Pcap => Recording::Pcap,
+        CaptureFormat::Pcapng => Recording::Pcapng,
+    }
+}
+
+/// All that the program does on the arguments `replay CONF SCHEDULE FRAMES` or `replay-ng CONF SCHEDULE FRAMES`: where the domain
+/// file breaks a rule, it reports that; else it does the schedule in the domain.
 fn replay<D: Source, S: Source, C: Sink, R: Sink>(
     alloc: Global,
+    format: CaptureFormat,
     conf: &mut D,
     input: &mut S,
     frames: &mut C,
     report: &mut R,
 ) -> Status
     requires counters { MayRise D.Source S.Source C.Sink R.Sink conf.old input.old frames.old report.old }
-    ensures does { ReadsDomain D.Source S.Source C.Sink R.Sink form.Replay [] status.InputRefused result
+    ensures does { ReadsDomain D.Source S.Source C.Sink R.Sink (form.Replay format) [] status.InputRefused result
         conf.old conf.new input.old input.new frames.old frames.new report.old report.new }
-    ensures leaves { ReplayLeaves D.Source S.Source C.Sink R.Sink result
+    ensures leaves { ReplayLeaves D.Source S.Source C.Sink R.Sink format result
         conf.old conf.new input.old input.new frames.old frames.new report.old report.new }
 {
     match domain_in(alloc, conf) {
-        Ok(domain) => play(alloc, domain, input, frames, report),
+        Ok(domain) => play(alloc, domain, recording_of(format), input, frames, report),
         Err(NoDomain::Refused(line)) => deliver(report, Status::ConfRefused, line.as_slice()),
         Err(NoDomain::Stopped(why)) => why,
     }
@@ -44,10 +58,11 @@ fn replay<D: Source, S: Source, C: Sink, R: Sink>(
 /// All that the program does. It takes the arguments, which name a command, and the objects that the program reads and writes: the
 /// domain file, the input (a schedule, a capture or lines), the frames that it sends, and its report. Returns the exit status.
 ///
-/// The arguments are `replay CONF SCHEDULE FRAMES`, `node CONF ROUTER CAPTURE FRAMES`, `hop INPUT`, `headers CAPTURE` or `grow N`; for
-/// any others the report is the usage line. ROUTER is the name of a router of the domain; if there is none of that name, the domain
-/// file is rejected as one that refers to an unknown name. N is 3 to 250, the number of routers of a domain that is made with its
-/// schedule.
+/// The arguments are `replay CONF SCHEDULE FRAMES`, `replay-ng CONF SCHEDULE FRAMES`, `node CONF ROUTER CAPTURE FRAMES`, `hop INPUT`,
+/// `headers CAPTURE`, `grow N` or `topo CAPTURE LEVEL MT FROM`; for any others the report is the usage line. ROUTER is the name of a
+/// router of the domain; if there is none of that name, the domain file is rejected as one that refers to an unknown name. N is 3 to
+/// 250, the number of routers of a domain that is made with its schedule. LEVEL is 1 or 2, MT a topology from 0 to 4095 (RFC 5120),
+/// and FROM the system ID at which paths begin.
 pub fn run<D: Source, S: Source, C: Sink, R: Sink>(
     alloc: Global,
     words: &[&str],
@@ -81,13 +96,19 @@ pub fn run<D: Source, S: Source, C: Sink, R: Sink>(
     packets_are_parted();
     replays_keep_promises();
     match parse(words) {
-        Arguments::Replay { .. } => replay(alloc, conf, input, frames, report),
+        Arguments::Replay { format, .. } => replay(alloc, format, conf, input, frames, report),
         Arguments::Node { router, .. } => {
             node(alloc, router.as_bytes(), conf, input, frames, report)
         }
         Arguments::Hop { .. } => run_hop(alloc, input, report),
         Arguments::Headers { .. } => run_headers(alloc, input, report),
         Arguments::Grow { routers } => grow(alloc, routers, report),
+        Arguments::Topo {
+            level,
+            mt,
+            from,
+            ..
+        } => run_topo(alloc, level, mt, from, input, report),
         Arguments::Unknown => deliver(report, Status::Usage, USAGE),
     }
 }

@@ -93,12 +93,12 @@ fn capture_of(alloc: Global, records: &str) -> Option<Octets> {
     Some(out)
 }
 
-/// Returns what a command reads: records for `node`, digits for `headers`, otherwise lines. Returns none if the text is
+/// Returns what a command reads: records for `node`, digits for `headers` and `topo`, otherwise lines. Returns none if the text is
 /// invalid, or if an allocation fails.
 pub fn input_of(alloc: Global, words: &str, text: &str) -> Option<Octets> {
     if words.starts_with("node") {
         capture_of(alloc, text)
-    } else if words.starts_with("headers") {
+    } else if words.starts_with("headers") || words.starts_with("topo") {
         octets_of(alloc, text)
     } else {
         lines_of(alloc, text).ok()

@@ -47,6 +47,7 @@ impl<'a, F: FileSystem> Objects<'a, F> {
                 conf,
                 schedule,
                 frames,
+                ..
             } => Objects::at(files, conf, schedule, frames),
             Arguments::Node {
                 conf,
@@ -56,6 +57,7 @@ impl<'a, F: FileSystem> Objects<'a, F> {
             } => Objects::at(files, conf, capture, frames),
             Arguments::Hop { input } => Objects::at(files, "", input, ""),
             Arguments::Headers { capture } => Objects::at(files, "", capture, ""),
+            Arguments::Topo { capture, .. } => Objects::at(files, "", capture, ""),
             Arguments::Grow { .. } | Arguments::Unknown => Objects::at(files, "", "", ""),
         }
     }
