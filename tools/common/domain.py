@@ -2,7 +2,7 @@
 from . import explain, places  # the latter sets where the independent program is found
 from .trouble import Trouble, read_octets
 
-import replay as independent
+import model as independent
 
 
 class Router:
@@ -79,6 +79,44 @@ class Domain:
             if label <= bift <= label + highest:
                 return subdomain, bits, bift - label
         return None
+
+
+def is_topology(octets):
+    """Whether a file is the report of `topo`."""
+    return octets.startswith((b"node ", b"done records "))
+
+
+def topology(path, octets):
+    """The network in a report of `topo`: its routers have their system IDs as names, and no label ranges."""
+    nodes, kinds, edges = {}, {}, []
+    for line in octets.decode("utf-8", "replace").splitlines():
+        word, *rest = line.split()
+        if word == "node":
+            system, state = rest
+            conf = {"name": system, "system": bytes.fromhex(system.replace(".", "")), "prefix": None, "overload": state == "overload"}
+            nodes[system] = {**conf, "subs": [], "ends": []}
+        elif word == "edge":
+            edges.append((rest[0], rest[1], int(rest[2])))
+        elif word == "bier":
+            system, subdomain, bfr_id, prefix = rest
+            kinds[int(subdomain)] = "mpls"
+            nodes[system]["prefix"] = bytes(map(int, prefix.split(".")))
+            nodes[system]["subs"].append({"sd": int(subdomain), "id": int(bfr_id), "ranges": []})
+    if not nodes:
+        raise Trouble(f"{path}: the topology has no nodes")
+    confs, place = list(nodes.values()), {name: at for at, name in enumerate(nodes)}
+    for a, b, metric in edges:
+        if a != b:
+            nodes[a]["ends"].append({"peer_at": place[b], "metric": metric, "peer_mac": b"", "own_mac": b""})
+    for conf in confs:
+        conf["kinds"], conf["table"] = sorted(kinds.items()), []
+    return Domain(confs)
+
+
+def read_network(path):
+    """The network in a domain file, or in the report of `topo`."""
+    octets = read_octets(path)
+    return topology(path, octets) if is_topology(octets) else read_domain(path)
 
 
 def read_domain(path):

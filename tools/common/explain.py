@@ -7,7 +7,7 @@ from . import places  # sets where the independent program is found
 from .lines import lines_of
 from .trouble import Trouble, read_octets
 
-import replay as independent
+import model as independent
 
 LENGTHS = "64, 128, 256, 512, 1024, 2048 or 4096"
 NAME = "the name of a [[router]]"
@@ -224,7 +224,7 @@ def limit_text(place):
 # Captures
 
 CAPTURES = {
-    1: "not a classic pcap file; `editcap -F pcap` converts pcapng, and a compressed file is to be unpacked",
+    1: "not a capture; a compressed file is to be unpacked",
     2: "the version of its format isn't 2.4",
     3: "its link type isn't Ethernet",
     4: "it ends within its file header",
@@ -232,6 +232,13 @@ CAPTURES = {
     6: "that record has more than 262,144 octets",
     7: "that record's time is more than 65,535 seconds ahead",
     8: "it has more than 268,435,456 octets",
+    12: "the byte order of a section is unknown",
+    13: "the major version of a section isn't 1",
+    14: "a block has a wrong length",
+    15: "that packet is on an interface that its section doesn't have",
+    16: "the data of that packet exceed its block, or 262,144 octets",
+    17: "an interface has an unknown time resolution, or the packet's time doesn't fit 32 bits of seconds",
+    18: "it ends within a block",
 }
 
 

@@ -9,7 +9,6 @@ from .network import prefix_number, prefix_text
 from .trouble import Trouble
 
 POINT_TO_POINT, LAN = (17,), (15, 16)  # types of hellos
-PCAPNG = b"\x0a\x0d\x0d\x0a"
 
 
 def feed(pipe, octets):
@@ -205,8 +204,8 @@ class Macs:
 
 def read(path, octets, options):
     reader = Reader(options.until)
-    if octets[:4] == PCAPNG:
-        raise Trouble(f"{path}: a pcapng file; `editcap -F pcap` converts it")
+    if octets[:4] == capture.NG:
+        octets = capture.written(capture.records_in(path, octets))
     reader.read(dumped(path, octets, options.dump))
     network, routers = network_of(reader.lsps.values(), options, path)
     network.notes[:0] = reader.notes

@@ -16,17 +16,21 @@ from .trouble import Trouble
 # the arguments of each command: what each file is to the program
 FORMS = {
     "replay": ("CONF", "SCHEDULE", "FRAMES"),
+    "replay-ng": ("CONF", "SCHEDULE", "FRAMES"),
     "node": ("CONF", "ROUTER", "CAPTURE", "FRAMES"),
     "hop": ("INPUT",),
     "headers": ("CAPTURE",),
     "grow": ("N",),
+    "topo": ("CAPTURE", "LEVEL", "MT", "FROM"),
 }
 READ, WRITTEN = ("CONF", "SCHEDULE", "CAPTURE", "INPUT"), ("FRAMES",)
+NO_FILES = ("ROUTER", "N", "LEVEL", "MT", "FROM")
 EXAMPLES = """each command with an example, from the folder examples/:
   bier_domain replay replay-ring/domain.toml replay-ring/schedule frames.pcap
   bier_domain hop hop-four-receivers/input.hop
   bier_domain node node-television/domain.toml west-4 node-television/capture.pcap frames.pcap
   bier_domain headers headers-of-a-capture/capture.pcap
+  bier_domain topo topo-ipv6/capture.pcap 2 2 0000.0000.0001
   bier_domain grow 40"""
 
 
@@ -47,7 +51,7 @@ def named(arguments):
     kinds = FORMS.get(arguments[0], ()) if arguments else ()
     if len(kinds) != len(arguments) - 1:
         return []
-    return [(kind, path) for kind, path in zip(kinds, arguments[1:]) if kind not in ("ROUTER", "N")]
+    return [(kind, path) for kind, path in zip(kinds, arguments[1:]) if kind not in NO_FILES]
 
 
 def same_file(one, other):

@@ -3,7 +3,7 @@ import re
 
 from . import places  # sets where the independent program is found
 
-import replay as independent
+import model as independent
 
 HEADER = re.compile(r"\[(\[?)\s*([^\[\]]*?)\s*\]")
 KEY = re.compile(r"[\s,{]*([A-Za-z0-9_-]+|\"[^\"\n]*\"|'[^'\n]*')\s*=")

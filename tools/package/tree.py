@@ -81,9 +81,8 @@ def tools():
     for name in TOOLS:
         found[f"{SHARE}/tools/{name}"] = copied(os.path.join(places.TOOLS, name), True)
         found[f"usr/bin/mastdamson-{name}"] = File(target=f"../share/mastdamson/tools/{name}")
-    for part in ("common", "page"):
-        found.update(folder(os.path.join(places.TOOLS, part), f"{SHARE}/tools/{part}"))
-    found[f"{SHARE}/tools/independent/replay.py"] = copied(os.path.join(places.TOOLS, "independent", "replay.py"), True)
+    for part in ("common", "page", "independent"):
+        found.update(folder(os.path.join(places.TOOLS, part), f"{SHARE}/tools/{part}", skip=("compare",)))
     found[PLUGIN] = copied(os.path.join(places.TOOLS, "wireshark", "bier.lua"), False)
     return found
 

@@ -1,4 +1,6 @@
 """The documents: what is made from the sources is current, links lead somewhere, and the field's terms are used."""
+import importlib.machinery
+import importlib.util
 import os
 import re
 import subprocess
@@ -28,6 +30,14 @@ class Documents(unittest.TestCase):
     def test_what_is_made_from_the_sources_is_current(self):
         ran = subprocess.run([sys.executable, os.path.join(places.ROOT, "tools", "documents"), "--check"], capture_output=True, text=True)
         self.assertEqual((ran.returncode, ran.stdout), (0, ""))
+
+    def test_a_law_has_its_own_clauses_alone(self):
+        path = os.path.join(places.ROOT, "tools", "documents")
+        loader = importlib.machinery.SourceFileLoader("documents", path)
+        documents = importlib.util.module_from_spec(importlib.util.spec_from_loader("documents", loader))
+        loader.exec_module(documents)
+        lines = ["pub fn first()", "    ensures one { x }", "{}", "", "pub fn second()", "    ensures two { y }", "{}"]
+        self.assertEqual(documents.clauses(lines, 0), ([], [("one", "x")]))
 
     def test_links_lead_to_files(self):
         for page in pages():

@@ -32,6 +32,16 @@ metric_ab = 10
 metric_ba = 77
 """
 
+TOPOLOGY = """node 0000.0000.0001 transit
+node 0000.0000.0002 overload
+edge 0000.0000.0001 0000.0000.0001 3
+edge 0000.0000.0001 0000.0000.0002 10
+edge 0000.0000.0002 0000.0000.0001 77
+bier 0000.0000.0001 0 7 10.0.0.1
+path 0000.0000.0002 10
+done records 2 lsps 2 nodes 2
+"""
+
 
 def drawn(*words):
     """The picture in Graphviz's language, which needs no Graphviz."""
@@ -62,6 +72,16 @@ class Picture(unittest.TestCase):
         mixed = drawn(write("mixed.toml", DIFFERENT_METRICS))
         self.assertIn('taillabel="10", headlabel="77"', mixed)
         self.assertIn("A\\ntransit\\noverload bit", mixed)
+
+    def test_a_topology(self):
+        """The report of `topo`: nodes, metrics of both directions, BFR-ids and the overload bit."""
+        dot = drawn(write("topology", TOPOLOGY))
+        self.assertIn("0000.0000.0001\\nBFR-id 7", dot)
+        self.assertIn("0000.0000.0002\\nnon-BFR\\noverload bit", dot)
+        self.assertIn('taillabel="10", headlabel="77"', dot)
+        self.assertEqual(dot.count("dir=none"), 1)
+        none = tool("picture", write("no-topology", "done records 3 lsps 0 nodes 0\n"))
+        self.assertEqual((none.returncode, "the topology has no nodes" in none.stderr), (1, True))
 
     def test_a_loop(self):
         """The packet of the ring's example that loops until its TTL expires."""

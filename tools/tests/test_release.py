@@ -86,9 +86,10 @@ class ManPages(unittest.TestCase):
     def test_sections_of_the_program(self):
         found = sections_of(man.program_page(GUIDE, "1.2.3", "14 Nov 2023", tree.command_names()))
         firsts = [name.split(":")[0] for name in found]
-        wanted = ["NAME", "SYNOPSIS", "DESCRIPTION", "REPLAY", "NODE", "GROW", "HOP", "HEADERS", "THE DOMAIN FILE"]
+        wanted = ["NAME", "SYNOPSIS", "DESCRIPTION", "REPLAY", "NODE", "GROW", "HOP", "HEADERS", "TOPO", "THE DOMAIN FILE"]
         self.assertEqual(firsts, [*wanted, "EXIT STATUS", "FILES", "EXAMPLES", "SEE ALSO"])
-        self.assertEqual({name.lower() for name in wanted[3:8]}, set(front.FORMS))
+        # replay-ng is a part of the section on replay
+        self.assertEqual({name.lower() for name in wanted[3:9]} | {"replay-ng"}, set(front.FORMS))
 
     def test_sections_of_a_tool(self):
         for name in tree.TOOLS:

@@ -11,9 +11,11 @@ _bier_domain() {
     local -a commands
     commands=(
         'replay:a domain over a schedule'
+        'replay-ng:the same with a pcapng capture'
         'node:one router on a capture'
         'hop:what one router does with a packet'
         'headers:the BIER headers of a capture'
+        'topo:the topology in a capture'
         'grow:a domain of any size'
     )
     if ((CURRENT == 2)); then
@@ -22,7 +24,8 @@ _bier_domain() {
     fi
     case $words[2]:$CURRENT in
         node:4) _bier_domain_routers ;;
-        replay:[345]|node:[356]|hop:3|headers:3) _files ;;
+        topo:4) compadd 1 2 ;;
+        replay:[345]|replay-ng:[345]|node:[356]|hop:3|headers:3|topo:3) _files ;;
     esac
 }
 
