@@ -10,7 +10,17 @@ from support import EXAMPLES, needs, places
 
 CRATES = os.path.join(places.ROOT, "crates")
 PROGRAM = os.environ.get("ISIS_DUMP") or os.path.join(CRATES, "isis_dump", "out", "isis_dump")
-CAPTURES = sorted(glob.glob(os.path.join(EXAMPLES, "*", "frames"))) + [os.path.join(CRATES, "show_capture", "stdout")]
+PCAPNG = bytes.fromhex("0a0d0d0a")
+
+
+def is_pcap(path):
+    """isis_dump reads the format pcap alone."""
+    with open(path, "rb") as file:
+        return file.read(4) != PCAPNG
+
+
+FRAMES = sorted(glob.glob(os.path.join(EXAMPLES, "*", "frames")))
+CAPTURES = [path for path in FRAMES if is_pcap(path)] + [os.path.join(CRATES, "show_capture", "stdout")]
 
 KINDS = {18: "lsp 1", 20: "lsp 2", 24: "csnp 1", 25: "csnp 2", 26: "psnp 1", 27: "psnp 2"}
 FIELDS = {
