@@ -56,6 +56,8 @@ fn built_conf(alloc: Global) -> M<RouterConf>
         prefix: Ipv4([10, 0, 0, 1]),
         overload: false,
         subs,
+        away: Rows::new(alloc),
+        past: Rows::new(alloc),
         kinds: Rows::from_slice(alloc, &[kind])?,
         table: Rows::new(alloc),
         ends: Rows::from_slice(alloc, &[to_2, to_4])?,

@@ -17,7 +17,8 @@ use Rattle.wire_base.specs.declared.conf.LinkConf.{LinkConf}
 use Rattle.wire_base.specs.declared.conf.RouterConf.{RouterConf}
 use Rattle.wire_base.specs.declared.conf.SubKind.{SubKind}
 use Rattle.wire_base.specs.declared.conf.TableRow.{TableRow}
-use Rattle.wire_base.specs.model.Configuration.{DomainConf, IsValid, IsSound, IsOwnSub, IsArea, IsAlike, AreAlike, KeepsKinds, IsLink, same_name, same_system, same_prefix, same_pair, same_peer, sub_octets, other_end, peers_of, end_to, IsBack, Faces, AreEnds, HaveEnds}
+use Rattle.wire_base.specs.model.Configuration.{DomainConf, IsValid, IsSound, IsOwnSub, IsArea, IsAlike, AreAlike, KeepsKinds, IsLink, same_name, same_system, same_prefix, same_pair, same_peer, sub_octets, other_end, peers_of, end_to, IsBack, Faces, AreEnds, HaveEnds, IsUnchanged, MayStand}
+use Rattle.wire_base.proofs.SoundLemmas.{still, each_still}
 use Rattle.wire_base.specs.model.Fields.{◌>>=◌}
 use Rattle.wire_base.specs.model.Lists.{AreApart}
 use Rattle.wire_base.specs.model.Place.{kind_of, is_configured}
@@ -159,16 +160,25 @@ module _ (level : Level) (area : List ℕ) (area_is : IsArea area) (e : Entries)
       let h = all_in IsRouterEntry e.routers m.entry e_is.routers.each (get_in e.routers m.place m.entry m.there) in
       let s = subst (λ (c : RouterConf). is_too_large c ≡ false) m.is small in
       let o = or_parts (ltb 64 (length (ends_of e.routers e.links m.place))) (ltb MOST_SUB_OCTETS (sub_octets (subs_of e.biers e.labels m.place))) s in
+      let k = still (subs_of e.biers e.labels m.place) (record {
+        few = omega (arith, subs_few e.kinds e.biers e.labels e_is.kinds e_is.biers e_is.labels m.place, e_is.few_kinds);
+        each = subs_sound e.kinds e.biers e.labels e_is.kinds e_is.biers e_is.labels m.place;
+        apart = subs_apart e.kinds e.biers e.labels e_is.kinds e_is.biers e_is.labels m.place;
+        labels = labels_apart e.kinds e.biers e.labels e_is.kinds e_is.biers e_is.labels m.place;
+        room = ltb-false MOST_SUB_OCTETS (sub_octets (subs_of e.biers e.labels m.place)) o.1;
+      }) in
       subst IsSound (sym m.is) (record {
         area = area_is;
         name = h.name;
         system = h.system;
         prefix = h.prefix;
-        few_subs = omega (arith, subs_few e.kinds e.biers e.labels e_is.kinds e_is.biers e_is.labels m.place, e_is.few_kinds);
-        subs = subs_sound e.kinds e.biers e.labels e_is.kinds e_is.biers e_is.labels m.place;
-        subdomains = subs_apart e.kinds e.biers e.labels e_is.kinds e_is.biers e_is.labels m.place;
-        labels = labels_apart e.kinds e.biers e.labels e_is.kinds e_is.biers e_is.labels m.place;
-        room = ltb-false MOST_SUB_OCTETS (sub_octets (subs_of e.biers e.labels m.place)) o.1;
+        few_subs = k.few;
+        subs = k.each;
+        subdomains = k.apart;
+        few_past = omega arith;
+        past = tt;
+        labels = k.labels;
+        room = k.room;
         kinds = all_from (λ k. k.sd < 256) e.kinds (λ k i. let n = all_in (λ k. k.sd ≤ 255) e.kinds k e_is.kinds.each i in omega (arith, n));
         kinds_once = e_is.kinds.once;
         rows = e_is.rows.each;
@@ -187,7 +197,7 @@ module _ (level : Level) (area : List ℕ) (area_is : IsArea area) (e : Entries)
 
   keeps : (c : RouterConf) → IsConf c → KeepsKinds c
   keeps c m = subst KeepsKinds (sym m.is) (record {
-    subs = subs_may_stand e.kinds e.biers e.labels e_is.kinds e_is.biers e_is.labels m.place;
+    subs = each_still (λ s. MayStand (kind_of e.kinds s.sd) s.ranges) (subs_of e.biers e.labels m.place) (subs_may_stand e.kinds e.biers e.labels e_is.kinds e_is.biers e_is.labels m.place);
     rows = all_from (λ row. kind_of e.kinds row.triple.sd ≡ Some Configured) e.table (λ row i. configured (kind_of e.kinds row.triple.sd) (all_in (λ row. is_configured (kind_of e.kinds row.triple.sd) ≡ true) e.table row e_is.rows.kind i));
   })
 
@@ -222,19 +232,22 @@ module _ (level : Level) (area : List ℕ) (area_is : IsArea area) (e : Entries)
   unfolding confs
   confs_valid small =
       record {
-        some = subst (λ (n : ℕ). 1 ≤ n) (sym (length_confs 0 e.routers)) e_is.some;
-        few = subst (λ (n : ℕ). n ≤ MOST_ROUTERS) (sym (length_confs 0 e.routers)) e_is.few;
-        sound = all_from IsSound confs (λ c i. conf_sound c (among c i) (all_in (λ c. is_too_large c ≡ false) confs c small i));
-        few_kinds = all_from (λ r. length r.kinds ≤ 8) confs (λ c i. let m = among c i in subst (λ (c : RouterConf). length c.kinds ≤ 8) (sym m.is) e_is.few_kinds);
-        few_rows = all_from (λ r. length r.table ≤ MOST_TABLE_ROWS) confs (λ c i. let m = among c i in subst (λ (c : RouterConf). length c.table ≤ MOST_TABLE_ROWS) (sym m.is) e_is.few_rows);
-        names = confs_apart of_name same_name (λ i j r q h. bytes_turned r.name q.name ∙ h) 0 e.routers e_is.routers.names;
-        systems = confs_apart of_system same_system (λ i j r q h. bytes_turned r.system.0 q.system.0 ∙ h) 0 e.routers e_is.routers.systems;
-        prefixes = confs_apart of_prefix same_prefix (λ i j r q h. bytes_turned r.prefix.0 q.prefix.0 ∙ h) 0 e.routers e_is.routers.prefixes;
-        alike = alike_from 0 e.routers;
-        kinds = all_from KeepsKinds confs (λ c i. keeps c (among c i));
-        links = links_join;
-        links_once = apart_map same_routers same_pair link_of e.links (λ l m i j h. h) e_is.links.once;
-        ends = have_ends 0 e.routers (λ j x p. ap (slice_get e.routers) (omega arith) ∙ p);
+        consistent = record {
+          some = subst (λ (n : ℕ). 1 ≤ n) (sym (length_confs 0 e.routers)) e_is.some;
+          few = subst (λ (n : ℕ). n ≤ MOST_ROUTERS) (sym (length_confs 0 e.routers)) e_is.few;
+          sound = all_from IsSound confs (λ c i. conf_sound c (among c i) (all_in (λ c. is_too_large c ≡ false) confs c small i));
+          few_kinds = all_from (λ r. length r.kinds ≤ 8) confs (λ c i. let m = among c i in subst (λ (c : RouterConf). length c.kinds ≤ 8) (sym m.is) e_is.few_kinds);
+          few_rows = all_from (λ r. length r.table ≤ MOST_TABLE_ROWS) confs (λ c i. let m = among c i in subst (λ (c : RouterConf). length c.table ≤ MOST_TABLE_ROWS) (sym m.is) e_is.few_rows);
+          names = confs_apart of_name same_name (λ i j r q h. bytes_turned r.name q.name ∙ h) 0 e.routers e_is.routers.names;
+          systems = confs_apart of_system same_system (λ i j r q h. bytes_turned r.system.0 q.system.0 ∙ h) 0 e.routers e_is.routers.systems;
+          prefixes = confs_apart of_prefix same_prefix (λ i j r q h. bytes_turned r.prefix.0 q.prefix.0 ∙ h) 0 e.routers e_is.routers.prefixes;
+          alike = alike_from 0 e.routers;
+          kinds = all_from KeepsKinds confs (λ c i. keeps c (among c i));
+          links = links_join;
+          links_once = apart_map same_routers same_pair link_of e.links (λ l m i j h. h) e_is.links.once;
+          ends = have_ends 0 e.routers (λ j x p. ap (slice_get e.routers) (omega arith) ∙ p);
+        };
+        unchanged = all_from IsUnchanged confs (λ c i. let m = among c i in subst IsUnchanged (sym m.is) (record { away = refl; past = refl }));
       }
 
   -- what a file's entries make up is valid

@@ -12,7 +12,8 @@ use Rattle.wire_base.specs.declared.conf.Kind.TheVariants.{Mpls, Configured}
 use Rattle.wire_base.specs.declared.conf.LabelRange.{LabelRange}
 use Rattle.wire_base.specs.declared.conf.OwnSub.{OwnSub}
 use Rattle.wire_base.specs.declared.conf.SubKind.{SubKind}
-use Rattle.wire_base.specs.model.Configuration.{IsLabelRange, IsOwnSub, same_length, share_label, same_sub, all_ranges, MayStand}
+use Rattle.wire_base.specs.model.Configuration.{IsLabelRange, IsOwnSub, same_length, share_label, same_sub, MayStand}
+use Rattle.wire_base.proofs.SoundLemmas.{all_ranges}
 use Rattle.wire_base.specs.model.Lists.{AreApart}
 use Rattle.wire_base.specs.model.Place.{kind_of, is_mpls, code_of}
 use Rattle.domain_conf.specs.declared.bier.BierEntry.{BierEntry}

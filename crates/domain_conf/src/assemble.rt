@@ -155,6 +155,8 @@ fn conf_of(
         prefix: router.prefix,
         overload: router.overload,
         subs: subs_of(alloc, &entries.biers, &entries.labels, place)?,
+        away: Rows::new(alloc),
+        past: Rows::new(alloc),
         kinds: entries.kinds.copy()?,
         table: entries.table.copy()?,
         ends: ends_of(alloc, entries.routers.as_slice(), &entries.links, place)?,

@@ -3,7 +3,8 @@ use Rattle.std.proofs.Common.{◌≡◌, ℕ, ◌<◌, ◌≤◌, Bool, true, Li
 use Rattle.std.specs.List.{AllByRecursion}
 use Rattle.wire_base.specs.declared.conf.OwnSub.{OwnSub}
 use Rattle.wire_base.specs.model.Lists.{AreApart}
-use Rattle.wire_base.specs.model.Configuration.{IsOctets, IsPrefix, IsStation, IsEnd, IsOwnSub, IsSound, is_name, same_sub, same_peer, same_peer_mac, share_label, all_ranges, sub_octets}
+use Rattle.wire_base.specs.model.Configuration.{IsOctets, IsPrefix, IsStation, IsEnd, IsOwnSub, IsSound, is_name, same_sub, same_peer, same_peer_mac, share_label, sub_octets}
+use Rattle.wire_base.proofs.SoundLemmas.{all_ranges, still}
 use Rattle.examples_model.specs.Domains.{system, address, mac, end, sub, router}
 
 -- a number of an octet
@@ -52,16 +53,19 @@ pub record Suits (letter n : ℕ) (subs : List OwnSub) (peers : List ℕ) : Type
 
 pub router_sound : (letter n : ℕ) (overload : Bool) (subs : List OwnSub) (peers : List ℕ) → Suits letter n subs peers → IsSound (router letter n overload subs peers)
 router_sound letter n overload subs peers s =
+    let k = still subs (record { few = s.few_subs; each = s.subs_fit; apart = s.subdomains; labels = s.labels; room = s.room }) in
     record {
       area = record { some = omega arith; few = omega arith; each = (omega arith, (omega arith, (omega arith, tt))) };
       name = s.name;
       system = system_fits n s.number;
       prefix = address_fits n s.number;
-      few_subs = s.few_subs;
-      subs = s.subs_fit;
-      subdomains = s.subdomains;
-      labels = s.labels;
-      room = s.room;
+      few_subs = k.few;
+      subs = k.each;
+      subdomains = k.apart;
+      few_past = omega arith;
+      past = tt;
+      labels = k.labels;
+      room = k.room;
       kinds = (omega arith, tt);
       kinds_once = (tt, tt);
       rows = tt;

@@ -13,7 +13,8 @@ mod tunnels;
 mod views;
 
 pub use configurations::{
-    labels_that_touch, metric_0_is_unsound, pair_is_valid, ring_is_valid, what_labels_mean,
+    labels_that_touch, metric_0_is_unsound, pair_is_valid, ring_is_valid,
+    what_a_router_that_left_means, what_earlier_labels_mean, what_labels_mean,
 };
 pub use databases::{
     ages, entries_age_by_seconds, equal_sequence_unequal_sums_is_confused, rows_of_flags,

@@ -133,6 +133,8 @@ pub fn router(alloc: Global, links: &[Link], place: u16) -> M<RouterConf>
         prefix: Ipv4([10, 0, 0, (place + 1) as u8]),
         overload: false,
         subs: subs_of(alloc, place)?,
+        away: Rows::new(alloc),
+        past: Rows::new(alloc),
         kinds: kinds(alloc)?,
         table: Rows::new(alloc),
         ends: ends_of(alloc, links, place)?,

@@ -35,6 +35,8 @@ pub fn router(alloc: Global, ends: Rows<End>) -> M<RouterConf>
         prefix: Ipv4([10, 0, 0, 1]),
         overload: false,
         subs,
+        away: Rows::new(alloc),
+        past: Rows::new(alloc),
         kinds: Rows::from_slice(alloc, &[kind])?,
         table: Rows::new(alloc),
         ends,

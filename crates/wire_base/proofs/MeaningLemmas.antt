@@ -1,6 +1,7 @@
 -- What a BIFT-id stands for, both ways: what the search finds has that BIFT-id, and what has it is found.
-use Rattle.std.proofs.Common.{◌≡◌, ℕ, ◌+◌, ◌-◌, ◌≤◌, true, false, ◌==◌, nat_le, List, [], ◌∷◌, ◌++◌, Option, Some, None, is_some, IfSome, option_map, refl, ap, sym, ◌∙◌, ◌⊎◌, inl, inr, subst, arith, if◌then◌else◌}
-use Rattle.std.specs.List.{AllByRecursion, list_any}
+use Rattle.std.proofs.Common.{◌≡◌, ℕ, zero, suc, ◌+◌, ◌-◌, ◌≤◌, ◌<◌, ◌&&◌, ◌||◌, length, slice_index_or, true, false, ◌==◌, nat_le, List, [], ◌∷◌, ◌++◌, Option, Some, None, is_some, IfSome, option_map, refl, ap, sym, ◌∙◌, ◌⊎◌, inl, inr, subst, arith, if◌then◌else◌}
+use Rattle.std.specs.List.{AllByRecursion, Contains, flat_map}
+use Rattle.std.proofs.lemmas.List.Elements.{Contains-append_left, Contains-append_right}
 use Rattle.std.proofs.lemmas.Bool.{true≢false, false≢true, leb-true, le-leb, eqb-true, eqb-false, eq-eqb, ne_eqb, and_parts, and_from, or_cases, or_left, or_right, cases_Bool, cond-true, cond-false, cond_both, false_from_ne_true}
 use Rattle.std.proofs.lemmas.Option.{same_Some}
 use Rattle.wire_base.specs.declared.bsl.Bsl.{Bsl}
@@ -10,12 +11,14 @@ use Rattle.wire_base.specs.declared.conf.Kind.{Kind}
 use Rattle.wire_base.specs.declared.conf.Kind.TheVariants.{Mpls, Configured}
 use Rattle.wire_base.specs.declared.conf.LabelRange.{LabelRange}
 use Rattle.wire_base.specs.declared.conf.OwnSub.{OwnSub}
+use Rattle.wire_base.specs.declared.conf.PastRange.{PastRange}
 use Rattle.wire_base.specs.declared.conf.SubKind.{SubKind}
 use Rattle.wire_base.specs.declared.conf.TableRow.{TableRow}
 use Rattle.wire_base.specs.declared.conf.RouterConf.{RouterConf}
 use Rattle.wire_base.specs.model.Lists.{AreApart, or_else}
-use Rattle.wire_base.specs.model.Place.{code_of, bsl_coded, same_triple, kind_of, sub_in, label_in, row_in, bift_by, bift_of, IsMeaning, is_label_of, meaning_in, is_mpls, is_configured, labelled, tells, written, means}
-use Rattle.wire_base.specs.model.Configuration.{same_length, share_label, same_sub, same_row, same_bift, IsOwnSub, all_ranges, IsSound}
+use Rattle.wire_base.specs.Searches.{sub_labelled}
+use Rattle.wire_base.specs.model.Place.{code_of, bsl_coded, same_triple, kind_of, sub_in, label_in, row_in, bift_by, bift_of, own_bift, known_subs, known_ranges, placed, ranges_of, IsLabel, IsRow, StandsFor, IsMeaning, is_label_of, is_mpls, is_configured, triple_of, labelled, tells, written, means}
+use Rattle.wire_base.specs.model.Configuration.{share_label, share_range, same_row, same_bift, IsSound}
 
 no_None : {X : Type 0} (x : X) → None ≡ Some x → ⊥
 no_None x e = true≢false (sym (ap is_some e))
@@ -47,229 +50,120 @@ same_triple_self t = and_from _ _ (eq-eqb t.sd t.sd refl) (and_from _ _ (eq-eqb 
 
 -- ---- labels
 
--- a label that ranges give lies in one of them
-label_found : (xs : List LabelRange) (t : Triple) (b : ℕ) → label_in xs t ≡ Some b → list_any (is_label_of b) xs ≡ true
-label_found [] t b e = absurd (no_None b e)
-label_found (x ∷ xs) t b e =
-    elim (cases_Bool (code_of x.bsl == code_of t.bsl)) [
-      | inl h ↦
-          elim (cases_Bool (nat_le t.si x.max_si)) [
-            | inl k ↦
-                let at : Some (x.label + t.si) ≡ Some b = sym (cond-true _ _ _ h ∙ cond-true _ _ _ k) ∙ e in
-                let is : x.label + t.si ≡ b = same_Some _ _ at in
-                let low : t.si ≤ x.max_si = leb-true _ _ k in
-                or_left _ _ (and_from _ _ (le-leb x.label b (omega arith)) (le-leb b (x.label + x.max_si) (omega arith)))
-            | inr k ↦ absurd (no_None b (sym (cond-true _ _ _ h ∙ cond-false _ _ _ k) ∙ e))
-          ]
-      | inr h ↦ or_right _ _ (label_found xs t b (sym (cond-false _ _ _ h) ∙ e))
-    ]
-
--- the range that gives it has the triple's length
-length_found : (x : LabelRange) (xs : List LabelRange) (t : Triple) (b : ℕ) → AllByRecursion (λ y. same_length x y ≡ false) xs → label_in xs t ≡ Some b → (code_of x.bsl == code_of t.bsl) ≡ false
-length_found x [] t b apart e = absurd (no_None b e)
-length_found x (y ∷ ys) t b apart e =
-    elim (cases_Bool (code_of y.bsl == code_of t.bsl)) [
-      | inl h ↦ ne_eqb _ _ (λ q. eqb-false _ _ apart.0 (q ∙ sym (eqb-true _ _ h)))
-      | inr h ↦ length_found x ys t b apart.1 (sym (cond-false _ _ _ h) ∙ e)
-    ]
-
-pub record InRanges (sd : ℕ) (xs : List LabelRange) (b : ℕ) (t : Triple) : Type 0 where
-  pub sd_is : t.sd ≡ sd
-  pub label_is : label_in xs t ≡ Some b
-
-meaning_found : (sd : ℕ) (xs : List LabelRange) (b : ℕ) (t : Triple) → AreApart same_length xs → meaning_in sd xs b ≡ Some t → InRanges sd xs b t
-meaning_found sd [] b t apart e = absurd (no_None t e)
-meaning_found sd (x ∷ xs) b t apart e =
-    elim (cases_Bool (is_label_of b x)) [
-      | inl h ↦
-          let p = and_parts _ _ h in
-          let low : x.label ≤ b = leb-true _ _ p.0 in
-          let high : b ≤ x.label + x.max_si = leb-true _ _ p.1 in
-          let u : Triple = record { sd = sd; bsl = x.bsl; si = b - x.label } in
-          let is : u ≡ t = same_Some u t (sym (cond-true _ _ _ h) ∙ e) in
-          let sum : x.label + (b - x.label) ≡ b = omega arith in
-          let within : b - x.label ≤ x.max_si = omega arith in
-          subst (InRanges sd (x ∷ xs) b) is (record {
-            sd_is = refl;
-            label_is = rw (eq-eqb (code_of x.bsl) (code_of x.bsl) refl, le-leb (b - x.label) x.max_si within) (ap Some sum);
-          })
-      | inr h ↦
-          let r = meaning_found sd xs b t apart.1 (sym (cond-false _ _ _ h) ∙ e) in
-          record {
-            sd_is = r.sd_is;
-            label_is = cond-false _ _ _ (length_found x xs t b apart.0 r.label_is) ∙ r.label_is;
-          }
-    ]
-
--- a range that shares no label with those doesn't have one of theirs
-no_label : (x : LabelRange) (xs : List LabelRange) (b : ℕ) → AllByRecursion (λ y. share_label x y ≡ false) xs → list_any (is_label_of b) xs ≡ true → is_label_of b x ≡ false
-no_label x [] b apart e = absurd (false≢true e)
-no_label x (y ∷ ys) b apart e =
-    elim (or_cases _ _ e) [
-      | inl h ↦
-          false_from_ne_true _ (λ k.
-          let p = and_parts _ _ h in
-          let q = and_parts _ _ k in
-          let p0 : y.label ≤ b = leb-true _ _ p.0 in
-          let p1 : b ≤ y.label + y.max_si = leb-true _ _ p.1 in
-          let q0 : x.label ≤ b = leb-true _ _ q.0 in
-          let q1 : b ≤ x.label + x.max_si = leb-true _ _ q.1 in
-          let xy : x.label ≤ y.label + y.max_si = omega arith in
-          let yx : y.label ≤ x.label + x.max_si = omega arith in
-          false≢true (sym apart.0 ∙ and_from _ _ (le-leb _ _ xy) (le-leb _ _ yx)))
-      | inr h ↦ no_label x ys b apart.1 h
-    ]
-
-meaning_there : (xs : List LabelRange) (b : ℕ) (t : Triple) → AreApart share_label xs → label_in xs t ≡ Some b → meaning_in t.sd xs b ≡ Some t
-meaning_there [] b t apart e = absurd (no_None b e)
-meaning_there (x ∷ xs) b t apart e =
-    elim (cases_Bool (code_of x.bsl == code_of t.bsl)) [
-      | inl h ↦
-          elim (cases_Bool (nat_le t.si x.max_si)) [
-            | inl k ↦
-                let is : x.label + t.si ≡ b = same_Some _ _ (sym (cond-true _ _ _ h ∙ cond-true _ _ _ k) ∙ e) in
-                let low : t.si ≤ x.max_si = leb-true _ _ k in
-                let si : b - x.label ≡ t.si = omega arith in
-                cond-true _ _ _ (and_from _ _ (le-leb x.label b (omega arith)) (le-leb b (x.label + x.max_si) (omega arith)))
-                ∙ ap Some (triple_by_parts _ t refl (same_code _ _ (eqb-true _ _ h)) si)
-            | inr k ↦ absurd (no_None b (sym (cond-true _ _ _ h ∙ cond-false _ _ _ k) ∙ e))
-          ]
-      | inr h ↦
-          let rest = sym (cond-false _ _ _ h) ∙ e in
-          cond-false _ _ _ (no_label x xs b apart.0 (label_found xs t b rest)) ∙ meaning_there xs b t apart.1 rest
-    ]
-
-no_meaning : (sd : ℕ) (xs : List LabelRange) (b : ℕ) → list_any (is_label_of b) xs ≡ false → meaning_in sd xs b ≡ None
-no_meaning sd [] b e = refl
-no_meaning sd (x ∷ xs) b e =
-    elim (cases_Bool (is_label_of b x)) [
-      | inl h ↦ absurd (false≢true (sym e ∙ or_left _ _ h))
-      | inr h ↦ cond-false _ _ _ h ∙ no_meaning sd xs b (false_from_ne_true _ (λ k. false≢true (sym e ∙ or_right _ _ k)))
-    ]
-
--- ---- the lists of two sub-domains
-
-all_left : {X : Type 0} (P : X → Type 0) (xs ys : List X) → AllByRecursion P (xs ++ ys) → AllByRecursion P xs
-all_left P [] ys a = tt
-all_left P (x ∷ xs) ys a = (a.0, all_left P xs ys a.1)
-
-all_right : {X : Type 0} (P : X → Type 0) (xs ys : List X) → AllByRecursion P (xs ++ ys) → AllByRecursion P ys
-all_right P [] ys a = a
-all_right P (x ∷ xs) ys a = all_right P xs ys a.1
-
-distinct_left : (xs ys : List LabelRange) → AreApart share_label (xs ++ ys) → AreApart share_label xs
-distinct_left [] ys d = tt
-distinct_left (x ∷ xs) ys d = (all_left (λ y. share_label x y ≡ false) xs ys d.0, distinct_left xs ys d.1)
-
-distinct_right : (xs ys : List LabelRange) → AreApart share_label (xs ++ ys) → AreApart share_label ys
-distinct_right [] ys d = d
-distinct_right (x ∷ xs) ys d = distinct_right xs ys d.1
-
--- a label of the second list is none of the first
-none_before : (xs ys : List LabelRange) (b : ℕ) → AreApart share_label (xs ++ ys) → list_any (is_label_of b) ys ≡ true → list_any (is_label_of b) xs ≡ false
-none_before [] ys b d e = refl
-none_before (x ∷ xs) ys b d e =
-    rw (no_label x ys b (all_right (λ y. share_label x y ≡ false) xs ys d.0) e) (none_before xs ys b d.1 e)
-
-any_right : (xs ys : List LabelRange) (b : ℕ) → list_any (is_label_of b) ys ≡ true → list_any (is_label_of b) (xs ++ ys) ≡ true
-any_right [] ys b e = e
-any_right (x ∷ xs) ys b e = or_right _ _ (any_right xs ys b e)
-
-any_left : (xs ys : List LabelRange) (b : ℕ) → list_any (is_label_of b) xs ≡ true → list_any (is_label_of b) (xs ++ ys) ≡ true
-any_left [] ys b e = absurd (false≢true e)
-any_left (x ∷ xs) ys b e =
-    elim (or_cases (is_label_of b x) (list_any (is_label_of b) xs) e) [
-      | inl h ↦ or_left (is_label_of b x) (list_any (is_label_of b) (xs ++ ys)) h
-      | inr h ↦ or_right (is_label_of b x) (list_any (is_label_of b) (xs ++ ys)) (any_left xs ys b h)
-    ]
-
--- the ranges of a sub-domain are among all ranges
-any_in_all : (subs : List OwnSub) (sd : ℕ) (s : OwnSub) (b : ℕ) → sub_in subs sd ≡ Some s → list_any (is_label_of b) s.ranges ≡ true → list_any (is_label_of b) (all_ranges subs) ≡ true
-any_in_all [] sd s b e h = absurd (no_None s e)
-any_in_all (x ∷ subs) sd s b e h =
-    elim (cases_Bool (x.sd == sd)) [
-      | inl k ↦
-          let is : x ≡ s = same_Some x s (sym (cond-true _ _ _ k) ∙ e) in
-          any_left x.ranges (all_ranges subs) b (subst (λ y. list_any (is_label_of b) y.ranges ≡ true) (sym is) h)
-      | inr k ↦ any_right x.ranges (all_ranges subs) b (any_in_all subs sd s b (sym (cond-false _ _ _ k) ∙ e) h)
-    ]
-
--- ---- sub-domains
-
 is_mpls_is : (k : Option Kind) → is_mpls k ≡ true → k ≡ Some Mpls
 is_mpls_is None e = absurd (false≢true e)
 is_mpls_is (Some Mpls) e = refl
 is_mpls_is (Some Configured) e = absurd (false≢true e)
 
-pub record IsLabel (kinds : List SubKind) (subs : List OwnSub) (b : ℕ) (t : Triple) : Type 0 where
-  pub kind_is : kind_of kinds t.sd ≡ Some Mpls
-  pub sub : OwnSub
-  pub sub_is : sub_in subs t.sd ≡ Some sub
-  pub label_is : label_in sub.ranges t ≡ Some b
+-- two ranges with a label in common share it
+apart_label : (x y : LabelRange) (b : ℕ) → share_label x y ≡ false → is_label_of b y ≡ true → is_label_of b x ≡ false
+apart_label x y b apart h =
+    false_from_ne_true _ (λ k.
+    let p = and_parts _ _ h in
+    let q = and_parts _ _ k in
+    let p0 : y.label ≤ b = leb-true _ _ p.0 in
+    let p1 : b ≤ y.label + y.max_si = leb-true _ _ p.1 in
+    let q0 : x.label ≤ b = leb-true _ _ q.0 in
+    let q1 : b ≤ x.label + x.max_si = leb-true _ _ q.1 in
+    let xy : x.label ≤ y.label + y.max_si = omega arith in
+    let yx : y.label ≤ x.label + x.max_si = omega arith in
+    false≢true (sym apart ∙ and_from _ _ (le-leb _ _ xy) (le-leb _ _ yx)))
 
--- a sub-domain that comes later is another one
-sub_differs : (x : OwnSub) (subs : List OwnSub) (sd : ℕ) (s : OwnSub) → AllByRecursion (λ y. same_sub x y ≡ false) subs → sub_in subs sd ≡ Some s → (x.sd == sd) ≡ false
-sub_differs x [] sd s apart e = absurd (no_None s e)
-sub_differs x (y ∷ subs) sd s apart e =
-    elim (cases_Bool (y.sd == sd)) [
-      | inl h ↦ ne_eqb _ _ (λ q. eqb-false _ _ apart.0 (q ∙ sym (eqb-true _ _ h)))
-      | inr h ↦ sub_differs x subs sd s apart.1 (sym (cond-false _ _ _ h) ∙ e)
-    ]
+pub in_cons : {X : Type 0} (x : X) (xs : List X) (y : X) → Contains xs y → Contains (x ∷ xs) y
+in_cons x xs y c = Contains-append_right (x ∷ []) xs y c
 
--- which of the two it is
-or_else_cases : {X : Type 0} (o p : Option X) (x : X) → or_else o p ≡ Some x → (o ≡ Some x) ⊎ ((o ≡ None) × (p ≡ Some x))
-or_else_cases None p x e = inr (refl, e)
-or_else_cases (Some y) p x e = inl e
+at_head : {X : Type 0} (x : X) (xs : List X) → Contains (x ∷ xs) x
+at_head x xs = (0, omega arith, refl)
 
-label_here : (kinds : List SubKind) (s : OwnSub) (subs : List OwnSub) (b : ℕ) (t : Triple) → IsOwnSub s → (if is_mpls (kind_of kinds s.sd) then meaning_in s.sd s.ranges b else None) ≡ Some t → IsLabel kinds (s ∷ subs) b t
-label_here kinds s subs b t own e =
-    elim (cases_Bool (is_mpls (kind_of kinds s.sd))) [
+pub label_found : (kinds : List SubKind) (xs : List PastRange) (b : ℕ) (t : Triple) → labelled kinds xs b ≡ Some t → (kind_of kinds t.sd ≡ Some Mpls) × IsLabel xs b t
+label_found kinds [] b t e = absurd (no_None t e)
+label_found kinds (x ∷ xs) b t e =
+    elim (cases_Bool (is_mpls (kind_of kinds x.sd) && is_label_of b x.range)) [
       | inl h ↦
-          let r = meaning_found s.sd s.ranges b t own.lengths (sym (cond-true _ _ _ h) ∙ e) in
-          record {
-            kind_is = ap (kind_of kinds) r.sd_is ∙ is_mpls_is _ h;
-            sub = s;
-            sub_is = cond-true _ _ _ (eq-eqb _ _ (sym r.sd_is));
-            label_is = r.label_is;
-          }
-      | inr h ↦ absurd (no_None t (sym (cond-false _ _ _ h) ∙ e))
-    ]
-
-pub labelled_found : (kinds : List SubKind) (subs : List OwnSub) (b : ℕ) (t : Triple) → AllByRecursion IsOwnSub subs → AreApart same_sub subs → labelled kinds subs b ≡ Some t → IsLabel kinds subs b t
-labelled_found kinds [] b t own apart e = absurd (no_None t e)
-labelled_found kinds (s ∷ subs) b t own apart e =
-    elim (or_else_cases _ _ t e) [
-      | inl h ↦ label_here kinds s subs b t own.0 h
+          let p = and_parts _ _ h in
+          let q = and_parts _ _ p.1 in
+          let low : x.range.label ≤ b = leb-true _ _ q.0 in
+          let high : b ≤ x.range.label + x.range.max_si = leb-true _ _ q.1 in
+          let u : Triple = record { sd = x.sd; bsl = x.range.bsl; si = b - x.range.label } in
+          let is : u ≡ t = same_Some u t (sym (ap (λ o. or_else o (labelled kinds xs b)) (cond-true _ _ _ h)) ∙ e) in
+          let within : b - x.range.label ≤ x.range.max_si = omega arith in
+          let sum : x.range.label + (b - x.range.label) ≡ b = omega arith in
+          subst (λ (v : Triple). (kind_of kinds v.sd ≡ Some Mpls) × IsLabel (x ∷ xs) b v) is (is_mpls_is _ p.0, record { range = x; known = at_head x xs; sd = refl; bsl = refl; si = within; is = sum })
       | inr h ↦
-          let r = labelled_found kinds subs b t own.1 apart.1 h.1 in
-          record {
-            kind_is = r.kind_is;
-            sub = r.sub;
-            sub_is = cond-false _ _ _ (sub_differs s subs t.sd r.sub apart.0 r.sub_is) ∙ r.sub_is;
-            label_is = r.label_is;
-          }
+          let r = label_found kinds xs b t (sym (ap (λ o. or_else o (labelled kinds xs b)) (cond-false _ _ _ h)) ∙ e) in
+          let l = r.1 in
+          (r.0, record { range = l.range; known = in_cons x xs l.range l.known; sd = l.sd; bsl = l.bsl; si = l.si; is = l.is })
     ]
 
-none_here : (kinds : List SubKind) (s : OwnSub) (b : ℕ) → list_any (is_label_of b) s.ranges ≡ false → (if is_mpls (kind_of kinds s.sd) then meaning_in s.sd s.ranges b else None) ≡ None
-none_here kinds s b e = cond_both (is_mpls (kind_of kinds s.sd)) _ _ (λ o. o ≡ None) (λ h. no_meaning s.sd s.ranges b e) (λ h. refl)
+-- whether an element is the first, or is among those after it
+pub head_or_later : {X : Type 0} (x : X) (xs : List X) (y : X) (k : ℕ) → k < length (x ∷ xs) → slice_index_or (x ∷ xs) k y ≡ y → (x ≡ y) ⊎ Contains xs y
+head_or_later x xs y zero lt e = inl e
+head_or_later x xs y (suc k) lt e = inr (k, omega (arith, lt), e)
 
-pub labelled_there : (kinds : List SubKind) (subs : List OwnSub) (b : ℕ) (t : Triple) → AreApart share_label (all_ranges subs) → IsLabel kinds subs b t → labelled kinds subs b ≡ Some t
-labelled_there kinds [] b t apart l = absurd (no_None l.sub l.sub_is)
-labelled_there kinds (s ∷ subs) b t apart l =
-    elim (cases_Bool (s.sd == t.sd)) [
-      | inl h ↦
-          let sd : s.sd ≡ t.sd = eqb-true _ _ h in
-          let is : s ≡ l.sub = same_Some s l.sub (sym (cond-true _ _ _ h) ∙ l.sub_is) in
-          let label : label_in s.ranges t ≡ Some b = subst (λ (y : OwnSub). label_in y.ranges t ≡ Some b) (sym is) l.label_is in
-          let there : meaning_in s.sd s.ranges b ≡ Some t = subst (λ n. meaning_in n s.ranges b ≡ Some t) (sym sd) (meaning_there s.ranges b t (distinct_left s.ranges (all_ranges subs) apart) label) in
-          let kind : is_mpls (kind_of kinds s.sd) ≡ true = ap is_mpls (ap (kind_of kinds) sd ∙ l.kind_is) in
-          ap (λ o. or_else o (labelled kinds subs b)) (cond-true _ _ _ kind ∙ there)
-      | inr h ↦
-          let rest : sub_in subs t.sd ≡ Some l.sub = sym (cond-false _ _ _ h) ∙ l.sub_is in
-          let any = any_in_all subs t.sd l.sub b rest (label_found l.sub.ranges t b l.label_is) in
-          ap (λ o. or_else o (labelled kinds subs b)) (none_here kinds s b (none_before s.ranges (all_ranges subs) b apart any))
-          ∙ labelled_there kinds subs b t (distinct_right s.ranges (all_ranges subs) apart) (record { kind_is = l.kind_is; sub = l.sub; sub_is = rest; label_is = l.label_is })
+apart_from : (x y : PastRange) (xs : List PastRange) → AllByRecursion (λ z. share_range x z ≡ false) xs → (k : ℕ) → k < length xs → slice_index_or xs k y ≡ y → share_range x y ≡ false
+apart_from x y [] a k lt e = absurd (omega (arith, lt))
+apart_from x y (z ∷ zs) a zero lt e = subst (λ w. share_range x w ≡ false) e a.0
+apart_from x y (z ∷ zs) a (suc k) lt e = apart_from x y zs a.1 k (omega (arith, lt)) e
+
+has_label : (b : ℕ) (t : Triple) (x : LabelRange) → t.si ≤ x.max_si → x.label + t.si ≡ b → is_label_of b x ≡ true
+has_label b t x si is = and_from _ _ (le-leb x.label b (omega (arith, is))) (le-leb b (x.label + x.max_si) (omega (arith, si, is)))
+
+-- a label of a range is found where no other range has it
+pub label_there : (kinds : List SubKind) (xs : List PastRange) (b : ℕ) (t : Triple) → AreApart share_range xs → kind_of kinds t.sd ≡ Some Mpls → IsLabel xs b t → labelled kinds xs b ≡ Some t
+label_there kinds [] b t apart kind l = absurd (omega (arith, l.known.1))
+label_there kinds (x ∷ xs) b t apart kind l =
+    elim (head_or_later x xs l.range l.known.0 l.known.1 l.known.2) [
+      | inl is ↦
+          let sd : x.sd ≡ t.sd = ap (λ (y : PastRange). y.sd) is ∙ l.sd in
+          let bsl : x.range.bsl ≡ t.bsl = ap (λ (y : PastRange). y.range.bsl) is ∙ l.bsl in
+          let si : t.si ≤ x.range.max_si = subst (λ (y : PastRange). t.si ≤ y.range.max_si) (sym is) l.si in
+          let sum : x.range.label + t.si ≡ b = subst (λ (y : PastRange). y.range.label + t.si ≡ b) (sym is) l.is in
+          let mpls : is_mpls (kind_of kinds x.sd) ≡ true = ap is_mpls (ap (kind_of kinds) sd ∙ kind) in
+          let less : b - x.range.label ≡ t.si = omega arith in
+          ap (λ o. or_else o (labelled kinds xs b)) (cond-true _ _ _ (and_from _ _ mpls (has_label b t x.range si sum))) ∙ ap Some (triple_by_parts _ t sd bsl less)
+      | inr c ↦
+          let other = apart_label x.range l.range.range b (apart_from x l.range xs apart.0 c.0 c.1 c.2) (has_label b t l.range.range l.si l.is) in
+          let no : (is_mpls (kind_of kinds x.sd) && is_label_of b x.range) ≡ false = false_from_ne_true _ (λ k. false≢true (sym other ∙ (and_parts _ _ k).1)) in
+          ap (λ o. or_else o (labelled kinds xs b)) (cond-false _ _ _ no) ∙ label_there kinds xs b t apart.1 kind (record { range = l.range; known = c; sd = l.sd; bsl = l.bsl; si = l.si; is = l.is })
     ]
+
+-- ---- the search, one sub-domain after the other
+
+or_else_both : {X : Type 0} (o p q : Option X) → or_else o (or_else p q) ≡ or_else (or_else o p) q
+or_else_both None p q = refl
+or_else_both (Some x) p q = refl
+
+pub or_else_first : {X : Type 0} (o p : Option X) → is_some o ≡ true → o ≡ or_else o p
+or_else_first None p e = absurd (false≢true e)
+or_else_first (Some x) p e = refl
+
+pub or_else_second : {X : Type 0} (o p : Option X) → is_some o ≡ false → p ≡ or_else o p
+or_else_second None p e = refl
+or_else_second (Some x) p e = absurd (true≢false e)
+
+labelled_both : (kinds : List SubKind) (xs ys : List PastRange) (b : ℕ) → labelled kinds (xs ++ ys) b ≡ or_else (labelled kinds xs b) (labelled kinds ys b)
+labelled_both kinds [] ys b = refl
+labelled_both kinds (x ∷ xs) ys b = ap (or_else (triple_of kinds x b)) (labelled_both kinds xs ys b) ∙ or_else_both (triple_of kinds x b) (labelled kinds xs b) (labelled kinds ys b)
+
+sub_labelled_is : (kinds : List SubKind) (subs : List OwnSub) (b : ℕ) → sub_labelled kinds subs b ≡ labelled kinds (ranges_of subs) b
+sub_labelled_is kinds [] b = refl
+sub_labelled_is kinds (s ∷ subs) b = ap (or_else (labelled kinds (placed s.sd s.ranges) b)) (sub_labelled_is kinds subs b) ∙ sym (labelled_both kinds (placed s.sd s.ranges) (ranges_of subs) b)
+
+-- labels of now, then those of sub-domains that were left, then earlier ones
+pub all_labelled : (kinds : List SubKind) (subs away : List OwnSub) (past : List PastRange) (b : ℕ) → or_else (sub_labelled kinds subs b) (or_else (sub_labelled kinds away b) (labelled kinds past b)) ≡ labelled kinds (ranges_of subs ++ (ranges_of away ++ past)) b
+all_labelled kinds subs away past b =
+    rw (sub_labelled_is kinds subs b, sub_labelled_is kinds away b)
+    (sym (labelled_both kinds (ranges_of subs) (ranges_of away ++ past) b ∙ ap (or_else (labelled kinds (ranges_of subs) b)) (labelled_both kinds (ranges_of away) past b)))
+
+sub_in_both : (xs ys : List OwnSub) (sd : ℕ) → is_some (sub_in (xs ++ ys) sd) ≡ (is_some (sub_in xs sd) || is_some (sub_in ys sd))
+sub_in_both [] ys sd = refl
+sub_in_both (x ∷ xs) ys sd = cond_both (x.sd == sd) (Some x) (sub_in (xs ++ ys) sd) (λ o. is_some o ≡ (is_some (if x.sd == sd then Some x else sub_in xs sd) || is_some (sub_in ys sd))) (λ h. sym (ap (λ o. is_some o || is_some (sub_in ys sd)) (cond-true _ _ _ h))) (λ h. sub_in_both xs ys sd ∙ sym (ap (λ o. is_some o || is_some (sub_in ys sd)) (cond-false _ _ _ h)))
+
+pub known_first : (subs away : List OwnSub) (sd : ℕ) → is_some (sub_in subs sd) ≡ true → is_some (sub_in subs sd) ≡ is_some (sub_in (subs ++ away) sd)
+known_first subs away sd e = e ∙ sym (sub_in_both subs away sd ∙ or_left _ _ e)
+
+pub known_second : (subs away : List OwnSub) (sd : ℕ) → is_some (sub_in subs sd) ≡ false → is_some (sub_in away sd) ≡ is_some (sub_in (subs ++ away) sd)
+known_second subs away sd e = sym (ap (λ o. o || is_some (sub_in away sd)) e) ∙ sym (sub_in_both subs away sd)
 
 -- ---- the written table
 
@@ -339,53 +233,76 @@ written_there kinds subs (row ∷ rows) b t apart w =
 
 -- ---- at a router
 
-bift_mpls : (kinds : List SubKind) (table : List TableRow) (o : Option OwnSub) (t : Triple) (b : ℕ) → kind_of kinds t.sd ≡ Some Mpls → bift_of kinds table (option_map (λ s. s.ranges) o) t ≡ Some b → (s : OwnSub) × (o ≡ Some s) × (label_in s.ranges t ≡ Some b)
-bift_mpls kinds table None t b k e = absurd (no_None b e)
-bift_mpls kinds table (Some s) t b k e = (s, refl, sym (ap (λ o. bift_by o table s.ranges t) k) ∙ e)
-
-bift_configured : (kinds : List SubKind) (table : List TableRow) (o : Option OwnSub) (t : Triple) (b : ℕ) → kind_of kinds t.sd ≡ Some Configured → bift_of kinds table (option_map (λ s. s.ranges) o) t ≡ Some b → (is_some o ≡ true) × (row_in table t ≡ Some b)
-bift_configured kinds table None t b k e = absurd (no_None b e)
-bift_configured kinds table (Some s) t b k e = (refl, sym (ap (λ o. bift_by o table s.ranges t) k) ∙ e)
-
-configured_bift : (kinds : List SubKind) (table : List TableRow) (o : Option OwnSub) (t : Triple) (b : ℕ) → kind_of kinds t.sd ≡ Some Configured → is_some o ≡ true → row_in table t ≡ Some b → bift_of kinds table (option_map (λ s. s.ranges) o) t ≡ Some b
-configured_bift kinds table None t b k h e = absurd (false≢true h)
-configured_bift kinds table (Some s) t b k h e = ap (λ o. bift_by o table s.ranges t) k ∙ e
-
-pub label_meaning : (r : RouterConf) (b : ℕ) (t : Triple) → IsSound r → labelled r.kinds r.subs b ≡ Some t → IsMeaning r Mpls b t
-label_meaning r b t sound e =
-    let l = labelled_found r.kinds r.subs b t sound.subs sound.subdomains e in
-    record {
-      kind_is = l.kind_is;
-      bift_is =
-          ap (λ o. bift_of r.kinds r.table (option_map (λ (s : OwnSub). s.ranges) o) t) l.sub_is
-          ∙ (ap (λ o. bift_by o r.table l.sub.ranges t) l.kind_is ∙ l.label_is);
-    }
-
-pub meaning_labelled : (r : RouterConf) (b : ℕ) (t : Triple) → IsSound r → IsMeaning r Mpls b t → labelled r.kinds r.subs b ≡ Some t
-meaning_labelled r b t sound m =
-    let s = bift_mpls r.kinds r.table (sub_in r.subs t.sd) t b m.kind_is m.bift_is in
-    labelled_there r.kinds r.subs b t sound.labels (record { kind_is = m.kind_is; sub = s.0; sub_is = s.1; label_is = s.2 })
-
-pub row_meaning : (r : RouterConf) (b : ℕ) (t : Triple) → IsSound r → written r.kinds r.subs r.table b ≡ Some t → IsMeaning r Configured b t
-row_meaning r b t sound e =
-    let w = written_found r.kinds r.subs r.table b t sound.triples e in
-    record { kind_is = w.kind_is; bift_is = configured_bift r.kinds r.table (sub_in r.subs t.sd) t b w.kind_is w.sub_is w.row_is }
-
-pub meaning_written : (r : RouterConf) (b : ℕ) (t : Triple) → IsSound r → IsMeaning r Configured b t → written r.kinds r.subs r.table b ≡ Some t
-meaning_written r b t sound m =
-    let s = bift_configured r.kinds r.table (sub_in r.subs t.sd) t b m.kind_is m.bift_is in
-    written_there r.kinds r.subs r.table b t sound.bifts (record { kind_is = m.kind_is; sub_is = s.0; row_is = s.1 })
-
 if_some : {X : Type 0} (P : X → Type 0) (o : Option X) → ((x : X) → o ≡ Some x → P x) → IfSome o P
 if_some P None f = tt
 if_some P (Some x) f = f x refl
 
+label_meaning : (r : RouterConf) (b : ℕ) (t : Triple) → labelled r.kinds (known_ranges r) b ≡ Some t → IsMeaning r Mpls b t
+label_meaning r b t e = let l = label_found r.kinds (known_ranges r) b t e in record { kind_is = l.0; bift_is = l.1 }
+
+row_meaning : (r : RouterConf) (b : ℕ) (t : Triple) → IsSound r → written r.kinds (known_subs r) r.table b ≡ Some t → IsMeaning r Configured b t
+row_meaning r b t sound e =
+    let w = written_found r.kinds (known_subs r) r.table b t sound.triples e in
+    record { kind_is = w.kind_is; bift_is = record { sub = w.sub_is; row = w.row_is } }
+
 pub means_found : (r : RouterConf) (kind : Kind) (b : ℕ) → IsSound r → IfSome (means r kind b) (λ t. IsMeaning r kind b t)
 unfolding means
-means_found r Mpls b sound = if_some (IsMeaning r Mpls b) (labelled r.kinds r.subs b) (λ t e. label_meaning r b t sound e)
-means_found r Configured b sound = if_some (IsMeaning r Configured b) (written r.kinds r.subs r.table b) (λ t e. row_meaning r b t sound e)
+means_found r Mpls b sound = if_some (IsMeaning r Mpls b) (labelled r.kinds (known_ranges r) b) (λ t e. label_meaning r b t e)
+means_found r Configured b sound = if_some (IsMeaning r Configured b) (written r.kinds (known_subs r) r.table b) (λ t e. row_meaning r b t sound e)
 
 pub means_only : (r : RouterConf) (kind : Kind) (b : ℕ) (t : Triple) → IsSound r → IsMeaning r kind b t → means r kind b ≡ Some t
 unfolding means
-means_only r Mpls b t sound m = meaning_labelled r b t sound m
-means_only r Configured b t sound m = meaning_written r b t sound m
+means_only r Mpls b t sound m = label_there r.kinds (known_ranges r) b t sound.labels m.kind_is m.bift_is
+means_only r Configured b t sound m =
+    written_there r.kinds (known_subs r) r.table b t sound.bifts (record { kind_is = m.kind_is; sub_is = m.bift_is.sub; row_is = m.bift_is.row })
+
+-- ---- a BIFT-id of now
+
+pub ranges_in_all : (subs : List OwnSub) (sd : ℕ) (s : OwnSub) (x : LabelRange) → sub_in subs sd ≡ Some s → Contains s.ranges x → Contains (ranges_of subs) (record { sd = sd; range = x })
+ranges_in_all [] sd s x e c = absurd (no_None s e)
+ranges_in_all (y ∷ subs) sd s x e c =
+    elim (cases_Bool (y.sd == sd)) [
+      | inl h ↦
+          let is : y ≡ s = same_Some y s (sym (cond-true _ _ _ h) ∙ e) in
+          let inside : Contains y.ranges x = subst (λ (z : OwnSub). Contains z.ranges x) (sym is) c in
+          subst (λ n. Contains (ranges_of (y ∷ subs)) (record { sd = n; range = x })) (eqb-true _ _ h) (Contains-append_left (placed y.sd y.ranges) (ranges_of subs) _ (placed_in y.sd y.ranges x inside.0 inside.1 inside.2))
+      | inr h ↦ Contains-append_right (placed y.sd y.ranges) (ranges_of subs) _ (ranges_in_all subs sd s x (sym (cond-false _ _ _ h) ∙ e) c)
+    ]
+  where
+    placed_in : (n : ℕ) (xs : List LabelRange) (z : LabelRange) (k : ℕ) → k < length xs → slice_index_or xs k z ≡ z → Contains (placed n xs) (record { sd = n; range = z })
+    placed_in n [] z k lt i = absurd (omega (arith, lt))
+    placed_in n (w ∷ xs) z zero lt i = (0, omega arith, ap (λ v. record { sd = n; range = v }) i)
+    placed_in n (w ∷ xs) z (suc k) lt i = in_cons (record { sd = n; range = w }) (placed n xs) (record { sd = n; range = z }) (placed_in n xs z k (omega (arith, lt)) i)
+
+pub label_range : (xs : List LabelRange) (t : Triple) (b : ℕ) → label_in xs t ≡ Some b → (x : LabelRange) × Contains xs x × (x.bsl ≡ t.bsl) × (t.si ≤ x.max_si) × (x.label + t.si ≡ b)
+label_range [] t b e = absurd (no_None b e)
+label_range (x ∷ xs) t b e =
+    elim (cases_Bool (code_of x.bsl == code_of t.bsl)) [
+      | inl h ↦
+          elim (cases_Bool (nat_le t.si x.max_si)) [
+            | inl k ↦ (x, at_head x xs, same_code _ _ (eqb-true _ _ h), leb-true _ _ k, same_Some _ _ (sym (cond-true _ _ _ h ∙ cond-true _ _ _ k) ∙ e))
+            | inr k ↦ absurd (no_None b (sym (cond-true _ _ _ h ∙ cond-false _ _ _ k) ∙ e))
+          ]
+      | inr h ↦ let r = label_range xs t b (sym (cond-false _ _ _ h) ∙ e) in (r.0, in_cons x xs r.0 r.1, r.2, r.3, r.4)
+    ]
+
+bift_stands : (r : RouterConf) (kind : Kind) (t : Triple) (b : ℕ) (s : OwnSub) → sub_in r.subs t.sd ≡ Some s → is_some (sub_in (known_subs r) t.sd) ≡ true → bift_by (Some kind) r.table s.ranges t ≡ Some b → StandsFor r kind b t
+bift_stands r Mpls t b s is some e =
+    let l = label_range s.ranges t b e in
+    record {
+      range = record { sd = t.sd; range = l.0 };
+      known = Contains-append_left (ranges_of r.subs) (ranges_of r.away ++ r.past) _ (ranges_in_all r.subs t.sd s l.0 is l.1);
+      sd = refl;
+      bsl = l.2;
+      si = l.3;
+      is = l.4;
+    }
+bift_stands r Configured t b s is some e = record { sub = some; row = e }
+
+-- the BIFT-id of a triple at a router means that triple there
+pub own_meaning : (r : RouterConf) (kind : Kind) (t : Triple) (b : ℕ) → kind_of r.kinds t.sd ≡ Some kind → own_bift r t ≡ Some b → IsMeaning r kind b t
+own_meaning r kind t b k e = record { kind_is = k; bift_is = by (sub_in r.subs t.sd) refl e }
+  where
+    by : (o : Option OwnSub) → sub_in r.subs t.sd ≡ o → bift_of r.kinds r.table (option_map (λ (s : OwnSub). s.ranges) o) t ≡ Some b → StandsFor r kind b t
+    by None is f = absurd (no_None b f)
+    by (Some s) is f = bift_stands r kind t b s is (sub_in_both r.subs r.away t.sd ∙ or_left _ _ (ap is_some is)) (sym (ap (λ q. bift_by q r.table s.ranges t) k) ∙ f)

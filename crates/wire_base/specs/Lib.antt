@@ -1,4 +1,5 @@
 pub mod Causes
 pub mod InMemory
+pub mod Searches
 pub mod Status
 pub mod model

@@ -18,6 +18,7 @@ pub mod Ingress
 pub mod Item
 pub mod Labels
 pub mod Lists
+pub mod Membership
 pub mod OnFrame
 pub mod OwnLsp
 pub mod Pdu

@@ -40,6 +40,14 @@ pub struct OwnSub {
     pub ranges: Rows<LabelRange>,
 }
 
+/// A label range that a router had in a sub-domain before it was given another one there. Packets that were sent with its labels may
+/// still arrive.
+#[derive(Clone, Copy, Debug, Default, PartialEq, Eq)]
+pub struct PastRange {
+    pub sd: u8,
+    pub range: LabelRange,
+}
+
 /// An entry of the configured BIFT-id table: the BIFT-id of a triple in a non-MPLS sub-domain.
 #[derive(Clone, Copy, Debug, PartialEq, Eq)]
 pub struct TableRow {
@@ -85,7 +93,9 @@ pub struct LinkConf {
     pub b: u16,
 }
 
-/// The configuration of a router.
+/// The configuration of a router. A router that leaves a sub-domain keeps its BFR-id and label ranges there in `away`, and one that
+/// is given other labels keeps the earlier ranges in `past`: it still forwards packets that arrive with these labels. Both lists are
+/// empty at first.
 #[derive(Drop)]
 pub struct RouterConf {
     pub level: Level,
@@ -95,6 +105,8 @@ pub struct RouterConf {
     pub prefix: Ipv4,
     pub overload: bool,
     pub subs: Rows<OwnSub>,
+    pub away: Rows<OwnSub>,
+    pub past: Rows<PastRange>,
     pub kinds: Rows<SubKind>,
     pub table: Rows<TableRow>,
     pub ends: Rows<End>,

@@ -34,7 +34,8 @@ pub use bsl::Bsl;
 pub use bytes::{BytesSink, BytesSource, QuietSink, QuietSource};
 pub use cause::Cause;
 pub use conf::{
-    End, Kind, LabelRange, Level, LinkConf, OwnSub, RouterConf, SubKind, TableRow, end_toward,
+    End, Kind, LabelRange, Level, LinkConf, OwnSub, PastRange, RouterConf, SubKind, TableRow,
+    end_toward,
 };
 pub use domain::Domain;
 pub use effects::{Got, Sent};

@@ -14,6 +14,8 @@ pub const MOST_ENDS: usize = 64;
 pub const MOST_SUBDOMAINS: usize = 8;
 /// The maximum number of entries in the configured BIFT-id table of the non-MPLS sub-domains.
 pub const MOST_TABLE_ROWS: usize = 2_048;
+/// The maximum number of label ranges that a router was given others for, in one run.
+pub const MOST_RELABELS: usize = 1_000;
 /// The maximum size in octets of a router's sub-domains in its own LSP, beside its prefix: what fits in one TLV.
 pub const MOST_SUB_OCTETS: usize = 245;
 /// The maximum number of entries in the arrays `bier`, `labels` and `link` of a domain file.

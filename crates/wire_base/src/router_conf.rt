@@ -1,10 +1,11 @@
 //! Sub-domains and BIFT-ids in a router's configuration, and copies of the configuration.
-ghost use Rattle.std.specs.Prelude.{◌≡◌, ◌+◌, ◌*◌, ◌<◌, ◌≤◌, ◌&&◌, ℕ, length, sum_by, is_some, Some, IfOk, IfSome, if◌then◌else◌};
+ghost use Rattle.std.specs.Prelude.{◌≡◌, ◌+◌, ◌*◌, ◌<◌, ◌≤◌, ◌&&◌, ◌++◌, ℕ, length, sum_by, is_some, Some, IfOk, IfSome, if◌then◌else◌};
 ghost use Rattle.std.specs.List.{AllByRecursion};
-ghost use Rattle.wire_base.specs.model.Place.{kind_of, is_mpls, is_configured, sub_in, is_label_of, meaning_in, labelled, tells, written, means, IsMeaning};
+ghost use Rattle.wire_base.specs.model.Place.{kind_of, is_mpls, is_configured, sub_in, is_label_of, triple_of, labelled, placed, ranges_of, known_subs, tells, written, means, IsMeaning};
 ghost use Rattle.wire_base.specs.model.Configuration.{sub_octets, IsSound};
+ghost use Rattle.wire_base.specs.Searches.{sub_labelled};
 
-use crate::conf::{Kind, LabelRange, OwnSub, RouterConf, SubKind, TableRow};
+use crate::conf::{Kind, LabelRange, OwnSub, PastRange, RouterConf, SubKind, TableRow};
 use crate::lists::Rows;
 use crate::memory::M;
 use crate::triple::Triple;
@@ -35,9 +36,10 @@ impl RouterConf {
         octets_of_subs(self.subs.as_slice())
     }
 
-    /// Returns the triple that a BIFT-id of that encapsulation stands for at this router, by the router's label ranges or by the
-    /// configured BIFT-id table: the only triple that has this BIFT-id in a sub-domain of the encapsulation (RFC 8279, 6.4).
-    /// None exactly where there is none.
+    /// Returns the triple that a BIFT-id of that encapsulation stands for at this router (RFC 8279, 6.4). With MPLS it is the triple
+    /// whose label this is in a label range that the router has or had, also in a sub-domain that it left. Without MPLS it is the
+    /// triple with this BIFT-id in the configured table, in a sub-domain that the router is in or left. There is at most one. None
+    /// exactly where there is none.
     #[tactic(auto, using(crate::proofs::MeaningLemmas::means_found, crate::proofs::MeaningLemmas::means_only))]
     pub fn means(&self, kind: Kind, bift: u32) -> Option<Triple>
         requires { IsSound self.now }
@@ -60,6 +62,8 @@ impl RouterConf {
             prefix: self.prefix,
             overload: self.overload,
             subs: copy_of_subs(self.subs.allocator(), self.subs.as_slice())?,
+            away: copy_of_subs(self.away.allocator(), self.away.as_slice())?,
+            past: self.past.copy()?,
             kinds: self.kinds.copy()?,
             table: self.table.copy()?,
             ends: self.ends.copy()?,
@@ -71,11 +75,18 @@ impl RouterConf {
 fn meaning_of(conf: &RouterConf, kind: Kind, bift: u32) -> Option<Triple>
     ensures { result ≡ means conf.now kind bift }
 {
-    let kinds = conf.kinds.as_slice();
-    let subs = conf.subs.as_slice();
     match kind {
-        Kind::Mpls => labelled(kinds, subs, bift),
-        Kind::Configured => written(kinds, subs, conf.table.as_slice(), bift),
+        Kind::Mpls => {
+            let (subs, away) = (conf.subs.as_slice(), conf.away.as_slice());
+            label_meaning(
+                conf.kinds.as_slice(),
+                subs,
+                away,
+                conf.past.as_slice(),
+                bift,
+            )
+        }
+        Kind::Configured => row_meaning(conf, bift),
     }
 }
 
@@ -124,50 +135,101 @@ fn is_in(subs: &[OwnSub], sd: u8) -> bool
     false
 }
 
-fn meaning_in(sd: u8, ranges: &[LabelRange], label: u32) -> Option<Triple>
-    ensures { result ≡ meaning_in sd ranges.now label }
+/// Whether the router is in a sub-domain or left it.
+fn is_known(subs: &[OwnSub], away: &[OwnSub], sd: u8) -> bool
+    ensures { result ≡ is_some (sub_in (subs.now ++ away.now) sd) }
+{
+    is_in(subs, sd) || is_in(away, sd)
+}
+
+fn triple_of(kinds: &[SubKind], sd: u8, range: LabelRange, label: u32) -> Option<Triple>
+    ensures { result ≡ triple_of kinds.now (record { sd = sd; range = range }) label }
+{
+    let LabelRange {
+        bsl,
+        max_si,
+        label: first,
+    } = range;
+    if kind_of(kinds, sd) == Some(Kind::Mpls)
+        && first <= label
+        && label - first <= u32::from(max_si)
+    {
+        let si = (label - first) as u8;
+        return Some(Triple { sd, bsl, si });
+    }
+    None
+}
+
+fn in_ranges(kinds: &[SubKind], sd: u8, ranges: &[LabelRange], label: u32) -> Option<Triple>
+    ensures { result ≡ labelled kinds.now (placed sd ranges.now) label }
 {
     for range in ranges {
-        let LabelRange {
-            bsl,
-            max_si,
-            label: first,
-        } = *range;
-        if first <= label && label - first <= u32::from(max_si) {
-            let si = (label - first) as u8;
-            return Some(Triple { sd, bsl, si });
+        let found = triple_of(kinds, sd, *range, label);
+        if found.is_some() {
+            return found;
         }
     }
     None
 }
 
-fn labelled(kinds: &[SubKind], subs: &[OwnSub], label: u32) -> Option<Triple>
-    ensures { result ≡ labelled kinds.now subs.now label }
+fn in_subs(kinds: &[SubKind], subs: &[OwnSub], label: u32) -> Option<Triple>
+    ensures { result ≡ sub_labelled kinds.now subs.now label }
 {
     for sub in subs {
-        if kind_of(kinds, sub.sd) == Some(Kind::Mpls) {
-            let found = meaning_in(sub.sd, sub.ranges.as_slice(), label);
-            if found.is_some() {
-                return found;
-            }
+        let found = in_ranges(kinds, sub.sd, sub.ranges.as_slice(), label);
+        if found.is_some() {
+            return found;
         }
     }
     None
 }
 
-fn tells(kinds: &[SubKind], subs: &[OwnSub], bift: u32, row: &TableRow) -> bool
-    ensures { result ≡ tells kinds.now subs.now bift row.now }
+fn in_past(kinds: &[SubKind], past: &[PastRange], label: u32) -> Option<Triple>
+    ensures { result ≡ labelled kinds.now past.now label }
 {
-    row.bift == bift
-        && kind_of(kinds, row.triple.sd) == Some(Kind::Configured)
-        && is_in(subs, row.triple.sd)
+    for earlier in past {
+        let found = triple_of(kinds, earlier.sd, earlier.range, label);
+        if found.is_some() {
+            return found;
+        }
+    }
+    None
 }
 
-fn written(kinds: &[SubKind], subs: &[OwnSub], table: &[TableRow], bift: u32) -> Option<Triple>
-    ensures { result ≡ written kinds.now subs.now table.now bift }
+/// Returns the triple of a label: labels of now first, then those of sub-domains that were left, then earlier ones.
+fn label_meaning(
+    kinds: &[SubKind],
+    subs: &[OwnSub],
+    away: &[OwnSub],
+    past: &[PastRange],
+    label: u32,
+) -> Option<Triple>
+    ensures { result ≡ labelled kinds.now (ranges_of subs.now ++ (ranges_of away.now ++ past.now)) label }
 {
-    for row in table {
-        if tells(kinds, subs, bift, row) {
+    let now = in_subs(kinds, subs, label);
+    if now.is_some() {
+        return now;
+    }
+    let left = in_subs(kinds, away, label);
+    if left.is_some() {
+        return left;
+    }
+    in_past(kinds, past, label)
+}
+
+fn tells(conf: &RouterConf, bift: u32, row: &TableRow) -> bool
+    ensures { result ≡ tells conf.now.kinds (known_subs conf.now) bift row.now }
+{
+    row.bift == bift
+        && kind_of(conf.kinds.as_slice(), row.triple.sd) == Some(Kind::Configured)
+        && is_known(conf.subs.as_slice(), conf.away.as_slice(), row.triple.sd)
+}
+
+fn row_meaning(conf: &RouterConf, bift: u32) -> Option<Triple>
+    ensures { result ≡ written conf.now.kinds (known_subs conf.now) conf.now.table bift }
+{
+    for row in conf.table.as_slice() {
+        if tells(conf, bift, row) {
             return Some(row.triple);
         }
     }

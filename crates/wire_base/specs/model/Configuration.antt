@@ -1,20 +1,21 @@
 -- The conditions for a sound router configuration and for a valid domain.
-use Rattle.std.specs.Prelude.{◌≡◌, ℕ, ◌+◌, ◌*◌, ◌%◌, ◌<◌, ◌≤◌, Bool, true, false, ◌==◌, ◌&&◌, ◌||◌, nat_le, List, [], ◌∷◌, length, slice_index, slice_get, sum_by, flat_map, filter_map, Option, Some, None, if◌then◌else◌}
+use Rattle.std.specs.Prelude.{◌≡◌, ℕ, ◌+◌, ◌*◌, ◌%◌, ◌<◌, ◌≤◌, Bool, true, false, ◌==◌, ◌&&◌, ◌||◌, nat_le, List, [], ◌∷◌, length, slice_index, slice_get, sum_by, filter_map, Option, Some, None, if◌then◌else◌}
 use Rattle.std.specs.List.{AllByRecursion, list_all}
 use Rattle.std.specs.Str.{bytes_eq}
-use Rattle.wire_base.specs.declared.limits.TheConstants.{LAST_LABEL, MOST_ENDS, MOST_ROUTERS, MOST_SUB_OCTETS, MOST_SUBDOMAINS, MOST_TABLE_ROWS}
+use Rattle.wire_base.specs.declared.limits.TheConstants.{LAST_LABEL, MOST_ENDS, MOST_RELABELS, MOST_ROUTERS, MOST_SUB_OCTETS, MOST_SUBDOMAINS, MOST_TABLE_ROWS}
 use Rattle.wire_base.specs.declared.addresses.SystemId.{SystemId}
 use Rattle.wire_base.specs.declared.conf.Kind.{Kind}
 use Rattle.wire_base.specs.declared.conf.Kind.TheVariants.{Mpls, Configured}
 use Rattle.wire_base.specs.declared.conf.LabelRange.{LabelRange}
 use Rattle.wire_base.specs.declared.conf.OwnSub.{OwnSub}
+use Rattle.wire_base.specs.declared.conf.PastRange.{PastRange}
 use Rattle.wire_base.specs.declared.conf.SubKind.{SubKind}
 use Rattle.wire_base.specs.declared.conf.TableRow.{TableRow}
 use Rattle.wire_base.specs.declared.conf.End.{End}
 use Rattle.wire_base.specs.declared.conf.LinkConf.{LinkConf}
 use Rattle.wire_base.specs.declared.conf.RouterConf.{RouterConf}
 use Rattle.wire_base.specs.model.Lists.{AreApart}
-use Rattle.wire_base.specs.model.Place.{code_of, same_triple, kind_of}
+use Rattle.wire_base.specs.model.Place.{code_of, same_triple, kind_of, known_subs, known_ranges}
 
 -- ---- values
 
@@ -83,6 +84,9 @@ same_length x y = code_of x.bsl == code_of y.bsl
 abbrev pub share_label : LabelRange → LabelRange → Bool
 share_label x y = nat_le x.label (y.label + y.max_si) && nat_le y.label (x.label + x.max_si)
 
+abbrev pub share_range : PastRange → PastRange → Bool
+share_range x y = share_label x.range y.range
+
 abbrev pub same_sub : OwnSub → OwnSub → Bool
 same_sub s t = s.sd == t.sd
 
@@ -115,21 +119,25 @@ pub record IsOwnSub (s : OwnSub) : Type 0 where
   pub each : AllByRecursion IsLabelRange s.ranges
   pub lengths : AreApart same_length s.ranges
 
-abbrev pub all_ranges : List OwnSub → List LabelRange
-all_ranges subs = flat_map (λ s. s.ranges) subs
+pub record IsPastRange (x : PastRange) : Type 0 where
+  pub sd : x.sd < 256
+  pub range : IsLabelRange x.range
 
 -- A configuration is sound if each value has its range and form; if what must differ does; if no two label ranges
--- share a label, including those of two sub-domains; and if the router's own LSP has room for its sub-domains.
+-- share a label, including those of two sub-domains, those of sub-domains that the router left, and those that it had
+-- earlier; and if the router's own LSP has room for its sub-domains, also once it has joined again what it left.
 pub record IsSound (r : RouterConf) : Type 0 where
   pub area : IsArea r.area
   pub name : is_name r.name ≡ true
   pub system : IsOctets 6 r.system.0
   pub prefix : IsPrefix r.prefix.0
-  pub few_subs : length r.subs ≤ MOST_SUBDOMAINS
-  pub subs : AllByRecursion IsOwnSub r.subs
-  pub subdomains : AreApart same_sub r.subs
-  pub labels : AreApart share_label (all_ranges r.subs)
-  pub room : sub_octets r.subs ≤ MOST_SUB_OCTETS
+  pub few_subs : length (known_subs r) ≤ MOST_SUBDOMAINS
+  pub subs : AllByRecursion IsOwnSub (known_subs r)
+  pub subdomains : AreApart same_sub (known_subs r)
+  pub few_past : length r.past ≤ MOST_RELABELS
+  pub past : AllByRecursion IsPastRange r.past
+  pub labels : AreApart share_range (known_ranges r)
+  pub room : sub_octets (known_subs r) ≤ MOST_SUB_OCTETS
   pub kinds : AllByRecursion (λ k. k.sd < 256) r.kinds
   pub kinds_once : AreApart same_kind r.kinds
   pub rows : AllByRecursion IsTableRow r.table
@@ -175,7 +183,7 @@ MayStand (Some Configured) ranges = ranges ≡ []
 
 -- each sub-domain of a router has a kind, and only non-MPLS sub-domains have entries in the configured table
 pub record KeepsKinds (r : RouterConf) : Type 0 where
-  pub subs : AllByRecursion (λ s. MayStand (kind_of r.kinds s.sd) s.ranges) r.subs
+  pub subs : AllByRecursion (λ s. MayStand (kind_of r.kinds s.sd) s.ranges) (known_subs r)
   pub rows : AllByRecursion (λ row. kind_of r.kinds row.triple.sd ≡ Some Configured) r.table
 
 -- a link connects two different routers
@@ -223,8 +231,9 @@ abbrev pub HaveEnds : DomainConf → ℕ → List RouterConf → Type 0
 HaveEnds d i [] = Unit {0}
 HaveEnds d i (r ∷ rs) = AreEnds d.routers r (peers_of i d.links) r.ends × HaveEnds d (i + 1) rs
 
--- The conditions for a valid domain. BFR-ids may repeat between routers.
-pub record IsValid (d : DomainConf) : Type 0 where
+-- The configurations of a domain's routers are sound, and agree and differ where they must. BFR-ids may repeat between
+-- routers.
+pub record IsConsistent (d : DomainConf) : Type 0 where
   pub some : 1 ≤ length d.routers
   pub few : length d.routers ≤ MOST_ROUTERS
   pub sound : AllByRecursion IsSound d.routers
@@ -238,3 +247,13 @@ pub record IsValid (d : DomainConf) : Type 0 where
   pub links : AllByRecursion (IsLink (length d.routers)) d.links
   pub links_once : AreApart same_pair d.links
   pub ends : HaveEnds d 0 d.routers
+
+-- the router has left no sub-domain, and has had no other label ranges
+pub record IsUnchanged (r : RouterConf) : Type 0 where
+  pub away : r.away ≡ []
+  pub past : r.past ≡ []
+
+-- The conditions for a valid domain, as a domain file describes it.
+pub record IsValid (d : DomainConf) : Type 0 where
+  pub consistent : IsConsistent d
+  pub unchanged : AllByRecursion IsUnchanged d.routers

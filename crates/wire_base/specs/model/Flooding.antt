@@ -21,11 +21,13 @@ use Rattle.wire_base.specs.declared.flood_out.FloodOut.{FloodOut}
 use Rattle.wire_base.specs.declared.flood_out.FloodOut.TheVariants as out
 use Rattle.wire_base.specs.declared.flood_out.SnpOut.{SnpOut}
 use Rattle.wire_base.specs.declared.triple.Summary.{Summary}
+use Rattle.wire_base.specs.declared.bsl.Bsl.{Bsl}
 use Rattle.wire_base.specs.model.Lists.{blocks}
 use Rattle.wire_base.specs.model.Tlv.{lsp_id, rows_of}
 use Rattle.wire_base.specs.model.Pdu.{Head, head_summary, row_tlvs}
 use Rattle.wire_base.specs.model.Pdu.{Pdu, LspPdu, CsnpPdu, PsnpPdu, HelloPdu, OtherPdu}
 use Rattle.wire_base.specs.model.Control.{same_system, same_id, is_below, entry_in, put_entry, is_full, seq_of, summary_of, purge, age_of, is_unknown, is_newer_or_confused, aged, after_second, FlagRow, at_row, without_row, Flood, srm, ssn, Control, fragment_0, own_entry_in}
+use Rattle.wire_base.specs.model.Membership.{relabelled, left, rejoined}
 use Rattle.wire_base.specs.model.OwnLsp.{own_lsp}
 
 -- ---- flags
@@ -371,13 +373,23 @@ send_of c link = due_csnps c (slice_index_or c.flood.due link false) ++ (due_lsp
 unfoldable pub send : Control → ℕ → Reply
 send c link = record { control = record c { flood = sent_on c.flood link }; sent = send_of c link; drops = [] }
 
--- ---- interfaces and restart
+-- ---- interfaces, labels and members, and restart
 
 unfoldable pub end_up : Control → ℕ → Reply
 end_up c link = quiet (reissue_unless_spent (record c { flood = link_up c.flood c.entries link }))
 
 unfoldable pub end_down : Control → ℕ → Reply
 end_down c link = quiet (reissue_unless_spent (record c { flood = link_down c.flood link }))
+
+-- a range of labels begins elsewhere, or a sub-domain is left or joined again, and the own LSP says so
+unfoldable pub relabel : Control → ℕ → Bsl → ℕ → Reply
+relabel c sd bsl label = quiet (reissue_unless_spent (record c { conf = relabelled c.conf sd bsl label }))
+
+unfoldable pub leave : Control → ℕ → Reply
+leave c sd = quiet (reissue_unless_spent (record c { conf = left c.conf sd }))
+
+unfoldable pub join : Control → ℕ → Reply
+join c sd = quiet (reissue_unless_spent (record c { conf = rejoined c.conf sd }))
 
 -- a router that has just started: it knows only its own LSP
 unfoldable pub started : RouterConf → List Bool → Control
@@ -388,6 +400,6 @@ started r up =
 unfoldable pub first_control : RouterConf → Control
 first_control r = started r (replicate (length r.ends) true)
 
--- a restart discards the LSDB; the state of each interface is kept
+-- a restart discards the LSDB; the configuration and the state of each interface are kept
 unfoldable pub restart : Control → Reply
 restart c = quiet (started c.conf c.flood.up)

@@ -1,6 +1,7 @@
 -- The set and the bit position of a BFR-id in a packet (RFC 8279, 3), and the meaning of a BIFT-id at a
 -- router (RFC 8279, 6.4; RFC 8296, 2.1.1 and 2.2.1; RFC 8401, 6.2).
-use Rattle.std.specs.Prelude.{◌≡◌, ℕ, Bool, true, false, List, [], ◌∷◌, Option, Some, None, ◌==◌, ◌&&◌, nat_le, is_some, option_map, ◌+◌, ◌-◌, ◌*◌, ◌/◌, ◌%◌, if◌then◌else◌}
+use Rattle.std.specs.Prelude.{◌≡◌, ℕ, Bool, true, false, List, [], ◌∷◌, ◌++◌, map, Option, Some, None, ◌==◌, ◌&&◌, nat_le, ◌≤◌, is_some, option_map, ◌+◌, ◌-◌, ◌*◌, ◌/◌, ◌%◌, if◌then◌else◌}
+use Rattle.std.specs.List.{Contains, flat_map}
 use Rattle.wire_base.specs.declared.bsl.Bsl.{Bsl}
 use Rattle.wire_base.specs.declared.bsl.Bsl.TheVariants.{B64, B128, B256, B512, B1024, B2048, B4096}
 use Rattle.wire_base.specs.declared.triple.Triple.{Triple}
@@ -8,6 +9,7 @@ use Rattle.wire_base.specs.declared.conf.Kind.{Kind}
 use Rattle.wire_base.specs.declared.conf.Kind.TheVariants.{Mpls, Configured}
 use Rattle.wire_base.specs.declared.conf.LabelRange.{LabelRange}
 use Rattle.wire_base.specs.declared.conf.OwnSub.{OwnSub}
+use Rattle.wire_base.specs.declared.conf.PastRange.{PastRange}
 use Rattle.wire_base.specs.declared.conf.SubKind.{SubKind}
 use Rattle.wire_base.specs.declared.conf.TableRow.{TableRow}
 use Rattle.wire_base.specs.declared.conf.RouterConf.{RouterConf}
@@ -126,19 +128,50 @@ covers kinds table ranges t = is_some (bift_of kinds table ranges t)
 abbrev pub own_bift : RouterConf → Triple → Option ℕ
 own_bift r t = bift_of r.kinds r.table (ranges_in r.subs t.sd) t
 
+-- ---- the meaning of a BIFT-id that arrives
+
+-- the sub-domains that a router is in, and those that it left
+abbrev pub known_subs : RouterConf → List OwnSub
+known_subs r = r.subs ++ r.away
+
+-- label ranges, each with its sub-domain
+abbrev pub placed : ℕ → List LabelRange → List PastRange
+placed sd ranges = map (λ x. record { sd = sd; range = x }) ranges
+
+abbrev pub ranges_of : List OwnSub → List PastRange
+ranges_of subs = flat_map (λ s. placed s.sd s.ranges) subs
+
+-- All label ranges that have a meaning at a router: those of its sub-domains, those of the sub-domains that it left, and
+-- those that it had before it was given others. Packets that were sent with any of their labels may still arrive.
+abbrev pub known_ranges : RouterConf → List PastRange
+known_ranges r = ranges_of r.subs ++ (ranges_of r.away ++ r.past)
+
+-- the label is that of the triple in one of those ranges
+pub record IsLabel (ranges : List PastRange) (label : ℕ) (t : Triple) : Type 0 where
+  pub range : PastRange
+  pub known : Contains ranges range
+  pub sd : range.sd ≡ t.sd
+  pub bsl : range.range.bsl ≡ t.bsl
+  pub si : t.si ≤ range.range.max_si
+  pub is : range.range.label + t.si ≡ label
+
+-- the BIFT-id is that of the triple in the configured table, in a sub-domain that the router is in or left
+pub record IsRow (r : RouterConf) (bift : ℕ) (t : Triple) : Type 0 where
+  pub sub : is_some (sub_in (known_subs r) t.sd) ≡ true
+  pub row : row_in r.table t ≡ Some bift
+
+abbrev pub StandsFor : RouterConf → Kind → ℕ → Triple → Type 0
+StandsFor r Mpls bift t = IsLabel (known_ranges r) bift t
+StandsFor r Configured bift t = IsRow r bift t
+
 -- the BIFT-id of that kind means the triple at the router
 pub record IsMeaning (r : RouterConf) (kind : Kind) (bift : ℕ) (t : Triple) : Type 0 where
   pub kind_is : kind_of r.kinds t.sd ≡ Some kind
-  pub bift_is : own_bift r t ≡ Some bift
+  pub bift_is : StandsFor r kind bift t
 
 -- whether a number is among the labels of a range
 abbrev pub is_label_of : ℕ → LabelRange → Bool
 is_label_of label x = nat_le x.label label && nat_le label (x.label + x.max_si)
-
--- the triple of a label of those ranges
-abbrev pub meaning_in : ℕ → List LabelRange → ℕ → Option Triple
-meaning_in sd [] label = None
-meaning_in sd (x ∷ xs) label = if is_label_of label x then Some (record { sd = sd; bsl = x.bsl; si = label - x.label }) else meaning_in sd xs label
 
 -- whether a sub-domain is of that kind
 abbrev pub is_mpls : Option Kind → Bool
@@ -151,12 +184,19 @@ is_configured None = false
 is_configured (Some Mpls) = false
 is_configured (Some Configured) = true
 
--- the triple of a label at a router that is in those sub-domains
-abbrev pub labelled : List SubKind → List OwnSub → ℕ → Option Triple
-labelled kinds [] label = None
-labelled kinds (s ∷ subs) label = or_else (if is_mpls (kind_of kinds s.sd) then meaning_in s.sd s.ranges label else None) (labelled kinds subs label)
+-- the triple of a label in a range of an MPLS sub-domain, where it is in the range
+abbrev pub triple_of : List SubKind → PastRange → ℕ → Option Triple
+triple_of kinds x label =
+    if is_mpls (kind_of kinds x.sd) && is_label_of label x.range
+    then Some (record { sd = x.sd; bsl = x.range.bsl; si = label - x.range.label })
+    else None
 
--- whether an entry of the configured table gives the meaning of that BIFT-id at a router that is in those sub-domains
+-- the triple of a label in the first of those ranges that has it
+abbrev pub labelled : List SubKind → List PastRange → ℕ → Option Triple
+labelled kinds [] label = None
+labelled kinds (x ∷ xs) label = or_else (triple_of kinds x label) (labelled kinds xs label)
+
+-- whether an entry of the configured table gives the meaning of that BIFT-id in one of those sub-domains
 abbrev pub tells : List SubKind → List OwnSub → ℕ → TableRow → Bool
 tells kinds subs bift row = (row.bift == bift) && (is_configured (kind_of kinds row.triple.sd) && is_some (sub_in subs row.triple.sd))
 
@@ -167,8 +207,8 @@ written kinds subs (row ∷ rows) bift = if tells kinds subs bift row then Some 
 
 -- The meaning of a BIFT-id of that kind at a router. At a sound one it is the only triple that has the BIFT-id.
 unfoldable pub means : RouterConf → Kind → ℕ → Option Triple
-means r Mpls bift = labelled r.kinds r.subs bift
-means r Configured bift = written r.kinds r.subs r.table bift
+means r Mpls bift = labelled r.kinds (known_ranges r) bift
+means r Configured bift = written r.kinds (known_subs r) r.table bift
 
 -- the BFR-id of a router in a sub-domain; 0 is none (RFC 8279, 2)
 abbrev pub id_of : Option OwnSub → Option ℕ
