@@ -4,7 +4,7 @@ use Rattle.std.specs.Prelude.{IfOk, codes, option_and_then}
 use Rattle.std.specs.Str.{bytes_eq}
 use Rattle.std.proofs.lemmas.Bool.{eqb-true, le-ltb, ltb-false}
 use Rattle.std.proofs.lemmas.Slice.Eq.{bytes_eq-Decides}
-use Rattle.wire_base.specs.declared.limits.TheConstants.{LINE_LIMIT, MOST_ROUNDS}
+use Rattle.wire_base.specs.declared.limits.TheConstants.{LAST_LABEL, LINE_LIMIT, MOST_ROUNDS}
 use Rattle.wire_base.specs.declared.bsl.Bsl.{Bsl}
 use Rattle.wire_base.specs.model.Place.{bits_of, bsl_with}
 use Rattle.wire_base.specs.model.Fields.{◌>>=◌}
@@ -19,9 +19,9 @@ use Rattle.replay_text.specs.Pieces.{words_of}
 use Rattle.replay_text.specs.Tokens.{number_of}
 use Rattle.replay_text.specs.Ids.{id_of}
 use Rattle.replay_text.specs.Hop.{is_comment}
-use Rattle.replay_text.specs.Arguments.{counted, and_words, argument, place_of, at_most, number_to, length_from, listed_ids, payload_of}
-use Rattle.replay_text.specs.Schedule.{router_named, link_named, frame_named, inject_event, event_line, settle_line, schedule_words, line_of_words, schedule_line}
-use Rattle.replay_text.specs.ScheduleGrammar.{IsNumber, IsOne, IsLink, IsFrame, IsInjection, Says, IsEvent, IsRounds, IsSaid, IsScheduleLine}
+use Rattle.replay_text.specs.Arguments.{counted, and_words, argument, place_of, at_most, at_least, number_to, number_from, length_from, listed_ids, payload_of}
+use Rattle.replay_text.specs.Schedule.{router_named, link_named, frame_named, member_named, relabel_event, change_line, inject_event, event_line, settle_line, schedule_words, line_of_words, schedule_line}
+use Rattle.replay_text.specs.ScheduleGrammar.{IsNumber, IsOne, IsLink, IsFrame, IsMember, IsRelabelling, IsInjection, Says, IsEvent, IsRounds, IsSaid, IsScheduleLine}
 use Rattle.replay_text.proofs.Spelled.{if_ok, bits_are, with_bits, id_is, id_back}
 
 -- ---- steps
@@ -64,6 +64,25 @@ number_is most word n e = go (number_of word) refl e
 
 number_back : (most : ℕ) (word : List ℕ) (n : ℕ) → IsNumber 0 most word n → number_to most word ≡ Some n
 number_back most word n is = ap (option_and_then (at_most most)) is.number ∙ ap (λ (b : Bool). cond b None (Some n)) (le-ltb most n is.within)
+
+from_is : (least most : ℕ) (word : List ℕ) (n : ℕ) → number_from least most word ≡ Some n → IsNumber least most word n
+from_is least most word n e = go (number_to most word) refl e
+  where
+    within : (k : ℕ) → number_to most word ≡ Some k → (b : Bool) → ltb k least ≡ b → (cond b None (Some k)) ≡ Some n → IsNumber least most word n
+    within k is true under e = absurd cc
+    within k is false fits e =
+        let same : k ≡ n = cc in
+        let it = number_is most word k is in
+        record { number = it.number ∙ ap (λ (m : ℕ). Some m) same; above = omega (arith, same, ltb-false k least fits); within = omega (arith, same, it.within) }
+
+    go : (o : Option ℕ) → number_to most word ≡ o → option_and_then (at_least least) o ≡ Some n → IsNumber least most word n
+    go None is e = absurd cc
+    go (Some k) is e = within k is (ltb k least) refl e
+
+from_back : (least most : ℕ) (word : List ℕ) (n : ℕ) → IsNumber least most word n → number_from least most word ≡ Some n
+from_back least most word n is =
+    ap (option_and_then (at_least least)) (number_back most word n (record { number = is.number; above = omega arith; within = is.within }))
+    ∙ ap (λ (b : Bool). cond b None (Some n)) (le-ltb n least is.above)
 
 ttl_is : (word : List ℕ) (n : ℕ) → id_of 255 word ≡ Some n → IsNumber 1 255 word n
 ttl_is word n e = let is = id_is 255 word n e in record { number = is.0; above = is.1.0; within = is.1.1 }
@@ -120,6 +139,51 @@ frame_spelled names args =
     is : ℕ × ℕ × ℕ → Type 0
     is f = IsFrame names args f.0 f.1 f.2
 
+member_spelled : (names args : List (List ℕ)) → IfOk (member_named names args) (λ m. IsMember names args m.0 m.1)
+unfolding member_named
+member_spelled names args =
+    count_ok is 2 args _ (λ count. first_ok is Name (place_of names) args _ (λ w1 m1 router e1 named.
+    first_ok is Number (number_to 255) m1 _ (λ w2 m2 sd e2 subdomain.
+    let none = none_left m2 (omega (arith, count, ap length e1, ap length e2)) in
+    record {
+      name = w1;
+      subdomain = w2;
+      args_are = e1 ∙ ap (λ (l : List (List ℕ)). w1 ∷ l) (e2 ∙ ap (λ (l : List (List ℕ)). w2 ∷ l) none);
+      named = named;
+      is_subdomain = number_is 255 w2 sd subdomain;
+    })))
+  where
+    is : ℕ × ℕ → Type 0
+    is m = IsMember names args m.0 m.1
+
+relabel_spelled : (names args : List (List ℕ)) → IfOk (relabel_event names args) (IsEvent names (codes "relabel" ∷ args))
+unfolding relabel_event
+relabel_spelled names args =
+    count_ok is 4 args _ (λ count. first_ok is Name (place_of names) args _ (λ w1 m1 router e1 named.
+    first_ok is Number (number_to 255) m1 _ (λ w2 m2 sd e2 subdomain.
+    first_ok is Number length_from m2 _ (λ w3 m3 bsl e3 bits.
+    first_ok is Number (number_from 16 LAST_LABEL) m3 _ (λ w4 m4 label e4 digits.
+    let none = none_left m4 (omega (arith, count, ap length e1, ap length e2, ap length e3, ap length e4)) in
+    record {
+      args = args;
+      words_are = refl;
+      are = record {
+        name = w1;
+        subdomain = w2;
+        bits = w3;
+        digits = w4;
+        args_are =
+            e1 ∙ ap (λ (l : List (List ℕ)). w1 ∷ l) (e2 ∙ ap (λ (l : List (List ℕ)). w2 ∷ l) (e3 ∙ ap (λ (l : List (List ℕ)). w3 ∷ l) (e4 ∙ ap (λ (l : List (List ℕ)). w4 ∷ l) none)));
+        named = named;
+        is_subdomain = number_is 255 w2 sd subdomain;
+        is_length = length_is w3 bsl bits;
+        is_label = from_is 16 LAST_LABEL w4 label digits;
+      };
+    })))))
+  where
+    is : Event → Type 0
+    is = IsEvent names (codes "relabel" ∷ args)
+
 inject_spelled : (names args : List (List ℕ)) → IfOk (inject_event names args) (IsEvent names (codes "inject" ∷ args))
 unfolding inject_event
 inject_spelled names args =
@@ -166,6 +230,22 @@ of_read P Is (Err e) make is each = tt
 says : (words : List (List ℕ)) (word : List ℕ) (args : List (List ℕ)) (Args : List (List ℕ) → Type 0) → words ≡ word ∷ args → Args args → Says words word Args
 says words word args Args e are = record { args = args; words_are = e; are = are }
 
+change_spelled : (names : List (List ℕ)) (word : List ℕ) (args : List (List ℕ)) → IfOk (change_line names word args) (IsEvent names (word ∷ args))
+unfolding change_line
+change_spelled names word args =
+    if_ok is (bytes_eq word (codes "relabel")) _ _ (known (codes "relabel") (relabel_event names args) (relabel_spelled names args)) (λ no1.
+    if_ok is (bytes_eq word (codes "leave")) _ _ (known (codes "leave") _ (of_read (of (codes "leave")) (λ m. IsMember names args m.0 m.1) (member_named names args) (λ m. event.Leave m.0 m.1) (member_spelled names args) (λ m it. says (codes "leave" ∷ args) (codes "leave") args (λ a. IsMember names a m.0 m.1) refl it))) (λ no2.
+    if_ok is (bytes_eq word (codes "join")) _ _ (known (codes "join") _ (of_read (of (codes "join")) (λ m. IsMember names args m.0 m.1) (member_named names args) (λ m. event.Join m.0 m.1) (member_spelled names args) (λ m it. says (codes "join" ∷ args) (codes "join") args (λ a. IsMember names a m.0 m.1) refl it))) (λ no3. tt)))
+  where
+    of : List ℕ → Event → Type 0
+    of key = IsEvent names (key ∷ args)
+
+    is : Event → Type 0
+    is = of word
+
+    known : (key : List ℕ) (read : Result Event TextFault) → IfOk read (IsEvent names (key ∷ args)) → bytes_eq word key ≡ true → IfOk read (IsEvent names (word ∷ args))
+    known key read spelled same = subst (λ (w : List ℕ). IfOk read (IsEvent names (w ∷ args))) (sym ((bytes_eq-Decides word key).0 same)) spelled
+
 event_spelled : (names : List (List ℕ)) (word : List ℕ) (args : List (List ℕ)) → IfOk (event_line names word args) (IsEvent names (word ∷ args))
 unfolding event_line
 event_spelled names word args =
@@ -177,7 +257,7 @@ event_spelled names word args =
     if_ok is (bytes_eq word (codes "up")) _ _ (known (codes "up") _ (of_read (of (codes "up")) (λ l. IsLink names args l.0 l.1) (link_named names args) (λ l. event.Up l.0 l.1) (link_spelled names args) (λ l it. says (codes "up" ∷ args) (codes "up") args (λ a. IsLink names a l.0 l.1) refl it))) (λ no6.
     if_ok is (bytes_eq word (codes "send")) _ _ (known (codes "send") _ (of_read (of (codes "send")) (λ l. IsLink names args l.0 l.1) (link_named names args) (λ l. event.Send l.0 l.1) (link_spelled names args) (λ l it. says (codes "send" ∷ args) (codes "send") args (λ a. IsLink names a l.0 l.1) refl it))) (λ no7.
     if_ok is (bytes_eq word (codes "tick")) _ _ (known (codes "tick") _ (of_read (of (codes "tick")) (IsOne names args) (router_named names args) event.Tick (one_spelled names args) (λ r it. says (codes "tick" ∷ args) (codes "tick") args (λ a. IsOne names a r) refl it))) (λ no8.
-    if_ok is (bytes_eq word (codes "restart")) _ _ (known (codes "restart") _ (of_read (of (codes "restart")) (IsOne names args) (router_named names args) event.Restart (one_spelled names args) (λ r it. says (codes "restart" ∷ args) (codes "restart") args (λ a. IsOne names a r) refl it))) (λ no9. tt)))))))))
+    if_ok is (bytes_eq word (codes "restart")) _ _ (known (codes "restart") _ (of_read (of (codes "restart")) (IsOne names args) (router_named names args) event.Restart (one_spelled names args) (λ r it. says (codes "restart" ∷ args) (codes "restart") args (λ a. IsOne names a r) refl it))) (λ no9. change_spelled names word args)))))))))
   where
     of : List ℕ → Event → Type 0
     of key = IsEvent names (key ∷ args)
@@ -243,6 +323,15 @@ frame_back : (names args : List (List ℕ)) (from to i : ℕ) → IsFrame names 
 unfolding frame_named
 frame_back names args from to i is = rw (is.args_are, is.first_named, is.second_named, number_back 4294967295 is.place i is.is_place) refl
 
+member_back : (names args : List (List ℕ)) (router sd : ℕ) → IsMember names args router sd → member_named names args ≡ Ok (router, sd)
+unfolding member_named
+member_back names args router sd is = rw (is.args_are, is.named, number_back 255 is.subdomain sd is.is_subdomain) refl
+
+relabel_back : (names args : List (List ℕ)) (router sd : ℕ) (bsl : Bsl) (label : ℕ) → IsRelabelling names args router sd bsl label → relabel_event names args ≡ Ok (event.Relabel router sd bsl label)
+unfolding relabel_event
+relabel_back names args router sd bsl label is =
+    rw (is.args_are, is.named, number_back 255 is.subdomain sd is.is_subdomain, length_back is.bits bsl is.is_length, from_back 16 LAST_LABEL is.digits label is.is_label) refl
+
 inject_back : (names args : List (List ℕ)) (router sd : ℕ) (bsl : Bsl) (ids : List ℕ) (ttl entropy : ℕ) (payload : List ℕ) → IsInjection names args router sd bsl ids ttl entropy payload
     → inject_event names args ≡ Ok (event.Inject router sd bsl ids ttl entropy payload)
 unfolding inject_event
@@ -259,7 +348,7 @@ inject_back names args router sd bsl ids ttl entropy payload is =
     ) refl
 
 event_back : (names : List (List ℕ)) (words : List (List ℕ)) (e : Event) → IsEvent names words e → line_of_words names words ≡ Ok (line.One e)
-unfolding schedule_words event_line
+unfolding schedule_words event_line change_line
 event_back names words (event.Inject router sd bsl ids ttl entropy payload) is = ap (line_of_words names) is.words_are ∙ rw (inject_back names is.args router sd bsl ids ttl entropy payload is.are) refl
 event_back names words (event.Take from to i) is = ap (line_of_words names) is.words_are ∙ rw (frame_back names is.args from to i is.are) refl
 event_back names words (event.Lose from to i) is = ap (line_of_words names) is.words_are ∙ rw (frame_back names is.args from to i is.are) refl
@@ -269,6 +358,9 @@ event_back names words (event.Up from to) is = ap (line_of_words names) is.words
 event_back names words (event.Send from to) is = ap (line_of_words names) is.words_are ∙ rw (link_back names is.args from to is.are) refl
 event_back names words (event.Tick router) is = ap (line_of_words names) is.words_are ∙ rw (one_back names is.args router is.are) refl
 event_back names words (event.Restart router) is = ap (line_of_words names) is.words_are ∙ rw (one_back names is.args router is.are) refl
+event_back names words (event.Relabel router sd bsl label) is = ap (line_of_words names) is.words_are ∙ rw (relabel_back names is.args router sd bsl label is.are) refl
+event_back names words (event.Leave router sd) is = ap (line_of_words names) is.words_are ∙ rw (member_back names is.args router sd is.are) refl
+event_back names words (event.Join router sd) is = ap (line_of_words names) is.words_are ∙ rw (member_back names is.args router sd is.are) refl
 
 settle_back : (args : List (List ℕ)) (rounds : ℕ) → IsRounds args rounds → settle_line args ≡ Ok (line.Settle rounds)
 unfolding settle_line

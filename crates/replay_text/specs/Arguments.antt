@@ -5,6 +5,7 @@ use Rattle.std.specs.Result.{result_ok}
 use Rattle.std.specs.Str.{bytes_eq}
 use Rattle.hex.specs.Hex.{decode_of}
 use Rattle.wire_base.specs.declared.bsl.Bsl.{Bsl}
+use Rattle.wire_base.specs.declared.limits.TheConstants.{LAST_LABEL}
 use Rattle.wire_base.specs.model.Fields.{◌>>=◌}
 use Rattle.wire_base.specs.model.Hop.{distinct, has}
 use Rattle.wire_base.specs.model.Place.{bsl_with}
@@ -39,6 +40,13 @@ at_most bound n = if nat_lt bound n then None else Some n
 -- a number up to the bound
 abbrev pub number_to : ℕ → List ℕ → Option ℕ
 number_to bound word = option_and_then (at_most bound) (number_of word)
+
+abbrev pub at_least : ℕ → ℕ → Option ℕ
+at_least bound n = if nat_lt n bound then None else Some n
+
+-- a number between the bounds
+abbrev pub number_from : ℕ → ℕ → List ℕ → Option ℕ
+number_from least most word = option_and_then (at_least least) (number_to most word)
 
 -- the BitStringLength
 abbrev pub length_from : List ℕ → Option Bsl
@@ -76,6 +84,10 @@ number_at bound words = argument Number (number_to bound) words
 
 abbrev pub length_at : List (List ℕ) → Result (Bsl × List (List ℕ)) TextFault
 length_at words = argument Number length_from words
+
+-- an MPLS label that isn't reserved (RFC 3032, 2.1)
+abbrev pub label_at : List (List ℕ) → Result (ℕ × List (List ℕ)) TextFault
+label_at words = argument Number (number_from 16 LAST_LABEL) words
 
 -- a TTL, above 0
 abbrev pub ttl_at : List (List ℕ) → Result (ℕ × List (List ℕ)) TextFault

@@ -4,7 +4,7 @@ use Rattle.replay_text.specs.declared.event.Event.{Event}
 use Rattle.replay_text.specs.declared.event.Event.TheVariants as event
 use Rattle.replay_text.specs.declared.event.Line.{Line}
 use Rattle.replay_text.specs.declared.event.Line.TheVariants as line
-use Rattle.wire_base.specs.declared.limits.TheConstants.{MOST_PAYLOAD, MOST_ROUNDS}
+use Rattle.wire_base.specs.declared.limits.TheConstants.{LAST_LABEL, MOST_PAYLOAD, MOST_ROUNDS}
 
 -- both routers are in the domain
 pub record LinkFits (count from to : ℕ) : Type 0 where
@@ -18,6 +18,12 @@ pub record InjectFits (count router ttl entropy : ℕ) (payload : List ℕ) : Ty
   pub entropy_fits : entropy < 2 ^ 20
   pub short : length payload ≤ MOST_PAYLOAD
 
+-- the router is in the domain, and the label isn't reserved (RFC 3032, 2.1)
+pub record RelabelFits (count router label : ℕ) : Type 0 where
+  pub within : router < count
+  pub free : 16 ≤ label
+  pub label_fits : label ≤ LAST_LABEL
+
 abbrev pub EventFits : ℕ → Event → Type 0
 EventFits count (event.Inject router sd bsl ids ttl entropy payload) = InjectFits count router ttl entropy payload
 EventFits count (event.Take from to i) = LinkFits count from to
@@ -28,6 +34,9 @@ EventFits count (event.Up from to) = LinkFits count from to
 EventFits count (event.Send from to) = LinkFits count from to
 EventFits count (event.Tick router) = router < count
 EventFits count (event.Restart router) = router < count
+EventFits count (event.Relabel router sd bsl label) = RelabelFits count router label
+EventFits count (event.Leave router sd) = router < count
+EventFits count (event.Join router sd) = router < count
 
 abbrev pub LineFits : ℕ → Line → Type 0
 LineFits count line.Empty = Unit {0}

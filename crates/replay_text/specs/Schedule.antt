@@ -12,7 +12,7 @@ use Rattle.replay_text.specs.declared.event.Line.{Line}
 use Rattle.replay_text.specs.declared.event.Line.TheVariants as line
 use Rattle.replay_text.specs.Pieces.{words_of}
 use Rattle.replay_text.specs.Hop.{is_comment}
-use Rattle.replay_text.specs.Arguments.{counted, name_at, number_at, length_at, ids_at, ttl_at, payload_at}
+use Rattle.replay_text.specs.Arguments.{counted, name_at, number_at, length_at, label_at, ids_at, ttl_at, payload_at}
 
 -- `R`
 unfoldable pub router_named : List (List ℕ) → List (List ℕ) → Result ℕ TextFault
@@ -37,6 +37,24 @@ frame_named names args = do
   to ← name_at names from.1
   i ← number_at 4294967295 to.1
   Ok (from.0, to.0, i.0)
+
+-- `R SD`, a sub-domain of a router
+unfoldable pub member_named : List (List ℕ) → List (List ℕ) → Result (ℕ × ℕ) TextFault
+member_named names args = do
+  words ← counted 2 args
+  router ← name_at names words
+  sd ← number_at 255 router.1
+  Ok (router.0, sd.0)
+
+-- `relabel R SD BSL LABEL`
+unfoldable pub relabel_event : List (List ℕ) → List (List ℕ) → Result Event TextFault
+relabel_event names args = do
+  words ← counted 4 args
+  router ← name_at names words
+  sd ← number_at 255 router.1
+  bsl ← length_at sd.1
+  label ← label_at bsl.1
+  Ok (event.Relabel router.0 sd.0 bsl.0 label.0)
 
 -- `inject R SD BSL IDS TTL ENTROPY PAYLOAD`
 unfoldable pub inject_event : List (List ℕ) → List (List ℕ) → Result Event TextFault
@@ -66,6 +84,14 @@ abbrev pub TakesMemory : (names words : List (List ℕ)) → Type 0
 TakesMemory names [] = ⊥
 TakesMemory names (word ∷ args) = (bytes_eq word (codes "inject") ≡ true) × IsOk (inject_front names args)
 
+-- the event that changes a router's configuration which a keyword names, with the words after it
+unfoldable pub change_line : List (List ℕ) → List ℕ → List (List ℕ) → Result Event TextFault
+change_line names word args =
+    if bytes_eq word (codes "relabel") then relabel_event names args else
+    if bytes_eq word (codes "leave") then (member_named names args >>= (λ m. Ok (event.Leave m.0 m.1))) else
+    if bytes_eq word (codes "join") then (member_named names args >>= (λ m. Ok (event.Join m.0 m.1))) else
+    Err Word
+
 -- the event that a keyword names, with the words after it
 unfoldable pub event_line : List (List ℕ) → List ℕ → List (List ℕ) → Result Event TextFault
 event_line names word args =
@@ -78,7 +104,7 @@ event_line names word args =
     if bytes_eq word (codes "send") then (link_named names args >>= (λ l. Ok (event.Send l.0 l.1))) else
     if bytes_eq word (codes "tick") then (router_named names args >>= (λ r. Ok (event.Tick r))) else
     if bytes_eq word (codes "restart") then (router_named names args >>= (λ r. Ok (event.Restart r))) else
-    Err Word
+    change_line names word args
 
 -- `settle N`
 unfoldable pub settle_line : List (List ℕ) → Result Line TextFault

@@ -1,6 +1,6 @@
 -- The grammar of a schedule's lines: what a line spells, in a domain whose routers have those names.
 use Rattle.std.specs.Prelude.{ℕ, ◌≡◌, ◌≤◌, ◌⊎◌, true, false, List, [], ◌∷◌, length, Some, codes}
-use Rattle.wire_base.specs.declared.limits.TheConstants.{LINE_LIMIT, MOST_ROUNDS}
+use Rattle.wire_base.specs.declared.limits.TheConstants.{LAST_LABEL, LINE_LIMIT, MOST_ROUNDS}
 use Rattle.wire_base.specs.declared.bsl.Bsl.{Bsl}
 use Rattle.wire_base.specs.model.Place.{bits_of}
 use Rattle.replay_text.specs.declared.event.Event.{Event}
@@ -42,6 +42,26 @@ pub record IsFrame (names args : List (List ℕ)) (from to i : ℕ) : Type 0 whe
   pub second_named : place_of names second ≡ Some to
   pub is_place : IsNumber 0 4294967295 place i
 
+-- `R SD`: a sub-domain of a router
+pub record IsMember (names args : List (List ℕ)) (router sd : ℕ) : Type 0 where
+  pub name : List ℕ
+  pub subdomain : List ℕ
+  pub args_are : args ≡ name ∷ subdomain ∷ []
+  pub named : place_of names name ≡ Some router
+  pub is_subdomain : IsNumber 0 255 subdomain sd
+
+-- `R SD BSL LABEL`: the first of a router's labels, none of them reserved (RFC 3032, 2.1)
+pub record IsRelabelling (names args : List (List ℕ)) (router sd : ℕ) (bsl : Bsl) (label : ℕ) : Type 0 where
+  pub name : List ℕ
+  pub subdomain : List ℕ
+  pub bits : List ℕ
+  pub digits : List ℕ
+  pub args_are : args ≡ name ∷ subdomain ∷ bits ∷ digits ∷ []
+  pub named : place_of names name ≡ Some router
+  pub is_subdomain : IsNumber 0 255 subdomain sd
+  pub is_length : number_of bits ≡ Some (bits_of bsl)
+  pub is_label : IsNumber 16 LAST_LABEL digits label
+
 -- `R SD BSL IDS TTL ENTROPY PAYLOAD`: what is injected, with ranges by RFC 8296, 2.1
 pub record IsInjection (names args : List (List ℕ)) (router sd : ℕ) (bsl : Bsl) (ids : List ℕ) (ttl entropy : ℕ) (payload : List ℕ) : Type 0 where
   pub name : List ℕ
@@ -76,6 +96,9 @@ IsEvent names words (event.Up from to) = Says words (codes "up") (λ args. IsLin
 IsEvent names words (event.Send from to) = Says words (codes "send") (λ args. IsLink names args from to)
 IsEvent names words (event.Tick router) = Says words (codes "tick") (λ args. IsOne names args router)
 IsEvent names words (event.Restart router) = Says words (codes "restart") (λ args. IsOne names args router)
+IsEvent names words (event.Relabel router sd bsl label) = Says words (codes "relabel") (λ args. IsRelabelling names args router sd bsl label)
+IsEvent names words (event.Leave router sd) = Says words (codes "leave") (λ args. IsMember names args router sd)
+IsEvent names words (event.Join router sd) = Says words (codes "join") (λ args. IsMember names args router sd)
 
 -- `settle N`: that many rounds
 pub record IsRounds (args : List (List ℕ)) (rounds : ℕ) : Type 0 where

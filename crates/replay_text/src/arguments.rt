@@ -13,9 +13,9 @@ use crate::ids::id;
 use crate::listed::read_listed;
 use crate::payload::read_payload;
 use crate::pieces::next_word;
-use crate::tokens::{number, number_to};
+use crate::tokens::{number, number_from, number_to};
 use std::alloc::Global;
-use wire_base::limits::MOST_PAYLOAD;
+use wire_base::limits::{LAST_LABEL, MOST_PAYLOAD};
 use wire_base::{Bsl, Name, Octets, Rows};
 
 /// Returns whether a text has that many words.
@@ -104,6 +104,18 @@ pub fn length_at(args: &[u8]) -> Result<(Bsl, &[u8]), TextFault>
     let (word, rest) = next_word(args).ok_or(TextFault::Word)?;
     let bsl = length_from(word).ok_or(TextFault::Number)?;
     Ok((bsl, rest))
+}
+
+/// Parses an MPLS label that isn't reserved (RFC 3032, 2.1).
+pub fn label_at(args: &[u8]) -> Result<(u32, &[u8]), TextFault>
+    ensures value { Gives (λ found. (found.0, words_of found.1.now)) result (arguments.label_at (words_of args.now)) }
+    ensures quiet { IfErr result (λ why. why ≢ texts.Memory) }
+    ensures low { IfOk result (λ found. 16 ≤ found.0) }
+    ensures high { IfOk result (λ found. found.0 ≤ LAST_LABEL) }
+{
+    let (word, rest) = next_word(args).ok_or(TextFault::Word)?;
+    let label = number_from(word, 16, u64::from(LAST_LABEL)).ok_or(TextFault::Number)?;
+    Ok((label as u32, rest))
 }
 
 /// Parses a TTL, which must be above 0.

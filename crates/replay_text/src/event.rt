@@ -57,6 +57,24 @@ pub enum Event {
     Restart {
         router: u16,
     },
+    /// The MPLS labels of a router for a sub-domain and a BitStringLength begin at another one from now on, of 16 to
+    /// 1,048,575 (RFC 8401, 6.2).
+    Relabel {
+        router: u16,
+        sd: u8,
+        bsl: Bsl,
+        label: u32,
+    },
+    /// A router leaves a sub-domain. It still forwards packets under its labels, and no longer receives for its BFR-id.
+    Leave {
+        router: u16,
+        sd: u8,
+    },
+    /// A router joins a sub-domain that it left, with its BFR-id and its present labels.
+    Join {
+        router: u16,
+        sd: u8,
+    },
 }
 
 /// What a line of a schedule contains.

@@ -9,7 +9,9 @@ ghost use Rattle.replay_text.specs.declared.fault.TextFault.TheVariants as texts
 ghost use Rattle.replay_text.specs.ScheduleGrammar.{IsScheduleLine};
 ghost use Rattle.replay_text.specs.declared.event.Line.{Line};
 
-use crate::arguments::{counted, ids_at, length_at, name_at, number_at, payload_at, ttl_at};
+use crate::arguments::{
+    counted, ids_at, label_at, length_at, name_at, number_at, payload_at, ttl_at,
+};
 use crate::event::{Event, Line};
 use crate::fault::TextFault;
 use crate::hop_line::is_comment;
@@ -60,6 +62,62 @@ fn frame_named(names: &Rows<Name>, args: &[u8]) -> Result<(u16, u16, u32), TextF
     let (to, args) = name_at(names, args)?;
     let (i, _) = number_at(4_294_967_295, args)?;
     Ok((from, to, i as u32))
+}
+
+/// Parses the name of a router and one of its sub-domains.
+#[tactic(auto, unfolding(crate::specs::Schedule::member_named))]
+fn member_named(names: &Rows<Name>, args: &[u8]) -> Result<(u16, u8), TextFault>
+    requires { length names.now ≤ 65536 }
+    ensures value { Gives (λ found. (found.0, found.1)) result (schedule.member_named names.now (words_of args.now)) }
+    ensures quiet { IfErr result (λ why. why ≢ texts.Memory) }
+    ensures within { IfOk result (λ found. found.0 < length names.now) }
+{
+    let args = counted(args, 2)?;
+    let (router, args) = name_at(names, args)?;
+    let (sd, _) = number_at(255, args)?;
+    Ok((router, sd as u8))
+}
+
+/// Parses a `relabel` line from the words after it.
+#[tactic(auto, unfolding(crate::specs::Schedule::relabel_event))]
+fn relabel_event(names: &Rows<Name>, args: &[u8]) -> Result<Event, TextFault>
+    requires { length names.now ≤ 65536 }
+    ensures value { Gives (λ event. event) result (schedule.relabel_event names.now (words_of args.now)) }
+    ensures quiet { IfErr result (λ why. why ≢ texts.Memory) }
+    ensures fits { IfOk result (EventFits (length names.now)) }
+{
+    let args = counted(args, 4)?;
+    let (router, args) = name_at(names, args)?;
+    let (sd, args) = number_at(255, args)?;
+    let (bsl, args) = length_at(args)?;
+    let (label, _) = label_at(args)?;
+    Ok(Event::Relabel {
+        router,
+        sd: sd as u8,
+        bsl,
+        label,
+    })
+}
+
+/// Parses an event that changes a router's configuration, from its first word and the words after it.
+#[tactic(auto, unfolding(crate::specs::Schedule::change_line))]
+fn change_line(names: &Rows<Name>, word: &[u8], args: &[u8]) -> Result<Event, TextFault>
+    requires { length names.now ≤ 65536 }
+    ensures value { Gives (λ event. event) result (schedule.change_line names.now word.now (words_of args.now)) }
+    ensures quiet { IfErr result (λ why. why ≢ texts.Memory) }
+    ensures fits { IfOk result (EventFits (length names.now)) }
+{
+    if word == b"relabel".as_slice() {
+        relabel_event(names, args)
+    } else if word == b"leave".as_slice() {
+        let (router, sd) = member_named(names, args)?;
+        Ok(Event::Leave { router, sd })
+    } else if word == b"join".as_slice() {
+        let (router, sd) = member_named(names, args)?;
+        Ok(Event::Join { router, sd })
+    } else {
+        Err(TextFault::Word)
+    }
 }
 
 /// Parses an `inject` line from the words after it.
@@ -129,7 +187,7 @@ fn event_line(
         let router = router_named(names, args)?;
         Ok(Event::Restart { router })
     } else {
-        Err(TextFault::Word)
+        change_line(names, word, args)
     }
 }
 

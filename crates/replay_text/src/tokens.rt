@@ -35,6 +35,19 @@ pub fn number_to(text: &[u8], bound: u64) -> Option<u64>
     Some(number)
 }
 
+/// Parses a number between the bounds.
+pub fn number_from(text: &[u8], least: u64, most: u64) -> Option<u64>
+    ensures value { result ≡ arguments.number_from least most text.now }
+    ensures low { IfSome result (λ n. least ≤ n) }
+    ensures high { IfSome result (λ n. n ≤ most) }
+{
+    let number = number_to(text, most)?;
+    if number < least {
+        return None;
+    }
+    Some(number)
+}
+
 fn is_name_octet(octet: u8) -> bool
     ensures { result ≡ configuration.is_name_octet octet }
 {
