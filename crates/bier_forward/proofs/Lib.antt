@@ -6,6 +6,7 @@ pub mod IdLaws
 pub mod ImageLaws
 pub mod JoinLaws
 pub mod KeptLaws
+pub mod MemberLaws
 pub mod OnwardLaws
 pub mod OwnEdges
 pub mod PeriodLaws

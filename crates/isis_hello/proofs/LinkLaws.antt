@@ -37,7 +37,7 @@ only_link d valid a b y link p q =
     let e-is : l.there.e ≡ m.there.e = same_Some l.there.e m.there.e (sym l.there.at ∙ ap (λ (r : RouterConf). slice_get r.ends link) r-is ∙ m.there.at) in
     let to_b : l.there.e.peer.0 ≡ l.q.system.0 = (bytes_eq-Decides l.there.e.peer.0 l.q.system.0).0 l.there.leads in
     let to_y : m.there.e.peer.0 ≡ m.q.system.0 = (bytes_eq-Decides m.there.e.peer.0 m.q.system.0).0 m.there.leads in
-    one_place d.routers y b m.q l.q valid.systems m.far_is l.far_is (sym to_y ∙ ap (λ (e : End). e.peer.0) (sym e-is) ∙ to_b)
+    one_place d.routers y b m.q l.q valid.consistent.systems m.far_is l.far_is (sym to_y ∙ ap (λ (e : End). e.peer.0) (sym e-is) ∙ to_b)
 
 pub within_list : {X : Type 0} (xs : List X) (i : ℕ) (x : X) → slice_get xs i ≡ Some x → i < length xs
 within_list [] i x at = absurd (none-some x at)

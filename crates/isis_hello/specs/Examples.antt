@@ -34,6 +34,8 @@ router_of place peer name = record {
   prefix = record { 0 = 10 ∷ 0 ∷ 0 ∷ (place + 1) ∷ [] };
   overload = false;
   subs = [];
+  away = [];
+  past = [];
   kinds = [];
   table = [];
   ends = end_of place peer ∷ [];

@@ -20,6 +20,7 @@ use Rattle.wire_base.specs.model.BierInfo.{AreApart as LengthsApart}
 use Rattle.wire_base.specs.model.Lists.{AreApart}
 use Rattle.wire_base.specs.model.Configuration.{IsLabelRange, IsOwnSub, IsEnd, IsSound, same_length, sub_octets, is_name, is_letter, is_name_octet}
 use Rattle.wire_base.specs.model.OwnLsp.{picked, area_tlv, protocols_tlv, name_tlv, reach_of, reach_tlv, reach_tlvs, info_of, infos_of, control_for, prefix_tlv, own_content}
+use Rattle.wire_base.proofs.SoundLemmas.{sound_subs}
 use Rattle.laws_format.proofs.InfoLaws.{all_weaker}
 use Rattle.bier_subtlv.specs.Views.{own_of}
 
@@ -210,7 +211,7 @@ value_short kinds (s ∷ ss) octets long room =
     omega (arith, t, l, infos_short kinds (s ∷ ss), room)
 
 pub prefix_room : (r : RouterConf) (out old infos : List ℕ) (control : ℕ) → IsSound r → control ≡ control_for r.subs → infos ≡ infos_of r.kinds r.subs → old ≡ [] → out ≡ old ++ prefix (record { metric = 0; control = control; octets = r.prefix.0; subs = infos }) → length out ≤ 255
-prefix_room r out old infos control sound a b none is = rw (is, none, a, b) (value_short r.kinds r.subs r.prefix.0 sound.prefix.octets_are.long sound.room)
+prefix_room r out old infos control sound a b none is = rw (is, none, a, b) (value_short r.kinds r.subs r.prefix.0 sound.prefix.octets_are.long (sound_subs r sound).room)
 
 -- ---- the whole
 
@@ -257,5 +258,5 @@ content_short r up out sound is =
     let some = links_within (length (picked up r.ends)) (picked up r.ends) (picked_all IsEnd up r.ends sound.ends) in
     let few = picked_few up r.ends in
     let short = name_short r.name sound.name in
-    let value = value_short r.kinds r.subs r.prefix.0 sound.prefix.octets_are.long sound.room in
+    let value = value_short r.kinds r.subs r.prefix.0 sound.prefix.octets_are.long (sound_subs r sound).room in
     omega (arith, whole, l1, l2, l3, l4, some, few, short, value, sound.area.few, sound.few_ends)

@@ -28,6 +28,8 @@ observer =
       prefix = record { 0 = 127 ∷ 0 ∷ 0 ∷ 1 ∷ [] };
       overload = false;
       subs = [];
+      away = [];
+      past = [];
       kinds = mpls_kinds 256;
       table = [];
       ends = [];

@@ -36,6 +36,8 @@ fn built(alloc: Global) -> M<RouterConf>
         prefix: Ipv4([127, 0, 0, 1]),
         overload: false,
         subs: Rows::new(alloc),
+        away: Rows::new(alloc),
+        past: Rows::new(alloc),
         kinds: mpls_kinds(alloc)?,
         table: Rows::new(alloc),
         ends: Rows::new(alloc),

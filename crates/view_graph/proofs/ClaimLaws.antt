@@ -25,6 +25,7 @@ use Rattle.wire_base.specs.model.BierInfo.{Info, Parts, no_parts, take_known, ta
 use Rattle.wire_base.specs.model.Configuration.{IsSound, IsEnd, IsOwnSub, same_length}
 use Rattle.wire_base.specs.model.OwnLsp.{picked, info_of}
 use Rattle.wire_base.specs.model.View.{Link, greatest_metric, link_of, links_in, sub_of, sub_at, subs_of, subs_in, tlvs_of, end_link, claim_of, own_claim, claims_of}
+use Rattle.wire_base.proofs.SoundLemmas.{sound_subs}
 use Rattle.laws_format.proofs.FieldLaws.{bind_ok, ok_is, guarded}
 use Rattle.laws_format.proofs.TlvLaws.{some_is}
 use Rattle.view_graph.proofs.GraphLaws.{IsLink, HasApart, IsClaim, all_from, all_weaker, all_put, and_both, no_pairs}
@@ -232,7 +233,7 @@ own_good : (r : RouterConf) (up : List Bool) → IsSound r → IsClaim (own_clai
 own_good r up sound =
     record {
       links = map_all IsLink end_link (picked up r.ends) (picked_all (λ e. IsLink (end_link e)) up r.ends (all_weaker IsEnd (λ e. IsLink (end_link e)) end_good r.ends sound.ends));
-      ranges = map_all HasApart (λ s. sub_of r.prefix.0 (info_of r.kinds s)) r.subs (all_weaker IsOwnSub (λ s. HasApart (sub_of r.prefix.0 (info_of r.kinds s))) own_sub r.subs sound.subs);
+      ranges = map_all HasApart (λ s. sub_of r.prefix.0 (info_of r.kinds s)) r.subs (all_weaker IsOwnSub (λ s. HasApart (sub_of r.prefix.0 (info_of r.kinds s))) own_sub r.subs (sound_subs r sound).each);
     }
   where
     own_sub : (s : OwnSub) → IsOwnSub s → HasApart (sub_of r.prefix.0 (info_of r.kinds s))
