@@ -64,16 +64,22 @@ past_new r up spent s id x unspent at is live = by (s == last_sequence) refl is
           content = sym (ap (λ (e : Entry). e.content) is);
         }
 
--- whatever was live of the own system was its fragment 0, in whose place the new one stands
-pub past_issued : (r : RouterConf) (up ups : List Bool) (before spent : Bool) (s : ℕ) (es : List Entry) → spent ≡ false → AreIssued r ups before es → AreIssued r up (spent_past spent s) (put_entry (own_past r up s) es)
-past_issued r up ups before spent s es unspent all =
+-- what is live of the own system is its fragment 0
+abbrev pub IsFragmentAlone : SystemId → List Entry → Type 0
+IsFragmentAlone system es = (id : LspId) (x : Entry) → entry_in es id ≡ Some x → 0 < x.life → same_system id.system system ≡ true → id ≡ fragment_0 system
+
+fragment_alone : (r : RouterConf) (up : List Bool) (spent : Bool) (es : List Entry) → AreIssued r up spent es → IsFragmentAlone r.system es
+fragment_alone r up spent es all = λ id x there live own. (all.each id x there live own).fragment
+
+-- in whose place the new one stands
+past_issued : (r : RouterConf) (up : List Bool) (spent : Bool) (s : ℕ) (es : List Entry) → spent ≡ false → IsFragmentAlone r.system es → AreIssued r up (spent_past spent s) (put_entry (own_past r up s) es)
+past_issued r up spent s es unspent alone =
     record { each = λ id x there live own. cases id x live own (same_id (own_past r up s).id id) refl (sym (put_reads (own_past r up s) es id) ∙ there) }
   where
     cases : (id : LspId) (x : Entry) → 0 < x.life → same_system id.system r.system ≡ true → (b : Bool) → same_id (own_past r up s).id id ≡ b → (if b then Some (own_past r up s) else entry_in es id) ≡ Some x → IsIssued r up (spent_past spent s) id x
     cases id x live own true same there = past_new r up spent s id x unspent (sym (same_is (own_past r up s).id id same) ∙ past_id r up s) (some_is (own_past r up s) x there) live
     cases id x live own false same there =
-        let old = all.each id x there live own in
-        absurd (true≢false (sym (ap (λ (i : LspId). same_id i id) (past_id r up s) ∙ ap (λ (i : LspId). same_id i id) (sym old.fragment) ∙ id_self id) ∙ same))
+        absurd (true≢false (sym (ap (λ (i : LspId). same_id i id) (past_id r up s) ∙ ap (λ (i : LspId). same_id i id) (sym (alone id x there live own)) ∙ id_self id) ∙ same))
 
 -- ---- an LSP
 
@@ -186,12 +192,16 @@ none_issued r up spent = record { each = λ id e there live own. cc }
 -- ---- of what the code makes
 
 -- the own LSP was made for the ends that are up now, and is put
-pub issued_now : (r : RouterConf) (ups up before_up : List Bool) (before spent now : Bool) (s : ℕ) (own : Entry) (es es' : List Entry) → own ≡ own_past r ups s → es' ≡ put_entry own es → now ≡ spent_past spent s → spent ≡ false → ups ≡ up → AreIssued r before_up before es → AreIssued r up now es'
-issued_now r ups up before_up before spent now s own es es' is put now_is unspent ups_are all =
-    let one : AreIssued r ups (spent_past spent s) (put_entry (own_past r ups s) es) = past_issued r ups before_up before spent s es unspent all in
+pub issued_over : (r : RouterConf) (ups up : List Bool) (spent now : Bool) (s : ℕ) (own : Entry) (es es' : List Entry) → own ≡ own_past r ups s → es' ≡ put_entry own es → now ≡ spent_past spent s → spent ≡ false → ups ≡ up → IsFragmentAlone r.system es → AreIssued r up now es'
+issued_over r ups up spent now s own es es' is put now_is unspent ups_are alone =
+    let one : AreIssued r ups (spent_past spent s) (put_entry (own_past r ups s) es) = past_issued r ups spent s es unspent alone in
     let two : AreIssued r ups (spent_past spent s) es' = subst (λ (l : List Entry). AreIssued r ups (spent_past spent s) l) (sym (put ∙ ap (λ (e : Entry). put_entry e es) is)) one in
     let three : AreIssued r ups now es' = subst (λ (b : Bool). AreIssued r ups b es') (sym now_is) two in
     subst (λ (u : List Bool). AreIssued r u now es') ups_are three
+
+-- of a router whose configuration is the same
+pub issued_now : (r : RouterConf) (ups up before_up : List Bool) (before spent now : Bool) (s : ℕ) (own : Entry) (es es' : List Entry) → own ≡ own_past r ups s → es' ≡ put_entry own es → now ≡ spent_past spent s → spent ≡ false → ups ≡ up → AreIssued r before_up before es → AreIssued r up now es'
+issued_now r ups up before_up before spent now s own es es' is put now_is unspent ups_are all = issued_over r ups up spent now s own es es' is put now_is unspent ups_are (fragment_alone r before_up before es all)
 
 pub marked_up : (f : Flood) (id : LspId) → (mark_all f id).up ≡ f.up
 unfolding mark_all

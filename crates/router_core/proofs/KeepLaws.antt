@@ -5,12 +5,13 @@ use Rattle.std.proofs.lemmas.List.Folds.{list_any-append}
 use Rattle.std.specs.List.{list_any}
 use Rattle.wire_base.specs.declared.addresses.LspId.{LspId}
 use Rattle.wire_base.specs.declared.addresses.SystemId.{SystemId}
+use Rattle.wire_base.specs.declared.bsl.Bsl.{Bsl}
 use Rattle.wire_base.specs.declared.conf.RouterConf.{RouterConf}
 use Rattle.wire_base.specs.declared.conf.SubKind.{SubKind}
 use Rattle.wire_base.specs.declared.entry.Entry.{Entry}
 use Rattle.wire_base.specs.declared.memory.Memory.{Memory}
 use Rattle.wire_base.specs.model.Control.{Control, same_system}
-use Rattle.wire_base.specs.model.Flooding.{Reply, on_pdu, send, sent_on, tick, end_up, end_down}
+use Rattle.wire_base.specs.model.Flooding.{Reply, on_pdu, send, sent_on, tick, end_up, end_down, relabel, leave, join}
 use Rattle.wire_base.specs.model.OnFrame.{Effects, Next, framed, pdu_taken}
 use Rattle.wire_base.specs.model.Pdu.{Pdu, LspPdu, CsnpPdu, PsnpPdu, Head}
 use Rattle.wire_base.specs.model.Tlv.{rows_of}
@@ -21,10 +22,11 @@ use Rattle.view_graph.proofs.HeardLaws.{said_heard}
 use Rattle.view_graph.proofs.SystemLaws.{same_turned}
 use Rattle.bier_forward.specs.Kept.{AreRoutes}
 use Rattle.bier_forward.specs.declared.routes.Routes.{Routes}
+use Rattle.bier_forward.proofs.MemberLaws.{routes_stay}
 use Rattle.router_core.specs.SnpNeeds.{is_confusing}
 use Rattle.router_core.specs.declared.kept.Kept.{Kept}
 use Rattle.router_core.specs.Keeping.{IsKept, IsCurrent, IsNow, MayKeep, SaysSame, StaysKept, StaysOwn, is_last}
-use Rattle.router_core.proofs.StalenessLaws.{but_says, says_itself, lsp_but, csnp_but, psnp_but, tick_but, up_but, down_but}
+use Rattle.router_core.proofs.StalenessLaws.{but_says, says_itself, lsp_but, csnp_but, psnp_but, tick_but, up_but, down_but, relabel_but, leave_but, join_but}
 
 -- ---- what may have changed is noted
 
@@ -32,11 +34,11 @@ pub outdated : (c next : Control) (k : Kept) (system : SystemId) (changed : List
     → IsKept c k → SaysSame system c next → IsKept next (record k { is_current = false; changed = changed })
 outdated c next k system changed named kept same =
     record {
-      system = kept.system ∙ sym (ap (λ (r : RouterConf). r.system) same.conf);
-      kinds = kept.kinds ∙ sym (ap (λ (r : RouterConf). r.kinds) same.conf);
+      system = kept.system ∙ sym (ap (λ (r : RouterConf). r.system) same.one);
+      kinds = kept.kinds ∙ sym (ap (λ (r : RouterConf). r.kinds) same.one);
       unchanged = still;
       current = λ is. absurd (false≢true is);
-      routes = subst (λ (r : RouterConf). AreRoutes r k.view.nodes k.routes) (sym same.conf) kept.routes;
+      routes = subst (λ (r : RouterConf). AreRoutes r k.view.nodes k.routes) (sym same.one) (routes_stay c.conf next.conf.subs next.conf.away next.conf.past k.view.nodes k.routes kept.routes);
     }
   where
     still : (s : SystemId) → same_system s k.view.system ≡ false → is_named changed s ≡ false → said_by k.view.others s ≡ said_by (heard k.view.system k.view.kinds next.entries) s
@@ -126,6 +128,16 @@ up_keeps c c' link k k' result ok err kept stays = done_keeps c c' (end_up c lin
 
 pub down_keeps : (c c' : Control) (link : ℕ) (k k' : Option Kept) (result : Result (Unit {0}) Memory) → OnOk result (c' ≡ (end_down c link).control) → OnErr result (c' ≡ c) → MayKeep c k → StaysOwn k k' → MayKeep c' k'
 down_keeps c c' link k k' result ok err kept stays = done_keeps c c' (end_down c link).control k' result ok err (stays c c kept (says_itself c.conf.system c)) (stays c (end_down c link).control kept (but_says c.conf.system c (end_down c link).control (down_but c link)))
+
+pub relabel_keeps : (c c' : Control) (sd : ℕ) (bsl : Bsl) (label : ℕ) (k k' : Option Kept) (result : Result (Unit {0}) Memory) → OnOk result (c' ≡ (relabel c sd bsl label).control) → OnErr result (c' ≡ c) → MayKeep c k → StaysOwn k k' → MayKeep c' k'
+relabel_keeps c c' sd bsl label k k' result ok err kept stays =
+    done_keeps c c' (relabel c sd bsl label).control k' result ok err (stays c c kept (says_itself c.conf.system c)) (stays c (relabel c sd bsl label).control kept (but_says c.conf.system c (relabel c sd bsl label).control (relabel_but c sd bsl label)))
+
+pub leave_keeps : (c c' : Control) (sd : ℕ) (k k' : Option Kept) (result : Result (Unit {0}) Memory) → OnOk result (c' ≡ (leave c sd).control) → OnErr result (c' ≡ c) → MayKeep c k → StaysOwn k k' → MayKeep c' k'
+leave_keeps c c' sd k k' result ok err kept stays = done_keeps c c' (leave c sd).control k' result ok err (stays c c kept (says_itself c.conf.system c)) (stays c (leave c sd).control kept (but_says c.conf.system c (leave c sd).control (leave_but c sd)))
+
+pub join_keeps : (c c' : Control) (sd : ℕ) (k k' : Option Kept) (result : Result (Unit {0}) Memory) → OnOk result (c' ≡ (join c sd).control) → OnErr result (c' ≡ c) → MayKeep c k → StaysOwn k k' → MayKeep c' k'
+join_keeps c c' sd k k' result ok err kept stays = done_keeps c c' (join c sd).control k' result ok err (stays c c kept (says_itself c.conf.system c)) (stays c (join c sd).control kept (but_says c.conf.system c (join c sd).control (join_but c sd)))
 
 pub second_keeps : (c : Control) (k k' : Option Kept) → list_any is_last c.entries ≡ false → MayKeep c k → StaysOwn k k' → MayKeep (tick c).control k'
 second_keeps c k k' none kept stays = stays c (tick c).control kept (but_says c.conf.system c (tick c).control (tick_but c none))

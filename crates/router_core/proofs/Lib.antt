@@ -6,9 +6,11 @@ pub mod SnpNeedsLaws
 pub mod IdleLaws
 pub mod IssuedLaws
 pub mod KeepLaws
+pub mod MembershipLaws
 pub mod MergeLaws
 pub mod StalenessLaws
 pub mod OwnLaws
+pub mod ReconfigurationLaws
 pub mod ReceivedLaws
 pub mod SaidLaws
 pub mod SendLaws

@@ -4,6 +4,7 @@ use Rattle.std.proofs.lemmas.Bool.{false≢true, true≢false}
 use Rattle.std.specs.List.{fold, list_any}
 use Rattle.wire_base.specs.declared.addresses.LspId.{LspId}
 use Rattle.wire_base.specs.declared.addresses.SystemId.{SystemId}
+use Rattle.wire_base.specs.declared.bsl.Bsl.{Bsl}
 use Rattle.wire_base.specs.declared.conf.RouterConf.{RouterConf}
 use Rattle.wire_base.specs.declared.entry.Age.{Age}
 use Rattle.wire_base.specs.declared.entry.Age.TheVariants.{Unknown, Newer, Equal, Older, Confused}
@@ -12,10 +13,12 @@ use Rattle.wire_base.specs.declared.flood_out.FloodOut.{FloodOut}
 use Rattle.wire_base.specs.declared.flood_out.FloodOut.TheVariants as out
 use Rattle.wire_base.specs.declared.triple.Summary.{Summary}
 use Rattle.wire_base.specs.model.Control.{Control, Flood, same_id, same_system, entry_in, own_entry_in, put_entry, purge, age_of, age_by_life, is_unknown, is_full, seq_of}
-use Rattle.wire_base.specs.model.Flooding.{LspAnswer, SnpAnswer, answer_lsp, aged_all, end_down, end_up, is_live_summary, is_own_ahead, is_stale, is_unheld_own, kept, link_down, link_up, listed_aged, lsp_aged, lsp_in, nothing_asked, on_csnp, on_list, on_listed, on_lsp, on_pdu, on_psnp, refreshed, reissue, reissue_if, reissue_unless_spent, snp_done, tick, wanted}
+use Rattle.wire_base.specs.model.Flooding.{LspAnswer, SnpAnswer, answer_lsp, aged_all, end_down, end_up, is_live_summary, is_own_ahead, is_stale, is_unheld_own, join, kept, leave, link_down, link_up, listed_aged, lsp_aged, lsp_in, nothing_asked, on_csnp, on_list, on_listed, on_lsp, on_pdu, on_psnp, refreshed, reissue, reissue_if, reissue_unless_spent, relabel, snp_done, tick, wanted}
+use Rattle.wire_base.specs.model.Membership.{relabelled, left, rejoined}
 use Rattle.wire_base.specs.model.Pdu.{Head, head_summary, LspPdu, CsnpPdu, PsnpPdu}
 use Rattle.wire_base.specs.model.Tlv.{rows_of}
 use Rattle.view_graph.proofs.SystemLaws.{same_turned}
+use Rattle.laws_members.specs.Becoming.{AreOfOne}
 use Rattle.isis_flood.proofs.AgeLaws.{unknown_is_none}
 use Rattle.router_core.specs.SnpNeeds.{is_confused, is_confusing}
 use Rattle.router_core.specs.Keeping.{SaysSame, is_last}
@@ -26,24 +29,24 @@ use Rattle.router_core.proofs.SaidLaws.{parts, same_said, put_apart, put_dead, s
 
 -- each system but the router itself and one more has the same live entries
 pub record IsBut (system : SystemId) (c next : Control) : Type 0 where
-  pub conf : next.conf ≡ c.conf
+  pub one : AreOfOne next.conf c.conf
   pub others : (t : SystemId) → same_system t c.conf.system ≡ false → same_system system t ≡ false → parts t next.entries ≡ parts t c.entries
 
 pub but_says : (system : SystemId) (c next : Control) → IsBut system c next → SaysSame system c next
-but_says system c next is = record { conf = is.conf; said = λ s apart away. same_said c.conf.kinds c.entries next.entries s (is.others s apart away) }
+but_says system c next is = record { one = is.one; said = λ s apart away. same_said c.conf.kinds c.entries next.entries s (is.others s apart away) }
 
 pub says_itself : (system : SystemId) (c : Control) → SaysSame system c c
-says_itself system c = record { conf = refl; said = λ s apart away. refl }
+says_itself system c = record { one = refl; said = λ s apart away. refl }
 
 but_if : (system : SystemId) (c : Control) (b : Bool) (x y : Control) → IsBut system c x → IsBut system c y → IsBut system c (if b then x else y)
 but_if system c true x y h k = h
 but_if system c false x y h k = k
 
 reissue_but : (system : SystemId) (c x : Control) (s : ℕ) → IsBut system c x → IsBut system c (reissue x s)
-reissue_but system c x s is = subst (IsBut system c) (sym (reissue_is x s)) (record { conf = is.conf; others = λ t apart away. put_apart t (own_past x.conf x.flood.up s) x.entries (own t apart) ∙ is.others t apart away })
+reissue_but system c x s is = subst (IsBut system c) (sym (reissue_is x s)) (record { one = is.one; others = λ t apart away. put_apart t (own_past x.conf x.flood.up s) x.entries (own t apart) ∙ is.others t apart away })
   where
     own : (t : SystemId) → same_system t c.conf.system ≡ false → same_system (own_past x.conf x.flood.up s).id.system t ≡ false
-    own t apart = ap (λ (i : LspId). same_system i.system t) (past_id x.conf x.flood.up s) ∙ ap (λ (r : RouterConf). same_system r.system t) is.conf ∙ same_turned c.conf.system t ∙ apart
+    own t apart = ap (λ (i : LspId). same_system i.system t) (past_id x.conf x.flood.up s) ∙ ap (λ (r : RouterConf). same_system r.system t) is.one ∙ same_turned c.conf.system t ∙ apart
 
 -- ---- an LSP
 
@@ -89,7 +92,7 @@ pub lsp_but : (c : Control) (link : ℕ) (h : Head) (tlvs : List ℕ) → IsBut 
 unfolding on_pdu
 lsp_but c link h tlvs =
     answer_but h.id.system c (record c { flood = (on_lsp c.flood c.entries link h tlvs c.spent).flood; entries = (on_lsp c.flood c.entries link h tlvs c.spent).entries })
-    (record { conf = refl; others = λ t apart away. lsp_same t c.flood c.entries link h tlvs away c.spent }) (on_lsp c.flood c.entries link h tlvs c.spent).answer
+    (record { one = refl; others = λ t apart away. lsp_same t c.flood c.entries link h tlvs away c.spent }) (on_lsp c.flood c.entries link h tlvs c.spent).answer
 
 -- ---- a sequence numbers PDU that lists nothing at odds with the LSDB
 
@@ -155,7 +158,7 @@ module _ (t : SystemId) (link : ℕ) (spent : Bool) where
       record { same = rest.same ∙ one.same; asked = rest.asked ∙ one.asked; clear = refl }
 
 snp_but : (c : Control) (a : SnpAnswer) → a.answer.reissue ≡ None → ((t : SystemId) → parts t a.entries ≡ parts t c.entries) → IsBut c.conf.system c (snp_done c a).control
-snp_but c a none all = subst (λ (o : Option ℕ). IsBut c.conf.system c (reissue_if (record c { flood = a.flood; entries = a.entries }) o)) (sym none) (record { conf = refl; others = λ t apart away. all t })
+snp_but c a none all = subst (λ (o : Option ℕ). IsBut c.conf.system c (reissue_if (record c { flood = a.flood; entries = a.entries }) o)) (sym none) (record { one = refl; others = λ t apart away. all t })
 
 pub csnp_but : (c : Control) (link : ℕ) (source : SystemId) (start last : LspId) (tlvs : List ℕ) → list_any (is_confusing c.entries) (rows_of tlvs) ≡ false → IsBut c.conf.system c (on_pdu c link (CsnpPdu source start last tlvs)).control
 unfolding on_pdu on_csnp on_list
@@ -176,7 +179,7 @@ refreshed_but c x is = but_if c.conf.system c (is_stale (own_entry_in x)) (reiss
 
 aged_but : (c : Control) → list_any is_last c.entries ≡ false → IsBut c.conf.system c (aged_all c)
 unfolding aged_all
-aged_but c none = record { conf = refl; others = λ t apart away. second_parts t c.entries none }
+aged_but c none = record { one = refl; others = λ t apart away. second_parts t c.entries none }
 
 pub tick_but : (c : Control) → list_any is_last c.entries ≡ false → IsBut c.conf.system c (tick c).control
 unfolding tick
@@ -190,8 +193,22 @@ unless_but c x is = but_if c.conf.system c x.spent x (reissue x (seq_of (own_ent
 
 pub up_but : (c : Control) (link : ℕ) → IsBut c.conf.system c (end_up c link).control
 unfolding end_up
-up_but c link = unless_but c (record c { flood = link_up c.flood c.entries link }) (record { conf = refl; others = λ t apart away. refl })
+up_but c link = unless_but c (record c { flood = link_up c.flood c.entries link }) (record { one = refl; others = λ t apart away. refl })
 
 pub down_but : (c : Control) (link : ℕ) → IsBut c.conf.system c (end_down c link).control
 unfolding end_down
-down_but c link = unless_but c (record c { flood = link_down c.flood link }) (record { conf = refl; others = λ t apart away. refl })
+down_but c link = unless_but c (record c { flood = link_down c.flood link }) (record { one = refl; others = λ t apart away. refl })
+
+-- ---- other labels, and sub-domains that are left and joined
+
+pub relabel_but : (c : Control) (sd : ℕ) (bsl : Bsl) (label : ℕ) → IsBut c.conf.system c (relabel c sd bsl label).control
+unfolding relabel relabelled
+relabel_but c sd bsl label = unless_but c (record c { conf = relabelled c.conf sd bsl label }) (record { one = refl; others = λ t apart away. refl })
+
+pub leave_but : (c : Control) (sd : ℕ) → IsBut c.conf.system c (leave c sd).control
+unfolding leave left
+leave_but c sd = unless_but c (record c { conf = left c.conf sd }) (record { one = refl; others = λ t apart away. refl })
+
+pub join_but : (c : Control) (sd : ℕ) → IsBut c.conf.system c (join c sd).control
+unfolding join rejoined
+join_but c sd = unless_but c (record c { conf = rejoined c.conf sd }) (record { one = refl; others = λ t apart away. refl })

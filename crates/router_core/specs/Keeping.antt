@@ -5,6 +5,7 @@ use Rattle.wire_base.specs.declared.entry.Entry.{Entry}
 use Rattle.wire_base.specs.model.Control.{Control, same_system}
 use Rattle.wire_base.specs.model.View.{control_view}
 use Rattle.view_graph.specs.Keep.{IsUnchanged, said_in}
+use Rattle.laws_members.specs.Becoming.{AreOfOne}
 use Rattle.bier_forward.specs.Kept.{AreRoutes}
 use Rattle.router_core.specs.declared.kept.Kept.{Kept}
 
@@ -33,9 +34,10 @@ abbrev pub IsNow : Control → Option Kept → Type 0
 IsNow c None = ⊥
 IsNow c (Some k) = IsCurrent c k
 
--- In two control states of one configuration each system advertises the same, except the router itself and one more.
+-- In two control states of one router, whose configurations differ at most in its sub-domains and label ranges, each system
+-- advertises the same, except the router itself and one more.
 pub record SaysSame (system : SystemId) (c next : Control) : Type 0 where
-  pub conf : next.conf ≡ c.conf
+  pub one : AreOfOne next.conf c.conf
   pub said : (s : SystemId) → same_system s c.conf.system ≡ false → same_system system s ≡ false → said_in c.conf.kinds next.entries s ≡ said_in c.conf.kinds c.entries s
 
 -- Whatever a system and the router itself come to advertise: what was cached before is cached after.

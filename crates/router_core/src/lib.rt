@@ -11,9 +11,11 @@ mod entering;
 mod frames;
 mod framing;
 mod kept;
+mod membership;
 mod own;
 mod pdus;
 mod pending;
+mod reconfiguration;
 mod router;
 mod seconds;
 mod sending;
@@ -22,5 +24,6 @@ mod staleness;
 
 pub use bfr_edge::{EdgeFault, Packet};
 pub use bier_forward::{DropNote, Effects, SentFrames};
+pub use membership::{is_in, is_known, is_too_high, is_worn, own_range, used_label};
 pub use router::Router;
 pub use wire_base::{Cause, Got};

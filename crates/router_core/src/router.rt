@@ -1,9 +1,11 @@
-ghost use Rattle.std.specs.Prelude.{◌≡◌, [], ◌<◌, ◌≤◌, ◌^◌, length, true, false, None, IfOk, OnOk, OnErr, MatchResult};
+ghost use Rattle.std.specs.Prelude.{◌≡◌, [], ◌<◌, ◌≤◌, ◌^◌, length, true, false, is_some, None, IfOk, OnOk, OnErr, MatchResult};
 ghost use Rattle.std.specs.List.{list_any};
 ghost use Rattle.wire_base.specs.model.Configuration.{IsSound};
-ghost use Rattle.wire_base.specs.model.Flooding.{first_control, tick, send, send_of, end_up, end_down, restart};
+ghost use Rattle.wire_base.specs.model.Flooding.{first_control, tick, send, send_of, end_up, end_down, relabel, leave, join, restart};
 ghost use Rattle.wire_base.specs.model.Ingress.{edge_fault, inject};
+ghost use Rattle.wire_base.specs.model.Membership.{CanRelabel};
 ghost use Rattle.wire_base.specs.model.OnFrame.{nothing, framed, on_frame};
+ghost use Rattle.wire_base.specs.model.Place.{sub_in};
 ghost use Rattle.wire_base.specs.model.View.{control_view};
 ghost use Rattle.bfr_edge.specs.Entry.{Refuses};
 ghost use Rattle.router_core.specs.Bounds.{leaves_state, packet_hopped, most_sent};
@@ -219,6 +221,49 @@ impl Router {
     {
         note_own(&mut self.kept);
         self.control.end_down(link)
+    }
+
+    /// Gives the router other labels: its label range of a BSL in a sub-domain, which it is in or left, begins at `label`, and has as
+    /// many labels as before. The router originates its own LSP again, so that the other routers learn the labels. The earlier labels
+    /// keep their meaning, and packets that arrive with them are forwarded as before (RFC 8401, 6.2; ISO/IEC 10589, 7.3.6). If an
+    /// allocation fails, nothing has changed.
+    ///
+    /// Precondition: the router has that range, the new one has no reserved label and none above 1,048,575 and shares no label with
+    /// a range that the router has or had, and fewer than 1,000 ranges were replaced. [`own_range`](crate::own_range),
+    /// [`used_label`](crate::used_label) and [`is_worn`](crate::is_worn) tell.
+    pub fn relabel(&mut self, sd: u8, bsl: Bsl, label: u32) -> M<()>
+        requires { CanRelabel self.old.control.conf sd bsl label }
+        ensures control { OnOk result (self.new.control ≡ (relabel self.old.control sd bsl label).control) }
+        ensures err { OnErr result (self.new ≡ self.old) }
+        ensures heard { self.new.heard ≡ self.old.heard }
+    {
+        note_own(&mut self.kept);
+        self.control.relabel(sd, bsl, label)
+    }
+
+    /// Leaves a sub-domain that the router is in, and originates its own LSP again, without the sub-domain. No packet is delivered to
+    /// its BFR-id there any more; packets that arrive with its labels are still forwarded (RFC 8401, 6.1; ISO/IEC 10589, 7.3.6). If
+    /// an allocation fails, nothing has changed.
+    pub fn leave(&mut self, sd: u8) -> M<()>
+        requires { is_some (sub_in self.old.control.conf.subs sd) ≡ true }
+        ensures control { OnOk result (self.new.control ≡ (leave self.old.control sd).control) }
+        ensures err { OnErr result (self.new ≡ self.old) }
+        ensures heard { self.new.heard ≡ self.old.heard }
+    {
+        note_own(&mut self.kept);
+        self.control.leave(sd)
+    }
+
+    /// Joins a sub-domain that the router left, with the BFR-id that it had there and its label ranges there, and originates its own
+    /// LSP again (RFC 8401, 6.1; ISO/IEC 10589, 7.3.6). If an allocation fails, nothing has changed.
+    pub fn join(&mut self, sd: u8) -> M<()>
+        requires { is_some (sub_in self.old.control.conf.away sd) ≡ true }
+        ensures control { OnOk result (self.new.control ≡ (join self.old.control sd).control) }
+        ensures err { OnErr result (self.new ≡ self.old) }
+        ensures heard { self.new.heard ≡ self.old.heard }
+    {
+        note_own(&mut self.kept);
+        self.control.join(sd)
     }
 
     /// Restarts the router: it loses all state except its configuration and which interfaces are up (ISO/IEC 10589,
