@@ -26,7 +26,7 @@ second_true confs e x t q = by (nat_lt 0 e.life) refl (e.life == 1) refl (nat_le
     live some more (inl own) = record {
       named = t.named;
       seq = t.seq;
-      says = inl (record { router = own.router; among = own.among; is = own.is; up = own.up; ends = own.ends; content = own.content; flags = own.flags; sum = own.sum; live = omega (arith, some, more); fresh = omega (arith, own.fresh); some = own.some });
+      says = inl (record { now = own.now; among = own.among; router = own.router; earlier = own.earlier; is = own.is; up = own.up; ends = own.ends; content = own.content; flags = own.flags; sum = own.sum; live = omega (arith, some, more); fresh = omega (arith, own.fresh); some = own.some });
     }
     live some more (inr dead) = absurd (omega (arith, dead.dead, some))
 

@@ -22,6 +22,7 @@ use Rattle.wire_base.specs.model.OwnLsp.{own_lsp}
 use Rattle.wire_base.specs.model.Pdu.{Head, head_summary, Pdu, LspPdu, CsnpPdu, PsnpPdu, HelloPdu, OtherPdu}
 use Rattle.wire_base.specs.model.Tlv.{LspIdFits, SummaryFits, rows_of}
 use Rattle.laws_format.proofs.TlvListLaws.{rows_of_tlvs}
+use Rattle.laws_members.specs.Becoming.{IsEarlier}
 use Rattle.domain_model.specs.Truth.{IsAmong, IsNamed, IsTrueEntry, IsTrueControl, IsTrueRow, IsTrueList, IsTruePdu}
 use Rattle.domain_model.proofs.EachLaws.{each_weaker, each_got, fold_keeps}
 use Rattle.domain_model.proofs.FlagLaws.{found_each, each_is_found, mapped_off}
@@ -50,9 +51,9 @@ state_of confs c t = record { entries_true = t.entries; in_order = t.kept.contro
 issue_true : (confs : List RouterConf) (c : Control) (e : Entry) → IsTrueEntry confs e → 0 < e.seq → IsTrueState confs c.flood c.entries → IsTrueNext confs c (issue c e)
 issue_true confs c e t some s = record { conf = refl; state = marked_true confs c.flood c.entries e t some s }
 
-pub reissue_true : (confs : List RouterConf) (c : Control) (s : ℕ) → IsAmong confs c.conf → length c.flood.up ≡ length c.conf.ends → s ≤ last_sequence → IsTrueState confs c.flood c.entries → IsTrueNext confs c (reissue c s)
+pub reissue_true : (confs : List RouterConf) (c : Control) (s : ℕ) → IsAmong confs c.conf → IsEarlier c.conf c.conf → length c.flood.up ≡ length c.conf.ends → s ≤ last_sequence → IsTrueState confs c.flood c.entries → IsTrueNext confs c (reissue c s)
 unfolding reissue
-reissue_true confs c s among ends low t =
+reissue_true confs c s among own ends low t =
     cond_both (s == last_sequence) (issue (record c { spent = true }) (purge (fragment_0 c.conf.system) s)) (issue c (own_lsp c.conf c.flood.up (s + 1))) (IsTrueNext confs c)
     (λ e.
     let last = eqb-true s 4294967295 e in
@@ -61,7 +62,7 @@ reissue_true confs c s among ends low t =
     (λ e.
     let less : s ≡ 4294967295 → ⊥ = eqb-false s 4294967295 e in
     let q = own_seq c.conf c.flood.up (s + 1) in
-    issue_true confs c (own_lsp c.conf c.flood.up (s + 1)) (own_true confs c.conf c.flood.up (s + 1) among ends (omega arith) (omega (arith, low, less))) (omega (arith, q)) t)
+    issue_true confs c (own_lsp c.conf c.flood.up (s + 1)) (own_true confs c.conf c.flood.up (s + 1) among own ends (omega arith) (omega (arith, low, less))) (omega (arith, q)) t)
 
 pub seq_low : (confs : List RouterConf) (es : List Entry) (id : LspId) → AllByRecursion (IsTrueEntry confs) es → seq_of (entry_in es id) ≤ last_sequence
 seq_low confs es id all = by (entry_in es id) refl
@@ -70,13 +71,13 @@ seq_low confs es id all = by (entry_in es id) refl
     by None q = omega arith
     by (Some e) q = (found_each (IsTrueEntry confs) es id e all q).seq
 
-unless_true : (confs : List RouterConf) (c d : Control) → d.conf ≡ c.conf → IsAmong confs c.conf → length d.flood.up ≡ length c.conf.ends → IsTrueState confs d.flood d.entries → IsTrueNext confs c (reissue_unless_spent d)
+unless_true : (confs : List RouterConf) (c d : Control) → d.conf ≡ c.conf → IsAmong confs c.conf → IsEarlier c.conf c.conf → length d.flood.up ≡ length c.conf.ends → IsTrueState confs d.flood d.entries → IsTrueNext confs c (reissue_unless_spent d)
 unfolding reissue_unless_spent
-unless_true confs c d same among ends s =
+unless_true confs c d same among own ends s =
     cond_both d.spent d (reissue d (seq_of (own_entry_in d))) (IsTrueNext confs c)
     (λ e. record { conf = same; state = s })
     (λ e.
-    let n = reissue_true confs d (seq_of (own_entry_in d)) (subst (IsAmong confs) (sym same) among) (ends ∙ ap (λ (r : RouterConf). length r.ends) (sym same)) (seq_low confs d.entries (fragment_0 d.conf.system) s.entries_true) s in
+    let n = reissue_true confs d (seq_of (own_entry_in d)) (subst (IsAmong confs) (sym same) among) (subst (λ (r : RouterConf). IsEarlier r r) (sym same) own) (ends ∙ ap (λ (r : RouterConf). length r.ends) (sym same)) (seq_low confs d.entries (fragment_0 d.conf.system) s.entries_true) s in
     record { conf = n.conf ∙ same; state = n.state })
 
 -- ---- links stay as they are
@@ -178,7 +179,7 @@ rows_true confs tlvs sound t =
     subst (AllByRecursion (IsTrueRow confs)) (sym (ap rows_of t.spelled ∙ rows_of_tlvs t.rows fits)) t.each
 
 -- a router of a domain, and the state that it has
-module _ (confs : List RouterConf) (small : length confs ≤ MOST_ROUTERS) (sound : AllByRecursion IsSound confs) (c : Control) (among : IsAmong confs c.conf) (ends : length c.flood.up ≡ length c.conf.ends) (s : IsTrueState confs c.flood c.entries) where
+module _ (confs : List RouterConf) (small : length confs ≤ MOST_ROUTERS) (sound : AllByRecursion IsSound confs) (c : Control) (among : IsAmong confs c.conf) (own : IsEarlier c.conf c.conf) (ends : length c.flood.up ≡ length c.conf.ends) (s : IsTrueState confs c.flood c.entries) where
   ack_true : (d : Control) (row : Summary) → d.conf ≡ c.conf → IsTrueState confs d.flood d.entries → IsTrueRow confs row → IsTrueReply confs c (record { control = d; sent = psnp_of d (row ∷ []) ∷ []; drops = [] })
   ack_true d row same state t =
       record {
@@ -197,7 +198,7 @@ module _ (confs : List RouterConf) (small : length confs ≤ MOST_ROUTERS) (soun
   answered : (a : LspAnswer) (o : FloodOut) → IsTrueState confs a.flood a.entries → ((n : ℕ) → o ≡ out.Reissue n → length a.flood.up ≡ length c.conf.ends) → IsTrueOut confs o → IsTrueReply confs c (answer_lsp (record c { flood = a.flood; entries = a.entries }) o)
   answered a out.Kept state same t = quiet_true confs c (record c { flood = a.flood; entries = a.entries }) (record { conf = refl; state = state })
   answered a (out.Reissue n) state same t =
-      let next = reissue_true confs (record c { flood = a.flood; entries = a.entries }) n among (same n refl) t state in
+      let next = reissue_true confs (record c { flood = a.flood; entries = a.entries }) n among own (same n refl) t state in
       quiet_true confs c (reissue (record c { flood = a.flood; entries = a.entries }) n) (record { conf = next.conf; state = next.state })
   answered a (out.Ack row) state same t = ack_true (record c { flood = a.flood; entries = a.entries }) row refl state t
   answered a out.Full state same t = absurd t
@@ -206,7 +207,7 @@ module _ (confs : List RouterConf) (small : length confs ≤ MOST_ROUTERS) (soun
   low_true : (d : Control) (o : Option ℕ) → d.conf ≡ c.conf → length d.flood.up ≡ length c.conf.ends → IsLow o → IsTrueState confs d.flood d.entries → IsTrueNext confs c (reissue_if d o)
   low_true d None same up low state = record { conf = same; state = state }
   low_true d (Some n) same up low state =
-      let next = reissue_true confs d n (subst (IsAmong confs) (sym same) among) (up ∙ ap (λ (r : RouterConf). length r.ends) (sym same)) low state in
+      let next = reissue_true confs d n (subst (IsAmong confs) (sym same) among) (subst (λ (r : RouterConf). IsEarlier r r) (sym same) own) (up ∙ ap (λ (r : RouterConf). length r.ends) (sym same)) low state in
       record { conf = next.conf ∙ same; state = next.state }
 
   listed : (a : SnpAnswer) → a.flood.up ≡ c.flood.up → IsTrueSnp confs a → IsTrueReply confs c (snp_done c a)
@@ -261,7 +262,7 @@ module _ (confs : List RouterConf) (small : length confs ≤ MOST_ROUTERS) (soun
       quiet_true confs c (refreshed d)
       (cond_both (is_stale (own_entry_in d)) (reissue d (seq_of (own_entry_in d))) d (IsTrueNext confs c)
       (λ e.
-      let next = reissue_true confs d (seq_of (own_entry_in d)) (subst (IsAmong confs) (sym n.conf) among) (ap length aged_up ∙ ends ∙ ap (λ (r : RouterConf). length r.ends) (sym n.conf)) (seq_low confs d.entries (fragment_0 d.conf.system) n.state.entries_true) n.state in
+      let next = reissue_true confs d (seq_of (own_entry_in d)) (subst (IsAmong confs) (sym n.conf) among) (subst (λ (r : RouterConf). IsEarlier r r) (sym n.conf) own) (ap length aged_up ∙ ends ∙ ap (λ (r : RouterConf). length r.ends) (sym n.conf)) (seq_low confs d.entries (fragment_0 d.conf.system) n.state.entries_true) n.state in
       record { conf = next.conf ∙ n.conf; state = next.state })
       (λ e. n))
 
@@ -293,7 +294,7 @@ module _ (confs : List RouterConf) (small : length confs ≤ MOST_ROUTERS) (soun
   unfolding end_up
   end_up_true link =
       quiet_true confs c (reissue_unless_spent (record c { flood = link_up c.flood c.entries link }))
-      (unless_true confs c (record c { flood = link_up c.flood c.entries link }) refl among (ap length (up_links link) ∙ length-set c.flood.up link true ∙ ends) (up_true link))
+      (unless_true confs c (record c { flood = link_up c.flood c.entries link }) refl among own (ap length (up_links link) ∙ length-set c.flood.up link true ∙ ends) (up_true link))
 
   down_true : (link : ℕ) → IsTrueState confs (link_down c.flood link) c.entries
   unfolding link_down
@@ -307,28 +308,34 @@ module _ (confs : List RouterConf) (small : length confs ≤ MOST_ROUTERS) (soun
   unfolding end_down
   end_down_true link =
       quiet_true confs c (reissue_unless_spent (record c { flood = link_down c.flood link }))
-      (unless_true confs c (record c { flood = link_down c.flood link }) refl among (ap length (down_links link) ∙ length-set c.flood.up link false ∙ ends) (down_true link))
+      (unless_true confs c (record c { flood = link_down c.flood link }) refl among own (ap length (down_links link) ∙ length-set c.flood.up link false ∙ ends) (down_true link))
 
 -- a router that has started
-started_state : (confs : List RouterConf) (r : RouterConf) (up : List Bool) → IsAmong confs r → length up ≡ length r.ends → IsTrueState confs (started r up).flood (started r up).entries
+started_state : (confs : List RouterConf) (r : RouterConf) (up : List Bool) → IsAmong confs r → IsEarlier r r → length up ≡ length r.ends → IsTrueState confs (started r up).flood (started r up).entries
 unfolding started new_flood
-started_state confs r up among ends =
+started_state confs r up among own ends =
     let q = own_seq r up 1 in
-    marked_true confs (new_flood r.system up) [] (own_lsp r up 1) (own_true confs r up 1 among ends (omega arith) (omega arith)) (omega (arith, q))
+    marked_true confs (new_flood r.system up) [] (own_lsp r up 1) (own_true confs r up 1 among own ends (omega arith) (omega arith)) (omega (arith, q))
     (record { entries_true = tt; in_order = tt; unsent = λ id link z. refl })
 
 started_conf : (r : RouterConf) (up : List Bool) → (started r up).conf ≡ r
 unfolding started
 started_conf r up = refl
 
-pub first_state_true : (confs : List RouterConf) (r : RouterConf) → IsAmong confs r → IsTrueState confs (first_control r).flood (first_control r).entries
+pub first_state_true : (confs : List RouterConf) (r : RouterConf) → IsAmong confs r → IsEarlier r r → IsTrueState confs (first_control r).flood (first_control r).entries
 unfolding first_control
-first_state_true confs r among = started_state confs r (replicate (length r.ends) true) among (length-replicate (length r.ends) true)
+first_state_true confs r among own = started_state confs r (replicate (length r.ends) true) among own (length-replicate (length r.ends) true)
 
 pub first_conf : (r : RouterConf) → (first_control r).conf ≡ r
 unfolding first_control
 first_conf r = started_conf r (replicate (length r.ends) true)
 
-pub restart_true : (confs : List RouterConf) (c : Control) → IsAmong confs c.conf → length c.flood.up ≡ length c.conf.ends → IsTrueReply confs c (restart c)
+pub restart_true : (confs : List RouterConf) (c : Control) → IsAmong confs c.conf → IsEarlier c.conf c.conf → length c.flood.up ≡ length c.conf.ends → IsTrueReply confs c (restart c)
 unfolding restart
-restart_true confs c among ends = quiet_true confs c (started c.conf c.flood.up) (record { conf = started_conf c.conf c.flood.up; state = started_state confs c.conf c.flood.up among ends })
+restart_true confs c among own ends = quiet_true confs c (started c.conf c.flood.up) (record { conf = started_conf c.conf c.flood.up; state = started_state confs c.conf c.flood.up among own ends })
+
+-- a router whose configuration becomes another one, of which its state is true: it originates its own LSP anew
+pub changed_true : (confs : List RouterConf) (c : Control) (next : RouterConf) → IsAmong confs next → IsEarlier next next → length c.flood.up ≡ length next.ends → IsTrueState confs c.flood c.entries → IsTrueReply confs (record c { conf = next }) (quiet (reissue_unless_spent (record c { conf = next })))
+changed_true confs c next among own ends s =
+    let d : Control = record c { conf = next } in
+    quiet_true confs d (reissue_unless_spent d) (unless_true confs d d refl among own ends s)

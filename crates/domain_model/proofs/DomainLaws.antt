@@ -1,5 +1,5 @@
--- The routers of a valid domain: each is sound, all have the same kinds and the same table, and none has another's system
--- or prefix.
+-- The routers of a consistent domain: each is sound, all have the same kinds and the same table, and none has another's
+-- system or prefix. An earlier configuration of a router has its system, its prefix, its kinds and its table.
 use Rattle.std.proofs.Common.{◌≡◌, ℕ, zero, suc, ◌==◌, Bool, true, false, List, [], ◌∷◌, slice_get, Some, refl, sym, ap, subst, ◌∙◌}
 use mathlib.Core.Bool.{false≢true, true≢false}
 use Rattle.std.specs.List.{AllByRecursion}
@@ -8,8 +8,10 @@ use Rattle.std.proofs.lemmas.Bool.{and_parts, eqb-true}
 use Rattle.std.proofs.lemmas.Option.{same_Some}
 use Rattle.wire_base.specs.declared.addresses.SystemId.{SystemId}
 use Rattle.wire_base.specs.declared.conf.RouterConf.{RouterConf}
-use Rattle.wire_base.specs.model.Configuration.{DomainConf, IsValid, IsSound, IsAlike, AreAlike, KeepsKinds, same_system, same_prefix}
+use Rattle.wire_base.specs.model.Configuration.{DomainConf, IsConsistent, IsSound, IsAlike, AreAlike, KeepsKinds, same_system, same_prefix}
 use Rattle.wire_base.specs.model.Lists.{AreApart}
+use Rattle.laws_members.proofs.MeaningLaws.{earlier_self}
+use Rattle.laws_members.specs.Becoming.{IsEarlier}
 use Rattle.domain_model.specs.Truth.{IsAmong}
 use Rattle.domain_model.proofs.EachLaws.{each_got}
 use Rattle.domain_model.proofs.FlagLaws.{bytes_self}
@@ -48,7 +50,7 @@ apart_same same turned xs i j x y apart p q h = same_Some x y (sym p ∙ ap (sli
 
 -- ---- routers of a domain
 
-module _ (d : DomainConf) (valid : IsValid d) where
+module _ (d : DomainConf) (valid : IsConsistent d) where
   pub sound_of : (r : RouterConf) → IsAmong d.routers r → IsSound r
   sound_of r a = each_got IsSound d.routers a.place r valid.sound a.there
 
@@ -77,3 +79,27 @@ module _ (d : DomainConf) (valid : IsValid d) where
           let u = with_first x r rs i all p in
           let v = with_first x q rs j all s in
           record { level = v.level ∙ sym u.level; area = v.area ∙ sym u.area; kinds = v.kinds ∙ sym u.kinds; table = v.table ∙ sym u.table }
+
+  -- ---- earlier configurations
+
+  -- a router's configuration of now
+  pub own_earlier : (r : RouterConf) → IsAmong d.routers r → IsEarlier r r
+  own_earlier r a = earlier_self r (sound_of r a) (keeps_of r a)
+
+  pub alike_earlier : (r was now : RouterConf) → IsAmong d.routers r → IsAmong d.routers now → IsEarlier was now → IsAlike r was
+  alike_earlier r was now a b e =
+      let k = alike r now a b in
+      record {
+        level = ap (λ (x : RouterConf). x.level) e.one ∙ k.level;
+        area = ap (λ (x : RouterConf). x.area) e.one ∙ k.area;
+        kinds = ap (λ (x : RouterConf). x.kinds) e.one ∙ k.kinds;
+        table = ap (λ (x : RouterConf). x.table) e.one ∙ k.table;
+      }
+
+  -- two with one prefix have one system
+  pub system_by_prefix : (r q now there_now : RouterConf) → IsAmong d.routers now → IsAmong d.routers there_now → IsEarlier r now → IsEarlier q there_now → bytes_eq r.prefix.0 q.prefix.0 ≡ true → r.system ≡ q.system
+  system_by_prefix r q now there_now a b e f h =
+      let near : r.prefix.0 ≡ now.prefix.0 = ap (λ (x : RouterConf). x.prefix.0) e.one in
+      let far : q.prefix.0 ≡ there_now.prefix.0 = ap (λ (x : RouterConf). x.prefix.0) f.one in
+      let same : now ≡ there_now = same_by_prefix now there_now a b (bytes_from now.prefix.0 there_now.prefix.0 (sym near ∙ bytes_is r.prefix.0 q.prefix.0 h ∙ far)) in
+      ap (λ (x : RouterConf). x.system) e.one ∙ ap (λ (x : RouterConf). x.system) same ∙ sym (ap (λ (x : RouterConf). x.system) f.one)

@@ -16,18 +16,19 @@ use Rattle.wire_base.specs.declared.conf.TableRow.{TableRow}
 use Rattle.wire_base.specs.declared.faults.EdgeFault.{EdgeFault}
 use Rattle.wire_base.specs.declared.faults.EdgeFault.TheVariants as faults
 use Rattle.wire_base.specs.model.BitSet.{IsWithin, with_member}
-use Rattle.wire_base.specs.model.Configuration.{DomainConf, IsValid, IsSound, IsOwnSub}
+use Rattle.wire_base.specs.model.Configuration.{DomainConf, IsConsistent, IsSound, IsOwnSub}
 use Rattle.wire_base.specs.model.Control.{Control}
 use Rattle.wire_base.specs.model.Hop.{has}
 use Rattle.wire_base.specs.model.Ingress.{id_set, sets_of, IngressPacket, packet_for, packets_for, is_large, has_length, supports_length, edge_fault, ingress_kind}
 use Rattle.wire_base.specs.model.Place.{bits_of, set_identifier, kind_of, sub_in, ranges_in, id_of, own_id}
 use Rattle.wire_base.proofs.SetLaws.{within-filter, within-with}
+use Rattle.wire_base.proofs.SoundLemmas.{sound_subs}
 use Rattle.domain_model.specs.Moves.{Made, hop_made, entering_item, inject_made}
 use Rattle.domain_model.specs.Truth.{IsTrueControl, InjectFits}
 use Rattle.domain_model.proofs.EachLaws.{each_weaker, each_mapped, each_kept, each_passing, each_both}
 use Rattle.domain_model.proofs.DomainLaws.{sound_of}
 use Rattle.domain_model.proofs.HopTruth.{has_self, has_more, filter_some, IsChosen, distinct_each}
-use Rattle.domain_model.proofs.CopyTruth.{sub_fits, AreIds, IsTrueMade, joined_true, hop_true_here}
+use Rattle.domain_model.proofs.CopyTruth.{SamePlaces, sub_fits, AreIds, IsTrueMade, joined_true, hop_true_here}
 
 -- ---- what is allowed
 
@@ -172,7 +173,7 @@ own_small r sd sound = by (sub_in r.subs sd) refl
     by : (o : Option OwnSub) → sub_in r.subs sd ≡ o → unwrap_or (id_of o) 0 < 2 ^ 16
     by None e = omega arith
     by (Some s) e =
-        let own = sub_fits r.subs sd s sound.subs e in
+        let own = sub_fits r.subs sd s (sound_subs r sound).each e in
         at (s.id == 0) refl own
       where
         at : (b : Bool) → (s.id == 0) ≡ b → IsOwnSub s → unwrap_or (if b then None else Some s.id) 0 < 2 ^ 16
@@ -182,21 +183,21 @@ own_small r sd sound = by (sub_in r.subs sd) refl
 entry_kind : (r : RouterConf) (sd : ℕ) (kind : Kind) → kind_of r.kinds sd ≡ Some kind → kind_of r.kinds sd ≡ Some (ingress_kind r sd)
 entry_kind r sd kind is = is ∙ ap (λ (o : Option Kind). Some (unwrap_or o Mpls)) (sym is)
 
-pub inject_true : (d : DomainConf) → IsValid d → (injections a : ℕ) (c : Control) → slice_get d.routers a ≡ Some c.conf → IsTrueControl d.routers c → (sd : ℕ) (bsl : Bsl) (ks : List ℕ) (ttl entropy : ℕ) (payload : List ℕ) → InjectFits (length d.routers) a sd ks ttl entropy payload → edge_fault c.conf sd bsl ks ≡ None
-    → IsTrueMade d.routers (injections + 1) (inject_made d.routers a c (injections + 1) sd bsl ks ttl entropy payload)
+pub inject_true : (old : List RouterConf) (d : DomainConf) → IsConsistent d → SamePlaces old d.routers → (injections a : ℕ) (c : Control) → slice_get d.routers a ≡ Some c.conf → IsTrueControl d.routers c → (sd : ℕ) (bsl : Bsl) (ks : List ℕ) (ttl entropy : ℕ) (payload : List ℕ) → InjectFits (length old) a sd ks ttl entropy payload → edge_fault c.conf sd bsl ks ≡ None
+    → IsTrueMade old d.routers (injections + 1) (inject_made old a c (injections + 1) sd bsl ks ttl entropy payload)
 unfolding inject_made
-inject_true d valid injections a c at t sd bsl ks ttl entropy payload fits ok =
+inject_true old d valid places injections a c at t sd bsl ks ttl entropy payload fits ok =
     let allowed = allowed_of c.conf sd bsl ks ok in
-    joined_true d.routers (injections + 1) (map enter (packets_for sd bsl ks))
-    (each_mapped (IsTrueMade d.routers (injections + 1)) enter (packets_for sd bsl ks)
-    (each_weaker (IsEntry sd bsl) (λ p. IsTrueMade d.routers (injections + 1) (enter p)) (one allowed) (packets_for sd bsl ks) (packets_true c.conf sd bsl ks allowed fits.bfr_ids)))
+    joined_true old d.routers (injections + 1) (map enter (packets_for sd bsl ks))
+    (each_mapped (IsTrueMade old d.routers (injections + 1)) enter (packets_for sd bsl ks)
+    (each_weaker (IsEntry sd bsl) (λ p. IsTrueMade old d.routers (injections + 1) (enter p)) (one allowed) (packets_for sd bsl ks) (packets_true c.conf sd bsl ks allowed fits.bfr_ids)))
   where
     enter : IngressPacket → Made
-    enter p = hop_made d.routers a c (entering_item c.conf (injections + 1) ttl entropy payload p) (ttl + 1)
+    enter p = hop_made old a c (entering_item c.conf (injections + 1) ttl entropy payload p) (ttl + 1)
 
-    one : IsAllowed c.conf sd bsl ks → (p : IngressPacket) → IsEntry sd bsl p → IsTrueMade d.routers (injections + 1) (enter p)
+    one : IsAllowed c.conf sd bsl ks → (p : IngressPacket) → IsEntry sd bsl p → IsTrueMade old d.routers (injections + 1) (enter p)
     one allowed p k =
-        hop_true_here d valid (injections + 1) a c at t (entering_item c.conf (injections + 1) ttl entropy payload p) (ttl + 1)
+        hop_true_here old d valid places (injections + 1) a c at t (entering_item c.conf (injections + 1) ttl entropy payload p) (ttl + 1)
         (record {
           told = omega arith;
           made = omega arith;

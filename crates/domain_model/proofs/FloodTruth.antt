@@ -19,6 +19,7 @@ use Rattle.wire_base.specs.model.Pdu.{Head, head_summary}
 use Rattle.wire_base.specs.model.Tlv.{rows_of}
 use Rattle.laws_format.proofs.PduLaws.{lsp_sum_fits}
 use Rattle.lsp_store.proofs.PlaceLaws.{put_ascends}
+use Rattle.laws_members.specs.Becoming.{IsEarlier}
 use Rattle.domain_model.specs.Truth.{IsAmong, IsNamed, IsOwnLsp, IsDeadLsp, IsTrueLsp, IsTrueEntry, IsUnsent, IsTrueRow}
 use Rattle.domain_model.proofs.EachLaws.{fold_keeps}
 use Rattle.domain_model.proofs.FlagLaws.{same_id_is, put_same, put_other, put_each, each_is_found, srm_same, KeepsId, SetsNone, changed_for, changed_off}
@@ -38,12 +39,12 @@ purge_true confs id s n low = record { named = n; seq = low; says = inr (record 
 wanted_true : (confs : List RouterConf) (s : Summary) → IsNamed confs s.id → IsTrueEntry confs (wanted s)
 wanted_true confs s n = record { named = n; seq = omega arith; says = inr (record { dead = refl; sum = refl; flags = refl; empty = refl }) }
 
-pub own_true : (confs : List RouterConf) (r : RouterConf) (up : List Bool) (s : ℕ) → IsAmong confs r → length up ≡ length r.ends → 0 < s → s ≤ last_sequence → IsTrueEntry confs (own_lsp r up s)
+pub own_true : (confs : List RouterConf) (r : RouterConf) (up : List Bool) (s : ℕ) → IsAmong confs r → IsEarlier r r → length up ≡ length r.ends → 0 < s → s ≤ last_sequence → IsTrueEntry confs (own_lsp r up s)
 unfolding own_lsp
-own_true confs r up s among ends some low = record {
+own_true confs r up s among own ends some low = record {
   named = record { router = r; among = among; is = refl };
   seq = low;
-  says = inl (record { router = r; among = among; is = refl; up = up; ends = ends; content = refl; flags = refl; sum = refl; live = omega arith; fresh = omega arith; some = some });
+  says = inl (record { now = r; among = among; router = r; earlier = own; is = refl; up = up; ends = ends; content = refl; flags = refl; sum = refl; live = omega arith; fresh = omega arith; some = some });
 }
 
 pub own_seq : (r : RouterConf) (up : List Bool) (s : ℕ) → (own_lsp r up s).seq ≡ s

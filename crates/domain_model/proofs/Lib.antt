@@ -8,6 +8,7 @@ pub mod FlagLaws
 pub mod FloodTruth
 pub mod HopTruth
 pub mod IdLaws
+pub mod LaterTruth
 pub mod LinkLaws
 pub mod NamedLaws
 pub mod QueueLaws

@@ -1,5 +1,5 @@
 -- Where the ends of a router lead, and where the routers of systems and prefixes stand.
-use Rattle.std.proofs.Common.{◌≡◌, ℕ, zero, suc, ◌+◌, Bool, true, false, if◌then◌else◌, List, [], ◌∷◌, slice_get, Option, Some, None, option_map, add-one, refl, sym, ap, subst, ◌∙◌, arith}
+use Rattle.std.proofs.Common.{◌≡◌, ℕ, zero, suc, ◌+◌, Bool, true, false, if◌then◌else◌, List, [], ◌∷◌, length, slice_get, Option, Some, None, option_map, add-one, refl, sym, ap, subst, ◌∙◌, arith}
 use mathlib.Core.Bool.{true≢false}
 use Rattle.std.specs.List.{AllByRecursion}
 use Rattle.std.specs.Str.{bytes_eq}
@@ -8,10 +8,11 @@ use Rattle.wire_base.specs.declared.addresses.SystemId.{SystemId}
 use Rattle.wire_base.specs.declared.conf.End.{End}
 use Rattle.wire_base.specs.declared.conf.RouterConf.{RouterConf}
 use Rattle.wire_base.specs.model.Choice.{is_system, end_toward}
-use Rattle.wire_base.specs.model.Configuration.{DomainConf, IsValid, IsBack, Faces, AreEnds, HaveEnds, end_to, peers_of, same_prefix}
+use Rattle.wire_base.specs.model.Configuration.{DomainConf, IsConsistent, IsBack, Faces, AreEnds, HaveEnds, end_to, peers_of, same_prefix}
 use Rattle.wire_base.specs.model.Configuration as configuration
 use Rattle.wire_base.specs.model.Item.{router_with}
 use Rattle.wire_base.specs.model.Lists.{AreApart}
+use Rattle.laws_members.specs.Becoming.{HasBecome, HaveBecome}
 use Rattle.domain_model.specs.World.{place_of, end_at, far_place, peer_place, end_between, link_between}
 use Rattle.domain_model.proofs.EachLaws.{each_got}
 use Rattle.domain_model.proofs.DomainLaws.{bytes_is, bytes_from, system_place}
@@ -139,7 +140,7 @@ end_to_at (e ∷ es) s f h = by (bytes_eq e.peer.0 s.0) refl (λ k. end_to_at es
     by false t more = let k : end_to es s ≡ Some f = rw t at h in let m = more k in (m.0 + 1, rw (t, m.1) refl)
 
 -- the router that meets an end is the one that the end leads to
-met_is : (d : DomainConf) → IsValid d → (r far : RouterConf) (e : End) (b : ℕ) (m : IsMet d.routers r e) → slice_get d.routers b ≡ Some far → e.peer ≡ far.system → m.router ≡ far
+met_is : (d : DomainConf) → IsConsistent d → (r far : RouterConf) (e : End) (b : ℕ) (m : IsMet d.routers r e) → slice_get d.routers b ≡ Some far → e.peer ≡ far.system → m.router ≡ far
 met_is d valid r far e b m there peer =
     let place : m.place ≡ b = system_place d valid m.place b m.router far m.there there (sym m.peer ∙ peer) in
     same_Some m.router far (sym m.there ∙ ap (slice_get d.routers) place ∙ there)
@@ -147,7 +148,7 @@ met_is d valid r far e b m there peer =
 between_is : (confs : List RouterConf) (a b link : ℕ) (r q : RouterConf) → slice_get confs a ≡ Some r → slice_get confs b ≡ Some q → end_toward r.ends q.system ≡ Some link → link_between confs a b ≡ Some link
 between_is confs a b link r q p s h = rw (p, s) h
 
-back_of : (d : DomainConf) → IsValid d → (a b link : ℕ) → IsJoin d.routers a b link → (back : ℕ) × (link_between d.routers b a ≡ Some back)
+back_of : (d : DomainConf) → IsConsistent d → (a b link : ℕ) → IsJoin d.routers a b link → (back : ℕ) × (link_between d.routers b a ≡ Some back)
 back_of d valid a b link j =
     let e = end_found j.near.ends j.far.system link j.toward in
     let ends : AllByRecursion (IsMet d.routers j.near) j.near.ends = each_got (λ (r : RouterConf). AllByRecursion (IsMet d.routers r) r.ends) d.routers a j.near (routers_met d 0 d.routers valid.ends) j.near_at in
@@ -157,5 +158,43 @@ back_of d valid a b link j =
     (back.0, between_is d.routers b a back.0 j.far j.near j.far_at j.near_at (subst (λ (q : RouterConf). end_toward q.ends j.near.system ≡ Some back.0) same back.1))
 
 -- a link has two directions
-pub links_back : (d : DomainConf) → IsValid d → (a b link : ℕ) → link_between d.routers a b ≡ Some link → (back : ℕ) × (link_between d.routers b a ≡ Some back)
+pub links_back : (d : DomainConf) → IsConsistent d → (a b link : ℕ) → link_between d.routers a b ≡ Some link → (back : ℕ) × (link_between d.routers b a ≡ Some back)
 links_back d valid a b link h = back_of d valid a b link (join_of d.routers a b link h)
+
+-- ---- routers whose configurations have changed
+
+pub become_at : (rs qs : List RouterConf) (i : ℕ) (r q : RouterConf) → HaveBecome rs qs → slice_get rs i ≡ Some r → slice_get qs i ≡ Some q → HasBecome r q
+become_at [] qs i r q b e f = absurd cc
+become_at (x ∷ xs) [] i r q b e f = absurd b
+become_at (x ∷ xs) (y ∷ ys) zero r q b e f = subst (λ (z : RouterConf). HasBecome z q) (same_Some x r e) (subst (λ (z : RouterConf). HasBecome x z) (same_Some y q f) b.0)
+become_at (x ∷ xs) (y ∷ ys) (suc i) r q b e f = become_at xs ys i r q b.1 e f
+
+-- none becomes more or fewer
+become_length : (rs qs : List RouterConf) → HaveBecome rs qs → length rs ≡ length qs
+become_length [] [] b = refl
+become_length [] (y ∷ ys) b = absurd b
+become_length (x ∷ xs) [] b = absurd b
+become_length (x ∷ xs) (y ∷ ys) b = ap suc (become_length xs ys b.1)
+
+place_stays : (rs qs : List RouterConf) (s : SystemId) → HaveBecome rs qs → place_of rs s ≡ place_of qs s
+place_stays [] [] s b = refl
+place_stays [] (y ∷ ys) s b = absurd b
+place_stays (x ∷ xs) [] s b = absurd b
+place_stays (x ∷ xs) (y ∷ ys) s b =
+    ap (λ (z : SystemId). if bytes_eq z.0 s.0 then 0 else suc (place_of xs s)) (sym (ap (λ (z : RouterConf). z.system) b.0.one))
+    ∙ ap (λ (n : ℕ). if bytes_eq y.system.0 s.0 then 0 else suc n) (place_stays xs ys s b.1)
+
+end_stays : (rs qs : List RouterConf) (a link : ℕ) → HaveBecome rs qs → end_at (slice_get rs a) link ≡ end_at (slice_get qs a) link
+end_stays [] [] a link b = refl
+end_stays [] (y ∷ ys) a link b = absurd b
+end_stays (x ∷ xs) [] a link b = absurd b
+end_stays (x ∷ xs) (y ∷ ys) zero link b = ap (λ (z : RouterConf). slice_get z.ends link) (sym b.0.one)
+end_stays (x ∷ xs) (y ∷ ys) (suc a) link b = end_stays xs ys a link b.1
+
+-- each end leads to the same place
+pub places_stay : (rs qs : List RouterConf) (a link : ℕ) → HaveBecome rs qs → peer_place rs a link ≡ peer_place qs a link
+places_stay rs qs a link b = ap (far_place rs) (end_stays rs qs a link b) ∙ far (end_at (slice_get qs a) link)
+  where
+    far : (o : Option End) → far_place rs o ≡ far_place qs o
+    far None = become_length rs qs b
+    far (Some e) = place_stays rs qs e.peer b

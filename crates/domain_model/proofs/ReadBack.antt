@@ -17,6 +17,7 @@ use Rattle.wire_base.specs.model.Lists.{blocks, blocks_within}
 use Rattle.wire_base.specs.model.OwnLsp.{picked, reach_of, most_in_tlv, reach_tlv, reach_tlvs, info_of, control_for, own_prefix, prefix_tlv, own_tlvs, own_content, level_bits, own_flags}
 use Rattle.wire_base.specs.model.Place.{kind_of, is_mpls}
 use Rattle.wire_base.specs.model.Tlv.{tlv, ReachFits, reach, reach_at, PrefixFits, prefix, prefix_at, prefix_bits, padded, entries_of, tlvs_before}
+use Rattle.wire_base.proofs.SoundLemmas.{sound_subs}
 use Rattle.wire_base.specs.model.View.{Link, link_of, links_in, sub_of, sub_at, accepted, subs_of, subs_in, is_overload_flag, end_link}
 use Rattle.laws_format.proofs.InfoLaws.{info_again}
 use Rattle.laws_format.proofs.TlvListLaws.{reaches_again, prefixes_again, before_spelled}
@@ -106,7 +107,7 @@ prefix_fits r sound = record {
   control = control_small r.subs;
   bits = rw (control_bits r.subs) (omega arith);
   octets = rw (control_bits r.subs) (four_padded r.prefix.0 sound.prefix.octets_are.long);
-  subs = subs_follow r.kinds r.subs sound.room;
+  subs = subs_follow r.kinds r.subs (sound_subs r sound).room;
 }
 
 places_read : (r : RouterConf) → IsSound r → subs_of (own_prefix r) ≡ map (λ s. sub_of r.prefix.0 (info_of r.kinds s)) r.subs
@@ -114,7 +115,7 @@ places_read r sound =
     rw (control_bits r.subs)
     (ap (λ (l : List ℕ). filter_map (sub_at r.prefix.0) (tlvs_before l)) (sym (flat_mapped tlv (λ (s : OwnSub). info_tlv (info_of r.kinds s)) r.subs))
     ∙ ap (filter_map (sub_at r.prefix.0)) (before_spelled (map (λ s. info_tlv (info_of r.kinds s)) r.subs))
-    ∙ subs_read r.prefix.0 r.kinds r.subs sound.subs)
+    ∙ subs_read r.prefix.0 r.kinds r.subs (sound_subs r sound).each)
 
 prefix_read : (r : RouterConf) → IsSound r → subs_in (prefix_tlv r) ≡ map (λ s. sub_of r.prefix.0 (info_of r.kinds s)) r.subs
 prefix_read r sound =

@@ -6,13 +6,15 @@ use Rattle.std.specs.List.{filter_map}
 use Rattle.std.proofs.lemmas.List.{length-replicate}
 use Rattle.std.proofs.lemmas.Bool.{cond_both, eqb-false, lt-ltb, ne_eqb}
 use Rattle.wire_base.specs.declared.limits.TheConstants.{MOST_CONTENT, MOST_ROUTERS}
+use Rattle.wire_base.specs.declared.addresses.SystemId.{SystemId}
+use Rattle.wire_base.specs.declared.conf.End.{End}
 use Rattle.wire_base.specs.declared.conf.RouterConf.{RouterConf}
 use Rattle.wire_base.specs.declared.entry.Entry.{Entry}
 use Rattle.wire_base.specs.declared.flood_out.FloodOut.{FloodOut}
 use Rattle.wire_base.specs.declared.flood_out.FloodOut.TheVariants as out
 use Rattle.wire_base.specs.model.Configuration.{IsSound}
 use Rattle.wire_base.specs.model.Control.{entry_in, seq_of, purge, after_second, Flood, Control, IsDatabase, fragment_0, own_entry_in}
-use Rattle.wire_base.specs.model.Flooding.{issue, last_sequence, reissue, reissue_if, reissue_unless_spent, LspAnswer, answer_lsp, lsp_done, snp_done, on_lsp, on_csnp, on_psnp, on_pdu, aged_all, is_stale, refreshed, tick, send, end_up, end_down, link_up, link_down, new_flood, started, first_control, restart}
+use Rattle.wire_base.specs.model.Flooding.{quiet, issue, last_sequence, reissue, reissue_if, reissue_unless_spent, LspAnswer, answer_lsp, lsp_done, snp_done, on_lsp, on_csnp, on_psnp, on_pdu, aged_all, is_stale, refreshed, tick, send, end_up, end_down, link_up, link_down, new_flood, started, first_control, restart}
 use Rattle.wire_base.specs.model.OwnLsp.{own_lsp, own_content}
 use Rattle.wire_base.specs.model.Pdu.{Head, Pdu, LspPdu, CsnpPdu, PsnpPdu, HelloPdu, OtherPdu}
 use Rattle.lsp_origin.proofs.ContentLaws.{content_short}
@@ -21,7 +23,7 @@ use Rattle.laws_router.specs.Kept.{OwnStands, Kept}
 use Rattle.laws_router.proofs.KeptLaws.{lsp_kept, csnp_kept, psnp_kept}
 use Rattle.laws_router.proofs.StateLaws.{up_kept, down_kept, sent_kept, issue_kept, new_kept, all_aged}
 use Rattle.domain_model.specs.World.{is_up}
-use Rattle.domain_model.specs.Truth.{IsAmong, IsOwnLsp, IsDeadLsp, IsTrueControl, IsTruePdu}
+use Rattle.domain_model.specs.Truth.{IsOwnLsp, IsDeadLsp, IsTrueControl, IsTruePdu}
 use Rattle.domain_model.proofs.NamedLaws.{entries_few}
 use Rattle.domain_model.proofs.FloodTruth.{IsTrueState, own_id}
 use Rattle.domain_model.proofs.AgedTruth.{entry_aged}
@@ -66,13 +68,21 @@ reissued up c before s sound long k =
     router_of up (issue c (own_lsp c.conf c.flood.up (s + 1))) sound long
     (issue_kept c.conf.system up before c.spent c.flood c.entries (own_lsp c.conf c.flood.up (s + 1)) k (own_id c.conf c.flood.up (s + 1)) (own_short c.conf c.flood.up (s + 1) sound) (λ h. own_life c.conf c.flood.up (s + 1))) database)
 
+-- what a router keeps when it originates its own LSP anew, unless it is spent
+unless_keeps : (up : List Bool) (d : Control) → IsSound d.conf → length up ≡ length d.conf.ends → Kept d.conf.system up d.spent d.flood d.entries → IsDatabase (reissue_unless_spent d).entries → IsRouter (reissue_unless_spent d)
+unfolding reissue_unless_spent
+unless_keeps up d sound long k =
+    cond_both d.spent d (reissue d (seq_of (own_entry_in d))) (λ (x : Control). IsDatabase x.entries → IsRouter x)
+    (λ spent database. router_of up d sound long k database)
+    (λ more database. reissued up d d.spent (seq_of (own_entry_in d)) sound long k database)
+
 -- ---- events at a router
 
-short_content : (confs : List RouterConf) (h : Head) (tlvs : List ℕ) → ((r : RouterConf) → IsAmong confs r → IsSound r) → IsOwnLsp confs h tlvs ⊎ IsDeadLsp h tlvs → length tlvs ≤ MOST_CONTENT
-short_content confs h tlvs sound (inl own) = let short = content_short own.router own.up tlvs (sound own.router own.among) own.content in omega (arith, short)
-short_content confs h tlvs sound (inr dead) = let none = ap length dead.empty in omega (arith, none)
+short_content : (confs : List RouterConf) (h : Head) (tlvs : List ℕ) → IsOwnLsp confs h tlvs ⊎ IsDeadLsp h tlvs → length tlvs ≤ MOST_CONTENT
+short_content confs h tlvs (inl own) = let short = content_short own.router own.up tlvs own.earlier.sound own.content in omega (arith, short)
+short_content confs h tlvs (inr dead) = let none = ap length dead.empty in omega (arith, none)
 
-module _ (confs : List RouterConf) (small : length confs ≤ MOST_ROUTERS) (sounds : (r : RouterConf) → IsAmong confs r → IsSound r) (c : Control) (t : IsTrueControl confs c) where
+module _ (confs : List RouterConf) (small : length confs ≤ MOST_ROUTERS) (c : Control) (t : IsTrueControl confs c) where
   sound : IsSound c.conf
   sound = t.kept.sound
 
@@ -97,7 +107,7 @@ module _ (confs : List RouterConf) (small : length confs ≤ MOST_ROUTERS) (soun
   unfolding on_pdu
   pdu_keeps link (LspPdu h tlvs) up says reply =
       let a = on_lsp c.flood c.entries link h tlvs c.spent in
-      let k = lsp_kept c.conf.system c.flood.up c.spent c.flood c.entries (kept_of c t.kept) link up h tlvs (short_content confs h tlvs sounds says.says.says) in
+      let k = lsp_kept c.conf.system c.flood.up c.spent c.flood c.entries (kept_of c t.kept) link up h tlvs (short_content confs h tlvs says.says.says) in
       answered a a.answer k.kept (base (lsp_done c a).control reply.next)
   pdu_keeps link (CsnpPdu source start last tlvs) up says reply =
       let a = on_csnp c.flood c.entries link start last tlvs c.spent in
@@ -114,24 +124,17 @@ module _ (confs : List RouterConf) (small : length confs ≤ MOST_ROUTERS) (soun
   unfolding send
   send_keeps link reply = router_of c.flood.up (send c link).control sound ends (sent_kept c.conf.system c.flood.up c.spent c.flood c.entries link (kept_of c t.kept)) (base (send c link).control reply.next)
 
-  unless_keeps : (up : List Bool) (d : Control) → d.conf ≡ c.conf → length up ≡ length c.conf.ends → Kept d.conf.system up d.spent d.flood d.entries → IsDatabase (reissue_unless_spent d).entries → IsRouter (reissue_unless_spent d)
-  unfolding reissue_unless_spent
-  unless_keeps up d same long k =
-      cond_both d.spent d (reissue d (seq_of (own_entry_in d))) (λ (x : Control). IsDatabase x.entries → IsRouter x)
-      (λ spent database. router_of up d (subst IsSound (sym same) sound) (long ∙ ap (λ (r : RouterConf). length r.ends) (sym same)) k database)
-      (λ more database. reissued up d d.spent (seq_of (own_entry_in d)) (subst IsSound (sym same) sound) (long ∙ ap (λ (r : RouterConf). length r.ends) (sym same)) k database)
-
   pub up_keeps : (link : ℕ) → link < length c.conf.ends → IsTrueReply confs c (end_up c link) → IsRouter (end_up c link).control
   unfolding end_up
   up_keeps link lt reply =
       let d : Control = record c { flood = link_up c.flood c.entries link } in
-      unless_keeps (slice_set c.flood.up link true) d refl (length-set c.flood.up link true ∙ ends) (up_kept c.conf.system c.flood.up c.spent c.flood c.entries link (kept_of c t.kept) (omega (arith, lt, ends))) (base (reissue_unless_spent d) reply.next)
+      unless_keeps (slice_set c.flood.up link true) d sound (length-set c.flood.up link true ∙ ends) (up_kept c.conf.system c.flood.up c.spent c.flood c.entries link (kept_of c t.kept) (omega (arith, lt, ends))) (base (reissue_unless_spent d) reply.next)
 
   pub down_keeps : (link : ℕ) → IsTrueReply confs c (end_down c link) → IsRouter (end_down c link).control
   unfolding end_down
   down_keeps link reply =
       let d : Control = record c { flood = link_down c.flood link } in
-      unless_keeps (slice_set c.flood.up link false) d refl (length-set c.flood.up link false ∙ ends) (down_kept c.conf.system c.flood.up c.spent c.flood c.entries link (kept_of c t.kept)) (base (reissue_unless_spent d) reply.next)
+      unless_keeps (slice_set c.flood.up link false) d sound (length-set c.flood.up link false ∙ ends) (down_kept c.conf.system c.flood.up c.spent c.flood c.entries link (kept_of c t.kept)) (base (reissue_unless_spent d) reply.next)
 
   -- a second later the own LSP stands, unless it is to be issued anew
   second_live : (e : Entry) → 300 < e.life → after_second e ≡ Some (record e { life = e.life - 1 })
@@ -204,3 +207,11 @@ first_keeps confs r small sound s = started_router confs r (replicate (length r.
 pub restart_keeps : (confs : List RouterConf) (c : Control) → length confs ≤ MOST_ROUTERS → IsRouter c → IsTrueReply confs c (restart c) → IsRouter (restart c).control
 unfolding restart
 restart_keeps confs c small k reply = started_router confs c.conf c.flood.up small k.sound k.control.links reply.next.state
+
+-- ---- a router whose configuration changes
+
+pub changed_keeps : (confs : List RouterConf) (c : Control) (next : RouterConf) → length confs ≤ MOST_ROUTERS → IsRouter c → IsSound next → next.system ≡ c.conf.system → next.ends ≡ c.conf.ends → IsTrueReply confs (record c { conf = next }) (quiet (reissue_unless_spent (record c { conf = next }))) → IsRouter (reissue_unless_spent (record c { conf = next }))
+changed_keeps confs c next small k sound system ends reply =
+    let d : Control = record c { conf = next } in
+    unless_keeps c.flood.up d sound (k.control.links ∙ ap (λ (es : List End). length es) (sym ends)) (subst (λ (s : SystemId). Kept s c.flood.up c.spent c.flood c.entries) (sym system) (kept_of c k))
+    (database_of confs (reissue_unless_spent d).flood (reissue_unless_spent d).entries small reply.next.state)

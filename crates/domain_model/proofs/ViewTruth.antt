@@ -1,5 +1,5 @@
--- In a view each node is what its router says of itself: its system, whether it has its overload bit set, and its places in
--- sub-domains.
+-- In a view each node is what its router says of itself, or said with an earlier configuration: its system, whether it has its
+-- overload bit set, and its places in sub-domains.
 use Rattle.std.proofs.Common.{◌≡◌, ◌⊎◌, inl, inr, ℕ, ◌<◌, ◌==◌, ◌&&◌, ◌||◌, not, nat_lt, Bool, true, false, if◌then◌else◌, List, [], ◌∷◌, ◌++◌, length, map, filter, is_some, option_map, Option, Some, None, refl, sym, ap, subst, ◌∙◌, arith}
 use mathlib.Core.Bool.{false≢true}
 use Rattle.std.specs.List.{AllByRecursion, flat_map, list_any}
@@ -20,7 +20,7 @@ use Rattle.wire_base.specs.declared.entry.Entry.{Entry}
 use Rattle.wire_base.specs.declared.view.ViewNode.{ViewNode}
 use Rattle.wire_base.specs.declared.view.ViewSub.{ViewSub}
 use Rattle.wire_base.specs.model.BierInfo.{any_overlap, share_label}
-use Rattle.wire_base.specs.model.Configuration.{DomainConf, IsValid, IsSound, MayStand, KeepsKinds, same_sub}
+use Rattle.wire_base.specs.model.Configuration.{DomainConf, IsConsistent, MayStand, same_sub}
 use Rattle.wire_base.specs.model.Configuration as configuration
 use Rattle.wire_base.specs.model.Control.{same_system, same_id, AreAscending, ids_of, entry_in, fragment_0, Control}
 use Rattle.wire_base.specs.model.Lists.{AreApart}
@@ -29,14 +29,17 @@ use Rattle.wire_base.specs.declared.conf.TableRow.{TableRow}
 use Rattle.wire_base.specs.declared.triple.Triple.{Triple}
 use Rattle.wire_base.specs.model.Graph.{place_in, node_bift}
 use Rattle.wire_base.specs.model.Place.{kind_of, is_mpls, ranges_in, bift_of, own_bift, means}
-use Rattle.wire_base.proofs.MeaningLemmas.{means_only}
+use Rattle.wire_base.proofs.SoundLemmas as sound_lemmas
+use Rattle.wire_base.proofs.SoundLemmas.{sound_subs, all_left}
 use Rattle.wire_base.specs.model.Tlv.{tlvs_before}
 use Rattle.wire_base.specs.model.View.{Claim, sub_of, is_part_of, tlvs_of, claim_of, is_other, own_claim, claims_of, all_ranges, unless_overlap, first_each, known_subs, with_known, has_prefix, is_shared, own_subs, node_of, nodes_of, view_of, control_view, links_in, subs_in, is_overload_flag}
 use Rattle.view_graph.proofs.GraphLaws.{all_put}
+use Rattle.laws_members.proofs.MeaningLaws.{earlier_means}
+use Rattle.laws_members.specs.Becoming.{IsEarlier}
 use Rattle.domain_model.specs.Truth.{IsAmong, IsOwnLsp, IsDeadLsp, head_of, IsTrueEntry, IsTrueControl}
 use Rattle.domain_model.proofs.EachLaws.{each_weaker, each_mapped, each_kept, each_passing, each_both}
 use Rattle.domain_model.proofs.FlagLaws.{same_id_is, each_is_found, none_later}
-use Rattle.domain_model.proofs.DomainLaws.{bytes_from, sound_of, keeps_of, same_by_prefix, alike}
+use Rattle.domain_model.proofs.DomainLaws.{bytes_from, sound_of, alike, own_earlier, alike_earlier, system_by_prefix}
 use Rattle.domain_model.proofs.ReadBack.{own_links, own_places, own_overload}
 
 -- ---- words on lists
@@ -103,17 +106,19 @@ one_part confs s (x ∷ xs) e asc all found live = by (λ k. one_part confs s xs
 claim_by_parts : (a b : Claim) → a.system ≡ b.system → a.overload ≡ b.overload → a.links ≡ b.links → a.subs ≡ b.subs → a ≡ b
 claim_by_parts a b p q r s i = record { system = p i; overload = q i; links = r i; subs = s i }
 
--- a claim is what a router claims itself, with some of its ends up
+-- a claim is what a router claims itself, or claimed with an earlier configuration, with some of its ends up
 pub record IsRouterClaim (confs : List RouterConf) (c : Claim) : Type 0 where
+  pub now : RouterConf
+  pub among : IsAmong confs now
   pub router : RouterConf
-  pub among : IsAmong confs router
+  pub earlier : IsEarlier router now
   pub up : List Bool
   pub ends : length up ≡ length router.ends
   pub is : c ≡ own_claim router up
 
-claim_read : (confs : List RouterConf) (es : List Entry) (e : Entry) → ((r : RouterConf) → IsAmong confs r → IsSound r) → AreAscending (ids_of es) → AllByRecursion (IsTrueEntry confs) es → entry_in es e.id ≡ Some e → 0 < e.life → IsOwnLsp confs (head_of e) e.content ⊎ IsDeadLsp (head_of e) e.content → IsRouterClaim confs (claim_of es e)
-claim_read confs es e sound asc all found live (inr dead) = absurd (omega (arith, dead.dead, live))
-claim_read confs es e sound asc all found live (inl own) =
+claim_read : (confs : List RouterConf) (es : List Entry) (e : Entry) → AreAscending (ids_of es) → AllByRecursion (IsTrueEntry confs) es → entry_in es e.id ≡ Some e → 0 < e.life → IsOwnLsp confs (head_of e) e.content ⊎ IsDeadLsp (head_of e) e.content → IsRouterClaim confs (claim_of es e)
+claim_read confs es e asc all found live (inr dead) = absurd (omega (arith, dead.dead, live))
+claim_read confs es e asc all found live (inl own) =
     let q = own.router in
     let system : e.id.system ≡ q.system = ap (λ (i : LspId). i.system) own.is in
     let id : e.id ≡ fragment_0 e.id.system = own.is ∙ ap fragment_0 (sym system) in
@@ -121,12 +126,14 @@ claim_read confs es e sound asc all found live (inl own) =
     let tlvs : tlvs_of es e.id.system ≡ tlvs_before (own_content q own.up) =
     ap (flat_map (λ (x : Entry). tlvs_before x.content)) (one_part confs e.id.system es e asc all there live) ∙ append-nil (tlvs_before e.content) ∙ ap tlvs_before own.content in
     record {
-      router = q;
+      now = own.now;
       among = own.among;
+      router = q;
+      earlier = own.earlier;
       up = own.up;
       ends = own.ends;
       is = claim_by_parts (claim_of es e) (own_claim q own.up) system (ap is_overload_flag own.flags ∙ own_overload q)
-          (ap (flat_map links_in) tlvs ∙ own_links q own.up (sound q own.among)) (ap (flat_map subs_in) tlvs ∙ own_places q own.up (sound q own.among));
+          (ap (flat_map links_in) tlvs ∙ own_links q own.up own.earlier.sound) (ap (flat_map subs_in) tlvs ∙ own_places q own.up own.earlier.sound);
     }
 
 other_lives : (own : SystemId) (e : Entry) → is_other own e ≡ true → 0 < e.life
@@ -136,16 +143,16 @@ other_lives own e h =
     let c = and_parts (e.id.fragment == 0) _ b.1 in
     ltb-true 0 e.life c.1
 
-claims_read : (confs : List RouterConf) (r : RouterConf) (up : List Bool) (es : List Entry) → ((q : RouterConf) → IsAmong confs q → IsSound q) → IsAmong confs r → length up ≡ length r.ends → AreAscending (ids_of es) → AllByRecursion (IsTrueEntry confs) es → AllByRecursion (IsRouterClaim confs) (claims_of r up es)
+pub claims_read : (confs : List RouterConf) (r : RouterConf) (up : List Bool) (es : List Entry) → IsAmong confs r → IsEarlier r r → length up ≡ length r.ends → AreAscending (ids_of es) → AllByRecursion (IsTrueEntry confs) es → AllByRecursion (IsRouterClaim confs) (claims_of r up es)
 unfolding claims_of
-claims_read confs r up es sound among ends asc all =
+claims_read confs r up es among same ends asc all =
     let Found : Entry → Type 0 = λ e. entry_in es e.id ≡ Some e in
     let Other : Entry → Type 0 = λ e. is_other r.system e ≡ true in
     let Both : Entry → Type 0 = λ e. IsTrueEntry confs e × Found e in
     let kept : AllByRecursion Both (filter (is_other r.system) es) = each_kept Both (is_other r.system) es (each_both (IsTrueEntry confs) Found es all (each_is_found es asc)) in
-    all_put (IsRouterClaim confs) (own_claim r up) (map (claim_of es) (filter (is_other r.system) es)) (record { router = r; among = among; up = up; ends = ends; is = refl })
+    all_put (IsRouterClaim confs) (own_claim r up) (map (claim_of es) (filter (is_other r.system) es)) (record { now = r; among = among; router = r; earlier = same; up = up; ends = ends; is = refl })
     (each_mapped (IsRouterClaim confs) (claim_of es) (filter (is_other r.system) es)
-    (each_weaker (λ e. Both e × Other e) (λ e. IsRouterClaim confs (claim_of es e)) (λ e h. claim_read confs es e sound asc all h.0.1 (other_lives r.system e h.1) h.0.0.says) (filter (is_other r.system) es)
+    (each_weaker (λ e. Both e × Other e) (λ e. IsRouterClaim confs (claim_of es e)) (λ e h. claim_read confs es e asc all h.0.1 (other_lives r.system e h.1) h.0.0.says) (filter (is_other r.system) es)
     (each_both Both Other (filter (is_other r.system) es) kept (each_passing (is_other r.system) es))))
 
 -- ---- which places count: all
@@ -167,7 +174,7 @@ kind_told (Some k) ranges h = refl
 abbrev StandsIn : List SubKind → OwnSub → Type 0
 StandsIn kinds s = MayStand (kind_of kinds s.sd) s.ranges
 
-ranges_are : (octets : List ℕ) (kinds : List SubKind) (subs : List OwnSub) → AllByRecursion (StandsIn kinds) subs → all_ranges (map (λ s. sub_of octets (info_of kinds s)) subs) ≡ configuration.all_ranges subs
+ranges_are : (octets : List ℕ) (kinds : List SubKind) (subs : List OwnSub) → AllByRecursion (StandsIn kinds) subs → all_ranges (map (λ s. sub_of octets (info_of kinds s)) subs) ≡ sound_lemmas.all_ranges subs
 ranges_are octets kinds [] all = refl
 ranges_are octets kinds (s ∷ subs) all =
     ap (λ (l : List LabelRange). l ++ all_ranges (map (λ s. sub_of octets (info_of kinds s)) subs)) (ranges_told (kind_of kinds s.sd) s.ranges all.0) ∙ ap (λ (l : List LabelRange). s.ranges ++ l) (ranges_are octets kinds subs all.1)
@@ -192,24 +199,32 @@ first_places octets kinds (s ∷ subs) apart =
     others [] all = tt
     others (x ∷ xs) all = (ap not (ne_eqb x.sd s.sd (λ e. eqb-false s.sd x.sd all.0 (sym e))), others xs all.1)
 
-module _ (d : DomainConf) (valid : IsValid d) where
-  -- a router's places count at every other router
-  known_places : (r q : RouterConf) → IsAmong d.routers r → IsAmong d.routers q → known_subs r.kinds (places_of q) ≡ places_of q
-  known_places r q a b =
-      let sound = sound_of d valid q b in
-      let keeps = keeps_of d valid q b in
-      let apart : any_overlap (all_ranges (places_of q)) ≡ false = ap any_overlap (ranges_are q.prefix.0 q.kinds q.subs keeps.subs) ∙ no_overlap (configuration.all_ranges q.subs) sound.labels in
+module _ (d : DomainConf) (valid : IsConsistent d) where
+  -- a router's places count at every other router, also those of an earlier configuration
+  pub known_places : (r q now : RouterConf) → IsAmong d.routers r → IsAmong d.routers now → IsEarlier q now → known_subs r.kinds (places_of q) ≡ places_of q
+  known_places r q now a b e =
+      let own = sound_subs q e.sound in
+      let keeps : AllByRecursion (StandsIn q.kinds) q.subs = all_left (StandsIn q.kinds) q.subs q.away e.kinds.subs in
+      let apart : any_overlap (all_ranges (places_of q)) ≡ false = ap any_overlap (ranges_are q.prefix.0 q.kinds q.subs keeps) ∙ no_overlap (sound_lemmas.all_ranges q.subs) own.labels in
       let unless : unless_overlap (places_of q) ≡ places_of q = ap (λ (b : Bool). if b then [] else places_of q) apart in
-      let all : filter (λ (v : ViewSub). is_some (kind_of r.kinds v.sd)) (places_of q) ≡ places_of q = all_pass (λ (v : ViewSub). is_some (kind_of r.kinds v.sd)) (places_of q) (known_each q.prefix.0 q.kinds r.kinds q.subs (alike d valid r q a b).kinds keeps.subs) in
-      ap (λ (l : List ViewSub). first_each (filter (λ v. is_some (kind_of r.kinds v.sd)) l)) unless ∙ ap first_each all ∙ first_places q.prefix.0 q.kinds q.subs sound.subdomains
+      let all : filter (λ (v : ViewSub). is_some (kind_of r.kinds v.sd)) (places_of q) ≡ places_of q = all_pass (λ (v : ViewSub). is_some (kind_of r.kinds v.sd)) (places_of q) (known_each q.prefix.0 q.kinds r.kinds q.subs (alike_earlier d valid r q now a b e).kinds keeps) in
+      ap (λ (l : List ViewSub). first_each (filter (λ v. is_some (kind_of r.kinds v.sd)) l)) unless ∙ ap first_each all ∙ first_places q.prefix.0 q.kinds q.subs own.apart
 
-  known_claim : (r q : RouterConf) (up : List Bool) → IsAmong d.routers r → IsAmong d.routers q → with_known r.kinds (own_claim q up) ≡ own_claim q up
-  known_claim r q up a b = ap (λ (l : List ViewSub). record (own_claim q up) { subs = l }) (known_places r q a b)
+  known_claim : (r q now : RouterConf) (up : List Bool) → IsAmong d.routers r → IsAmong d.routers now → IsEarlier q now → with_known r.kinds (own_claim q up) ≡ own_claim q up
+  known_claim r q now up a b e = ap (λ (l : List ViewSub). record (own_claim q up) { subs = l }) (known_places r q now a b e)
 
-  known_claims : (r : RouterConf) → IsAmong d.routers r → (cs : List Claim) → AllByRecursion (IsRouterClaim d.routers) cs → AllByRecursion (IsRouterClaim d.routers) (map (with_known r.kinds) cs)
+  pub known_claims : (r : RouterConf) → IsAmong d.routers r → (cs : List Claim) → AllByRecursion (IsRouterClaim d.routers) cs → AllByRecursion (IsRouterClaim d.routers) (map (with_known r.kinds) cs)
   known_claims r a [] all = tt
   known_claims r a (c ∷ cs) all = (
-    record { router = all.0.router; among = all.0.among; up = all.0.up; ends = all.0.ends; is = ap (with_known r.kinds) all.0.is ∙ known_claim r all.0.router all.0.up a all.0.among },
+    record {
+      now = all.0.now;
+      among = all.0.among;
+      router = all.0.router;
+      earlier = all.0.earlier;
+      up = all.0.up;
+      ends = all.0.ends;
+      is = ap (with_known r.kinds) all.0.is ∙ known_claim r all.0.router all.0.now all.0.up a all.0.among all.0.earlier;
+    },
     known_claims r a cs all.1,
   )
 
@@ -225,8 +240,8 @@ module _ (d : DomainConf) (valid : IsValid d) where
   abbrev shares : RouterConf → Claim → Bool
   shares q c = not (same_system c.system q.system) && has_prefix q.prefix c.subs
 
-  shares_none : (q : RouterConf) → IsAmong d.routers q → (c : Claim) → IsRouterClaim d.routers c → shares q c ≡ false
-  shares_none q b c k = subst (λ (x : Claim). shares q x ≡ false) (sym k.is) (by (has_prefix q.prefix (places_of k.router)) refl)
+  shares_none : (q now : RouterConf) → IsAmong d.routers now → IsEarlier q now → (c : Claim) → IsRouterClaim d.routers c → shares q c ≡ false
+  shares_none q now b f c k = subst (λ (x : Claim). shares q x ≡ false) (sym k.is) (by (has_prefix q.prefix (places_of k.router)) refl)
     where
       by : (h : Bool) → has_prefix q.prefix (places_of k.router) ≡ h → shares q (own_claim k.router k.up) ≡ false
       by false e = ap (λ (x : Bool). not (same_system k.router.system q.system) && x) e ∙ right (not (same_system k.router.system q.system))
@@ -235,26 +250,28 @@ module _ (d : DomainConf) (valid : IsValid d) where
           right true = refl
           right false = refl
       by true e =
-          let same : k.router ≡ q = same_by_prefix d valid k.router q k.among b (places_prefix q.prefix k.router k.router.subs e) in
-          let systems : same_system k.router.system q.system ≡ true = bytes_from k.router.system.0 q.system.0 (ap (λ (x : RouterConf). x.system.0) same) in
+          let same : k.router.system ≡ q.system = system_by_prefix d valid k.router q k.now now k.among b k.earlier f (places_prefix q.prefix k.router k.router.subs e) in
+          let systems : same_system k.router.system q.system ≡ true = bytes_from k.router.system.0 q.system.0 (ap (λ (x : SystemId). x.0) same) in
           ap (λ (x : Bool). not x && has_prefix q.prefix (places_of k.router)) systems
 
-  shared_none : (q : RouterConf) → IsAmong d.routers q → (cs : List Claim) → AllByRecursion (IsRouterClaim d.routers) cs → is_shared cs q.system q.prefix ≡ false
-  shared_none q b cs all = none_any (shares q) cs (each_weaker (IsRouterClaim d.routers) (λ c. shares q c ≡ false) (λ c k. shares_none q b c k) cs all)
+  shared_none : (q now : RouterConf) → IsAmong d.routers now → IsEarlier q now → (cs : List Claim) → AllByRecursion (IsRouterClaim d.routers) cs → is_shared cs q.system q.prefix ≡ false
+  shared_none q now b f cs all = none_any (shares q) cs (each_weaker (IsRouterClaim d.routers) (λ c. shares q c ≡ false) (λ c k. shares_none q now b f c k) cs all)
 
-  kept_places : (q : RouterConf) → IsAmong d.routers q → (cs : List Claim) → AllByRecursion (IsRouterClaim d.routers) cs → filter (λ (s : ViewSub). not (is_shared cs q.system s.prefix)) (places_of q) ≡ places_of q
-  kept_places q b cs all = all_pass (λ (s : ViewSub). not (is_shared cs q.system s.prefix)) (places_of q) (each q.subs)
+  pub kept_places : (q now : RouterConf) → IsAmong d.routers now → IsEarlier q now → (cs : List Claim) → AllByRecursion (IsRouterClaim d.routers) cs → filter (λ (s : ViewSub). not (is_shared cs q.system s.prefix)) (places_of q) ≡ places_of q
+  kept_places q now b f cs all = all_pass (λ (s : ViewSub). not (is_shared cs q.system s.prefix)) (places_of q) (each q.subs)
     where
       each : (subs : List OwnSub) → AllByRecursion (λ (s : ViewSub). not (is_shared cs q.system s.prefix) ≡ true) (map (λ s. sub_of q.prefix.0 (info_of q.kinds s)) subs)
       each [] = tt
-      each (s ∷ subs) = (ap not (shared_none q b cs all), each subs)
+      each (s ∷ subs) = (ap not (shared_none q now b f cs all), each subs)
 
 -- ---- nodes
 
--- a node is its router's
+-- a node is its router's, as it is configured now or was earlier
 pub record IsRouterNode (confs : List RouterConf) (n : ViewNode) : Type 0 where
+  pub now : RouterConf
+  pub among : IsAmong confs now
   pub router : RouterConf
-  pub among : IsAmong confs router
+  pub earlier : IsEarlier router now
   pub system : n.system ≡ router.system
   pub overload : n.overload ≡ router.overload
   pub subs : n.subs ≡ places_of router
@@ -265,14 +282,16 @@ pub record IsRouterView (confs : List RouterConf) (g : List ViewNode) : Type 0 w
   pub nodes : g ≡ nodes_of claims
   pub each : AllByRecursion (IsRouterClaim confs) claims
 
-module _ (d : DomainConf) (valid : IsValid d) where
+module _ (d : DomainConf) (valid : IsConsistent d) where
   node_true : (cs : List Claim) → AllByRecursion (IsRouterClaim d.routers) cs → (c : Claim) → IsRouterClaim d.routers c → IsRouterNode d.routers (node_of cs c)
   node_true cs all c k = record {
-    router = k.router;
+    now = k.now;
     among = k.among;
+    router = k.router;
+    earlier = k.earlier;
     system = ap (λ (x : Claim). x.system) k.is;
     overload = ap (λ (x : Claim). x.overload) k.is;
-    subs = ap (λ (x : Claim). own_subs cs x) k.is ∙ kept_places d valid k.router k.among cs all;
+    subs = ap (λ (x : Claim). own_subs cs x) k.is ∙ kept_places d valid k.router k.now k.among k.earlier cs all;
   }
 
   pub view_true : (c : Control) → IsTrueControl d.routers c → IsRouterView d.routers (control_view c)
@@ -281,7 +300,7 @@ module _ (d : DomainConf) (valid : IsValid d) where
       record {
         claims = map (with_known c.conf.kinds) (claims_of c.conf c.flood.up c.entries);
         nodes = refl;
-        each = known_claims d valid c.conf t.among (claims_of c.conf c.flood.up c.entries) (claims_read d.routers c.conf c.flood.up c.entries (sound_of d valid) t.among t.kept.control.links t.kept.control.entries.in_order t.entries);
+        each = known_claims d valid c.conf t.among (claims_of c.conf c.flood.up c.entries) (claims_read d.routers c.conf c.flood.up c.entries t.among (own_earlier d valid c.conf t.among) t.kept.control.links t.kept.control.entries.in_order t.entries);
       }
 
   pub nodes_true : (g : List ViewNode) → IsRouterView d.routers g → AllByRecursion (IsRouterNode d.routers) g
@@ -303,14 +322,14 @@ module _ (d : DomainConf) (valid : IsValid d) where
   pub node_gives : (r : RouterConf) (t : Triple) (n : ViewNode) → IsAmong d.routers r → (k : IsRouterNode d.routers n) → node_bift r.kinds r.table t n ≡ own_bift k.router t
   unfolding node_bift
   node_gives r t n a k =
-      let same = alike d valid r k.router a k.among in
+      let same = alike_earlier d valid r k.router k.now a k.among k.earlier in
       ap (λ (subs : List ViewSub). bift_of r.kinds r.table (option_map (λ s. s.ranges) (place_in subs t.sd)) t) k.subs
-      ∙ ap (λ (o : Option (List LabelRange)). bift_of r.kinds r.table o t) (place_ranges k.router.prefix.0 k.router.kinds k.router.subs t.sd (keeps_of d valid k.router k.among).subs)
+      ∙ ap (λ (o : Option (List LabelRange)). bift_of r.kinds r.table o t) (place_ranges k.router.prefix.0 k.router.kinds k.router.subs t.sd (all_left (StandsIn k.router.kinds) k.router.subs k.router.away k.earlier.kinds.subs))
       ∙ ap (λ (ks : List SubKind). bift_of ks r.table (ranges_in k.router.subs t.sd) t) (sym same.kinds)
       ∙ ap (λ (rows : List TableRow). bift_of k.router.kinds rows (ranges_in k.router.subs t.sd) t) (sym same.table)
 
-  -- so that there it means the triple
-  pub bift_means : (r : RouterConf) (t : Triple) (kind : Kind) (b : ℕ) (n : ViewNode) → IsAmong d.routers r → (k : IsRouterNode d.routers n) → kind_of r.kinds t.sd ≡ Some kind → node_bift r.kinds r.table t n ≡ Some b → means k.router kind b ≡ Some t
+  -- so that there it means the triple now
+  pub bift_means : (r : RouterConf) (t : Triple) (kind : Kind) (b : ℕ) (n : ViewNode) → IsAmong d.routers r → (k : IsRouterNode d.routers n) → kind_of r.kinds t.sd ≡ Some kind → node_bift r.kinds r.table t n ≡ Some b → means k.now kind b ≡ Some t
   bift_means r t kind b n a k is gives =
-      means_only k.router kind b t (sound_of d valid k.router k.among)
-      (record { kind_is = ap (λ (ks : List SubKind). kind_of ks t.sd) (alike d valid r k.router a k.among).kinds ∙ is; bift_is = sym (node_gives r t n a k) ∙ gives })
+      earlier_means k.router k.now kind t b k.earlier (sound_of d valid k.now k.among)
+      (ap (λ (ks : List SubKind). kind_of ks t.sd) (alike d valid r k.now a k.among).kinds ∙ is) (sym (node_gives r t n a k) ∙ gives)

@@ -3,7 +3,7 @@
 --
 -- These definitions follow those of a router on octets, with an item in place of a frame. A router's index is called a,
 -- its configuration r, its topology g, and its node of that topology u.
-use Rattle.std.specs.Prelude.{ℕ, ◌+◌, ◌-◌, nat_le, Bool, true, false, List, [], ◌∷◌, map, filter, slice_get, option_map, option_and_then, unwrap_or, Option, Some, None, if◌then◌else◌}
+use Rattle.std.specs.Prelude.{ℕ, ◌+◌, ◌-◌, nat_le, List, [], ◌∷◌, map, filter, slice_get, option_map, option_and_then, unwrap_or, Option, Some, None, if◌then◌else◌}
 use Rattle.std.specs.List.{flat_map}
 use Rattle.std.specs.Str.{bytes_eq}
 use Rattle.wire_base.specs.declared.bsl.Bsl.{Bsl}

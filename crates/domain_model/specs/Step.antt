@@ -2,14 +2,14 @@
 --
 -- What happens is defined for every event, and separately why an event is not allowed; a step combines both. An event
 -- that names something that does not exist changes nothing.
-use Rattle.std.specs.Prelude.{ℕ, ◌+◌, Bool, false, List, slice_get, slice_set, Option, Some, None, Result, Ok, Err, if◌then◌else◌}
+use Rattle.std.specs.Prelude.{ℕ, ◌+◌, List, slice_get, slice_set, Option, Some, None, Result, Ok, Err, if◌then◌else◌}
 use Rattle.std.specs.List.{fold}
 use Rattle.wire_base.specs.declared.cause.Cause.TheVariants as cause
 use Rattle.wire_base.specs.model.Control.{Control}
-use Rattle.wire_base.specs.model.Flooding.{Reply, on_pdu, tick, send, end_up, end_down, restart}
+use Rattle.wire_base.specs.model.Flooding.{Reply, on_pdu, tick, send, end_up, end_down, relabel, leave, join, restart}
 use Rattle.wire_base.specs.model.Item.{Item, ControlItem, PacketItem}
 use Rattle.replay_text.specs.declared.event.Event.{Event}
-use Rattle.replay_text.specs.declared.event.Event.TheVariants.{Inject, Take, Lose, Again, Down, Up, Send, Tick, Restart}
+use Rattle.replay_text.specs.declared.event.Event.TheVariants.{Inject, Take, Lose, Again, Down, Up, Send, Tick, Restart, Relabel, Leave, Join}
 use Rattle.domain_model.specs.declared.fault.EventFault.{EventFault}
 use Rattle.domain_model.specs.World.{WorldState, is_up, link_between, queue_at, push_item, without_item}
 use Rattle.domain_model.specs.Moves.{Sending, Made, none_made, item_lost, replied, packet_taken, inject_made}
@@ -112,7 +112,7 @@ sends w a None link = same_world w
 sends w a (Some c) None = same_world w
 sends w a (Some c) (Some link) = replies w a link (send c link)
 
--- a second, or a restart
+-- a second, a restart, other labels, or a sub-domain that is left or joined
 abbrev pub changes : WorldState → ℕ → (Control → Reply) → Option Control → Happened
 changes w a change None = same_world w
 changes w a change (Some c) = turns w a (change c)
@@ -130,6 +130,9 @@ doing w (Up a b) = changes_end w a end_up (slice_get w.routers a) (link_between 
 doing w (Send a b) = sends w a (slice_get w.routers a) (link_between w.domain.routers a b)
 doing w (Tick a) = changes w a tick (slice_get w.routers a)
 doing w (Restart a) = changes w a restart (slice_get w.routers a)
+doing w (Relabel a sd bsl label) = changes w a (λ c. relabel c sd bsl label) (slice_get w.routers a)
+doing w (Leave a sd) = changes w a (λ c. leave c sd) (slice_get w.routers a)
+doing w (Join a sd) = changes w a (λ c. join c sd) (slice_get w.routers a)
 
 -- the count of events, increased by one
 abbrev pub counted : Happened → Happened

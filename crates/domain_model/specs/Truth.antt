@@ -2,7 +2,8 @@
 -- BIFT-id that its target assigns to the packet's triple (RFC 8279, 6.4; RFC 8296, 2.1.1 and 2.2.1; RFC 8401, 6;
 -- ISO/IEC 10589, 7.3.7 and 7.3.16).
 --
--- This depends on one configuration for a whole run: a restart keeps a router's BFR-ids and labels.
+-- This depends on two facts of a run: a router's BFR-id in a sub-domain never changes, and none of its labels ever has a
+-- second meaning. A restart keeps both.
 use Rattle.std.specs.Prelude.{◌≡◌, ℕ, ◌+◌, ◌*◌, ◌^◌, ◌<◌, ◌≤◌, ◌⊎◌, Bool, false, List, [], length, map, slice_get, Option, Some, None}
 use Rattle.std.specs.List.{AllByRecursion}
 use Rattle.wire_base.specs.declared.limits.TheConstants.{MOST_PAYLOAD}
@@ -16,17 +17,18 @@ use Rattle.wire_base.specs.declared.entry.Entry.{Entry}
 use Rattle.wire_base.specs.declared.triple.Summary.{Summary}
 use Rattle.wire_base.specs.declared.triple.Triple.{Triple}
 use Rattle.wire_base.specs.model.BitSet.{IsWithin}
-use Rattle.wire_base.specs.model.Configuration.{IsValid}
+use Rattle.wire_base.specs.model.Configuration.{DomainConf, IsConsistent, IsValid}
 use Rattle.wire_base.specs.model.Control.{Control, Flood, entry_in, seq_of, fragment_0, srm}
 use Rattle.wire_base.specs.model.Flooding.{last_sequence, most_listed}
-use Rattle.wire_base.specs.model.Item.{Item, ControlItem, PacketItem, DataItem, Outer, target_of, IsDirect}
+use Rattle.wire_base.specs.model.Item.{Item, ControlItem, PacketItem, DataItem, Outer, target_of}
 use Rattle.wire_base.specs.model.OwnLsp.{own_content, own_flags, full_life}
 use Rattle.wire_base.specs.model.Pdu.{Head, Pdu, LspPdu, CsnpPdu, PsnpPdu, HelloPdu, OtherPdu, lsp_sum, row_tlvs}
 use Rattle.wire_base.specs.model.Place.{bits_of, means}
 use Rattle.wire_base.specs.model.Tlv.{LspIdFits}
+use Rattle.laws_members.specs.Becoming.{IsEarlier, HaveBecome}
 use Rattle.laws_router.specs.State.{IsRouter}
 use Rattle.replay_text.specs.declared.event.Event.{Event}
-use Rattle.replay_text.specs.declared.event.Event.TheVariants.{Inject, Take, Lose, Again, Down, Up, Send, Tick, Restart}
+use Rattle.replay_text.specs.declared.event.Event.TheVariants.{Inject, Take, Lose, Again, Down, Up, Send, Tick, Restart, Relabel, Leave, Join}
 use Rattle.domain_model.specs.declared.lines.DropLine.{DropLine}
 use Rattle.domain_model.specs.World.{WorldState, peer_place, queue_at}
 use Rattle.domain_model.specs.Faults.{most_events}
@@ -44,10 +46,13 @@ pub record IsNamed (confs : List RouterConf) (id : LspId) : Type 0 where
   pub among : IsAmong confs router
   pub is : id ≡ fragment_0 router.system
 
--- A live LSP contains what its router advertises with some of its interfaces up, and its checksum is right.
+-- A live LSP contains what its router advertises, or did with an earlier configuration, with some of its interfaces up, and
+-- its checksum is right. Here `now` is the router's configuration, and `router` the one when the LSP was originated.
 pub record IsOwnLsp (confs : List RouterConf) (h : Head) (tlvs : List ℕ) : Type 0 where
+  pub now : RouterConf
+  pub among : IsAmong confs now
   pub router : RouterConf
-  pub among : IsAmong confs router
+  pub earlier : IsEarlier router now
   pub is : h.id ≡ fragment_0 router.system
   pub up : List Bool
   pub ends : length up ≡ length router.ends
@@ -188,13 +193,22 @@ IsTrueItem confs injections b (PacketItem x) = IsTrueCopy confs injections b x
 
 -- ---- the domain
 
--- The invariant that every event preserves, whether or not the routers have learned of each other.
+-- the domain with its routers as they are configured now
+abbrev pub confs_now : WorldState → List RouterConf
+confs_now w = map (λ c. c.conf) w.routers
+
+abbrev pub domain_now : WorldState → DomainConf
+domain_now w = record w.domain { routers = confs_now w }
+
+-- The invariant that every event preserves, whether or not the routers have learned of each other. What is in LSDBs and in
+-- flight is judged by the configurations of now.
 pub record IsTruthful (w : WorldState) : Type 0 where
   pub valid : IsValid w.domain
-  pub confs : map (λ c. c.conf) w.routers ≡ w.domain.routers
-  pub controls : AllByRecursion (IsTrueControl w.domain.routers) w.routers
+  pub now : IsConsistent (domain_now w)
+  pub become : HaveBecome w.domain.routers (confs_now w)
+  pub controls : AllByRecursion (IsTrueControl (confs_now w)) w.routers
   pub queues : map (λ qs. length qs) w.flights ≡ map (λ r. length r.ends) w.domain.routers
-  pub items : (a link : ℕ) → AllByRecursion (IsTrueItem w.domain.routers w.injections (peer_place w.domain.routers a link)) (queue_at w.flights a link)
+  pub items : (a link : ℕ) → AllByRecursion (IsTrueItem (confs_now w) w.injections (peer_place w.domain.routers a link)) (queue_at w.flights a link)
   pub injections : w.injections ≤ w.events
   pub events : w.events ≤ most_events
 
@@ -209,6 +223,11 @@ pub record InjectFits (routers a sd : ℕ) (ks : List ℕ) (ttl entropy : ℕ) (
   pub entropy_fits : entropy < 2 ^ 20
   pub short : length octets ≤ MOST_PAYLOAD
 
+-- the router is in the domain, and the label is not reserved (RFC 3032, 2.1)
+pub record RelabelFits (routers a label : ℕ) : Type 0 where
+  pub place : a < routers
+  pub first : 16 ≤ label
+
 -- the indices are those of routers, and the numbers of an injection fit their fields
 abbrev pub EventFits : ℕ → Event → Type 0
 EventFits routers (Inject a sd bsl ks ttl entropy octets) = InjectFits routers a sd ks ttl entropy octets
@@ -220,6 +239,9 @@ EventFits routers (Up a b) = (a < routers) × (b < routers)
 EventFits routers (Send a b) = (a < routers) × (b < routers)
 EventFits routers (Tick a) = a < routers
 EventFits routers (Restart a) = a < routers
+EventFits routers (Relabel a sd bsl label) = RelabelFits routers a label
+EventFits routers (Leave a sd) = a < routers
+EventFits routers (Join a sd) = a < routers
 
 -- ---- drops
 

@@ -20,6 +20,16 @@ pub enum EventFault {
     NotControl,
     /// The router creates no packets for those BFR-ids, for this reason, which is never out of memory.
     Edge(EdgeFault),
+    /// The router neither is in the sub-domain nor left it, or has no label range of the BSL that is to be relabeled there.
+    NoSub,
+    /// The sub-domain that is to be left was left, or the one that is to be joined is joined.
+    SubState,
+    /// The label range would end above the last label.
+    LabelHigh,
+    /// A label of the new range is in a range that the router has or had. It is the least such label.
+    LabelUsed(u32),
+    /// 1,000 label ranges of the router were given other labels.
+    Relabels,
     /// An allocation failed.
     Memory,
 }
