@@ -22,7 +22,7 @@ use Rattle.domain_core.specs.Course.{Enters, StaysOut, KeepsCourse}
 module _ (w : WorldState) (t : IsTruthful w) (e : Event) where
   -- so few routers have short tunnels
   few : (s : ℕ) (c : Control) → slice_get w.routers s ≡ Some c → length (control_view c) ≤ 255
-  few s c at = let nodes = few_nodes w s c t at in let routers = t.valid.few in omega (arith, nodes, routers)
+  few s c at = let nodes = few_nodes w s c t at in let routers = t.valid.consistent.few in omega (arith, nodes, routers)
 
   begins : EventFits (length w.domain.routers) e → event_fault w e ≡ None → (c : Control) (n k : ℕ) (i : Injection) → Enters w e c n k i → Begins w e c n k i
   begins fits ok c n k i h = record {

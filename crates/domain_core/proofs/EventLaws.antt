@@ -4,9 +4,10 @@ use Rattle.std.proofs.lemmas.List.{length-map}
 use Rattle.wire_base.specs.declared.conf.RouterConf.{RouterConf}
 use Rattle.wire_base.specs.model.Configuration.{DomainConf}
 use Rattle.wire_base.specs.model.Control.{Control}
+use Rattle.laws_members.proofs.DomainLaws.{same_stripped, length_stripped}
 use Rattle.laws_router.specs.State.{RouterState}
 use Rattle.replay_text.specs.declared.event.Event.{Event}
-use Rattle.replay_text.specs.declared.event.Event.TheVariants.{Inject, Take, Lose, Again, Down, Up, Send, Tick, Restart}
+use Rattle.replay_text.specs.declared.event.Event.TheVariants.{Inject, Take, Lose, Again, Down, Up, Send, Tick, Restart, Relabel, Leave, Join}
 use Rattle.domain_model.specs.declared.fault.EventFault.{EventFault}
 use Rattle.domain_model.specs.declared.fault.EventFault.TheVariants as faults
 use Rattle.domain_core.specs.declared.network.Network.{Network}
@@ -15,9 +16,9 @@ use Rattle.domain_core.specs.Answers.{early_fault, early_rule, Refuses}
 use Rattle.frames_in_flight.specs.Told.{told}
 use Rattle.domain_model.specs.Faults.{most_events, most_in_flight, first_fault, entry_fault, rule_fault, event_fault}
 use Rattle.domain_core.specs.Held.{state_of, world_in, IsDone}
-use Rattle.domain_core.specs.Network.{NetworkState, world_of, seen_of, AreFramesOver, IsAsBefore, IsTrueNetwork}
+use Rattle.domain_core.specs.Network.{NetworkState, confs_in, world_of, seen_of, AreFramesOver, IsAsBefore, IsTrueNetwork}
 use Rattle.domain_model.specs.Step.{doing, happens}
-use Rattle.domain_model.specs.Truth.{IsTruthful, EventFits, AreWorldDrops}
+use Rattle.domain_model.specs.Truth.{confs_now, IsTruthful, EventFits, AreWorldDrops}
 use Rattle.domain_model.specs.World.{WorldState, in_flight}
 use Rattle.domain_core.proofs.RefusalLaws.{none_first}
 use Rattle.domain_model.proofs.WorldTruth.{happens_true}
@@ -33,6 +34,9 @@ late_fault w (Up a b) = None
 late_fault w (Send a b) = None
 late_fault w (Tick a) = None
 late_fault w (Restart a) = None
+late_fault w (Relabel a sd bsl label) = None
+late_fault w (Leave a sd) = None
+late_fault w (Join a sd) = None
 
 ruled_late : (w : WorldState) (e : Event) → early_rule w e ≡ None → rule_fault w e ≡ late_fault w e
 ruled_late w (Inject a sd bsl ks ttl entropy payload) h =
@@ -45,6 +49,9 @@ ruled_late w (Up a b) h = h
 ruled_late w (Send a b) h = h
 ruled_late w (Tick a) h = h
 ruled_late w (Restart a) h = h
+ruled_late w (Relabel a sd bsl label) h = h
+ruled_late w (Leave a sd) h = h
+ruled_late w (Join a sd) h = h
 
 pub late_is : (w : WorldState) (e : Event) → early_fault w e ≡ None → event_fault w e ≡ late_fault w e
 unfolding event_fault
@@ -67,6 +74,9 @@ ruled_early w (Up a b) f h = h
 ruled_early w (Send a b) f h = h
 ruled_early w (Tick a) f h = h
 ruled_early w (Restart a) f h = h
+ruled_early w (Relabel a sd bsl label) f h = h
+ruled_early w (Leave a sd) f h = h
+ruled_early w (Join a sd) f h = h
 
 pub early_is : (w : WorldState) (e : Event) (f : EventFault) → early_fault w e ≡ Some f → event_fault w e ≡ Some f
 unfolding event_fault
@@ -84,7 +94,8 @@ still_true old new same true_before = subst IsTrueNetwork (sym same) true_before
 pub still_network : (old new : Network) → world_in new ≡ world_in old → new.flights ≡ old.flights → new.domain ≡ old.domain → IsTrueNetwork (state_of old) → IsTrueNetwork (state_of new)
 still_network old new same flights domain t = record {
   truth = subst IsTruthful (sym same) t.truth;
-  frames = subst (λ (d : DomainConf). AreFramesOver d.routers new.flights) (sym domain) (subst (AreFramesOver old.domain.routers) (sym flights) t.frames);
+  frames = subst (λ (d : DomainConf). AreFramesOver d.routers (confs_in (state_of new)) new.flights) (sym domain)
+      (subst (λ (cs : List RouterConf). AreFramesOver old.domain.routers cs new.flights) (sym (ap confs_now same)) (subst (AreFramesOver old.domain.routers (confs_in (state_of old))) (sym flights) t.frames));
 }
 
 pub as_before : (old new : Network) (e : Event) → state_of new ≡ state_of old → IsAsBefore (seen_of (state_of old)) (seen_of (state_of new)) e
@@ -113,7 +124,7 @@ counted_done old new e out t fits ok done =
       drops = subst AreWorldDrops (sym (ap (λ (o : StepOut). o.drops) done.answer)) k.made.drops;
       kept = record {
         truth = subst IsTruthful (sym world) k.truth;
-        frames = subst (λ (d : DomainConf). AreFramesOver d.routers new.flights) (sym same) done.frames;
+        frames = subst (λ (d : DomainConf). AreFramesOver d.routers (confs_in (state_of new)) new.flights) (sym same) done.frames;
       };
       low = subst (λ (m : ℕ). m ≤ most_events) (sym count) k.truth.events;
     }
@@ -121,7 +132,8 @@ counted_done old new e out t fits ok done =
 -- each router is one of the domain's
 pub as_many : (n : Network) → IsTrueNetwork (state_of n) → length n.routers.items ≡ length n.domain.routers
 as_many n t =
-    sym (length-map (map (λ (r : RouterState). r.control) n.routers.items) (λ (c : Control). c.conf) ∙ length-map n.routers.items (λ (r : RouterState). r.control)) ∙ ap (λ (rs : List RouterConf). length rs) t.truth.confs
+    sym (length-map (map (λ (r : RouterState). r.control) n.routers.items) (λ (c : Control). c.conf) ∙ length-map n.routers.items (λ (r : RouterState). r.control))
+    ∙ sym (length_stripped n.domain.routers (confs_in (state_of n)) (same_stripped n.domain.routers (confs_in (state_of n)) t.truth.become))
 
 pub refuses_first : (o : Option EventFault) (f : EventFault) → o ≡ Some f → Refuses o f
 refuses_first o faults.Events h = h
@@ -131,4 +143,9 @@ refuses_first o faults.InFlight h = h
 refuses_first o (faults.NoFrame i n) h = h
 refuses_first o faults.NotControl h = h
 refuses_first o (faults.Edge fault) h = h
+refuses_first o faults.NoSub h = h
+refuses_first o faults.SubState h = h
+refuses_first o faults.LabelHigh h = h
+refuses_first o (faults.LabelUsed label) h = h
+refuses_first o faults.Relabels h = h
 refuses_first o faults.Memory h = tt

@@ -3,9 +3,12 @@ use Rattle.std.proofs.Common.{◌≡◌, ℕ, zero, suc, ◌<◌, Bool, true, fa
 use mathlib.Core.Bool.{false≢true}
 use Rattle.std.specs.List.{AllByRecursion}
 use Rattle.wire_base.specs.declared.conf.End.{End}
+use Rattle.wire_base.specs.declared.conf.Level.{Level}
 use Rattle.wire_base.specs.declared.conf.RouterConf.{RouterConf}
 use Rattle.wire_base.specs.model.Item.{Item, frame_of}
 use Rattle.wire_base.specs.model.OnFrame.{Effects}
+use Rattle.laws_members.specs.Becoming.{HaveBecome}
+use Rattle.laws_members.proofs.DomainLaws.{became_from}
 use Rattle.domain_model.specs.declared.step_out.WireFrame.{WireFrame}
 use Rattle.domain_model.specs.Moves.{Sending, Made}
 use Rattle.frames_in_flight.specs.Framed.{frame_on, frame_from, frame_over, sent_of, wire_of, wire_from, sending_of, got_line, drop_line, ends_of, IsItemFrame, IsFramed}
@@ -27,36 +30,59 @@ up_within [] i h = absurd (false≢true h)
 up_within (u ∷ up) zero h = omega arith
 up_within (u ∷ up) (suc i) h = let k = up_within up i h in omega (arith, k)
 
+-- ---- routers by their places
+
+-- The router at an index has the level and the interfaces of r. So it is with the configuration of a router as it started,
+-- and as it is now.
+pub record IsAt (os : List RouterConf) (a : ℕ) (r : RouterConf) : Type 0 where
+  pub there : RouterConf
+  pub at : slice_get os a ≡ Some there
+  pub level : there.level ≡ r.level
+  pub ends : there.ends ≡ r.ends
+
+pub at_self : (os : List RouterConf) (a : ℕ) (r : RouterConf) → slice_get os a ≡ Some r → IsAt os a r
+at_self os a r at = record { there = r; at = at; level = refl; ends = refl }
+
+pub at_now : (os confs : List RouterConf) (a : ℕ) (r : RouterConf) → HaveBecome os confs → slice_get confs a ≡ Some r → IsAt os a r
+at_now os confs a r become at =
+    let from = became_from os confs a r become at in
+    record { there = from.0; at = from.1; level = sym (ap (λ (x : RouterConf). x.level) from.2.one); ends = sym (ap (λ (x : RouterConf). x.ends) from.2.one) }
+
 -- ---- frames over an end
 
-pub over_at : (confs : List RouterConf) (a : ℕ) (r : RouterConf) (link : ℕ) (e : End) (x : Item) → slice_get confs a ≡ Some r → slice_get r.ends link ≡ Some e → frame_over confs a link x ≡ frame_of r.level e x
-over_at confs a r link e x at there = ap (λ (o : Option RouterConf). frame_from o link x) at ∙ ap (λ (o : Option End). frame_on r.level o x) there
+pub over_at : (os : List RouterConf) (a : ℕ) (r : RouterConf) (link : ℕ) (e : End) (x : Item) → IsAt os a r → slice_get r.ends link ≡ Some e → frame_over os a link x ≡ frame_of r.level e x
+over_at os a r link e x here there =
+    ap (λ (o : Option RouterConf). frame_from o link x) here.at
+    ∙ ap (λ (l : Level). frame_on l (slice_get here.there.ends link) x) here.level
+    ∙ ap (λ (es : List End). frame_on r.level (slice_get es link) x) here.ends
+    ∙ ap (λ (o : Option End). frame_on r.level o x) there
 
-pub end_within : (confs : List RouterConf) (a : ℕ) (r : RouterConf) (link : ℕ) (e : End) → slice_get confs a ≡ Some r → slice_get r.ends link ≡ Some e → link < length (ends_of (slice_get confs a))
-end_within confs a r link e at there = subst (λ (o : Option RouterConf). link < length (ends_of o)) (sym at) (got_within r.ends link e there)
+pub end_within : (os : List RouterConf) (a : ℕ) (r : RouterConf) (link : ℕ) (e : End) → IsAt os a r → slice_get r.ends link ≡ Some e → link < length (ends_of (slice_get os a))
+end_within os a r link e here there =
+    subst (λ (o : Option RouterConf). link < length (ends_of o)) (sym here.at) (subst (λ (es : List End). link < length es) (sym here.ends) (got_within r.ends link e there))
 
 -- ---- what is read back
 
 -- the frame of what is sent is a frame of the item, which is read off it
-pub record IsReadBack (confs : List RouterConf) (a : ℕ) (number : Option ℕ) (s : Sending) : Type 0 where
-  pub frame : IsItemFrame confs a number (sent_of confs s)
-  pub is : sending_of confs a number (sent_of confs s) ≡ s
+pub record IsReadBack (os confs : List RouterConf) (a : ℕ) (number : Option ℕ) (s : Sending) : Type 0 where
+  pub frame : IsItemFrame os confs a number (sent_of os s)
+  pub is : sending_of os confs a number (sent_of os s) ≡ s
 
-told : (confs : List RouterConf) (a : ℕ) (number : Option ℕ) (s : Sending) → IsReadBack confs a number s → wire_of confs s ≡ wire_from confs a (sent_of confs s)
-told confs a number s k = ap one (sym k.is)
+told : (os confs : List RouterConf) (a : ℕ) (number : Option ℕ) (s : Sending) → IsReadBack os confs a number s → wire_of os s ≡ wire_from os a (sent_of os s)
+told os confs a number s k = ap one (sym k.is)
   where
     one : Sending → WireFrame
-    one z = record { from = z.from; to = z.to; octets = frame_over confs s.from s.link s.item }
+    one z = record { from = z.from; to = z.to; octets = frame_over os s.from s.link s.item }
 
-pub framed_by : (confs : List RouterConf) (a : ℕ) (number : Option ℕ) (ids : List ℕ) (e : Effects) (m : Made) → e.sent ≡ map (sent_of confs) m.sent → AllByRecursion (IsReadBack confs a number) m.sent → m.got ≡ map (got_line a number) e.got → m.drops ≡ map (drop_line a number ids) e.drops → IsFramed confs a number ids e m
-framed_by confs a number ids e m sent back got drops =
+pub framed_by : (os confs : List RouterConf) (a : ℕ) (number : Option ℕ) (ids : List ℕ) (e : Effects) (m : Made) → e.sent ≡ map (sent_of os) m.sent → AllByRecursion (IsReadBack os confs a number) m.sent → m.got ≡ map (got_line a number) e.got → m.drops ≡ map (drop_line a number ids) e.drops → IsFramed os confs a number ids e m
+framed_by os confs a number ids e m sent back got drops =
     record {
-      frames = subst (AllByRecursion (IsItemFrame confs a number)) (sym sent)
-          (each_mapped (IsItemFrame confs a number) (sent_of confs) m.sent (each_weaker (IsReadBack confs a number) (λ s. IsItemFrame confs a number (sent_of confs s)) (λ s k. k.frame) m.sent back));
-      sent = self_mapped (sent_of confs) (sending_of confs a number) m.sent (each_weaker (IsReadBack confs a number) (λ s. sending_of confs a number (sent_of confs s) ≡ s) (λ s k. k.is) m.sent back)
-          ∙ ap (map (sending_of confs a number)) (sym sent);
-      wires = both_mapped (sent_of confs) (wire_from confs a) (wire_of confs) m.sent (each_weaker (IsReadBack confs a number) (λ s. wire_of confs s ≡ wire_from confs a (sent_of confs s)) (told confs a number) m.sent back)
-          ∙ ap (map (wire_from confs a)) (sym sent);
+      frames = subst (AllByRecursion (IsItemFrame os confs a number)) (sym sent)
+          (each_mapped (IsItemFrame os confs a number) (sent_of os) m.sent (each_weaker (IsReadBack os confs a number) (λ s. IsItemFrame os confs a number (sent_of os s)) (λ s k. k.frame) m.sent back));
+      sent = self_mapped (sent_of os) (sending_of os confs a number) m.sent (each_weaker (IsReadBack os confs a number) (λ s. sending_of os confs a number (sent_of os s) ≡ s) (λ s k. k.is) m.sent back)
+          ∙ ap (map (sending_of os confs a number)) (sym sent);
+      wires = both_mapped (sent_of os) (wire_from os a) (wire_of os) m.sent (each_weaker (IsReadBack os confs a number) (λ s. wire_of os s ≡ wire_from os a (sent_of os s)) (told os confs a number) m.sent back)
+          ∙ ap (map (wire_from os a)) (sym sent);
       got = got;
       drops = drops;
     }

@@ -13,7 +13,7 @@ use Rattle.wire_base.specs.declared.conf.End.{End}
 use Rattle.wire_base.specs.declared.conf.Level.{Level}
 use Rattle.wire_base.specs.declared.conf.RouterConf.{RouterConf}
 use Rattle.wire_base.specs.model.BierHeader.{header_length, header_octets}
-use Rattle.wire_base.specs.model.Configuration.{DomainConf, IsValid, IsEnd}
+use Rattle.wire_base.specs.model.Configuration.{DomainConf, IsConsistent}
 use Rattle.wire_base.specs.model.Control.{Control}
 use Rattle.wire_base.specs.model.Ethernet.{ethernet, ip_type}
 use Rattle.wire_base.specs.model.Ingress.{IngressPacket, packets_for, edge_fault, entering, inject}
@@ -29,16 +29,18 @@ use Rattle.laws_item.proofs.PacketFrames.{packet_taken, copy_arrives}
 use Rattle.domain_model.specs.World.{is_up, peer_place, link_between}
 use Rattle.domain_model.specs.Moves as moves
 use Rattle.domain_model.specs.Moves.{Sending, Made, over_end, hop_made, passes_through, entering_item, inject_made}
-use Rattle.domain_model.specs.Truth.{IsAmong, IsPrefixOf, OuterFits, MeansAt, router_at, IsTrueItem, IsTrueCopy, IsTrueControl, InjectFits}
+use Rattle.domain_model.specs.Truth.{IsPrefixOf, OuterFits, MeansAt, router_at, IsTrueItem, IsTrueCopy, IsTrueControl, InjectFits}
 use Rattle.frames_in_flight.specs.Framed.{frame_over, sent_of, item_sent, IsFramed, IsHopped}
 use Rattle.frames_in_flight.specs.Read.{item_in}
-use Rattle.domain_model.proofs.EachLaws.{each_weaker, each_both, each_got}
+use Rattle.domain_model.proofs.EachLaws.{each_weaker, each_both}
 use Rattle.domain_model.proofs.DomainLaws.{bytes_is, sound_of}
-use Rattle.domain_model.proofs.LinkLaws.{prefix_place, join_of, end_found}
-use Rattle.domain_model.proofs.CopyTruth.{IsTrueSending, IsTrueMade, taken_true}
+use Rattle.domain_model.proofs.LinkLaws.{prefix_place, join_of, end_found, places_stay}
+use Rattle.domain_model.proofs.CopyTruth.{SamePlaces, IsTrueSending, IsTrueMade, taken_true}
 use Rattle.domain_model.proofs.EnterTruth.{IsEntry, allowed_of, packets_true, inject_true}
-use Rattle.domain_core.proofs.FramedBack.{over_at, end_within, IsReadBack, framed_by}
+use Rattle.domain_model.proofs.WorldTruth.{AreOf}
+use Rattle.domain_core.proofs.FramedBack.{IsAt, at_self, at_now, over_at, end_within, IsReadBack, framed_by}
 use Rattle.domain_core.proofs.FramedHop.{IsCopyOver, IsSame, joined_same, hop_same, transit_same}
+use Rattle.domain_core.proofs.FramedPdus.{end_of_router}
 use Rattle.domain_core.proofs.ReadBack.{packet_back}
 
 zero_plus : (n : ℕ) → 0 + n ≡ n
@@ -103,134 +105,144 @@ header_short B1024 = omega arith
 header_short B2048 = omega arith
 header_short B4096 = omega arith
 
-module _ (d : DomainConf) (valid : IsValid d) where
-  end_is : (r : RouterConf) (link : ℕ) (e : End) → IsAmong d.routers r → slice_get r.ends link ≡ Some e → IsEnd e
-  end_is r link e among there = each_got IsEnd r.ends link e (sound_of d valid r among).ends there
+same_prefix : (p q : Ipv4) → bytes_eq p.0 q.0 ≡ true → p ≡ q
+same_prefix p q h = ap (λ (octets : List ℕ). record { 0 = octets }) (bytes_is p.0 q.0 h)
+
+-- The domain as it started, `old`, has the interfaces; the configurations of now are `confs`.
+module _ (old : DomainConf) (start : IsConsistent old) (confs : List RouterConf) (of : AreOf old confs) where
+  abbrev d : DomainConf
+  d = record old { routers = confs }
+
+  abbrev valid : IsConsistent d
+  valid = of.valid
+
+  places : SamePlaces old.routers confs
+  places a link = places_stay old.routers confs a link of.become
 
   -- a tunnel among routers has room for the copy
-  prefix_long : (p : Ipv4) → IsPrefixOf d.routers p → length p.0 ≡ 4
+  prefix_long : (p : Ipv4) → IsPrefixOf confs p → length p.0 ≡ 4
   prefix_long p k = ap (λ (i : Ipv4). length i.0) k.is ∙ (sound_of d valid k.router k.among).prefix.octets_are.long
 
-  outer_fits : (x : DataItem) (o : Option Outer) → OuterFits d.routers o → length x.payload ≤ MOST_PAYLOAD → item_fits.OuterFits x o
+  outer_fits : (x : DataItem) (o : Option Outer) → OuterFits confs o → length x.payload ≤ MOST_PAYLOAD → item_fits.OuterFits x o
   outer_fits x None k short = tt
   outer_fits x (Some o) k short =
       let h = header_short x.triple.bsl in
       let ttl = k.ttl in
       record { src = prefix_long o.src k.src; dst = prefix_long o.dst k.dst; ttl = omega (arith, ttl); size = omega (arith, packet_length x, h, short) }
 
-  carried_short : (x : DataItem) (o : Option Outer) → OuterFits d.routers o → length x.payload ≤ MOST_PAYLOAD → length (carried_octets x o) ≤ 548 + MOST_PAYLOAD
+  carried_short : (x : DataItem) (o : Option Outer) → OuterFits confs o → length x.payload ≤ MOST_PAYLOAD → length (carried_octets x o) ≤ 548 + MOST_PAYLOAD
   carried_short x None k short = let h = header_short x.triple.bsl in omega (arith, packet_length x, h, short)
   carried_short x (Some o) k short =
       let h = header_short x.triple.bsl in
       omega (arith, tunnel_length (item_tunnel x o) (prefix_long o.src k.src) (prefix_long o.dst k.dst), packet_length x, h, short)
 
-  pub copy_short : (n b a : ℕ) (r : RouterConf) (link : ℕ) (e : End) (x : DataItem) → slice_get d.routers a ≡ Some r → slice_get r.ends link ≡ Some e → IsTrueCopy d.routers n b x → length (frame_over d.routers a link (PacketItem x)) ≤ MOST_FRAME
+  pub copy_short : (n b a : ℕ) (r : RouterConf) (link : ℕ) (e : End) (x : DataItem) → slice_get old.routers a ≡ Some r → slice_get r.ends link ≡ Some e → IsTrueCopy confs n b x → length (frame_over old.routers a link (PacketItem x)) ≤ MOST_FRAME
   unfolding frame_of
   copy_short n b a r link e x at there t =
-      let end_fits = end_is r link e (record { place = a; there = at }) there in
-      let l = ap (λ (octets : List ℕ). length octets) (over_at d.routers a r link e (PacketItem x) at there) in
+      let end_fits = end_of_router old start r link e (record { place = a; there = at }) there in
+      let l = ap (λ (octets : List ℕ). length octets) (over_at old.routers a r link e (PacketItem x) (at_self old.routers a r at) there) in
       let m = frame_length r.level e x x.outer end_fits.peer_mac.octets_are.long end_fits.own_mac.octets_are.long in
       let k = carried_short x x.outer t.outer t.payload in
       omega (arith, l, m, k)
 
   -- ---- copies that are sent
 
-  module _ (n a : ℕ) (r : RouterConf) (at : slice_get d.routers a ≡ Some r) where
-    copy_again : (link : ℕ) (e : End) (x : DataItem) → slice_get r.ends link ≡ Some e → IsTrueCopy d.routers n (peer_place d.routers a link) x → IsReadBack d.routers a (Some x.number) (over_end d.routers a link (PacketItem x))
+  module _ (n a : ℕ) (r : RouterConf) (at : slice_get confs a ≡ Some r) where
+    here : IsAt old.routers a r
+    here = at_now old.routers confs a r of.become at
+
+    copy_again : (link : ℕ) (e : End) (x : DataItem) → slice_get r.ends link ≡ Some e → IsTrueCopy confs n (peer_place old.routers a link) x → IsReadBack old.routers confs a (Some x.number) (over_end old.routers a link (PacketItem x))
     copy_again link e x there t =
-        let end_fits = end_is r link e (record { place = a; there = at }) there in
-        let b = peer_place d.routers a link in
-        let item : item_sent d.routers a (Some x.number) (sent_of d.routers (over_end d.routers a link (PacketItem x))) ≡ PacketItem x =
-        ap (item_in d.routers (Some (record { number = x.number; to = b }))) (over_at d.routers a r link e (PacketItem x) at there)
-        ∙ packet_back d.routers b r.level e x (fits_of d.routers n b x t) (outer_fits x x.outer t.outer t.payload) t.means end_fits.peer_mac.octets_are.long end_fits.own_mac.octets_are.long in
+        let end_fits = end_of_router d valid r link e (record { place = a; there = at }) there in
+        let b = peer_place old.routers a link in
+        let item : item_sent old.routers confs a (Some x.number) (sent_of old.routers (over_end old.routers a link (PacketItem x))) ≡ PacketItem x =
+        ap (item_in confs (Some (record { number = x.number; to = b }))) (over_at old.routers a r link e (PacketItem x) here there)
+        ∙ packet_back confs b r.level e x (fits_of confs n b x t) (outer_fits x x.outer t.outer t.payload) t.means end_fits.peer_mac.octets_are.long end_fits.own_mac.octets_are.long in
         record {
-          frame = record { within = end_within d.routers a r link e at there; is = ap (frame_over d.routers a link) (sym item) };
-          is = ap (over_end d.routers a link) item;
+          frame = record { within = end_within old.routers a r link e here there; is = ap (frame_over old.routers a link) (sym item) };
+          is = ap (over_end old.routers a link) item;
         }
 
-    copy_read : (number : ℕ) (s : Sending) → IsCopyOver d.routers a r number s → IsTrueSending d.routers n s → IsReadBack d.routers a (Some number) s
+    copy_read : (number : ℕ) (s : Sending) → IsCopyOver old.routers a r number s → IsTrueSending old.routers confs n s → IsReadBack old.routers confs a (Some number) s
     copy_read number s k t =
-        let true_copy = subst (λ (z : Sending). IsTrueItem d.routers n (peer_place d.routers z.from z.link) z.item) k.is t.item in
-        subst (IsReadBack d.routers a (Some number)) (sym k.is)
-        (subst (λ (i : ℕ). IsReadBack d.routers a (Some i) (over_end d.routers a s.link (PacketItem k.copy))) k.number_is (copy_again s.link k.end k.copy k.there true_copy))
+        let true_copy = subst (λ (z : Sending). IsTrueItem confs n (peer_place old.routers z.from z.link) z.item) k.is t.item in
+        subst (IsReadBack old.routers confs a (Some number)) (sym k.is)
+        (subst (λ (i : ℕ). IsReadBack old.routers confs a (Some i) (over_end old.routers a s.link (PacketItem k.copy))) k.number_is (copy_again s.link k.end k.copy k.there true_copy))
 
-    same_framed : (number : ℕ) (ids : List ℕ) (e : Effects) (m : Made) → IsSame d.routers a r number ids e m → IsTrueMade d.routers n m → IsFramed d.routers a (Some number) ids e m
+    same_framed : (number : ℕ) (ids : List ℕ) (e : Effects) (m : Made) → IsSame old.routers a r number ids e m → IsTrueMade old.routers confs n m → IsFramed old.routers confs a (Some number) ids e m
     same_framed number ids e m same t =
-        framed_by d.routers a (Some number) ids e m same.sent
-        (each_weaker (λ s. IsCopyOver d.routers a r number s × IsTrueSending d.routers n s) (IsReadBack d.routers a (Some number)) (λ s h. copy_read number s h.0 h.1) m.sent
-        (each_both (IsCopyOver d.routers a r number) (IsTrueSending d.routers n) m.sent same.copies t.sent))
+        framed_by old.routers confs a (Some number) ids e m same.sent
+        (each_weaker (λ s. IsCopyOver old.routers a r number s × IsTrueSending old.routers confs n s) (IsReadBack old.routers confs a (Some number)) (λ s h. copy_read number s h.0 h.1) m.sent
+        (each_both (IsCopyOver old.routers a r number) (IsTrueSending old.routers confs n) m.sent same.copies t.sent))
         same.got same.drops
 
--- ---- a copy that arrives
+  -- ---- a copy that arrives
 
-same_prefix : (p q : Ipv4) → bytes_eq p.0 q.0 ≡ true → p ≡ q
-same_prefix p q h = ap (λ (octets : List ℕ). record { 0 = octets }) (bytes_is p.0 q.0 h)
+  module _ (b : ℕ) (c : Control) (at : slice_get confs b ≡ Some c.conf) (t : IsTrueControl confs c) where
+    abbrev Taken : DataItem → Effects → Made → Type 0
+    Taken x e m = IsSame old.routers b c.conf x.number x.ids e m
 
-module _ (d : DomainConf) (valid : IsValid d) (b : ℕ) (c : Control) (at : slice_get d.routers b ≡ Some c.conf) (t : IsTrueControl d.routers c) where
-  abbrev Taken : DataItem → Effects → Made → Type 0
-  Taken x e m = IsSame d.routers b c.conf x.number x.ids e m
+    -- where it is for this router it is hopped
+    hopped_same : (n : ℕ) (x : DataItem) → IsTrueCopy confs n b x → router_at confs (target_of confs b x) ≡ Some c.conf → Taken x (on_packet c x.kind (item_packet x)) (hop_made old.routers b c x x.ttl)
+    hopped_same n x k for_it =
+        let g = control_view c in
+        let means_so : means c.conf x.kind x.bift ≡ Some x.triple = subst (λ (q : Option RouterConf). MeansAt q x) for_it k.means in
+        subst (λ (e : Effects). Taken x e (hop_made old.routers b c x x.ttl)) (sym (packet_taken c x (fits_of confs n b x k) means_so))
+        (hop_same old.routers b c.conf (here 0 b c.conf at) g (node_place g c.conf.system) x x.ids x.ttl k.ids)
 
-  -- where it is for this router it is hopped
-  hopped_same : (n : ℕ) (x : DataItem) → IsTrueCopy d.routers n b x → router_at d.routers (target_of d.routers b x) ≡ Some c.conf → Taken x (on_packet c x.kind (item_packet x)) (hop_made d.routers b c x x.ttl)
-  hopped_same n x k here =
-      let g = control_view c in
-      let means_so : means c.conf x.kind x.bift ≡ Some x.triple = subst (λ (q : Option RouterConf). MeansAt q x) here k.means in
-      subst (λ (e : Effects). Taken x e (hop_made d.routers b c x x.ttl)) (sym (packet_taken c x (fits_of d.routers n b x k) means_so))
-      (hop_same d.routers b c.conf at g (node_place g c.conf.system) x x.ids x.ttl k.ids)
+    -- the router with the prefix is this one
+    this_prefix : (o : Outer) → bytes_eq o.dst.0 c.conf.prefix.0 ≡ true → router_at confs (router_with 0 confs o.dst) ≡ Some c.conf
+    this_prefix o is =
+        ap (λ (p : Ipv4). router_at confs (router_with 0 confs p)) (same_prefix o.dst c.conf.prefix is)
+        ∙ ap (router_at confs) (prefix_place 0 confs valid.prefixes b c.conf at ∙ ap (λ (m : ℕ). Some m) (zero_plus b)) ∙ at
 
-  -- the router with the prefix is this one
-  this_prefix : (o : Outer) → bytes_eq o.dst.0 c.conf.prefix.0 ≡ true → router_at d.routers (router_with 0 d.routers o.dst) ≡ Some c.conf
-  this_prefix o here =
-      ap (λ (p : Ipv4). router_at d.routers (router_with 0 d.routers p)) (same_prefix o.dst c.conf.prefix here)
-      ∙ ap (router_at d.routers) (prefix_place 0 d.routers valid.prefixes b c.conf at ∙ ap (λ (m : ℕ). Some m) (zero_plus b)) ∙ at
+    taken_same : (n : ℕ) (x : DataItem) → IsTrueCopy confs n b x → (o : Option Outer) → x.outer ≡ o → Taken x (copy_taken c x o) (moves.packet_taken old.routers b c x o)
+    taken_same n x k None is = hopped_same n x k (ap (λ (z : Option Outer). router_at confs (outer_target confs b z)) is ∙ at)
+    taken_same n x k (Some o) is = by (bytes_eq o.dst.0 c.conf.prefix.0) refl
+      where
+        whole : List ℕ
+        whole = tunnel (item_tunnel x o)
 
-  taken_same : (n : ℕ) (x : DataItem) → IsTrueCopy d.routers n b x → (o : Option Outer) → x.outer ≡ o → Taken x (copy_taken c x o) (moves.packet_taken d.routers b c x o)
-  taken_same n x k None is = hopped_same n x k (ap (λ (z : Option Outer). router_at d.routers (outer_target d.routers b z)) is ∙ at)
-  taken_same n x k (Some o) is = by (bytes_eq o.dst.0 c.conf.prefix.0) refl
-    where
-      whole : List ℕ
-      whole = tunnel (item_tunnel x o)
+        by : (ends : Bool) → bytes_eq o.dst.0 c.conf.prefix.0 ≡ ends → Taken x (if ends then on_packet c x.kind (item_packet x) else in_transit c whole (item_tunnel x o)) (if ends then hop_made old.routers b c x x.ttl else passes_through old.routers b c x o)
+        by true h = hopped_same n x k (ap (λ (z : Option Outer). router_at confs (outer_target confs b z)) is ∙ this_prefix o h)
+        by false h = transit_same old.routers b c (here 0 b c.conf at) x o (subst (λ (z : Option Outer). item_fits.OuterFits x z) is (outer_fits x x.outer k.outer k.payload))
 
-      by : (here : Bool) → bytes_eq o.dst.0 c.conf.prefix.0 ≡ here → Taken x (if here then on_packet c x.kind (item_packet x) else in_transit c whole (item_tunnel x o)) (if here then hop_made d.routers b c x x.ttl else passes_through d.routers b c x o)
-      by true h = hopped_same n x k (ap (λ (z : Option Outer). router_at d.routers (outer_target d.routers b z)) is ∙ this_prefix o h)
-      by false h = transit_same d.routers b c at x o (subst (λ (z : Option Outer). item_fits.OuterFits x z) is (outer_fits d valid x x.outer k.outer k.payload))
+    pub packet_framed : (n a link back : ℕ) (x : DataItem) → link_between old.routers a b ≡ Some link → IsTrueCopy confs n b x → is_up c back ≡ true
+        → (next : Control) (e : Effects) → ◌≡◌ {A = Next} (record { control = next; effects = e }) (on_frame c back (frame_over old.routers a link (PacketItem x))) → IsHopped old.routers confs b c x next e
+    packet_framed n a link back x joined true_copy up next e q =
+        let j = join_of old.routers a b link joined in
+        let end = end_found j.near.ends j.far.system link j.toward in
+        let end_fits = end_of_router old start j.near link end.at (record { place = a; there = j.near_at }) end.there in
+        let made = moves.packet_taken old.routers b c x x.outer in
+        let all : ◌≡◌ {A = Next} (record { control = next; effects = e }) (unchanged c (copy_taken c x x.outer)) =
+        q ∙ ap (on_frame c back) (over_at old.routers a j.near link end.at (PacketItem x) (at_self old.routers a j.near j.near_at) end.there)
+        ∙ copy_arrives c back j.near.level end.at x (outer_fits x x.outer true_copy.outer true_copy.payload) end_fits.peer_mac.octets_are.long end_fits.own_mac.octets_are.long up in
+        record {
+          control = ap (λ (k : Next). k.control) all;
+          framed = subst (λ (f : Effects). IsFramed old.routers confs b (Some x.number) x.ids f made) (sym (ap (λ (k : Next). k.effects) all))
+              (same_framed n b c.conf at x.number x.ids (copy_taken c x x.outer) made (taken_same n x true_copy x.outer refl) (taken_true old.routers d valid places n b c at t x true_copy));
+        }
 
-  pub packet_framed : (n a link back : ℕ) (x : DataItem) → link_between d.routers a b ≡ Some link → IsTrueCopy d.routers n b x → is_up c back ≡ true
-      → (next : Control) (e : Effects) → ◌≡◌ {A = Next} (record { control = next; effects = e }) (on_frame c back (frame_over d.routers a link (PacketItem x))) → IsHopped d.routers b c x next e
-  packet_framed n a link back x joined true_copy up next e q =
-      let j = join_of d.routers a b link joined in
-      let end = end_found j.near.ends j.far.system link j.toward in
-      let end_fits = end_is d valid j.near link end.at (record { place = a; there = j.near_at }) end.there in
-      let made = moves.packet_taken d.routers b c x x.outer in
-      let all : ◌≡◌ {A = Next} (record { control = next; effects = e }) (unchanged c (copy_taken c x x.outer)) =
-      q ∙ ap (on_frame c back) (over_at d.routers a j.near link end.at (PacketItem x) j.near_at end.there)
-      ∙ copy_arrives c back j.near.level end.at x (outer_fits d valid x x.outer true_copy.outer true_copy.payload) end_fits.peer_mac.octets_are.long end_fits.own_mac.octets_are.long up in
-      record {
-        control = ap (λ (k : Next). k.control) all;
-        framed = subst (λ (f : Effects). IsFramed d.routers b (Some x.number) x.ids f made) (sym (ap (λ (k : Next). k.effects) all))
-            (same_framed d valid n b c.conf at x.number x.ids (copy_taken c x x.outer) made (taken_same n x true_copy x.outer refl) (taken_true d valid n b c at t x true_copy));
-      }
+    -- ---- a payload that enters
 
-  -- ---- a payload that enters
-
-  pub inject_framed : (n sd : ℕ) (bsl : Bsl) (ks : List ℕ) (ttl entropy : ℕ) (payload : List ℕ) → InjectFits (length d.routers) b sd ks ttl entropy payload → edge_fault c.conf sd bsl ks ≡ None
-      → (e : Effects) → e ≡ inject c sd bsl ks ttl entropy payload
-      → IsFramed d.routers b (Some (n + 1)) [] e (inject_made d.routers b c (n + 1) sd bsl ks ttl entropy payload)
-  unfolding inject inject_made
-  inject_framed n sd bsl ks ttl entropy payload fits ok e q =
-      let packets = packets_for sd bsl ks in
-      let entries = packets_true c.conf sd bsl ks (allowed_of c.conf sd bsl ks ok) fits.bfr_ids in
-      let made = inject_made d.routers b c (n + 1) sd bsl ks ttl entropy payload in
-      subst (λ (f : Effects). IsFramed d.routers b (Some (n + 1)) [] f made) (sym q)
-      (same_framed d valid (n + 1) b c.conf at (n + 1) [] (inject c sd bsl ks ttl entropy payload) made
-      (joined_same d.routers b c.conf (n + 1) [] (λ (p : IngressPacket). hop_in c (entering c.conf ttl entropy payload p) (ttl + 1)) (λ (p : IngressPacket). hop_made d.routers b c (entering_item c.conf (n + 1) ttl entropy payload p) (ttl + 1)) packets
-      (each_weaker (IsEntry sd bsl) (λ p. IsSame d.routers b c.conf (n + 1) [] (hop_in c (entering c.conf ttl entropy payload p) (ttl + 1)) (hop_made d.routers b c (entering_item c.conf (n + 1) ttl entropy payload p) (ttl + 1))) entered packets entries))
-      (inject_true d valid n b c at t sd bsl ks ttl entropy payload fits ok))
-    where
-      entered : (p : IngressPacket) → IsEntry sd bsl p → IsSame d.routers b c.conf (n + 1) [] (hop_in c (entering c.conf ttl entropy payload p) (ttl + 1)) (hop_made d.routers b c (entering_item c.conf (n + 1) ttl entropy payload p) (ttl + 1))
-      entered p k =
-          let g = control_view c in
-          hop_same d.routers b c.conf at g (node_place g c.conf.system) (entering_item c.conf (n + 1) ttl entropy payload p) [] (ttl + 1) k.ids.of_set
+    pub inject_framed : (n sd : ℕ) (bsl : Bsl) (ks : List ℕ) (ttl entropy : ℕ) (payload : List ℕ) → InjectFits (length old.routers) b sd ks ttl entropy payload → edge_fault c.conf sd bsl ks ≡ None
+        → (e : Effects) → e ≡ inject c sd bsl ks ttl entropy payload
+        → IsFramed old.routers confs b (Some (n + 1)) [] e (inject_made old.routers b c (n + 1) sd bsl ks ttl entropy payload)
+    unfolding inject inject_made
+    inject_framed n sd bsl ks ttl entropy payload fits ok e q =
+        let packets = packets_for sd bsl ks in
+        let entries = packets_true c.conf sd bsl ks (allowed_of c.conf sd bsl ks ok) fits.bfr_ids in
+        let made = inject_made old.routers b c (n + 1) sd bsl ks ttl entropy payload in
+        subst (λ (f : Effects). IsFramed old.routers confs b (Some (n + 1)) [] f made) (sym q)
+        (same_framed (n + 1) b c.conf at (n + 1) [] (inject c sd bsl ks ttl entropy payload) made
+        (joined_same old.routers b c.conf (n + 1) [] (λ (p : IngressPacket). hop_in c (entering c.conf ttl entropy payload p) (ttl + 1)) (λ (p : IngressPacket). hop_made old.routers b c (entering_item c.conf (n + 1) ttl entropy payload p) (ttl + 1)) packets
+        (each_weaker (IsEntry sd bsl) (λ p. IsSame old.routers b c.conf (n + 1) [] (hop_in c (entering c.conf ttl entropy payload p) (ttl + 1)) (hop_made old.routers b c (entering_item c.conf (n + 1) ttl entropy payload p) (ttl + 1))) entered packets entries))
+        (inject_true old.routers d valid places n b c at t sd bsl ks ttl entropy payload fits ok))
+      where
+        entered : (p : IngressPacket) → IsEntry sd bsl p → IsSame old.routers b c.conf (n + 1) [] (hop_in c (entering c.conf ttl entropy payload p) (ttl + 1)) (hop_made old.routers b c (entering_item c.conf (n + 1) ttl entropy payload p) (ttl + 1))
+        entered p k =
+            let g = control_view c in
+            hop_same old.routers b c.conf (here 0 b c.conf at) g (node_place g c.conf.system) (entering_item c.conf (n + 1) ttl entropy payload p) [] (ttl + 1) k.ids.of_set
 
 -- ---- an end that is down
 

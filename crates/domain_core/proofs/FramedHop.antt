@@ -27,7 +27,7 @@ use Rattle.domain_model.specs.Truth.{AreOfSet}
 use Rattle.frames_in_flight.specs.Framed.{sent_of, got_line, drop_line}
 use Rattle.domain_model.proofs.EachLaws.{each_from, each_weaker, each_joined, each_mapped, each_flat}
 use Rattle.domain_model.proofs.HopTruth.{GoesDown}
-use Rattle.domain_core.proofs.FramedBack.{over_at}
+use Rattle.domain_core.proofs.FramedBack.{IsAt, over_at}
 
 -- ---- the parts of a packet
 
@@ -119,7 +119,7 @@ both_if P false e f m n h k = k
 
 -- ---- a hop
 
-module _ (confs : List RouterConf) (a : ℕ) (r : RouterConf) (at : slice_get confs a ≡ Some r) (g : List ViewNode) (u : ℕ) (x : DataItem) (whole : List ℕ) where
+module _ (confs : List RouterConf) (a : ℕ) (r : RouterConf) (at : IsAt confs a r) (g : List ViewNode) (u : ℕ) (x : DataItem) (whole : List ℕ) where
   abbrev Same : Effects → Made → Type 0
   Same e m = IsSame confs a r x.number whole e m
 
@@ -204,7 +204,7 @@ module _ (confs : List RouterConf) (a : ℕ) (r : RouterConf) (at : slice_get co
 
 -- ---- a copy that arrives in a tunnel which goes on
 
-module _ (confs : List RouterConf) (a : ℕ) (r : RouterConf) (at : slice_get confs a ≡ Some r) (g : List ViewNode) (u : ℕ) (x : DataItem) where
+module _ (confs : List RouterConf) (a : ℕ) (r : RouterConf) (at : IsAt confs a r) (g : List ViewNode) (u : ℕ) (x : DataItem) where
   abbrev Taken : Effects → Made → Type 0
   Taken e m = IsSame confs a r x.number x.ids e m
 
@@ -227,7 +227,7 @@ module _ (confs : List RouterConf) (a : ℕ) (r : RouterConf) (at : slice_get co
       (over_same confs a r at g u x x.ids way (record x { outer = Some (record o { ttl = o.ttl - 1 }) }) (λ e. ip_frame e.peer_mac e.own_mac (tunnel_on (tunnel (item_tunnel x o)) (o.ttl - 1))) refl
       (λ e. ap (ip_frame e.peer_mac e.own_mac) (onward x o (o.ttl - 1) fits)))
 
-pub transit_same : (confs : List RouterConf) (a : ℕ) (c : Control) → slice_get confs a ≡ Some c.conf → (x : DataItem) (o : Outer) → OuterFits x (Some o)
+pub transit_same : (confs : List RouterConf) (a : ℕ) (c : Control) → IsAt confs a c.conf → (x : DataItem) (o : Outer) → OuterFits x (Some o)
     → IsSame confs a c.conf x.number x.ids (in_transit c (tunnel (item_tunnel x o)) (item_tunnel x o)) (passes_through confs a c x o)
 transit_same confs a c at x o fits = by (nat_le o.ttl 1)
   where

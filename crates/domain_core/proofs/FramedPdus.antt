@@ -14,7 +14,7 @@ use Rattle.wire_base.specs.declared.conf.RouterConf.{RouterConf}
 use Rattle.wire_base.specs.declared.effects.Sent.{Sent}
 use Rattle.wire_base.specs.declared.entry.Entry.{Entry}
 use Rattle.wire_base.specs.declared.triple.Summary.{Summary}
-use Rattle.wire_base.specs.model.Configuration.{DomainConf, IsValid, IsSound, IsEnd}
+use Rattle.wire_base.specs.model.Configuration.{DomainConf, IsConsistent, IsSound, IsEnd}
 use Rattle.wire_base.specs.model.Control.{Control, fragment_0}
 use Rattle.wire_base.specs.model.Ethernet.{ethernet}
 use Rattle.wire_base.specs.model.Flooding.{Reply, on_pdu, send}
@@ -35,11 +35,12 @@ use Rattle.domain_model.specs.Truth.{IsAmong, IsOwnLsp, IsDeadLsp, IsTrueLsp, Is
 use Rattle.frames_in_flight.specs.Framed.{frame_over, sent_of, item_sent, drop_line, IsFramed, IsFlooded}
 use Rattle.frames_in_flight.specs.Read.{item_in}
 use Rattle.domain_model.proofs.EachLaws.{each_weaker, each_mapped, each_got}
-use Rattle.domain_model.proofs.DomainLaws.{sound_of, alike}
+use Rattle.domain_model.proofs.DomainLaws.{sound_of, alike, own_earlier}
 use Rattle.domain_model.proofs.LinkLaws.{join_of, end_found}
 use Rattle.domain_model.proofs.ControlTruth.{IsTrueReply, state_of, named_fits, row_fits, on_pdu_true}
 use Rattle.domain_model.proofs.SendTruth.{send_true}
-use Rattle.domain_core.proofs.FramedBack.{up_within, over_at, end_within, IsReadBack, framed_by}
+use Rattle.domain_model.proofs.WorldTruth.{AreOf}
+use Rattle.domain_core.proofs.FramedBack.{up_within, IsAt, at_self, at_now, over_at, end_within, IsReadBack, framed_by}
 use Rattle.domain_core.proofs.ReadBack.{got_some, pdu_back}
 
 -- ---- a true PDU can be sent
@@ -59,7 +60,7 @@ module _ (confs : List RouterConf) (sound : AllByRecursion IsSound confs) where
           let r = own.router in
           let low : h.seq < 2 ^ 32 = omega (arith, t.seq) in
           let fresh : h.life < 2 ^ 16 = omega (arith, own.fresh) in
-          own_fits r own.up e (sound_among r own.among)
+          own_fits r own.up e own.earlier.sound
           (record {
             id = own.is;
             content = own.content;
@@ -123,77 +124,94 @@ framed_control : (link : ℕ) (r : Reply) → (framed link r).control ≡ r.cont
 unfolding framed
 framed_control link r = refl
 
-module _ (d : DomainConf) (valid : IsValid d) where
-  end_is : (r : RouterConf) (link : ℕ) (e : End) → IsAmong d.routers r → slice_get r.ends link ≡ Some e → IsEnd e
-  end_is r link e among there = each_got IsEnd r.ends link e (sound_of d valid r among).ends there
+pub end_of_router : (d : DomainConf) → IsConsistent d → (r : RouterConf) (link : ℕ) (e : End) → IsAmong d.routers r → slice_get r.ends link ≡ Some e → IsEnd e
+end_of_router d valid r link e among there = each_got IsEnd r.ends link e (sound_of d valid r among).ends there
 
-  pub pdu_short : (a : ℕ) (r : RouterConf) (link : ℕ) (e : End) (p : Pdu) → slice_get d.routers a ≡ Some r → slice_get r.ends link ≡ Some e → IsTruePdu d.routers p → length (frame_over d.routers a link (ControlItem p)) ≤ MOST_FRAME
+-- The domain as it started, `old`, has the interfaces; the configurations of now are `confs`.
+module _ (old : DomainConf) (start : IsConsistent old) (confs : List RouterConf) (of : AreOf old confs) where
+  abbrev d : DomainConf
+  d = record old { routers = confs }
+
+  abbrev valid : IsConsistent d
+  valid = of.valid
+
+  pub pdu_short : (a : ℕ) (r : RouterConf) (link : ℕ) (e : End) (p : Pdu) → slice_get old.routers a ≡ Some r → slice_get r.ends link ≡ Some e → IsTruePdu confs p → length (frame_over old.routers a link (ControlItem p)) ≤ MOST_FRAME
   pdu_short a r link e p at there t =
-      let end_fits = end_is r link e (record { place = a; there = at }) there in
-      let l = ap (λ (octets : List ℕ). length octets) (over_at d.routers a r link e (ControlItem p) at there) in
+      let end_fits = end_of_router old start r link e (record { place = a; there = at }) there in
+      let l = ap (λ (octets : List ℕ). length octets) (over_at old.routers a r link e (ControlItem p) (at_self old.routers a r at) there) in
       let m = frame_length r.level e p end_fits.own_mac.octets_are.long in
-      let s = sendable_short r.level p (true_sendable d.routers valid.sound p t) in
+      let s = sendable_short r.level p (true_sendable confs valid.sound p t) in
       omega (arith, l, m, s)
 
--- ---- what a router sends and does
+  -- ---- what a router sends and does
 
-module _ (d : DomainConf) (valid : IsValid d) (b : ℕ) (c : Control) (at : slice_get d.routers b ≡ Some c.conf) (t : IsTrueControl d.routers c) where
-  pdu_again : (link : ℕ) (e : End) (p : Pdu) → slice_get c.conf.ends link ≡ Some e → IsTruePdu d.routers p → IsReadBack d.routers b None (over_end d.routers b link (ControlItem p))
-  pdu_again link e p there true_pdu =
-      let end_fits = end_is d valid c.conf link e t.among there in
-      let sendable = true_sendable d.routers valid.sound p true_pdu in
-      let item : item_sent d.routers b None (sent_of d.routers (over_end d.routers b link (ControlItem p))) ≡ ControlItem p =
-      ap (item_in d.routers None) (over_at d.routers b c.conf link e (ControlItem p) at there) ∙ pdu_back d valid c.conf t.among e p sendable end_fits.own_mac.octets_are.long in
-      record {
-        frame = record { within = end_within d.routers b c.conf link e at there; is = ap (frame_over d.routers b link) (sym item) };
-        is = ap (over_end d.routers b link) item;
-      }
+  module _ (b : ℕ) (c : Control) (at : slice_get confs b ≡ Some c.conf) (t : IsTrueControl confs c) where
+    here : IsAt old.routers b c.conf
+    here = at_now old.routers confs b c.conf of.become at
 
-  frame_same : (r : RouterConf) (link : ℕ) (e : End) (p : Pdu) → slice_get d.routers b ≡ Some r → slice_get r.ends link ≡ Some e → pdu_frame r (slice_get r.ends link) p ≡ frame_over d.routers b link (ControlItem p)
-  unfolding frame_of
-  frame_same r link e p here there = ap (λ (o : Option End). pdu_frame r o p) there ∙ sym (over_at d.routers b r link e (ControlItem p) here there)
+    pdu_again : (link : ℕ) (e : End) (p : Pdu) → slice_get c.conf.ends link ≡ Some e → IsTruePdu confs p → IsReadBack old.routers confs b None (over_end old.routers b link (ControlItem p))
+    pdu_again link e p there true_pdu =
+        let end_fits = end_of_router d valid c.conf link e t.among there in
+        let sendable = true_sendable confs valid.sound p true_pdu in
+        let item : item_sent old.routers confs b None (sent_of old.routers (over_end old.routers b link (ControlItem p))) ≡ ControlItem p =
+        ap (item_in confs None) (over_at old.routers b c.conf link e (ControlItem p) here there) ∙ pdu_back d valid c.conf t.among e p sendable end_fits.own_mac.octets_are.long in
+        record {
+          frame = record { within = end_within old.routers b c.conf link e here there; is = ap (frame_over old.routers b link) (sym item) };
+          is = ap (over_end old.routers b link) item;
+        }
 
-  frames_same : (r : RouterConf) (link : ℕ) (e : End) → slice_get d.routers b ≡ Some r → slice_get r.ends link ≡ Some e → (pdus : List Pdu) → frames_of r link pdus ≡ map (sent_of d.routers) (map (λ p. over_end d.routers b link (ControlItem p)) pdus)
-  frames_same r link e here there [] = refl
-  frames_same r link e here there (p ∷ pdus) =
-      ap (λ (octets : List ℕ). over_link link octets ∷ frames_of r link pdus) (frame_same r link e p here there)
-      ∙ ap (λ (l : List Sent). sent_of d.routers (over_end d.routers b link (ControlItem p)) ∷ l) (frames_same r link e here there pdus)
+    frame_same : (r : RouterConf) (link : ℕ) (e : End) (p : Pdu) → IsAt old.routers b r → slice_get r.ends link ≡ Some e → pdu_frame r (slice_get r.ends link) p ≡ frame_over old.routers b link (ControlItem p)
+    unfolding frame_of
+    frame_same r link e p is there = ap (λ (o : Option End). pdu_frame r o p) there ∙ sym (over_at old.routers b r link e (ControlItem p) is there)
 
-  drops_same : (drops : List Cause) → map (control_lost b) drops ≡ map (drop_line b None []) (map whole drops)
-  drops_same [] = refl
-  drops_same (why ∷ drops) = ap (λ (l : List DropLine). control_lost b why ∷ l) (drops_same drops)
+    frames_same : (r : RouterConf) (link : ℕ) (e : End) → IsAt old.routers b r → slice_get r.ends link ≡ Some e → (pdus : List Pdu) → frames_of r link pdus ≡ map (sent_of old.routers) (map (λ p. over_end old.routers b link (ControlItem p)) pdus)
+    frames_same r link e is there [] = refl
+    frames_same r link e is there (p ∷ pdus) =
+        ap (λ (octets : List ℕ). over_link link octets ∷ frames_of r link pdus) (frame_same r link e p is there)
+        ∙ ap (λ (l : List Sent). sent_of old.routers (over_end old.routers b link (ControlItem p)) ∷ l) (frames_same r link e is there pdus)
 
-  reply_framed : (link : ℕ) (e : End) (r : Reply) → slice_get c.conf.ends link ≡ Some e → IsTrueReply d.routers c r → IsFramed d.routers b None [] (framed link r).effects (replied d.routers b link r)
-  unfolding framed
-  reply_framed link e r there true_reply =
-      framed_by d.routers b None [] (framed link r).effects (replied d.routers b link r)
-      (ap (λ (q : RouterConf). frames_of q link r.sent) true_reply.next.conf ∙ frames_same c.conf link e at there r.sent)
-      (each_mapped (IsReadBack d.routers b None) (λ p. over_end d.routers b link (ControlItem p)) r.sent
-      (each_weaker (IsTruePdu d.routers) (λ p. IsReadBack d.routers b None (over_end d.routers b link (ControlItem p))) (λ p h. pdu_again link e p there h) r.sent true_reply.says))
-      refl (drops_same r.drops)
+    drops_same : (drops : List Cause) → map (control_lost b) drops ≡ map (drop_line b None []) (map whole drops)
+    drops_same [] = refl
+    drops_same (why ∷ drops) = ap (λ (l : List DropLine). control_lost b why ∷ l) (drops_same drops)
 
-  flooded : (link : ℕ) (e : End) (r : Reply) → slice_get c.conf.ends link ≡ Some e → IsTrueReply d.routers c r → (next : Control) (f : Effects) → ◌≡◌ {A = Next} (record { control = next; effects = f }) (framed link r) → IsFlooded d.routers b link c r next f
-  flooded link e r there true_reply next f q = record {
-    control = ap (λ (k : Next). k.control) q ∙ framed_control link r;
-    framed = subst (λ (g : Effects). IsFramed d.routers b None [] g (replied d.routers b link r)) (sym (ap (λ (k : Next). k.effects) q)) (reply_framed link e r there true_reply);
-  }
+    reply_framed : (link : ℕ) (e : End) (r : Reply) → slice_get c.conf.ends link ≡ Some e → IsTrueReply confs c r → IsFramed old.routers confs b None [] (framed link r).effects (replied old.routers b link r)
+    unfolding framed
+    reply_framed link e r there true_reply =
+        framed_by old.routers confs b None [] (framed link r).effects (replied old.routers b link r)
+        (ap (λ (q : RouterConf). frames_of q link r.sent) true_reply.next.conf ∙ frames_same c.conf link e here there r.sent)
+        (each_mapped (IsReadBack old.routers confs b None) (λ p. over_end old.routers b link (ControlItem p)) r.sent
+        (each_weaker (IsTruePdu confs) (λ p. IsReadBack old.routers confs b None (over_end old.routers b link (ControlItem p))) (λ p h. pdu_again link e p there h) r.sent true_reply.says))
+        refl (drops_same r.drops)
 
-  -- a PDU that arrives
-  pub pdu_framed : (a link back : ℕ) (p : Pdu) → link_between d.routers a b ≡ Some link → IsTruePdu d.routers p → is_up c back ≡ true
-      → (next : Control) (f : Effects) → ◌≡◌ {A = Next} (record { control = next; effects = f }) (on_frame c back (frame_over d.routers a link (ControlItem p))) → IsFlooded d.routers b back c (on_pdu c back p) next f
-  pdu_framed a link back p joined true_pdu up next f q =
-      let j = join_of d.routers a b link joined in
-      let far = end_found j.near.ends j.far.system link j.toward in
-      let among : IsAmong d.routers j.near = record { place = a; there = j.near_at } in
-      let end_fits = end_is d valid j.near link far.at among far.there in
-      let level : j.near.level ≡ c.conf.level = sym (alike d valid j.near c.conf among t.among).level in
-      let over = over_at d.routers a j.near link far.at (ControlItem p) j.near_at far.there ∙ ap (λ (l : Level). frame_of l far.at (ControlItem p)) level in
-      let near = got_some c.conf.ends back (subst (λ (n : ℕ). back < n) t.kept.control.links (up_within c.flood.up back up)) in
-      flooded back near.0 (on_pdu c back p) near.1 (on_pdu_true d.routers valid.few valid.sound c t.among t.kept.control.links (state_of d.routers c t) back p true_pdu) next f
-      (q ∙ ap (on_frame c back) over ∙ control_taken c back far.at p (true_sendable d.routers valid.sound p true_pdu) end_fits.own_mac.octets_are.long up)
+    flooded : (link : ℕ) (e : End) (r : Reply) → slice_get c.conf.ends link ≡ Some e → IsTrueReply confs c r → (next : Control) (f : Effects) → ◌≡◌ {A = Next} (record { control = next; effects = f }) (framed link r) → IsFlooded old.routers confs b link c r next f
+    flooded link e r there true_reply next f q = record {
+      control = ap (λ (k : Next). k.control) q ∙ framed_control link r;
+      framed = subst (λ (g : Effects). IsFramed old.routers confs b None [] g (replied old.routers b link r)) (sym (ap (λ (k : Next). k.effects) q)) (reply_framed link e r there true_reply);
+    }
 
-  -- what is due
-  pub send_framed : (link : ℕ) → link < length c.conf.ends → (next : Control) (f : Effects) → ◌≡◌ {A = Next} (record { control = next; effects = f }) (framed link (send c link)) → IsFlooded d.routers b link c (send c link) next f
-  send_framed link within next f q =
-      let near = got_some c.conf.ends link within in
-      flooded link near.0 (send c link) near.1 (send_true d.routers valid.sound c t.among (state_of d.routers c t) link) next f q
+    -- what flooding answers
+    pub pdu_reply : (back : ℕ) (p : Pdu) → IsTruePdu confs p → IsTrueReply confs c (on_pdu c back p)
+    pdu_reply back p true_pdu = on_pdu_true confs valid.few valid.sound c t.among (own_earlier d valid c.conf t.among) t.kept.control.links (state_of confs c t) back p true_pdu
+
+    pub send_reply : (link : ℕ) → IsTrueReply confs c (send c link)
+    send_reply link = send_true confs valid.sound c t.among (state_of confs c t) link
+
+    -- a PDU that arrives
+    pub pdu_framed : (a link back : ℕ) (p : Pdu) → link_between old.routers a b ≡ Some link → IsTruePdu confs p → is_up c back ≡ true
+        → (next : Control) (f : Effects) → ◌≡◌ {A = Next} (record { control = next; effects = f }) (on_frame c back (frame_over old.routers a link (ControlItem p))) → IsFlooded old.routers confs b back c (on_pdu c back p) next f
+    pdu_framed a link back p joined true_pdu up next f q =
+        let j = join_of old.routers a b link joined in
+        let far = end_found j.near.ends j.far.system link j.toward in
+        let among : IsAmong old.routers j.near = record { place = a; there = j.near_at } in
+        let end_fits = end_of_router old start j.near link far.at among far.there in
+        let level : j.near.level ≡ c.conf.level = sym (alike old start j.near here.there among (record { place = b; there = here.at })).level ∙ here.level in
+        let over = over_at old.routers a j.near link far.at (ControlItem p) (at_self old.routers a j.near j.near_at) far.there ∙ ap (λ (l : Level). frame_of l far.at (ControlItem p)) level in
+        let near = got_some c.conf.ends back (subst (λ (n : ℕ). back < n) t.kept.control.links (up_within c.flood.up back up)) in
+        flooded back near.0 (on_pdu c back p) near.1 (pdu_reply back p true_pdu) next f
+        (q ∙ ap (on_frame c back) over ∙ control_taken c back far.at p (true_sendable confs valid.sound p true_pdu) end_fits.own_mac.octets_are.long up)
+
+    -- what is due
+    pub send_framed : (link : ℕ) → link < length c.conf.ends → (next : Control) (f : Effects) → ◌≡◌ {A = Next} (record { control = next; effects = f }) (framed link (send c link)) → IsFlooded old.routers confs b link c (send c link) next f
+    send_framed link within next f q =
+        let near = got_some c.conf.ends link within in
+        flooded link near.0 (send c link) near.1 (send_reply link) next f q

@@ -1,4 +1,5 @@
 pub mod CarryLaws
+pub mod ConfLaws
 pub mod CourseStep
 pub mod EventLaws
 pub mod FramedBack
@@ -12,6 +13,7 @@ pub mod RefusalLaws
 pub mod SeenLaws
 pub mod SentLaws
 pub mod StartLaws
+pub mod StayLaws
 pub mod StillLaws
 pub mod TransitLaws
 pub mod TurnLaws

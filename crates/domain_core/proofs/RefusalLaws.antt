@@ -1,15 +1,24 @@
 -- What is known where an event is allowed.
-use Rattle.std.proofs.Common.{◌≡◌, ℕ, ◌<◌, not, nat_le, Bool, true, false, List, length, slice_get, is_none, Option, Some, None, refl, sym, ap, subst, ◌∙◌}
+use Rattle.std.proofs.Common.{◌≡◌, ℕ, ◌+◌, ◌<◌, ◌≤◌, not, nat_le, Bool, true, false, List, length, slice_get, is_none, is_some, Option, Some, None, refl, sym, ap, subst, ◌∙◌}
 use mathlib.Core.Bool.{true≢false}
+use Rattle.std.proofs.lemmas.Bool.{leb-false, ltb-false}
 use Rattle.std.proofs.lemmas.Option.{same_Some}
+use Rattle.wire_base.specs.declared.bsl.Bsl.{Bsl}
+use Rattle.wire_base.specs.declared.conf.End.{End}
+use Rattle.wire_base.specs.declared.conf.LabelRange.{LabelRange}
+use Rattle.wire_base.specs.declared.conf.OwnSub.{OwnSub}
 use Rattle.wire_base.specs.declared.conf.RouterConf.{RouterConf}
+use Rattle.wire_base.specs.declared.limits.TheConstants.{LAST_LABEL, MOST_RELABELS}
 use Rattle.wire_base.specs.model.Control.{Control}
-use Rattle.replay_text.specs.declared.event.Event.TheVariants.{Down, Up, Send}
+use Rattle.wire_base.specs.model.Membership.{own_range, moved, is_too_high, used_label, is_worn, CanRelabel}
+use Rattle.wire_base.specs.model.Place.{sub_in, known_subs}
+use Rattle.replay_text.specs.declared.event.Event.TheVariants.{Down, Up, Send, Relabel, Leave, Join}
 use Rattle.domain_model.specs.declared.fault.EventFault.{EventFault}
 use Rattle.domain_model.specs.declared.fault.EventFault.TheVariants as faults
-use Rattle.domain_model.specs.Faults.{most_events, first_fault, unless_joined, unless_room, up_over, is_up_toward, rule_fault, event_fault}
-use Rattle.domain_model.specs.Truth.{IsTruthful}
+use Rattle.domain_model.specs.Faults.{most_events, first_fault, unless_joined, unless_room, up_over, is_up_toward, used_fault, range_fault, relabel_fault, member_fault, rule_fault, event_fault}
+use Rattle.domain_model.specs.Truth.{confs_now, IsTruthful}
 use Rattle.domain_model.specs.World.{WorldState, is_up, link_between, peer_place}
+use Rattle.domain_core.proofs.FramedBack.{at_now}
 use Rattle.domain_core.proofs.FramedWorld.{conf_there}
 use Rattle.domain_model.proofs.LinkLaws.{join_of, end_found, peer_is}
 use Rattle.domain_model.proofs.QueueLaws.{got_within}
@@ -24,6 +33,10 @@ none_first false reason next h = (refl, h)
 not_false : (b : Bool) → not b ≡ false → b ≡ true
 not_false true h = refl
 not_false false h = absurd (true≢false h)
+
+-- whether the end of a router is up
+pub end_is : (w : WorldState) (a link : ℕ) (c : Control) (u : Bool) → slice_get w.routers a ≡ Some c → u ≡ up_over (slice_get w.routers a) (Some link) → is_up c link ≡ u
+end_is w a link c u at h = sym (h ∙ ap (λ (o : Option Control). up_over o (Some link)) at)
 
 module _ (w : WorldState) (a b link : ℕ) (c : Control) (at : slice_get w.routers a ≡ Some c) (joined : link_between w.domain.routers a b ≡ Some link) where
   pub toward : is_up_toward w a b ≡ is_up c link
@@ -54,10 +67,67 @@ module _ (w : WorldState) (a b link : ℕ) (c : Control) (at : slice_get w.route
   pub link_within : IsTruthful w → link < length c.conf.ends
   link_within t =
       let j = join_of w.domain.routers a b link joined in
-      let same : j.near ≡ c.conf = same_Some j.near c.conf (sym j.near_at ∙ conf_there w t a c at) in
+      let here = at_now w.domain.routers (confs_now w) a c.conf t.become (conf_there w a c at) in
+      let same : j.near ≡ here.there = same_Some j.near here.there (sym j.near_at ∙ here.at) in
       let there = end_found j.near.ends j.far.system link j.toward in
-      subst (λ (r : RouterConf). link < length r.ends) same (got_within j.near.ends link there.at there.there)
+      subst (λ (es : List End). link < length es) (ap (λ (r : RouterConf). r.ends) same ∙ here.ends) (got_within j.near.ends link there.at there.there)
 
 -- where an end leads that was found by the router there
-pub leads_to : (w : WorldState) (a b link : ℕ) → IsTruthful w → link_between w.domain.routers a b ≡ Some link → (confs : List RouterConf) → confs ≡ w.domain.routers → b ≡ peer_place confs a link
-leads_to w a b link t joined confs same = sym (ap (λ (cs : List RouterConf). peer_place cs a link) same ∙ peer_is w.domain.routers t.valid.systems a b link joined)
+pub leads_to : (w : WorldState) (a b link : ℕ) → IsTruthful w → link_between w.domain.routers a b ≡ Some link → (os : List RouterConf) → os ≡ w.domain.routers → b ≡ peer_place os a link
+leads_to w a b link t joined os same = sym (ap (λ (cs : List RouterConf). peer_place cs a link) same ∙ peer_is w.domain.routers t.valid.consistent.systems a b link joined)
+
+-- ---- other labels, and sub-domains that are left or joined
+
+unused_first : (o : Option ℕ) (next : Option EventFault) → used_fault o next ≡ None → (o ≡ None) × (next ≡ None)
+unused_first None next h = (refl, h)
+unused_first (Some label) next h = absurd (some_none (faults.LabelUsed label) h)
+  where
+    some_none : (e : EventFault) → Some e ≡ None → ⊥
+    some_none e h = cc
+
+ranged : (r : RouterConf) (sd : ℕ) (bsl : Bsl) (label : ℕ) → 16 ≤ label → (o : Option LabelRange) → own_range r sd bsl ≡ o → range_fault r label o ≡ None → CanRelabel r sd bsl label
+ranged r sd bsl label low None e h = absurd (some_none faults.NoSub h)
+  where
+    some_none : (f : EventFault) → Some f ≡ None → ⊥
+    some_none f h = cc
+ranged r sd bsl label low (Some x) e h =
+    let high = none_first (is_too_high (moved x label)) faults.LabelHigh _ h in
+    let used = unused_first (used_label r (moved x label)) _ high.1 in
+    let worn = none_first (is_worn r) faults.Relabels None used.1 in
+    record {
+      range = x;
+      own = e;
+      first = low;
+      last = ltb-false LAST_LABEL (label + x.max_si) high.0;
+      free = used.0;
+      room = leb-false MOST_RELABELS (length r.past) worn.0;
+    }
+
+some_there : {X : Type 0} (o : Option X) → is_none o ≡ false → is_some o ≡ true
+some_there None h = absurd (true≢false h)
+some_there (Some x) h = refl
+
+member_there : (c : Control) (subs : RouterConf → List OwnSub) (sd : ℕ) → member_fault (Some c) subs sd ≡ None → is_some (sub_in (subs c.conf) sd) ≡ true
+member_there c subs sd h =
+    let known = none_first (is_none (sub_in (known_subs c.conf) sd)) faults.NoSub _ h in
+    let state = none_first (is_none (sub_in (subs c.conf) sd)) faults.SubState None known.1 in
+    some_there (sub_in (subs c.conf) sd) state.0
+
+module _ (w : WorldState) (a : ℕ) (c : Control) (at : slice_get w.routers a ≡ Some c) (sd : ℕ) where
+  pub can_relabel : (bsl : Bsl) (label : ℕ) → 16 ≤ label → event_fault w (Relabel a sd bsl label) ≡ None → CanRelabel c.conf sd bsl label
+  unfolding event_fault
+  can_relabel bsl label low h =
+      let r = (none_first (nat_le most_events w.events) faults.Events (rule_fault w (Relabel a sd bsl label)) h).1 in
+      ranged c.conf sd bsl label low (own_range c.conf sd bsl) refl (ap (λ (o : Option Control). relabel_fault o sd bsl label) (sym at) ∙ r)
+
+  pub can_leave : event_fault w (Leave a sd) ≡ None → is_some (sub_in c.conf.subs sd) ≡ true
+  unfolding event_fault
+  can_leave h =
+      let r = (none_first (nat_le most_events w.events) faults.Events (rule_fault w (Leave a sd)) h).1 in
+      member_there c (λ r. r.subs) sd (ap (λ (o : Option Control). member_fault o (λ r. r.subs) sd) (sym at) ∙ r)
+
+  pub can_join : event_fault w (Join a sd) ≡ None → is_some (sub_in c.conf.away sd) ≡ true
+  unfolding event_fault
+  can_join h =
+      let r = (none_first (nat_le most_events w.events) faults.Events (rule_fault w (Join a sd)) h).1 in
+      member_there c (λ r. r.away) sd (ap (λ (o : Option Control). member_fault o (λ r. r.away) sd) (sym at) ∙ r)

@@ -1,5 +1,5 @@
 -- What is done with frames in flight is done with their items.
-use Rattle.std.proofs.Common.{◌≡◌, inl, inr, ℕ, zero, suc, List, [], ◌∷◌, ◌++◌, length, map, take, drop, sum_by, slice_get, slice_set, slice_index_or, Some, None, option_map, refl, sym, ap, subst, ◌∙◌, arith}
+use Rattle.std.proofs.Common.{◌≡◌, inl, inr, ℕ, zero, suc, List, [], ◌∷◌, ◌++◌, ◌≤◌, length, map, take, drop, sum_by, slice_get, slice_set, slice_index_or, Option, Some, None, option_map, refl, sym, ap, subst, ◌∙◌, arith}
 use Rattle.std.specs.List.{AllByRecursion, remove}
 use Rattle.std.proofs.Math.ListN.{get_or-map}
 use Rattle.std.proofs.lemmas.List.{map-append, map-set, length-map}
@@ -7,12 +7,16 @@ use Rattle.std.proofs.lemmas.List.Sums.{sum_by-cons}
 use Rattle.std.proofs.lemmas.Option.{slice_get-map}
 use Rattle.wire_base.specs.declared.conf.End.{End}
 use Rattle.wire_base.specs.declared.conf.RouterConf.{RouterConf}
+use Rattle.wire_base.specs.model.Control.{Control}
 use Rattle.wire_base.specs.model.Item.{Item}
 use Rattle.frames_in_flight.specs.declared.flight.Flight.{Flight}
 use Rattle.domain_model.specs.World.{queue_at, with_queue, push_item, without_item, in_flight, no_flights}
 use Rattle.frames_in_flight.specs.Flights.{item_seen, items_seen, frames_at, with_frames, push_frame, without_frame, frame_count, no_frames}
+use Rattle.frames_in_flight.proofs.FlightLaws.{none_gone}
+use Rattle.laws_router.specs.State.{RouterState}
+use Rattle.domain_core.specs.Network.{NetworkState, confs_of, confs_in, world_of}
 use Rattle.domain_model.proofs.EachLaws.{each_joined, each_left}
-use Rattle.domain_model.proofs.QueueLaws.{set_read}
+use Rattle.domain_model.proofs.QueueLaws.{get_mapped, set_read}
 
 -- ---- lists
 
@@ -144,3 +148,21 @@ module _ (confs : List RouterConf) where
 
   pub some_seen_at : (flights : List (List (List Flight))) (a link i : ℕ) (f : Flight) → Some f ≡ slice_get (frames_at flights a link) i → slice_get (queue_at (items_seen confs flights) a link) i ≡ Some (item_seen confs f)
   some_seen_at flights a link i f h = seen_got confs flights a link i ∙ ap (option_map (item_seen confs)) (sym h)
+
+-- where no frame is, none goes
+pub none_there : (n : NetworkState) (a link i : ℕ) → slice_get (queue_at (world_of n).flights a link) i ≡ None → record n { flights = without_frame n.flights a link i } ≡ n
+none_there n a link i is = ap (λ (fs : List (List (List Flight))). record n { flights = fs }) (none_gone n.flights a link i (none_mapped (slice_get (frames_at n.flights a link) i) (sym (seen_got (confs_in n) n.flights a link i) ∙ is)))
+  where
+    none_mapped : (o : Option Flight) → option_map (item_seen (confs_in n)) o ≡ None → o ≡ None
+    none_mapped None h = refl
+    none_mapped (Some f) h = cc
+
+-- ---- configurations of now
+
+pub conf_got : (routers : List RouterState) (place : ℕ) (r : RouterState) → slice_get routers place ≡ Some r → slice_get (confs_of routers) place ≡ Some r.control.conf
+conf_got routers place r there = get_mapped (λ (c : Control). c.conf) (map (λ (x : RouterState). x.control) routers) place r.control (get_mapped (λ (x : RouterState). x.control) routers place r there)
+
+pub no_conf : (routers : List RouterState) (place : ℕ) → length routers ≤ place → None ≡ slice_get (confs_of routers) place
+no_conf [] place h = refl
+no_conf (r ∷ rs) zero h = absurd (omega (arith, h))
+no_conf (r ∷ rs) (suc place) h = no_conf rs place (omega (arith, h))

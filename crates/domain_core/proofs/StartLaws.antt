@@ -8,7 +8,7 @@ use Rattle.wire_base.specs.model.Item.{Item}
 use Rattle.laws_router.specs.State.{RouterState}
 use Rattle.frames_in_flight.specs.declared.flight.Flight.{Flight}
 use Rattle.frames_in_flight.specs.Flights.{items_seen, no_frames}
-use Rattle.domain_core.specs.Network.{NetworkState, world_of, started_router, IsFrameOver, IsTrueNetwork}
+use Rattle.domain_core.specs.Network.{NetworkState, confs_of, world_of, started_router, IsFrameOver, IsTrueNetwork}
 use Rattle.domain_model.specs.Truth.{IsTruthful}
 use Rattle.domain_model.specs.World.{first_world, no_flights}
 use Rattle.domain_core.proofs.SeenLaws.{seen_none, none_on_the_way}
@@ -35,12 +35,12 @@ module _ (d : DomainConf) (confs : List RouterConf) (same : confs ≡ d.routers)
   start_world flights none =
       let cs : map (λ r. r.control) routers ≡ map first_control d.routers =
       ap (λ (rs : List RouterState). map (λ r. r.control) rs) are ∙ started_controls confs ∙ ap (map first_control) same in
-      let items : items_seen d.routers flights ≡ no_flights d.routers = ap (items_seen d.routers) none ∙ seen_none d.routers confs ∙ ap no_flights same in
-      ap (λ (l : List Control). record { domain = d; routers = l; flights = items_seen d.routers flights; injections = 0; events = 0 }) cs
+      let items : items_seen (confs_of routers) flights ≡ no_flights d.routers = ap (items_seen (confs_of routers)) none ∙ seen_none (confs_of routers) confs ∙ ap no_flights same in
+      ap (λ (l : List Control). record { domain = d; routers = l; flights = items_seen (confs_of routers) flights; injections = 0; events = 0 }) cs
       ∙ ap (λ (l : List (List (List Item))). record { domain = d; routers = map first_control d.routers; flights = l; injections = 0; events = 0 }) items
 
   pub start_kept : IsValid d → (flights : List (List (List Flight))) → flights ≡ no_frames confs → IsTrueNetwork (started d routers flights)
   start_kept valid flights none = record {
     truth = subst IsTruthful (sym (start_world flights none)) (first_true d valid);
-    frames = same_frames d.routers flights (no_frames confs) none (none_on_the_way (IsFrameOver d.routers) confs);
+    frames = same_frames d.routers (confs_of routers) flights (no_frames confs) none (none_on_the_way (IsFrameOver d.routers (confs_of routers)) confs);
   }

@@ -68,8 +68,8 @@ nil_mapped : {X Y : Type 0} (f : X → Y) (xs : List X) → [] ≡ map f xs → 
 nil_mapped f [] e = refl
 nil_mapped f (x ∷ xs) e = cc
 
-pub silent_framed : (confs : List RouterConf) (b : ℕ) (e : Effects) (link : ℕ) (r : Reply) → IsFramed confs b None [] e (replied confs b link r) → r.sent ≡ [] → r.drops ≡ [] → IsSilent e
-silent_framed confs b e link r k sent drops = record {
+pub silent_framed : (os confs : List RouterConf) (b : ℕ) (e : Effects) (link : ℕ) (r : Reply) → IsFramed os confs b None [] e (replied os b link r) → r.sent ≡ [] → r.drops ≡ [] → IsSilent e
+silent_framed os confs b e link r k sent drops = record {
   sent = nil_mapped _ e.sent (sym (ap (map _) sent) ∙ k.sent);
   got = nil_mapped _ e.got k.got;
   drops = nil_mapped _ e.drops (sym (ap (map _) drops) ∙ k.drops);

@@ -12,7 +12,7 @@ use Rattle.frames_in_flight.specs.declared.flight.Note.{Note}
 use Rattle.domain_model.specs.Faults.{is_up_toward}
 use Rattle.frames_in_flight.specs.Flights.{item_seen, items_seen, push_frame, without_frame}
 use Rattle.domain_model.specs.Moves.{item_lost}
-use Rattle.domain_core.specs.Network.{NetworkState, world_of, AreFramesOver, heard_at, heard_of, heard_after}
+use Rattle.domain_core.specs.Network.{NetworkState, confs_in, world_of, AreFramesOver, heard_at, heard_of, heard_after}
 use Rattle.domain_model.specs.Step.{same_world, makes, taken_off, arrives, comes, takes, takes_over, loses, loses_over, repeats, repeats_over}
 use Rattle.domain_model.specs.World.{WorldState, is_up, link_between, frames_between, queue_at, push_item}
 use Rattle.domain_core.proofs.SeenLaws.{seen_pushed, seen_removed}
@@ -20,10 +20,10 @@ use Rattle.domain_core.proofs.SeenLaws.{seen_pushed, seen_removed}
 -- ---- a frame is gone, or one more is on the way
 
 pub gone_world : (n : NetworkState) (flights : List (List (List Flight))) (a link i : ℕ) → flights ≡ without_frame n.flights a link i → world_of (record n { flights = flights }) ≡ taken_off (world_of n) a link i
-gone_world n flights a link i e = ap (λ (xs : List (List (List Item))). record (world_of n) { flights = xs }) (ap (items_seen n.domain.routers) e ∙ seen_removed n.domain.routers n.flights a link i)
+gone_world n flights a link i e = ap (λ (xs : List (List (List Item))). record (world_of n) { flights = xs }) (ap (items_seen (confs_in n)) e ∙ seen_removed (confs_in n) n.flights a link i)
 
-pub more_world : (n : NetworkState) (flights : List (List (List Flight))) (a link : ℕ) (f : Flight) → flights ≡ push_frame n.flights a link f → world_of (record n { flights = flights }) ≡ record (world_of n) { flights = push_item (items_seen n.domain.routers n.flights) a link (item_seen n.domain.routers f) }
-more_world n flights a link f e = ap (λ (xs : List (List (List Item))). record (world_of n) { flights = xs }) (ap (items_seen n.domain.routers) e ∙ seen_pushed n.domain.routers n.flights a link f)
+pub more_world : (n : NetworkState) (flights : List (List (List Flight))) (a link : ℕ) (f : Flight) → flights ≡ push_frame n.flights a link f → world_of (record n { flights = flights }) ≡ record (world_of n) { flights = push_item (items_seen (confs_in n) n.flights) a link (item_seen (confs_in n) f) }
+more_world n flights a link f e = ap (λ (xs : List (List (List Item))). record (world_of n) { flights = xs }) (ap (items_seen (confs_in n)) e ∙ seen_pushed (confs_in n) n.flights a link f)
 
 -- ---- an item is dropped as a whole
 
@@ -55,8 +55,8 @@ module _ (w : WorldState) (a b i link : ℕ) (joined : link_between w.domain.rou
 
 -- ---- frames
 
-pub same_frames : (confs : List RouterConf) (new flights : List (List (List Flight))) → new ≡ flights → AreFramesOver confs flights → AreFramesOver confs new
-same_frames confs new flights e are = subst (AreFramesOver confs) (sym e) are
+pub same_frames : (os confs : List RouterConf) (new flights : List (List (List Flight))) → new ≡ flights → AreFramesOver os confs flights → AreFramesOver os confs new
+same_frames os confs new flights e are = subst (AreFramesOver os confs) (sym e) are
 
 pub same_flight : (f g : Flight) → f.octets ≡ g.octets → f.note ≡ g.note → f ≡ g
 same_flight f g p q = ap (λ (l : List ℕ). record { octets = l; note = f.note }) p ∙ ap (λ (l : Option Note). record { octets = g.octets; note = l }) q

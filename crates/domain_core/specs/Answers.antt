@@ -3,7 +3,7 @@ use Rattle.std.specs.Prelude.{◌≡◌, nat_le, [], Option, Some, None}
 use Rattle.wire_base.specs.declared.faults.EdgeFault.{EdgeFault}
 use Rattle.wire_base.specs.declared.faults.EdgeFault.TheVariants as edge
 use Rattle.replay_text.specs.declared.event.Event.{Event}
-use Rattle.replay_text.specs.declared.event.Event.TheVariants.{Inject, Take, Lose, Again, Down, Up, Send, Tick, Restart}
+use Rattle.replay_text.specs.declared.event.Event.TheVariants.{Inject, Take, Lose, Again, Down, Up, Send, Tick, Restart, Relabel, Leave, Join}
 use Rattle.domain_model.specs.declared.fault.EventFault.{EventFault}
 use Rattle.domain_model.specs.declared.fault.EventFault.TheVariants as faults
 use Rattle.domain_model.specs.declared.step_out.StepOut.{StepOut}
@@ -19,6 +19,11 @@ Refuses first faults.InFlight = first ≡ Some faults.InFlight
 Refuses first (faults.NoFrame i n) = first ≡ Some (faults.NoFrame i n)
 Refuses first faults.NotControl = first ≡ Some faults.NotControl
 Refuses first (faults.Edge fault) = first ≡ Some (faults.Edge fault)
+Refuses first faults.NoSub = first ≡ Some faults.NoSub
+Refuses first faults.SubState = first ≡ Some faults.SubState
+Refuses first faults.LabelHigh = first ≡ Some faults.LabelHigh
+Refuses first (faults.LabelUsed label) = first ≡ Some (faults.LabelUsed label)
+Refuses first faults.Relabels = first ≡ Some faults.Relabels
 Refuses first faults.Memory = Unit {0}
 
 -- an error other than out of memory leaves everything unchanged
@@ -30,6 +35,11 @@ Stays same faults.InFlight = same
 Stays same (faults.NoFrame i n) = same
 Stays same faults.NotControl = same
 Stays same (faults.Edge fault) = same
+Stays same faults.NoSub = same
+Stays same faults.SubState = same
+Stays same faults.LabelHigh = same
+Stays same (faults.LabelUsed label) = same
+Stays same faults.Relabels = same
 Stays same faults.Memory = Unit {0}
 
 -- the reasons of an event's own rules, except those of a router to reject an injection
@@ -43,6 +53,9 @@ early_rule w (Up a b) = rule_fault w (Up a b)
 early_rule w (Send a b) = rule_fault w (Send a b)
 early_rule w (Tick a) = rule_fault w (Tick a)
 early_rule w (Restart a) = rule_fault w (Restart a)
+early_rule w (Relabel a sd bsl label) = rule_fault w (Relabel a sd bsl label)
+early_rule w (Leave a sd) = rule_fault w (Leave a sd)
+early_rule w (Join a sd) = rule_fault w (Join a sd)
 
 abbrev pub early_fault : WorldState → Event → Option EventFault
 early_fault w e = first_fault (nat_le most_events w.events) faults.Events (early_rule w e)

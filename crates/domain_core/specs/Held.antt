@@ -6,7 +6,7 @@ use Rattle.domain_core.specs.declared.network.Network.{Network}
 use Rattle.domain_model.specs.declared.step_out.StepOut.{StepOut}
 use Rattle.frames_in_flight.specs.Told.{told}
 use Rattle.domain_model.specs.Faults.{entry_fault}
-use Rattle.domain_core.specs.Network.{NetworkState, seen_of, world_of, AreFramesOver}
+use Rattle.domain_core.specs.Network.{NetworkState, confs_in, seen_of, world_of, AreFramesOver}
 use Rattle.domain_model.specs.Step.{Happened}
 use Rattle.domain_model.specs.World.{WorldState}
 
@@ -26,7 +26,7 @@ world_in n = world_of (state_of n)
 -- What happened in a world is what was done, in frames of its items, and what is reported.
 pub record IsDone (old new : Network) (n : Happened) (out : StepOut) : Type 0 where
   pub world : world_in new ≡ n.world
-  pub frames : AreFramesOver old.domain.routers new.flights
+  pub frames : AreFramesOver old.domain.routers (confs_in (state_of new)) new.flights
   pub answer : out ≡ told old.domain.routers n.made
 
 abbrev pub heard_in : Network → List ℕ

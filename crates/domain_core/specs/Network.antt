@@ -9,7 +9,7 @@ use Rattle.wire_base.specs.model.Item.{Item}
 use Rattle.laws_router.specs.State.{RouterState}
 use Rattle.laws_router.specs.State as router
 use Rattle.replay_text.specs.declared.event.Event.{Event}
-use Rattle.replay_text.specs.declared.event.Event.TheVariants.{Inject, Take, Lose, Again, Down, Up, Send, Tick, Restart}
+use Rattle.replay_text.specs.declared.event.Event.TheVariants.{Inject, Take, Lose, Again, Down, Up, Send, Tick, Restart, Relabel, Leave, Join}
 use Rattle.frames_in_flight.specs.declared.flight.Flight.{Flight}
 use Rattle.domain_model.specs.World.{WorldState, frames_between}
 use Rattle.domain_model.specs.Faults.{is_up_toward}
@@ -26,12 +26,13 @@ pub record NetworkState : Type 0 where
   pub injections : ℕ
   pub events : ℕ
 
--- a frame that is sent on an interface is the frame of its item there
-abbrev pub IsFrameOver : List RouterConf → ℕ → ℕ → Flight → Type 0
-IsFrameOver confs a link f = f.octets ≡ frame_over confs a link (item_seen confs f)
+-- A frame that is sent on an interface is the frame of its item there. The interfaces are those of the domain as it
+-- started, `os`, which never change; the item is parsed by the configurations of now, `confs`.
+abbrev pub IsFrameOver : List RouterConf → List RouterConf → ℕ → ℕ → Flight → Type 0
+IsFrameOver os confs a link f = f.octets ≡ frame_over os a link (item_seen confs f)
 
-abbrev pub AreFramesOver : List RouterConf → List (List (List Flight)) → Type 0
-AreFramesOver confs flights = (a link : ℕ) → AllByRecursion (IsFrameOver confs a link) (frames_at flights a link)
+abbrev pub AreFramesOver : List RouterConf → List RouterConf → List (List (List Flight)) → Type 0
+AreFramesOver os confs flights = (a link : ℕ) → AllByRecursion (IsFrameOver os confs a link) (frames_at flights a link)
 
 -- ---- the abstract state
 
@@ -40,12 +41,20 @@ pub record Seen : Type 0 where
   pub world : WorldState
   pub heard : List ℕ
 
+-- routers as they are configured now
+abbrev pub confs_of : List RouterState → List RouterConf
+confs_of routers = map (λ c. c.conf) (map (λ r. r.control) routers)
+
+abbrev pub confs_in : NetworkState → List RouterConf
+confs_in n = confs_of n.routers
+
+-- a packet in flight is parsed as by the router that it is for, as that is configured now
 abbrev pub world_of : NetworkState → WorldState
 world_of n =
     record {
       domain = n.domain;
       routers = map (λ r. r.control) n.routers;
-      flights = items_seen n.domain.routers n.flights;
+      flights = items_seen (confs_in n) n.flights;
       injections = n.injections;
       events = n.events;
     }
@@ -56,7 +65,7 @@ seen_of n = record { world = world_of n; heard = map (λ r. r.heard) n.routers }
 -- The invariant of a running domain: it is truthful, and each frame in flight is that of its item.
 pub record IsTrueNetwork (n : NetworkState) : Type 0 where
   pub truth : IsTruthful (world_of n)
-  pub frames : AreFramesOver n.domain.routers n.flights
+  pub frames : AreFramesOver n.domain.routers (confs_in n) n.flights
 
 -- ---- frames that are received
 
@@ -80,6 +89,9 @@ heard_after w heard (Up a b) = heard
 heard_after w heard (Send a b) = heard
 heard_after w heard (Tick a) = heard
 heard_after w heard (Restart a) = heard
+heard_after w heard (Relabel a sd bsl label) = heard
+heard_after w heard (Leave a sd) = heard
+heard_after w heard (Join a sd) = heard
 
 -- An event that is not executed leaves the world unchanged. The count of a router may have risen, if it received a
 -- frame and its reply did not fit into memory.

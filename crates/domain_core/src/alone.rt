@@ -1,5 +1,5 @@
-//! The events in which a router acts by itself: its interfaces change, it sends, a second passes, it restarts, or a
-//! payload is injected there.
+//! The events in which a router acts by itself: its interfaces or its configuration change, it sends, a second passes, it restarts,
+//! or a payload is injected there.
 ghost use Rattle.std.specs.Prelude.{◌≡◌, ◌<◌, ◌≤◌, ◌^◌, ◌-◌, ℕ, true, length, Some, None, IfOk, OnOk, OnErr, MatchResult};
 ghost use Rattle.replay_text.specs.declared.event.Event.TheVariants as events;
 ghost use Rattle.domain_core.specs.Answers.{entry_refused, outcome, Refuses};
@@ -7,7 +7,7 @@ ghost use Rattle.domain_core.specs.Held.{state_of, world_in, heard_in, inject_fa
 ghost use Rattle.domain_core.specs.Network.{IsTrueNetwork};
 ghost use Rattle.domain_model.specs.Faults.{event_fault};
 ghost use Rattle.domain_model.specs.Step.{doing};
-ghost use Rattle.domain_model.specs.Truth.{InjectFits};
+ghost use Rattle.domain_model.specs.Truth.{EventFits, InjectFits};
 ghost use Rattle.domain_model.specs.World.{link_between};
 
 use crate::network::Network;
@@ -81,6 +81,57 @@ impl Network {
         let alloc = self.allocator();
         let router = &mut self.routers[usize::from(at)];
         router.restart()?;
+        Ok(StepOut::nothing(alloc))
+    }
+
+    /// Lets a router's label range for a BSL in a sub-domain begin at another label.
+    pub(crate) fn relabel(&mut self, at: u16, sd: u8, bsl: Bsl, label: u32) -> M<StepOut>
+        requires truth { IsTrueNetwork (state_of self.old) }
+        requires fits { EventFits (length self.old.domain.routers) (events.Relabel at sd bsl label) }
+        requires place { at < length self.old.routers.items }
+        requires allowed { event_fault (world_in self.old) (events.Relabel at sd bsl label) ≡ None }
+        ensures done { IfOk result (λ out. IsDone self.old self.new (doing (world_in self.old) (events.Relabel at sd bsl label)) out) }
+        ensures heard { OnOk result (heard_in self.new ≡ heard_in self.old) }
+        ensures err { OnErr result (state_of self.new ≡ state_of self.old) }
+        ensures domain { self.new.domain ≡ self.old.domain }
+    {
+        let alloc = self.allocator();
+        let router = &mut self.routers[usize::from(at)];
+        router.relabel(sd, bsl, label)?;
+        Ok(StepOut::nothing(alloc))
+    }
+
+    /// Lets a router leave a sub-domain.
+    pub(crate) fn leave(&mut self, at: u16, sd: u8) -> M<StepOut>
+        requires truth { IsTrueNetwork (state_of self.old) }
+        requires fits { EventFits (length self.old.domain.routers) (events.Leave at sd) }
+        requires place { at < length self.old.routers.items }
+        requires allowed { event_fault (world_in self.old) (events.Leave at sd) ≡ None }
+        ensures done { IfOk result (λ out. IsDone self.old self.new (doing (world_in self.old) (events.Leave at sd)) out) }
+        ensures heard { OnOk result (heard_in self.new ≡ heard_in self.old) }
+        ensures err { OnErr result (state_of self.new ≡ state_of self.old) }
+        ensures domain { self.new.domain ≡ self.old.domain }
+    {
+        let alloc = self.allocator();
+        let router = &mut self.routers[usize::from(at)];
+        router.leave(sd)?;
+        Ok(StepOut::nothing(alloc))
+    }
+
+    /// Lets a router join a sub-domain that it left.
+    pub(crate) fn join(&mut self, at: u16, sd: u8) -> M<StepOut>
+        requires truth { IsTrueNetwork (state_of self.old) }
+        requires fits { EventFits (length self.old.domain.routers) (events.Join at sd) }
+        requires place { at < length self.old.routers.items }
+        requires allowed { event_fault (world_in self.old) (events.Join at sd) ≡ None }
+        ensures done { IfOk result (λ out. IsDone self.old self.new (doing (world_in self.old) (events.Join at sd)) out) }
+        ensures heard { OnOk result (heard_in self.new ≡ heard_in self.old) }
+        ensures err { OnErr result (state_of self.new ≡ state_of self.old) }
+        ensures domain { self.new.domain ≡ self.old.domain }
+    {
+        let alloc = self.allocator();
+        let router = &mut self.routers[usize::from(at)];
+        router.join(sd)?;
         Ok(StepOut::nothing(alloc))
     }
 

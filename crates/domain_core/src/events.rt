@@ -74,6 +74,14 @@ impl Network {
             Event::Send { from, to } => Ok(self.send(*from, *to)?),
             Event::Tick { router } => Ok(self.tick(*router)?),
             Event::Restart { router } => Ok(self.restart(*router)?),
+            Event::Relabel {
+                router,
+                sd,
+                bsl,
+                label,
+            } => Ok(self.relabel(*router, *sd, *bsl, *label)?),
+            Event::Leave { router, sd } => Ok(self.leave(*router, *sd)?),
+            Event::Join { router, sd } => Ok(self.join(*router, *sd)?),
         }
     }
 }

@@ -1,15 +1,18 @@
 //! The routers of a domain, and what is in flight between them.
-ghost use Rattle.std.specs.Prelude.{◌≡◌, length, map, IfOk};
+ghost use Rattle.std.specs.Prelude.{◌≡◌, ◌≤◌, length, map, slice_get, option_map, IfOk, IfSome};
 ghost use Rattle.std.specs.List.{AllByRecursion};
 ghost use Rattle.wire_base.specs.model.Configuration.{IsSound};
 ghost use Rattle.domain_core.specs.Held.{state_of, world_in, heard_in};
-ghost use Rattle.domain_core.specs.Network.{started_router, IsTrueNetwork};
+ghost use Rattle.domain_core.specs.Network.{confs_of, started_router, IsTrueNetwork};
+ghost use Rattle.domain_model.specs.Truth.{router_at};
+ghost use Rattle.frames_in_flight.specs.Flights.{place_seen};
 ghost use Rattle.domain_model.specs.World.{link_between, frames_between, queue_at, first_world, ids_in_flight};
 
-use frames_in_flight::{Flights, confs_of, link_between};
+use frames_in_flight::{FlightSeen, Flights, confs_of, link_between, reader_of};
 use router_core::Router;
 use std::alloc::Global;
-use wire_base::{Domain, M, RouterConf};
+use wire_base::limits::MOST_ROUTERS;
+use wire_base::{Domain, M, RouterConf, Rows};
 
 /// A running domain: its routers by index, the frames in flight, and the numbers of injections and events so far.
 #[derive(Drop)]
@@ -31,6 +34,45 @@ fn routers_of(alloc: Global, confs: &[RouterConf]) -> M<Vec<Router>>
         routers.push(Router::new(alloc, conf.copy()?)?)?;
     }
     Ok(routers)
+}
+
+/// Returns copies of the routers' configurations, as they are now.
+fn confs_now(alloc: Global, routers: &[Router]) -> M<Rows<RouterConf>>
+    ensures { IfOk result (λ confs. confs ≡ confs_of routers.now) }
+{
+    let mut confs = Rows::new(alloc);
+    for router in routers {
+        confs.push(router.conf().copy()?)?;
+    }
+    Ok(confs)
+}
+
+/// Returns the configuration, as it is now, of the router at an index.
+fn conf_of(routers: &[Router], place: u16) -> Option<&RouterConf>
+    ensures conf { option_map (λ r. r.now) result ≡ slice_get (confs_of routers.now) place }
+    ensures sound { IfSome result (λ r. IsSound r.now) }
+{
+    let at = usize::from(place);
+    if at < routers.len() {
+        Some(routers[at].conf())
+    } else {
+        None
+    }
+}
+
+/// Returns the configuration, as it is now, of the router that the packet in a frame in flight is for. The domain's
+/// configurations, by index, are passed in for their prefixes, which never change.
+pub(crate) fn reader<'a>(
+    routers: &'a [Router],
+    confs: &[RouterConf],
+    flight: &FlightSeen<'_>,
+) -> Option<&'a RouterConf>
+    requires { length confs.now ≤ MOST_ROUTERS }
+    ensures reader { option_map (λ r. r.now) result ≡ router_at (confs_of routers.now) (place_seen confs.now flight.now) }
+    ensures sound { IfSome result (λ r. IsSound r.now) }
+{
+    let place = reader_of(confs, flight)?;
+    conf_of(routers, place)
 }
 
 impl Network {
@@ -83,8 +125,10 @@ impl Network {
     /// Returns how many BFR-ids are in flight.
     #[tactic(auto, using(crate::proofs::CarriedLaws::ids_are_carried))]
     pub(crate) fn ids_in_flight(&self) -> M<u64>
+        requires { IsTrueNetwork (state_of self.now) }
         ensures { IfOk result (λ count. count ≡ ids_in_flight (world_in self.now).flights) }
     {
-        self.flights.ids(confs_of(&self.domain))
+        let confs = confs_now(self.allocator(), self.routers.as_slice())?;
+        self.flights.ids(confs.as_slice())
     }
 }

@@ -51,6 +51,7 @@ impl Network {
     }
 
     /// Executes and counts the event in which a router sends on the interface `link` toward another, if it is allowed.
+    #[tactic(auto, using(crate::proofs::EventLaws::as_many))]
     pub(crate) fn step_send(
         &mut self,
         from: u16,
@@ -82,6 +83,7 @@ impl Network {
 
     /// Executes and counts the event that delivers the frame at an index, which was sent on the interface `link` and
     /// arrives at the interface `back`, if it is allowed.
+    #[tactic(auto, using(crate::proofs::EventLaws::as_many))]
     pub(crate) fn step_take(
         &mut self,
         from: u16,

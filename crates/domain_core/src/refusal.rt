@@ -1,10 +1,12 @@
 //! Why an event is not allowed, except for the reasons of a router to reject an injection.
-ghost use Rattle.std.specs.Prelude.{◌≡◌, ℕ, ◌<◌, not, nat_le, List, length, slice_get, Some, None};
+ghost use Rattle.std.specs.Prelude.{◌≡◌, ℕ, ◌<◌, not, nat_le, is_none, List, length, slice_get, Some, None};
 ghost use Rattle.wire_base.specs.declared.conf.RouterConf.{RouterConf};
+ghost use Rattle.wire_base.specs.model.Membership.{own_range};
+ghost use Rattle.wire_base.specs.model.Place.{known_subs, sub_in};
 ghost use Rattle.replay_text.specs.declared.event.Event.TheVariants as events;
 ghost use Rattle.domain_core.specs.Answers.{early_fault, early_rule};
 ghost use Rattle.domain_model.specs.declared.fault.EventFault.TheVariants as faults;
-ghost use Rattle.domain_model.specs.Faults.{most_in_flight, first_fault, unless_room, up_over, frame_fault, repeat_fault, rule_fault};
+ghost use Rattle.domain_model.specs.Faults.{most_in_flight, first_fault, unless_room, up_over, frame_fault, repeat_fault, range_fault, rule_fault};
 ghost use Rattle.frames_in_flight.specs.Flights.{item_seen};
 ghost use Rattle.domain_core.specs.Held.{world_in};
 ghost use Rattle.domain_model.specs.Truth.{EventFits};
@@ -14,7 +16,9 @@ use crate::network::Network;
 use domain_model::EventFault;
 use frames_in_flight::FlightSeen;
 use replay_text::Event;
+use router_core::{is_in, is_known, is_too_high, is_worn, own_range, used_label};
 use wire_base::limits::{MOST_EVENTS, MOST_IN_FLIGHT};
+use wire_base::{Bsl, LabelRange, OwnSub, RouterConf};
 
 impl Network {
     /// Returns the first reason why the event is not allowed, except for the reasons of a router to reject an
@@ -44,6 +48,14 @@ impl Network {
             Event::Up { from, to } => self.up_fault(*from, *to),
             Event::Send { from, to } => self.send_fault(*from, *to),
             Event::Tick { .. } | Event::Restart { .. } => None,
+            Event::Relabel {
+                router,
+                sd,
+                bsl,
+                label,
+            } => self.relabel_fault(*router, *sd, *bsl, *label),
+            Event::Leave { router, sd } => self.leave_fault(*router, *sd),
+            Event::Join { router, sd } => self.join_fault(*router, *sd),
         }
     }
 
@@ -56,7 +68,7 @@ impl Network {
     }
 
     /// Returns whether the interface at an index is up.
-    fn is_end_up(&self, place: u16, link: u16) -> bool
+    pub(crate) fn is_end_up(&self, place: u16, link: u16) -> bool
         requires { place < length self.now.routers.items }
         ensures { result ≡ up_over (slice_get (world_in self.now).routers place) (Some link) }
     {
@@ -172,6 +184,29 @@ impl Network {
         self.room_fault()
     }
 
+    fn relabel_fault(&self, at: u16, sd: u8, bsl: Bsl, label: u32) -> Option<EventFault>
+        requires { at < length self.now.routers.items }
+        ensures { result ≡ rule_fault (world_in self.now) (events.Relabel at sd bsl label) }
+    {
+        range_fault(self.routers[usize::from(at)].conf(), sd, bsl, label)
+    }
+
+    fn leave_fault(&self, at: u16, sd: u8) -> Option<EventFault>
+        requires { at < length self.now.routers.items }
+        ensures { result ≡ rule_fault (world_in self.now) (events.Leave at sd) }
+    {
+        let conf = self.routers[usize::from(at)].conf();
+        member_fault(conf, conf.subs.as_slice(), sd)
+    }
+
+    fn join_fault(&self, at: u16, sd: u8) -> Option<EventFault>
+        requires { at < length self.now.routers.items }
+        ensures { result ≡ rule_fault (world_in self.now) (events.Join at sd) }
+    {
+        let conf = self.routers[usize::from(at)].conf();
+        member_fault(conf, conf.away.as_slice(), sd)
+    }
+
     fn room_fault(&self) -> Option<EventFault>
         ensures { result ≡ unless_room (world_in self.now) None }
     {
@@ -191,4 +226,37 @@ fn packet_fault(flight: &FlightSeen<'_>) -> Option<EventFault>
         None => None,
         Some(_) => Some(EventFault::NotControl),
     }
+}
+
+/// Returns the error if the router's label range for the BSL in the sub-domain can't begin at the label.
+fn range_fault(conf: &RouterConf, sd: u8, bsl: Bsl, label: u32) -> Option<EventFault>
+    ensures { result ≡ range_fault conf.now label (own_range conf.now sd bsl) }
+{
+    let Some(range) = own_range(conf, sd, bsl) else {
+        return Some(EventFault::NoSub);
+    };
+    let moved = LabelRange { label, ..range };
+    if is_too_high(moved) {
+        return Some(EventFault::LabelHigh);
+    }
+    if let Some(used) = used_label(conf, moved) {
+        return Some(EventFault::LabelUsed(used));
+    }
+    if is_worn(conf) {
+        return Some(EventFault::Relabels);
+    }
+    None
+}
+
+/// Returns the error if the sub-domain is not among those that are to be left, or to be joined.
+fn member_fault(conf: &RouterConf, subs: &[OwnSub], sd: u8) -> Option<EventFault>
+    ensures { result ≡ first_fault (is_none (sub_in (known_subs conf.now) sd)) faults.NoSub (first_fault (is_none (sub_in subs.now sd)) faults.SubState None) }
+{
+    if !is_known(conf, sd) {
+        return Some(EventFault::NoSub);
+    }
+    if !is_in(subs, sd) {
+        return Some(EventFault::SubState);
+    }
+    None
 }

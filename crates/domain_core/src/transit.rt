@@ -1,17 +1,25 @@
 //! Frames that arrive, are lost or are duplicated.
-ghost use Rattle.std.specs.Prelude.{◌≡◌, ◌<◌, length, Some, IfOk, OnOk, OnErr};
+ghost use Rattle.std.specs.Prelude.{◌≡◌, ◌<◌, ◌≤◌, [], length, slice_get, option_map, Some, IfOk, IfSome, OnOk, OnErr};
+ghost use Rattle.wire_base.specs.model.Configuration.{IsSound};
 ghost use Rattle.replay_text.specs.declared.event.Event.TheVariants as events;
 ghost use Rattle.domain_core.specs.Answers.{outcome};
 ghost use Rattle.domain_core.specs.Held.{state_of, world_in, heard_in, IsDone};
-ghost use Rattle.domain_core.specs.Network.{IsAsBefore, IsTrueNetwork, heard_after, seen_of};
+ghost use Rattle.domain_core.specs.Network.{IsAsBefore, IsTrueNetwork, confs_of, heard_after, seen_of};
+ghost use Rattle.domain_model.specs.Moves.{item_lost};
 ghost use Rattle.domain_model.specs.Step.{doing};
-ghost use Rattle.domain_model.specs.World.{link_between};
+ghost use Rattle.domain_model.specs.Truth.{router_at};
+ghost use Rattle.domain_model.specs.World.{link_between, queue_at};
+ghost use Rattle.frames_in_flight.specs.Flights.{place_seen, without_frame};
+ghost use Rattle.frames_in_flight.specs.Told.{told};
 
-use crate::network::Network;
+use crate::network::{Network, reader};
 use crate::over::or_nothing;
+use bier_forward::Effects;
 use domain_model::StepOut;
-use frames_in_flight::{confs_of, drop_flight, is_silent, queue_taken};
-use wire_base::{Cause, M, Octets};
+use frames_in_flight::{FlightSeen, confs_of, drop_flight, is_silent, queue_taken};
+use router_core::Router;
+use wire_base::limits::MOST_ROUTERS;
+use wire_base::{Cause, M, Octets, RouterConf};
 
 impl Network {
     /// Loses a frame: the router that it was for drops it.
@@ -26,10 +34,32 @@ impl Network {
         let Some(link) = self.link(from, to) else {
             return Ok(StepOut::nothing(alloc));
         };
-        let confs = confs_of(&self.domain);
-        let flights = &mut self.flights;
-        let out = drop_flight(alloc, flights, confs, from, link, i, to, Cause::Lost)?;
+        let out = self.drop_frame(from, link, i, to, Cause::Lost)?;
         Ok(or_nothing(alloc, out))
+    }
+
+    /// Removes a frame that was sent on the interface `link`, and that the router at the index `at` drops as a whole.
+    /// Returns the report, or nothing if there is no such frame. Only the flights change.
+    fn drop_frame(
+        &mut self,
+        from: u16,
+        link: u16,
+        i: u32,
+        at: u16,
+        cause: Cause,
+    ) -> M<Option<StepOut>>
+        requires { IsTrueNetwork (state_of self.old) }
+        ensures out { IfOk result (λ out. out ≡ option_map (λ x. told self.old.domain.routers (item_lost at cause x)) (slice_get (queue_at (world_in self.old).flights from link) i)) }
+        ensures ok { OnOk result (state_of self.new ≡ record (state_of self.old) { flights = without_frame self.old.flights from link i }) }
+        ensures err { OnErr result (state_of self.new ≡ state_of self.old) }
+        ensures domain { self.new.domain ≡ self.old.domain }
+    {
+        let alloc = self.allocator();
+        let Some(flight) = self.flights.get(from, link, i) else {
+            return Ok(None);
+        };
+        let reader = reader(self.routers.as_slice(), confs_of(&self.domain), &flight);
+        drop_flight(alloc, &mut self.flights, reader, from, link, i, at, cause)
     }
 
     /// Duplicates a frame that carries a PDU: a copy of it is queued at the end of its direction.
@@ -102,22 +132,50 @@ impl Network {
         ensures frames { OnErr result (self.new.flights ≡ self.old.flights) }
         ensures domain { self.new.domain ≡ self.old.domain }
     {
-        let alloc = self.allocator();
+        if !self.is_end_up(to, back) {
+            return self.drop_frame(from, link, i, to, Cause::Link);
+        }
         let Some(flight) = self.flights.get(from, link, i) else {
             return Ok(None);
         };
         let router = &mut self.routers[usize::from(to)];
-        let confs = confs_of(&self.domain);
-        if !router.is_up(back) {
-            let flights = &mut self.flights;
-            return drop_flight(alloc, flights, confs, from, link, i, to, Cause::Link);
-        }
         let effects = router.frame(back, flight.octets)?;
         if is_silent(&effects) {
             self.flights.remove(from, link, i as usize);
             return Ok(None);
         }
+        let confs = confs_of(&self.domain);
+        let routers = self.routers.as_slice();
+        let reader = reader_if_dropped(routers, confs, &flight, &effects);
         let known = Some((back, from));
-        queue_taken(&mut self.flights, confs, from, link, i, to, known, effects)
+        queue_taken(
+            &mut self.flights,
+            confs,
+            reader,
+            from,
+            link,
+            i,
+            to,
+            known,
+            effects,
+        )
     }
+}
+
+/// Returns the configuration, as it is now, of the router that the packet in a frame is for, if a router that received
+/// the frame dropped something. The BFR-ids of a packet are parsed only where they are reported.
+fn reader_if_dropped<'a>(
+    routers: &'a [Router],
+    confs: &[RouterConf],
+    flight: &FlightSeen<'_>,
+    effects: &Effects,
+) -> Option<&'a RouterConf>
+    requires { length confs.now ≤ MOST_ROUTERS }
+    ensures reader { (effects.now.drops ≡ [] → ⊥) → option_map (λ r. r.now) result ≡ router_at (confs_of routers.now) (place_seen confs.now flight.now) }
+    ensures sound { IfSome result (λ r. IsSound r.now) }
+{
+    if effects.drops.len() == 0 {
+        return None;
+    }
+    reader(routers, confs, flight)
 }

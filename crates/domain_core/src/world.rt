@@ -65,6 +65,7 @@ impl World {
     /// delivery or one drop (RFC 8279, 6.5). While topologies agree, a copy for a BFR-id that is reachable over a path
     /// that its TTL covers is on a shortest path to the id's owner, and no event drops it except one that loses it
     /// (RFC 8279, 6.9).
+    #[tactic(auto, using(crate::proofs::EventLaws::as_many))]
     pub fn step(&mut self, event: &Event) -> Result<StepOut, EventFault>
         requires { EventFits (length self.old.world.domain.routers) event.now }
         ensures refused { MatchResult result (λ _. event_fault self.old.world event.now ≡ None) (λ e. Refuses (event_fault self.old.world event.now) e) }
@@ -172,6 +173,7 @@ impl World {
     }
 
     /// Returns the router at an index.
+    #[tactic(auto, using(crate::proofs::EventLaws::as_many))]
     pub fn router(&self, place: u16) -> &Router
         requires { place < length self.now.world.domain.routers }
         ensures control { slice_get self.now.world.routers place ≡ Some result.now.control }

@@ -1,4 +1,5 @@
 pub mod FlightLaws
 pub mod QueueLaws
+pub mod ReadLaws
 pub mod SentLaws
 pub mod ToldLaws

@@ -10,7 +10,7 @@ use Rattle.frame_list.specs.Spans.{Noted}
 use Rattle.frames_in_flight.specs.declared.flight.Flight.{Flight}
 use Rattle.frames_in_flight.specs.declared.flight.Note.{Note}
 use Rattle.frames_in_flight.specs.Framed.{note_over}
-use Rattle.frames_in_flight.specs.Read.{item_in, item_ids}
+use Rattle.frames_in_flight.specs.Read.{item_in, item_ids, ids_for, reader_place}
 
 -- ---- the item of a frame
 
@@ -24,14 +24,26 @@ items_seen confs flights = map (λ row. map (λ queue. map (item_seen confs) que
 abbrev pub number_of : Flight → Option ℕ
 number_of f = option_map (λ note. note.number) f.note
 
+-- the index of the router that the packet in a frame is for, if a packet is noted
+abbrev pub place_noted : List RouterConf → Option Note → List ℕ → Option ℕ
+place_noted confs None octets = None
+place_noted confs (Some note) octets = reader_place confs note.to octets
+
+abbrev pub place_seen : List RouterConf → Flight → Option ℕ
+place_seen confs f = place_noted confs f.note f.octets
+
 -- the BFR-ids of a frame
 abbrev pub ids_seen : List RouterConf → Flight → List ℕ
 ids_seen confs f = item_ids (item_seen confs f)
 
+-- the same, as the router parses the frame that its packet is for
+abbrev pub ids_read : Option RouterConf → Flight → List ℕ
+ids_read reader f = ids_for reader f.note f.octets
+
 -- of one that was received, if one was
-abbrev pub ids_taken : List RouterConf → Option Flight → List ℕ
-ids_taken confs None = []
-ids_taken confs (Some f) = ids_seen confs f
+abbrev pub ids_taken : Option RouterConf → Option Flight → List ℕ
+ids_taken reader None = []
+ids_taken reader (Some f) = ids_read reader f
 
 -- ---- how it is stored
 

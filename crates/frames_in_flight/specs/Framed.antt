@@ -60,13 +60,14 @@ peer_noted confs a f = noted_as (peer_place confs a f.note) f
 abbrev pub note_over : List RouterConf → ℕ → Option ℕ → ℕ → Option Note
 note_over confs a number link = option_map (λ n. record { number = n; to = peer_place confs a link }) number
 
--- the item of such a frame
-abbrev pub item_sent : List RouterConf → ℕ → Option ℕ → Sent → Item
-item_sent confs a number s = item_in confs (note_over confs a number s.link) s.octets
+-- the item of such a frame; `os` are the routers by their places, and `confs` the same as they are configured when a
+-- packet is parsed
+abbrev pub item_sent : List RouterConf → List RouterConf → ℕ → Option ℕ → Sent → Item
+item_sent os confs a number s = item_in confs (note_over os a number s.link) s.octets
 
 -- what is sent, with its frames' items parsed in that way
-abbrev pub sending_of : List RouterConf → ℕ → Option ℕ → Sent → Sending
-sending_of confs a number s = over_end confs a s.link (item_sent confs a number s)
+abbrev pub sending_of : List RouterConf → List RouterConf → ℕ → Option ℕ → Sent → Sending
+sending_of os confs a number s = over_end os a s.link (item_sent os confs a number s)
 
 -- ---- what is delivered and dropped
 
@@ -89,26 +90,26 @@ ends_of None = []
 ends_of (Some r) = r.ends
 
 -- A frame that the router at index a sends on one of its interfaces is the frame of the item that is parsed from it.
-pub record IsItemFrame (confs : List RouterConf) (a : ℕ) (number : Option ℕ) (s : Sent) : Type 0 where
-  pub within : s.link < length (ends_of (slice_get confs a))
-  pub is : s.octets ≡ frame_over confs a s.link (item_sent confs a number s)
+pub record IsItemFrame (os confs : List RouterConf) (a : ℕ) (number : Option ℕ) (s : Sent) : Type 0 where
+  pub within : s.link < length (ends_of (slice_get os a))
+  pub is : s.octets ≡ frame_over os a s.link (item_sent os confs a number s)
 
 -- What the router at index a did on octets, for that injection or for none and with those BFR-ids, is the same as what
 -- it does on items, which are parsed from its frames.
-pub record IsFramed (confs : List RouterConf) (a : ℕ) (number : Option ℕ) (ids : List ℕ) (e : Effects) (m : Made) : Type 0 where
-  pub frames : AllByRecursion (IsItemFrame confs a number) e.sent
-  pub sent : m.sent ≡ map (sending_of confs a number) e.sent
-  pub wires : map (wire_of confs) m.sent ≡ map (wire_from confs a) e.sent
+pub record IsFramed (os confs : List RouterConf) (a : ℕ) (number : Option ℕ) (ids : List ℕ) (e : Effects) (m : Made) : Type 0 where
+  pub frames : AllByRecursion (IsItemFrame os confs a number) e.sent
+  pub sent : m.sent ≡ map (sending_of os confs a number) e.sent
+  pub wires : map (wire_of os) m.sent ≡ map (wire_from os a) e.sent
   pub got : m.got ≡ map (got_line a number) e.got
   pub drops : m.drops ≡ map (drop_line a number ids) e.drops
 
 -- What flooding replies to octets, or sends: the router's next state, and PDUs on one interface.
-pub record IsFlooded (confs : List RouterConf) (a link : ℕ) (c : Control) (r : Reply) (next : Control) (e : Effects) : Type 0 where
+pub record IsFlooded (os confs : List RouterConf) (a link : ℕ) (c : Control) (r : Reply) (next : Control) (e : Effects) : Type 0 where
   pub control : next ≡ r.control
-  pub framed : IsFramed confs a None [] e (replied confs a link r)
+  pub framed : IsFramed os confs a None [] e (replied os a link r)
 
 -- A router receives the octets of a copy of a packet: its state is unchanged, and it forwards the copy, or sends it on
 -- in its tunnel.
-pub record IsHopped (confs : List RouterConf) (a : ℕ) (c : Control) (x : DataItem) (next : Control) (e : Effects) : Type 0 where
+pub record IsHopped (os confs : List RouterConf) (a : ℕ) (c : Control) (x : DataItem) (next : Control) (e : Effects) : Type 0 where
   pub control : next ≡ c
-  pub framed : IsFramed confs a (Some x.number) x.ids e (packet_taken confs a c x x.outer)
+  pub framed : IsFramed os confs a (Some x.number) x.ids e (packet_taken os a c x x.outer)

@@ -55,27 +55,51 @@ packet_or_none (Ok p) = Some p
 packet_or_none (Err why) = None
 
 -- as a router parses it
-abbrev pub packet_read : Option RouterConf → Kind → List ℕ → Option Packet
-packet_read None kind octets = None
-packet_read (Some q) kind octets = packet_or_none (packet_at q kind octets)
+abbrev pub packet_read : RouterConf → Kind → List ℕ → Option Packet
+packet_read r kind octets = packet_or_none (packet_at r kind octets)
 
--- in a tunnel a packet is for the router whose prefix is the tunnel's destination
-abbrev pub tunnel_carried : List RouterConf → Result TunnelPacket IpFault → Option Packet
-tunnel_carried confs (Ok t) = packet_read (router_at confs (router_with 0 confs t.dst)) t.inner t.carried
-tunnel_carried confs (Err fault) = None
+abbrev pub tunnel_carried : RouterConf → Result TunnelPacket IpFault → Option Packet
+tunnel_carried r (Ok t) = packet_read r t.inner t.carried
+tunnel_carried r (Err fault) = None
 
--- without a tunnel it is for the router at the far end of the link
-abbrev pub packet_carried : List RouterConf → ℕ → Result Carried FrameFault → Option Packet
-packet_carried confs to (Ok (MplsPacket octets)) = packet_read (slice_get confs to) Mpls octets
-packet_carried confs to (Ok (BierPacket octets)) = packet_read (slice_get confs to) Configured octets
-packet_carried confs to (Ok (IpPacket octets)) = tunnel_carried confs (tunnel_at octets)
-packet_carried confs to (Ok (IsisPdu octets)) = None
-packet_carried confs to (Ok OtherFrame) = None
-packet_carried confs to (Err fault) = None
+abbrev pub packet_carried : RouterConf → Result Carried FrameFault → Option Packet
+packet_carried r (Ok (MplsPacket octets)) = packet_read r Mpls octets
+packet_carried r (Ok (BierPacket octets)) = packet_read r Configured octets
+packet_carried r (Ok (IpPacket octets)) = tunnel_carried r (tunnel_at octets)
+packet_carried r (Ok (IsisPdu octets)) = None
+packet_carried r (Ok OtherFrame) = None
+packet_carried r (Err fault) = None
+
+-- The packet in a frame, as that router parses it.
+abbrev pub packet_for : Option RouterConf → List ℕ → Option Packet
+packet_for None octets = None
+packet_for (Some r) octets = packet_carried r (frame_at octets)
+
+-- ---- the router that a packet is for
+
+-- in a tunnel the router whose prefix is the tunnel's destination
+abbrev pub tunnel_end : List RouterConf → Result TunnelPacket IpFault → Option ℕ
+tunnel_end confs (Ok t) = router_with 0 confs t.dst
+tunnel_end confs (Err fault) = None
+
+-- without a tunnel the router at the far end of the link
+abbrev pub place_carried : List RouterConf → ℕ → Result Carried FrameFault → Option ℕ
+place_carried confs to (Ok (IpPacket octets)) = tunnel_end confs (tunnel_at octets)
+place_carried confs to (Ok (MplsPacket octets)) = Some to
+place_carried confs to (Ok (BierPacket octets)) = Some to
+place_carried confs to (Ok (IsisPdu octets)) = Some to
+place_carried confs to (Ok OtherFrame) = Some to
+place_carried confs to (Err fault) = Some to
+
+-- The index of the router that the packet in a frame in flight to the router at an index is for.
+abbrev pub reader_place : List RouterConf → ℕ → List ℕ → Option ℕ
+reader_place confs to octets = place_carried confs to (frame_at octets)
 
 -- The packet in a frame in flight to the router at an index.
 abbrev pub packet_in : List RouterConf → ℕ → List ℕ → Option Packet
-packet_in confs to octets = packet_carried confs to (frame_at octets)
+packet_in confs to octets = packet_for (router_at confs (reader_place confs to octets)) octets
+
+-- ---- tunnels
 
 abbrev pub outer_or_none : Result TunnelPacket IpFault → Option Outer
 outer_or_none (Ok t) = Some (record { src = t.src; dst = t.dst; ttl = t.ttl })
@@ -124,6 +148,16 @@ copy_in confs note octets = copy_read note.number (outer_in octets) (packet_in c
 unfoldable pub item_in : List RouterConf → Option Note → List ℕ → Item
 item_in confs None octets = ControlItem (pdu_in confs octets)
 item_in confs (Some note) octets = PacketItem (copy_in confs note octets)
+
+-- the BFR-ids of a packet
+abbrev pub packet_ids : Option Packet → List ℕ
+packet_ids None = []
+packet_ids (Some p) = ids_in p
+
+-- those of the packet in a frame, if a packet is noted, as that router parses it
+abbrev pub ids_for : Option RouterConf → Option Note → List ℕ → List ℕ
+ids_for reader None octets = []
+ids_for reader (Some note) octets = packet_ids (packet_for reader octets)
 
 -- the BFR-ids of an item
 abbrev pub item_ids : Item → List ℕ

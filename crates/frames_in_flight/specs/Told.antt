@@ -1,10 +1,11 @@
 -- What is reported of an event.
-use Rattle.std.specs.Prelude.{◌≡◌, ℕ, ◌<◌, List, [], length, map, Option}
+use Rattle.std.specs.Prelude.{◌≡◌, ℕ, ◌<◌, List, [], ◌∷◌, length, map, Option}
+use Rattle.wire_base.specs.declared.cause.Cause.{Cause}
 use Rattle.wire_base.specs.declared.conf.RouterConf.{RouterConf}
 use Rattle.wire_base.specs.model.OnFrame.{Effects}
 use Rattle.domain_model.specs.declared.step_out.StepOut.{StepOut}
 use Rattle.domain_model.specs.declared.step_out.WireFrame.{WireFrame}
-use Rattle.domain_model.specs.Moves.{Made}
+use Rattle.domain_model.specs.Moves.{Made, listed}
 use Rattle.frames_in_flight.specs.Framed.{wire_of, wire_from, got_line, drop_line}
 
 -- what was sent, as frames, delivered and dropped
@@ -30,3 +31,8 @@ told_of confs a number ids e =
       got = map (got_line a number) e.got;
       drops = map (drop_line a number ids) e.drops;
     }
+
+-- the router at index a drops a frame of that injection, or of none, as a whole; it carried those BFR-ids
+abbrev pub told_lost : ℕ → Option ℕ → Cause → List ℕ → StepOut
+told_lost a number why ids =
+    record { sent = []; got = []; drops = record { router = a; injection = number; cause = why; ids = listed ids } ∷ [] }

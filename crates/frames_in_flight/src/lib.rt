@@ -17,6 +17,7 @@ mod told;
 
 pub use flight::{Flight, FlightSeen, Note};
 pub use flights::Flights;
+pub use inside::reader_of;
 pub use places::{confs_of, link_between, peer_place};
 pub use sent::queue_sent;
 pub use taken::{drop_flight, queue_taken};

@@ -1,7 +1,6 @@
 //! Queues what a router sends.
 ghost use Rattle.std.specs.Prelude.{◌≡◌, ◌≤◌, [], length, drop, OnOk, OnErr, OnSome, IfOk, IfSome};
 ghost use Rattle.std.specs.List.{AllByRecursion};
-ghost use Rattle.wire_base.specs.model.Configuration.{IsSound};
 ghost use Rattle.frames_in_flight.specs.Told.{told_of};
 ghost use Rattle.frames_in_flight.specs.Flights.{IsOver, push_all_sent};
 ghost use Rattle.frames_in_flight.specs.Framed.{note_over};
@@ -27,13 +26,12 @@ pub fn queue_sent(
     effects: Effects,
 ) -> M<StepOut>
     requires few { length confs.now ≤ MOST_ROUTERS }
-    requires sound { AllByRecursion IsSound confs.now }
     requires known { IfSome known (λ k. k.1 ≡ peer_place confs.now at k.0) }
     ensures out { IfOk result (λ out. out ≡ told_of confs.now at number [] effects) }
     ensures ok { OnOk result (flights.new ≡ push_all_sent confs.now at number flights.old effects.sent) }
     ensures err { OnErr result (flights.new ≡ flights.old) }
 {
-    let lines = reported_by(effects.allocator(), confs, at, number, None, &effects)?;
+    let lines = reported_by(effects.allocator(), None, at, number, None, &effects)?;
     send_all(flights, confs, at, number, &effects.sent)?;
     Ok(with_sent(lines, confs, at, known, effects.sent))
 }

@@ -1,10 +1,8 @@
 //! Frames that leave their queue, because a router received or dropped them.
 ghost use Rattle.std.specs.Prelude.{◌≡◌, ◌≤◌, length, slice_get, option_map, IfOk, IfSome, OnOk, OnErr};
-ghost use Rattle.std.specs.List.{AllByRecursion};
 ghost use Rattle.wire_base.specs.model.Configuration.{IsSound};
-ghost use Rattle.frames_in_flight.specs.Flights.{frames_at, ids_seen, item_seen, number_of, push_after, without_frame};
-ghost use Rattle.frames_in_flight.specs.Told.{IsSilent, told, told_of};
-ghost use Rattle.domain_model.specs.Moves.{item_lost};
+ghost use Rattle.frames_in_flight.specs.Flights.{frames_at, ids_read, number_of, push_after, without_frame};
+ghost use Rattle.frames_in_flight.specs.Told.{IsSilent, told_lost, told_of};
 ghost use Rattle.domain_model.specs.World.{peer_place};
 
 use crate::flights::Flights;
@@ -17,27 +15,27 @@ use wire_base::limits::MOST_ROUTERS;
 use wire_base::{Cause, M, RouterConf};
 
 /// Removes the frame at an index of those in a direction, dropped as a whole by the router at the index `at`, and
-/// returns the report. If an allocation fails, nothing has changed. If there is no such frame, nothing is reported.
+/// returns the report. The packet in it is parsed as by `reader`, the router that it is for. If an allocation fails,
+/// nothing has changed. If there is no such frame, nothing is reported.
 pub fn drop_flight(
     alloc: Global,
     flights: &mut Flights,
-    confs: &[RouterConf],
+    reader: Option<&RouterConf>,
     place: u16,
     link: u16,
     i: u32,
     at: u16,
     cause: Cause,
 ) -> M<Option<StepOut>>
-    requires few { length confs.now ≤ MOST_ROUTERS }
-    requires sound { AllByRecursion IsSound confs.now }
-    ensures out { IfOk result (λ out. out ≡ option_map (λ f. told confs.now (item_lost at cause (item_seen confs.now f))) (slice_get (frames_at flights.old place link) i)) }
+    requires { IfSome reader (λ r. IsSound r.now) }
+    ensures out { IfOk result (λ out. out ≡ option_map (λ f. told_lost at (number_of f) cause (ids_read (option_map (λ r. r.now) reader.entry) f)) (slice_get (frames_at flights.old place link) i)) }
     ensures ok { OnOk result (flights.new ≡ without_frame flights.old place link i) }
     ensures err { OnErr result (flights.new ≡ flights.old) }
 {
     let Some(flight) = flights.get(place, link, i) else {
         return Ok(None);
     };
-    let out = lost(alloc, confs, at, cause, &flight)?;
+    let out = lost(alloc, reader, at, cause, &flight)?;
     flights.remove(place, link, i as usize);
     Ok(Some(out))
 }
@@ -46,10 +44,12 @@ pub fn drop_flight(
 /// what it sent, and removes the frame. If an allocation fails, nothing has changed. If there is no such frame, nothing
 /// is reported.
 ///
-/// The caller may pass in where one of the interfaces leads.
+/// The packet in the frame, if it was dropped as a whole, is parsed as by `reader`, the router that it is for. The
+/// caller may pass in where one of the interfaces leads.
 pub fn queue_taken(
     flights: &mut Flights,
     confs: &[RouterConf],
+    reader: Option<&RouterConf>,
     place: u16,
     link: u16,
     i: u32,
@@ -58,9 +58,9 @@ pub fn queue_taken(
     effects: Effects,
 ) -> M<Option<StepOut>>
     requires few { length confs.now ≤ MOST_ROUTERS }
-    requires sound { AllByRecursion IsSound confs.now }
+    requires sound { IfSome reader (λ r. IsSound r.now) }
     requires known { IfSome known (λ k. k.1 ≡ peer_place confs.now at k.0) }
-    ensures out { IfOk result (λ out. out ≡ option_map (λ f. told_of confs.now at (number_of f) (ids_seen confs.now f) effects) (slice_get (frames_at flights.old place link) i)) }
+    ensures out { IfOk result (λ out. out ≡ option_map (λ f. told_of confs.now at (number_of f) (ids_read (option_map (λ r. r.now) reader.entry) f) effects) (slice_get (frames_at flights.old place link) i)) }
     ensures ok { OnOk result (flights.new ≡ push_after confs.now at effects.sent flights.old place link i (slice_get (frames_at flights.old place link) i)) }
     ensures err { OnErr result (flights.new ≡ flights.old) }
     ensures memory { OnErr result (IsSilent effects → ⊥) }
@@ -70,7 +70,7 @@ pub fn queue_taken(
     };
     let number = number_of(&flight);
     let alloc = effects.allocator();
-    let lines = reported_by(alloc, confs, at, number, Some(&flight), &effects)?;
+    let lines = reported_by(alloc, reader, at, number, Some(&flight), &effects)?;
     send_all(flights, confs, at, number, &effects.sent)?;
     flights.remove(place, link, i as usize);
     Ok(Some(with_sent(lines, confs, at, known, effects.sent)))

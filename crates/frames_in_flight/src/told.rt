@@ -1,22 +1,20 @@
 //! What is reported of the effects of a router.
-ghost use Rattle.std.specs.Prelude.{◌≡◌, ◌↔◌, ◌≤◌, IsTrue, ◌++◌, ◌∷◌, [], ℕ, length, map, filter, Option, option_map, IfOk, IfSome, OnOk, OnErr};
-ghost use Rattle.std.specs.List.{AllByRecursion};
+ghost use Rattle.std.specs.Prelude.{◌≡◌, ◌↔◌, ◌≤◌, IsTrue, ◌++◌, ◌∷◌, [], length, map, filter, Some, option_map, IfOk, IfSome, OnOk, OnErr};
 ghost use Rattle.wire_base.specs.model.BitSet.{has_member};
 ghost use Rattle.wire_base.specs.model.Configuration.{IsSound};
-ghost use Rattle.wire_base.specs.model.Item.{Outer};
 ghost use Rattle.wire_base.specs.model.Place.{bits_of, id_at};
 ghost use Rattle.bfr_edge.specs.Entry.{positions_in};
 ghost use Rattle.bier_bits.specs.Any.{bsl_of, positions_of};
 ghost use Rattle.bier_forward.specs.Sets.{set_in, HasLength, HaveLength};
-ghost use Rattle.frames_in_flight.specs.Told.{IsSilent, told_of};
-ghost use Rattle.frames_in_flight.specs.Flights.{item_seen, number_of, ids_seen, ids_taken};
+ghost use Rattle.frames_in_flight.specs.Told.{IsSilent, told_of, told_lost};
+ghost use Rattle.frames_in_flight.specs.Flights.{number_of, ids_read, ids_taken};
 ghost use Rattle.frames_in_flight.specs.Framed.{peer_noted, wire_from, got_line, drop_line, ids_dropped};
-ghost use Rattle.frames_in_flight.specs.Read.{copy_read, packet_in};
-ghost use Rattle.domain_model.specs.Moves.{item_lost, listed};
+ghost use Rattle.frames_in_flight.specs.Read.{packet_for, packet_ids};
+ghost use Rattle.domain_model.specs.Moves.{listed};
 ghost use Rattle.domain_model.specs.World.{peer_place};
 
 use crate::flight::FlightSeen;
-use crate::inside::packet_in;
+use crate::inside::packet_for;
 use crate::places::peer_place;
 use bfr_edge::Packet;
 use bier_bits::AnyBits;
@@ -28,24 +26,24 @@ use wire_base::limits::MOST_ROUTERS;
 use wire_base::{Cause, Got, M, RouterConf, Rows, Triple};
 
 /// Returns the report of what the router at an index delivered and dropped, for that injection or for none, after it
-/// received that frame or none. If it did neither, no memory is allocated.
+/// received that frame or none. The packet in the frame, if it was dropped as a whole, is parsed as by `reader`. If the
+/// router did neither, no memory is allocated.
 pub fn reported_by(
     alloc: Global,
-    confs: &[RouterConf],
+    reader: Option<&RouterConf>,
     at: u16,
     number: Option<u32>,
     taken: Option<&FlightSeen<'_>>,
     effects: &Effects,
 ) -> M<StepOut>
-    requires few { length confs.now ≤ MOST_ROUTERS }
-    requires sound { AllByRecursion IsSound confs.now }
-    ensures out { IfOk result (λ out. out ≡ record (told_of confs.now at number (ids_taken confs.now (option_map (λ f. f.now) taken.entry)) effects.now) { sent = [] }) }
+    requires { IfSome reader (λ r. IsSound r.now) }
+    ensures out { IfOk result (λ out. out ≡ record (told_of [] at number (ids_taken (option_map (λ r. r.now) reader.entry) (option_map (λ f. f.now) taken.entry)) effects.now) { sent = [] }) }
     ensures memory { OnErr result (effects.now.got ≡ [] → effects.now.drops ≡ [] → ⊥) }
 {
     Ok(StepOut {
         sent: WireFrames::new(alloc),
         got: got_lines(alloc, at, number, effects.got.as_slice())?,
-        drops: drop_lines(alloc, confs, at, number, taken, effects.drops.as_slice())?,
+        drops: drop_lines(alloc, reader, at, number, taken, effects.drops.as_slice())?,
     })
 }
 
@@ -149,15 +147,14 @@ fn got_lines(alloc: Global, at: u16, number: Option<u32>, got: &[Got]) -> M<Rows
 
 fn drop_lines(
     alloc: Global,
-    confs: &[RouterConf],
+    reader: Option<&RouterConf>,
     at: u16,
     number: Option<u32>,
     taken: Option<&FlightSeen<'_>>,
     drops: &[DropNote],
 ) -> M<Rows<DropLine>>
-    requires few { length confs.now ≤ MOST_ROUTERS }
-    requires sound { AllByRecursion IsSound confs.now }
-    ensures lines { IfOk result (λ lines. lines ≡ map (drop_line at number (ids_taken confs.now (option_map (λ f. f.now) taken.entry))) drops.now) }
+    requires { IfSome reader (λ r. IsSound r.now) }
+    ensures lines { IfOk result (λ lines. lines ≡ map (drop_line at number (ids_taken (option_map (λ r. r.now) reader.entry) (option_map (λ f. f.now) taken.entry))) drops.now) }
     ensures memory { OnErr result (drops.now ≡ [] → ⊥) }
 {
     let mut lines = Rows::new(alloc);
@@ -166,7 +163,7 @@ fn drop_lines(
             router: at,
             injection: number,
             cause: note.cause,
-            ids: ids_dropped(alloc, confs, taken, &note.sets)?,
+            ids: ids_dropped(alloc, reader, taken, &note.sets)?,
         })?;
     }
     Ok(lines)
@@ -175,52 +172,61 @@ fn drop_lines(
 /// Returns the BFR-ids of bit positions. For a frame that is dropped as a whole these are all that it carries.
 fn ids_dropped(
     alloc: Global,
-    confs: &[RouterConf],
+    reader: Option<&RouterConf>,
     taken: Option<&FlightSeen<'_>>,
     sets: &Option<Packet>,
 ) -> M<Rows<u16>>
-    requires few { length confs.now ≤ MOST_ROUTERS }
-    requires sound { AllByRecursion IsSound confs.now }
+    requires sound { IfSome reader (λ r. IsSound r.now) }
     requires length { HaveLength sets.now }
-    ensures { IfOk result (λ ids. ids ≡ ids_dropped (ids_taken confs.now (option_map (λ f. f.now) taken.entry)) (set_in sets.now)) }
+    ensures { IfOk result (λ ids. ids ≡ ids_dropped (ids_taken (option_map (λ r. r.now) reader.entry) (option_map (λ f. f.now) taken.entry)) (set_in sets.now)) }
 {
     match sets {
-        None => ids_taken(alloc, confs, taken),
+        None => ids_taken(alloc, reader, taken),
         Some(packet) => ids_listed(alloc, packet.triple, &packet.bits),
     }
 }
 
-fn ids_taken(alloc: Global, confs: &[RouterConf], taken: Option<&FlightSeen<'_>>) -> M<Rows<u16>>
-    requires few { length confs.now ≤ MOST_ROUTERS }
-    requires sound { AllByRecursion IsSound confs.now }
-    ensures { IfOk result (λ ids. ids ≡ listed (ids_taken confs.now (option_map (λ f. f.now) taken.entry))) }
+fn ids_taken(
+    alloc: Global,
+    reader: Option<&RouterConf>,
+    taken: Option<&FlightSeen<'_>>,
+) -> M<Rows<u16>>
+    requires { IfSome reader (λ r. IsSound r.now) }
+    ensures { IfOk result (λ ids. ids ≡ listed (ids_taken (option_map (λ r. r.now) reader.entry) (option_map (λ f. f.now) taken.entry))) }
 {
     match taken {
         None => Ok(Rows::new(alloc)),
-        Some(flight) => ids_of(alloc, confs, flight),
+        Some(flight) => ids_of(alloc, reader, flight),
     }
 }
 
-/// Returns the BFR-ids of a frame; a PDU has none.
-#[tactic(auto, unfolding(crate::specs::Read::item_in))]
-fn ids_of(alloc: Global, confs: &[RouterConf], flight: &FlightSeen<'_>) -> M<Rows<u16>>
-    requires few { length confs.now ≤ MOST_ROUTERS }
-    requires sound { AllByRecursion IsSound confs.now }
-    ensures { IfOk result (λ ids. ids ≡ listed (ids_seen confs.now flight.now)) }
+/// Returns the BFR-ids of a frame, as a router parses it; a PDU has none.
+fn ids_of(alloc: Global, reader: Option<&RouterConf>, flight: &FlightSeen<'_>) -> M<Rows<u16>>
+    requires { IfSome reader (λ r. IsSound r.now) }
+    ensures { IfOk result (λ ids. ids ≡ listed (ids_read (option_map (λ r. r.now) reader.entry) flight.now)) }
 {
     match flight.note {
         None => Ok(Rows::new(alloc)),
-        Some(note) => ids_in(alloc, confs, note.to, flight.octets),
+        Some(_) => ids_in(alloc, reader, flight.octets),
     }
 }
 
-/// Returns the BFR-ids of the packet in a frame to the router at an index.
-fn ids_in(alloc: Global, confs: &[RouterConf], to: u16, octets: &[u8]) -> M<Rows<u16>>
-    requires few { length confs.now ≤ MOST_ROUTERS }
-    requires sound { AllByRecursion IsSound confs.now }
-    ensures { IfOk result (λ ids. (number : ℕ) (outer : Option Outer) → ids ≡ listed (copy_read number outer (packet_in confs.now to octets.now)).ids) }
+/// Returns the BFR-ids of the packet in a frame, as a router parses it.
+fn ids_in(alloc: Global, reader: Option<&RouterConf>, octets: &[u8]) -> M<Rows<u16>>
+    requires { IfSome reader (λ r. IsSound r.now) }
+    ensures { IfOk result (λ ids. ids ≡ listed (packet_ids (packet_for (option_map (λ r. r.now) reader.entry) octets.now))) }
 {
-    match packet_in(confs, to, octets) {
+    match reader {
+        Some(conf) => ids_at(alloc, conf, octets),
+        None => Ok(Rows::new(alloc)),
+    }
+}
+
+fn ids_at(alloc: Global, conf: &RouterConf, octets: &[u8]) -> M<Rows<u16>>
+    requires { IsSound conf.now }
+    ensures { IfOk result (λ ids. ids ≡ listed (packet_ids (packet_for (Some conf.now) octets.now))) }
+{
+    match packet_for(conf, octets) {
         Some(packet) => ids_listed(alloc, packet.triple, &packet.header.bits),
         None => Ok(Rows::new(alloc)),
     }
@@ -252,25 +258,24 @@ fn push_id(ids: &mut Rows<u16>, triple: Triple, bits: &AnyBits, position: u16) -
     Ok(())
 }
 
-/// Returns the report of a frame that the router at an index drops as a whole.
-#[tactic(auto, unfolding(crate::specs::Read::item_in))]
+/// Returns the report of a frame that the router at an index drops as a whole. The packet in it is parsed as by
+/// `reader`.
 pub fn lost(
     alloc: Global,
-    confs: &[RouterConf],
+    reader: Option<&RouterConf>,
     at: u16,
     cause: Cause,
     flight: &FlightSeen<'_>,
 ) -> M<StepOut>
-    requires few { length confs.now ≤ MOST_ROUTERS }
-    requires sound { AllByRecursion IsSound confs.now }
-    ensures { IfOk result (λ out. (out.sent ≡ []) × (out.got ≡ []) × (out.drops ≡ (item_lost at cause (item_seen confs.now flight.now)).drops)) }
+    requires { IfSome reader (λ r. IsSound r.now) }
+    ensures { IfOk result (λ out. out ≡ told_lost at (number_of flight.now) cause (ids_read (option_map (λ r. r.now) reader.entry) flight.now)) }
 {
     let mut out = StepOut::nothing(alloc);
     out.drops.push(DropLine {
         router: at,
         injection: number_of(flight),
         cause,
-        ids: ids_of(alloc, confs, flight)?,
+        ids: ids_of(alloc, reader, flight)?,
     })?;
     Ok(out)
 }

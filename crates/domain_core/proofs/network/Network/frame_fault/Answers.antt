@@ -3,14 +3,16 @@ use Rattle.wire_base.specs.model.Item.{Item}
 use Rattle.domain_model.specs.declared.fault.EventFault.TheVariants as faults
 use Rattle.domain_model.specs.Faults.{frame_fault}
 use Rattle.frames_in_flight.specs.Flights.{items_seen}
+use Rattle.domain_core.specs.Held.{state_of}
+use Rattle.domain_core.specs.Network.{confs_in}
 use Rattle.domain_model.specs.World.{queue_at}
 use Rattle.domain_core.proofs.SeenLaws.{seen_length, none_seen_at, some_seen_at}
 use Rattle.domain_core.proofs.network.Network.frame_fault.Goals as goal
 
 pub returns-in-None : goal.returns-in-None
 returns-in-None c =
-    sym (ap (λ (o : Option Item). frame_fault o c.args.i (length (queue_at (items_seen c.args.self.now.domain.routers c.args.self.now.flights) c.args.from c.args.link))) (none_seen_at c.args.self.now.domain.routers c.args.self.now.flights c.args.from c.args.link c.args.i c.in-None.ensures)
-    ∙ ap (λ (n : ℕ). Some (faults.NoFrame c.args.i n)) (seen_length c.args.self.now.domain.routers c.args.self.now.flights c.args.from c.args.link ∙ sym c.len.ensures))
+    sym (ap (λ (o : Option Item). frame_fault o c.args.i (length (queue_at (items_seen (confs_in (state_of c.args.self.now)) c.args.self.now.flights) c.args.from c.args.link))) (none_seen_at (confs_in (state_of c.args.self.now)) c.args.self.now.flights c.args.from c.args.link c.args.i c.in-None.ensures)
+    ∙ ap (λ (n : ℕ). Some (faults.NoFrame c.args.i n)) (seen_length (confs_in (state_of c.args.self.now)) c.args.self.now.flights c.args.from c.args.link ∙ sym c.len.ensures))
 
 pub returns-in-Some : goal.returns-in-Some
-returns-in-Some c = sym (ap (λ (o : Option Item). frame_fault o c.args.i (length (queue_at (items_seen c.args.self.now.domain.routers c.args.self.now.flights) c.args.from c.args.link))) (some_seen_at c.args.self.now.domain.routers c.args.self.now.flights c.args.from c.args.link c.args.i c.in-Some.field-0 c.in-Some.ensures))
+returns-in-Some c = sym (ap (λ (o : Option Item). frame_fault o c.args.i (length (queue_at (items_seen (confs_in (state_of c.args.self.now)) c.args.self.now.flights) c.args.from c.args.link))) (some_seen_at (confs_in (state_of c.args.self.now)) c.args.self.now.flights c.args.from c.args.link c.args.i c.in-Some.field-0 c.in-Some.ensures))

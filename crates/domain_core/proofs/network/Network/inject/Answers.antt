@@ -1,4 +1,4 @@
-use Rattle.std.proofs.Common.{◌≡◌, ◌∙◌, ◌+◌, ℕ, List, [], slice_set, Option, Some, option_map, sym, ap}
+use Rattle.std.proofs.Common.{◌≡◌, ◌∙◌, ◌+◌, ℕ, List, [], slice_set, Option, Some, option_map, sym, ap, subst}
 use Rattle.wire_base.specs.declared.conf.RouterConf.{RouterConf}
 use Rattle.wire_base.specs.declared.faults.EdgeFault.{EdgeFault}
 use Rattle.wire_base.specs.model.Control.{Control}
@@ -7,6 +7,8 @@ use Rattle.frames_in_flight.specs.Told.{told, told_of}
 use Rattle.domain_model.specs.Faults.{entry_fault}
 use Rattle.frames_in_flight.specs.Flights.{items_seen, push_all_sent}
 use Rattle.domain_core.specs.Held.{state_of}
+use Rattle.domain_core.specs.Network.{confs_of, confs_in, AreFramesOver}
+use Rattle.laws_router.specs.State.{RouterState}
 use Rattle.domain_model.specs.Step.{Happened}
 use Rattle.domain_core.proofs.CarryLaws.{set_same, inject_is, inject_carried, inject_world}
 use Rattle.domain_core.proofs.TransitLaws.{same_frames}
@@ -33,8 +35,8 @@ returns-clause-done c =
     let routers : slice_set n.routers c.from.result c.inject-entered.new.self ≡ n.routers =
     ap (slice_set n.routers c.from.result) c.in-Ok.ensures.state ∙ ap (λ (i : ℕ). slice_set n.routers i r) c.from.ensures ∙ set_same n.routers c.args.at r there in
     record {
-      world = inject_world n c.requires.truth c.args.at r there c.args.sd c.args.bsl c.args.ids.now c.args.ttl c.args.entropy c.args.payload.now _ c.queue_sent.new.flights _ _ routers (ap (items_seen n.domain.routers) sent ∙ k.seen) happened;
-      frames = same_frames n.domain.routers c.queue_sent.new.flights _ sent k.frames;
+      world = inject_world n c.requires.truth c.args.at r there c.args.sd c.args.bsl c.args.ids.now c.args.ttl c.args.entropy c.args.payload.now _ c.queue_sent.new.flights _ _ routers (ap (items_seen (confs_in n)) sent ∙ k.seen) happened;
+      frames = subst (λ (rs : List RouterState). AreFramesOver n.domain.routers (confs_of rs) c.queue_sent.new.flights) (sym routers) (same_frames n.domain.routers (confs_in n) c.queue_sent.new.flights _ sent k.frames);
       answer = c.in_ok-out.ensures.out ∙ ap (λ (cs : List RouterConf). told_of cs c.args.at (Some (n.injections + 1)) [] c.in-Ok.effects) c.confs_of-confs.ensures.confs
           ∙ k.out ∙ sym (ap (λ (h : Happened). told n.domain.routers h.made) happened);
     }

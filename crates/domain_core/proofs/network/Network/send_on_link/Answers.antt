@@ -1,12 +1,14 @@
 use Rattle.std.proofs.Common.{◌≡◌, ◌∙◌, List, [], None, sym, ap}
 use Rattle.wire_base.specs.declared.conf.RouterConf.{RouterConf}
+use Rattle.wire_base.specs.model.Control.{Control}
 use Rattle.wire_base.specs.model.Flooding.{send}
 use Rattle.frames_in_flight.specs.Told.{told, told_of}
 use Rattle.frames_in_flight.specs.Flights.{items_seen, push_all_sent}
 use Rattle.domain_core.specs.Held.{state_of, world_in}
+use Rattle.domain_core.specs.Network.{confs_in}
 use Rattle.domain_model.specs.Moves.{replied}
 use Rattle.domain_model.specs.Step.{Happened}
-use Rattle.domain_core.proofs.CarryLaws.{carried_world, same_next, send_is, send_control, send_carried}
+use Rattle.domain_core.proofs.CarryLaws.{carried_world, same_over, same_next, send_is, send_control, send_conf, send_carried}
 use Rattle.domain_core.proofs.RefusalLaws.{up_at_send, link_within, leads_to}
 use Rattle.domain_core.proofs.TransitLaws.{same_frames}
 use Rattle.domain_core.proofs.TurnLaws.{router_there, control_at, same_heard}
@@ -41,9 +43,10 @@ returns-clause-done c =
     let happened = send_is n c.requires.truth c.args.from c.args.to c.args.link r there c.requires.joined in
     let sent : c.queue_sent.new.flights ≡ push_all_sent n.domain.routers c.args.from None n.flights c.in_ok-effects.effects.sent =
     c.in_ok-out.ensures.ok ∙ ap (λ (cs : List RouterConf). push_all_sent cs c.args.from None n.flights c.in_ok-effects.effects.sent) c.confs_of-confs.ensures.confs in
+    let kept : c.sent.new.self.control.conf ≡ r.control.conf = ap (λ (x : Control). x.conf) turned ∙ send_conf n c.requires.truth c.args.from c.args.to c.args.link r there in
     record {
-      world = carried_world n c.args.from r there c.from.result c.from.ensures c.sent.new.self c.queue_sent.new.flights (send r.control c.args.link).control (replied n.domain.routers c.args.from c.args.link (send r.control c.args.link)) _ turned (ap (items_seen n.domain.routers) sent ∙ k.seen) happened;
-      frames = same_frames n.domain.routers c.queue_sent.new.flights _ sent k.frames;
+      world = carried_world n c.args.from r there c.from.result c.from.ensures c.sent.new.self kept c.queue_sent.new.flights (send r.control c.args.link).control (replied n.domain.routers c.args.from c.args.link (send r.control c.args.link)) _ turned (ap (items_seen (confs_in n)) sent ∙ k.seen) happened;
+      frames = same_over n c.args.from r there c.from.result c.from.ensures c.sent.new.self kept c.queue_sent.new.flights (same_frames n.domain.routers (confs_in n) c.queue_sent.new.flights _ sent k.frames);
       answer = c.in_ok-out.ensures.out ∙ ap (λ (cs : List RouterConf). told_of cs c.args.from None [] c.in_ok-effects.effects) c.confs_of-confs.ensures.confs
           ∙ k.out ∙ sym (ap (λ (h : Happened). told n.domain.routers h.made) happened);
     }

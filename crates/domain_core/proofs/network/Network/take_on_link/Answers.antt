@@ -1,31 +1,33 @@
-use Rattle.std.proofs.Common.{◌≡◌, inr, ◌∙◌, ◌≤◌, ℕ, true, false, List, length, slice_get, slice_set, Option, None, option_map, refl, sym, ap, subst}
+use Rattle.std.proofs.Common.{◌≡◌, inr, ◌∙◌, ◌≤◌, ℕ, true, false, List, [], length, slice_get, slice_set, Option, Some, None, option_map, refl, sym, ap, subst}
 use Rattle.wire_base.specs.declared.limits.TheConstants.{MOST_FRAME}
-use Rattle.wire_base.specs.declared.cause.Cause.TheVariants as cause
 use Rattle.wire_base.specs.declared.conf.RouterConf.{RouterConf}
 use Rattle.wire_base.specs.declared.effects.Sent.{Sent}
-use Rattle.wire_base.specs.model.OnFrame.{on_frame}
-use Rattle.domain_model.specs.Moves.{item_lost}
+use Rattle.wire_base.specs.model.OnFrame.{Effects, on_frame}
+use Rattle.replay_text.specs.declared.event.Event.TheVariants.{Take}
 use Rattle.laws_router.specs.State.{RouterState}
 use Rattle.frames_in_flight.specs.declared.flight.Flight.{Flight}
-use Rattle.frames_in_flight.specs.Told.{IsSilent, told, told_of}
-use Rattle.frames_in_flight.specs.Flights.{item_seen, ids_seen, number_of, frames_at, without_frame, push_after, push_all_sent}
+use Rattle.frames_in_flight.specs.Told.{IsSilent, told_of}
+use Rattle.frames_in_flight.specs.Flights.{place_seen, ids_seen, ids_read, number_of, frames_at, without_frame, push_after, push_all_sent}
 use Rattle.domain_core.specs.Answers.{outcome}
 use Rattle.domain_core.specs.Held.{state_of, world_in, heard_in}
-use Rattle.domain_core.specs.Network.{world_of, IsFrameOver}
-use Rattle.domain_model.specs.Step.{Happened, taken_off}
+use Rattle.domain_core.specs.Network.{NetworkState, confs_of, confs_in, seen_of, world_of}
+use Rattle.domain_model.specs.Step.{Happened}
+use Rattle.domain_model.specs.Truth.{router_at}
 use Rattle.domain_model.specs.World.{is_up, queue_over}
-use Rattle.domain_core.proofs.CarryLaws.{set_same, still_world, is_short, unmoved, heard_there, taken_done}
+use Rattle.domain_core.proofs.CarryLaws.{down_dropped, still_world, is_short, unmoved, frame_conf, told_taken, heard_there, taken_done}
+use Rattle.domain_core.proofs.EventLaws.{as_before}
 use Rattle.frames_in_flight.proofs.ToldLaws.{silent_told}
-use Rattle.domain_core.proofs.RefusalLaws.{toward, link_within, leads_to}
-use Rattle.domain_core.proofs.SeenLaws.{none_seen_at, some_seen_at, frames_left}
-use Rattle.domain_core.proofs.TransitLaws.{gone_world, lost_world, same_frames, none_taken, down_taken, unheard, none_heard}
-use Rattle.domain_core.proofs.TurnLaws.{on_ok, with_ok, with_err, router_there, nothing_told, control_at, same_heard}
+use Rattle.domain_core.proofs.ReadBack.{got_some}
+use Rattle.domain_core.proofs.RefusalLaws.{end_is, toward, link_within, leads_to}
+use Rattle.domain_core.proofs.SeenLaws.{none_seen_at}
+use Rattle.domain_core.proofs.TransitLaws.{none_taken, unheard, none_heard}
+use Rattle.domain_core.proofs.TurnLaws.{on_ok, ok_on, err_on, with_ok, with_err, router_there, nothing_told, control_at, confs_kept}
 use Rattle.domain_core.proofs.network.Network.take_on_link.Goals as goal
 
 pub returns-in_default-clause-done : goal.returns-in_default-clause-done
 returns-in_default-clause-done c =
     let w = world_in c.args.self.now in
-    let happened = none_taken w c.args.from c.args.to c.args.i c.args.link c.requires.joined c.args.back c.requires.facing (none_seen_at c.args.self.now.domain.routers c.args.self.now.flights c.args.from c.args.link c.args.i c.in_default.ensures) in
+    let happened = none_taken w c.args.from c.args.to c.args.i c.args.link c.requires.joined c.args.back c.requires.facing (none_seen_at (confs_in (state_of c.args.self.now)) c.args.self.now.flights c.args.from c.args.link c.args.i c.in_default.ensures) in
     record {
       world = sym (ap (λ (h : Happened). h.world) happened);
       frames = c.requires.truth.frames;
@@ -36,39 +38,31 @@ pub returns-in_default-clause-heard : goal.returns-in_default-clause-heard
 returns-in_default-clause-heard c =
     let w = world_in c.args.self.now in
     sym (none_heard w (heard_in c.args.self.now) c.args.from c.args.to c.args.i
-    (ap (λ (l : Option ℕ). slice_get (queue_over w.flights c.args.from l) c.args.i) c.requires.joined ∙ none_seen_at c.args.self.now.domain.routers c.args.self.now.flights c.args.from c.args.link c.args.i c.in_default.ensures))
+    (ap (λ (l : Option ℕ). slice_get (queue_over w.flights c.args.from l) c.args.i) c.requires.joined ∙ none_seen_at (confs_in (state_of c.args.self.now)) c.args.self.now.flights c.args.from c.args.link c.args.i c.in_default.ensures))
 
-pub returns-then-not-is_up-clause-done : goal.returns-then-not-is_up-clause-done
-returns-then-not-is_up-clause-done c =
+pub returns-then-not-is_end_up-clause-done : goal.returns-then-not-is_end_up-clause-done
+returns-then-not-is_end_up-clause-done c =
     let n = state_of c.args.self.now in
-    let r = c.index_mut-router.result.now in
-    let f = c.in-Some.flight in
-    let there = router_there n.routers c.from.result c.args.to r c.from.ensures c.requires.place c.index_mut-router.ensures.value in
-    let w = world_in c.args.self.now in
-    let x = item_seen n.domain.routers f in
-    let down : is_up r.control c.args.back ≡ false = sym c.if-not-is_up.ensures in
-    let happened = down_taken w c.args.from c.args.to c.args.i c.args.link c.requires.joined c.args.back c.requires.facing x r.control (some_seen_at n.domain.routers n.flights c.args.from c.args.link c.args.i f c.in-Some.ensures) (control_at n c.args.to r there) down in
-    with_ok c.drop_flight.result _ _ _ c.drop_flight.ensures.out c.drop_flight.ensures.ok (λ out tells gone. record {
-      world = ap (λ (rs : List RouterState). world_of (record n { routers = rs; flights = c.drop_flight.new.flights })) (ap (λ (k : ℕ). slice_set n.routers k r) c.from.ensures ∙ set_same n.routers c.args.to r there)
-          ∙ gone_world n c.drop_flight.new.flights c.args.from c.args.link c.args.i gone
-          ∙ sym (ap (λ (h : Happened). h.world) happened ∙ lost_world (taken_off w c.args.from c.args.link c.args.i) c.args.to cause.Link x);
-      frames = same_frames n.domain.routers c.drop_flight.new.flights _ gone (frames_left (IsFrameOver n.domain.routers) n.flights c.args.from c.args.link c.args.i c.requires.truth.frames);
-      answer = ap outcome (tells
-          ∙ ap (λ (cs : List RouterConf). option_map (λ (g : Flight). told cs (item_lost c.args.to cause.Link (item_seen cs g))) (slice_get (frames_at n.flights c.args.from c.args.link) c.args.i)) c.confs_of-confs.ensures.confs
-          ∙ ap (λ (o : Option Flight). option_map (λ (g : Flight). told n.domain.routers (item_lost c.args.to cause.Link (item_seen n.domain.routers g))) o) (sym c.in-Some.ensures))
-          ∙ sym (ap (λ (h : Happened). told n.domain.routers h.made) happened);
-    })
+    let here = got_some n.routers c.args.to c.requires.place in
+    let down = end_is (world_in c.args.self.now) c.args.to c.args.back here.0.control false (control_at n c.args.to here.0 here.1) c.if-not-is_end_up.ensures in
+    with_ok c.drop_frame.result _ _ _ c.drop_frame.ensures.out c.drop_frame.ensures.ok (λ out tells gone.
+    let k = down_dropped n c.requires.truth.frames c.args.from c.args.to c.args.link c.args.back c.args.i here.0 here.1 c.requires.joined c.requires.facing down (state_of c.drop_frame.new.self) gone out tells in
+    record { world = k.world; frames = k.frames; answer = k.answer })
 
-pub returns-then-not-is_up-clause-heard : goal.returns-then-not-is_up-clause-heard
-returns-then-not-is_up-clause-heard c =
+pub returns-then-not-is_end_up-clause-heard : goal.returns-then-not-is_end_up-clause-heard
+returns-then-not-is_end_up-clause-heard c =
     let n = state_of c.args.self.now in
-    let r = c.index_mut-router.result.now in
-    let f = c.in-Some.flight in
-    let there = router_there n.routers c.from.result c.args.to r c.from.ensures c.requires.place c.index_mut-router.ensures.value in
-    let down : is_up r.control c.args.back ≡ false = sym c.if-not-is_up.ensures in
-    on_ok c.drop_flight.result _ (same_heard n c.args.to r there c.from.result r c.from.ensures refl
+    let here = got_some n.routers c.args.to c.requires.place in
+    ok_on c.drop_frame.result _ _ c.drop_frame.ensures.ok (λ gone.
+    ap (λ (m : NetworkState). (seen_of m).heard) gone
     ∙ sym (unheard (world_in c.args.self.now) (heard_in c.args.self.now) c.args.from c.args.to c.args.i
-    (toward (world_in c.args.self.now) c.args.to c.args.from c.args.back r.control (control_at n c.args.to r there) c.requires.facing ∙ down)))
+    (toward (world_in c.args.self.now) c.args.to c.args.from c.args.back here.0.control (control_at n c.args.to here.0 here.1) c.requires.facing ∙ end_is (world_in c.args.self.now) c.args.to c.args.back here.0.control false (control_at n c.args.to here.0 here.1) c.if-not-is_end_up.ensures)))
+
+pub returns-then-not-is_end_up-clause-err : goal.returns-then-not-is_end_up-clause-err
+returns-then-not-is_end_up-clause-err c = err_on c.drop_frame.result _ _ c.drop_frame.ensures.err (λ same. as_before c.args.self.now c.drop_frame.new.self (Take c.args.from c.args.to c.args.i) same)
+
+pub returns-then-not-is_end_up-clause-frames : goal.returns-then-not-is_end_up-clause-frames
+returns-then-not-is_end_up-clause-frames c = err_on c.drop_frame.result _ _ c.drop_frame.ensures.err (λ same. ap (λ (m : NetworkState). m.flights) same)
 
 pub frame-requires-clause-link : goal.frame-requires-clause-link
 frame-requires-clause-link c =
@@ -83,7 +77,7 @@ frame-requires-clause-short c =
     let r = c.index_mut-router.result.now in
     let f = c.in-Some.flight in
     let there = router_there n.routers c.from.result c.args.to r c.from.ensures c.requires.place c.index_mut-router.ensures.value in
-    let up : is_up r.control c.args.back ≡ true = sym c.if-not-is_up.ensures in
+    let up : is_up r.control c.args.back ≡ true = end_is (world_in c.args.self.now) c.args.to c.args.back r.control true (control_at n c.args.to r there) c.if-not-is_end_up.ensures in
     subst (λ (octets : List ℕ). length octets ≤ MOST_FRAME) (sym (ap (λ (x : Flight). x.octets) c.flight.view_is)) (is_short n c.requires.truth c.args.from c.args.to c.args.link c.args.back c.args.i r there c.requires.joined up f c.in-Some.ensures)
 
 pub returns-then-is_silent-clause-done : goal.returns-then-is_silent-clause-done
@@ -92,14 +86,14 @@ returns-then-is_silent-clause-done c =
     let r = c.index_mut-router.result.now in
     let f = c.in-Some.flight in
     let there = router_there n.routers c.from.result c.args.to r c.from.ensures c.requires.place c.index_mut-router.ensures.value in
-    let up : is_up r.control c.args.back ≡ true = sym c.if-not-is_up.ensures in
+    let up : is_up r.control c.args.back ≡ true = end_is (world_in c.args.self.now) c.args.to c.args.back r.control true (control_at n c.args.to r there) c.if-not-is_end_up.ensures in
     let done = c.in_ok-effects.ensures.next ∙ ap (λ (octets : List ℕ). on_frame r.control c.args.back octets) (ap (λ (x : Flight). x.octets) c.flight.view_is) in
     let effects = c.in_ok-effects.effects in
     let silent : IsSilent effects = c.is_silent.ensures.0 c.if-is_silent.true in
     let gone : c.remove.new.self ≡ push_all_sent n.domain.routers c.args.to (number_of f) (without_frame n.flights c.args.from c.args.link c.args.i) effects.sent =
     c.remove.ensures ∙ ap (λ (ss : List Sent). push_all_sent n.domain.routers c.args.to (number_of f) (without_frame n.flights c.args.from c.args.link c.args.i) ss) (sym silent.sent) in
     let k = taken_done n c.requires.truth c.args.from c.args.to c.args.link c.args.back c.args.i r there c.requires.joined up f c.in-Some.ensures (without_frame n.flights c.args.from c.args.link c.args.i) refl
-    c.requires.facing c.from.result c.from.ensures c.frame.new.self effects done c.remove.new.self gone (outcome None) (silent_told n.domain.routers c.args.to (number_of f) (ids_seen n.domain.routers f) effects silent) in
+    c.requires.facing c.from.result c.from.ensures c.frame.new.self effects done c.remove.new.self gone (outcome None) (silent_told n.domain.routers c.args.to (number_of f) (ids_seen (confs_in n) f) effects silent) in
     record { world = k.world; frames = k.frames; answer = k.answer }
 
 pub returns-then-is_silent-clause-heard : goal.returns-then-is_silent-clause-heard
@@ -108,7 +102,7 @@ returns-then-is_silent-clause-heard c =
     let r = c.index_mut-router.result.now in
     let f = c.in-Some.flight in
     let there = router_there n.routers c.from.result c.args.to r c.from.ensures c.requires.place c.index_mut-router.ensures.value in
-    let up : is_up r.control c.args.back ≡ true = sym c.if-not-is_up.ensures in
+    let up : is_up r.control c.args.back ≡ true = end_is (world_in c.args.self.now) c.args.to c.args.back r.control true (control_at n c.args.to r there) c.if-not-is_end_up.ensures in
     heard_there n c.requires.truth c.args.from c.args.to c.args.link c.args.back c.args.i r there c.requires.joined up f c.in-Some.ensures c.requires.facing c.from.result c.from.ensures c.frame.new.self c.in_ok-effects.ensures.heard
 
 pub queue_taken-requires-clause-known : goal.queue_taken-requires-clause-known
@@ -120,32 +114,43 @@ returns-clause-err c =
     let r = c.index_mut-router.result.now in
     let f = c.in-Some.flight in
     let there = router_there n.routers c.from.result c.args.to r c.from.ensures c.requires.place c.index_mut-router.ensures.value in
-    let up : is_up r.control c.args.back ≡ true = sym c.if-not-is_up.ensures in
+    let up : is_up r.control c.args.back ≡ true = end_is (world_in c.args.self.now) c.args.to c.args.back r.control true (control_at n c.args.to r there) c.if-not-is_end_up.ensures in
     let done = c.in_ok-effects.ensures.next ∙ ap (λ (octets : List ℕ). on_frame r.control c.args.back octets) (ap (λ (x : Flight). x.octets) c.flight.view_is) in
+    let effects = c.in_ok-effects.effects in
+    let kept = frame_conf n c.requires.truth c.args.from c.args.to c.args.link c.args.back c.args.i r there c.requires.joined up f c.in-Some.ensures c.frame.new.self.control effects done in
     with_err c.queue_taken.result _ _ _ c.queue_taken.ensures.err c.queue_taken.ensures.memory (λ same tells. record {
       world = ap (λ (fs : List (List (List Flight))). world_of (record n { routers = slice_set n.routers c.from.result c.frame.new.self; flights = fs })) same
-          ∙ still_world n c.args.to r there c.from.result c.from.ensures c.frame.new.self (unmoved n c.requires.truth c.args.from c.args.to c.args.link c.args.back c.args.i r there c.requires.joined up f c.in-Some.ensures c.frame.new.self.control c.in_ok-effects.effects done tells);
+          ∙ still_world n c.args.to r there c.from.result c.from.ensures c.frame.new.self kept (unmoved n c.requires.truth c.args.from c.args.to c.args.link c.args.back c.args.i r there c.requires.joined up f c.in-Some.ensures c.frame.new.self.control effects done tells);
       heard = inr (heard_there n c.requires.truth c.args.from c.args.to c.args.link c.args.back c.args.i r there c.requires.joined up f c.in-Some.ensures c.requires.facing c.from.result c.from.ensures c.frame.new.self c.in_ok-effects.ensures.heard);
     })
 
 pub returns-clause-done : goal.returns-clause-done
 returns-clause-done c =
     let n = state_of c.args.self.now in
+    let os = n.domain.routers in
     let r = c.index_mut-router.result.now in
     let f = c.in-Some.flight in
     let there = router_there n.routers c.from.result c.args.to r c.from.ensures c.requires.place c.index_mut-router.ensures.value in
-    let up : is_up r.control c.args.back ≡ true = sym c.if-not-is_up.ensures in
+    let up : is_up r.control c.args.back ≡ true = end_is (world_in c.args.self.now) c.args.to c.args.back r.control true (control_at n c.args.to r there) c.if-not-is_end_up.ensures in
     let done = c.in_ok-effects.ensures.next ∙ ap (λ (octets : List ℕ). on_frame r.control c.args.back octets) (ap (λ (x : Flight). x.octets) c.flight.view_is) in
     let confs = c.confs_of-confs.ensures.confs in
     let effects = c.in_ok-effects.effects in
     let flights = c.queue_taken.new.flights in
+    let kept = frame_conf n c.requires.truth c.args.from c.args.to c.args.link c.args.back c.args.i r there c.requires.joined up f c.in-Some.ensures c.frame.new.self.control effects done in
+    let reader = option_map (λ q. q.now) c.reader_if_dropped-reader.result in
+    let read : (effects.drops ≡ [] → ⊥) → reader ≡ router_at (confs_in n) (place_seen os f) = λ some.
+    c.reader_if_dropped-reader.ensures.reader some
+    ∙ ap (λ (rs : List RouterState). router_at (confs_of rs) (place_seen c.confs_of-confs.result.now f)) c.as_slice-routers.ensures.value
+    ∙ ap (λ (cs : List RouterConf). router_at cs (place_seen c.confs_of-confs.result.now f)) (confs_kept n c.args.to r there c.from.result c.frame.new.self c.from.ensures kept)
+    ∙ ap (λ (cs : List RouterConf). router_at (confs_in n) (place_seen cs f)) confs in
     with_ok c.queue_taken.result _ _ _ c.queue_taken.ensures.out c.queue_taken.ensures.ok (λ out tells put.
     let pushed = put
     ∙ ap (λ (cs : List RouterConf). push_after cs c.args.to effects.sent n.flights c.args.from c.args.link c.args.i (slice_get (frames_at n.flights c.args.from c.args.link) c.args.i)) confs
-    ∙ ap (λ (o : Option Flight). push_after n.domain.routers c.args.to effects.sent n.flights c.args.from c.args.link c.args.i o) (sym c.in-Some.ensures) in
+    ∙ ap (λ (o : Option Flight). push_after os c.args.to effects.sent n.flights c.args.from c.args.link c.args.i o) (sym c.in-Some.ensures) in
     let answer = ap outcome (tells
-    ∙ ap (λ (cs : List RouterConf). option_map (λ (g : Flight). told_of cs c.args.to (number_of g) (ids_seen cs g) effects) (slice_get (frames_at n.flights c.args.from c.args.link) c.args.i)) confs
-    ∙ ap (λ (o : Option Flight). option_map (λ (g : Flight). told_of n.domain.routers c.args.to (number_of g) (ids_seen n.domain.routers g) effects) o) (sym c.in-Some.ensures)) in
+    ∙ ap (λ (cs : List RouterConf). option_map (λ (g : Flight). told_of cs c.args.to (number_of g) (ids_read reader g) effects) (slice_get (frames_at n.flights c.args.from c.args.link) c.args.i)) confs
+    ∙ ap (λ (o : Option Flight). option_map (λ (g : Flight). told_of os c.args.to (number_of g) (ids_read reader g) effects) o) (sym c.in-Some.ensures))
+    ∙ told_taken n c.requires.truth c.args.from c.args.to c.args.link c.args.back c.args.i r there c.requires.joined up f c.in-Some.ensures effects reader read in
     let k = taken_done n c.requires.truth c.args.from c.args.to c.args.link c.args.back c.args.i r there c.requires.joined up f c.in-Some.ensures (without_frame n.flights c.args.from c.args.link c.args.i) refl
     c.requires.facing c.from.result c.from.ensures c.frame.new.self effects done flights pushed (outcome out) answer in
     record { world = k.world; frames = k.frames; answer = k.answer })
@@ -156,5 +161,5 @@ returns-clause-heard c =
     let r = c.index_mut-router.result.now in
     let f = c.in-Some.flight in
     let there = router_there n.routers c.from.result c.args.to r c.from.ensures c.requires.place c.index_mut-router.ensures.value in
-    let up : is_up r.control c.args.back ≡ true = sym c.if-not-is_up.ensures in
+    let up : is_up r.control c.args.back ≡ true = end_is (world_in c.args.self.now) c.args.to c.args.back r.control true (control_at n c.args.to r there) c.if-not-is_end_up.ensures in
     on_ok c.queue_taken.result _ (heard_there n c.requires.truth c.args.from c.args.to c.args.link c.args.back c.args.i r there c.requires.joined up f c.in-Some.ensures c.requires.facing c.from.result c.from.ensures c.frame.new.self c.in_ok-effects.ensures.heard)
