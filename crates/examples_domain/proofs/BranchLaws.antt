@@ -5,13 +5,17 @@ use Rattle.std.proofs.lemmas.Bool.{leb-true}
 use Rattle.wire_base.specs.declared.limits.TheConstants.{REFRESH_LIFE}
 use Rattle.wire_base.specs.declared.conf.RouterConf.{RouterConf}
 use Rattle.wire_base.specs.declared.entry.Entry.{Entry}
-use Rattle.wire_base.specs.model.Configuration.{IsSound, IsValid, sub_octets}
+use Rattle.wire_base.specs.model.Configuration.{IsConsistent, IsSound, IsValid, KeepsKinds, sub_octets}
 use Rattle.wire_base.specs.model.Control.{own_entry_in, IsFlood}
 use Rattle.wire_base.specs.model.OwnLsp.{own_lsp, own_content}
 use Rattle.laws_router.specs.State.{IsShort}
 use Rattle.domain_model.specs.Truth.{IsAmong, IsTrueEntry, IsTrueControl, IsTrueItem, IsTruthful}
 use Rattle.domain_model.specs.World.{peer_place}
+use Rattle.domain_model.proofs.EachLaws.{each_got}
 use Rattle.domain_model.proofs.FloodTruth.{own_true}
+use Rattle.laws_members.specs.Becoming.{IsEarlier}
+use Rattle.laws_members.proofs.DomainLaws.{become_self}
+use Rattle.laws_members.proofs.MeaningLaws.{earlier_self}
 use Rattle.examples_model.proofs.Validity.{router_sound, two_links, one_link}
 use Rattle.laws_ledger.proofs.RunLaws.{none_queued}
 use Rattle.examples_domain.specs.Branch.{branch_a, branch_b, branch_p, branch_c, branch, lsp_of, lsps, rest, at_rest}
@@ -34,8 +38,8 @@ p_sound = router_sound 80 3 false [] (1 ∷ 4 ∷ []) (record {
   macs_differ = ((refl, tt), (tt, tt));
 })
 
-pub branch_valid : IsValid branch
-branch_valid = record {
+consistent : IsConsistent branch
+consistent = record {
   some = omega arith;
   few = omega arith;
   sound = (
@@ -57,6 +61,12 @@ branch_valid = record {
   );
 }
 
+pub branch_valid : IsValid branch
+branch_valid = record {
+  consistent = consistent;
+  unchanged = (record { away = refl; past = refl }, (record { away = refl; past = refl }, (record { away = refl; past = refl }, (record { away = refl; past = refl }, tt))));
+}
+
 -- ---- LSDBs
 
 among_a : IsAmong branch.routers branch_a
@@ -71,12 +81,16 @@ among_p = record { place = 2; there = refl }
 among_c : IsAmong branch.routers branch_c
 among_c = record { place = 3; there = refl }
 
+-- each is configured as in the domain file
+own_earlier : (r : RouterConf) → IsAmong branch.routers r → IsEarlier r r
+own_earlier r among = earlier_self r (each_got IsSound branch.routers among.place r consistent.sound among.there) (each_got KeepsKinds branch.routers among.place r consistent.kinds among.there)
+
 entries_true : AllByRecursion (IsTrueEntry branch.routers) lsps
 entries_true = (
-  own_true branch.routers branch_a (true ∷ true ∷ []) 1 among_a refl (omega arith) (omega arith),
+  own_true branch.routers branch_a (true ∷ true ∷ []) 1 among_a (own_earlier branch_a among_a) refl (omega arith) (omega arith),
   (
-    own_true branch.routers branch_b (true ∷ []) 1 among_b refl (omega arith) (omega arith),
-    (own_true branch.routers branch_p (true ∷ true ∷ []) 1 among_p refl (omega arith) (omega arith), (own_true branch.routers branch_c (true ∷ []) 1 among_c refl (omega arith) (omega arith), tt)),
+    own_true branch.routers branch_b (true ∷ []) 1 among_b (own_earlier branch_b among_b) refl (omega arith) (omega arith),
+    (own_true branch.routers branch_p (true ∷ true ∷ []) 1 among_p (own_earlier branch_p among_p) refl (omega arith) (omega arith), (own_true branch.routers branch_c (true ∷ []) 1 among_c (own_earlier branch_c among_c) refl (omega arith) (omega arith), tt)),
   ),
 )
 
@@ -101,7 +115,7 @@ control_true r among sound flood links own = record {
 controls : AllByRecursion (IsTrueControl branch.routers) (map rest branch.routers)
 unfolding own_lsp
 controls =
-    let sound = branch_valid.sound in (
+    let sound = consistent.sound in (
       control_true branch_a among_a sound.0 (record { few = omega arith; due_up = tt; rows = tt; in_order = tt }) refl (lsp_of branch_a, refl, omega arith),
       (
         control_true branch_b among_b sound.1.0 (record { few = omega arith; due_up = tt; rows = tt; in_order = tt }) refl (lsp_of branch_b, refl, omega arith),
@@ -115,7 +129,8 @@ controls =
 pub rest_true : IsTruthful at_rest
 rest_true = record {
   valid = branch_valid;
-  confs = refl;
+  now = consistent;
+  become = become_self branch.routers;
   controls = controls;
   queues = refl;
   items = λ a link. none_queued (IsTrueItem branch.routers 0 (peer_place branch.routers a link)) branch.routers a link;

@@ -16,7 +16,6 @@ use Rattle.laws_course.proofs.OnceLaws.{small_fit}
 use Rattle.examples_domain.specs.Branch.{branch_a, branch_b, branch_p, branch_c, branch, rest, at_rest, branch_view, begun, the_injection, enters, taken}
 use Rattle.examples_domain.proofs.BranchLaws.{rest_true}
 use Rattle.domain_model.specs.Run.{goes_on}
-use Rattle.wire_base.specs.model.Graph.{covers}
 use Rattle.examples_domain.proofs.OnLiterals.{views_on_literals, hops_on_literals, runs_on_literals}
 
 -- ---- the view

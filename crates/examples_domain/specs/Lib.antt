@@ -1,3 +1,4 @@
 pub mod Branch
+pub mod Members
 pub mod Worked
 pub mod Worlds

@@ -7,6 +7,7 @@ mod control_events;
 mod courses;
 mod ends;
 mod loops;
+mod members;
 mod once;
 mod packet_events;
 mod refusals;
@@ -17,6 +18,7 @@ pub use control_events::{a_lost_pdu, a_pdu_arrives, a_pdu_comes_again, pair_send
 pub use courses::{a_copy_on_its_course, copies_off_their_course};
 pub use ends::{a_copy_is_lost, a_copy_meets_a_down_end, a_tunnel_ends};
 pub use loops::views_loop_until_the_ttl_ends;
+pub use members::{a_label_changes, a_sub_domain_is_left_and_joined, which_changes_are_refused};
 pub use once::{premises_can_be_met, three_egresses_deliver};
 pub use packet_events::{
     copies_end_in_a_tunnel, fork_sends_in_a_tunnel, fork_sends_in_two_tunnels,

@@ -21,7 +21,7 @@ use Rattle.domain_model.specs.declared.lines.DropLine.{DropLine}
 use Rattle.domain_model.specs.World.{WorldState, peer_place, queue_at}
 use Rattle.domain_model.specs.Moves.{Sending, Made, joined_made, entering_item, hop_made, inject_made}
 use Rattle.domain_model.specs.Step.{Happened, makes, counted, happens}
-use Rattle.domain_model.specs.Truth.{IsTrueItem, IsTruthful, EventFits}
+use Rattle.domain_model.specs.Truth.{IsTrueItem, IsTruthful, confs_now, domain_now, EventFits}
 use Rattle.domain_model.proofs.EachLaws.{each_from, each_weaker, each_mapped, each_flat}
 use Rattle.domain_model.proofs.QueueLaws.{AllQueues}
 use Rattle.laws_route.proofs.HopLemmas.{has-filter}
@@ -32,12 +32,13 @@ use Rattle.laws_ledger.specs.Ledger.{Injection, injection_of, entered, triple_fo
 use Rattle.laws_ledger.proofs.ShapeLaws.{IsEntered, Shape, Quiet, Dropped, Taken, Entered, shape_of}
 use Rattle.laws_ledger.proofs.OutcomeLaws.{others, IsEnded, group_named}
 use Rattle.laws_ledger.proofs.MadeLaws.{picks, own, IsHopSent, IsHopDrop, IsGroupLost, hop_made_is}
-use Rattle.laws_ledger.proofs.WorldLaws.{conf_at}
+use Rattle.laws_ledger.proofs.WorldLaws.{now_at}
 use Rattle.laws_ledger.proofs.CountLaws.{injection_there}
 use Rattle.laws_course.specs.Course.{next_for, FitTunnels, IsOnCourse, IsReachable, IsCovered}
 use Rattle.laws_course.proofs.HopLaws.{IsThere, copy_course, hop_safe}
-use Rattle.laws_course.proofs.StepLaws.{drop_named, listed_has, IsOther, drop_parts, facts, r_among}
-use Rattle.laws_course.proofs.KeptLaws.{Keeps, IsKeptBy, made_kept}
+use Rattle.laws_course.proofs.ChangedLaws.{Keeps}
+use Rattle.laws_course.proofs.StepLaws.{drop_named, listed_has, IsOther, drop_parts, facts, r_among, course_back}
+use Rattle.laws_course.proofs.KeptLaws.{IsKeptBy, made_kept}
 
 -- a drop of a hop has no id of the router's own, but where no TTL came
 drop_apart : (confs : List RouterConf) (a : ℕ) (q : RouterConf) (g : List ViewNode) (u : ℕ) (x : DataItem) (ttl k : ℕ) (l : DropLine) → IsHopDrop confs a q g u x ttl l → has l.ids k ≡ true → (ttl ≡ 0) ⊎ (is_this (own confs a q g u x ttl) k ≡ false)
@@ -107,7 +108,7 @@ module _ (w : WorldState) (truth : IsTruthful w) (s : ℕ) (ingress : Control) (
         by (inr e) = true≢false (sym here ∙ e)
 
     -- what is known of the packet at the ingress
-    there : IsCovered r g u i k → (y : ℕ) → next_for r g (triple_for i k) i.entropy k u ≡ Some y → p.triple ≡ triple_for i k → IsThere w.domain truth.valid g (facts w truth s ingress at).graph (facts w truth s ingress at).nodes r (r_among w truth s ingress at) u k (facts w truth s ingress at).own x u (i.ttl + 1)
+    there : IsCovered r g u i k → (y : ℕ) → next_for r g (triple_for i k) i.entropy k u ≡ Some y → p.triple ≡ triple_for i k → IsThere (domain_now w) truth.now g (facts w truth s ingress at).graph (facts w truth s ingress at).nodes r (r_among w truth s ingress at) u k (facts w truth s ingress at).own x u (i.ttl + 1)
     there c y goes same =
         let known = facts w truth s ingress at in
         let goes_x : next_for r g p.triple i.entropy k u ≡ Some y = subst (λ (t : Triple). next_for r g t i.entropy k u ≡ Some y) (sym same) goes in
@@ -138,8 +139,9 @@ module _ (w : WorldState) (truth : IsTruthful w) (s : ℕ) (ingress : Control) (
             let same = of_set e in
             let t = there c y goes same in
             let fit : FitTunnels g (next_for r g p.triple i.entropy k) u = subst (λ (z : Triple). FitTunnels g (next_for r g z i.entropy k) u) (sym same) c.tunnels in
-            good_hop (λ z h named. copy_course w.domain truth.valid g known.graph known.nodes r (r_among w truth s ingress at) u k known.own x u (i.ttl + 1) t s r (conf_at w truth s ingress at) refl z h named fit)
-            (λ l h named. hop_safe w.domain truth.valid g known.graph known.nodes r (r_among w truth s ingress at) u k known.own x u (i.ttl + 1) t s r (conf_at w truth s ingress at) refl known.leads l h named)
+            good_hop (λ z h named. course_back w truth s ingress at k s h.way.link (record x { bift = h.way.bift; ids = h.ids; ttl = h.left; outer = h.way.outer })
+            (copy_course (domain_now w) truth.now g known.graph known.nodes r (r_among w truth s ingress at) u k known.own x u (i.ttl + 1) t confs s r (now_at w truth s ingress at) refl z h named fit))
+            (λ l h named. hop_safe (domain_now w) truth.now g known.graph known.nodes r (r_among w truth s ingress at) u k known.own x u (i.ttl + 1) t confs s r (now_at w truth s ingress at) refl known.now known.leads l h named)
         by false e =
             good_hop (λ z h named. absurd (true≢false (sym (group_named (own confs s r g u x (i.ttl + 1)) (picks confs s r g u x (i.ttl + 1)) x.ids (i.ttl + 1) h.node h.ids h.left k h.group named).0 ∙ e)))
             (λ l h named. true≢false (sym (drop_named confs s r g u x (i.ttl + 1) k l h named) ∙ e))
@@ -175,9 +177,9 @@ module _ (w : WorldState) (truth : IsTruthful w) (s : ℕ) (ingress : Control) (
 
   -- no copy has the number yet
   none_yet : w.injections < n → AllQueues Here w.flights
-  none_yet later a link = each_weaker (IsTrueItem confs w.injections (peer_place confs a link)) (Here a link) one (queue_at w.flights a link) (truth.items a link)
+  none_yet later a link = each_weaker (IsTrueItem (confs_now w) w.injections (peer_place confs a link)) (Here a link) one (queue_at w.flights a link) (truth.items a link)
     where
-      one : (y : Item) → IsTrueItem confs w.injections (peer_place confs a link) y → Here a link y
+      one : (y : Item) → IsTrueItem (confs_now w) w.injections (peer_place confs a link) y → Here a link y
       one (ControlItem p) h = tt
       one (PacketItem y) h = λ number named. (let made = h.made in absurd (omega (arith, number, made, later)))
 

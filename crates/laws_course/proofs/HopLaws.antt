@@ -13,7 +13,7 @@ use Rattle.wire_base.specs.declared.view.ViewEdge.{ViewEdge}
 use Rattle.wire_base.specs.declared.view.ViewNode.{ViewNode}
 use Rattle.wire_base.specs.declared.view.ViewSub.{ViewSub}
 use Rattle.wire_base.specs.model.Choice.{choose, choice, end_toward, is_direct, is_length}
-use Rattle.wire_base.specs.model.Configuration.{DomainConf, IsValid}
+use Rattle.wire_base.specs.model.Configuration.{DomainConf, IsConsistent}
 use Rattle.wire_base.specs.model.Graph.{IsGraph, edges_of, is_overloaded, owner, covers_at, node_covers, covers, node_bift, has_id_at, place_in}
 use Rattle.wire_base.specs.model.Hop.{has, is_this}
 use Rattle.wire_base.specs.model.HopCount.{follow, hops, tunnel_links}
@@ -41,7 +41,7 @@ use Rattle.laws_ledger.proofs.OutcomeLaws.{others, IsGroup, IsEnded}
 use Rattle.laws_ledger.proofs.CopyLaws.{IsNearWay, IsFarWay, HasWay}
 use Rattle.laws_ledger.proofs.MadeLaws.{picks, own, IsHopSent, IsHopDrop, IsGroupLost}
 use Rattle.laws_course.specs.Course.{next_for, Follows, IsPassed, FitTunnels, node_by, node_at, node_of, target_at, HasLinks, IsOnCourse}
-use Rattle.laws_course.proofs.KnownLaws.{each_contained}
+use Rattle.laws_course.proofs.KnownLaws.{each_contained, IsOfNow}
 use Rattle.laws_course.proofs.FollowLaws.{follow-down, follow-zero, follow-next, passed-next, Follows-each}
 use Rattle.laws_course.proofs.NodeLaws.{router_at, peer_node, prefix_is, router_found, own_from}
 
@@ -78,7 +78,7 @@ length_is : (o : Option ℕ) (m : ℕ) → is_length o m ≡ true → o ≡ Some
 length_is None m h = absurd (false≢true h)
 length_is (Some n) m h = ap (λ (z : ℕ). Some z) (eqb-true n m h)
 
-module _ (d : DomainConf) (valid : IsValid d) (g : List ViewNode) (graph : IsGraph g) (nodes : AllByRecursion (IsRouterNode d.routers) g) (r : RouterConf) (among : IsAmong d.routers r) (u k : ℕ) (in_u : u < length g) where
+module _ (d : DomainConf) (valid : IsConsistent d) (g : List ViewNode) (graph : IsGraph g) (nodes : AllByRecursion (IsRouterNode d.routers) g) (r : RouterConf) (among : IsAmong d.routers r) (u k : ℕ) (in_u : u < length g) where
   -- where the packet's copies go next for the id
   abbrev pub next : DataItem → ℕ → Option ℕ
   next x y = next_for r g x.triple x.entropy k y
@@ -189,12 +189,13 @@ module _ (d : DomainConf) (valid : IsValid d) (g : List ViewNode) (graph : IsGra
 
     -- ---- the copy for the id
 
-    module _ (a : ℕ) (q : RouterConf) (at : slice_get d.routers a ≡ Some q) (node : node_place g q.system ≡ here) where
+    -- the places that interfaces lead to are those in `os`
+    module _ (os : List RouterConf) (a : ℕ) (q : RouterConf) (at : slice_get d.routers a ≡ Some q) (node : node_place g q.system ≡ here) where
       q_among : IsAmong d.routers q
       q_among = record { place = a; there = at }
 
       -- all routers choose alike
-      same_choice : (j : ℕ) → picks d.routers a q g here x ttl j ≡ choose g r.kinds r.table x.triple (x.entropy % 16) here j
+      same_choice : (j : ℕ) → picks os a q g here x ttl j ≡ choose g r.kinds r.table x.triple (x.entropy % 16) here j
       same_choice j =
           let same = alike d valid r q among q_among in
           ap (λ (n : ℕ). choose g q.kinds q.table x.triple n here j) (class_is x)
@@ -207,12 +208,12 @@ module _ (d : DomainConf) (valid : IsValid d) (g : List ViewNode) (graph : IsGra
       -- what a group of ids says of one of them
       record IsMember (y : ℕ) : Type 0 where
         named : has x.ids k ≡ true
-        other : is_this (own d.routers a q g here x ttl) k ≡ false
+        other : is_this (own os a q g here x ttl) k ≡ false
         goes : next x here ≡ Some y
 
-      not_own : (ks : List ℕ) (test : ℕ → Bool) → ks ≡ filter test (others (own d.routers a q g here x ttl) x.ids) → has ks k ≡ true → (has x.ids k ≡ true) × (is_this (own d.routers a q g here x ttl) k ≡ false) × (test k ≡ true)
+      not_own : (ks : List ℕ) (test : ℕ → Bool) → ks ≡ filter test (others (own os a q g here x ttl) x.ids) → has ks k ≡ true → (has x.ids k ≡ true) × (is_this (own os a q g here x ttl) k ≡ false) × (test k ≡ true)
       not_own ks test is h =
-          let mine = own d.routers a q g here x ttl in
+          let mine = own os a q g here x ttl in
           let a1 : (has (others mine x.ids) k && test k) ≡ true = sym (has-filter test (others mine x.ids) k) ∙ ap (λ (l : List ℕ). has l k) (sym is) ∙ h in
           let p = and_parts (has (others mine x.ids) k) (test k) a1 in
           let b1 : (has x.ids k && not (is_this mine k)) ≡ true = sym (has-filter (λ j. not (is_this mine j)) x.ids k) ∙ p.0 in
@@ -227,10 +228,10 @@ module _ (d : DomainConf) (valid : IsValid d) (g : List ViewNode) (graph : IsGra
       this_some None y h = absurd (false≢true h)
       this_some (Some z) y h = ap (λ (n : ℕ). Some n) (sym (eqb-true y z h))
 
-      member_of : (y : ℕ) (ks : List ℕ) (left : ℕ) → IsGroup (own d.routers a q g here x ttl) (picks d.routers a q g here x ttl) x.ids ttl y ks left → has ks k ≡ true → IsMember y
+      member_of : (y : ℕ) (ks : List ℕ) (left : ℕ) → IsGroup (own os a q g here x ttl) (picks os a q g here x ttl) x.ids ttl y ks left → has ks k ≡ true → IsMember y
       member_of y ks left group h =
-          let p = not_own ks (λ j. is_this (picks d.routers a q g here x ttl j) y) group.those h in
-          record { named = p.0; other = p.1; goes = sym (same_choice k) ∙ this_some (picks d.routers a q g here x ttl k) y p.2 }
+          let p = not_own ks (λ j. is_this (picks os a q g here x ttl j) y) group.those h in
+          record { named = p.0; other = p.1; goes = sym (same_choice k) ∙ this_some (picks os a q g here x ttl k) y p.2 }
 
       way_facts : (y : ℕ) (w : HasWay q g here x.triple y) → IsOnWay g here y i.last → (y ≡ i.last) ⊎ (is_overloaded g y ≡ false) → y < length g → (here ≡ y → ⊥) → next x here ≡ Some y → FitTunnels g (next x) u
           → (z : DataItem) → z.outer ≡ w.outer → WayFacts y (node_at d.routers g (peer_place d.routers a w.link)) (target_at d.routers g (peer_place d.routers a w.link) z) w.outer
@@ -260,7 +261,7 @@ module _ (d : DomainConf) (valid : IsValid d) (g : List ViewNode) (graph : IsGra
               some_step (Some v) e h = (v, e, h)
 
       -- the copy for the id goes on its course
-      pub copy_course : (s : Sending) (h : IsHopSent d.routers a q g here x ttl s) → has h.ids k ≡ true → FitTunnels g (next x) u
+      pub copy_course : (s : Sending) (h : IsHopSent os a q g here x ttl s) → has h.ids k ≡ true → FitTunnels g (next x) u
           → IsOnCourse d.routers r g u k a (peer_place d.routers a h.way.link) (record x { bift = h.way.bift; ids = h.ids; ttl = h.left; outer = h.way.outer })
       copy_course s h named fit =
           let item : DataItem = record x { bift = h.way.bift; ids = h.ids; ttl = h.left; outer = h.way.outer } in
@@ -340,73 +341,74 @@ module _ (d : DomainConf) (valid : IsValid d) (g : List ViewNode) (graph : IsGra
           by None e h = absurd (false≢true h)
           by (Some n) e h = at_node n e h (is_direct g here y) refl
 
-      -- the id isn't the router's own where it goes on
-      own_here : has_id_at g x.triple.sd k here ≡ true → is_this (own d.routers a q g here x ttl) k ≡ true
-      own_here h =
-          let mine : own_id q x.triple.sd ≡ Some k = own_from d valid g graph nodes here x.triple.sd k a q at i.inside node h (owner_some g x.triple.sd k i.last i.owns) in
-          ap (λ (o : Option ℕ). is_this o k) mine ∙ eq-eqb k k refl
+      module _ (now : IsOfNow q g) where
+        -- the id isn't the router's own where it goes on
+        own_here : has_id_at g x.triple.sd k here ≡ true → is_this (own os a q g here x ttl) k ≡ true
+        own_here h =
+            let mine : own_id q x.triple.sd ≡ Some k = own_from d valid g graph nodes here x.triple.sd k a q at i.inside node now h (owner_some g x.triple.sd k i.last i.owns) in
+            ap (λ (o : Option ℕ). is_this o k) mine ∙ eq-eqb k k refl
 
-      owner_here : here ≡ i.last → has_id_at g x.triple.sd k here ≡ true
-      owner_here e = let o = owner-is g x.triple.sd k i.last i.owns in ap (has_id_at g x.triple.sd k) e ∙ o.has
+        owner_here : here ≡ i.last → has_id_at g x.triple.sd k here ≡ true
+        owner_here e = let o = owner-is g x.triple.sd k i.last i.owns in ap (has_id_at g x.triple.sd k) e ∙ o.has
 
-      away : is_this (own d.routers a q g here x ttl) k ≡ false → here ≡ i.last → ⊥
-      away other e = true≢false (sym (own_here (owner_here e)) ∙ other)
+        away : is_this (own os a q g here x ttl) k ≡ false → here ≡ i.last → ⊥
+        away other e = true≢false (sym (own_here (owner_here e)) ∙ other)
 
-      abbrev mine : Option ℕ
-      mine = own d.routers a q g here x ttl
+        abbrev mine : Option ℕ
+        mine = own os a q g here x ttl
 
-      abbrev pick : ℕ → Option ℕ
-      pick = picks d.routers a q g here x ttl
+        abbrev pick : ℕ → Option ℕ
+        pick = picks os a q g here x ttl
 
-      not_here : is_this mine k ≡ false → has_id_at g x.triple.sd k here ≡ false
-      not_here other = by (has_id_at g x.triple.sd k here) refl
-        where
-          by : (b : Bool) → has_id_at g x.triple.sd k here ≡ b → b ≡ false
-          by true e = absurd (true≢false (sym (own_here e) ∙ other))
-          by false e = refl
+        not_here : is_this mine k ≡ false → has_id_at g x.triple.sd k here ≡ false
+        not_here other = by (has_id_at g x.triple.sd k here) refl
+          where
+            by : (b : Bool) → has_id_at g x.triple.sd k here ≡ b → b ≡ false
+            by true e = absurd (true≢false (sym (own_here e) ∙ other))
+            by false e = refl
 
-      -- it has a choice there
-      pick_some : is_this mine k ≡ false → is_some (pick k) ≡ true
-      unfolding hops
-      pick_some other =
-          let y = follow-next (next x) (has_id_at g x.triple.sd k) (length g) here i.left i.hops_left (not_here other) in
-          ap (λ (o : Option ℕ). is_some o) (same_choice k ∙ y.1)
+        -- it has a choice there
+        pick_some : is_this mine k ≡ false → is_some (pick k) ≡ true
+        unfolding hops
+        pick_some other =
+            let y = follow-next (next x) (has_id_at g x.triple.sd k) (length g) here i.left i.hops_left (not_here other) in
+            ap (λ (o : Option ℕ). is_some o) (same_choice k ∙ y.1)
 
-      -- and a TTL
-      ttl_left : is_this mine k ≡ false → i.left ≡ 0 → ⊥
-      unfolding hops
-      ttl_left other zero_left =
-          let ends = follow-zero (next x) (has_id_at g x.triple.sd k) (length g) here (i.hops_left ∙ ap (λ (n : ℕ). Some n) zero_left) in
-          true≢false (sym (own_here ends) ∙ other)
+        -- and a TTL
+        ttl_left : is_this mine k ≡ false → i.left ≡ 0 → ⊥
+        unfolding hops
+        ttl_left other zero_left =
+            let ends = follow-zero (next x) (has_id_at g x.triple.sd k) (length g) here (i.hops_left ∙ ap (λ (n : ℕ). Some n) zero_left) in
+            true≢false (sym (own_here ends) ∙ other)
 
-      pub hop_safe : LeadsToEnds q g → (l : DropLine) → IsHopDrop d.routers a q g here x ttl l → has l.ids k ≡ true → ⊥
-      hop_safe leads l h named = by h.reason (listed_has h.ids (ap (λ (z : DropLine). has z.ids k) (sym h.is) ∙ named))
-        where
-          listed_has : (ks : List ℕ) → has (listed ks) k ≡ true → has ks k ≡ true
-          listed_has ks t = (and_parts (has ks k) (nat_le k 65535) (sym (has-filter (λ j. nat_le j 65535) ks k) ∙ t)).0
+        pub hop_safe : LeadsToEnds q g → (l : DropLine) → IsHopDrop os a q g here x ttl l → has l.ids k ≡ true → ⊥
+        hop_safe leads l h named = by h.reason (listed_has h.ids (ap (λ (z : DropLine). has z.ids k) (sym h.is) ∙ named))
+          where
+            listed_has : (ks : List ℕ) → has (listed ks) k ≡ true → has ks k ≡ true
+            listed_has ks t = (and_parts (has ks k) (nat_le k 65535) (sym (has-filter (λ j. nat_le j 65535) ks k) ∙ t)).0
 
-          turned : (b : Bool) → not b ≡ true → b ≡ false
-          turned true h = absurd (false≢true h)
-          turned false h = refl
+            turned : (b : Bool) → not b ≡ true → b ≡ false
+            turned true h = absurd (false≢true h)
+            turned false h = refl
 
-          no_choice : (b : Bool) → b ≡ true → not b ≡ true → ⊥
-          no_choice true e h = false≢true h
-          no_choice false e h = false≢true e
+            no_choice : (b : Bool) → b ≡ true → not b ≡ true → ⊥
+            no_choice true e h = false≢true h
+            no_choice false e h = false≢true e
 
-          ended : (ks : List ℕ) → IsEnded mine pick x.ids ttl ks → has ks k ≡ true → ⊥
-          ended ks (inl e) t = (let lasts = i.lasts in omega (arith, lasts, e.0))
-          ended ks (inr e) t = (let lasts = i.lasts in let p = not_own ks (λ j. is_some (pick j)) e.1 t in ttl_left p.1 (omega (arith, lasts, e.0)))
+            ended : (ks : List ℕ) → IsEnded mine pick x.ids ttl ks → has ks k ≡ true → ⊥
+            ended ks (inl e) t = (let lasts = i.lasts in omega (arith, lasts, e.0))
+            ended ks (inr e) t = (let lasts = i.lasts in let p = not_own ks (λ j. is_some (pick j)) e.1 t in ttl_left p.1 (omega (arith, lasts, e.0)))
 
-          by : IsEnded mine pick x.ids ttl h.ids ⊎ ((h.ids ≡ filter (λ j. not (is_some (pick j)) && not (is_this mine j)) x.ids) ⊎ IsGroupLost d.routers a q g here x ttl h.ids) → has h.ids k ≡ true → ⊥
-          by (inl e) t = ended h.ids e t
-          by (inr (inl e)) t =
-              let both = and_parts (has x.ids k) (not (is_some (pick k)) && not (is_this mine k)) (sym (has-filter (λ j. not (is_some (pick j)) && not (is_this mine j)) x.ids k) ∙ ap (λ (l : List ℕ). has l k) (sym e) ∙ t) in
-              let p = and_parts (not (is_some (pick k))) (not (is_this mine k)) both.1 in
-              no_choice (is_some (pick k)) (pick_some (turned (is_this mine k) p.1)) p.0
-          by (inr (inr e)) t =
-              let m = member_of e.node h.ids e.left e.group t in
-              let c = choice-from g graph (cov x) i.last (x.entropy % 16) here e.node i.inside (chosen e.node m.goes) in
-              let near = choice-descends g graph (cov x) i.last (x.entropy % 16) here e.node i.inside (chosen e.node m.goes) in
-              let w = first-on-way g graph (cov x) i.last here e.node i.inside c.ends c.first in
-              let other : here ≡ e.node → ⊥ = λ z. (let far = ap (λ (y : ℕ). dist g y i.last) z in let same = same_Some near.0.far near.0.near (sym near.0.from ∙ far ∙ near.0.to) in let less = near.0.less in omega (arith, same, less)) in
-              e.none (way_there e.node leads c.first.covers other w.0)
+            by : IsEnded mine pick x.ids ttl h.ids ⊎ ((h.ids ≡ filter (λ j. not (is_some (pick j)) && not (is_this mine j)) x.ids) ⊎ IsGroupLost os a q g here x ttl h.ids) → has h.ids k ≡ true → ⊥
+            by (inl e) t = ended h.ids e t
+            by (inr (inl e)) t =
+                let both = and_parts (has x.ids k) (not (is_some (pick k)) && not (is_this mine k)) (sym (has-filter (λ j. not (is_some (pick j)) && not (is_this mine j)) x.ids k) ∙ ap (λ (l : List ℕ). has l k) (sym e) ∙ t) in
+                let p = and_parts (not (is_some (pick k))) (not (is_this mine k)) both.1 in
+                no_choice (is_some (pick k)) (pick_some (turned (is_this mine k) p.1)) p.0
+            by (inr (inr e)) t =
+                let m = member_of e.node h.ids e.left e.group t in
+                let c = choice-from g graph (cov x) i.last (x.entropy % 16) here e.node i.inside (chosen e.node m.goes) in
+                let near = choice-descends g graph (cov x) i.last (x.entropy % 16) here e.node i.inside (chosen e.node m.goes) in
+                let w = first-on-way g graph (cov x) i.last here e.node i.inside c.ends c.first in
+                let other : here ≡ e.node → ⊥ = λ z. (let far = ap (λ (y : ℕ). dist g y i.last) z in let same = same_Some near.0.far near.0.near (sym near.0.from ∙ far ∙ near.0.to) in let less = near.0.less in omega (arith, same, less)) in
+                e.none (way_there e.node leads c.first.covers other w.0)

@@ -19,21 +19,18 @@ use Rattle.domain_model.specs.declared.lines.DropLine.{DropLine}
 use Rattle.domain_model.specs.World.{WorldState, is_up, peer_place, link_between, queue_at, queue_over, frames_between}
 use Rattle.domain_model.specs.Moves.{Sending, Made, listed, packet_lost, item_lost, packet_taken, inject_made}
 use Rattle.domain_model.specs.Step.{Happened, makes, taken_off, counted, happens}
-use Rattle.domain_model.specs.Truth.{IsTrueCopy, IsTruthful}
+use Rattle.domain_model.specs.Truth.{IsTrueCopy, IsTruthful, confs_now}
 use Rattle.domain_model.proofs.EachLaws.{each_weaker, each_got}
 use Rattle.domain_model.proofs.QueueLaws.{AllQueues, item_gone}
 use Rattle.domain_model.proofs.LinkLaws.{peer_is}
 use Rattle.laws_ledger.specs.Ledger.{is_numbered}
 use Rattle.laws_ledger.specs.Weights.{is_one_of}
 use Rattle.laws_ledger.proofs.ShapeLaws.{IsControlItem, IsControlSending, IsControlDrop, IsOff, IsQuiet, IsEndedBy, IsDropped, IsTaken, IsEntered, Shape, Quiet, Dropped, Taken, Entered, shape_of}
-use Rattle.laws_ledger.proofs.WorldLaws.{conf_at, copy_at}
+use Rattle.laws_ledger.proofs.WorldLaws.{owner_at, copy_at}
 use Rattle.laws_ledger.proofs.SourceLaws.{IfPacket, IsDropFrom, inject_from}
 use Rattle.laws_course.specs.Course.{Agreed, next_for, FitTunnels, IsOnCourse, IfCopyFor, TunnelsFit, loses_copy}
+use Rattle.laws_course.proofs.ChangedLaws.{Keeps}
 use Rattle.laws_course.proofs.StepLaws.{listed_has, IsOther, drop_parts, pushed_kept, taken_keeps, taken_drops, comes_up, idle_taken}
-
--- what is kept of what is on the way
-abbrev pub Keeps : List RouterConf → RouterConf → List ViewNode → ℕ → ℕ → ℕ → ℕ → ℕ → Item → Type 0
-Keeps confs r g u n k a link item = IfCopyFor (IsOnCourse confs r g u k a (peer_place confs a link)) n k item
 
 module _ (confs : List RouterConf) (r : RouterConf) (g : List ViewNode) (u n k : ℕ) where
   abbrev Kind : ℕ → ℕ → Item → Type 0
@@ -87,12 +84,12 @@ module _ (w : WorldState) (truth : IsTruthful w) (s : ℕ) (ingress : Control) (
     -- ---- a copy that comes to a router
 
     module _ (a b link i : ℕ) (x : DataItem) (joined : link_between confs a b ≡ Some link) (there : slice_get (queue_at w.flights a link) i ≡ Some (PacketItem x)) where
-      copy : IsTrueCopy confs w.injections b x
+      copy : IsTrueCopy (confs_now w) w.injections b x
       copy = copy_at w truth a b link i x joined there
 
       course : x.number ≡ n → has x.ids k ≡ true → IsOnCourse confs r g u k a b x
       course number named =
-          subst (λ (z : ℕ). IsOnCourse confs r g u k a z x) (peer_is confs truth.valid.systems a b link joined)
+          subst (λ (z : ℕ). IsOnCourse confs r g u k a z x) (peer_is confs truth.valid.consistent.systems a b link joined)
           (let on : Here a link (PacketItem x) = each_got (Here a link) (queue_at w.flights a link) i (PacketItem x) (kept a link) there in on number named)
 
       fits : x.number ≡ n → has x.ids k ≡ true → FitTunnels g (next_for r g x.triple x.entropy k) u
@@ -137,7 +134,7 @@ module _ (w : WorldState) (truth : IsTruthful w) (s : ℕ) (ingress : Control) (
         subst (IsKeptBy confs r g u n k) (sym t.is)
         (made_kept confs r g u n k (taken_off w t.from t.link t.i) (item_lost t.to t.why (PacketItem t.item)) (item_gone Here w.flights t.from t.link t.i kept) tt (safe t.why t.how))
       where
-        copy_for : IsTrueCopy confs w.injections t.to t.item
+        copy_for : IsTrueCopy (confs_now w) w.injections t.to t.item
         copy_for = copy t.from t.to t.link t.i t.item t.joined t.at
 
         not_lost : e ≡ Lose t.from t.to t.i → t.item.number ≡ n → has t.item.ids k ≡ true → ⊥
@@ -175,7 +172,7 @@ module _ (w : WorldState) (truth : IsTruthful w) (s : ℕ) (ingress : Control) (
   other_kept e h kept other t =
       let i = t.injection in
       let Q : DataItem → Type 0 = λ y. y.number ≡ w.injections + 1 in
-      let from = inject_from Q (λ x y same number. same.number ∙ number) confs i.router t.router (w.injections + 1) i (conf_at w truth i.router t.router t.there) (λ x number of. number) in
+      let from = inject_from Q (λ x y same number. same.number ∙ number) confs i.router t.router (w.injections + 1) i (owner_at w truth i.router t.router t.there) (λ x number of. number) in
       let made = inject_made confs i.router t.router (w.injections + 1) i.sd i.bsl i.ids i.ttl i.entropy i.payload in
       subst (IsKeptBy confs r g u n k) (sym t.is)
       (made_kept confs r g u n k (record w { injections = w.injections + 1 }) made kept

@@ -15,23 +15,25 @@ use Rattle.wire_base.specs.declared.conf.SubKind.{SubKind}
 use Rattle.wire_base.specs.declared.entry.Entry.{Entry}
 use Rattle.wire_base.specs.declared.view.ViewEdge.{ViewEdge}
 use Rattle.wire_base.specs.declared.view.ViewNode.{ViewNode}
+use Rattle.wire_base.specs.declared.view.ViewSub.{ViewSub}
 use Rattle.wire_base.specs.model.Choice.{end_toward}
-use Rattle.wire_base.specs.model.Configuration.{DomainConf, IsValid, same_peer}
+use Rattle.wire_base.specs.model.Configuration.{DomainConf, IsConsistent, same_peer}
 use Rattle.wire_base.specs.model.Control.{same_system, system_order, Control}
 use Rattle.wire_base.specs.model.Graph.{IsGraph}
 use Rattle.wire_base.specs.model.Lists.{AreApart}
 use Rattle.wire_base.specs.model.OnFrame.{node_place}
 use Rattle.wire_base.specs.model.OwnLsp.{picked}
-use Rattle.wire_base.specs.model.View.{Claim, Link, claim_of, claims_of, edge_to, edges_from, end_link, is_other, least_of, lists, metric_to, node_of, nodes_of, own_claim, put_claim, view_of, control_view, with_known}
+use Rattle.wire_base.specs.model.View.{Claim, Link, claim_of, claims_of, edge_to, edges_from, end_link, is_other, least_of, lists, metric_to, node_of, nodes_of, own_claim, put_claim, known_subs, is_shared, view_of, control_view, with_known}
 use Rattle.view_graph.proofs.ViewLaws.{view_is_graph}
 use Rattle.bier_forward.specs.Packets.{LeadsToEnds}
 use Rattle.bier_forward.proofs.OwnEdges.{own_edges}
 use Rattle.domain_model.specs.World.{WorldState}
-use Rattle.domain_model.specs.Truth.{IsTrueControl, IsTruthful}
+use Rattle.domain_model.specs.Truth.{IsTrueControl, IsTruthful, confs_now}
 use Rattle.domain_model.proofs.NamedLaws.{entries_few}
 use Rattle.domain_model.proofs.EachLaws.{each_got}
-use Rattle.domain_model.proofs.ViewTruth.{IsRouterNode, view_true, nodes_true}
-use Rattle.domain_model.proofs.DomainLaws.{bytes_is, bytes_from}
+use Rattle.domain_model.proofs.ViewTruth.{places_of, IsRouterNode, claims_read, known_places, known_claims, kept_places, view_true, nodes_true}
+use Rattle.domain_model.proofs.DomainLaws.{bytes_is, bytes_from, own_earlier}
+use Rattle.laws_members.proofs.DomainLaws.{same_stripped, length_stripped}
 
 -- ---- lists
 
@@ -42,39 +44,46 @@ each_contained P (y ∷ ys) x all (suc i, lt, e) = each_contained P ys x all.1 (
 
 -- ---- the own claim
 
--- what a claim of the router's own system links to
-abbrev HasOwnLinks : SystemId → List Link → Claim → Type 0
-HasOwnLinks s links c = same_system c.system s ≡ true → c.links ≡ links
+-- what holds of a claim of that system
+abbrev IfOwn : SystemId → (Claim → Type 0) → Claim → Type 0
+IfOwn s P c = same_system c.system s ≡ true → P c
 
-put_own : (s : SystemId) (links : List Link) (c : Claim) (cs : List Claim) → HasOwnLinks s links c → AllByRecursion (HasOwnLinks s links) cs → AllByRecursion (HasOwnLinks s links) (put_claim c cs)
-put_own s links c [] h all = (h, tt)
-put_own s links c (d ∷ ds) h all = by (is_lt (system_order c.system d.system)) (put_own s links c ds h all.1)
+put_own : (s : SystemId) (P : Claim → Type 0) (c : Claim) (cs : List Claim) → IfOwn s P c → AllByRecursion (IfOwn s P) cs → AllByRecursion (IfOwn s P) (put_claim c cs)
+put_own s P c [] h all = (h, tt)
+put_own s P c (d ∷ ds) h all = by (is_lt (system_order c.system d.system)) (put_own s P c ds h all.1)
   where
-    by : (b : Bool) → AllByRecursion (HasOwnLinks s links) (put_claim c ds) → AllByRecursion (HasOwnLinks s links) (if b then c ∷ d ∷ ds else d ∷ put_claim c ds)
+    by : (b : Bool) → AllByRecursion (IfOwn s P) (put_claim c ds) → AllByRecursion (IfOwn s P) (if b then c ∷ d ∷ ds else d ∷ put_claim c ds)
     by true more = (h, all)
     by false more = (all.0, more)
 
-others_apart : (s : SystemId) (links : List Link) (every es : List Entry) → AllByRecursion (HasOwnLinks s links) (map (claim_of every) (filter (is_other s) es))
-others_apart s links every [] = tt
-others_apart s links every (e ∷ es) = by (is_other s e) refl (others_apart s links every es)
+others_apart : (s : SystemId) (P : Claim → Type 0) (every es : List Entry) → AllByRecursion (IfOwn s P) (map (claim_of every) (filter (is_other s) es))
+others_apart s P every [] = tt
+others_apart s P every (e ∷ es) = by (is_other s e) refl (others_apart s P every es)
   where
     other : (a b : Bool) → (not a && b) ≡ true → a ≡ false
     other true b q = absurd (false≢true q)
     other false b q = refl
 
-    by : (b : Bool) → is_other s e ≡ b → AllByRecursion (HasOwnLinks s links) (map (claim_of every) (filter (is_other s) es)) → AllByRecursion (HasOwnLinks s links) (map (claim_of every) (if b then e ∷ filter (is_other s) es else filter (is_other s) es))
+    by : (b : Bool) → is_other s e ≡ b → AllByRecursion (IfOwn s P) (map (claim_of every) (filter (is_other s) es)) → AllByRecursion (IfOwn s P) (map (claim_of every) (if b then e ∷ filter (is_other s) es else filter (is_other s) es))
     by true q more = ((λ same. absurd (true≢false (sym same ∙ other (same_system e.id.system s) _ q))), more)
     by false q more = more
 
-known_links : (s : SystemId) (links : List Link) (kinds : List SubKind) (cs : List Claim) → AllByRecursion (HasOwnLinks s links) cs → AllByRecursion (HasOwnLinks s links) (map (with_known kinds) cs)
-known_links s links kinds [] all = tt
-known_links s links kinds (c ∷ cs) all = (all.0, known_links s links kinds cs all.1)
+known_own : (s : SystemId) (P Q : Claim → Type 0) (kinds : List SubKind) → ((c : Claim) → P c → Q (with_known kinds c)) → (cs : List Claim) → AllByRecursion (IfOwn s P) cs → AllByRecursion (IfOwn s Q) (map (with_known kinds) cs)
+known_own s P Q kinds h [] all = tt
+known_own s P Q kinds h (c ∷ cs) all = ((λ same. h c (all.0 same)), known_own s P Q kinds h cs all.1)
 
-own_links_only : (r : RouterConf) (up : List Bool) (entries : List Entry) → AllByRecursion (HasOwnLinks r.system (map end_link (picked up r.ends))) (map (with_known r.kinds) (claims_of r up entries))
+-- what holds of the router's own claim
+own_claims : (r : RouterConf) (up : List Bool) (entries : List Entry) (P Q : Claim → Type 0) → P (own_claim r up) → ((c : Claim) → P c → Q (with_known r.kinds c)) → AllByRecursion (IfOwn r.system Q) (map (with_known r.kinds) (claims_of r up entries))
 unfolding claims_of
-own_links_only r up entries =
-    known_links r.system (map end_link (picked up r.ends)) r.kinds (put_claim (own_claim r up) (map (claim_of entries) (filter (is_other r.system) entries)))
-    (put_own r.system (map end_link (picked up r.ends)) (own_claim r up) (map (claim_of entries) (filter (is_other r.system) entries)) (λ same. refl) (others_apart r.system (map end_link (picked up r.ends)) entries entries))
+own_claims r up entries P Q own h =
+    known_own r.system P Q r.kinds h (put_claim (own_claim r up) (map (claim_of entries) (filter (is_other r.system) entries)))
+    (put_own r.system P (own_claim r up) (map (claim_of entries) (filter (is_other r.system) entries)) (λ same. own) (others_apart r.system P entries entries))
+
+own_links_only : (r : RouterConf) (up : List Bool) (entries : List Entry) → AllByRecursion (IfOwn r.system (λ c. c.links ≡ map end_link (picked up r.ends))) (map (with_known r.kinds) (claims_of r up entries))
+own_links_only r up entries = own_claims r up entries (λ c. c.links ≡ map end_link (picked up r.ends)) (λ c. c.links ≡ map end_link (picked up r.ends)) refl (λ c h. h)
+
+own_subs_only : (r : RouterConf) (up : List Bool) (entries : List Entry) → AllByRecursion (IfOwn r.system (λ c. c.subs ≡ known_subs r.kinds (places_of r))) (map (with_known r.kinds) (claims_of r up entries))
+own_subs_only r up entries = own_claims r up entries (λ c. c.subs ≡ places_of r) (λ c. c.subs ≡ known_subs r.kinds (places_of r)) refl (λ c h. ap (known_subs r.kinds) h)
 
 -- ---- an end that is up
 
@@ -216,8 +225,29 @@ own_comes r up entries apart x n at =
         let place : k ≡ node_place (nodes_of known) r.system = omega (arith, is) in
         let node : slice_get (nodes_of known) (node_place (nodes_of known) r.system) ≡ Some (node_of known d) = ap (slice_get (nodes_of known)) (sym place) ∙ node_there known known k d there in
         let system : d.system ≡ r.system = place_has r.system (nodes_of known) (node_of known d) node in
-        let links : d.links ≡ map end_link (picked up r.ends) = each_got (HasOwnLinks r.system (map end_link (picked up r.ends))) known k d (own_links_only r up entries) there (ap (λ (s : SystemId). same_system s r.system) system ∙ bytes_own r.system) in
+        let links : d.links ≡ map end_link (picked up r.ends) = each_got (IfOwn r.system (λ x. x.links ≡ map end_link (picked up r.ends))) known k d (own_links_only r up entries) there (ap (λ (s : SystemId). same_system s r.system) system ∙ bytes_own r.system) in
         up_end c.system up r.ends link apart (ap (λ (ls : List Link). is_some (metric_to ls c.system)) (sym links) ∙ h) toward
+
+-- ---- the places of the own node
+
+-- A router's own node in a view has its sub-domains of now.
+abbrev pub IsOfNow : RouterConf → List ViewNode → Type 0
+IsOfNow r g = (n : ViewNode) → slice_get g (node_place g r.system) ≡ Some n → n.subs ≡ places_of r
+
+own_now : (d : DomainConf) → IsConsistent d → (c : Control) → IsTrueControl d.routers c → IsOfNow c.conf (control_view c)
+unfolding view_of
+own_now d valid c t n at =
+    let r = c.conf in
+    let known = map (with_known r.kinds) (claims_of r c.flood.up c.entries) in
+    let same = own_earlier d valid r t.among in
+    let own = claim_at known known (node_place (nodes_of known) r.system) n at in
+    let system : own.0.system ≡ r.system = ap (λ (x : ViewNode). x.system) (sym own.2) ∙ place_has r.system (nodes_of known) n at in
+    let subs : own.0.subs ≡ known_subs r.kinds (places_of r) = each_got (IfOwn r.system (λ x. x.subs ≡ known_subs r.kinds (places_of r))) known (node_place (nodes_of known) r.system) own.0 (own_subs_only r c.flood.up c.entries) own.1 (ap (λ (s : SystemId). same_system s r.system) system ∙ bytes_own r.system) in
+    let each = known_claims d valid r t.among (claims_of r c.flood.up c.entries) (claims_read d.routers r c.flood.up c.entries t.among same t.kept.control.links t.kept.control.entries.in_order t.entries) in
+    ap (λ (x : ViewNode). x.subs) own.2
+    ∙ ap (λ (s : SystemId). filter (λ (x : ViewSub). not (is_shared known s x.prefix)) own.0.subs) system
+    ∙ ap (filter (λ (x : ViewSub). not (is_shared known r.system x.prefix))) (subs ∙ known_places d valid r r r t.among t.among same)
+    ∙ kept_places d valid r r t.among same known each
 
 -- ---- all that is known
 
@@ -225,14 +255,16 @@ pub record IsKnown (confs : List RouterConf) (c : Control) (g : List ViewNode) :
   pub graph : IsGraph g
   pub own : node_place g c.conf.system < length g
   pub nodes : AllByRecursion (IsRouterNode confs) g
+  pub now : IsOfNow c.conf g
   pub leads : LeadsToEnds c.conf g
   pub comes : (x : ℕ) (n : ViewNode) → slice_get g x ≡ Some n → AllByRecursion (ComesOverUp c.conf c.flood.up g n) n.edges
 
-pub known_of : (d : DomainConf) → IsValid d → (c : Control) → IsTrueControl d.routers c → IsKnown d.routers c (control_view c)
+pub known_of : (d : DomainConf) → IsConsistent d → (c : Control) → IsTrueControl d.routers c → IsKnown d.routers c (control_view c)
 known_of d valid c t = record {
   graph = view_is_graph c.conf c.flood.up c.entries t.kept.sound t.kept.control.entries;
   own = own_within c.conf c.flood.up c.entries;
   nodes = nodes_true d valid (control_view c) (view_true d valid c t);
+  now = own_now d valid c t;
   leads = own_edges c.conf c.flood.up c.entries;
   comes = own_comes c.conf c.flood.up c.entries t.kept.sound.peers;
 }
@@ -272,6 +304,7 @@ view_length r up entries =
 -- a view has no more nodes than the domain has routers and one
 pub few_nodes : (w : WorldState) (a : ℕ) (c : Control) → IsTruthful w → slice_get w.routers a ≡ Some c → length (control_view c) ≤ length w.domain.routers + 1
 few_nodes w a c truth at =
-    let t = each_got (IsTrueControl w.domain.routers) w.routers a c truth.controls at in
-    let few = entries_few w.domain.routers c.entries t.kept.control.entries.in_order t.entries in
-    omega (arith, view_length c.conf c.flood.up c.entries, few)
+    let t = each_got (IsTrueControl (confs_now w)) w.routers a c truth.controls at in
+    let few = entries_few (confs_now w) c.entries t.kept.control.entries.in_order t.entries in
+    let long = length_stripped w.domain.routers (confs_now w) (same_stripped w.domain.routers (confs_now w) truth.become) in
+    omega (arith, view_length c.conf c.flood.up c.entries, few, long)

@@ -11,8 +11,9 @@ use Rattle.domain_model.specs.World.{WorldState, queue_at}
 use Rattle.domain_model.specs.Step.{happens}
 use Rattle.laws_ledger.specs.Ledger.{Injection, drops_of}
 use Rattle.laws_course.specs.Course.{Kept, own_node, KeptFor, Begins, GoesOn}
+use Rattle.laws_course.proofs.ChangedLaws.{Keeps}
 use Rattle.laws_course.proofs.StepLaws.{none_dropped}
-use Rattle.laws_course.proofs.KeptLaws.{Keeps, IsKeptBy, later_kept, domain_kept}
+use Rattle.laws_course.proofs.KeptLaws.{IsKeptBy, later_kept, domain_kept}
 use Rattle.laws_course.proofs.FirstLaws.{first_kept}
 
 -- the domain stays

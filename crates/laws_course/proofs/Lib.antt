@@ -5,6 +5,7 @@ pub mod HopLaws
 pub mod TransitLaws
 pub mod StepLaws
 pub mod KeptLaws
+pub mod ChangedLaws
 pub mod FirstLaws
 pub mod OnceLaws
 pub mod LawLaws

@@ -14,7 +14,7 @@ use Rattle.wire_base.specs.declared.conf.RouterConf.{RouterConf}
 use Rattle.wire_base.specs.declared.view.ViewNode.{ViewNode}
 use Rattle.wire_base.specs.declared.view.ViewSub.{ViewSub}
 use Rattle.wire_base.specs.model.Choice.{end_toward}
-use Rattle.wire_base.specs.model.Configuration.{DomainConf, IsValid, same_sub}
+use Rattle.wire_base.specs.model.Configuration.{DomainConf, IsConsistent, same_sub}
 use Rattle.wire_base.specs.model.Control.{same_system}
 use Rattle.wire_base.specs.model.Graph.{IsBefore, IsGraph, octets_before, place_in, node_has_id, has_id_at}
 use Rattle.wire_base.specs.model.Item.{router_with}
@@ -24,13 +24,15 @@ use Rattle.wire_base.specs.model.OwnLsp.{info_of}
 use Rattle.wire_base.specs.model.Place.{sub_in, id_of, own_id}
 use Rattle.wire_base.specs.model.View.{sub_of, has_prefix}
 use Rattle.domain_model.specs.World.{peer_place}
+use Rattle.wire_base.proofs.SoundLemmas.{sound_subs}
+use Rattle.laws_members.specs.Becoming.{IsEarlier}
 use Rattle.domain_model.proofs.EachLaws.{each_got}
 use Rattle.domain_model.proofs.DomainLaws.{bytes_is, bytes_from, sound_of, same_by_system, same_by_prefix}
 use Rattle.domain_model.proofs.LinkLaws.{end_found, peer_at, prefix_place}
 use Rattle.domain_model.proofs.ViewTruth.{places_of, IsRouterNode}
 use Rattle.laws_ledger.proofs.FlightLaws.{read_got}
 use Rattle.laws_course.specs.Course.{node_by, node_at}
-use Rattle.laws_course.proofs.KnownLaws.{place_has}
+use Rattle.laws_course.proofs.KnownLaws.{place_has, IsOfNow}
 
 -- ---- places in a view
 
@@ -79,7 +81,7 @@ node_some (x ∷ xs) (suc i) h = node_some xs i (omega (arith, h))
 
 -- ---- routers of nodes
 
-module _ (d : DomainConf) (valid : IsValid d) (g : List ViewNode) (graph : IsGraph g) (nodes : AllByRecursion (IsRouterNode d.routers) g) where
+module _ (d : DomainConf) (valid : IsConsistent d) (g : List ViewNode) (graph : IsGraph g) (nodes : AllByRecursion (IsRouterNode d.routers) g) where
   -- the router of a node, and its place in the domain
   pub record IsRouterAt (x : ℕ) : Type 0 where
     pub node : ViewNode
@@ -88,8 +90,14 @@ module _ (d : DomainConf) (valid : IsValid d) (g : List ViewNode) (graph : IsGra
     pub place : ℕ
     pub at : slice_get d.routers place ≡ Some router
     pub system : node.system ≡ router.system
-    pub subs : node.subs ≡ places_of router
+    pub was : RouterConf
+    pub earlier : IsEarlier was router
+    pub subs : node.subs ≡ places_of was
     pub node_is : node_at d.routers g place ≡ x
+
+  -- the system of a node is its router's of now
+  system_now : (n : ViewNode) (k : IsRouterNode d.routers n) → n.system ≡ k.now.system
+  system_now n k = k.system ∙ ap (λ (z : RouterConf). z.system) k.earlier.one
 
   pub router_at : (x : ℕ) → x < length g → IsRouterAt x
   router_at x h =
@@ -98,12 +106,14 @@ module _ (d : DomainConf) (valid : IsValid d) (g : List ViewNode) (graph : IsGra
       record {
         node = n.0;
         there = n.1;
-        router = k.router;
+        router = k.now;
         place = k.among.place;
         at = k.among.there;
-        system = k.system;
+        system = system_now n.0 k;
+        was = k.router;
+        earlier = k.earlier;
         subs = k.subs;
-        node_is = ap (node_by g) k.among.there ∙ ap (node_place g) (sym k.system) ∙ place_is g graph x n.0 n.1;
+        node_is = ap (node_by g) k.among.there ∙ ap (node_place g) (sym (system_now n.0 k)) ∙ place_is g graph x n.0 n.1;
       }
 
   -- the router at the place a is that of the node
@@ -138,7 +148,7 @@ module _ (d : DomainConf) (valid : IsValid d) (g : List ViewNode) (graph : IsGra
   pub prefix_is : (y sd : ℕ) (p : Ipv4) (k : IsRouterAt y) → prefix_of g sd y ≡ Some p → p ≡ k.router.prefix
   prefix_is y sd p k e =
       let told : option_map (λ (s : ViewSub). s.prefix) (place_in k.node.subs sd) ≡ Some p = ap (λ (o : Option ViewNode). option_and_then (λ n. option_map (λ s. s.prefix) (place_in n.subs sd)) o) (sym k.there) ∙ e in
-      prefix_told k.router k.router.subs sd p (ap (λ (l : List ViewSub). option_map (λ (s : ViewSub). s.prefix) (place_in l sd)) (sym k.subs) ∙ told)
+      prefix_told k.was k.was.subs sd p (ap (λ (l : List ViewSub). option_map (λ (s : ViewSub). s.prefix) (place_in l sd)) (sym k.subs) ∙ told) ∙ ap (λ (z : RouterConf). z.prefix) k.earlier.one
 
   zero_plus : (n : ℕ) → 0 + n ≡ n
   zero_plus n = omega arith
@@ -175,16 +185,18 @@ module _ (d : DomainConf) (valid : IsValid d) (g : List ViewNode) (graph : IsGra
 
   pub node_found : (x sd : ℕ) (k : IsRouterAt x) → is_some (place_in k.node.subs sd) ≡ true → node_with g k.router.prefix ≡ Some x
   node_found x sd k some =
-      let placed : is_some (place_in (places_of k.router) sd) ≡ true = ap (λ (l : List ViewSub). is_some (place_in l sd)) (sym k.subs) ∙ some in
-      let has : has_prefix k.router.prefix k.node.subs ≡ true = ap (has_prefix k.router.prefix) k.subs ∙ some_prefix k.router k.router.subs sd placed in
+      let placed : is_some (place_in (places_of k.was) sd) ≡ true = ap (λ (l : List ViewSub). is_some (place_in l sd)) (sym k.subs) ∙ some in
+      let was : has_prefix k.was.prefix k.node.subs ≡ true = ap (has_prefix k.was.prefix) k.subs ∙ some_prefix k.was k.was.subs sd placed in
+      let has : has_prefix k.router.prefix k.node.subs ≡ true = subst (λ (p : Ipv4). has_prefix p k.node.subs ≡ true) (ap (λ (z : RouterConf). z.prefix) k.earlier.one) was in
       with_first k.router.prefix g x k.node k.there has only
     where
       only : (y : ℕ) (m : ViewNode) → slice_get g y ≡ Some m → has_prefix k.router.prefix m.subs ≡ true → y ≡ x
       only y m at h =
           let j = each_got (IsRouterNode d.routers) g y m nodes at in
           let bytes = has_own_prefix j.router j.router.subs k.router.prefix (ap (has_prefix k.router.prefix) (sym j.subs) ∙ h) in
-          let same : j.router ≡ k.router = same_by_prefix d valid j.router k.router j.among (record { place = k.place; there = k.at }) bytes in
-          sym (place_is g graph y m at) ∙ ap (node_place g) (j.system ∙ ap (λ (z : RouterConf). z.system) same ∙ sym k.system) ∙ place_is g graph x k.node k.there
+          let now : bytes_eq j.now.prefix.0 k.router.prefix.0 ≡ true = ap (λ (z : RouterConf). bytes_eq z.prefix.0 k.router.prefix.0) (sym j.earlier.one) ∙ bytes in
+          let same : j.now ≡ k.router = same_by_prefix d valid j.now k.router j.among (record { place = k.place; there = k.at }) now in
+          sym (place_is g graph y m at) ∙ ap (node_place g) (system_now m j ∙ ap (λ (z : RouterConf). z.system) same ∙ sym k.system) ∙ place_is g graph x k.node k.there
 
   -- ---- ids
 
@@ -212,11 +224,11 @@ module _ (d : DomainConf) (valid : IsValid d) (g : List ViewNode) (graph : IsGra
       by true e false f h more = absurd (none_later q s subs sd k apart.0 (eqb-true s.sd sd e) h)
       by false e c f h more = more h
 
-  -- a router has the ids of its node
-  pub own_from : (x sd k a : ℕ) (q : RouterConf) → slice_get d.routers a ≡ Some q → x < length g → node_place g q.system ≡ x → has_id_at g sd k x ≡ true → 1 ≤ k → own_id q sd ≡ Some k
-  own_from x sd k a q at within is h some =
-      let j = router_at x within in
-      let same : j.router ≡ q = same_router x a j q at is in
-      let told : has_told j.router j.router.subs sd k ≡ true = ap (λ (l : List ViewSub). list_any (λ (s : ViewSub). (s.sd == sd) && (s.id == k)) l) (sym j.subs) ∙ ap (node_has_id sd k) (sym j.there) ∙ h in
-      let sound = sound_of d valid j.router (record { place = j.place; there = j.at }) in
-      ap (λ (z : RouterConf). own_id z sd) (sym same) ∙ own_told j.router j.router.subs sd k sound.subdomains told some
+  -- a router has the ids of its node, where the node is what it says of itself now
+  pub own_from : (x sd k a : ℕ) (q : RouterConf) → slice_get d.routers a ≡ Some q → x < length g → node_place g q.system ≡ x → IsOfNow q g → has_id_at g sd k x ≡ true → 1 ≤ k → own_id q sd ≡ Some k
+  own_from x sd k a q at within is now h some =
+      let n = node_some g x within in
+      let here : list_any (λ (s : ViewSub). (s.sd == sd) && (s.id == k)) n.0.subs ≡ true = ap (node_has_id sd k) (sym n.1) ∙ h in
+      let told : has_told q q.subs sd k ≡ true = ap (list_any (λ (s : ViewSub). (s.sd == sd) && (s.id == k))) (sym (now n.0 (ap (slice_get g) is ∙ n.1))) ∙ here in
+      let own = sound_subs q (sound_of d valid q (record { place = a; there = at })) in
+      own_told q q.subs sd k own.apart told some

@@ -23,16 +23,18 @@ use Rattle.domain_model.specs.Run.{Run, first_run, goes_on, run_of, world_after}
 use Rattle.domain_model.specs.Truth.{IsTruthful, EventFits}
 use Rattle.domain_model.proofs.EachLaws.{each_weaker}
 use Rattle.domain_model.proofs.WorldTruth.{happens_true, first_true}
+use Rattle.laws_members.proofs.DomainLaws.{strip, become_stripped}
 use Rattle.laws_ledger.specs.Ledger.{Injection, injection_of, names, entered, injected, numbered, injections_in, carries, copies_of, is_drop, deliveries, drops_of, drops, ledger, triple_for, IsCopyOf}
 use Rattle.laws_ledger.specs.Runs.{AreAllowed, unlined, IsItemIn, IsAccounted}
 use Rattle.laws_ledger.specs.Weights.{is_of, copies_in}
-use Rattle.laws_ledger.proofs.WorldLaws.{conf_at}
+use Rattle.laws_ledger.proofs.WorldLaws.{owner_at}
 use Rattle.laws_ledger.proofs.FallLaws.{over-most}
 use Rattle.laws_ledger.proofs.RunLaws.{run_accounted, tally-told, next_truth, next_allowed, run_goes_on, still_injected, now_injected, entered_more, listed_one}
 use Rattle.laws_course.specs.Course.{Agreed, next_for, FitTunnels, IfCopyFor, Kept, TunnelsFit, loses_copy, IsCovered, HasAgreed, IsSteady, own_node, IsCarried, IsCarriedIn, carried_on}
 use Rattle.laws_course.proofs.FollowLaws.{follow-most}
 use Rattle.laws_course.proofs.StepLaws.{none_dropped}
-use Rattle.laws_course.proofs.KeptLaws.{Keeps, IsKeptBy, later_kept}
+use Rattle.laws_course.proofs.ChangedLaws.{Keeps, keeps_stay}
+use Rattle.laws_course.proofs.KeptLaws.{IsKeptBy, later_kept}
 use Rattle.laws_course.proofs.FirstLaws.{first_kept}
 
 -- tunnels fit where there are at most 255 nodes
@@ -92,20 +94,34 @@ MovesOn w n k conf g =
     Agreed w g (node_place g conf.system) → n ≤ w.injections → Kept w conf g (node_place g conf.system) n k → TunnelsFit w conf g (node_place g conf.system) n k
     → (e : Event) → loses_copy w n e ≡ false → IsKeptBy w.domain.routers conf g (node_place g conf.system) n k (happens w e)
 
-moved : (w : WorldState) → IsTruthful w → (s : ℕ) (c : Control) → slice_get w.routers s ≡ Some c → (conf : RouterConf) (g : List ViewNode) → c.conf ≡ conf → control_view c ≡ g → (n k : ℕ) → MovesOn w n k conf g
+-- for a configuration that differs at most in its sub-domains and label ranges
+moves_stripped : (w : WorldState) (n k : ℕ) (conf : RouterConf) (g : List ViewNode) → MovesOn w n k conf g → MovesOn w n k (strip conf) g
+moves_stripped w n k conf g h agreed made kept fit e harmless =
+    let u = node_place g conf.system in
+    let q = h agreed made (λ a link. keeps_stay w.domain.routers (strip conf) conf refl g u n k a link (queue_at w.flights a link) (kept a link)) fit e harmless in
+    record { kept = λ a link. keeps_stay w.domain.routers conf (strip conf) refl g u n k a link (queue_at (happens w e).world.flights a link) (q.kept a link); drops = q.drops }
+
+moves_whole : (w : WorldState) (n k : ℕ) (conf : RouterConf) (g : List ViewNode) → MovesOn w n k (strip conf) g → MovesOn w n k conf g
+moves_whole w n k conf g h agreed made kept fit e harmless =
+    let u = node_place g conf.system in
+    let q = h agreed made (λ a link. keeps_stay w.domain.routers conf (strip conf) refl g u n k a link (queue_at w.flights a link) (kept a link)) fit e harmless in
+    record { kept = λ a link. keeps_stay w.domain.routers (strip conf) conf refl g u n k a link (queue_at (happens w e).world.flights a link) (q.kept a link); drops = q.drops }
+
+moved : (w : WorldState) → IsTruthful w → (s : ℕ) (c : Control) → slice_get w.routers s ≡ Some c → (conf : RouterConf) (g : List ViewNode) → strip c.conf ≡ strip conf → control_view c ≡ g → (n k : ℕ) → MovesOn w n k conf g
 moved w truth s c at conf g same view n k =
     let here : MovesOn w n k c.conf (control_view c) = λ agreed made kept fit e harmless. later_kept w truth s c at n k agreed made kept fit e harmless in
-    subst (MovesOn w n k conf) view (subst (λ (z : RouterConf). MovesOn w n k z (control_view c)) same here)
+    moves_whole w n k conf g (subst (λ (z : RouterConf). MovesOn w n k z g) same (moves_stripped w n k c.conf g (subst (MovesOn w n k c.conf) view here)))
 
-module _ (s : ℕ) (conf : RouterConf) (g : List ViewNode) (n k : ℕ) (i : Injection) (fit : FitTunnels g (next_for conf g (triple_for i k) i.entropy k) (node_place g conf.system)) where
+module _ (s : ℕ) (first conf : RouterConf) (one : strip first ≡ strip conf) (g : List ViewNode) (n k : ℕ) (i : Injection) (fit : FitTunnels g (next_for conf g (triple_for i k) i.entropy k) (node_place g conf.system)) where
   abbrev u : ℕ
   u = node_place g conf.system
 
   -- one event after the injection
-  once_next : (r : Run) (e : ℕ × Event) → slice_get r.world.domain.routers s ≡ Some conf → EventFits (length r.world.domain.routers) e.1 → event_fault r.world e.1 ≡ None → HasAgreed r.world s g → loses_copy r.world n e.1 ≡ false → IsOnce r conf g u n k i → IsOnce (goes_on r e) conf g u n k i
+  once_next : (r : Run) (e : ℕ × Event) → slice_get r.world.domain.routers s ≡ Some first → EventFits (length r.world.domain.routers) e.1 → event_fault r.world e.1 ≡ None → HasAgreed r.world s g → loses_copy r.world n e.1 ≡ false → IsOnce r conf g u n k i → IsOnce (goes_on r e) conf g u n k i
   once_next r e at fits ok a harmless o =
       let happened = happens_true r.world e.1 o.truth fits ok in
-      let same : a.router.conf ≡ conf = same_Some a.router.conf conf (sym (conf_at r.world o.truth s a.router a.there) ∙ at) in
+      let owner = owner_at r.world o.truth s a.router a.there in
+      let same : strip a.router.conf ≡ strip conf = become_stripped owner.router a.router.conf owner.become ∙ ap strip (same_Some owner.router first (sym owner.there ∙ at)) ∙ one in
       let agreed : Agreed r.world g u = subst (λ (c : RouterConf). Agreed r.world g (node_place g c.system)) same a.agreed in
       let tunnels = tunnels_of r conf g u n k i o.accounts o.known fit in
       let step = moved r.world o.truth s a.router a.there conf g same a.view n k agreed o.made o.kept tunnels e.1 harmless in
@@ -119,7 +135,7 @@ module _ (s : ℕ) (conf : RouterConf) (g : List ViewNode) (n k : ℕ) (i : Inje
       }
 
   -- and several
-  once_on : (es : List (ℕ × Event)) (r : Run) → slice_get r.world.domain.routers s ≡ Some conf → AreAllowed r.world (unlined es) → IsSteady r s g n es → IsOnce r conf g u n k i → IsOnce (fold goes_on r es) conf g u n k i
+  once_on : (es : List (ℕ × Event)) (r : Run) → slice_get r.world.domain.routers s ≡ Some first → AreAllowed r.world (unlined es) → IsSteady r s g n es → IsOnce r conf g u n k i → IsOnce (fold goes_on r es) conf g u n k i
   once_on [] r at allowed steady o = o
   once_on (e ∷ es) r at allowed steady o =
       let happened = happens_true r.world e.1 o.truth allowed.0 allowed.1 in
@@ -169,7 +185,8 @@ module _ (r : Run) (e : ℕ × Event) (n k : ℕ) (i : Injection) (c : Control) 
   once_after fs allowed steady =
       let happened = happens_true r.world e.1 truth fits ok in
       let same : (goes_on r e).world.domain ≡ r.world.domain = domain_next r e ∙ happened.domain in
-      once_on i.router c.conf (control_view c) n k i covered.tunnels fs (goes_on r e) (ap (λ (d : DomainConf). slice_get d.routers i.router) same ∙ conf_at r.world truth i.router c at) allowed steady once_first
+      let owner = owner_at r.world truth i.router c at in
+      once_on i.router owner.router c.conf (sym (become_stripped owner.router c.conf owner.become)) (control_view c) n k i covered.tunnels fs (goes_on r e) (ap (λ (d : DomainConf). slice_get d.routers i.router) same ∙ owner.there) allowed steady once_first
 
 -- ---- what that says of deliveries
 

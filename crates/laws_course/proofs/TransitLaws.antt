@@ -9,7 +9,7 @@ use Rattle.wire_base.specs.declared.addresses.Ipv4.{Ipv4}
 use Rattle.wire_base.specs.declared.conf.End.{End}
 use Rattle.wire_base.specs.declared.conf.RouterConf.{RouterConf}
 use Rattle.wire_base.specs.declared.view.ViewNode.{ViewNode}
-use Rattle.wire_base.specs.model.Configuration.{DomainConf, IsValid}
+use Rattle.wire_base.specs.model.Configuration.{DomainConf, IsConsistent}
 use Rattle.wire_base.specs.model.Graph.{IsGraph, is_overloaded, node_covers}
 use Rattle.wire_base.specs.model.HopCount.{hops, CoversPath, tunnel_links}
 use Rattle.wire_base.specs.model.Item.{DataItem, Outer, router_with, outer_target}
@@ -57,7 +57,7 @@ reached_on g graph u a b d n in_u in_a q free t =
     by (inl e) m p = (m, ap (λ (z : ℕ). dist g z b) (sym e) ∙ p)
     by (inr f) m p = (let w = dist-through g graph u a b n m in_u (inr f) q p in (w.0, w.1))
 
-module _ (d : DomainConf) (valid : IsValid d) (g : List ViewNode) (graph : IsGraph g) (nodes : AllByRecursion (IsRouterNode d.routers) g) (r : RouterConf) (among : IsAmong d.routers r) (u k : ℕ) (in_u : u < length g) where
+module _ (d : DomainConf) (valid : IsConsistent d) (g : List ViewNode) (graph : IsGraph g) (nodes : AllByRecursion (IsRouterNode d.routers) g) (r : RouterConf) (among : IsAmong d.routers r) (u k : ℕ) (in_u : u < length g) where
   module _ (a b : ℕ) (x : DataItem) (i : IsOnCourse d.routers r g u k a b x) where
     abbrev to : ℕ
     to = node_at d.routers g b

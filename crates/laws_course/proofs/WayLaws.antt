@@ -10,13 +10,13 @@ use Rattle.wire_base.specs.model.View.{control_view}
 use Rattle.wire_base.specs.model.Walk.{dist}
 use Rattle.domain_model.specs.World.{WorldState}
 use Rattle.domain_model.specs.Moves.{Made, packet_of, item_copied}
-use Rattle.domain_model.specs.Truth.{IsTruthful}
+use Rattle.domain_model.specs.Truth.{IsTruthful, domain_now}
 use Rattle.laws_route.proofs.HopCountLemmas.{chosen, descends}
 use Rattle.laws_route.proofs.ChoiceLemmas.{choice-from, choice-descends}
 use Rattle.laws_route.proofs.DescentLemmas.{dist-end}
 use Rattle.laws_route.proofs.RouteLemmas.{first-on-way}
 use Rattle.laws_ledger.proofs.CopyLaws.{HasWay, IsCopySent, IsCopyLost, copied_is}
-use Rattle.laws_ledger.proofs.WorldLaws.{conf_at}
+use Rattle.laws_ledger.proofs.WorldLaws.{now_at}
 use Rattle.laws_course.specs.Course.{next_for, own_node}
 use Rattle.laws_course.proofs.HopLaws.{IsThere, class_is, way_there}
 use Rattle.laws_course.proofs.StepLaws.{facts, r_among}
@@ -36,7 +36,7 @@ module _ (w : WorldState) (truth : IsTruthful w) (a : ℕ) (c : Control) (at : s
       let near = choice-descends g known.graph cov o.0 (x.entropy % 16) u y known.own o.2 in
       let on = first-on-way g known.graph cov o.0 u y known.own first.ends first.first in
       let other : u ≡ y → ⊥ = λ z. (let far = ap (λ (v : ℕ). dist g v o.0) z in let same = same_Some near.0.far near.0.near (sym near.0.from ∙ far ∙ near.0.to) in let less = near.0.less in omega (arith, same, less)) in
-      let there : IsThere w.domain truth.valid g known.graph known.nodes r (r_among w truth a c at) u k known.own x u (down.count + 1) = record {
+      let there : IsThere (domain_now w) truth.now g known.graph known.nodes r (r_among w truth a c at) u k known.own x u (down.count + 1) = record {
         last = o.0;
         owns = o.1;
         inside = known.own;
@@ -50,7 +50,7 @@ module _ (w : WorldState) (truth : IsTruthful w) (a : ℕ) (c : Control) (at : s
         hops_left = down.hops;
         lasts = omega arith;
       } in
-      way_there w.domain truth.valid g known.graph known.nodes r (r_among w truth a c at) u k known.own x u (down.count + 1) there a r (conf_at w truth a c at) refl y known.leads first.first.covers other on.0
+      way_there (domain_now w) truth.now g known.graph known.nodes r (r_among w truth a c at) u k known.own x u (down.count + 1) there w.domain.routers a r (now_at w truth a c at) refl y known.leads first.first.covers other on.0
 
   pub copy_sent : (ks : List ℕ) (ttl : ℕ) → (item_copied w.domain.routers a c.conf (control_view c) (own_node c) x y ks ttl).drops ≡ []
   copy_sent ks ttl = by (item_copied w.domain.routers a c.conf (control_view c) (own_node c) x y ks ttl) (copied_is w.domain.routers a c.conf (control_view c) (own_node c) x y ks ttl)

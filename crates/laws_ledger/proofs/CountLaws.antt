@@ -14,7 +14,7 @@ use Rattle.wire_base.specs.model.OnFrame.{node_place}
 use Rattle.wire_base.specs.model.Place.{bits_of}
 use Rattle.wire_base.specs.model.View.{control_view}
 use Rattle.replay_text.specs.declared.event.Event.{Event}
-use Rattle.replay_text.specs.declared.event.Event.TheVariants.{Inject, Take, Lose, Again, Down, Up, Send, Tick, Restart}
+use Rattle.replay_text.specs.declared.event.Event.TheVariants.{Inject, Take, Lose, Again, Down, Up, Send, Tick, Restart, Relabel, Leave, Join}
 use Rattle.domain_model.specs.declared.fault.EventFault.{EventFault}
 use Rattle.domain_model.specs.declared.fault.EventFault.TheVariants as faults
 use Rattle.domain_model.specs.declared.lines.DropLine.{DropLine}
@@ -22,7 +22,7 @@ use Rattle.domain_model.specs.World.{WorldState, in_flight}
 use Rattle.domain_model.specs.Moves.{Made, entering_item, item_lost, hop_made, sent_onward, packet_taken, inject_made}
 use Rattle.domain_model.specs.Faults.{most_events, most_in_flight, first_fault, entry_fault, rule_fault, event_fault}
 use Rattle.domain_model.specs.Step.{Happened, makes, taken_off, counted, happens}
-use Rattle.domain_model.specs.Truth.{IsTruthful, EventFits}
+use Rattle.domain_model.specs.Truth.{IsTruthful, confs_now, EventFits}
 use Rattle.domain_model.proofs.EachLaws.{each_from, each_weaker, each_mapped, each_flat}
 use Rattle.domain_model.proofs.QueueLaws.{got_within}
 use Rattle.domain_model.proofs.EnterTruth.{IsEntry, allowed_of, packets_true}
@@ -114,6 +114,9 @@ injection_named w (Up a b) j c is there fits ok = cc
 injection_named w (Send a b) j c is there fits ok = cc
 injection_named w (Tick a) j c is there fits ok = cc
 injection_named w (Restart a) j c is there fits ok = cc
+injection_named w (Relabel a sd bsl label) j c is there fits ok = cc
+injection_named w (Leave a sd) j c is there fits ok = cc
+injection_named w (Join a sd) j c is there fits ok = cc
 
 pub injection_there : (w : WorldState) → IsTruthful w → (e : Event) (i : Injection) → injection_of e ≡ Some i → EventFits (length w.domain.routers) e → slice_get w.routers i.router ≡ None → ⊥
 injection_there w truth (Inject a sd bsl ks ttl entropy payload) i is fits none =
@@ -127,6 +130,9 @@ injection_there w truth (Up a b) j is fits none = cc
 injection_there w truth (Send a b) j is fits none = cc
 injection_there w truth (Tick a) j is fits none = cc
 injection_there w truth (Restart a) j is fits none = cc
+injection_there w truth (Relabel a sd bsl label) j is fits none = cc
+injection_there w truth (Leave a sd) j is fits none = cc
+injection_there w truth (Join a sd) j is fits none = cc
 
 -- ---- one event
 
@@ -160,14 +166,14 @@ module _ (t : ℕ → Bool) (size : List ℕ → ℕ) (measure : IsMeasure size)
     module _ (truth : IsTruthful w) (e : Event) (n : Happened) where
       dropped-count : IsDropped w e n → after_count n ≡ over_all (in_item t size) w.flights
       dropped-count d =
-          let order = copy_order w.domain.routers w.injections d.to d.item (copy_at w truth d.from d.to d.link d.i d.item d.joined d.at) in
+          let order = copy_order (confs_now w) w.injections d.to d.item (copy_at w truth d.from d.to d.link d.i d.item d.joined d.at) in
           ap after_count d.is
           ∙ made-count (taken_off w d.from d.link d.i) (item_lost d.to d.why (PacketItem d.item)) tt
           ∙ omega (arith, item_lost-count t size d.to d.why d.item order, taken-sum (in_item t size) w.flights d.from d.link d.i (PacketItem d.item) d.at)
 
       taken-counted : IsTaken w e n → after_count n ≡ over_all (in_item t size) w.flights
       taken-counted k =
-          let order = copy_order w.domain.routers w.injections k.to k.item (copy_at w truth k.from k.to k.link k.i k.item k.joined k.at) in
+          let order = copy_order (confs_now w) w.injections k.to k.item (copy_at w truth k.from k.to k.link k.i k.item k.joined k.at) in
           let made = packet_taken w.domain.routers k.to k.router k.item k.item.outer in
           let lands = subst (λ (counts : List ℕ). AllByRecursion (Lands counts) made.sent) (sym (taken_shape w.flights k.from k.link k.i)) (taken_lands w truth k.to k.router k.there k.item) in
           ap after_count k.is

@@ -13,7 +13,7 @@ use Rattle.domain_model.specs.declared.lines.GotLine.{GotLine}
 use Rattle.domain_model.specs.World.{WorldState, peer_place, queue_at}
 use Rattle.domain_model.specs.Step.{happens}
 use Rattle.domain_model.specs.Run.{Run}
-use Rattle.domain_model.specs.Truth.{IsTrueItem, IsTruthful}
+use Rattle.domain_model.specs.Truth.{IsTrueItem, IsTruthful, confs_now}
 use Rattle.domain_model.proofs.EachLaws.{each_weaker}
 use Rattle.laws_route.proofs.HopLemmas.{tally-map}
 use Rattle.laws_ledger.specs.Ledger.{Injection, injection_of, names, entered, injected, is_got, deliveries, IsCopyOf, IsDeliveryOf, IsOneOf, AreCopiesOf, AreDeliveriesOf}
@@ -65,14 +65,14 @@ module _ (n : ℕ) (i : Injection) where
   first_of_it w e truth is =
       let this = number (w.injections + 1 == n) refl is in
       of_after w e truth
-      (λ a link. each_weaker (IsTrueItem w.domain.routers w.injections (peer_place w.domain.routers a link)) (IfPacket Of) (none (peer_place w.domain.routers a link) this.0) (queue_at w.flights a link) (truth.items a link))
+      (λ a link. each_weaker (IsTrueItem (confs_now w) w.injections (peer_place w.domain.routers a link)) (IfPacket Of) (none (peer_place w.domain.routers a link) this.0) (queue_at w.flights a link) (truth.items a link))
       (λ j event x number of same. subst (λ (h : Injection). IsCopyOf h x) (same_Some j i (sym event ∙ this.1)) of)
     where
       number : (b : Bool) → (w.injections + 1 == n) ≡ b → (if b then injection_of e else None) ≡ Some i → (w.injections < n) × (injection_of e ≡ Some i)
       number true e h = ((let z = eqb-true (w.injections + 1) n e in omega (arith, z)), h)
       number false e h = cc
 
-      none : (b : ℕ) → w.injections < n → (x : Item) → IsTrueItem w.domain.routers w.injections b x → IfPacket Of x
+      none : (b : ℕ) → w.injections < n → (x : Item) → IsTrueItem (confs_now w) w.injections b x → IfPacket Of x
       none b later (ControlItem p) h = tt
       none b later (PacketItem x) h = λ same. (let made = h.made in absurd (omega (arith, same, made, later)))
 

@@ -10,13 +10,13 @@ use Rattle.wire_base.specs.model.Control.{Control}
 use Rattle.wire_base.specs.model.Hop.{one_if}
 use Rattle.wire_base.specs.model.Item.{Item, ControlItem, PacketItem, DataItem}
 use Rattle.replay_text.specs.declared.event.Event.{Event}
-use Rattle.replay_text.specs.declared.event.Event.TheVariants.{Inject, Take, Lose, Again, Down, Up, Send, Tick, Restart}
+use Rattle.replay_text.specs.declared.event.Event.TheVariants.{Inject, Take, Lose, Again, Down, Up, Send, Tick, Restart, Relabel, Leave, Join}
 use Rattle.domain_model.specs.World.{WorldState, is_up, peer_place, link_between, queue_at, queue_over, frames_between}
 use Rattle.domain_model.specs.Moves.{Sending, item_lost, packet_taken, inject_made}
 use Rattle.domain_model.specs.Faults.{event_fault}
 use Rattle.domain_model.specs.Step.{Happened, makes, taken_off, arrives, comes, takes, takes_over, counted, happens}
 use Rattle.domain_model.specs.Run.{world_after}
-use Rattle.domain_model.specs.Truth.{IsTrueItem, IsTruthful, EventFits}
+use Rattle.domain_model.specs.Truth.{IsTrueItem, IsTruthful, confs_now, EventFits}
 use Rattle.domain_model.proofs.EachLaws.{each_weaker}
 use Rattle.domain_model.proofs.QueueLaws.{got_within}
 use Rattle.domain_model.proofs.LinkLaws.{join_of, links_back}
@@ -27,7 +27,7 @@ use Rattle.laws_ledger.specs.Weights.{weight, weight_in, weights, first_weight, 
 use Rattle.laws_ledger.proofs.SumLaws.{sum-most, sum-none}
 use Rattle.laws_ledger.proofs.ShapeLaws.{IsOff, IsQuiet, IsDropped, IsEntered, Shape, Quiet, Dropped, Taken, Entered, shape_of}
 use Rattle.laws_ledger.proofs.FlightLaws.{Lands, taken-sum, sent-sum, controls-sum, taken_shape}
-use Rattle.laws_ledger.proofs.WorldLaws.{conf_at, is_there, copy_at, copy_order}
+use Rattle.laws_ledger.proofs.WorldLaws.{is_there, owner_at, copy_at, copy_order}
 use Rattle.laws_ledger.proofs.CountLaws.{taken_lands, inject_lands, injection_named, injection_there}
 use Rattle.laws_ledger.proofs.WeightLaws.{sent_weight, lively_weight, taken_less, inject_most}
 use Rattle.laws_ledger.proofs.SourceLaws.{IsSameSource, IfPacket, taken_from, inject_from}
@@ -108,7 +108,7 @@ module _ (n : ℕ) where
         → weights n (makes (taken_off w a link i) (packet_taken w.domain.routers b c x x.outer)).world.flights < weights n w.flights
     hopped_weight a b link i c x joined at there of =
         let copy = copy_at w truth a b link i x joined at in
-        let less = taken_less n w.domain.routers b c x (copy_order w.domain.routers w.injections b x copy) copy.lives (lively_ids x copy.some) in
+        let less = taken_less n w.domain.routers b c x (copy_order (confs_now w) w.injections b x copy) copy.lives (lively_ids x copy.some) in
         let whole : weight_in n (PacketItem x) ≡ weight x = rw (eq-eqb x.number n of) refl in
         omega (arith, less, whole, sent_is a b link i c x there, gone_weight a b link i x at)
 
@@ -119,16 +119,16 @@ module _ (n : ℕ) where
         by : (t : Bool) → (x.number == n) ≡ t → weights n (makes (taken_off w a link i) (packet_taken w.domain.routers b c x x.outer)).world.flights ≤ weights n w.flights
         by true e = omega (arith, hopped_weight a b link i c x joined at there (eqb-true x.number n e))
         by false e =
-            let from = taken_from (λ y. y.number ≡ x.number) (same_number x.number) w.domain.routers b c x (conf_at w truth b c there) refl in
+            let from = taken_from (λ y. y.number ≡ x.number) (same_number x.number) w.domain.routers b c x (owner_at w truth b c there) refl in
             omega (arith, others_none x.number e (packet_taken w.domain.routers b c x x.outer).sent from.sent, sent_is a b link i c x there, gone_weight a b link i x at)
 
     -- no copy has the number of an injection to come
     none_yet : w.injections < n → weights n w.flights ≡ 0
     none_yet later =
-        let few = over-most (IfPacket (λ y. y.number ≤ w.injections)) (weight_in n) (λ x. 0) none w.flights (λ a link. each_weaker (IsTrueItem w.domain.routers w.injections (peer_place w.domain.routers a link)) (IfPacket (λ y. y.number ≤ w.injections)) (known (peer_place w.domain.routers a link)) (queue_at w.flights a link) (truth.items a link)) in
+        let few = over-most (IfPacket (λ y. y.number ≤ w.injections)) (weight_in n) (λ x. 0) none w.flights (λ a link. each_weaker (IsTrueItem (confs_now w) w.injections (peer_place w.domain.routers a link)) (IfPacket (λ y. y.number ≤ w.injections)) (known (peer_place w.domain.routers a link)) (queue_at w.flights a link) (truth.items a link)) in
         omega (arith, few, over-zero w.flights)
       where
-        known : (b : ℕ) (x : Item) → IsTrueItem w.domain.routers w.injections b x → IfPacket (λ y. y.number ≤ w.injections) x
+        known : (b : ℕ) (x : Item) → IsTrueItem (confs_now w) w.injections b x → IfPacket (λ y. y.number ≤ w.injections) x
         known b (ControlItem p) h = tt
         known b (PacketItem x) h = h.made
 
@@ -148,7 +148,7 @@ module _ (n : ℕ) where
     other_enters : (e : Event) (m : Happened) → IsEntered w e m → (w.injections + 1 == n) ≡ false → weights n m.world.flights ≤ weights n w.flights
     other_enters e m k other =
         let i = k.injection in
-        let from = inject_from (λ y. y.number ≡ w.injections + 1) (same_number (w.injections + 1)) w.domain.routers i.router k.router (w.injections + 1) i (conf_at w truth i.router k.router k.there) (λ x number of. number) in
+        let from = inject_from (λ y. y.number ≡ w.injections + 1) (same_number (w.injections + 1)) w.domain.routers i.router k.router (w.injections + 1) i (owner_at w truth i.router k.router k.there) (λ x number of. number) in
         let none = others_none (w.injections + 1) other (inject_made w.domain.routers i.router k.router (w.injections + 1) i.sd i.bsl i.ids i.ttl i.entropy i.payload).sent from.sent in
         omega (arith, inject_weight e m k, none)
 
@@ -214,12 +214,12 @@ module _ (n : ℕ) where
         by None e h = absurd cc
         by (Some link) e h =
             let j = join_of w.domain.routers a b link e in
-            let back = links_back w.domain truth.valid a b link e in
+            let back = links_back w.domain truth.valid.consistent a b link e in
             at (slice_get w.routers b) refl
           where
             at : (q : Option Control) → slice_get w.routers b ≡ q → Arrival a b i x
             at None s = (let j = join_of w.domain.routers a b link e in absurd (is_there w truth b (got_within w.domain.routers b j.far j.far_at) s))
-            at (Some c) s = (let back = links_back w.domain truth.valid a b link e in record { link = link; joined = e; at = h; back = back.0; turned = back.1; router = c; there = s })
+            at (Some c) s = (let back = links_back w.domain truth.valid.consistent a b link e in record { link = link; joined = e; at = h; back = back.0; turned = back.1; router = c; there = s })
 
     arrival_is : (a b i : ℕ) (x : DataItem) (k : Arrival a b i x) → happens w (Take a b i) ≡ counted (comes (taken_off w a k.link i) b k.back k.router (PacketItem x))
     unfolding happens
@@ -259,15 +259,18 @@ module _ (n : ℕ) where
     take_weight (Send a b) h = absurd (false≢true h)
     take_weight (Tick a) h = absurd (false≢true h)
     take_weight (Restart a) h = absurd (false≢true h)
+    take_weight (Relabel a sd bsl label) h = absurd (false≢true h)
+    take_weight (Leave a sd) h = absurd (false≢true h)
+    take_weight (Join a sd) h = absurd (false≢true h)
 
     -- ---- what is left
 
     pub none_left : weights n w.flights ≡ 0 → copies_in n w.flights ≡ 0
     none_left nothing =
-        let few = over-most (IfPacket (λ y. 0 < weight y)) (λ x. one_if (is_of n x)) (weight_in n) one w.flights (λ a link. each_weaker (IsTrueItem w.domain.routers w.injections (peer_place w.domain.routers a link)) (IfPacket (λ y. 0 < weight y)) (lively (peer_place w.domain.routers a link)) (queue_at w.flights a link) (truth.items a link)) in
+        let few = over-most (IfPacket (λ y. 0 < weight y)) (λ x. one_if (is_of n x)) (weight_in n) one w.flights (λ a link. each_weaker (IsTrueItem (confs_now w) w.injections (peer_place w.domain.routers a link)) (IfPacket (λ y. 0 < weight y)) (lively (peer_place w.domain.routers a link)) (queue_at w.flights a link) (truth.items a link)) in
         omega (arith, few, nothing)
       where
-        lively : (b : ℕ) (x : Item) → IsTrueItem w.domain.routers w.injections b x → IfPacket (λ y. 0 < weight y) x
+        lively : (b : ℕ) (x : Item) → IsTrueItem (confs_now w) w.injections b x → IfPacket (λ y. 0 < weight y) x
         lively b (ControlItem p) h = tt
         lively b (PacketItem x) h = lively_weight n x h.lives (lively_ids x h.some)
 

@@ -7,11 +7,11 @@ use Rattle.wire_base.specs.declared.cause.Cause.{Cause}
 use Rattle.wire_base.specs.declared.cause.Cause.TheVariants as cause
 use Rattle.wire_base.specs.declared.conf.RouterConf.{RouterConf}
 use Rattle.wire_base.specs.model.Control.{Control}
-use Rattle.wire_base.specs.model.Flooding.{Reply, on_pdu, tick, send, end_up, end_down, restart}
+use Rattle.wire_base.specs.model.Flooding.{Reply, on_pdu, tick, send, end_up, end_down, relabel, leave, join, restart}
 use Rattle.wire_base.specs.model.Item.{Item, ControlItem, PacketItem, DataItem}
 use Rattle.wire_base.specs.model.Pdu.{Pdu}
 use Rattle.replay_text.specs.declared.event.Event.{Event}
-use Rattle.replay_text.specs.declared.event.Event.TheVariants.{Inject, Take, Lose, Again, Down, Up, Send, Tick, Restart}
+use Rattle.replay_text.specs.declared.event.Event.TheVariants.{Inject, Take, Lose, Again, Down, Up, Send, Tick, Restart, Relabel, Leave, Join}
 use Rattle.domain_model.specs.declared.lines.DropLine.{DropLine}
 use Rattle.domain_model.specs.World.{WorldState, is_up, link_between, queue_at, without_item}
 use Rattle.domain_model.specs.Moves.{Sending, over_end, control_lost, item_lost, packet_taken, inject_made}
@@ -210,3 +210,6 @@ module _ (w : WorldState) where
   shape_of (Send a b) = Quiet (send_quiet a (slice_get w.routers a) (link_between w.domain.routers a b)) (inl refl)
   shape_of (Tick a) = Quiet (change_quiet a tick (slice_get w.routers a)) (inl refl)
   shape_of (Restart a) = Quiet (change_quiet a restart (slice_get w.routers a)) (inl refl)
+  shape_of (Relabel a sd bsl label) = Quiet (change_quiet a (λ c. relabel c sd bsl label) (slice_get w.routers a)) (inl refl)
+  shape_of (Leave a sd) = Quiet (change_quiet a (λ c. leave c sd) (slice_get w.routers a)) (inl refl)
+  shape_of (Join a sd) = Quiet (change_quiet a (λ c. join c sd) (slice_get w.routers a)) (inl refl)

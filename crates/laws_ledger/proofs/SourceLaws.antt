@@ -26,7 +26,7 @@ use Rattle.laws_ledger.proofs.ShapeLaws.{IsControlItem, IsControlSending, IsCont
 use Rattle.laws_ledger.proofs.OutcomeLaws.{group_named}
 use Rattle.laws_ledger.proofs.CopyLaws.{IsOnwardSent, IsOnwardLost, onward_is}
 use Rattle.laws_ledger.proofs.MadeLaws.{IsHopSent, IsHopGot, IsHopDrop, hop_made_is, Fate, Hops, GoesOn, Ends, fate_of}
-use Rattle.laws_ledger.proofs.WorldLaws.{conf_at}
+use Rattle.laws_ledger.proofs.WorldLaws.{IsOwnerAt, owner_at}
 
 -- what all copies of a packet share
 pub record IsSameSource (x y : DataItem) : Type 0 where
@@ -64,21 +64,21 @@ module _ (Q : DataItem → Type 0) (kept : (x y : DataItem) → IsSameSource x y
     pub got : AllByRecursion (IsGotFrom confs Q) m.got
     pub drops : AllByRecursion (IsDropFrom Q) m.drops
 
-  hop_from : (confs : List RouterConf) (a : ℕ) (c : Control) (x : DataItem) (ttl : ℕ) → slice_get confs a ≡ Some c.conf → Q x → IsMadeFrom confs (hop_made confs a c x ttl)
-  hop_from confs a c x ttl at h =
+  hop_from : (confs : List RouterConf) (a : ℕ) (c : Control) (x : DataItem) (ttl : ℕ) → IsOwnerAt confs a c.conf → Q x → IsMadeFrom confs (hop_made confs a c x ttl)
+  hop_from confs a c x ttl owner h =
       let g = control_view c in
       let u = node_place g c.conf.system in
       let made = hop_made_is confs a c.conf g u x ttl in
       record {
         sent = each_weaker (IsHopSent confs a c.conf g u x ttl) (λ s. IfPacket Q s.item) (λ s k. subst (λ (z : Sending). IfPacket Q z.item) (sym k.is) (copied k)) (hop_made confs a c x ttl).sent made.sent;
-        got = each_weaker (IsHopGot confs a c.conf g u x ttl) (IsGotFrom confs Q) (λ l k. subst (IsGotFrom confs Q) (sym k.is) (record { item = x; holds = h; router = c.conf; there = at; own = k.owns; number = refl; payload = refl })) (hop_made confs a c x ttl).got made.got;
+        got = each_weaker (IsHopGot confs a c.conf g u x ttl) (IsGotFrom confs Q) (λ l k. subst (IsGotFrom confs Q) (sym k.is) (record { item = x; holds = h; router = owner.router; there = owner.there; own = owner.own x.triple.sd k.id k.owns; number = refl; payload = refl })) (hop_made confs a c x ttl).got made.got;
         drops = each_weaker (IsHopDrop confs a c.conf g u x ttl) (IsDropFrom Q) (λ d k. inr (x, h, ap (λ (z : DropLine). z.injection) k.is)) (hop_made confs a c x ttl).drops made.drops;
       }
     where
       copied : {s : Sending} → (k : IsHopSent confs a c.conf (control_view c) (node_place (control_view c) c.conf.system) x ttl s) → Q (record x { bift = k.way.bift; ids = k.ids; ttl = k.left; outer = k.way.outer })
       copied k = kept x (record x { bift = k.way.bift; ids = k.ids; ttl = k.left; outer = k.way.outer }) (record { number = refl; entropy = refl; payload = refl; triple = refl; part = λ j named. (group_named (own_id c.conf x.triple.sd) (choice_of c.conf (control_view c) (node_place (control_view c) c.conf.system) (packet_of x)) x.ids ttl k.node k.ids k.left j k.group named).0 }) h
 
-  pub taken_from : (confs : List RouterConf) (a : ℕ) (c : Control) (x : DataItem) → slice_get confs a ≡ Some c.conf → Q x → IsMadeFrom confs (packet_taken confs a c x x.outer)
+  pub taken_from : (confs : List RouterConf) (a : ℕ) (c : Control) (x : DataItem) → IsOwnerAt confs a c.conf → Q x → IsMadeFrom confs (packet_taken confs a c x x.outer)
   taken_from confs a c x at h = by (fate_of confs a c x)
     where
       onward : (o : Outer) (m : Made) → IsOnwardSent confs a c.conf (control_view c) (node_place (control_view c) c.conf.system) x o m ⊎ IsOnwardLost a c.conf (control_view c) (node_place (control_view c) c.conf.system) x o m → IsMadeFrom confs m
@@ -92,7 +92,7 @@ module _ (Q : DataItem → Type 0) (kept : (x y : DataItem) → IsSameSource x y
       by (GoesOn o e on more is) = subst (IsMadeFrom confs) (sym is) (onward o (sent_onward confs a c.conf (control_view c) (node_place (control_view c) c.conf.system) x o) (onward_is confs a c.conf (control_view c) (node_place (control_view c) c.conf.system) x o))
       by (Ends o e on few is) = subst (IsMadeFrom confs) (sym is) (record { sent = tt; got = tt; drops = (inr (x, h, refl), tt) })
 
-  pub inject_from : (confs : List RouterConf) (a : ℕ) (c : Control) (number : ℕ) (i : Injection) → slice_get confs a ≡ Some c.conf → ((x : DataItem) → x.number ≡ number → IsCopyOf i x → Q x) → IsMadeFrom confs (inject_made confs a c number i.sd i.bsl i.ids i.ttl i.entropy i.payload)
+  pub inject_from : (confs : List RouterConf) (a : ℕ) (c : Control) (number : ℕ) (i : Injection) → IsOwnerAt confs a c.conf → ((x : DataItem) → x.number ≡ number → IsCopyOf i x → Q x) → IsMadeFrom confs (inject_made confs a c number i.sd i.bsl i.ids i.ttl i.entropy i.payload)
   unfolding inject_made packets_for
   inject_from confs a c number i at first =
       let item : IngressPacket → DataItem = λ p. entering_item c.conf number i.ttl i.entropy i.payload p in
@@ -158,9 +158,9 @@ module _ (Q : DataItem → Type 0) (kept : (x y : DataItem) → IsSameSource x y
       by (Taken k none) =
           subst (IsAfterFrom w.domain.routers) (sym k.is)
           (made_from w.domain.routers (taken_off w k.from k.link k.i) (packet_taken w.domain.routers k.to k.router k.item k.item.outer) (gone_copies w.flights k.from k.link k.i all)
-          (taken_from w.domain.routers k.to k.router k.item (conf_at w truth k.to k.router k.there) (each_got (IfPacket Q) (queue_at w.flights k.from k.link) k.i (PacketItem k.item) (all k.from k.link) k.at)))
+          (taken_from w.domain.routers k.to k.router k.item (owner_at w truth k.to k.router k.there) (each_got (IfPacket Q) (queue_at w.flights k.from k.link) k.i (PacketItem k.item) (all k.from k.link) k.at)))
       by (Entered k) =
           let i = k.injection in
           subst (IsAfterFrom w.domain.routers) (sym k.is)
           (made_from w.domain.routers (record w { injections = w.injections + 1 }) (inject_made w.domain.routers i.router k.router (w.injections + 1) i.sd i.bsl i.ids i.ttl i.entropy i.payload) all
-          (inject_from w.domain.routers i.router k.router (w.injections + 1) i (conf_at w truth i.router k.router k.there) (first i k.event)))
+          (inject_from w.domain.routers i.router k.router (w.injections + 1) i (owner_at w truth i.router k.router k.there) (first i k.event)))

@@ -18,7 +18,7 @@ use Rattle.laws_route.proofs.DescentLemmas.{edge-within}
 use Rattle.laws_route.proofs.WalkLemmas.{best-route}
 use Rattle.laws_router.specs.State.{IssuesAlone}
 use Rattle.domain_model.specs.Faults.{is_up_toward}
-use Rattle.domain_model.specs.Truth.{IsTrueControl, IsTruthful}
+use Rattle.domain_model.specs.Truth.{IsTrueControl, IsTruthful, confs_now, domain_now}
 use Rattle.domain_model.specs.World.{WorldState}
 use Rattle.domain_model.proofs.DomainLaws.{alike, system_place}
 use Rattle.domain_model.proofs.EachLaws.{each_got}
@@ -41,16 +41,16 @@ module _ (w : WorldState) (truth : IsTruthful w) (issuers : AreIssuers w.routers
   -- all that is known of a router
   record IsHere (a : ℕ) (c : Control) : Type 0 where
     at : slice_get w.routers a ≡ Some c
-    conf : slice_get w.domain.routers a ≡ Some c.conf
-    control : IsTrueControl w.domain.routers c
+    conf : slice_get (confs_now w) a ≡ Some c.conf
+    control : IsTrueControl (confs_now w) c
     own : HasOwnLsp c.conf c.flood.up c.entries
 
   here : (a : ℕ) (c : Control) → slice_get w.routers a ≡ Some c → IsHere a c
   here a c at =
-      let control = each_got (IsTrueControl w.domain.routers) w.routers a c truth.controls at in
+      let control = each_got (IsTrueControl (confs_now w)) w.routers a c truth.controls at in
       record {
         at = at;
-        conf = subst (λ (rs : List RouterConf). slice_get rs a ≡ Some c.conf) truth.confs (get_mapped (λ (x : Control). x.conf) w.routers a c at);
+        conf = get_mapped (λ (x : Control). x.conf) w.routers a c at;
         control = control;
         own = own_lsp_of c control.kept (each_got IssuesAlone w.routers a c issuers at) (each_got (λ (x : Control). x.spent ≡ false) w.routers a c quiet.unspent at);
       }
@@ -67,7 +67,7 @@ module _ (w : WorldState) (truth : IsTruthful w) (issuers : AreIssuers w.routers
   -- across a link that is up the topology is the same
   across : (a b : ℕ) (c d : Control) → IsHere a c → IsHere b d → is_up_toward w a b ≡ true → (l : LinkConf) → IsQuietLink w l → ((l.a ≡ a) × (l.b ≡ b)) ⊎ ((l.a ≡ b) × (l.b ≡ a)) → control_view d ≡ control_view c
   across a b c d h k up l q ends =
-      let kinds : d.conf.kinds ≡ c.conf.kinds = (alike w.domain truth.valid c.conf d.conf h.control.among k.control.among).kinds in
+      let kinds : d.conf.kinds ≡ c.conf.kinds = (alike (domain_now w) truth.now c.conf d.conf h.control.among k.control.among).kinds in
       same_topology d c k.control.kept.sound h.control.kept.sound (asc b d k) (asc a c h) k.own h.own kinds (same ends)
     where
       same : ((l.a ≡ a) × (l.b ≡ b)) ⊎ ((l.a ≡ b) × (l.b ≡ a)) → said_in d.entries ≡ said_in c.entries
@@ -90,9 +90,9 @@ module _ (w : WorldState) (truth : IsTruthful w) (issuers : AreIssuers w.routers
     node : node_place g control.conf.system ≡ y
     view : control_view control ≡ g
 
-  -- the router of a configuration of the domain
-  router_of : (place : ℕ) (r : RouterConf) → slice_get w.domain.routers place ≡ Some r → (d : Control) × (slice_get w.routers place ≡ Some d) × (d.conf ≡ r)
-  router_of place r at = by (slice_get w.routers place) refl (sym (slice_get-map (λ (x : Control). x.conf) w.routers place) ∙ ap (λ (rs : List RouterConf). slice_get rs place) truth.confs ∙ at)
+  -- the router that has a configuration of now
+  router_of : (place : ℕ) (r : RouterConf) → slice_get (confs_now w) place ≡ Some r → (d : Control) × (slice_get w.routers place ≡ Some d) × (d.conf ≡ r)
+  router_of place r at = by (slice_get w.routers place) refl (sym (slice_get-map (λ (x : Control). x.conf) w.routers place) ∙ at)
     where
       by : (o : Option Control) → slice_get w.routers place ≡ o → option_map (λ (x : Control). x.conf) o ≡ Some r → (d : Control) × (slice_get w.routers place ≡ Some d) × (d.conf ≡ r)
       by None q e = cc
@@ -101,10 +101,10 @@ module _ (w : WorldState) (truth : IsTruthful w) (issuers : AreIssuers w.routers
   own_edge : (a : ℕ) (c : Control) → slice_get w.routers a ≡ Some c → (e : ViewEdge) → Contains (edges_of (control_view c) (node_place (control_view c) c.conf.system)) e → IsNextView (control_view c) e.to
   own_edge a c at e has =
       let h = here a c at in
-      let k = known_of w.domain truth.valid c h.control in
+      let k = known_of (domain_now w) truth.now c h.control in
       let g = control_view c in
       let within = (edge-within g k.graph (node_place g c.conf.system) e has).names in
-      let r = router_at w.domain truth.valid g k.graph k.nodes e.to within in
+      let r = router_at (domain_now w) truth.now g k.graph k.nodes e.to within in
       let n = node_some g (node_place g c.conf.system) k.own in
       let there : Contains n.0.edges e = subst (λ (o : Option ViewNode). Contains (edges_at o) e) n.1 has in
       let sound = h.control.kept.sound in
@@ -112,8 +112,8 @@ module _ (w : WorldState) (truth : IsTruthful w) (issuers : AreIssuers w.routers
       let listed = leaves c.conf.kinds c.entries (filter is_first c.entries) c.conf.system (map end_link (picked c.flood.up c.conf.ends)) links g (view_by a c h) n.0 n.1 e there r.node r.there in
       let up = some_up c.flood.up c.conf.ends r.router.system (subst (λ (s : SystemId). is_some (metric_to (map end_link (picked c.flood.up c.conf.ends)) s) ≡ true) r.system listed) in
       let d = router_of r.place r.router r.at in
-      let l = link_of w truth.valid a r.place c r.router at h.conf r.at up (IsQuietLink w) quiet.links in
-      let toward = is_toward w truth.valid a r.place c r.router at h.conf r.at up in
+      let l = link_of w truth a r.place c r.router at h.conf r.at up (IsQuietLink w) quiet.links in
+      let toward = is_toward w truth a r.place c r.router at h.conf r.at up in
       record {
         place = r.place;
         control = d.0;
@@ -131,10 +131,10 @@ module _ (w : WorldState) (truth : IsTruthful w) (issuers : AreIssuers w.routers
       let h = here a c at in
       let k = here b d there in
       let g = control_view c in
-      let n = node_some g (node_place g c.conf.system) (known_of w.domain truth.valid c h.control).own in
+      let n = node_some g (node_place g c.conf.system) (known_of (domain_now w) truth.now c h.control).own in
       let mine : n.0.system ≡ c.conf.system = place_has c.conf.system g n.0 n.1 in
       let its : n.0.system ≡ d.conf.system = place_has d.conf.system g n.0 (ap (slice_get g) (sym same) ∙ n.1) in
-      let place : b ≡ a = system_place w.domain truth.valid b a d.conf c.conf k.conf h.conf (sym its ∙ mine) in
+      let place : b ≡ a = system_place (domain_now w) truth.now b a d.conf c.conf k.conf h.conf (sym its ∙ mine) in
       ap control_view (same_Some d c (sym there ∙ ap (slice_get w.routers) place ∙ at))
 
   along : (g : List ViewNode) (a : ℕ) (c : Control) → slice_get w.routers a ≡ Some c → control_view c ≡ g → (es : List ViewEdge) (b : ℕ) (d : Control) → slice_get w.routers b ≡ Some d → Leads g (node_place g c.conf.system) (node_place g d.conf.system) es → control_view d ≡ g

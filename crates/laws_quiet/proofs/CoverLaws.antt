@@ -20,21 +20,19 @@ use Rattle.wire_base.specs.model.View.{control_view, sub_of}
 use Rattle.quiet_domain.specs.declared.path.Way.{Way}
 use Rattle.quiet_domain.proofs.PathLaws.{first_hop, hops_are, hops_here}
 use Rattle.replay_text.specs.declared.event.Event.{Event}
-use Rattle.replay_text.specs.declared.event.Event.TheVariants.{Inject, Take, Lose, Again, Down, Up, Send, Tick, Restart}
+use Rattle.replay_text.specs.declared.event.Event.TheVariants.{Inject, Take, Lose, Again, Down, Up, Send, Tick, Restart, Relabel, Leave, Join}
 use Rattle.wire_base.specs.declared.cause.Cause.TheVariants.{Link}
 use Rattle.domain_model.specs.Moves.{inject_made, item_lost}
 use Rattle.domain_model.specs.Run.{Run, goes_on}
 use Rattle.domain_model.specs.Step.{arrives, comes, happens, injects, makes, taken_off, takes, takes_over}
-use Rattle.domain_model.specs.Truth.{IsTrueControl, IsTruthful}
+use Rattle.domain_model.specs.Truth.{IsTrueControl, IsTruthful, confs_now, domain_now}
 use Rattle.domain_model.specs.World.{WorldState, is_up, link_between, queue_at, queue_over}
-use Rattle.domain_model.proofs.DomainLaws.{same_by_system}
 use Rattle.domain_model.proofs.EachLaws.{each_got}
-use Rattle.domain_model.proofs.ViewTruth.{IsRouterNode, places_of}
 use Rattle.laws_ledger.specs.Ledger.{Injection, entered, triple_for}
 use Rattle.laws_ledger.specs.Runs.{unlined}
 use Rattle.laws_ledger.specs.Weights.{is_of, is_one_of, takes_copy}
 use Rattle.laws_course.specs.Course.{Agreed, FitTunnels, HasAgreed, IsCarried, IsCovered, IsSteady, loses_copy, next_for, own_node}
-use Rattle.laws_course.proofs.KnownLaws.{few_nodes, known_of, place_has}
+use Rattle.laws_course.proofs.KnownLaws.{few_nodes, known_of}
 use Rattle.laws_course.proofs.NodeLaws.{node_some}
 use Rattle.laws_course.proofs.OnceLaws.{small_fit}
 use Rattle.laws_quiet.specs.Cover.{AreTakes, IsCoveredRun, covers_id, is_covered, is_own, way_from}
@@ -73,28 +71,24 @@ listed_id q (s ∷ subs) sd k h = by (s.sd == sd) refl h (listed_id q subs sd k)
     by false e h more = rw (e, more h) refl
 
 module _ (w : WorldState) (truth : IsTruthful w) (a : ℕ) (c : Control) (at : slice_get w.routers a ≡ Some c) where
-  control : IsTrueControl w.domain.routers c
-  control = each_got (IsTrueControl w.domain.routers) w.routers a c truth.controls at
+  control : IsTrueControl (confs_now w) c
+  control = each_got (IsTrueControl (confs_now w)) w.routers a c truth.controls at
 
   own_has : (sd k : ℕ) → own_id c.conf sd ≡ Some k → has_id_at (control_view c) sd k (own_node c) ≡ true
   own_has sd k own =
-      let known = known_of w.domain truth.valid c control in
-      let g = control_view c in
-      let n = node_some g (own_node c) known.own in
-      let is = each_got (IsRouterNode w.domain.routers) g (own_node c) n.0 known.nodes n.1 in
-      let system : n.0.system ≡ c.conf.system = place_has c.conf.system g n.0 n.1 in
-      let router : is.router ≡ c.conf = same_by_system w.domain truth.valid is.router c.conf is.among control.among (sym is.system ∙ system) in
+      let known = known_of (domain_now w) truth.now c control in
+      let n = node_some (control_view c) (own_node c) known.own in
       ap (node_has_id sd k) n.1
-      ∙ ap (λ (subs : List ViewSub). list_any (λ s. (s.sd == sd) && (s.id == k)) subs) (is.subs ∙ ap places_of router)
+      ∙ ap (λ (subs : List ViewSub). list_any (λ s. (s.sd == sd) && (s.id == k)) subs) (known.now n.0 n.1)
       ∙ listed_id c.conf c.conf.subs sd k own
 
   graph : IsGraph (control_view c)
-  graph = (known_of w.domain truth.valid c control).graph
+  graph = (known_of (domain_now w) truth.now c control).graph
 
   pub few_here : length (control_view c) ≤ 255
   few_here =
       let few = few_nodes w a c truth at in
-      let most : length w.domain.routers ≤ 250 = truth.valid.few in
+      let most : length w.domain.routers ≤ 250 = truth.valid.consistent.few in
       omega (arith, few, most)
 
   fits : (k : ℕ) (i : Injection) → FitTunnels (control_view c) (next_for c.conf (control_view c) (triple_for i k) i.entropy k) (own_node c)
@@ -157,6 +151,9 @@ inject_keeps w n (Up a b) i h = no_injection (w.injections + 1 == n) i h
 inject_keeps w n (Send a b) i h = no_injection (w.injections + 1 == n) i h
 inject_keeps w n (Tick a) i h = no_injection (w.injections + 1 == n) i h
 inject_keeps w n (Restart a) i h = no_injection (w.injections + 1 == n) i h
+inject_keeps w n (Relabel a sd bsl label) i h = no_injection (w.injections + 1 == n) i h
+inject_keeps w n (Leave a sd) i h = no_injection (w.injections + 1 == n) i h
+inject_keeps w n (Join a sd) i h = no_injection (w.injections + 1 == n) i h
 
 pub take_keeps : (w : WorldState) (n : ℕ) (e : Event) → takes_copy w n e ≡ true → KeepsRouters w e
 unfolding happens
@@ -187,6 +184,9 @@ take_keeps w n (Up a b) h = absurd (false≢true h)
 take_keeps w n (Send a b) h = absurd (false≢true h)
 take_keeps w n (Tick a) h = absurd (false≢true h)
 take_keeps w n (Restart a) h = absurd (false≢true h)
+take_keeps w n (Relabel a sd bsl label) h = absurd (false≢true h)
+take_keeps w n (Leave a sd) h = absurd (false≢true h)
+take_keeps w n (Join a sd) h = absurd (false≢true h)
 
 pub take_loses_none : (w : WorldState) (n : ℕ) (e : Event) → takes_copy w n e ≡ true → loses_copy w n e ≡ false
 take_loses_none w n (Take a b j) h = refl
@@ -198,6 +198,9 @@ take_loses_none w n (Up a b) h = refl
 take_loses_none w n (Send a b) h = refl
 take_loses_none w n (Tick a) h = refl
 take_loses_none w n (Restart a) h = refl
+take_loses_none w n (Relabel a sd bsl label) h = refl
+take_loses_none w n (Leave a sd) h = refl
+take_loses_none w n (Join a sd) h = refl
 
 -- ---- so topologies stay and agree
 

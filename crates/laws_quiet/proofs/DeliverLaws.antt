@@ -7,11 +7,11 @@ use Rattle.wire_base.specs.model.Hop.{has, one_if}
 use Rattle.wire_base.specs.model.Item.{Item, ControlItem, PacketItem}
 use Rattle.wire_base.specs.model.View.{control_view}
 use Rattle.replay_text.specs.declared.event.Event.{Event}
-use Rattle.replay_text.specs.declared.event.Event.TheVariants.{Inject, Take, Lose, Again, Down, Up, Send, Tick, Restart}
+use Rattle.replay_text.specs.declared.event.Event.TheVariants.{Inject, Take, Lose, Again, Down, Up, Send, Tick, Restart, Relabel, Leave, Join}
 use Rattle.domain_model.specs.Faults.{event_fault}
 use Rattle.domain_model.specs.Run.{world_after}
 use Rattle.domain_model.specs.Step.{happens}
-use Rattle.domain_model.specs.Truth.{EventFits, IsTrueItem, IsTruthful}
+use Rattle.domain_model.specs.Truth.{EventFits, IsTrueItem, IsTruthful, confs_now}
 use Rattle.domain_model.specs.World.{WorldState, peer_place, queue_at}
 use Rattle.domain_model.proofs.EachLaws.{each_from, each_weaker}
 use Rattle.domain_model.proofs.WorldTruth.{happens_true}
@@ -43,10 +43,10 @@ all_zero flights = sum-none (λ qs. sum_by (λ q. sum_by (λ x. 0) q) qs) flight
 none_yet : (w : WorldState) (n k : ℕ) → IsTruthful w → w.injections < n → copies_of n k w.flights ≡ 0
 none_yet w n k truth later =
     let few = over-most (IfPacket (λ y. y.number ≤ w.injections)) (λ x. one_if (carries n k x)) (λ x. 0) none w.flights
-    (λ a link. each_weaker (IsTrueItem w.domain.routers w.injections (peer_place w.domain.routers a link)) (IfPacket (λ y. y.number ≤ w.injections)) (known (peer_place w.domain.routers a link)) (queue_at w.flights a link) (truth.items a link)) in
+    (λ a link. each_weaker (IsTrueItem (confs_now w) w.injections (peer_place w.domain.routers a link)) (IfPacket (λ y. y.number ≤ w.injections)) (known (peer_place w.domain.routers a link)) (queue_at w.flights a link) (truth.items a link)) in
     omega (arith, few, all_zero w.flights)
   where
-    known : (b : ℕ) (x : Item) → IsTrueItem w.domain.routers w.injections b x → IfPacket (λ y. y.number ≤ w.injections) x
+    known : (b : ℕ) (x : Item) → IsTrueItem (confs_now w) w.injections b x → IfPacket (λ y. y.number ≤ w.injections) x
     known b (ControlItem p) h = tt
     known b (PacketItem x) h = h.made
 
@@ -83,6 +83,9 @@ take_names w n k (Up a b) h = absurd (false≢true h)
 take_names w n k (Send a b) h = absurd (false≢true h)
 take_names w n k (Tick a) h = absurd (false≢true h)
 take_names w n k (Restart a) h = absurd (false≢true h)
+take_names w n k (Relabel a sd bsl label) h = absurd (false≢true h)
+take_names w n k (Leave a sd) h = absurd (false≢true h)
+take_names w n k (Join a sd) h = absurd (false≢true h)
 
 -- the copies of injection n for k are on their course in the topology of the router c, with which all topologies agree
 record IsUnderway (w : WorldState) (s : ℕ) (c : Control) (n k : ℕ) : Type 0 where

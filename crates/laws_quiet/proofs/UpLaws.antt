@@ -10,16 +10,19 @@ use Rattle.wire_base.specs.declared.conf.End.{End}
 use Rattle.wire_base.specs.declared.conf.LinkConf.{LinkConf}
 use Rattle.wire_base.specs.declared.conf.RouterConf.{RouterConf}
 use Rattle.wire_base.specs.model.Choice.{end_toward}
-use Rattle.wire_base.specs.model.Configuration.{AreEnds, DomainConf, Faces, HaveEnds, IsSound, IsValid, other_end, peers_of, same_peer}
+use Rattle.wire_base.specs.model.Configuration.{AreEnds, DomainConf, Faces, HaveEnds, IsSound, other_end, peers_of, same_peer}
 use Rattle.wire_base.specs.model.Control.{Control, same_system}
 use Rattle.wire_base.specs.model.Lists.{AreApart}
 use Rattle.wire_base.specs.model.OwnLsp.{picked}
 use Rattle.wire_base.specs.model.View.{end_link, least_of, metric_to}
-use Rattle.domain_model.specs.Faults.{is_up_toward}
-use Rattle.domain_model.specs.World.{WorldState}
+use Rattle.laws_members.proofs.DomainLaws.{same_stripped}
+use Rattle.domain_model.specs.Faults.{is_up_toward, up_over}
+use Rattle.domain_model.specs.Truth.{IsTruthful, confs_now, domain_now}
+use Rattle.domain_model.specs.World.{WorldState, end_between, link_between}
 use Rattle.domain_model.proofs.DomainLaws.{apart_place, bytes_from, bytes_is, bytes_turned, system_place}
 use Rattle.domain_model.proofs.EachLaws.{each_got}
 use Rattle.domain_model.proofs.LinkLaws.{end_found, end_some}
+use Rattle.laws_course.proofs.ChangedLaws.{link_stays}
 
 -- ---- interfaces that are up
 
@@ -105,13 +108,16 @@ two_ends x y l h = by (l.a == x) refl (l.b == x) refl
 
 -- ---- across a link
 
-module _ (w : WorldState) (valid : IsValid w.domain) (a b : ℕ) (c : Control) (q : RouterConf) (at : slice_get w.routers a ≡ Some c) (conf : slice_get w.domain.routers a ≡ Some c.conf) (far : slice_get w.domain.routers b ≡ Some q)
+module _ (w : WorldState) (truth : IsTruthful w) (a b : ℕ) (c : Control) (q : RouterConf) (at : slice_get w.routers a ≡ Some c) (conf : slice_get (confs_now w) a ≡ Some c.conf) (far : slice_get (confs_now w) b ≡ Some q)
     (up : HasUpEnd c.flood.up c.conf.ends q.system) where
   pub is_toward : is_up_toward w a b ≡ true
   is_toward =
-      let sound = each_got IsSound w.domain.routers a c.conf valid.sound conf in
+      let sound = each_got IsSound (confs_now w) a c.conf truth.now.sound conf in
       let toward = toward_is c.conf.ends q.system up.link up.interface sound.peers up.there up.peer in
-      rw (at, conf, far, toward) up.is_up
+      let link : link_between w.domain.routers a b ≡ Some up.link =
+      link_stays w.domain.routers (confs_now w) (same_stripped w.domain.routers (confs_now w) truth.become) a b
+      ∙ ap (λ (o : Option RouterConf). end_between o (slice_get (confs_now w) b)) conf ∙ ap (end_between (Some c.conf)) far ∙ toward in
+      ap (λ (o : Option Control). up_over o (link_between w.domain.routers a b)) at ∙ ap (up_over (Some c)) link ∙ up.is_up
 
   -- the link of the domain between the two
   pub record IsLinkOf (P : LinkConf → Type 0) : Type 0 where
@@ -121,9 +127,9 @@ module _ (w : WorldState) (valid : IsValid w.domain) (a b : ℕ) (c : Control) (
 
   pub link_of : (P : LinkConf → Type 0) → AllByRecursion P w.domain.links → IsLinkOf P
   link_of P all =
-      let ends = ends_of w.domain 0 w.domain.routers a c.conf valid.ends conf in
+      let ends = ends_of (domain_now w) 0 (confs_now w) a c.conf truth.now.ends conf in
       let z : 0 + a ≡ a = omega arith in
-      let f = faced w.domain.routers c.conf (peers_of (0 + a) w.domain.links) c.conf.ends up.link up.interface ends up.there in
-      let place : f.place ≡ b = system_place w.domain valid f.place b f.router q f.there far (sym f.peer ∙ up.peer) in
+      let f = faced (confs_now w) c.conf (peers_of (0 + a) w.domain.links) c.conf.ends up.link up.interface ends up.there in
+      let place : f.place ≡ b = system_place (domain_now w) truth.now f.place b f.router q f.there far (sym f.peer ∙ up.peer) in
       let l = peer_link P a b w.domain.links up.link all (subst (λ (p : ℕ). slice_get (peers_of p w.domain.links) up.link ≡ Some b) z (f.listed ∙ ap (λ (n : ℕ). Some n) place)) in
       record { link = l.0; has = l.1; ends = two_ends a b l.0 l.2 }
