@@ -91,6 +91,9 @@ event_doable names words (event.Up from to) is = (tt, refl)
 event_doable names words (event.Send from to) is = (tt, refl)
 event_doable names words (event.Tick router) is = (tt, refl)
 event_doable names words (event.Restart router) is = (tt, refl)
+event_doable names words (event.Relabel router sd bsl label) is = (tt, refl)
+event_doable names words (event.Leave router sd) is = (tt, refl)
+event_doable names words (event.Join router sd) is = (tt, refl)
 
 said_doable : (names words : List (List ℕ)) (said : Line) → IsSaid names words said → IsDoable (length names) said
 said_doable names words line.Empty is = (tt, tt)

@@ -85,8 +85,8 @@ from_joins d valid a (r ∷ rs) is h =
     joins i low high =
         let e = end_there r.ends i (omega (arith, high)) in
         let far : IsPeered d.routers e.0 = each_got (IsPeered d.routers) r.ends i e.0 (ends_peered d.routers r (peers_of a d.links) r.ends h.0) e.1 in
-        let leads : peer_place d.routers a i ≡ far.place = peer_at d.routers valid.systems a i far.place r far.router e.0 here e.1 far.there far.peer in
-        let apart = (each_got IsSound d.routers a r valid.sound here).peers in
+        let leads : peer_place d.routers a i ≡ far.place = peer_at d.routers valid.consistent.systems a i far.place r far.router e.0 here e.1 far.there far.peer in
+        let apart = (each_got IsSound d.routers a r valid.consistent.sound here).peers in
         record {
           from = omega (arith, is.few);
           to = subst (λ (p : ℕ). p < length d.routers) (sym leads) (got_within d.routers far.place far.router far.there);
@@ -95,12 +95,12 @@ from_joins d valid a (r ∷ rs) is h =
 
 pub directions_join : (d : DomainConf) → IsValid d → AllByRecursion (IsJoining d.routers) (directions d.routers)
 unfolding directions
-directions_join d valid = from_joins d valid 0 d.routers (record { at = λ i. (let k : 0 + i ≡ i = omega arith in ap (slice_get d.routers) k); few = omega arith }) valid.ends
+directions_join d valid = from_joins d valid 0 d.routers (record { at = λ i. (let k : 0 + i ≡ i = omega arith in ap (slice_get d.routers) k); few = omega arith }) valid.consistent.ends
 
 -- the end is there at which a direction arrives
 pub facing_found : (v w : WorldState) (x d : Direction) (o : Option ℕ) → IsTruthful v → v ≡ w → x ≡ d → link_between w.domain.routers d.from d.to ≡ Some d.link → o ≡ link_between v.domain.routers x.to x.from → o ≡ None → ⊥
 facing_found v w x d o t same is joined found none =
-    let back = links_back w.domain (subst IsTruthful same t).valid d.from d.to d.link joined in
+    let back = links_back w.domain (subst IsTruthful same t).valid.consistent d.from d.to d.link joined in
     some_none back.0
     (sym back.1 ∙ ap (λ (u : WorldState). link_between u.domain.routers d.to d.from) (sym same) ∙ ap (λ (y : Direction). link_between v.domain.routers y.to y.from) (sym is) ∙ sym found ∙ none)
   where

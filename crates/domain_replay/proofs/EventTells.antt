@@ -80,6 +80,11 @@ event_refused line t old new c f r b e why view refuses stays = subst (λ (u : T
     by (faults.NoFrame i n) r s = because (faults.NoFrame i n) r s
     by faults.NotControl r s = because faults.NotControl r s
     by (faults.Edge why) r s = because (faults.Edge why) r s
+    by faults.NoSub r s = because faults.NoSub r s
+    by faults.SubState r s = because faults.SubState r s
+    by faults.LabelHigh r s = because faults.LabelHigh r s
+    by (faults.LabelUsed label) r s = because (faults.LabelUsed label) r s
+    by faults.Relabels r s = because faults.Relabels r s
     by faults.Memory r s = tt
 
 -- the same of an event that is reported in other words
@@ -96,6 +101,11 @@ stays_so same faults.InFlight s = s
 stays_so same (faults.NoFrame i n) s = s
 stays_so same faults.NotControl s = s
 stays_so same (faults.Edge why) s = s
+stays_so same faults.NoSub s = s
+stays_so same faults.SubState s = s
+stays_so same faults.LabelHigh s = s
+stays_so same (faults.LabelUsed label) s = s
+stays_so same faults.Relabels s = s
 stays_so same faults.Memory s = tt
 
 -- it was done, and nothing is reported of it

@@ -1,7 +1,7 @@
 -- What a call on a line is asked, and what it tells, in the words of its answer.
 use Rattle.std.proofs.Common.{◌≡◌, ◌≢◌, ℕ, Some, Result, Ok, Err, IfErr, OnOk, refl, arith}
 use Rattle.replay_text.specs.declared.event.Event.{Event}
-use Rattle.replay_text.specs.declared.event.Event.TheVariants.{Inject, Take, Lose, Again, Down, Up, Send, Tick, Restart}
+use Rattle.replay_text.specs.declared.event.Event.TheVariants.{Inject, Take, Lose, Again, Down, Up, Send, Tick, Restart, Relabel, Leave, Join}
 use Rattle.replay_text.specs.Events as lines
 use Rattle.domain_model.specs.declared.fault.EventFault.{EventFault}
 use Rattle.domain_model.specs.declared.fault.EventFault.TheVariants as faults
@@ -29,6 +29,9 @@ event_fits count (Up from to) fits numbers = (fits.from_within, fits.to_within)
 event_fits count (Send from to) fits numbers = (fits.from_within, fits.to_within)
 event_fits count (Tick router) fits numbers = fits
 event_fits count (Restart router) fits numbers = fits
+event_fits count (Relabel router sd bsl label) fits numbers = record { place = fits.within; first = fits.free }
+event_fits count (Leave router sd) fits numbers = fits
+event_fits count (Join router sd) fits numbers = fits
 
 pub event_asked : (count : ℕ) (e : Event) → lines.EventFits count e → NumbersFit e → NamesOnce e → IsAsked count e
 event_asked count e fits numbers once = record { fits = event_fits count e fits numbers; once = once }
@@ -45,6 +48,11 @@ refused_by all now faults.InFlight is known = is
 refused_by all now (faults.NoFrame i n) is known = is
 refused_by all now faults.NotControl is known = is
 refused_by all now (faults.Edge why) is known = is
+refused_by all now faults.NoSub is known = is
+refused_by all now faults.SubState is known = is
+refused_by all now faults.LabelHigh is known = is
+refused_by all now (faults.LabelUsed label) is known = is
+refused_by all now faults.Relabels is known = is
 refused_by all now faults.Memory is known = absurd (known refl)
 
 pub tells_refused : (all : Told) (now : Telling) (result : Result (Unit {0}) EventFault) → Tells all now result → IfErr result (λ e. e ≢ faults.Memory → all ≡ record { telling = now; refused = Some e })

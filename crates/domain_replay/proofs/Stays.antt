@@ -1,10 +1,10 @@
 -- What no event changes: the domain and the number of its routers; and how the number of injections grows.
 use Rattle.std.proofs.Common.{◌≡◌, ℕ, zero, suc, ◌+◌, ◌<◌, Bool, true, false, List, [], ◌∷◌, length, slice_get, length-set, Option, Some, None, if◌then◌else◌, refl, arith}
 use Rattle.wire_base.specs.model.Control.{Control}
-use Rattle.wire_base.specs.model.Flooding.{Reply, end_up, end_down, tick, restart}
+use Rattle.wire_base.specs.model.Flooding.{Reply, end_up, end_down, tick, restart, relabel, leave, join}
 use Rattle.wire_base.specs.model.Item.{Item, ControlItem, PacketItem}
 use Rattle.replay_text.specs.declared.event.Event.{Event}
-use Rattle.replay_text.specs.declared.event.Event.TheVariants.{Inject, Take, Lose, Again, Down, Up, Send, Tick, Restart}
+use Rattle.replay_text.specs.declared.event.Event.TheVariants.{Inject, Take, Lose, Again, Down, Up, Send, Tick, Restart, Relabel, Leave, Join}
 use Rattle.domain_model.specs.World.{WorldState, is_up, link_between, queue_at}
 use Rattle.domain_model.specs.Moves.{Made, item_lost, inject_made}
 use Rattle.wire_base.specs.declared.cause.Cause.TheVariants as cause
@@ -92,6 +92,9 @@ doing_stays w (Up a b) there = changes_end_stays w a end_up (slice_get w.routers
 doing_stays w (Send a b) there = sends_stays w a (slice_get w.routers a) (link_between w.domain.routers a b)
 doing_stays w (Tick a) there = changes_stays w a tick (slice_get w.routers a)
 doing_stays w (Restart a) there = changes_stays w a restart (slice_get w.routers a)
+doing_stays w (Relabel a sd bsl label) there = changes_stays w a (λ c. relabel c sd bsl label) (slice_get w.routers a)
+doing_stays w (Leave a sd) there = changes_stays w a (λ c. leave c sd) (slice_get w.routers a)
+doing_stays w (Join a sd) there = changes_stays w a (λ c. join c sd) (slice_get w.routers a)
 
 pub happens_stays : (w : WorldState) (e : Event) → IsEntered (length w.routers) e → Stays (injected_by e) w (happens w e)
 unfolding happens
@@ -113,3 +116,6 @@ happens_domain w (Up a b) = (let s = doing_stays w (Up a b) tt in s.domain)
 happens_domain w (Send a b) = (let s = doing_stays w (Send a b) tt in s.domain)
 happens_domain w (Tick a) = (let s = doing_stays w (Tick a) tt in s.domain)
 happens_domain w (Restart a) = (let s = doing_stays w (Restart a) tt in s.domain)
+happens_domain w (Relabel a sd bsl label) = (let s = doing_stays w (Relabel a sd bsl label) tt in s.domain)
+happens_domain w (Leave a sd) = (let s = doing_stays w (Leave a sd) tt in s.domain)
+happens_domain w (Join a sd) = (let s = doing_stays w (Join a sd) tt in s.domain)

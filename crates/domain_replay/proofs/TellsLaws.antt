@@ -39,6 +39,11 @@ err_at line whole part rest now why is h = by why h
     by (faults.NoFrame i n) k = ends (faults.NoFrame i n) k
     by faults.NotControl k = ends faults.NotControl k
     by (faults.Edge edge) k = ends (faults.Edge edge) k
+    by faults.NoSub k = ends faults.NoSub k
+    by faults.SubState k = ends faults.SubState k
+    by faults.LabelHigh k = ends faults.LabelHigh k
+    by (faults.LabelUsed label) k = ends (faults.LabelUsed label) k
+    by faults.Relabels k = ends faults.Relabels k
     by faults.Memory k = tt
 
 pub all_first : (line : ℕ) (t : Told) (e : Event) (es : List Event) → tells_all line t (e ∷ es) ≡ tells_all line (reports_on line t e) es

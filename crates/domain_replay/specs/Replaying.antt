@@ -5,7 +5,7 @@ use Rattle.wire_base.specs.declared.conf.RouterConf.{RouterConf}
 use Rattle.replay_text.specs.declared.event.Event.{Event}
 use Rattle.domain_model.specs.declared.fault.EventFault.{EventFault}
 use Rattle.domain_model.specs.declared.fault.EventFault.TheVariants as faults
-use Rattle.replay_text.specs.declared.event.Event.TheVariants.{Inject, Take, Lose, Again, Down, Up, Send, Tick, Restart}
+use Rattle.replay_text.specs.declared.event.Event.TheVariants.{Inject, Take, Lose, Again, Down, Up, Send, Tick, Restart, Relabel, Leave, Join}
 use Rattle.domain_model.specs.World.{WorldState, link_between}
 use Rattle.domain_model.specs.Step.{happens}
 use Rattle.domain_model.specs.Faults.{event_fault}
@@ -29,6 +29,11 @@ Tells all now (Err faults.InFlight) = all ≡ ends_with now faults.InFlight
 Tells all now (Err (faults.NoFrame i n)) = all ≡ ends_with now (faults.NoFrame i n)
 Tells all now (Err faults.NotControl) = all ≡ ends_with now faults.NotControl
 Tells all now (Err (faults.Edge why)) = all ≡ ends_with now (faults.Edge why)
+Tells all now (Err faults.NoSub) = all ≡ ends_with now faults.NoSub
+Tells all now (Err faults.SubState) = all ≡ ends_with now faults.SubState
+Tells all now (Err faults.LabelHigh) = all ≡ ends_with now faults.LabelHigh
+Tells all now (Err (faults.LabelUsed label)) = all ≡ ends_with now (faults.LabelUsed label)
+Tells all now (Err faults.Relabels) = all ≡ ends_with now faults.Relabels
 Tells all now (Err faults.Memory) = Unit {0}
 
 -- ---- where a call stops
@@ -77,6 +82,9 @@ NumbersFit (Up from to) = Unit {0}
 NumbersFit (Send from to) = Unit {0}
 NumbersFit (Tick router) = Unit {0}
 NumbersFit (Restart router) = Unit {0}
+NumbersFit (Relabel router sd bsl label) = Unit {0}
+NumbersFit (Leave router sd) = Unit {0}
+NumbersFit (Join router sd) = Unit {0}
 
 -- Both routers of a direction exist, and its interface is the one that leads from the first to the second.
 pub record IsJoining (routers : List RouterConf) (d : Direction) : Type 0 where

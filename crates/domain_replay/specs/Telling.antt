@@ -120,6 +120,9 @@ IsEntered count (event.Up from to) = Unit {0}
 IsEntered count (event.Send from to) = Unit {0}
 IsEntered count (event.Tick router) = Unit {0}
 IsEntered count (event.Restart router) = Unit {0}
+IsEntered count (event.Relabel router sd bsl label) = Unit {0}
+IsEntered count (event.Leave router sd) = Unit {0}
+IsEntered count (event.Join router sd) = Unit {0}
 
 abbrev pub LineEnters : ℕ → Line → Type 0
 LineEnters count line.Empty = Unit {0}

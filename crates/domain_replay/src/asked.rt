@@ -31,5 +31,8 @@ pub(crate) fn numbers_fit(event: &Event)
         Event::Send { .. } => (),
         Event::Tick { .. } => (),
         Event::Restart { .. } => (),
+        Event::Relabel { .. } => (),
+        Event::Leave { .. } => (),
+        Event::Join { .. } => (),
     }
 }

@@ -61,7 +61,7 @@ module _ (d : DomainConf) (valid : IsValid d) (before : List (ℕ × Event)) (e 
   few =
       let most = few_nodes (run_of d before).world i.router c true_before is.ingress in
       let routers = ap (λ (x : DomainConf). length x.routers) same_before in
-      let limit = valid.few in
+      let limit = valid.consistent.few in
       omega (arith, most, routers, limit)
 
   carried : IsCarriedIn d before e after c n k i

@@ -124,6 +124,9 @@ event_fits names words (event.Up from to) is = let a = is.are in (place_within n
 event_fits names words (event.Send from to) is = let a = is.are in (place_within names a.first from a.first_named, place_within names a.second to a.second_named)
 event_fits names words (event.Tick router) is = let a = is.are in place_within names a.word router a.named
 event_fits names words (event.Restart router) is = let a = is.are in place_within names a.word router a.named
+event_fits names words (event.Relabel router sd bsl label) is = let a = is.are in record { place = place_within names a.name router a.named; first = a.is_label.above }
+event_fits names words (event.Leave router sd) is = let a = is.are in place_within names a.name router a.named
+event_fits names words (event.Join router sd) is = let a = is.are in place_within names a.name router a.named
 
 said_fits : (names words : List (List ℕ)) (said : Line) → IsSaid names words said → LineFits (length names) said
 said_fits names words line.Empty is = tt

@@ -16,7 +16,8 @@ use Rattle.wire_base.specs.model.Walk.{dist}
 use Rattle.laws_course.proofs.KnownLaws.{known_of}
 use Rattle.laws_route.proofs.RouteLemmas.{tunnel_links-some}
 use Rattle.domain_model.specs.World.{WorldState}
-use Rattle.domain_model.specs.Truth.{IsAmong, IsOwnLsp, IsDeadLsp, IsTrueEntry, IsTrueControl, IsTruthful, head_of}
+use Rattle.laws_members.proofs.DomainLaws.{same_stripped, length_stripped}
+use Rattle.domain_model.specs.Truth.{IsAmong, IsOwnLsp, IsDeadLsp, IsTrueEntry, IsTrueControl, IsTruthful, confs_now, domain_now, head_of}
 use Rattle.domain_model.proofs.DomainLaws.{bytes_from}
 use Rattle.domain_model.proofs.EachLaws.{each_got, each_kept, each_both, each_passing, each_weaker}
 use Rattle.domain_model.proofs.NamedLaws.{entries_few}
@@ -95,7 +96,7 @@ elsewhere own confs e true_entry other = record {
     among r there is = still_among (is_elsewhere own) confs r there.place there.there (ap (λ (i : LspId). not (same_system i.system own)) (sym is) ∙ passes)
 
     says : IsOwnLsp confs (head_of e) e.content ⊎ IsDeadLsp (head_of e) e.content → IsOwnLsp (filter (is_elsewhere own) confs) (head_of e) e.content ⊎ IsDeadLsp (head_of e) e.content
-    says (inl l) = inl (record { router = l.router; among = among l.router l.among l.is; is = l.is; up = l.up; ends = l.ends; content = l.content; flags = l.flags; sum = l.sum; live = l.live; fresh = l.fresh; some = l.some })
+    says (inl l) = inl (record { now = l.now; among = among l.now l.among (l.is ∙ ap (λ (r : RouterConf). fragment_0 r.system) l.earlier.one); router = l.router; earlier = l.earlier; is = l.is; up = l.up; ends = l.ends; content = l.content; flags = l.flags; sum = l.sum; live = l.live; fresh = l.fresh; some = l.some })
     says (inr dead) = inr dead
 
 others_few : (own : RouterConf) (place : ℕ) (confs : List RouterConf) (es : List Entry) → slice_get confs place ≡ Some own → AreAscending (ids_of es) → AllByRecursion (IsTrueEntry confs) es
@@ -127,17 +128,18 @@ view_length r up entries =
 
 pub view_small : (w : WorldState) (a : ℕ) (c : Control) → IsTruthful w → slice_get w.routers a ≡ Some c → length (control_view c) ≤ length w.domain.routers
 view_small w a c truth at =
-    let t = each_got (IsTrueControl w.domain.routers) w.routers a c truth.controls at in
-    let few = others_few c.conf t.among.place w.domain.routers c.entries t.among.there t.kept.control.entries.in_order t.entries in
+    let t = each_got (IsTrueControl (confs_now w)) w.routers a c truth.controls at in
+    let few = others_few c.conf t.among.place (confs_now w) c.entries t.among.there t.kept.control.entries.in_order t.entries in
     let nodes = view_length c.conf c.flood.up c.entries in
-    omega (arith, few, nodes)
+    let long = length_stripped w.domain.routers (confs_now w) (same_stripped w.domain.routers (confs_now w) truth.become) in
+    omega (arith, few, nodes, long)
 
 -- so a tunnel to a node that a path leads to has fewer links than there are routers
 pub tunnel_short : (w : WorldState) (a : ℕ) (c : Control) (u x n : ℕ) → IsTruthful w → slice_get w.routers a ≡ Some c → u < length (control_view c) → dist (control_view c) u x ≡ Some n
     → (h : ℕ) × (tunnel_links (control_view c) x u ≡ Some h) × (h < length w.domain.routers)
 tunnel_short w a c u x n truth at within path =
-    let t = each_got (IsTrueControl w.domain.routers) w.routers a c truth.controls at in
-    let known = known_of w.domain truth.valid c t in
+    let t = each_got (IsTrueControl (confs_now w)) w.routers a c truth.controls at in
+    let known = known_of (domain_now w) truth.now c t in
     let arrives = tunnel_links-some (control_view c) known.graph x u n within path in
     let small = view_small w a c truth at in
     let below = arrives.2 in

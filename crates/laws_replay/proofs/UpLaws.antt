@@ -12,7 +12,7 @@ use Rattle.wire_base.specs.model.Control.{Control}
 use Rattle.wire_base.specs.model.OnFrame.{node_place}
 use Rattle.wire_base.specs.model.View.{Claim, claims_of, edge_to, edges_from, lists, metric_to, node_of, view_of, control_view, with_known}
 use Rattle.domain_model.specs.World.{WorldState}
-use Rattle.domain_model.specs.Truth.{IsTrueControl, IsTruthful}
+use Rattle.domain_model.specs.Truth.{IsTrueControl, IsTruthful, confs_now, domain_now}
 use Rattle.domain_model.proofs.EachLaws.{each_got}
 use Rattle.laws_course.proofs.KnownLaws.{each_contained, place_has, ComesOverUp, known_of}
 use Rattle.laws_replay.specs.Paths.{IsUpToward}
@@ -102,16 +102,16 @@ module _ (w : WorldState) (truth : IsTruthful w) where
   comes_up : (b : ℕ) (c : Control) (x : ℕ) (n : ViewNode) (e : ViewEdge) → slice_get w.routers b ≡ Some c → slice_get (control_view c) x ≡ Some n → Contains n.edges e
       → e.to ≡ node_place (control_view c) c.conf.system → IsUpToward c n.system
   comes_up b c x n e there at has to =
-      let t = each_got (IsTrueControl w.domain.routers) w.routers b c truth.controls there in
-      let known = known_of w.domain truth.valid c t in
+      let t = each_got (IsTrueControl (confs_now w)) w.routers b c truth.controls there in
+      let known = known_of (domain_now w) truth.now c t in
       each_contained (ComesOverUp c.conf c.flood.up (control_view c) n) n.edges e (known.comes x n at) has to
 
   -- the router at its tail
   leaves_up : (a : ℕ) (c : Control) (s : SystemId) (n : ViewNode) (e : ViewEdge) → slice_get w.routers a ≡ Some c → slice_get (control_view c) (node_place (control_view c) c.conf.system) ≡ Some n
       → Contains n.edges e → e.to ≡ node_place (control_view c) s → IsUpToward c s
   leaves_up a c s n e there at has to =
-      let t = each_got (IsTrueControl w.domain.routers) w.routers a c truth.controls there in
-      let known = known_of w.domain truth.valid c t in
+      let t = each_got (IsTrueControl (confs_now w)) w.routers a c truth.controls there in
+      let known = known_of (domain_now w) truth.now c t in
       let back = edge_back c.conf c.flood.up c.entries (ComesOverUp c.conf c.flood.up (control_view c)) known.comes (node_place (control_view c) c.conf.system) (node_place (control_view c) s) n e at has to in
       let system : back.0.system ≡ s = place_has s (control_view c) back.0 back.1 in
       subst (IsUpToward c) system (back.2.1 refl)

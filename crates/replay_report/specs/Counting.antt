@@ -21,6 +21,9 @@ injected_by (event.Up from to) = 0
 injected_by (event.Send from to) = 0
 injected_by (event.Tick router) = 0
 injected_by (event.Restart router) = 0
+injected_by (event.Relabel router sd bsl label) = 0
+injected_by (event.Leave router sd) = 0
+injected_by (event.Join router sd) = 0
 
 -- the BFR-ids that it names
 abbrev pub ids_of : Event → List ℕ
@@ -33,6 +36,9 @@ ids_of (event.Up from to) = []
 ids_of (event.Send from to) = []
 ids_of (event.Tick router) = []
 ids_of (event.Restart router) = []
+ids_of (event.Relabel router sd bsl label) = []
+ids_of (event.Leave router sd) = []
+ids_of (event.Join router sd) = []
 
 -- how many those are; one that is named twice counts once
 abbrev pub named_by : Event → ℕ

@@ -79,6 +79,11 @@ event_fault event.InFlight = rule_text 4 (codes "InFlight")
 event_fault (event.NoFrame place count) = rule_text 5 (codes "NoFrame") ++ 32 ∷ (decimal place ++ 32 ∷ decimal count)
 event_fault event.NotControl = rule_text 6 (codes "NotControl")
 event_fault (event.Edge why) = rule_text 7 (codes "Edge") ++ 32 ∷ edge_fault why
+event_fault event.NoSub = rule_text 8 (codes "NoSub")
+event_fault event.SubState = rule_text 9 (codes "SubState")
+event_fault event.LabelHigh = rule_text 10 (codes "LabelHigh")
+event_fault (event.LabelUsed label) = rule_text 11 (codes "LabelUsed") ++ 32 ∷ decimal label
+event_fault event.Relabels = rule_text 12 (codes "Relabels")
 event_fault event.Memory = []
 
 -- `refused LINE event N NAME`

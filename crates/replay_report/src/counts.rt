@@ -30,6 +30,9 @@ fn injected_by(event: &Event) -> usize
         Event::Send { .. } => 0,
         Event::Tick { .. } => 0,
         Event::Restart { .. } => 0,
+        Event::Relabel { .. } => 0,
+        Event::Leave { .. } => 0,
+        Event::Join { .. } => 0,
     }
 }
 
@@ -48,6 +51,9 @@ fn named_by(event: &Event) -> usize
         Event::Send { .. } => 0,
         Event::Tick { .. } => 0,
         Event::Restart { .. } => 0,
+        Event::Relabel { .. } => 0,
+        Event::Leave { .. } => 0,
+        Event::Join { .. } => 0,
     }
 }
 

@@ -101,6 +101,15 @@ fn push_reason(out: &mut Octets, why: EventFault) -> M<()>
             out.push(b' ')?;
             push_edge(out, edge)
         }
+        EventFault::NoSub => push_rule(out, 8, b"NoSub"),
+        EventFault::SubState => push_rule(out, 9, b"SubState"),
+        EventFault::LabelHigh => push_rule(out, 10, b"LabelHigh"),
+        EventFault::LabelUsed(label) => {
+            push_rule(out, 11, b"LabelUsed")?;
+            out.push(b' ')?;
+            out.append_number(u64::from(label))
+        }
+        EventFault::Relabels => push_rule(out, 12, b"Relabels"),
         EventFault::Memory => Ok(()),
     }
 }
