@@ -5,8 +5,10 @@ the flooding is repeated by the independent implementation in tools/independent,
 capture's next. What became of a packet is read from the report and the capture: each of its BFR-ids is in one copy, one
 delivery or one drop. The independent implementation forwards a packet only where these leave two readings.
 """
+import copy
+
 from . import frames
-from .domain import independent
+from .domain import Domain, independent
 from .trouble import Trouble
 
 MOST_EVENTS, MOST_IN_FLIGHT = 1_000_000, 500_000
@@ -54,7 +56,9 @@ class Course:
     """All steps of a replay, line by line."""
 
     def __init__(self, domain, schedule, report, records):
-        self.domain, self.report, self.records = domain, report, records
+        # a copy: events change configurations
+        self.domain = domain = Domain(copy.deepcopy(domain.confs))
+        self.report, self.records = report, records
         self.reader = independent.Replay(domain.confs)
         self.routers = self.reader.routers
         self.queues = {(a, end["peer_at"]): [] for a in range(len(domain.routers)) for end in domain.ends(a)}
@@ -182,6 +186,22 @@ class Course:
     def do_restart(self, a):
         self.touched.add(a)
         self.routers[a].start()
+
+    def do_relabel(self, a, subdomain, bits, label):
+        self.change("relabel", a, subdomain, bits, label)
+
+    def do_leave(self, a, subdomain):
+        self.change("leave", a, subdomain)
+
+    def do_join(self, a, subdomain):
+        self.change("join", a, subdomain)
+
+    def change(self, *event):
+        """A router's labels or sub-domains change, and with them the router of the domain, which has the same configuration."""
+        if self.routers[event[1]].change_fault(event):
+            raise self.wrong(f"`{event[0]}` isn't possible here")
+        self.touched.add(event[1])
+        self.routers[event[1]].change(event)
 
     def do_inject(self, a, subdomain, bits, ids, ttl, entropy, payload):
         self.injections += 1

@@ -30,6 +30,11 @@ class Router:
         """Its label ranges: sub-domain, BitString length, highest set identifier, label of set 0."""
         return [(sub["sd"], *entry) for sub in self.subs for entry in sub["ranges"]]
 
+    def known_ranges(self):
+        """Besides these those of the sub-domains that it left, and the ones that it had before its labels were moved."""
+        left = [(sub["sd"], *entry) for sub in self.conf.get("away", ()) for entry in sub["ranges"]]
+        return [*self.ranges(), *left, *((sd, *entry) for sd, entry in self.conf.get("past", ()))]
+
 
 class Domain:
     def __init__(self, confs):
@@ -75,7 +80,7 @@ class Domain:
         """What a BIFT-id selects at a router: sub-domain, BitString length, set identifier; None where it selects nothing."""
         if not is_mpls:
             return next((triple for triple, number in self.table if number == bift), None)
-        for subdomain, bits, highest, label in self.routers[place].ranges():
+        for subdomain, bits, highest, label in self.routers[place].known_ranges():
             if label <= bift <= label + highest:
                 return subdomain, bits, bift - label
         return None

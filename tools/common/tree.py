@@ -75,7 +75,9 @@ class Joined:
         ends = self.domain.sender_of(record.octets)
         item = None if ends is None else data_item(self.domain, record, *ends, header, tunnel)
         if item is None:
-            raise Trouble(f"frame {record.number} of the capture isn't one of this domain")
+            raise Trouble(
+                f"frame {record.number} of the capture isn't one of this domain; where labels move in the replay, give --schedule"
+            )
         root = self.take_from_parent(item, header) or self.root(record.second, item.a)
         root.items.append(item)
         self.waiting.setdefault(item.b, []).append([item, header, set(item.ids), root])

@@ -578,6 +578,7 @@ function showOctets(octets) {
 const KIND_COLOURS = {
   inject: "#1d5fa8", settle: "#aab6c2", send: "#aab6c2", take: "#7d8995", lose: "#c9302c",
   down: "#c9302c", up: "#2a9d4a", restart: "#7b4ab8", tick: "#d9c58f", again: "#d98e04",
+  relabel: "#1f8a8a", leave: "#8a5a1f", join: "#5a8a1f",
 };
 
 function drawBar() {

@@ -14,6 +14,8 @@ from common import places
 EXAMPLES = os.path.join(places.ROOT, "examples")
 INDEPENDENT = os.path.join(places.TOOLS, "independent", "replay.py")
 REPLAYS = sorted(name for name in os.listdir(EXAMPLES) if name.startswith("replay-"))
+# those whose packets have labels of the domain file alone, so that captures can be read without their schedules
+UNMOVED = [name for name in REPLAYS if name != "replay-relabel"]
 SCRATCH = tempfile.TemporaryDirectory()
 
 

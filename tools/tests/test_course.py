@@ -3,7 +3,7 @@ import os
 import random
 import unittest
 
-from support import EXAMPLES, REPLAYS, replayed, write
+from support import EXAMPLES, REPLAYS, UNMOVED, replayed, write
 from common import capture, course, domain, frames, texts, tree
 from common.domain import independent
 from common.trouble import Trouble
@@ -137,7 +137,7 @@ class TheCourse(unittest.TestCase):
 
     def test_trees(self):
         """With and without the schedule the same links carry the same copies."""
-        for name in REPLAYS:
+        for name in UNMOVED:
             it, schedule, report, records = parts(name)
             for number in course.Course(it, schedule, report, records).injected:
                 with self.subTest(name=name, number=number):

@@ -109,7 +109,7 @@ class Captures(unittest.TestCase):
     def test_replays(self):
         for name in REPLAYS:
             it = replayed(name)
-            done = tool("check-capture", it.frames, it.domain)
+            done = tool("check-capture", it.frames, it.domain, it.schedule)
             with self.subTest(name):
                 self.assertEqual((done.returncode, done.stderr), (0, ""), done.stdout)
 

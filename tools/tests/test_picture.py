@@ -4,7 +4,7 @@ import re
 import unittest
 import xml.etree.ElementTree as ElementTree
 
-from support import EXAMPLES, REPLAYS, needs, python_alone, replayed, scratch, tool, write
+from support import EXAMPLES, REPLAYS, UNMOVED, needs, python_alone, replayed, scratch, tool, write
 
 GREEN, RED, BLUE = "#2a9d4a", "#c9302c", "#1d5fa8"
 DOMAINS = sorted(name for name in os.listdir(EXAMPLES) if os.path.exists(os.path.join(EXAMPLES, name, "domain.toml")))
@@ -103,7 +103,7 @@ class Picture(unittest.TestCase):
                 self.assertEqual(re.findall(r'label="10(.*?down.*?)"', dot), [wanted] if wanted else [])
 
     def test_each_injection(self):
-        for name in REPLAYS:
+        for name in UNMOVED:
             it = replayed(name)
             with open(it.report) as file:
                 told = [line.split() for line in file if line.split()[1] in ("got", "drop")]
@@ -113,6 +113,14 @@ class Picture(unittest.TestCase):
                     mine = [words for words in told if words[3] == number]
                     self.assertEqual(dot.count("\\ngot "), sum(words[1] == "got" for words in mine))
                     self.assertEqual(dot.count("\\ndropped "), sum(words[1] == "drop" for words in mine))
+
+    def test_labels_that_move(self):
+        """With the schedule a packet is followed whose labels the domain file lacks; without it the picture asks for it."""
+        it = replayed("replay-relabel")
+        self.assertIn("got 6, line 13", drawn("--schedule", it.schedule, it.domain, it.report, it.frames, "2"))
+        done = tool("picture", it.domain, it.report, it.frames, "2")
+        self.assertEqual(done.returncode, 1)
+        self.assertIn("--schedule", done.stderr)
 
     @needs("dot", "graphviz")
     def test_drawing(self):
