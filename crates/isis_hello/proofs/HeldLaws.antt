@@ -79,6 +79,7 @@ module _ (d : DomainConf) (valid : IsValid d) where
     h : Hello
     is : e ≡ events.Greet a b i
     out : link_between d.routers a b ≡ Some link
+    got : slice_get (hellos_at (circuits_after d past).hellos a link) i ≡ Some h
     found : Found d a b link h (sendings a b past) i
     after : new ≡ heard (slice_get d.routers b) back old h
 
@@ -95,6 +96,7 @@ module _ (d : DomainConf) (valid : IsValid d) where
         h = hears.h;
         is = hears.is ∙ ap (λ (n : ℕ). events.Greet n b hears.i) x-is;
         out = out;
+        got = got;
         found = all_found d a b hears.link (hellos_at s.hellos a hears.link) (sendings a b past) hears.i hears.h (all_sent d valid a b hears.link back out joined past) got;
         after = hears.after ∙ ap (λ (c : DomainConf). heard (slice_get c.routers b) back old hears.h) (domain_after d past);
       }
@@ -228,6 +230,7 @@ module _ (d : DomainConf) (valid : IsValid d) (b a back : ℕ) (r : RouterConf) 
     time : seconds b took_it.recent + hold ≡ HOLDING_TIME
     some : 0 < hold
     h : Hello
+    arrived : slice_get (hellos_between (circuits_after d took_it.before) a b) took_it.i ≡ Some h
     put : hellos_between (circuits_after d (events.Hello a b ∷ took_it.sent)) a b ≡ hellos_between (circuits_after d took_it.sent) a b ++ h ∷ []
     lists : h.named ≡ Some (r.system, circuit_id back)
     answered : Received took_it.sent a b
@@ -243,6 +246,7 @@ module _ (d : DomainConf) (valid : IsValid d) (b a back : ℕ) (r : RouterConf) 
     time = ap (λ (n : ℕ). n + hold) (second_off b e f.took_it.recent second) ∙ f.time;
     some = f.some;
     h = f.h;
+    arrived = f.arrived;
     put = f.put;
     lists = f.lists;
     answered = f.answered;
@@ -255,6 +259,7 @@ module _ (d : DomainConf) (valid : IsValid d) (b a back : ℕ) (r : RouterConf) 
     time = let s = ap (λ (x : HelloEvent). seconds b (x ∷ f.took_it.recent)) is ∙ second_on b f.took_it.recent in let t = f.time in omega (arith, s, t, fell);
     some = some;
     h = f.h;
+    arrived = f.arrived;
     put = f.put;
     lists = f.lists;
     answered = f.answered;
@@ -276,6 +281,7 @@ module _ (d : DomainConf) (valid : IsValid d) (b a back : ℕ) (r : RouterConf) 
         time = omega (arith, hold);
         some = omega (arith, hold);
         h = t.h;
+        arrived = ap (λ (q : List Hello). slice_get q t.i) (between t.link t.out past) ∙ t.got;
         put = between t.link t.out (events.Hello a b ∷ sent) ∙ as_sent.put ∙ ap (λ (q : List Hello). q ++ t.h ∷ []) (sym (between t.link t.out sent));
         lists = named.lists;
         answered = took d valid a b t.link t.out sent (lists_down as_sent.peer (circuit_at (circuits_after d sent).circuits a t.link).adjacency (r.system, circuit_id back) lists);
@@ -317,7 +323,7 @@ module _ (d : DomainConf) (valid : IsValid d) (b a back : ℕ) (r : RouterConf) 
       let f = held history k.0 k.1 in
       let t = f.time in
       let s = f.some in
-      record { received = f.took_it; lately = omega (arith, t, s); h = f.h; put = f.put; lists = f.lists; answered = f.answered }
+      record { received = f.took_it; lately = omega (arith, t, s); h = f.h; arrived = f.arrived; put = f.put; lists = f.lists; answered = f.answered }
 
 pub all_held : (d : DomainConf) → IsValid d → (history : List HelloEvent) → AllHeld d history
 all_held d valid history = λ a b back r there joined up. is_held d valid b a back r there joined history up

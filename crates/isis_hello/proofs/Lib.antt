@@ -1,3 +1,4 @@
+pub mod ChangeLaws
 pub mod FrameLemmas
 pub mod HeldLaws
 pub mod LinkLaws

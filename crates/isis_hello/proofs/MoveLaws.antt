@@ -29,12 +29,12 @@ set_at {X} (x ∷ xs) (suc i) (suc j) y d = further (set_at xs i j y d)
     further (inl same) = inl same
     further (inr there) = inr (ap suc there.0, there.1)
 
-record Replaced (cs : List (List Circuit)) (p l b k : ℕ) (c : Circuit) : Type 0 where
-  place : b ≡ p
-  link : k ≡ l
-  is : circuit_at (with_circuit cs p l c) b k ≡ c
+pub record Replaced (cs : List (List Circuit)) (p l b k : ℕ) (c : Circuit) : Type 0 where
+  pub place : b ≡ p
+  pub link : k ≡ l
+  pub is : circuit_at (with_circuit cs p l c) b k ≡ c
 
-with_at : (cs : List (List Circuit)) (p l b k : ℕ) (c : Circuit) → (circuit_at (with_circuit cs p l c) b k ≡ circuit_at cs b k) ⊎ Replaced cs p l b k c
+pub with_at : (cs : List (List Circuit)) (p l b k : ℕ) (c : Circuit) → (circuit_at (with_circuit cs p l c) b k ≡ circuit_at cs b k) ⊎ Replaced cs p l b k c
 with_at cs p l b k c = by_router (set_at cs p b (set (get_or cs p []) l c) [])
   where
     by_link : b ≡ p → get_or (with_circuit cs p l c) b [] ≡ set (get_or cs p []) l c → (get_or (set (get_or cs p []) l c) k broken ≡ get_or (get_or cs p []) k broken) ⊎ ((k ≡ l) × (get_or (set (get_or cs p []) l c) k broken ≡ c))
@@ -71,12 +71,12 @@ row_turned turn (c ∷ row) (suc k) = row_turned turn row k
 abbrev with_turn : Turn → List (List Circuit) → ℕ → List (List Circuit)
 with_turn turn cs x = set cs x (map (turned_circuit turn) (get_or cs x []))
 
-turned_at : (turn : Turn) (cs : List (List Circuit)) (b k : ℕ) → circuit_at (with_turn turn cs b) b k ≡ turned_circuit turn (circuit_at cs b k)
+pub turned_at : (turn : Turn) (cs : List (List Circuit)) (b k : ℕ) → circuit_at (with_turn turn cs b) b k ≡ turned_circuit turn (circuit_at cs b k)
 turned_at turn [] b k = turned_broken turn
 turned_at turn (row ∷ cs) zero k = row_turned turn row k
 turned_at turn (row ∷ cs) (suc b) k = turned_at turn cs b k
 
-turned_other : (turn : Turn) (cs : List (List Circuit)) (x b k : ℕ) → (x ≡ b → ⊥) → circuit_at (with_turn turn cs x) b k ≡ circuit_at cs b k
+pub turned_other : (turn : Turn) (cs : List (List Circuit)) (x b k : ℕ) → (x ≡ b → ⊥) → circuit_at (with_turn turn cs x) b k ≡ circuit_at cs b k
 turned_other turn cs zero zero k h = absurd (h refl)
 turned_other turn [] (suc x) b k h = refl
 turned_other turn [] zero (suc b) k h = refl

@@ -76,11 +76,13 @@ pub record Received (history : List HelloEvent) (b a : ℕ) : Type 0 where
   pub unbroken : list_all (λ e. not (is_reset b a e)) recent ≡ true
 
 -- Why the adjacency of router b toward router a may be up: b received a hello that a had sent, less than the holding time
--- ago; that hello lists b's system and circuit; and a had received a hello of b before it sent that one.
+-- ago; of the hellos in flight it was the one that then arrived; it lists b's system and circuit; and a had received a hello of
+-- b before it sent that one.
 pub record IsHeld (d : DomainConf) (history : List HelloEvent) (b a : ℕ) (own : SystemId) (back : ℕ) : Type 0 where
   pub received : Received history b a
   pub lately : seconds b received.recent < HOLDING_TIME
   pub h : Hello
+  pub arrived : slice_get (hellos_between (circuits_after d received.before) a b) received.i ≡ Some h
   pub put : hellos_between (circuits_after d (events.Hello a b ∷ received.sent)) a b ≡ hellos_between (circuits_after d received.sent) a b ++ h ∷ []
   pub lists : h.named ≡ Some (own, circuit_id back)
   pub answered : Received received.sent a b

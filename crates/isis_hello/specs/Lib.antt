@@ -5,3 +5,4 @@ pub mod Examples
 pub mod Faults
 pub mod Hello
 pub mod History
+pub mod Changes

@@ -1,6 +1,6 @@
 //! The state of a three-way adjacency, and how a hello and a second move it (RFC 5303, 3.1 and 3.2; ISO/IEC 10589, 8.2.4).
-ghost use Rattle.std.specs.Prelude.{◌≡◌};
-ghost use Rattle.isis_hello.specs.Adjacency.{after_hello, after_tick, counted_as, is_up, lists_another, moved, neighbor_of, tri_of, turned};
+ghost use Rattle.std.specs.Prelude.{◌≡◌, None, true};
+ghost use Rattle.isis_hello.specs.Adjacency.{after_hello, after_tick, is_up, lists_another, moved, neighbor_of, tri_of, turned};
 
 use crate::hello::{Hello, Tri};
 use wire_base::SystemId;
@@ -82,16 +82,15 @@ impl Adjacency {
         }
     }
 
-    /// Returns the state after a hello has arrived at the interface of a router with that system ID and circuit, whose
-    /// link leads to that peer.
-    pub(crate) fn after_hello(
-        self,
-        own: SystemId,
-        circuit: u32,
-        peer: SystemId,
-        h: &Hello,
-    ) -> Adjacency
-        ensures { result ≡ after_hello own circuit peer self h.now }
+    /// Returns the state after a hello has arrived at the working interface of a router with that system ID and circuit ID, whose
+    /// link leads to that peer (RFC 5303, 3.2).
+    ///
+    /// A hello that comes from another source, or lists another system or circuit, changes nothing. One that lists nobody counts
+    /// as Down, whatever state it announces.
+    pub fn after_hello(self, own: SystemId, circuit: u32, peer: SystemId, h: &Hello) -> Adjacency
+        ensures value { result ≡ after_hello own circuit peer self h.now }
+        // A hello that lists nobody brings no adjacency up.
+        ensures unlisted { h.now.named ≡ None → is_up result ≡ true → result ≡ self }
     {
         if h.source != peer || lists_another(own, circuit, h.named) {
             return self;
@@ -100,7 +99,10 @@ impl Adjacency {
             circuit: h.circuit,
             hold: h.hold,
         };
-        self.moved(counted_as(h), kept)
+        match h.named {
+            None => self.moved(Tri::Down, kept),
+            Some(_) => self.moved(h.state, kept),
+        }
     }
 
     /// Returns the state after a second.
@@ -139,15 +141,5 @@ fn lists_another(own: SystemId, circuit: u32, named: Option<(SystemId, u32)>) ->
     match named {
         None => false,
         Some((system, number)) => system != own || number != circuit,
-    }
-}
-
-/// Returns the state that a hello counts as: one that lists nobody counts as Down.
-fn counted_as(h: &Hello) -> Tri
-    ensures { result ≡ counted_as h.now }
-{
-    match h.named {
-        None => Tri::Down,
-        Some(_) => h.state,
     }
 }

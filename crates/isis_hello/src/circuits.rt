@@ -1,5 +1,5 @@
 //! The circuits of a domain.
-ghost use Rattle.std.specs.Prelude.{◌≡◌, ◌∷◌, [], List, None, length, IfOk, OnOk, OnErr, MatchResult};
+ghost use Rattle.std.specs.Prelude.{◌≡◌, ◌∷◌, [], List, None, length, IfOk, OnOk, OnErr, MatchResult, ◌<◌, IfSome};
 ghost use Rattle.isis_hello.specs.Circuits.{circuit_between, circuit_over, first_circuits, hellos_between, link_between};
 ghost use Rattle.isis_hello.specs.Events.{IsSent, Refuses, circuit_fault, happens, rule_fault, taken_fault};
 ghost use Rattle.isis_hello.specs.History.{AllHeld, circuits_after};
@@ -62,6 +62,8 @@ impl Circuits {
         ensures reported { IfOk result (λ out. out ≡ (happens self.old event.now).out) }
         // What is sent is what arrives: a receiver parses the hello that is now in flight from the frame.
         ensures sent { IfOk result (λ out. IsSent self.old self.new event.now out.sent) }
+        // A record of a capture has room for the frame.
+        ensures short { IfOk result (λ out. IfSome out.sent (λ frame. length frame < 65536)) }
         // After any history, an adjacency is up only if its router received, less than the holding time ago and since it last
         // restarted or its circuit failed, a hello of its neighbor that lists it, and the neighbor had received one of its
         // hellos before it sent that one.
@@ -78,6 +80,7 @@ impl Circuits {
         ensures state { OnOk result (self.new ≡ (happens self.old event.now).state) }
         ensures reported { IfOk result (λ out. out ≡ (happens self.old event.now).out) }
         ensures sent { IfOk result (λ out. IsSent self.old self.new event.now out.sent) }
+        ensures short { IfOk result (λ out. IfSome out.sent (λ frame. length frame < 65536)) }
         ensures stays { OnErr result (self.new ≡ self.old) }
     {
         if let Some(fault) = self.fault(event) {

@@ -1,5 +1,5 @@
 //! What an event of hellos does.
-ghost use Rattle.std.specs.Prelude.{◌≡◌, None, Some, slice_get, IfOk, OnOk, OnErr};
+ghost use Rattle.std.specs.Prelude.{◌≡◌, ◌<◌, length, IfSome, None, Some, slice_get, IfOk, OnOk, OnErr};
 ghost use Rattle.isis_hello.specs.Circuits.{circuit_id, hello_of, hellos_at, link_between};
 ghost use Rattle.isis_hello.specs.Events.{Did, IsSent, IsSentOn, arrives, arrives_over, circuit_fault, doing, forgets, heard, replaces, replaces_over, sends, sends_from, turns_at};
 
@@ -69,6 +69,7 @@ impl Circuits {
     pub(crate) fn execute(&mut self, event: &HelloEvent) -> M<HelloOut>
         ensures done { IfOk result (λ out. Did (doing self.old event.now) out self.new) }
         ensures sent { circuit_fault self.old event.now ≡ None → IfOk result (λ out. IsSent self.old self.new event.now out.sent) }
+        ensures short { IfOk result (λ out. IfSome out.sent (λ frame. length frame < 65536)) }
         ensures stays { OnErr result (self.new ≡ self.old) }
     {
         match event {
@@ -86,6 +87,7 @@ impl Circuits {
     fn send(&mut self, from: u16, to: u16) -> M<HelloOut>
         ensures done { IfOk result (λ out. Did (sends self.old from (link_between self.old.domain.routers from to)) out self.new) }
         ensures sent { IfOk result (λ out. IsSentOn self.old self.new from (link_between self.old.domain.routers from to) out.sent) }
+        ensures short { IfOk result (λ out. IfSome out.sent (λ frame. length frame < 65536)) }
         ensures stays { OnErr result (self.new ≡ self.old) }
     {
         match self.link(from, to) {
@@ -98,6 +100,7 @@ impl Circuits {
     fn send_from(&mut self, from: u16, link: u16) -> M<HelloOut>
         ensures done { IfOk result (λ out. Did (sends_from self.old from link (slice_get self.old.domain.routers from)) out self.new) }
         ensures sent { IfOk result (λ out. IsSentOn self.old self.new from (Some link) out.sent) }
+        ensures short { IfOk result (λ out. IfSome out.sent (λ frame. length frame < 65536)) }
         ensures stays { OnErr result (self.new ≡ self.old) }
     {
         let alloc = self.allocator();

@@ -1,5 +1,5 @@
 //! Laws of hellos and of adjacencies. Each function does nothing; its contract is the law.
-ghost use Rattle.std.specs.Prelude.{◌≡◌, ◌++◌, ◌≤◌, ℕ, List, Ok, Some, length};
+ghost use Rattle.std.specs.Prelude.{◌≡◌, ◌++◌, ◌≤◌, [], ℕ, List, Ok, Some, None, true, false, length};
 ghost use Rattle.wire_base.specs.declared.conf.Level.{Level};
 ghost use Rattle.wire_base.specs.declared.conf.End.{End};
 ghost use Rattle.wire_base.specs.declared.conf.RouterConf.{RouterConf};
@@ -7,9 +7,11 @@ ghost use Rattle.wire_base.specs.model.Configuration.{DomainConf, IsValid};
 ghost use Rattle.wire_base.specs.model.Fields.{AreOctets};
 ghost use Rattle.isis_hello.specs.declared.event.HelloEvent.{HelloEvent};
 ghost use Rattle.isis_hello.specs.declared.hello.Hello.{Hello};
-ghost use Rattle.isis_hello.specs.Events.{hello_frame, hello_in};
+ghost use Rattle.isis_hello.specs.Changes.{AreChanges, is_hello, up_between};
+ghost use Rattle.isis_hello.specs.Circuits.{CircuitsState, first_circuits};
+ghost use Rattle.isis_hello.specs.Events.{happens, hello_frame, hello_in};
 ghost use Rattle.isis_hello.specs.Hello.{HelloFits, IsHello, hello, hello_at};
-ghost use Rattle.isis_hello.specs.History.{AllHeld};
+ghost use Rattle.isis_hello.specs.History.{AllHeld, circuits_after};
 
 /// Encoding and parsing of hellos (ISO/IEC 10589, 9.7; RFC 5303, 3).
 #[tactic(auto, using(crate::proofs::ReadLemmas::hello_found, crate::proofs::ReadLemmas::hello_only, crate::proofs::ReadLemmas::hello_is, crate::proofs::ReadLemmas::hello_again, crate::proofs::FrameLemmas::frame_parsed))]
@@ -30,4 +32,25 @@ pub fn hello_law()
 #[tactic(auto, using(crate::proofs::HeldLaws::all_held))]
 pub fn adjacencies_are_held()
     ensures { (d : DomainConf) (history : List HelloEvent) → IsValid d → AllHeld d history }
+{}
+
+/// After any history, the changes that an event reports are those of the adjacencies. Of a router toward another there is one if the
+/// adjacency came up, or was up and no longer is, with its new state, and none otherwise. Each is at a router of the domain, toward
+/// one that a link joins it to. Done one after the other, they lead from the adjacencies that were up to those that are.
+pub fn changes_are_reported()
+    ensures { (d : DomainConf) (history : List HelloEvent) (e : HelloEvent) → IsValid d → AreChanges (circuits_after d history) (happens (circuits_after d history) e) }
+{}
+
+/// At the beginning no adjacency is up.
+#[tactic(auto, using(crate::proofs::ChangeLaws::none_up))]
+pub fn adjacencies_begin_down()
+    ensures { (d : DomainConf) (a : ℕ) (b : ℕ) → up_between (first_circuits d) a b ≡ false }
+{}
+
+/// Only [`HelloEvent::Hello`](crate::HelloEvent::Hello) sends a frame, and it moves no adjacency.
+#[tactic(auto, using(crate::proofs::ChangeLaws::only_hellos, crate::proofs::ChangeLaws::hello_unreported, crate::proofs::ChangeLaws::hello_unmoved))]
+pub fn only_hellos_send()
+    ensures sent { (s : CircuitsState) (e : HelloEvent) → is_hello e ≡ false → (happens s e).out.sent ≡ None }
+    ensures reported { (s : CircuitsState) (e : HelloEvent) → is_hello e ≡ true → (happens s e).out.changes ≡ [] }
+    ensures still { (s : CircuitsState) (e : HelloEvent) → is_hello e ≡ true → (happens s e).state.circuits ≡ s.circuits }
 {}

@@ -29,6 +29,8 @@ pub use event::{EndChange, HelloEvent, HelloOut};
 pub use examples::{example_handshake, example_hello};
 pub use fault::{CircuitFault, HelloFault};
 pub use hello::{Hello, Tri};
-pub use laws::{adjacencies_are_held, hello_law};
+pub use laws::{
+    adjacencies_are_held, adjacencies_begin_down, changes_are_reported, hello_law, only_hellos_send,
+};
 pub use reader::read_hello;
 pub use writer::{MOST_HELLO_OCTETS, write_hello};

@@ -1,4 +1,4 @@
-ghost use Rattle.std.specs.Prelude.{◌≡◌, ◌≤◌, ◌++◌, ◌∷◌, ◌%◌, ◌<◌, ◌^◌, [], ℕ, List, length, Ok, Some, IfOk, OnOk, OnErr};
+ghost use Rattle.std.specs.Prelude.{◌≡◌, ◌≤◌, ◌+◌, ◌++◌, ◌∷◌, ◌%◌, ◌<◌, ◌^◌, [], ℕ, List, length, Ok, Some, IfOk, OnOk, OnErr};
 ghost use Rattle.byteorder.specs.Endian.{big_bytes};
 ghost use Rattle.wire_base.specs.model.Item.{isis_frame};
 ghost use Rattle.wire_base.specs.model.OwnLsp.{area_tlv, protocols_tlv};
@@ -152,6 +152,7 @@ fn frame_octets(alloc: Global, conf: &RouterConf, end: &End, h: &Hello) -> M<Oct
     requires { length conf.now.area ≤ 13 }
     ensures spelled { IfOk result (λ frame. frame ≡ hello_frame conf.now end.now h.now) }
     ensures fits { OnOk result (HelloFits h.now × (length end.now.own_mac.0 ≡ 6)) }
+    ensures short { IfOk result (λ frame. length frame ≤ HEAD + MOST_HELLO_OCTETS) }
 {
     let pdu = write_hello(alloc, conf.level, &conf.area, h)?;
     let mut frame = Octets::with_room(alloc, HEAD + pdu.len())?;
@@ -165,6 +166,7 @@ pub(crate) fn hello_frame(alloc: Global, conf: &RouterConf, end: &End, h: &Hello
     ensures spelled { IfOk result (λ frame. frame ≡ hello_frame conf.now end.now h.now) }
     // What a receiver parses from it is the hello.
     ensures parsed { IfOk result (λ frame. hello_in frame ≡ Some h.now) }
+    ensures short { IfOk result (λ frame. length frame ≤ HEAD + MOST_HELLO_OCTETS) }
 {
     frame_octets(alloc, conf, end, h)
 }
