@@ -12,8 +12,7 @@ use Rattle.replay_text.specs.declared.check.CheckLine.TheVariants as check
 use Rattle.replay_text.specs.declared.event.Line.TheVariants as line
 use Rattle.replay_text.specs.Arguments.{counted, name_at, number_at, length_at, ids_at, ttl_at}
 use Rattle.replay_text.specs.Events.{LineFits}
-use Rattle.replay_text.specs.Hop.{is_comment}
-use Rattle.replay_text.specs.Pieces.{words_of}
+use Rattle.replay_text.specs.Keyword.{line_words}
 use Rattle.replay_text.specs.Schedule.{TakesMemory, schedule_line}
 
 -- `R SD BSL IDS TTL ENTROPY`, as for an injection
@@ -53,9 +52,7 @@ check_words text names (word ∷ args) =
 -- without its line ending.
 unfoldable pub check_line : List ℕ → List (List ℕ) → Result CheckLine TextFault
 check_line text names =
-    if nat_lt LINE_LIMIT (length text) then Err LineLong else
-    if is_comment text then Ok (check.Base line.Empty) else
-    check_words text names (words_of text)
+    if nat_lt LINE_LIMIT (length text) then Err LineLong else check_words text names (line_words text)
 
 -- Reading words allocates for the ids of a `cover` line and for what the lines of a schedule allocate for.
 abbrev pub MayAllocate : (names words : List (List ℕ)) → Type 0

@@ -9,6 +9,8 @@ pub mod Events
 pub mod Arguments
 pub mod Schedule
 pub mod ScheduleGrammar
+pub mod Keyword
 pub mod Check
+pub mod Hand
 pub mod Payload
 pub mod Report

@@ -10,8 +10,7 @@ use crate::arguments::{counted, ids_at, length_at, name_at, number_at, ttl_at};
 use crate::check::CheckLine;
 use crate::event::Line;
 use crate::fault::TextFault;
-use crate::hop_line::is_comment;
-use crate::pieces::next_word;
+use crate::keyword::keyword_of;
 use crate::schedule_line::read_line;
 use std::alloc::Global;
 use wire_base::limits::LINE_LIMIT;
@@ -84,13 +83,7 @@ pub fn read_check_line(
     ensures memory { IfErr result (λ why. why ≡ texts.Memory → MayAllocate names.now (words_of line.now)) }
     ensures fits { IfOk result (CheckFits (length names.now)) }
 {
-    if line.len() > LINE_LIMIT {
-        return Err(TextFault::LineLong);
-    }
-    if is_comment(line) {
-        return Ok(CheckLine::Base(Line::Empty));
-    }
-    match next_word(line) {
+    match keyword_of(line)? {
         None => Ok(CheckLine::Base(Line::Empty)),
         Some((word, args)) => check_words(alloc, line, names, word, args),
     }

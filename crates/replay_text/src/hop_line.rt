@@ -10,10 +10,10 @@ ghost use Rattle.replay_text.specs.Grammar.{IsLine};
 use crate::fault::TextFault;
 use crate::hop::{HopLine, HopRow, HopState};
 use crate::ids::{id, read_ids};
-use crate::pieces::{next_word, only_word_of, two_words_of};
+use crate::keyword::keyword_of;
+use crate::pieces::{only_word_of, two_words_of};
 use crate::tokens::{is_router_name, number};
 use std::alloc::Global;
-use wire_base::limits::LINE_LIMIT;
 use wire_base::{Bsl, Name};
 
 /// Returns the BitStringLength with that many bits.
@@ -143,29 +143,13 @@ fn words_line(
     }
 }
 
-/// Returns whether a line is a comment.
-pub fn is_comment(line: &[u8]) -> bool
-    ensures { result ≡ hop.is_comment line.now }
-{
-    match line {
-        [] => false,
-        [first, ..] => *first == b'#',
-    }
-}
-
 /// Parses a line, and returns what it contains or its first error.
 #[tactic(auto, unfolding(crate::specs::Hop::hop_line))]
 fn line_of(alloc: Global, line: &[u8], state: &HopState) -> Result<HopLine, TextFault>
     ensures value { Gives (λ x. x) result (hop.hop_line line.now state.now) }
     ensures memory { IfErr result (λ why. why ≡ texts.Memory → IsOk (hop.hop_line line.now state.now)) }
 {
-    if line.len() > LINE_LIMIT {
-        return Err(TextFault::LineLong);
-    }
-    if is_comment(line) {
-        return Ok(HopLine::Empty);
-    }
-    match next_word(line) {
+    match keyword_of(line)? {
         None => Ok(HopLine::Empty),
         Some((word, args)) => words_line(alloc, state, word, args),
     }

@@ -1,6 +1,6 @@
 //! The lines of the program's inputs, and the texts that its reports consist of.
 //!
-//! It depends on `wire_base` and `bier_bits`, and promises what a line contains or the first rule that it breaks.
+//! It depends on `wire_base`, `bier_bits` and, for the events of hellos, `isis_hello`. It promises what a line contains or the first rule that it breaks.
 #![tactic(auto)]
 
 mod arguments;
@@ -9,9 +9,12 @@ mod check;
 mod check_line;
 mod event;
 mod fault;
+mod hand;
+mod hand_line;
 mod hop;
 mod hop_line;
 mod ids;
+mod keyword;
 mod listed;
 mod payload;
 mod pieces;
@@ -24,6 +27,8 @@ pub use check::CheckLine;
 pub use check_line::read_check_line;
 pub use event::{Event, Line};
 pub use fault::{TextFault, push_rule};
+pub use hand::HandLine;
+pub use hand_line::read_hand_line;
 pub use hop::{HopLine, HopRow, HopState};
 pub use hop_line::read_hop_line;
 pub use ids::push_ids;

@@ -14,8 +14,7 @@ use crate::arguments::{
 };
 use crate::event::{Event, Line};
 use crate::fault::TextFault;
-use crate::hop_line::is_comment;
-use crate::pieces::next_word;
+use crate::keyword::keyword_of;
 use std::alloc::Global;
 use wire_base::limits::{LINE_LIMIT, MOST_ROUNDS};
 use wire_base::{Name, Rows};
@@ -35,7 +34,7 @@ fn router_named(names: &Rows<Name>, args: &[u8]) -> Result<u16, TextFault>
 
 /// Parses the names of the two routers of a link.
 #[tactic(auto, unfolding(crate::specs::Schedule::link_named))]
-fn link_named(names: &Rows<Name>, args: &[u8]) -> Result<(u16, u16), TextFault>
+pub(crate) fn link_named(names: &Rows<Name>, args: &[u8]) -> Result<(u16, u16), TextFault>
     requires { length names.now ≤ 65536 }
     ensures value { Gives (λ found. (found.0, found.1)) result (schedule.link_named names.now (words_of args.now)) }
     ensures quiet { IfErr result (λ why. why ≢ texts.Memory) }
@@ -50,7 +49,7 @@ fn link_named(names: &Rows<Name>, args: &[u8]) -> Result<(u16, u16), TextFault>
 
 /// Parses the names of the two routers of a link, and the index of a frame on it.
 #[tactic(auto, unfolding(crate::specs::Schedule::frame_named))]
-fn frame_named(names: &Rows<Name>, args: &[u8]) -> Result<(u16, u16, u32), TextFault>
+pub(crate) fn frame_named(names: &Rows<Name>, args: &[u8]) -> Result<(u16, u16, u32), TextFault>
     requires { length names.now ≤ 65536 }
     ensures value { Gives (λ found. (found.0, found.1, found.2)) result (schedule.frame_named names.now (words_of args.now)) }
     ensures quiet { IfErr result (λ why. why ≢ texts.Memory) }
@@ -231,13 +230,7 @@ fn line_of(alloc: Global, line: &[u8], names: &Rows<Name>) -> Result<Line, TextF
     ensures memory { IfErr result (λ why. why ≡ texts.Memory → TakesMemory names.now (words_of line.now)) }
     ensures fits { IfOk result (LineFits (length names.now)) }
 {
-    if line.len() > LINE_LIMIT {
-        return Err(TextFault::LineLong);
-    }
-    if is_comment(line) {
-        return Ok(Line::Empty);
-    }
-    match next_word(line) {
+    match keyword_of(line)? {
         None => Ok(Line::Empty),
         Some((word, args)) => schedule_words(alloc, names, word, args),
     }
