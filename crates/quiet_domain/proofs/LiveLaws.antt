@@ -33,7 +33,7 @@ under_more (e ∷ es) x y h all = (below_trans x y e.id h all.0, under_more es x
 pub under_front : (y : Entry) (ys : List Entry) (id : LspId) → AreAscending (ids_of (y ∷ ys)) → is_below id y.id ≡ true → IsUnder id (y ∷ ys)
 under_front y ys id asc h = (h, under_more ys id y.id h asc.0)
 
-same_self : (id : LspId) → same_id id id ≡ true
+pub same_self : (id : LspId) → same_id id id ≡ true
 same_self id = and_from _ _ ((bytes_eq-Decides id.system.0 id.system.0).1 refl) (and_from _ _ (eq-eqb id.pseudonode id.pseudonode refl) (eq-eqb id.fragment id.fragment refl))
 
 -- the entry at the front

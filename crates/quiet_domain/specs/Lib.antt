@@ -1,3 +1,4 @@
 pub mod Examples
 pub mod Live
+pub mod Paths
 pub mod Way

@@ -1,9 +1,9 @@
 -- Whether two LSDBs have the same live LSPs, whatever their Remaining Lifetimes (ISO/IEC 10589, 7.3.15 and 7.3.16).
-use Rattle.std.specs.Prelude.{◌≡◌, ◌==◌, ◌&&◌, nat_lt, Bool, true, false, List, Option, Some, None}
+use Rattle.std.specs.Prelude.{◌≡◌, ◌==◌, ◌&&◌, nat_lt, not, find, Bool, true, false, List, Option, Some, None, if◌then◌else◌}
 use Rattle.std.specs.Str.{bytes_eq}
 use Rattle.wire_base.specs.declared.addresses.LspId.{LspId}
 use Rattle.wire_base.specs.declared.entry.Entry.{Entry}
-use Rattle.wire_base.specs.model.Control.{entry_in, is_below}
+use Rattle.wire_base.specs.model.Control.{entry_in, ids_of, is_below}
 
 abbrev pub is_live : Entry → Bool
 is_live e = nat_lt 0 e.life
@@ -46,3 +46,18 @@ pub record IsDifference (a b : List Entry) (id : LspId) : Type 0 where
 abbrev pub IsLeastDifference : List Entry → List Entry → Option LspId → Type 0
 IsLeastDifference a b None = AreSameLive a b
 IsLeastDifference a b (Some id) = IsDifference a b id
+
+-- ---- the least LSP ID at which they differ, as a value
+
+-- the lesser of two LSP IDs
+abbrev pub lesser_id : Option LspId → Option LspId → Option LspId
+lesser_id None y = y
+lesser_id (Some x) None = Some x
+lesser_id (Some x) (Some y) = Some (if is_below x y then x else y)
+
+abbrev pub differs_at : List Entry → List Entry → LspId → Bool
+differs_at a b id = not (is_same_at a b id)
+
+-- the lesser of the first LSP ID of either LSDB at which the two differ; the LSP IDs of each are in ascending order
+unfoldable pub first_difference : List Entry → List Entry → Option LspId
+first_difference a b = lesser_id (find (differs_at a b) (ids_of a)) (find (differs_at a b) (ids_of b))

@@ -1,38 +1,30 @@
 //! The router to which a router sends the bit of a BFR-id.
-ghost use Rattle.std.specs.Prelude.{◌≡◌, ◌<◌, ◌≤◌, ◌%◌, true, IfOk, IfSome, length, is_some, slice_get};
+ghost use Rattle.std.specs.Prelude.{◌≡◌, ℕ, ◌<◌, ◌≤◌, ◌%◌, true, IfSome, length, is_some, slice_get};
 ghost use Rattle.wire_base.specs.model.Choice.{choose};
 ghost use Rattle.wire_base.specs.model.Place.{bits_of, id_at, position_in};
+ghost use Rattle.wire_base.specs.declared.conf.RouterConf.{RouterConf};
+ghost use Rattle.quiet_domain.specs.Paths.{IsBirt};
 ghost use Rattle.quiet_domain.specs.Way.{node_of};
 
-use birt_rows::rows;
-use std::alloc::Global;
-use wire_base::{First, M, RouterConf, SystemId, Triple, View, ViewNode};
+use crate::birt::Birt;
+use wire_base::{First, SystemId, Triple, View, ViewNode};
 
-/// Returns the node to which the node `u` sends the bit of a BFR-id of the triple's set: of the BFR-NBRs toward the id's owner the
-/// one that the entropy class selects (RFC 8279, 6.7 and 6.9). None exactly where there is no BFR-NBR.
-pub(crate) fn choice(
-    alloc: Global,
-    v: &View,
-    conf: &RouterConf,
-    u: u16,
-    t: Triple,
-    class: u8,
-    k: u16,
-) -> M<Option<u16>>
-    requires ends { length conf.now.ends ≤ 65536 }
-    requires node { u < length v.now.nodes }
+/// Returns the node to which the node `u` sends the bit of a BFR-id of the triple's set, given its BIRT: of the BFR-NBRs toward the
+/// id's owner the one that the entropy class selects (RFC 8279, 6.7 and 6.9). None exactly where there is no BFR-NBR.
+pub(crate) fn choice(v: &View, birt: &Birt, t: Triple, class: u8, k: u16) -> Option<u16>
     requires place { is_some (position_in t k) ≡ true }
-    ensures { IfOk result (λ x. x ≡ choose v.now.nodes conf.now.kinds conf.now.table t class u k) }
+    requires bits { length birt.now.set.bits ≡ bits_of t.bsl }
+    ensures within { IfSome result (λ x. x < length v.now.nodes) }
+    ensures choice { (r : RouterConf) (u : ℕ) → u < length v.now.nodes → IsBirt r v.now.nodes t u birt.now → result ≡ choose v.now.nodes r.kinds r.table t class u k }
 {
     let nodes = v.as_slice();
     let Some(position) = position_in(t, k) else {
-        return Ok(None);
+        return None;
     };
-    let set = rows(alloc, v, conf, u, t)?;
-    let row = set.bits.as_slice()[usize::from(position - 1)].as_slice();
+    let row = birt.set.bits.as_slice()[usize::from(position - 1)].as_slice();
     match selected(row, class) {
-        Some(first) => Ok(node_of(nodes, first.system)),
-        None => Ok(None),
+        Some(first) => node_of(nodes, first.system),
+        None => None,
     }
 }
 
@@ -59,7 +51,8 @@ fn selected(row: &[First], class: u8) -> Option<First>
 /// Returns the index of the node of a system.
 fn node_of(nodes: &[ViewNode], system: SystemId) -> Option<u16>
     requires { length nodes.now ≤ 65536 }
-    ensures { result ≡ node_of nodes.now system }
+    ensures node { result ≡ node_of nodes.now system }
+    ensures within { IfSome result (λ x. x < length nodes.now) }
 {
     for place in 0..nodes.len() {
         if nodes[place].system == system {

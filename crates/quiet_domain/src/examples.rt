@@ -2,7 +2,7 @@
 ghost use Rattle.std.specs.Prelude.{◌≡◌, true, false, [], ◌∷◌, Some, None};
 ghost use Rattle.laws_route.specs.Examples.{ring, fork, line, kinds, triple};
 ghost use Rattle.quiet_domain.specs.Examples.{alone, both, confused, id, later, lsp, purged};
-ghost use Rattle.quiet_domain.specs.Live.{is_same_at};
+ghost use Rattle.quiet_domain.specs.Live.{first_difference, is_same_at};
 ghost use Rattle.quiet_domain.specs.Way.{way_to};
 
 /// Lifetimes do not count, nor does a purge. An LSP that one LSDB lacks counts, and so do other contents or another sequence number.
@@ -14,6 +14,15 @@ pub fn live_lsps_are_compared()
     ensures lacking { is_same_at alone both (id 2) ≡ false }
     ensures expired { is_same_at alone purged (id 2) ≡ true }
     ensures number { is_same_at (lsp 2 5 9 [] ∷ []) (lsp 2 6 9 [] ∷ []) (id 2) ≡ false }
+{}
+
+/// The least LSP ID of a difference is found, whichever LSDB has it. Where only lifetimes differ there is none.
+#[tactic(auto, unfolding(crate::specs::Live::first_difference))]
+pub fn differences_are_found()
+    ensures none { first_difference both later ≡ None }
+    ensures contents { first_difference both confused ≡ Some (id 2) }
+    ensures lacking { first_difference alone both ≡ Some (id 2) }
+    ensures least { first_difference (lsp 2 1 9 [] ∷ []) both ≡ Some (id 1) }
 {}
 
 /// Across the ring there are two hops; in the fork one hop has a tunnel of two links; in the line no path goes through the router

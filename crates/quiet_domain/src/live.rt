@@ -2,7 +2,7 @@
 ghost use Rattle.std.specs.Prelude.{◌≡◌, ◌&&◌, [], ◌==◌, find, nat_lt, option_map};
 ghost use Rattle.std.specs.Str.{bytes_eq};
 ghost use Rattle.wire_base.specs.model.Control.{AreAscending, id_order, ids_of};
-ghost use Rattle.quiet_domain.specs.Live.{IsLeastDifference, are_alike, is_live};
+ghost use Rattle.quiet_domain.specs.Live.{IsLeastDifference, are_alike, first_difference, is_live};
 
 use lsp_store::Store;
 use std::cmp::Ordering;
@@ -49,7 +49,8 @@ fn first_live(entries: &[Entry]) -> Option<LspId>
 /// the sequence numbers, the flags or the contents differ. None exactly where there is no such LSP ID. Remaining Lifetimes, and
 /// entries that are not live, do not count. Does not allocate (ISO/IEC 10589, 7.3.15 and 7.3.16).
 pub fn same_live(a: &Store, b: &Store) -> Option<LspId>
-    ensures { IsLeastDifference a.now.entries b.now.entries result }
+    ensures least { IsLeastDifference a.now.entries b.now.entries result }
+    ensures value { result ≡ first_difference a.now.entries b.now.entries }
 {
     first_difference(a.as_slice(), b.as_slice())
 }

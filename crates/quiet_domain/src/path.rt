@@ -7,3 +7,10 @@ pub struct Way {
     pub hops: u16,
     pub longest: u16,
 }
+
+/// One hop of a path: the node that it leads to, and how many links its tunnel has, 0 without a tunnel.
+#[derive(Clone, Copy)]
+pub(crate) struct Hop {
+    pub(crate) next: u16,
+    pub(crate) links: u16,
+}

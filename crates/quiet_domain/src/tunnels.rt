@@ -5,23 +5,31 @@ ghost use Rattle.wire_base.specs.model.Choice.{is_direct, is_length};
 ghost use Rattle.wire_base.specs.model.HopCount.{tunnel_links};
 ghost use Rattle.wire_base.specs.model.Tight.{head, next_step};
 ghost use Rattle.wire_base.specs.model.Walk.{AreDists, dist};
+ghost use Rattle.path_tree.specs.Ways.{AreDistsFrom};
 ghost use Rattle.quiet_domain.specs.Way.{links_over};
 
 use path_tree::{distances_to, tight_steps};
 use std::alloc::Global;
 use wire_base::{M, Rows, View, ViewEdge, ViewNode};
 
-/// Returns how many links the tunnel has in which the node `u` sends copies to the node `x`; 0 if `x` is reached directly, or if no
-/// path leads there (RFC 8279, 6.9).
-pub(crate) fn links_over(alloc: Global, v: &View, u: u16, x: u16) -> M<u16>
+/// Returns how many links the tunnel has in which the node `u` sends copies to the node `x`, given the costs of the paths from `u`;
+/// 0 if `x` is reached directly, or if no path leads there (RFC 8279, 6.9).
+pub(crate) fn links_over(
+    alloc: Global,
+    v: &View,
+    costs: &Rows<Option<u64>>,
+    u: u16,
+    x: u16,
+) -> M<u16>
     requires from { u < length v.now.nodes }
     requires to { x < length v.now.nodes }
+    requires costs { AreDistsFrom v.now.nodes u costs.now }
     ensures { IfOk result (λ n. n ≡ links_over v.now.nodes u x) }
 {
-    let dist = distances_to(alloc, v, x)?;
-    if is_direct(v.as_slice(), dist.as_slice()[usize::from(u)], u, x) {
+    if is_direct(v.as_slice(), costs.as_slice()[usize::from(x)], u, x) {
         return Ok(0);
     }
+    let dist = distances_to(alloc, v, x)?;
     tunnel_links(alloc, v, &dist, x, u)
 }
 
