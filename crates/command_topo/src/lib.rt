@@ -8,7 +8,6 @@ mod examples;
 mod frames;
 mod graphs;
 mod lines;
-mod names;
 mod query;
 mod topo;
 

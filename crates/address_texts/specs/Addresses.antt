@@ -1,7 +1,8 @@
--- How reports write system IDs and addresses.
+-- How reports write system IDs, LSP IDs and addresses.
 use Rattle.std.specs.Prelude.{ℕ, ◌+◌, ◌/◌, ◌%◌, nat_lt, List, [], ◌∷◌, ◌++◌, slice_index, if◌then◌else◌}
 use Rattle.std.specs.Fmt.{decimal}
 use Rattle.wire_base.specs.declared.addresses.Ipv4.{Ipv4}
+use Rattle.wire_base.specs.declared.addresses.LspId.{LspId}
 use Rattle.wire_base.specs.declared.addresses.SystemId.{SystemId}
 
 -- `0` to `9` and `a` to `f`
@@ -21,6 +22,10 @@ system_text s =
     hex_pair (slice_index s.0 0) (slice_index s.0 1) ++ 46 ∷ []
     ++ hex_pair (slice_index s.0 2) (slice_index s.0 3) ++ 46 ∷ []
     ++ hex_pair (slice_index s.0 4) (slice_index s.0 5)
+
+-- such as `0000.0000.0001.00-00`: the system ID, the pseudonode number and the fragment number
+unfoldable pub lsp_id_text : LspId → List ℕ
+lsp_id_text id = system_text id.system ++ 46 ∷ [] ++ hex_octet id.pseudonode ++ 45 ∷ [] ++ hex_octet id.fragment
 
 -- such as `10.0.0.1`
 unfoldable pub prefix_text : Ipv4 → List ℕ
