@@ -1,12 +1,13 @@
-"""isis_dump on the captures of the examples, compared with tshark, and on damaged frames."""
+"""isis_dump on the captures of the examples and on hellos of FRR, compared with tshark, and on damaged frames."""
 import glob
 import os
 import struct
 import subprocess
 import tempfile
 import unittest
+import xml.etree.ElementTree
 
-from support import EXAMPLES, needs, places
+from support import EXAMPLES, HERE, needs, places, scratch
 
 CRATES = os.path.join(places.ROOT, "crates")
 PROGRAM = os.environ.get("ISIS_DUMP") or os.path.join(CRATES, "isis_dump", "out", "isis_dump")
@@ -21,6 +22,7 @@ def is_pcap(path):
 
 FRAMES = sorted(glob.glob(os.path.join(EXAMPLES, "*", "frames")))
 CAPTURES = [path for path in FRAMES if is_pcap(path)] + [os.path.join(CRATES, "show_capture", "stdout")]
+FRR = sorted(glob.glob(os.path.join(HERE, "frr", "**", "*.pcap"), recursive=True))
 
 KINDS = {18: "lsp 1", 20: "lsp 2", 24: "csnp 1", 25: "csnp 2", 26: "psnp 1", 27: "psnp 2"}
 FIELDS = {
@@ -87,6 +89,21 @@ def flags_of(row):
     return parts[0] * 128 + parts[1] * 8 + parts[2] * 4 + parts[3]
 
 
+def area_of(area):
+    """An area address with its length before it, in the program's format."""
+    octets = bytes.fromhex(area.replace(":", ""))[1:]
+    return "area " + octets[:1].hex() + "".join("." + octets[at : at + 2].hex() for at in range(1, len(octets), 2))
+
+
+def protocols_of(found):
+    return "protocols " + " ".join(f"{it:02x}" for it in found)
+
+
+def begin_of(number, time):
+    seconds, fraction = time.split(".")
+    return f"{number} {int(seconds)}.{fraction[:6]}"
+
+
 def head_of(row):
     kind = KINDS[int(row["type"], 0) % 32]
     if kind.startswith("lsp"):
@@ -101,15 +118,12 @@ def head_of(row):
 
 def details_of(row):
     """The lines of TLVs and their parts, in no order: tshark gives each field's values apart."""
-    seconds, fraction = row["time"].split(".")
-    lines = [f"{row['number']} {int(seconds)}.{fraction[:6]} {head_of(row)}"]
+    lines = [f"{begin_of(row['number'], row['time'])} {head_of(row)}"]
     for it in zip(words(row["entry_id"]), numbers(row["entry_seq"]), numbers(row["entry_life"]), numbers(row["entry_sum"]), strict=True):
         lines.append(f"entry {it[0]} seq {it[1]} life {it[2]} sum {it[3]:04x}")
-    for area in words(row["area"]):
-        octets = bytes.fromhex(area.replace(":", ""))[1:]  # after its length
-        lines.append("area " + octets[:1].hex() + "".join("." + octets[at : at + 2].hex() for at in range(1, len(octets), 2)))
+    lines += [area_of(area) for area in words(row["area"])]
     if row["protocols"]:
-        lines.append("protocols " + " ".join(f"{it:02x}" for it in numbers(row["protocols"])))
+        lines.append(protocols_of(numbers(row["protocols"])))
     lines += [f"name {it}" for it in words(row["name"])]
     lines += [f"reach {a} metric {m}" for a, m in zip(words(row["neighbour"]), numbers(row["link_metric"]), strict=True)]
     for a, n, m, d in zip(words(row["prefix"]), words(row["bits"]), words(row["prefix_metric"]), words(row["down"]), strict=True):
@@ -120,23 +134,83 @@ def details_of(row):
     return sorted(lines)
 
 
+def tshark(path, chosen, *form):
+    done = subprocess.run(["tshark", "-r", path, "-Y", chosen, *form], capture_output=True, text=True, timeout=300, check=True)
+    return done.stdout
+
+
+# ---- hellos: tshark's own tree, in which each TLV has its octets
+
+POINT_TO_POINT = 17
+STATES = ("up", "initializing", "down")
+
+
+def shown(node, name):
+    """The values of a field below a node."""
+    return [it.get("show") for it in node.iter("field") if it.get("name") == name]
+
+
+def tlv_lines(tlv):
+    code = int(shown(tlv, "isis.hello.clv.type")[0])
+    if code == 1:
+        return [area_of(area) for area in shown(tlv, "isis.hello.area_address")]
+    if code == 129:
+        return [protocols_of(int(it, 0) for it in shown(tlv, "isis.hello.clv_nlpid.nlpid"))]
+    return [f"tlv {code} {tlv.get('value')[4:]}".rstrip()]
+
+
+def hello_head(packet):
+    """What follows the number and the time; of a hello without a three-way handshake the type alone."""
+    fields = {}
+    for it in packet.iter("field"):
+        fields.setdefault(it.get("name").removeprefix("isis.hello."), it.get("show"))
+    kind = int(fields["isis.type"])
+    if kind != POINT_TO_POINT or "adjacency_state" not in fields:
+        return f"hello type {kind}"
+    state, circuit = STATES[int(fields["adjacency_state"])], int(fields["extended_local_circuit_id"], 0)
+    head = f"hello source {fields['source_id']} hold {fields['holding_timer']} circuit {circuit} state {state}"
+    if "neighbor_systemid" in fields:
+        head += f" neighbor {fields['neighbor_systemid']} circuit {int(fields['neighbor_extended_local_circuit_id'], 0)}"
+    return head
+
+
+def hello_lines(packet):
+    """The lines of a hello, in order."""
+    head = hello_head(packet)
+    begin = begin_of(shown(packet, "frame.number")[0], shown(packet, "frame.time_epoch")[0])
+    has_tlvs = not head.startswith("hello type")
+    tlvs = packet.findall("proto[@name='isis.hello']/field[field]") if has_tlvs else []
+    return [f"{begin} {head}", *(line for tlv in tlvs for line in tlv_lines(tlv))]
+
+
+# ---- all of a capture, by the number of the frame
+
+
+def hellos_by_tshark(path):
+    packets = xml.etree.ElementTree.fromstring(tshark(path, "isis.hello", "-T", "pdml"))
+    return {int(shown(it, "frame.number")[0]): hello_lines(it) for it in packets}
+
+
 def by_tshark(path):
     """tshark's dissection of each IS-IS frame, in the program's format."""
     chosen = [word for field in FIELDS.values() for word in ("-e", field)]
-    command = ["tshark", "-r", path, "-Y", "isis", "-T", "fields", "-E", "occurrence=a", "-E", "aggregator=|", *chosen]
-    done = subprocess.run(command, capture_output=True, text=True, timeout=300, check=True)
-    rows = (dict(zip(FIELDS, line.split("\t"), strict=True)) for line in done.stdout.splitlines())
-    return [details_of(row) for row in rows]
+    text = tshark(path, "isis and not isis.hello", "-T", "fields", "-E", "occurrence=a", "-E", "aggregator=|", *chosen)
+    rows = [dict(zip(FIELDS, line.split("\t"), strict=True)) for line in text.splitlines()]
+    return {int(row["number"]): details_of(row) for row in rows} | hellos_by_tshark(path)
+
+
+def is_hello(lines):
+    return " hello " in lines[0]
 
 
 def by_program(text):
-    """The lines of each frame, in the order of their letters."""
+    """The lines of each frame: of a hello in order, and else in the order of their letters."""
     found = []
     for line in text.splitlines()[:-1]:
         if not line.startswith(" "):
             found.append([])
         found[-1].append(line.strip())
-    return [sorted(lines) for lines in found]
+    return {int(lines[0].split()[0]): lines if is_hello(lines) else sorted(lines) for lines in found}
 
 
 # ---- frames that are damaged
@@ -147,6 +221,7 @@ LSP = (
     "831b010014010000004d04b0000000000001000000000001554e030104034900018101cc890141160b0000000000020000000a00"
     "871700000000600a0000010d200b0000000001010400100064"
 )
+HELLO = "831401001101000002000000000001001e002e01010403490001" "8101cc" "f00f000000010000000000000200000007"
 # a PDU, the index of an octet that is changed, its new value, and the rule that is then broken
 DAMAGE = [
     (LSP, 0, 0x82, "refused pdu 2 Discriminator"),
@@ -157,7 +232,19 @@ DAMAGE = [
     (LSP, -1, 0x65, "refused pdu 7 Checksum"),
     (CSNP, 34, 17, "refused pdu 8 Tlv"),
     (LSP, 4, 14, "other type 14"),
-    (LSP, 4, 17, "hello type 17"),
+    (LSP, 4, 16, "hello type 16"),
+    (LSP, 4, 17, "refused hello 6 HeaderLength"),
+    (HELLO, 0, 0x82, "refused pdu 2 Discriminator"),
+    (HELLO, 5, 0, "refused pdu 3 Version"),
+    (HELLO, 3, 7, "refused pdu 4 IdLength"),
+    (HELLO, 1, 19, "refused hello 6 HeaderLength"),
+    (HELLO, 18, 19, "refused hello 7 PduLength"),
+    (HELLO, 18, 0x2F, "refused hello 7 PduLength"),
+    (HELLO, 18, 0x2D, "refused hello 8 Tlv"),
+    (HELLO, -16, 16, "refused hello 8 Tlv"),
+    # without a three-way handshake, or with a state that there isn't
+    (HELLO, -17, 241, "hello type 17"),
+    (HELLO, -15, 3, "hello type 17"),
 ]
 
 
@@ -173,6 +260,33 @@ def purge(tlvs):
     """A dead LSP with those TLVs: its checksum isn't tested."""
     head = bytes.fromhex("831b010014010000") + struct.pack(">HH", 27 + len(tlvs), 0)
     return head + bytes.fromhex("0000000000010000" "00000002" "0000" "03") + tlvs
+
+
+def hello(kind, *tlvs):
+    """A hello with those TLVs, a code and a value each: of type 17, or of 15 or 16, which are sent on a LAN."""
+    octets = b"".join(bytes([code, len(value)]) + value for code, value in tlvs)
+    front = 20 if kind == POINT_TO_POINT else 27
+    last = b"\x07" if kind == POINT_TO_POINT else b"\x40" + bytes.fromhex("00000000000301")
+    head = bytes([0x83, front, 1, 0, kind, 1, 0, 0, 3]) + bytes.fromhex("1921680010010400")
+    return head + struct.pack(">H", front + len(octets)) + last + octets
+
+
+AREAS = (1, bytes.fromhex("0349000105490002000a"))
+IPV4, IPV6 = 0xCC, 0x8E
+PROTOCOLS = (129, bytes([IPV4, IPV6]))
+WAY = (240, bytes.fromhex("0000000102" "1921680010020000ffff"))
+PADDING = (8, bytes(255))
+HELLOS = [
+    hello(17, AREAS, PROTOCOLS, WAY, *[PADDING] * 5, (8, bytes(100))),
+    hello(17, WAY, AREAS, (132, bytes([10, 0, 0, 1])), (211, bytes(3)), (229, bytes([0, 0, 0, 2]))),
+    hello(17, (240, bytes.fromhex("01" "ffffffff" "192168001002" "00000000")), (251, b""), (250, b"own")),
+    hello(17, (240, bytes.fromhex("02" "00010000"))),
+    # Of several three-way adjacency TLVs the first counts.
+    hello(17, AREAS, WAY, PROTOCOLS, (240, bytes.fromhex("01000000031921680010030000fffe"))),
+    hello(17, AREAS, PROTOCOLS),
+    hello(15, AREAS, PROTOCOLS, (6, bytes(6))),
+    hello(16, AREAS),
+]
 
 
 # TLVs, and the line that names the rule which they break
@@ -202,6 +316,20 @@ class IsisDump(unittest.TestCase):
                 self.assertEqual(text.splitlines()[-1].split()[4:], [str(len(wanted)), "refused", "0"])
                 count += len(wanted)
         self.assertGreater(count, 100)
+
+    @needs("tshark", "tshark")
+    def test_hellos(self):
+        """Hellos of FRR and others, field by field."""
+        made = scratch("hellos.pcap")
+        with open(made, "wb") as file:
+            file.write(capture(*map(frame, HELLOS)))
+        for path, least in [(path, 100) for path in FRR] + [(made, len(HELLOS))]:
+            with self.subTest(capture=os.path.basename(os.path.dirname(path))):
+                text, status = dump(read(path))
+                found = {number: lines for number, lines in by_program(text).items() if is_hello(lines)}
+                self.assertEqual((found, status), (hellos_by_tshark(path), 0))
+                self.assertGreaterEqual(len(found), least)
+                self.assertTrue(text.endswith(" refused 0\n"))
 
     def test_damaged_pdus(self):
         for pdu, place, value, rule in DAMAGE:
@@ -235,6 +363,8 @@ class IsisDump(unittest.TestCase):
         text, status = dump(HEADER + struct.pack("<IIII", 7, 5, 60, 94) + cut)
         self.assertEqual((text.splitlines()[0], status), ("1 7.000005 cut refused frame 2 Length", 0))
         self.assertEqual(dump(capture(b"\0" * 13))[0].splitlines()[0], "1 7.000005 refused frame 1 Short")
+        text, status = dump(capture(frame(bytes.fromhex(HELLO)[:19])))
+        self.assertEqual(text, "1 7.000005 refused hello 1 Short\ndone records 1 read 0 refused 1\n")
         other = bytes(12) + b"\x08\x00" + bytes(40)
         self.assertEqual(dump(capture(other)), ("done records 1 read 0 refused 0\n", 0))
         self.assertEqual(dump(capture(other)[:-1]), ("refused record 1 5 CutRecord\n", 8))

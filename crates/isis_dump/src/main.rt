@@ -6,6 +6,7 @@
 
 mod dump;
 mod frames;
+mod hellos;
 mod octets;
 mod pdus;
 mod prefixes;

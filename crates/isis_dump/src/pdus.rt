@@ -2,8 +2,10 @@
 ghost use Rattle.std.specs.Prelude.{◌≡◌};
 ghost use Rattle.isis_dump.specs.Levels.{type_in, level_in};
 
+use crate::hellos::show_hello;
 use crate::octets::show_refused;
 use crate::tlvs::show_tlvs;
+use isis_hello::codepoints::HELLO_TYPE;
 use isis_pdu::{LspHead, Pdu, read_pdu};
 use std::fmt::Write;
 use wire_base::{Level, LspId, M, SystemId};
@@ -68,10 +70,7 @@ pub fn show_pdu(text: &mut String, pdu: &[u8]) -> M<Shown> {
             writeln!(text, "psnp {number} source {source}")?;
             show_tlvs(text, tlvs)?;
         }
-        Ok(Pdu::Hello) => {
-            let kind = type_of(pdu);
-            writeln!(text, "hello type {kind}")?;
-        }
+        Ok(Pdu::Hello) => return show_any_hello(text, pdu),
         Ok(Pdu::Other(kind)) => writeln!(text, "other type {kind}")?,
         Err(fault) => {
             show_refused(text, "", "pdu", fault.number(), fault.name())?;
@@ -79,6 +78,20 @@ pub fn show_pdu(text: &mut String, pdu: &[u8]) -> M<Shown> {
         }
     }
     Ok(Shown::Whole)
+}
+
+/// Appends the lines of a hello. One that is sent on a LAN (type 15 or 16) has its type alone.
+fn show_any_hello(text: &mut String, pdu: &[u8]) -> M<Shown> {
+    let kind = type_of(pdu);
+    if kind != HELLO_TYPE {
+        writeln!(text, "hello type {kind}")?;
+        return Ok(Shown::Whole);
+    }
+    if show_hello(text, pdu)? {
+        Ok(Shown::Whole)
+    } else {
+        Ok(Shown::Refused)
+    }
 }
 
 /// Appends the line of an LSP. A parsed live LSP has a right checksum; that of an expired LSP is not used.

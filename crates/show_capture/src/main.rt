@@ -1,5 +1,5 @@
-//! Writes a capture of IS-IS frames to standard output: the first LSPs of a ring of three routers, a purge, a CSNP and a
-//! PSNP. `tools/check-capture` dissects it with another program.
+//! Writes a capture of IS-IS frames to standard output: the hellos by which an adjacency comes up, the first LSPs of a ring of
+//! three routers, a purge, a CSNP and a PSNP. `tools/check-capture` dissects it with another program.
 #![tactic(auto)]
 
 mod sample;

@@ -1,5 +1,6 @@
 //! The frames of the sample, built with the same calls that a router uses.
 use bier_subtlv::push_info;
+use isis_hello::{Hello, Tri, write_hello};
 use isis_pdu::{LspHead, checksum_at, write_csnp, write_lsp, write_psnp};
 use isis_tlv::{PrefixEntry, Reach, push_prefix, push_reach, push_tlv};
 use link_frame::write_eth;
@@ -14,8 +15,27 @@ use wire_base::{Bsl, LabelRange, Level, LspId, M, Mac, Octets, OwnSub, Rows, Sum
 /// The destination address of IS-IS frames (ISO/IEC 10589, 8.4).
 const ALL_ROUTERS: Mac = Mac([0x09, 0x00, 0x2b, 0x00, 0x00, 0x05]);
 
+const AREA: [u8; 3] = [0x49, 0, 1];
+
 fn system(n: u8) -> SystemId {
     SystemId([0, 0, 0, 0, 0, n])
+}
+
+/// Returns the hello of a router whose circuit has the same number as the router, by the state of its adjacency and the neighbor
+/// that it lists.
+fn hello(alloc: Global, n: u8, state: Tri, named: Option<u8>) -> M<Octets> {
+    let area = Octets::from_slice(alloc, &AREA)?;
+    let hello = Hello {
+        source: system(n),
+        hold: 30,
+        circuit: u32::from(n),
+        state,
+        named: match named {
+            Some(neighbor) => Some((system(neighbor), u32::from(neighbor))),
+            None => None,
+        },
+    };
+    write_hello(alloc, Level::Two, &area, &hello)
 }
 
 fn fragment_0(n: u8) -> LspId {
@@ -170,6 +190,16 @@ fn push_record(alloc: Global, out: &mut Octets, sec: u32, from: u8, pdu: &[u8]) 
     write_cap_record(out, sec, 0, frame.as_slice())
 }
 
+/// Appends the hellos by which the routers 1 and 2 bring their adjacency up: one in each state.
+fn push_hellos(alloc: Global, out: &mut Octets) -> M<()> {
+    let first = hello(alloc, 1, Tri::Down, None)?;
+    push_record(alloc, out, 0, 1, first.as_slice())?;
+    let answer = hello(alloc, 2, Tri::Initializing, Some(1))?;
+    push_record(alloc, out, 0, 2, answer.as_slice())?;
+    let last = hello(alloc, 1, Tri::Up, Some(2))?;
+    push_record(alloc, out, 0, 1, last.as_slice())
+}
+
 /// Returns the capture.
 pub fn capture(alloc: Global) -> M<Octets> {
     let one = lsp(alloc, 1, 1, [2, 3])?;
@@ -189,6 +219,7 @@ pub fn capture(alloc: Global) -> M<Octets> {
     let psnp = write_psnp(alloc, Level::Two, system(2), &rows[..1])?;
     let mut out = Octets::new(alloc);
     write_cap_header(&mut out)?;
+    push_hellos(alloc, &mut out)?;
     push_record(alloc, &mut out, 1, 1, csnp.as_slice())?;
     push_record(alloc, &mut out, 1, 1, one.as_slice())?;
     push_record(alloc, &mut out, 2, 2, psnp.as_slice())?;
