@@ -9,7 +9,8 @@ import national
 from support import Replay, needs, places, program, scratch, tool, write
 from test_player import opened, with_script, written
 
-SECONDS = 10
+# The goal is 10 s on an idle machine; one that is busy or slow gets twice that.
+SECONDS = 20
 MAP = """
   await new Promise((done) => setTimeout(done, 500));
   const names = [...document.querySelectorAll(".router text:not(.small):not(.fate)")].map((it) => it.getBoundingClientRect());
