@@ -47,6 +47,12 @@ impl Control {
         &self.store
     }
 
+    pub(crate) fn flood(&self) -> &Flood
+        ensures { result.now.flood ≡ self.now.flood }
+    {
+        &self.flood
+    }
+
     pub(crate) fn spent(&self) -> bool
         ensures spent { result ≡ self.now.spent }
         ensures issued { IssuesAlone self.now }

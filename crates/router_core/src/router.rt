@@ -15,6 +15,7 @@ use crate::control::Control;
 use crate::kept::Kept;
 use crate::staleness::note_own;
 use bier_forward::Effects;
+use isis_flood::Flood;
 use lsp_store::Store;
 use std::alloc::Global;
 use std::marker::Model;
@@ -91,6 +92,14 @@ impl Router {
         ensures { result.now.entries ≡ self.now.control.entries }
     {
         self.control.store()
+    }
+
+    /// Returns its flooding flags: on which interfaces an LSP is to be sent (SRM) or acknowledged (SSN), and where a CSNP is
+    /// due (ISO/IEC 10589, 7.3.15). Does not allocate.
+    pub fn flood(&self) -> &Flood
+        ensures { result.now.flood ≡ self.now.control.flood }
+    {
+        self.control.flood()
     }
 
     /// Returns whether its sequence number space is exhausted; it then originates no LSP until it restarts (ISO/IEC 10589,
