@@ -1,6 +1,8 @@
 pub mod CarryLaws
 pub mod ConfLaws
 pub mod CourseStep
+pub mod CoverLaws
+pub mod CoverRuns
 pub mod EventLaws
 pub mod FramedBack
 pub mod FramedCopies
@@ -8,6 +10,7 @@ pub mod FramedHop
 pub mod FramedPdus
 pub mod FramedWorld
 pub mod LedgerStep
+pub mod QuietLaws
 pub mod ReadBack
 pub mod RefusalLaws
 pub mod SeenLaws

@@ -1,5 +1,7 @@
 pub mod Answers
 pub mod Course
+pub mod Cover
 pub mod Held
 pub mod Ledger
 pub mod Network
+pub mod Quiet

@@ -2,14 +2,17 @@
 //! `domain_model` defines. It uses `router_core`, whose routers receive the frames.
 //!
 //! It promises that a world's next state, and what it sends, delivers and drops, are the model's, and that its LSDBs
-//! are truthful.
+//! are truthful. It tells whether a domain is quiet, and which BFR-ids an injection would reach then (`quiet_domain`,
+//! `laws_quiet`).
 #![tactic(auto)]
 
 mod alone;
+mod cover;
 mod events;
 mod frame_laws;
 mod network;
 mod over;
+mod quiet;
 mod refusal;
 mod transit;
 mod world;
@@ -17,4 +20,5 @@ mod world;
 pub use domain_model::{DropLine, EventFault, GotLine, StepOut, WireFrame, WireFrames};
 pub use frame_laws::{frames_do_what_items_do, sent_frames_are_items};
 pub use frames_in_flight::{confs_of, peer_place};
+pub use quiet_domain::Quiet;
 pub use world::World;

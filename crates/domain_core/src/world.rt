@@ -1,12 +1,25 @@
 //! A running domain.
-ghost use Rattle.std.specs.Prelude.{◌≡◌, ◌<◌, length, map, slice_get, Option, Some, None, IfOk, OnOk, OnErr, IfErr, MatchResult};
+ghost use Rattle.std.specs.Prelude.{◌≡◌, ◌<◌, ◌≤◌, ◌^◌, ◌+◌, ◌∷◌, ◌↔◌, ℕ, true, List, length, map, slice_get, Option, Some, None, Ok, IfOk, OnOk, OnErr, IfErr, MatchResult};
 ghost use Rattle.std.specs.List.{AllByRecursion};
+ghost use Rattle.wire_base.specs.declared.limits.TheConstants.{MOST_EVENTS};
+ghost use Rattle.replay_text.specs.declared.event.Event.{Event};
 ghost use Rattle.replay_text.specs.declared.event.Event.TheVariants as events;
 ghost use Rattle.domain_core.specs.Answers.{outcome, Refuses, Stays};
 ghost use Rattle.frames_in_flight.specs.Told.{IsShortFrame, told};
 ghost use Rattle.domain_model.specs.Faults.{event_fault};
 ghost use Rattle.domain_core.specs.Course.{KeepsCourse};
 ghost use Rattle.domain_core.specs.Ledger.{KeepsLedger};
+ghost use Rattle.domain_core.specs.Cover.{IsReceived, Rejects, cover_of};
+ghost use Rattle.domain_core.specs.Quiet.{quiet_of};
+ghost use Rattle.laws_course.specs.Course.{Agreed, own_node};
+ghost use Rattle.laws_ledger.specs.Weights.{copies_in};
+ghost use Rattle.laws_quiet.specs.Cover.{deliveries_by, drops_by};
+ghost use Rattle.laws_quiet.specs.Quiet.{IsQuiet};
+ghost use Rattle.quiet_domain.specs.declared.answer.Quiet.TheVariants.{Yes};
+ghost use Rattle.wire_base.specs.model.Control.{Control};
+ghost use Rattle.wire_base.specs.model.Hop.{has};
+ghost use Rattle.wire_base.specs.model.View.{control_view};
+ghost use Rattle.domain_model.specs.Run.{world_after};
 ghost use Rattle.domain_core.specs.Network.{IsAsBefore, heard_after};
 ghost use Rattle.domain_model.specs.Step.{happens};
 ghost use Rattle.domain_model.specs.Truth.{IsTruthful, EventFits, AreWorldDrops};
@@ -14,11 +27,12 @@ ghost use Rattle.domain_model.specs.World.{first_world, link_between, queue_at, 
 
 use crate::network::Network;
 use domain_model::{EventFault, StepOut};
+use quiet_domain::Quiet;
 use replay_text::Event;
 use router_core::Router;
 use std::alloc::Global;
 use std::marker::Model;
-use wire_base::{Domain, M};
+use wire_base::{Bsl, Domain, EdgeFault, M, Rows};
 
 /// A running domain: its routers, and the frames in flight between them. Contracts see the world that it represents,
 /// with an item for each frame, and how many frames each router has received.
@@ -172,6 +186,14 @@ impl World {
         self.network.ids_in_flight()
     }
 
+    /// Returns how many events were executed.
+    pub fn events(&self) -> u32
+        ensures count { result ≡ self.now.world.events }
+        ensures few { result ≤ MOST_EVENTS }
+    {
+        self.network.events
+    }
+
     /// Returns the router at an index.
     #[tactic(auto, using(crate::proofs::EventLaws::as_many))]
     pub fn router(&self, place: u16) -> &Router
@@ -180,6 +202,52 @@ impl World {
         ensures heard { slice_get self.now.heard place ≡ Some result.now.heard }
     {
         &self.network.routers[usize::from(place)]
+    }
+
+    /// Returns whether the domain is quiet, or the first reason why not: first a router whose sequence number space is
+    /// exhausted, then for each link, in their order, an interface that is down while the other is up, or LSDBs that
+    /// differ in live LSPs. Remaining Lifetimes do not count. Does not allocate.
+    ///
+    /// In a quiet domain each router to which a path of a router's topology leads has the same topology (ISO/IEC 10589,
+    /// 7.2.5 and 7.3.15 to 7.3.17).
+    pub fn quiet(&self) -> Quiet
+        ensures value { result ≡ quiet_of self.now.world }
+        ensures quiet { (result ≡ Yes) ↔ IsQuiet self.now.world }
+        ensures agreed { (a : ℕ) (c : Control) → result ≡ Yes → slice_get self.now.world.routers a ≡ Some c → Agreed self.now.world (control_view c) (own_node c) }
+    {
+        self.network.quiet()
+    }
+
+    /// Returns which of the BFR-ids an injection at a router would reach, ascending and each once: the router's own
+    /// BFR-id in the sub-domain, and those to whose owner a path in the router's topology leads that has no more hops
+    /// than `ttl`, and no tunnel of more than 255 links (RFC 8279, 6.5 and 6.9; RFC 2784). `ttl` is the TTL that copies
+    /// have when they are first sent, and the entropy selects among paths of equal cost.
+    ///
+    /// The errors are those of an injection there; Memory may be returned instead of any result.
+    ///
+    /// Let the domain be quiet, let that injection occur, with any payload, and let then routers receive copies of it
+    /// alone, in whatever order. None of these events drops a BFR-id that was returned; and if no copy is in flight any
+    /// more, it was delivered exactly once.
+    pub fn cover(
+        &self,
+        alloc: Global,
+        router: u16,
+        sd: u8,
+        bsl: Bsl,
+        ids: &[u16],
+        ttl: u8,
+        entropy: u32,
+    ) -> Result<Rows<u16>, EdgeFault>
+        requires place { router < length self.now.world.domain.routers }
+        requires ttl { 0 < ttl }
+        requires entropy { entropy < 2 ^ 20 }
+        ensures value { MatchResult result (λ ks. cover_of self.now.world router sd bsl ids.now ttl entropy ≡ Ok ks) (λ e. Rejects (cover_of self.now.world router sd bsl ids.now ttl entropy) e) }
+        ensures dropped { IfOk result (λ ks. (k : ℕ) (payload : List ℕ) (es : List Event) → has ks k ≡ true → IsReceived self.now.world (events.Inject router sd bsl ids.now ttl entropy payload) es → drops_by (self.now.world.injections + 1) k self.now.world (events.Inject router sd bsl ids.now ttl entropy payload ∷ es) ≡ 0) }
+        ensures delivered { IfOk result (λ ks. (k : ℕ) (payload : List ℕ) (es : List Event) → has ks k ≡ true → IsReceived self.now.world (events.Inject router sd bsl ids.now ttl entropy payload) es → copies_in (self.now.world.injections + 1) (world_after self.now.world (events.Inject router sd bsl ids.now ttl entropy payload ∷ es)).flights ≡ 0 → deliveries_by (self.now.world.injections + 1) k self.now.world (events.Inject router sd bsl ids.now ttl entropy payload ∷ es) ≡ 1) }
+    {
+        let _issued = self.network.spent_answer();
+        self.network
+            .cover(alloc, router, sd, bsl, ids, ttl, entropy)
     }
 
     /// Returns the domain with the configurations of its routers and links.
