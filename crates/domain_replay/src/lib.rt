@@ -13,5 +13,6 @@ pub use domain_core::confs_of;
 pub use laws::{a_start_is_told, each_line_is_told};
 pub use replay::Replay;
 pub use replay_report::{
-    Recording, push_event_refused, push_front, push_text_refused, push_too_long,
+    Recording, push_cover, push_event_refused, push_front, push_quiet, push_text_refused,
+    push_too_long,
 };

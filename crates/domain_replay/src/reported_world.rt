@@ -1,7 +1,9 @@
 //! A running domain whose events are reported as they are executed.
 ghost use Rattle.std.specs.Prelude.{◌≡◌, ◌≢◌, ◌∷◌, ◌++◌, length, Some, None, IfOk, OnOk, OnErr, []};
 ghost use Rattle.std.specs.List.{AllByRecursion};
+ghost use Rattle.replay_text.specs.Events as lines;
 ghost use Rattle.replay_text.specs.Events.{LineFits};
+ghost use Rattle.replay_text.specs.declared.event.Line.TheVariants as says;
 ghost use Rattle.replay_text.specs.declared.event.Event.TheVariants as events;
 ghost use Rattle.domain_model.specs.World.{link_between, frames_between};
 ghost use Rattle.domain_model.specs.Run as run;
@@ -299,6 +301,24 @@ impl ReportedWorld {
         Ok(())
     }
 
+    /// Executes one event of a line, with the numbers that its types allow.
+    #[tactic(auto, using(crate::proofs::LineTells::event_asked), unfolding(crate::specs::Telling::tells_line, crate::specs::Telling::tells_all))]
+    pub(crate) fn do_one(
+        &mut self,
+        alloc: Global,
+        texts: &mut Texts,
+        line: u32,
+        event: &Event,
+    ) -> Result<(), EventFault>
+        requires fits { lines.EventFits (length self.old.world.domain.routers) event.now }
+        requires once { NamesOnce event.now }
+        ensures told { Tells (tells_line line (with_texts self.old texts.old) (says.One event.now)) (with_texts self.new texts.new) result }
+        ensures stops { OnErr result (StopsIn line (with_texts self.old texts.old) (event.now ∷ []) (with_texts self.new texts.new)) }
+    {
+        numbers_fit(event);
+        self.do_event(alloc, texts, line, event)
+    }
+
     /// Executes the events of a line.
     #[tactic(auto, using(crate::proofs::LineTells::event_asked), unfolding(crate::specs::Telling::tells_line, crate::specs::Telling::tells_all))]
     pub(crate) fn do_line(
@@ -318,10 +338,7 @@ impl ReportedWorld {
     {
         match said {
             Line::Empty => Ok(()),
-            Line::One(event) => {
-                numbers_fit(event);
-                self.do_event(alloc, texts, line, event)
-            }
+            Line::One(event) => self.do_one(alloc, texts, line, event),
             Line::Settle(rounds) => self.do_rounds(alloc, texts, line, all, *rounds),
         }
     }

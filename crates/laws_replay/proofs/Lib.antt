@@ -5,5 +5,6 @@ pub mod ReportLaws
 pub mod Arriving
 pub mod Ending
 pub mod Holding
+pub mod Allowed
 pub mod UpLaws
 pub mod SmallViews

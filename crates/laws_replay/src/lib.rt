@@ -7,4 +7,4 @@ mod paths;
 mod runs;
 
 pub use paths::{paths_are_up, topologies_are_small};
-pub use runs::replays_keep_promises;
+pub use runs::{replays_keep_promises, runs_keep_promises};

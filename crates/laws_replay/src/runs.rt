@@ -2,8 +2,11 @@
 ghost use Rattle.std.specs.Prelude.{ℕ, List, length};
 ghost use Rattle.std.specs.List.{AllByRecursion};
 ghost use Rattle.wire_base.specs.model.Configuration.{DomainConf, IsValid};
+ghost use Rattle.replay_text.specs.declared.event.Event.{Event};
 ghost use Rattle.replay_text.specs.declared.event.Line.{Line};
-ghost use Rattle.domain_model.specs.Run.{schedule_done};
+ghost use Rattle.domain_model.specs.World.{first_world};
+ghost use Rattle.domain_model.specs.Run.{run_of, schedule_done};
+ghost use Rattle.laws_ledger.specs.Runs.{AreAllowed, unlined};
 ghost use Rattle.domain_replay.specs.Texts.{schedule_reaches};
 ghost use Rattle.laws_replay.specs.Promises.{KeepsPromises, LineFits};
 
@@ -16,4 +19,10 @@ ghost use Rattle.laws_replay.specs.Promises.{KeepsPromises, LineFits};
 pub fn replays_keep_promises()
     ensures read { (d : DomainConf) (lines : List (List ℕ)) → IsValid d → KeepsPromises d (schedule_reaches d lines).run }
     ensures made { (d : DomainConf) (lines : List Line) → IsValid d → AllByRecursion (LineFits (length d.routers)) lines → KeepsPromises d (schedule_done d lines).run }
+{}
+
+/// The same is true of any events from the start of a valid domain, with any line numbers, each of them allowed where it
+/// occurs.
+pub fn runs_keep_promises()
+    ensures { (d : DomainConf) (es : List (ℕ × Event)) → IsValid d → AreAllowed (first_world d) (unlined es) → KeepsPromises d (run_of d es) }
 {}

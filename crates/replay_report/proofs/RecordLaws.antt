@@ -18,14 +18,14 @@ is_short (f ∷ frames) zero octets all e = subst (λ (l : List ℕ). length l <
 is_short (f ∷ frames) (suc i) octets all e = is_short frames i octets all.1 e
 
 -- only one format has the interface
-same_record : (recording : Recording) (i j line : ℕ) (octets : List ℕ) → (recording ≡ Pcapng → i ≡ j) → frame_record recording i line octets ≡ frame_record recording j line octets
+pub same_record : (recording : Recording) (i j line : ℕ) (octets : List ℕ) → (recording ≡ Pcapng → i ≡ j) → frame_record recording i line octets ≡ frame_record recording j line octets
 unfolding frame_record
 same_record Discarded i j line octets same = refl
 same_record Pcap i j line octets same = refl
 same_record Pcapng i j line octets same = ap (λ (n : ℕ). frame_record Pcapng n line octets) (same refl)
 
 -- the record of a frame by its parts
-record_by : (recording : Recording) (routers : List RouterConf) (line : ℕ) (f : WireFrame) (from to interface : ℕ) (octets : List ℕ) → f.from ≡ from → f.to ≡ to → f.octets ≡ octets
+pub record_by : (recording : Recording) (routers : List RouterConf) (line : ℕ) (f : WireFrame) (from to interface : ℕ) (octets : List ℕ) → f.from ≡ from → f.to ≡ to → f.octets ≡ octets
     → (recording ≡ Pcapng → interface ≡ interface_toward routers from to) → frame_record recording interface line octets ≡ wire_record recording routers line f
 record_by recording routers line f from to interface octets sender receiver is number =
     same_record recording interface (interface_toward routers from to) line octets number

@@ -1,10 +1,13 @@
 -- The lines of a report on a run.
 use Rattle.std.specs.Prelude.{ℕ, List, [], ◌∷◌, ◌++◌, flat_map, slice_get, option_map, unwrap_or, Option, Some, None, codes}
 use Rattle.std.specs.Fmt.{decimal}
+use Rattle.address_texts.specs.Addresses.{lsp_id_text}
 use Rattle.wire_base.specs.declared.conf.RouterConf.{RouterConf}
 use Rattle.wire_base.specs.declared.faults.EdgeFault.{EdgeFault}
 use Rattle.wire_base.specs.declared.faults.EdgeFault.TheVariants as edge
 use Rattle.wire_base.specs.model.Faults.{edge_number, edge_name}
+use Rattle.quiet_domain.specs.declared.answer.Quiet.{Quiet}
+use Rattle.quiet_domain.specs.declared.answer.Quiet.TheVariants.{Yes, Spent, Half, Data}
 use Rattle.replay_text.specs.Fault.{rule_text}
 use Rattle.replay_text.specs.Ids.{ids_text}
 use Rattle.replay_text.specs.Payload.{payload_text}
@@ -39,6 +42,20 @@ drop_text routers line dropped =
 -- the deliveries of an event, and then its drops
 abbrev pub event_text : List RouterConf → ℕ → List GotLine → List DropLine → List ℕ
 event_text routers line gots drops = flat_map (got_text routers line) gots ++ flat_map (drop_text routers line) drops
+
+-- ---- the answer to a question
+
+-- whether the domain is quiet, or the first reason why not
+abbrev pub quiet_text : List RouterConf → ℕ → Quiet → List ℕ
+quiet_text routers line Yes = line_of (decimal line ∷ codes "quiet" ∷ codes "yes" ∷ [])
+quiet_text routers line (Spent a) = line_of (decimal line ∷ codes "quiet" ∷ codes "no" ∷ codes "spent" ∷ name_at routers a ∷ [])
+quiet_text routers line (Half a b) = line_of (decimal line ∷ codes "quiet" ∷ codes "no" ∷ codes "half" ∷ name_at routers a ∷ name_at routers b ∷ [])
+quiet_text routers line (Data a b id) =
+    line_of (decimal line ∷ codes "quiet" ∷ codes "no" ∷ codes "data" ∷ name_at routers a ∷ name_at routers b ∷ lsp_id_text id ∷ [])
+
+-- `LINE cover IDS`: the BFR-ids that are reached
+abbrev pub cover_text : ℕ → List ℕ → List ℕ
+cover_text line ids = line_of (decimal line ∷ codes "cover" ∷ ids_text ids ∷ [])
 
 -- ---- the last line
 

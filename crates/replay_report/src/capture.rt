@@ -4,12 +4,12 @@ ghost use Rattle.std.specs.List.{AllByRecursion};
 ghost use Rattle.wire_base.specs.declared.limits.TheConstants.{MOST_ROUTERS, MOST_ENDS};
 ghost use Rattle.wire_base.specs.model.Configuration.{IsSound};
 ghost use Rattle.replay_report.specs.Captures as spec;
-ghost use Rattle.replay_report.specs.Captures.{capture_front, frame_record, wire_records, interface_toward, AreShort};
+ghost use Rattle.replay_report.specs.Captures.{capture_front, frame_record, wire_record, wire_records, interface_toward, AreShort};
 ghost use Rattle.replay_report.specs.declared.recording.Recording.TheVariants as recordings;
 
 use crate::interfaces::interfaces_before;
 use crate::recording::Recording;
-use domain_model::WireFrames;
+use domain_model::{WireFrame, WireFrames};
 use frames_in_flight::link_between;
 use pcap_frames::{write_cap_header, write_cap_record};
 use pcapng_frames::{write_ng_head, write_ng_record};
@@ -128,4 +128,24 @@ pub fn push_frames(
         out.truncate(len);
     }
     pushed
+}
+
+/// Appends the record of one frame that a router sent to another, in the format of the capture. The timestamp of the record, in
+/// seconds, is the line number of the event that sent the frame. If an allocation fails, nothing is appended.
+pub fn push_record(
+    out: &mut Octets,
+    recording: Recording,
+    routers: &[RouterConf],
+    line: u32,
+    frame: &WireFrame,
+) -> M<()>
+    requires few { length routers.now ≤ MOST_ROUTERS }
+    requires sound { AllByRecursion IsSound routers.now }
+    requires short { length frame.now.octets < 65536 }
+    ensures ok { OnOk result (out.new ≡ out.old ++ wire_record recording routers.now line frame.now) }
+    ensures err { OnErr result (out.new ≡ out.old) }
+{
+    let first = first_interface(recording, routers, frame.from);
+    let interface = interface_at(recording, routers, first, frame.from, frame.to);
+    push_frame(out, recording, interface, line, frame.octets.as_slice())
 }

@@ -10,7 +10,7 @@ use std::alloc::Global;
 use wire_base::{M, Octets, RouterConf};
 
 /// Returns the name of the router at an index; empty if there is no such router.
-fn name_at(routers: &[RouterConf], place: u16) -> &[u8]
+pub(crate) fn name_at(routers: &[RouterConf], place: u16) -> &[u8]
     ensures { result.now ≡ spec.name_at routers.now place }
 {
     match routers.get(usize::from(place)) {
@@ -19,8 +19,16 @@ fn name_at(routers: &[RouterConf], place: u16) -> &[u8]
     }
 }
 
+/// Appends the name of the router at an index; nothing if there is no such router.
+pub fn push_name(out: &mut Octets, routers: &[RouterConf], place: u16) -> M<()>
+    ensures ok { OnOk result (out.new ≡ out.old ++ spec.name_at routers.now place) }
+    ensures err { OnErr result (out.new ≡ out.old) }
+{
+    out.append(name_at(routers, place))
+}
+
 /// Appends the number of a line, its keyword, and the name of a router, followed by a space.
-fn push_front(out: &mut Octets, line: u32, what: &[u8], router: &[u8]) -> M<()>
+pub(crate) fn push_front(out: &mut Octets, line: u32, what: &[u8], router: &[u8]) -> M<()>
     ensures { OnOk result (out.new ≡ out.old ++ (decimal line ++ (what.now ++ (router.now ++ 32 ∷ [])))) }
 {
     out.append_number(u64::from(line))?;
