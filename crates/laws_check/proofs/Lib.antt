@@ -1,0 +1,10 @@
+pub mod OwnIssued
+pub mod IssuerLaws
+pub mod FlagsAt
+pub mod RowsAt
+pub mod CsnpAt
+pub mod IdOrder
+pub mod PartsAt
+pub mod SameByCsnps
+pub mod Joined
+pub mod Exchange
