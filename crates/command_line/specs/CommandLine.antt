@@ -2,10 +2,10 @@
 use Rattle.std.specs.Prelude.{ℕ, List}
 use Rattle.wire_base.specs.declared.addresses.SystemId.{SystemId}
 use Rattle.wire_base.specs.declared.conf.Level.{Level}
-use Rattle.command_line.specs.declared.arguments.CaptureFormat.{CaptureFormat}
+use Rattle.command_line.specs.declared.arguments.ScheduleKind.{ScheduleKind}
 
 pub data CommandLine : Type 0 where
-  Replay : (format : CaptureFormat) (conf schedule frames : List ℕ) → CommandLine
+  Replay : (kind : ScheduleKind) (conf schedule frames : List ℕ) → CommandLine
   Node : (conf router capture frames : List ℕ) → CommandLine
   Hop : (input : List ℕ) → CommandLine
   Headers : (capture : List ℕ) → CommandLine

@@ -2,10 +2,10 @@
 use Rattle.std.specs.Prelude.{ℕ}
 use Rattle.wire_base.specs.declared.addresses.SystemId.{SystemId}
 use Rattle.wire_base.specs.declared.conf.Level.{Level}
-use Rattle.command_line.specs.declared.arguments.CaptureFormat.{CaptureFormat}
+use Rattle.command_line.specs.declared.arguments.ScheduleKind.{ScheduleKind}
 
 pub data Form : Type 0 where
-  Replay : (format : CaptureFormat) → Form
+  Replay : (kind : ScheduleKind) → Form
   Node : Form
   Hop : Form
   Headers : Form

@@ -13,8 +13,8 @@ use Rattle.command_line.specs.CommandLine.{CommandLine}
 use Rattle.command_line.specs.Form.{Form, Replay, Node, Hop, Headers, Grow, Topo, Unknown}
 use Rattle.command_line.specs.declared.arguments.Arguments.{Arguments}
 use Rattle.command_line.specs.declared.arguments.Arguments.TheVariants as arguments
-use Rattle.command_line.specs.declared.arguments.CaptureFormat.{CaptureFormat}
-use Rattle.command_line.specs.declared.arguments.CaptureFormat.TheVariants.{Pcap, Pcapng}
+use Rattle.command_line.specs.declared.arguments.ScheduleKind.{ScheduleKind}
+use Rattle.command_line.specs.declared.arguments.ScheduleKind.TheVariants as kinds
 
 -- ---- arguments
 
@@ -45,10 +45,19 @@ abbrev pub command_of_one : (word argument : List ℕ) → CommandLine
 command_of_one word argument =
     if bytes_eq word (codes "hop") then line.Hop argument else if bytes_eq word (codes "headers") then line.Headers argument else if bytes_eq word (codes "grow") then grow_of (routers_of argument) else line.Unknown
 
--- `replay CONF SCHEDULE FRAMES` and `replay-ng CONF SCHEDULE FRAMES`
+-- the command that executes a schedule, by its name
+unfoldable pub kind_of : List ℕ → Option ScheduleKind
+kind_of word =
+    if bytes_eq word (codes "replay") then Some kinds.Replay else if bytes_eq word (codes "replay-ng") then Some kinds.ReplayNg else
+    if bytes_eq word (codes "handshake") then Some kinds.Handshake else if bytes_eq word (codes "check") then Some kinds.Check else None
+
+abbrev pub replay_by : Option ScheduleKind → (conf schedule frames : List ℕ) → CommandLine
+replay_by None conf schedule frames = line.Unknown
+replay_by (Some kind) conf schedule frames = line.Replay kind conf schedule frames
+
+-- `replay CONF SCHEDULE FRAMES`, and the other commands that execute a schedule
 abbrev pub command_of_three : (word conf schedule frames : List ℕ) → CommandLine
-command_of_three word conf schedule frames =
-    if bytes_eq word (codes "replay") then line.Replay Pcap conf schedule frames else if bytes_eq word (codes "replay-ng") then line.Replay Pcapng conf schedule frames else line.Unknown
+command_of_three word conf schedule frames = replay_by (kind_of word) conf schedule frames
 
 abbrev pub topo_from : (capture : List ℕ) → Level → ℕ → Option SystemId → CommandLine
 topo_from capture level mt None = line.Unknown
@@ -83,7 +92,7 @@ command_line_in words = command_line (map (λ word. word.now) words)
 
 -- the command line that parsed arguments represent
 abbrev pub meaning : Arguments → CommandLine
-meaning (arguments.Replay format conf schedule frames) = line.Replay format conf.now schedule.now frames.now
+meaning (arguments.Replay kind conf schedule frames) = line.Replay kind conf.now schedule.now frames.now
 meaning (arguments.Node conf router capture frames) = line.Node conf.now router.now capture.now frames.now
 meaning (arguments.Hop input) = line.Hop input.now
 meaning (arguments.Headers capture) = line.Headers capture.now
@@ -98,7 +107,7 @@ IsTopology read = (capture : Bor (List ℕ)) (level : Level) (mt : ℕ) (from : 
 -- ---- what a command line names
 
 abbrev pub form_of : CommandLine → Form
-form_of (line.Replay format conf schedule frames) = Replay format
+form_of (line.Replay kind conf schedule frames) = Replay kind
 form_of (line.Node conf router capture frames) = Node
 form_of (line.Hop input) = Hop
 form_of (line.Headers capture) = Headers
@@ -108,7 +117,7 @@ form_of line.Unknown = Unknown
 
 -- the name of a router, which only `node` has
 abbrev pub router_of : CommandLine → List ℕ
-router_of (line.Replay format conf schedule frames) = []
+router_of (line.Replay kind conf schedule frames) = []
 router_of (line.Node conf router capture frames) = router
 router_of (line.Hop input) = []
 router_of (line.Headers capture) = []
@@ -122,9 +131,9 @@ form_in words = form_of (command_line_in words)
 abbrev pub router_in : List (Bor (List ℕ)) → List ℕ
 router_in words = router_of (command_line_in words)
 
--- `replay` and the commands that differ from it in the format of the capture
+-- `replay` and the other commands that execute a schedule
 abbrev pub IsReplay : Form → Type 0
-IsReplay form = (format : CaptureFormat) × (form ≡ Replay format)
+IsReplay form = (kind : ScheduleKind) × (form ≡ Replay kind)
 
 -- `grow`, with any number
 abbrev pub IsGrow : Form → Type 0
@@ -140,4 +149,4 @@ ReadsCapture form = (form ≡ Headers) ⊎ IsTopo form
 
 -- the line for an unknown command line
 abbrev pub usage_text : List ℕ
-usage_text = codes "usage: bier_domain replay CONF SCHEDULE FRAMES | node CONF ROUTER CAPTURE FRAMES | hop INPUT | headers CAPTURE | grow N | topo CAPTURE LEVEL MT FROM | replay-ng CONF SCHEDULE FRAMES\n"
+usage_text = codes "usage: bier_domain replay CONF SCHEDULE FRAMES | node CONF ROUTER CAPTURE FRAMES | hop INPUT | headers CAPTURE | grow N | handshake CONF SCHEDULE FRAMES | topo CAPTURE LEVEL MT FROM | replay-ng CONF SCHEDULE FRAMES | check CONF SCHEDULE FRAMES\n"

@@ -1,28 +1,32 @@
 //! The command-line arguments of the program.
 ghost use Rattle.std.specs.Prelude.{◌≡◌, ◌≤◌, ◌<◌, ◌-◌, ℕ, IfSome};
 ghost use Rattle.command_line.specs.CommandLine as line;
-ghost use Rattle.command_line.specs.Words.{command_line_in, command_of_four, command_of_one, command_of_three, grow_of, level_of, meaning, number_from, routers_of, topo_at, IsTopology};
+ghost use Rattle.command_line.specs.Words.{command_line_in, command_of_four, command_of_one, command_of_three, grow_of, kind_of, level_of, meaning, number_from, routers_of, topo_at, IsTopology};
 ghost use Rattle.command_line.specs.declared.arguments.Arguments.TheVariants as arguments;
 
 use domain_conf::system_octets;
 use itoa::Buffer;
 use wire_base::{Level, SystemId};
 
-/// The format of a capture that is written.
+/// The commands that execute a schedule in a domain.
 #[derive(Clone, Copy, Debug, PartialEq, Eq)]
-pub enum CaptureFormat {
-    /// The pcap format, with microseconds.
-    Pcap,
-    /// The pcapng format, with an interface for each interface of the domain.
-    Pcapng,
+pub enum ScheduleKind {
+    /// `replay`, which writes a capture in the pcap format, with microseconds.
+    Replay,
+    /// `replay-ng`, which writes pcapng, with an interface for each interface of the domain.
+    ReplayNg,
+    /// `handshake`, in whose schedule interfaces come up and go down by hellos (RFC 5303).
+    Handshake,
+    /// `check`, whose schedule also asks whether the domain is quiet and which BFR-ids are covered.
+    Check,
 }
 
 /// The command that the arguments name. Paths are as given.
 #[derive(Clone, Copy, Debug, PartialEq, Eq)]
 pub enum Arguments<'a> {
-    /// `replay CONF SCHEDULE FRAMES`, and `replay-ng CONF SCHEDULE FRAMES`, which writes pcapng.
+    /// `replay CONF SCHEDULE FRAMES`, and the other commands that execute a schedule.
     Replay {
-        format: CaptureFormat,
+        kind: ScheduleKind,
         conf: &'a str,
         schedule: &'a str,
         frames: &'a str,
@@ -59,7 +63,7 @@ pub enum Arguments<'a> {
 
 /// The line that is reported for an unknown command line.
 pub const USAGE: &[u8] =
-    b"usage: bier_domain replay CONF SCHEDULE FRAMES | node CONF ROUTER CAPTURE FRAMES | hop INPUT | headers CAPTURE | grow N | topo CAPTURE LEVEL MT FROM | replay-ng CONF SCHEDULE FRAMES\n";
+    b"usage: bier_domain replay CONF SCHEDULE FRAMES | node CONF ROUTER CAPTURE FRAMES | hop INPUT | headers CAPTURE | grow N | handshake CONF SCHEDULE FRAMES | topo CAPTURE LEVEL MT FROM | replay-ng CONF SCHEDULE FRAMES | check CONF SCHEDULE FRAMES\n";
 
 /// Parses a number from `low` to `end - 1`, in decimal digits without a leading zero.
 #[tactic(auto, unfolding(crate::specs::Words::number_from))]
@@ -141,22 +145,34 @@ fn with_one<'a>(command: &str, argument: &'a str) -> Arguments<'a>
     }
 }
 
+/// Returns the command of that name that executes a schedule.
+#[tactic(auto, unfolding(crate::specs::Words::kind_of))]
+fn kind_in(command: &str) -> Option<ScheduleKind>
+    ensures { result ≡ kind_of command.now }
+{
+    match command {
+        "replay" => Some(ScheduleKind::Replay),
+        "replay-ng" => Some(ScheduleKind::ReplayNg),
+        "handshake" => Some(ScheduleKind::Handshake),
+        "check" => Some(ScheduleKind::Check),
+        _ => None,
+    }
+}
+
 /// Returns the command with a domain file, a schedule and a capture that the first word selects.
 fn with_three<'a>(command: &str, conf: &'a str, schedule: &'a str, frames: &'a str) -> Arguments<'a>
     ensures value { meaning result ≡ command_of_three command.now conf.now schedule.now frames.now }
     ensures topology { IsTopology result }
     ensures not_grow { (n : ℕ) → result ≡ arguments.Grow n → ⊥ }
 {
-    let format = match command {
-        "replay" => CaptureFormat::Pcap,
-        "replay-ng" => CaptureFormat::Pcapng,
-        _ => return Arguments::Unknown,
-    };
-    Arguments::Replay {
-        format,
-        conf,
-        schedule,
-        frames,
+    match kind_in(command) {
+        Some(kind) => Arguments::Replay {
+            kind,
+            conf,
+            schedule,
+            frames,
+        },
+        None => Arguments::Unknown,
     }
 }
 

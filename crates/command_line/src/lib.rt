@@ -5,4 +5,4 @@
 
 mod arguments;
 
-pub use arguments::{Arguments, CaptureFormat, USAGE, parse};
+pub use arguments::{Arguments, ScheduleKind, USAGE, parse};

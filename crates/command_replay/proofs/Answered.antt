@@ -40,7 +40,7 @@ use Rattle.command_replay.proofs.SaidLines.{line_doable}
 
 -- ---- verdicts
 
-told_told : (a b f g : List ℕ) (v : Verdict) → told a f (told b g v) ≡ told (a ++ b) (f ++ g) v
+pub told_told : (a b f g : List ℕ) (v : Verdict) → told a f (told b g v) ≡ told (a ++ b) (f ++ g) v
 told_told a b f g v =
     let report = sym (append_assoc a b v.report) in
     let frames = sym (append_assoc f g v.frames) in
@@ -94,7 +94,7 @@ rounds_told line (suc rounds) s rest =
     ap (λ (v : Verdict). told first.telling.report first.telling.frames (unless_refused line first.refused v)) (rounds_told line rounds (state_of first.telling) rest)
     ∙ rounds_then line rounds s rest first refl
 
-said_told : (line : ℕ) (said : Line) (s : ReplayState) (rest : Rest) → said_owes line said s rest ≡ told_then line (tells_line line (unsaid s) said) rest
+pub said_told : (line : ℕ) (said : Line) (s : ReplayState) (rest : Rest) → said_owes line said s rest ≡ told_then line (tells_line line (unsaid s) said) rest
 said_told line Empty s rest = refl
 said_told line (One e) s rest = refl
 said_told line (Settle rounds) s rest = rounds_told line rounds s rest

@@ -1,3 +1,4 @@
-mod SaidLines
+pub mod SaidLines
 pub mod Steps
 pub mod Answered
+pub mod Coursed

@@ -22,7 +22,7 @@ use Rattle.command_drive.specs.declared.command.Flow.{Flow}
 use Rattle.command_drive.specs.declared.command.Flow.TheVariants as flow
 use Rattle.command_drive.specs.Reading.{Behind}
 use Rattle.command_drive.specs.Doing.{Owed, Did, Concludes, told}
-use Rattle.command_replay.specs.Owed.{unsaid, state_of, unless_refused, told_then, rounds_owe, said_owes, read_owes, lines_owe, Does, Begins}
+use Rattle.command_replay.specs.Owed.{unsaid, state_of, unless_refused, told_then, rounds_owe, said_owes, read_owes, lines_owe, Does, Rounds, Begins}
 
 -- what is owed in other words
 pub did_as : {T : Type 0} (how : Flow) (refusal : Status) (old other new newer : Owed T) (texts texts_now : Texts) → ((items : List T) (behind : Behind) → other items behind ≡ old items behind)
@@ -136,15 +136,23 @@ item_did how names names_now line line_now rounds rounds_now s now text said tex
     (begins (λ items behind. lines_owe names (line + 1) items behind))
 
 -- a round of the line that was begun
-pub round_did : (how : Flow) (names names_now : List (List ℕ)) (line line_now rounds left : ℕ) (s now : ReplayState) (texts texts_now : Texts) → 0 < rounds → left ≡ rounds - 1 → line_now ≡ line → names_now ≡ names
-    → Does (List ℕ) how line (tells_line line (unsaid s) (Settle 1)) now texts texts_now
-    → Did how InputRefused (λ items behind. rounds_owe line rounds s (lines_owe names line items behind)) (λ items behind. rounds_owe line_now left now (lines_owe names_now line_now items behind)) texts texts_now
-round_did how names names_now line line_now rounds left s now texts texts_now some less same_line same does =
+pub round_goes : (T : Type 0) (how : Flow) (line rounds left : ℕ) (s now : ReplayState) (texts texts_now : Texts) → 0 < rounds → left ≡ rounds - 1 → Does T how line (tells_line line (unsaid s) (Settle 1)) now texts texts_now
+    → Rounds T how line rounds s left now texts texts_now
+round_goes T how line rounds left s now texts texts_now some less does rest =
     let more : rounds ≡ suc left = omega (arith, some, less) in
     did_as how InputRefused _ _ _ _ texts texts_now
-    (λ items behind. ap (λ (n : ℕ). rounds_owe line n s (lines_owe names line items behind)) more)
+    (λ items behind. ap (λ (n : ℕ). rounds_owe line n s (rest items behind)) more)
+    (λ items behind. refl)
+    (does (λ items behind next. rounds_owe line left next (rest items behind)))
+
+-- in the words of the command
+pub round_did : (how : Flow) (names names_now : List (List ℕ)) (line line_now rounds left : ℕ) (s now : ReplayState) (texts texts_now : Texts) → line_now ≡ line → names_now ≡ names → Rounds (List ℕ) how line rounds s left now texts texts_now
+    → Did how InputRefused (λ items behind. rounds_owe line rounds s (lines_owe names line items behind)) (λ items behind. rounds_owe line_now left now (lines_owe names_now line_now items behind)) texts texts_now
+round_did how names names_now line line_now rounds left s now texts texts_now same_line same goes =
+    did_as how InputRefused _ _ _ _ texts texts_now
+    (λ items behind. refl)
     (λ items behind. ap₂ (λ (n : ℕ) (l : List (List ℕ)). rounds_owe n left now (lines_owe l n items behind)) (sym same_line) (sym same))
-    (does (λ items behind next. rounds_owe line left next (lines_owe names line items behind)))
+    (goes (λ items behind. lines_owe names line items behind))
 
 -- ---- answers
 

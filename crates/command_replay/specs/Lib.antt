@@ -1,2 +1,3 @@
 pub mod ScheduleText
 pub mod Owed
+pub mod Course

@@ -77,6 +77,11 @@ abbrev pub Does : (T : Type 0) → Flow → ℕ → Told → (now : ReplayState)
 Does T how line t now texts texts_now =
     (rest : List T → Behind → Rest) → Did how InputRefused (λ items behind. told_then line t (rest items behind)) (λ items behind. rest items behind now) texts texts_now
 
+-- A round of the line that was begun was executed, if one remained.
+abbrev pub Rounds : (T : Type 0) → Flow → ℕ → (rounds : ℕ) (s : ReplayState) → (left : ℕ) (now : ReplayState) → (texts texts_now : Texts) → Type 0
+Rounds T how line rounds s left now texts texts_now =
+    (rest : List T → Behind → Rest) → Did how InputRefused (λ items behind. rounds_owe line rounds s (rest items behind)) (λ items behind. rounds_owe line left now (rest items behind)) texts texts_now
+
 -- A line was begun: all of it is executed, or rounds of it remain.
 abbrev pub Begins : (T : Type 0) → Flow → ℕ → Line → (s now : ReplayState) → (rounds : ℕ) → (texts texts_now : Texts) → Type 0
 Begins T how line said s now rounds texts texts_now =

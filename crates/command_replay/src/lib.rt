@@ -5,8 +5,10 @@
 //! schedule, that each I/O error has its cause, and what an aborted run leaves.
 #![tactic(auto)]
 
+mod laws;
 mod replay_command;
 mod replaying;
 
+pub use laws::schedules_are_answered;
 pub use replay_command::play;
 pub use replaying::Replaying;

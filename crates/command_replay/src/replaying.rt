@@ -1,11 +1,15 @@
 //! A schedule, line by line.
-ghost use Rattle.std.specs.Prelude.{◌≡◌, ◌≢◌, ◌≤◌, ◌+◌, ℕ, List, length, IfOk, OnOk};
+ghost use Rattle.std.specs.Prelude.{◌≡◌, ◌≢◌, ◌⊎◌, ◌<◌, ◌≤◌, ◌+◌, ◌^◌, ℕ, List, length, IfOk, OnOk};
 ghost use Rattle.wire_base.specs.declared.limits.TheConstants.{MOST_ROUTERS};
 ghost use Rattle.replay_text.specs.Events.{LineFits};
 ghost use Rattle.domain_replay.specs.Telling.{first_state, tells_line, LineNamesOnce};
 ghost use Rattle.domain_replay.specs.Texts.{names_of};
+ghost use Rattle.wire_base.specs.declared.status.Status.TheVariants as status;
+ghost use Rattle.command_drive.specs.declared.items.Close.TheVariants as closes;
+ghost use Rattle.command_drive.specs.Doing.{Concludes};
+ghost use Rattle.command_drive.specs.Reading.{Closed};
 ghost use Rattle.command_drive.specs.declared.command.Flow.TheVariants as flow;
-ghost use Rattle.command_replay.specs.Owed.{unsaid, Does, Begins};
+ghost use Rattle.command_replay.specs.Owed.{unsaid, ends, Does, Rounds, Begins};
 
 use command_drive::{Close, Command, Flow, Texts};
 use domain_replay::{Recording, Replay, push_event_refused, push_text_refused, push_too_long};
@@ -30,12 +34,12 @@ fn names_in(alloc: Global, domain: &Domain) -> M<Rows<Name>>
 /// and the rounds of it that remain.
 #[derive(Drop)]
 pub struct Replaying {
-    replay: Replay,
-    names: Rows<Name>,
-    line: u32,
-    rounds: u32,
-    ghost few: { length names ≤ MOST_ROUTERS },
-    ghost named: { names ≡ names_of replay.world.domain },
+    pub replay: Replay,
+    pub names: Rows<Name>,
+    pub line: u32,
+    pub rounds: u32,
+    pub ghost few: { length names ≤ MOST_ROUTERS },
+    pub ghost named: { names ≡ names_of replay.world.domain },
 }
 
 impl Replaying {
@@ -74,7 +78,7 @@ impl Replaying {
     }
 
     /// Executes the line that was begun. Rounds are left to `more`, since a round of a large domain reports much.
-    fn begin(&mut self, alloc: Global, said: &Line, texts: &mut Texts) -> M<Flow>
+    pub fn begin(&mut self, alloc: Global, said: &Line, texts: &mut Texts) -> M<Flow>
         requires fits { LineFits (length self.old.replay.world.domain.routers) said.now }
         requires once { LineNamesOnce said.now }
         requires rests { self.old.rounds ≡ 0 }
@@ -87,6 +91,44 @@ impl Replaying {
             return Ok(Flow::More);
         }
         self.do_events(alloc, said, texts)
+    }
+
+    /// Executes a round of the line that was begun, if one remains.
+    pub fn round(&mut self, alloc: Global, texts: &mut Texts) -> M<Flow>
+        ensures goes { IfOk result (λ how. Rounds (List ℕ) how self.old.line self.old.rounds self.old.replay self.new.rounds self.new.replay texts.old texts.new) }
+        ensures rests { IfOk result (λ how. how ≡ flow.On → self.new.rounds ≡ 0) }
+        ensures fewer { IfOk result (λ how. how ≡ flow.More → self.new.rounds < self.old.rounds) }
+        ensures rest { (self.new.names ≡ self.old.names) × (self.new.line ≡ self.old.line) }
+    {
+        if self.rounds == 0 {
+            return Ok(Flow::On);
+        }
+        self.rounds -= 1;
+        match self.do_events(alloc, &Line::Settle(1), texts)? {
+            Flow::On => Ok(Flow::More),
+            ended => Ok(ended),
+        }
+    }
+
+    /// Ends the report after the last line of the schedule.
+    pub fn end(&self, alloc: Global, close: Close, texts: &mut Texts) -> M<Status>
+        ensures concluded { IfOk result (λ ended. Concludes ended (ends self.now.line (Closed close) self.now.replay) texts.old texts.new) }
+        ensures done { IfOk result (λ ended. ended ≡ status.Done → close ≡ closes.Ended) }
+        ensures statuses { IfOk result (λ ended. (ended ≡ status.Done) ⊎ (ended ≡ status.InputRefused)) }
+    {
+        let lines = u64::from(self.line);
+        match close {
+            Close::Ended => {
+                self.replay.done(alloc, &mut texts.report, lines)?;
+                Ok(Status::Done)
+            }
+            Close::TooLong => {
+                push_too_long(alloc, &mut texts.report, lines + 1)?;
+                Ok(Status::InputRefused)
+            }
+            // A text of lines is never invalid as a whole.
+            Close::Broken(_) => Ok(Status::InputRefused),
+        }
     }
 }
 
@@ -119,29 +161,10 @@ impl Command<Octets> for Replaying {
     }
 
     fn more(&mut self, alloc: Global, texts: &mut Texts) -> M<Flow> {
-        if self.rounds == 0 {
-            return Ok(Flow::On);
-        }
-        self.rounds -= 1;
-        match self.do_events(alloc, &Line::Settle(1), texts)? {
-            Flow::On => Ok(Flow::More),
-            ended => Ok(ended),
-        }
+        self.round(alloc, texts)
     }
 
     fn close(&mut self, alloc: Global, close: Close, texts: &mut Texts) -> M<Status> {
-        let lines = u64::from(self.line);
-        match close {
-            Close::Ended => {
-                self.replay.done(alloc, &mut texts.report, lines)?;
-                Ok(Status::Done)
-            }
-            Close::TooLong => {
-                push_too_long(alloc, &mut texts.report, lines + 1)?;
-                Ok(Status::InputRefused)
-            }
-            // A text of lines is never invalid as a whole.
-            Close::Broken(_) => Ok(Status::InputRefused),
-        }
+        self.end(alloc, close, texts)
     }
 }

@@ -1,35 +1,12 @@
-use Rattle.std.proofs.Common.{ℕ, List, ◌≡◌, ◌<◌, ◌-◌, subst, arith}
-use Rattle.replay_text.specs.declared.event.Line.TheVariants.{Settle}
-use Rattle.domain_replay.specs.Telling.{tells_line}
-use Rattle.command_drive.specs.declared.command.Flow.{Flow}
-use Rattle.command_drive.specs.declared.command.Flow.TheVariants as flow
-use Rattle.command_drive.proofs.Meanings.{told_none}
-use Rattle.command_replay.specs.Owed.{unsaid, rounds_owe, lines_owe, Does}
-use Rattle.command_replay.proofs.Steps.{round_did}
+use Rattle.std.proofs.Common.{ℕ, List}
+use Rattle.command_replay.specs.Owed.{Rounds}
+use Rattle.command_replay.proofs.Steps.{round_did, if_ok_then}
 use Rattle.command_replay.proofs.replaying.ReplayingCommandOctets.more.Goals as goal
 
-pub returns-then-self-eq0-clause-did : goal.returns-then-self-eq0-clause-did
-returns-then-self-eq0-clause-did c =
-    let s = c.args.self.now in
-    told_none (λ items behind. rounds_owe s.line s.rounds s.replay (lines_owe s.names s.line items behind)) c.args.texts.now
-
-pub returns-in-On-clause-did : goal.returns-in-On-clause-did
-returns-in-On-clause-did c =
+pub returns-clause-did : goal.returns-clause-did
+returns-clause-did c =
     let old = c.args.self.now in
-    let new = c.do_events.new.self in
-    let some : 0 < old.rounds = omega arith in
-    round_did flow.On old.names new.names old.line new.line old.rounds new.rounds old.replay new.replay c.args.texts.now c.do_events.new.texts some c.in_ok-ended.ensures.rest.2 c.in_ok-ended.ensures.rest.1 c.in_ok-ended.ensures.rest.0
-    (subst (λ (how : Flow). Does (List ℕ) how old.line (tells_line old.line (unsaid old.replay) (Settle 1)) new.replay c.args.texts.now c.do_events.new.texts) c.in-On.is c.in_ok-ended.ensures.does)
-
-pub returns-in_default : goal.returns-in_default
-returns-in_default c =
-    let old = c.args.self.now in
-    let new = c.do_events.new.self in
-    let some : 0 < old.rounds = omega arith in
-    let less : new.rounds ≡ old.rounds - 1 = c.in_ok-ended.ensures.rest.2 in
-    record {
-      did = round_did c.in_ok-ended.ended old.names new.names old.line new.line old.rounds new.rounds old.replay new.replay c.args.texts.now c.do_events.new.texts some less c.in_ok-ended.ensures.rest.1 c.in_ok-ended.ensures.rest.0 c.in_ok-ended.ensures.does;
-      rests = λ on. absurd (c.in_default.not-On on);
-      fewer = λ more. omega (arith, some, less);
-      room = omega (arith, c.in_ok-ended.ensures.rest.1);
-    }
+    let new = c.round.new.self in
+    if_ok_then (λ how. Rounds (List ℕ) how old.line old.rounds old.replay new.rounds new.replay c.args.texts.now c.round.new.texts) _ c.round.result
+    (λ how goes. round_did how old.names new.names old.line new.line old.rounds new.rounds old.replay new.replay c.args.texts.now c.round.new.texts c.round.ensures.rest.1 c.round.ensures.rest.0 goes)
+    c.round.ensures.goes
