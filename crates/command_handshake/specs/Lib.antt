@@ -1,0 +1,3 @@
+pub mod Shaken
+pub mod Owed
+pub mod Followed
