@@ -4,4 +4,5 @@ pub mod Replays
 pub mod Nodes
 pub mod Quiet
 pub mod RunsDone
+pub mod Schedules
 pub mod Grown

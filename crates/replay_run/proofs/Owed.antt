@@ -8,7 +8,7 @@ use Rattle.wire_base.specs.declared.conf.RouterConf.{RouterConf}
 use Rattle.wire_base.specs.model.Configuration.{DomainConf}
 use Rattle.domain_conf.specs.Domain.{domain_of}
 use Rattle.domain_conf.specs.declared.fault.ConfFault.{ConfFault}
-use Rattle.command_line.specs.declared.arguments.CaptureFormat.{CaptureFormat}
+use Rattle.command_line.specs.declared.arguments.ScheduleKind.{ScheduleKind}
 use Rattle.command_line.specs.Form.{Form}
 use Rattle.command_line.specs.Form.{Replay, Node, Hop, Headers, Grow, Topo, Unknown}
 use Rattle.wire_base.specs.declared.addresses.SystemId.{SystemId}
@@ -33,9 +33,9 @@ use Rattle.command_node.proofs.Told.{nothing_more, no_front, held_some, ended_so
 -- ---- verdicts on what was held
 
 -- a domain file that is refused has its verdict without a schedule
-no_schedule : (format : CaptureFormat) (read : Result DomainConf ConfFault) (octets : List ℕ) (Holds : Verdict → Type 0) → IfSome (replay_on format read (Some octets)) Holds → IfSome (replay_on format read None) Holds
-no_schedule format (Err why) octets Holds holds = holds
-no_schedule format (Ok d) octets Holds holds = tt
+no_schedule : (kind : ScheduleKind) (read : Result DomainConf ConfFault) (octets : List ℕ) (Holds : Verdict → Type 0) → IfSome (replay_on kind read (Some octets)) Holds → IfSome (replay_on kind read None) Holds
+no_schedule kind (Err why) octets Holds holds = holds
+no_schedule kind (Ok d) octets Holds holds = tt
 
 -- and so has one whose domain has no router of that name, without a capture
 no_octets : (own : Option RouterConf) (octets : List ℕ) (Holds : Verdict → Type 0) → IfSome (node_by own (Some octets)) Holds → IfSome (node_by own None) Holds
@@ -49,12 +49,12 @@ no_capture (Ok d) router octets Holds holds = no_octets (router_named d router) 
 -- the verdict on octets that the sources may have held is that on what they told
 pub told : (form : Form) (router : List ℕ) (conf left : Option (List ℕ)) (Holds : Verdict → Type 0) → OnHeld form router conf left Holds → IfSome (verdict form router conf left) Holds
 unfolding verdict
-told (Replay format) router None left Holds (file, octets, of_conf, of_input, holds) = tt
-told (Replay format) router (Some told_file) None Holds (file, octets, of_conf, of_input, holds) =
-    subst (λ (f : List ℕ). IfSome (replay_on format (domain_of f) None) Holds) (sym of_conf) (no_schedule format (domain_of file) octets Holds holds)
-told (Replay format) router (Some told_file) (Some told_octets) Holds (file, octets, of_conf, of_input, holds) =
-    subst (λ (f : List ℕ). IfSome (replay_on format (domain_of f) (Some told_octets)) Holds) (sym of_conf)
-    (subst (λ (o : List ℕ). IfSome (replay_on format (domain_of file) (Some o)) Holds) (sym of_input) holds)
+told (Replay kind) router None left Holds (file, octets, of_conf, of_input, holds) = tt
+told (Replay kind) router (Some told_file) None Holds (file, octets, of_conf, of_input, holds) =
+    subst (λ (f : List ℕ). IfSome (replay_on kind (domain_of f) None) Holds) (sym of_conf) (no_schedule kind (domain_of file) octets Holds holds)
+told (Replay kind) router (Some told_file) (Some told_octets) Holds (file, octets, of_conf, of_input, holds) =
+    subst (λ (f : List ℕ). IfSome (replay_on kind (domain_of f) (Some told_octets)) Holds) (sym of_conf)
+    (subst (λ (o : List ℕ). IfSome (replay_on kind (domain_of file) (Some o)) Holds) (sym of_input) holds)
 told Node router None left Holds (file, octets, of_conf, of_input, holds) = tt
 told Node router (Some told_file) None Holds (file, octets, of_conf, of_input, holds) =
     subst (λ (f : List ℕ). IfSome (node_on (domain_of f) router None) Holds) (sym of_conf) (no_capture (domain_of file) router octets Holds holds)

@@ -13,14 +13,15 @@ use Rattle.command_drive.specs.Captures.{IsOpen}
 use Rattle.command_headers.specs.HeadersText.{lines_of}
 use Rattle.command_node.specs.NodeRun.{node_cut, node_reached}
 use Rattle.command_drive.specs.Outside.{Gave, Meets}
-use Rattle.command_line.specs.declared.arguments.CaptureFormat.{CaptureFormat}
+use Rattle.command_line.specs.declared.arguments.ScheduleKind.{ScheduleKind}
 use Rattle.command_line.specs.Form.{Form}
 use Rattle.command_line.specs.Form.{Replay, Node, Hop, Headers, Unknown}
 use Rattle.command_node.specs.DomainFile.{Says}
 use Rattle.command_node.specs.Routers.{SaysRouter}
-use Rattle.command_replay.specs.ScheduleText.{schedule_cut}
+use Rattle.command_drive.specs.Reading.{Fails}
+use Rattle.command_replay.specs.Course.{plays_mean}
 use Rattle.command_line.specs.Words.{IsGrow, IsReplay, ReadsCapture}
-use Rattle.replay_run.specs.Verdict.{recording_of}
+use Rattle.replay_run.specs.Verdict.{plays}
 
 -- the status of a run that could be done, where no count rose
 abbrev pub DoneOrMemory : Status → Type 0
@@ -36,8 +37,8 @@ pub record ComesOn (form : Form) (ended : Status) : Type 0 where
   pub input_refused : ended ≡ InputRefused → IsReplay form ⊎ ((form ≡ Hop) ⊎ IsGrow form)
   pub capture_refused : ended ≡ CaptureRefused → ReadsCapture form ⊎ (form ≡ Node)
 
--- what `replay` leaves, with a capture in that format
-pub record ReplayLeaves {D S C R : Type 0} (d : source.Ghosts D) (s : source.Ghosts S) (c : sink.Ghosts C) (r : sink.Ghosts R) (format : CaptureFormat) (ended : Status)
+-- what a command leaves that executes a schedule
+pub record ReplayLeaves {D S C R : Type 0} (d : source.Ghosts D) (s : source.Ghosts S) (c : sink.Ghosts C) (r : sink.Ghosts R) (kind : ScheduleKind) (ended : Status)
     (conf_old conf_new : D) (input_old input_new : S) (frames_old frames_new : C) (report_old report_new : R) : Type 0 where
   -- where the domain file isn't accepted, schedule and frames are as before
   pub accepted : ((input_new ≡ input_old) × (frames_new ≡ frames_old)) ⊎ ((d.faults conf_new ≡ d.faults conf_old) × ((domain : DomainConf) × Says (d.left conf_old) domain))
@@ -50,7 +51,7 @@ pub record ReplayLeaves {D S C R : Type 0} (d : source.Ghosts D) (s : source.Gho
   -- are done and reported, none of them is refused, and there is no last line.
   pub stopped : ended ≡ ReadFault → ((d.faults conf_old < d.faults conf_new) × (input_new ≡ input_old) × (frames_new ≡ frames_old) × (report_new ≡ report_old))
       ⊎ ((d.faults conf_new ≡ d.faults conf_old) × ((domain : DomainConf) × Says (d.left conf_old) domain × ((octets : List ℕ) × Consumes (s.left input_old) (s.left input_new) octets
-      × Meets (schedule_cut (recording_of format) domain octets) ended (r.written report_old) (r.written report_new) (c.written frames_old) (c.written frames_new))))
+      × Meets (plays_mean (plays kind domain) Fails octets) ended (r.written report_old) (r.written report_new) (c.written frames_old) (c.written frames_new))))
 
 -- what `node` leaves, on the word that names a router
 pub record NodeLeaves {D S C R : Type 0} (d : source.Ghosts D) (s : source.Ghosts S) (c : sink.Ghosts C) (r : sink.Ghosts R) (router : List ℕ) (ended : Status)
@@ -90,8 +91,8 @@ pub record TopoLeaves {S R : Type 0} (s : source.Ghosts S) (r : sink.Ghosts R) (
 -- what a run leaves as it was
 pub record LeavesAlone {D S C : Type 0} (form : Form) (ended : Status) (conf_old conf_new : D) (input_old input_new : S) (frames_old frames_new : C) : Type 0 where
   -- what the words don't name
-  pub conf : ((format : CaptureFormat) → form ≢ Replay format) → form ≢ Node → conf_new ≡ conf_old
-  pub frames : ((format : CaptureFormat) → form ≢ Replay format) → form ≢ Node → frames_new ≡ frames_old
+  pub conf : ((kind : ScheduleKind) → form ≢ Replay kind) → form ≢ Node → conf_new ≡ conf_old
+  pub frames : ((kind : ScheduleKind) → form ≢ Replay kind) → form ≢ Node → frames_new ≡ frames_old
   pub unread : (form ≡ Unknown) ⊎ IsGrow form → input_new ≡ input_old
   -- schedule or capture and the frames, where the domain file is refused
   pub refused : ended ≡ ConfRefused → (input_new ≡ input_old) × (frames_new ≡ frames_old)

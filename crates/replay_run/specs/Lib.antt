@@ -1,5 +1,6 @@
 pub mod Verdict
 pub mod Judged
+pub mod Kept
 pub mod Replayed
 pub mod RunDone
 pub mod Faults

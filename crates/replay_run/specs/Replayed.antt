@@ -12,6 +12,10 @@ use Rattle.domain_model.specs.Faults.{event_fault}
 use Rattle.domain_model.specs.Run.{line_events, world_after}
 use Rattle.domain_conf.specs.Domain.{domain_of}
 use Rattle.domain_replay.specs.Texts.{names_of}
+use Rattle.command_line.specs.declared.arguments.ScheduleKind.{ScheduleKind}
+use Rattle.command_line.specs.declared.arguments.ScheduleKind.TheVariants as kinds
+use Rattle.command_replay.specs.Course.{Played}
+use Rattle.replay_run.specs.Verdict.{plays}
 
 -- each event is allowed in the world before it
 unfoldable pub AreAllowed : WorldState → List Event → Type 0
@@ -29,8 +33,20 @@ pub record IsDone (d : DomainConf) (schedule : List ℕ) : Type 0 where
   pub short : length schedule ≤ TEXT_LIMIT
   pub lines : AreDone (names_of d) (first_world d) (lines_in true schedule)
 
+-- a schedule that isn't too long, no line of which is rejected
+pub record IsPlayed (plays_of : List (List ℕ) → Played) (schedule : List ℕ) : Type 0 where
+  pub short : length schedule ≤ TEXT_LIMIT
+  pub none : (plays_of (lines_in true schedule)).refused ≡ None
+
+-- a schedule whose lines are all in the grammar of the command, and whose events are all allowed
+abbrev pub IsDoneBy : ScheduleKind → DomainConf → List ℕ → Type 0
+IsDoneBy kinds.Replay d schedule = IsDone d schedule
+IsDoneBy kinds.ReplayNg d schedule = IsDone d schedule
+IsDoneBy kinds.Handshake d schedule = IsPlayed (plays kinds.Handshake d) schedule
+IsDoneBy kinds.Check d schedule = IsPlayed (plays kinds.Check d) schedule
+
 -- a valid domain file, and such a schedule for its domain
-pub record IsReplayed (file octets : List ℕ) : Type 0 where
+pub record IsReplayed (kind : ScheduleKind) (file octets : List ℕ) : Type 0 where
   pub domain : DomainConf
   pub says : domain_of file ≡ Ok domain
-  pub schedule : IsDone domain octets
+  pub schedule : IsDoneBy kind domain octets

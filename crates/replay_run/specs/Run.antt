@@ -6,7 +6,7 @@ use Rattle.wire_base.specs.declared.outside.Source as source
 use Rattle.wire_base.specs.declared.outside.Sink as sink
 use Rattle.wire_base.specs.declared.status.Status.{Status}
 use Rattle.wire_base.specs.declared.status.Status.TheVariants.{Done, ConfRefused, WriteFault, Memory}
-use Rattle.command_line.specs.declared.arguments.CaptureFormat.{CaptureFormat}
+use Rattle.command_line.specs.declared.arguments.ScheduleKind.{ScheduleKind}
 use Rattle.command_line.specs.Form.{Form}
 use Rattle.command_line.specs.Form.{Replay, Node, Hop, Headers, Grow, Topo}
 use Rattle.command_line.specs.Words.{IsGrow, IsReplay, IsTopo}
@@ -26,6 +26,7 @@ use Rattle.laws_replay.specs.Promises.{KeepsPromises}
 use Rattle.replay_run.specs.Endings.{DoneOrMemory, ComesOn, ReplayLeaves, NodeLeaves, HopLeaves, HeadersLeaves, TopoLeaves, LeavesAlone}
 use Rattle.replay_run.specs.Faults.{SourceIsQuiet, SinkIsQuiet, NoneRose, CountsFaults}
 use Rattle.replay_run.specs.Judged.{OnHeld}
+use Rattle.replay_run.specs.Kept.{IsKept}
 use Rattle.replay_run.specs.Replayed.{IsReplayed}
 use Rattle.replay_run.specs.RunDone.{HasRun, RunDone}
 use Rattle.replay_run.specs.Verdict.{verdict}
@@ -53,8 +54,9 @@ pub record Answers {D S C R : Type 0} (d : source.Ghosts D) (s : source.Ghosts S
 -- Which arguments and input are done to the end where no I/O error occurs, unless memory runs out.
 pub record Completes {D S C R : Type 0} (d : source.Ghosts D) (s : source.Ghosts S) (c : sink.Ghosts C) (r : sink.Ghosts R) (form : Form) (router : List ℕ) (ended : Status)
     (conf_old conf_new : D) (input_old input_new : S) (frames_old frames_new : C) (report_old report_new : R) : Type 0 where
-  -- `replay` and `replay-ng`: a valid domain file, and a schedule whose lines are all in the grammar and whose events are all allowed
-  pub replay_complete : IsReplay form → IfSome (d.left conf_old) (λ file. IfSome (s.left input_old) (λ octets. IsReplayed file octets
+  -- a command that executes a schedule: a valid domain file, and a schedule whose lines are all in the grammar and whose events are all
+  -- allowed
+  pub replay_complete : (kind : ScheduleKind) → form ≡ Replay kind → IfSome (d.left conf_old) (λ file. IfSome (s.left input_old) (λ octets. IsReplayed kind file octets
       → NoneRose d s c r conf_old conf_new input_old input_new frames_old frames_new report_old report_new → DoneOrMemory ended))
   -- `node`: a valid domain file with a router of that name, and a capture that isn't too long and in which no record is more than
   -- 65,535 seconds ahead of the clock
@@ -80,7 +82,7 @@ pub record Leaves {D S C R : Type 0} (d : source.Ghosts D) (s : source.Ghosts S)
   -- the frames are finished or untouched, unless the run stopped on a write error or out of memory
   pub frames_finished : ended ≢ WriteFault → ended ≢ Memory → (frames_new ≡ frames_old) ⊎ (c.unfinished frames_new ≡ false)
   -- after a read error, what is complete in the input that was read is done and reported
-  pub replay_leaves : (format : CaptureFormat) → form ≡ Replay format → ReplayLeaves d s c r format ended conf_old conf_new input_old input_new frames_old frames_new report_old report_new
+  pub replay_leaves : (kind : ScheduleKind) → form ≡ Replay kind → ReplayLeaves d s c r kind ended conf_old conf_new input_old input_new frames_old frames_new report_old report_new
   pub node_leaves : form ≡ Node → NodeLeaves d s c r router ended conf_old conf_new input_old input_new frames_old frames_new report_old report_new
   pub hop_leaves : form ≡ Hop → HopLeaves s r ended input_old input_new report_old report_new
   pub headers_leaves : form ≡ Headers → HeadersLeaves s r ended input_old input_new report_old report_new
@@ -97,10 +99,11 @@ pub record Promises {D S C R : Type 0} (d : source.Ghosts D) (s : source.Ghosts 
   -- `hop`: each BFR-id of each packet is in exactly one of the lines that are reported for that packet
   pub hop_parts : form ≡ Hop → IsDecided ended → IfSome (s.left input_old)
       (λ octets. Reports octets (r.written report_old) (r.written report_new))
-  -- `replay` and `replay-ng`: status, report and frames are those of one run of the model, over the lines of the schedule up to one that is rejected,
-  -- or after a read error over the lines that are complete in what was read; and that run keeps what is promised of runs
-  pub replay_run : (format : CaptureFormat) → form ≡ Replay format → HasRun ended → d.faults conf_new ≡ d.faults conf_old
-      → RunDone d s c r format ended conf_old input_old input_new frames_old frames_new report_old report_new KeepsPromises
+  -- a command that executes a schedule: status, report and frames are those of one run of the model, over the lines of the schedule up to
+  -- one that is rejected, or after a read error over the lines that are complete in what was read; and that run keeps what is promised of
+  -- runs
+  pub replay_run : (kind : ScheduleKind) → form ≡ Replay kind → HasRun ended → d.faults conf_new ≡ d.faults conf_old
+      → RunDone d s c r kind ended conf_old input_old input_new frames_old frames_new report_old report_new (IsKept kind)
   -- `grow`: so does the run of the domain and the schedule that are made
   pub grow_run : (n : ℕ) → form ≡ Grow n → KeepsPromises (grown_domain n) (grown_run n).run
 

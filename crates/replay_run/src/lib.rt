@@ -6,6 +6,7 @@
 #![tactic(auto)]
 
 mod node;
+mod schedule;
 mod top;
 
 pub use command_hop::packets_are_parted;

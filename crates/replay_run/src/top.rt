@@ -1,68 +1,30 @@
 //! The top call.
-ghost use Rattle.std.specs.Prelude.{◌≡◌, []};
-ghost use Rattle.wire_base.specs.declared.status.Status.TheVariants as status;
-ghost use Rattle.command_line.specs.Form as form;
 ghost use Rattle.command_line.specs.Words.{form_in, router_in};
-ghost use Rattle.replay_run.specs.Endings.{ReplayLeaves};
 ghost use Rattle.replay_run.specs.Faults.{MayRise};
-ghost use Rattle.replay_run.specs.Verdict as verdicts;
-ghost use Rattle.replay_run.specs.Run.{Answers, Completes, Leaves, Promises, ReadsDomain};
+ghost use Rattle.replay_run.specs.Run.{Answers, Completes, Leaves, Promises};
 
 use crate::node::node;
+use crate::schedule::replay;
+use command_check::{checks_keep_promises, cover_answers_hold, quiet_answers_hold};
 use command_drive::deliver;
 use command_grow::grow;
+use command_handshake::{handshakes_keep_promises, interfaces_follow_adjacencies};
 use command_headers::run_headers;
 use command_hop::{packets_are_parted, run_hop};
-use command_line::{Arguments, CaptureFormat, USAGE, parse};
-use command_node::{NoDomain, domain_in};
-use command_replay::play;
+use command_line::{Arguments, USAGE, parse};
 use command_topo::run_topo;
-use domain_replay::Recording;
 use laws_replay::replays_keep_promises;
 use std::alloc::Global;
 use wire_base::{Sink, Source, Status};
 
-/// Returns how frames are recorded in a capture of that format.
-fn recording_of(format: CaptureFormat) -> Recording
-    ensures { result ≡ verdicts.recording_of format }
-{
-    match format {
-        CaptureFormat::Pcap => Recording::Pcap,
-        CaptureFormat::Pcapng => Recording::Pcapng,
-    }
-}
-
-/// All that the program does on the arguments `replay CONF SCHEDULE FRAMES` or `replay-ng CONF SCHEDULE FRAMES`: where the domain
-/// file breaks a rule, it reports that; else it does the schedule in the domain.
-fn replay<D: Source, S: Source, C: Sink, R: Sink>(
-    alloc: Global,
-    format: CaptureFormat,
-    conf: &mut D,
-    input: &mut S,
-    frames: &mut C,
-    report: &mut R,
-) -> Status
-    requires counters { MayRise D.Source S.Source C.Sink R.Sink conf.old input.old frames.old report.old }
-    ensures does { ReadsDomain D.Source S.Source C.Sink R.Sink (form.Replay format) [] status.InputRefused result
-        conf.old conf.new input.old input.new frames.old frames.new report.old report.new }
-    ensures leaves { ReplayLeaves D.Source S.Source C.Sink R.Sink format result
-        conf.old conf.new input.old input.new frames.old frames.new report.old report.new }
-{
-    match domain_in(alloc, conf) {
-        Ok(domain) => play(alloc, domain, recording_of(format), input, frames, report),
-        Err(NoDomain::Refused(line)) => deliver(report, Status::ConfRefused, line.as_slice()),
-        Err(NoDomain::Stopped(why)) => why,
-    }
-}
-
 /// All that the program does. It takes the arguments, which name a command, and the objects that the program reads and writes: the
 /// domain file, the input (a schedule, a capture or lines), the frames that it sends, and its report. Returns the exit status.
 ///
-/// The arguments are `replay CONF SCHEDULE FRAMES`, `replay-ng CONF SCHEDULE FRAMES`, `node CONF ROUTER CAPTURE FRAMES`, `hop INPUT`,
-/// `headers CAPTURE`, `grow N` or `topo CAPTURE LEVEL MT FROM`; for any others the report is the usage line. ROUTER is the name of a
-/// router of the domain; if there is none of that name, the domain file is rejected as one that refers to an unknown name. N is 3 to
-/// 250, the number of routers of a domain that is made with its schedule. LEVEL is 1 or 2, MT a topology from 0 to 4095 (RFC 5120),
-/// and FROM the system ID at which paths begin.
+/// The arguments are `replay CONF SCHEDULE FRAMES`, `replay-ng CONF SCHEDULE FRAMES`, `handshake CONF SCHEDULE FRAMES`, `check CONF
+/// SCHEDULE FRAMES`, `node CONF ROUTER CAPTURE FRAMES`, `hop INPUT`, `headers CAPTURE`, `grow N` or `topo CAPTURE LEVEL MT FROM`; for
+/// any others the report is the usage line. ROUTER is the name of a router of the domain; if there is none of that name, the domain file
+/// is rejected as one that refers to an unknown name. N is 3 to 250, the number of routers of a domain that is made with its schedule.
+/// LEVEL is 1 or 2, MT a topology from 0 to 4095 (RFC 5120), and FROM the system ID at which paths begin.
 pub fn run<D: Source, S: Source, C: Sink, R: Sink>(
     alloc: Global,
     words: &[&str],
@@ -86,17 +48,24 @@ pub fn run<D: Source, S: Source, C: Sink, R: Sink>(
     ensures leaves { Leaves D.Source S.Source C.Sink R.Sink (form_in words.now) (router_in words.now) result
         conf.old conf.new input.old input.new frames.old frames.new report.old report.new }
 
-    // Status and outputs of `replay` and `grow` are those of one run of the model. In it, each BFR-id that an injection names is at
-    // every moment in one copy, one delivery or one drop; the report's numbers add up; nothing is delivered twice; and while
-    // topologies agree, no copy is lost and the TTL covers its path, a reachable BFR-id is never dropped and arrives exactly once.
+    // Status and outputs of the commands that execute a schedule, and of `grow`, are those of one run of the model. In it, each
+    // BFR-id that an injection names is at every moment in one copy, one delivery or one drop; the report's numbers add up; nothing
+    // is delivered twice; and while topologies agree, no copy is lost and the TTL covers its path, a reachable BFR-id is never
+    // dropped and arrives exactly once. In the run of `handshake` an interface is up exactly where its adjacency is. The
+    // answers of `check` are true of the run at that moment.
     // `hop` reports each BFR-id of a packet in exactly one line.
     ensures promises { Promises D.Source S.Source C.Sink R.Sink (form_in words.now) (router_in words.now) result
         conf.old conf.new input.old input.new frames.old frames.new report.old report.new }
 {
     packets_are_parted();
     replays_keep_promises();
+    checks_keep_promises();
+    quiet_answers_hold();
+    cover_answers_hold();
+    handshakes_keep_promises();
+    interfaces_follow_adjacencies();
     match parse(words) {
-        Arguments::Replay { format, .. } => replay(alloc, format, conf, input, frames, report),
+        Arguments::Replay { kind, .. } => replay(alloc, kind, conf, input, frames, report),
         Arguments::Node { router, .. } => {
             node(alloc, router.as_bytes(), conf, input, frames, report)
         }

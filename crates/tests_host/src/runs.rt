@@ -28,7 +28,7 @@ const RUNS: &[Run] = &[
         status: Status::Usage,
         report: &[
             Call::Moves(
-                b"usage: bier_domain replay CONF SCHEDULE FRAMES | node CONF ROUTER CAPTURE FRAMES | hop INPUT | headers CAPTURE | grow N | topo CAPTURE LEVEL MT FROM | replay-ng CONF SCHEDULE FRAMES\n",
+                b"usage: bier_domain replay CONF SCHEDULE FRAMES | node CONF ROUTER CAPTURE FRAMES | hop INPUT | headers CAPTURE | grow N | handshake CONF SCHEDULE FRAMES | topo CAPTURE LEVEL MT FROM | replay-ng CONF SCHEDULE FRAMES | check CONF SCHEDULE FRAMES\n",
             ),
             Call::Flushes,
         ],

@@ -151,18 +151,18 @@ const GROWN: &str = "\
 grow 3 |  => 0 | grow 3 injected 16 named 48 got 48 dropped 0 flight 0
 grow 12 |  => 0 | grow 12 injected 16 named 192 got 192 dropped 0 flight 0
 grow 40 |  => 0 | grow 40 injected 16 named 640 got 640 dropped 0 flight 0
-topo input 2 4096 0000.0000.0001 |  => 2 | usage: bier_domain replay CONF SCHEDULE FRAMES | node CONF ROUTER CAPTURE FRAMES | hop INPUT | headers CAPTURE | grow N | topo CAPTURE LEVEL MT FROM | replay-ng CONF SCHEDULE FRAMES
-topo input 3 0 0000.0000.0001 |  => 2 | usage: bier_domain replay CONF SCHEDULE FRAMES | node CONF ROUTER CAPTURE FRAMES | hop INPUT | headers CAPTURE | grow N | topo CAPTURE LEVEL MT FROM | replay-ng CONF SCHEDULE FRAMES
-topo input 2 00 0000.0000.0001 |  => 2 | usage: bier_domain replay CONF SCHEDULE FRAMES | node CONF ROUTER CAPTURE FRAMES | hop INPUT | headers CAPTURE | grow N | topo CAPTURE LEVEL MT FROM | replay-ng CONF SCHEDULE FRAMES
-topo input 2 0 0000.0000 |  => 2 | usage: bier_domain replay CONF SCHEDULE FRAMES | node CONF ROUTER CAPTURE FRAMES | hop INPUT | headers CAPTURE | grow N | topo CAPTURE LEVEL MT FROM | replay-ng CONF SCHEDULE FRAMES
-grow 2 |  => 2 | usage: bier_domain replay CONF SCHEDULE FRAMES | node CONF ROUTER CAPTURE FRAMES | hop INPUT | headers CAPTURE | grow N | topo CAPTURE LEVEL MT FROM | replay-ng CONF SCHEDULE FRAMES
-grow 0 |  => 2 | usage: bier_domain replay CONF SCHEDULE FRAMES | node CONF ROUTER CAPTURE FRAMES | hop INPUT | headers CAPTURE | grow N | topo CAPTURE LEVEL MT FROM | replay-ng CONF SCHEDULE FRAMES
-grow 251 |  => 2 | usage: bier_domain replay CONF SCHEDULE FRAMES | node CONF ROUTER CAPTURE FRAMES | hop INPUT | headers CAPTURE | grow N | topo CAPTURE LEVEL MT FROM | replay-ng CONF SCHEDULE FRAMES
-grow 1000 |  => 2 | usage: bier_domain replay CONF SCHEDULE FRAMES | node CONF ROUTER CAPTURE FRAMES | hop INPUT | headers CAPTURE | grow N | topo CAPTURE LEVEL MT FROM | replay-ng CONF SCHEDULE FRAMES
-grow 012 |  => 2 | usage: bier_domain replay CONF SCHEDULE FRAMES | node CONF ROUTER CAPTURE FRAMES | hop INPUT | headers CAPTURE | grow N | topo CAPTURE LEVEL MT FROM | replay-ng CONF SCHEDULE FRAMES
-grow +12 |  => 2 | usage: bier_domain replay CONF SCHEDULE FRAMES | node CONF ROUTER CAPTURE FRAMES | hop INPUT | headers CAPTURE | grow N | topo CAPTURE LEVEL MT FROM | replay-ng CONF SCHEDULE FRAMES
-grow 12a |  => 2 | usage: bier_domain replay CONF SCHEDULE FRAMES | node CONF ROUTER CAPTURE FRAMES | hop INPUT | headers CAPTURE | grow N | topo CAPTURE LEVEL MT FROM | replay-ng CONF SCHEDULE FRAMES
-grow  |  => 2 | usage: bier_domain replay CONF SCHEDULE FRAMES | node CONF ROUTER CAPTURE FRAMES | hop INPUT | headers CAPTURE | grow N | topo CAPTURE LEVEL MT FROM | replay-ng CONF SCHEDULE FRAMES";
+topo input 2 4096 0000.0000.0001 |  => 2 | usage: bier_domain replay CONF SCHEDULE FRAMES | node CONF ROUTER CAPTURE FRAMES | hop INPUT | headers CAPTURE | grow N | handshake CONF SCHEDULE FRAMES | topo CAPTURE LEVEL MT FROM | replay-ng CONF SCHEDULE FRAMES | check CONF SCHEDULE FRAMES
+topo input 3 0 0000.0000.0001 |  => 2 | usage: bier_domain replay CONF SCHEDULE FRAMES | node CONF ROUTER CAPTURE FRAMES | hop INPUT | headers CAPTURE | grow N | handshake CONF SCHEDULE FRAMES | topo CAPTURE LEVEL MT FROM | replay-ng CONF SCHEDULE FRAMES | check CONF SCHEDULE FRAMES
+topo input 2 00 0000.0000.0001 |  => 2 | usage: bier_domain replay CONF SCHEDULE FRAMES | node CONF ROUTER CAPTURE FRAMES | hop INPUT | headers CAPTURE | grow N | handshake CONF SCHEDULE FRAMES | topo CAPTURE LEVEL MT FROM | replay-ng CONF SCHEDULE FRAMES | check CONF SCHEDULE FRAMES
+topo input 2 0 0000.0000 |  => 2 | usage: bier_domain replay CONF SCHEDULE FRAMES | node CONF ROUTER CAPTURE FRAMES | hop INPUT | headers CAPTURE | grow N | handshake CONF SCHEDULE FRAMES | topo CAPTURE LEVEL MT FROM | replay-ng CONF SCHEDULE FRAMES | check CONF SCHEDULE FRAMES
+grow 2 |  => 2 | usage: bier_domain replay CONF SCHEDULE FRAMES | node CONF ROUTER CAPTURE FRAMES | hop INPUT | headers CAPTURE | grow N | handshake CONF SCHEDULE FRAMES | topo CAPTURE LEVEL MT FROM | replay-ng CONF SCHEDULE FRAMES | check CONF SCHEDULE FRAMES
+grow 0 |  => 2 | usage: bier_domain replay CONF SCHEDULE FRAMES | node CONF ROUTER CAPTURE FRAMES | hop INPUT | headers CAPTURE | grow N | handshake CONF SCHEDULE FRAMES | topo CAPTURE LEVEL MT FROM | replay-ng CONF SCHEDULE FRAMES | check CONF SCHEDULE FRAMES
+grow 251 |  => 2 | usage: bier_domain replay CONF SCHEDULE FRAMES | node CONF ROUTER CAPTURE FRAMES | hop INPUT | headers CAPTURE | grow N | handshake CONF SCHEDULE FRAMES | topo CAPTURE LEVEL MT FROM | replay-ng CONF SCHEDULE FRAMES | check CONF SCHEDULE FRAMES
+grow 1000 |  => 2 | usage: bier_domain replay CONF SCHEDULE FRAMES | node CONF ROUTER CAPTURE FRAMES | hop INPUT | headers CAPTURE | grow N | handshake CONF SCHEDULE FRAMES | topo CAPTURE LEVEL MT FROM | replay-ng CONF SCHEDULE FRAMES | check CONF SCHEDULE FRAMES
+grow 012 |  => 2 | usage: bier_domain replay CONF SCHEDULE FRAMES | node CONF ROUTER CAPTURE FRAMES | hop INPUT | headers CAPTURE | grow N | handshake CONF SCHEDULE FRAMES | topo CAPTURE LEVEL MT FROM | replay-ng CONF SCHEDULE FRAMES | check CONF SCHEDULE FRAMES
+grow +12 |  => 2 | usage: bier_domain replay CONF SCHEDULE FRAMES | node CONF ROUTER CAPTURE FRAMES | hop INPUT | headers CAPTURE | grow N | handshake CONF SCHEDULE FRAMES | topo CAPTURE LEVEL MT FROM | replay-ng CONF SCHEDULE FRAMES | check CONF SCHEDULE FRAMES
+grow 12a |  => 2 | usage: bier_domain replay CONF SCHEDULE FRAMES | node CONF ROUTER CAPTURE FRAMES | hop INPUT | headers CAPTURE | grow N | handshake CONF SCHEDULE FRAMES | topo CAPTURE LEVEL MT FROM | replay-ng CONF SCHEDULE FRAMES | check CONF SCHEDULE FRAMES
+grow  |  => 2 | usage: bier_domain replay CONF SCHEDULE FRAMES | node CONF ROUTER CAPTURE FRAMES | hop INPUT | headers CAPTURE | grow N | handshake CONF SCHEDULE FRAMES | topo CAPTURE LEVEL MT FROM | replay-ng CONF SCHEDULE FRAMES | check CONF SCHEDULE FRAMES";
 
 /// Returns whether a run ends with that status and that report.
 fn reports(alloc: Global, given: &str, status: Option<u8>, report: &[u8]) -> Option<bool> {

@@ -21,7 +21,8 @@ use Rattle.replay_run.proofs.Quiet.{read_not_write, read_not_memory, quiet_sink}
 use Rattle.replay_run.proofs.Replays.{replay_done, in_replay}
 use Rattle.replay_run.proofs.RunsDone.{run_done}
 use Rattle.replay_run.proofs.Nodes.{in_node, node_run_done}
-use Rattle.laws_replay.specs.Promises.{KeepsPromises}
+use Rattle.replay_run.specs.Kept.{IsKept}
+use Rattle.replay_run.proofs.Schedules.{is_kept}
 use Rattle.replay_run.proofs.Grown.{grown_from}
 use Rattle.replay_run.proofs.top.run.Goals as goal
 
@@ -31,28 +32,28 @@ pub returns-in-Replay-clause-answers : goal.returns-in-Replay-clause-answers
 returns-in-Replay-clause-answers g c =
     answers_by
     (λ decided.
-    in_replay c.in-Replay.format _ _ (g.D.Source.left c.args.conf.now) (g.S.Source.left c.args.input.now) (λ owed. Meets owed c.replay.result (g.R.Sink.written c.args.report.now) (g.R.Sink.written c.replay.new.report) (g.C.Sink.written c.args.frames.now) (g.C.Sink.written c.replay.new.frames)) (form_known _ _ _ c.parse.ensures.value c.in-Replay.is)
+    in_replay c.in-Replay.kind _ _ (g.D.Source.left c.args.conf.now) (g.S.Source.left c.args.input.now) (λ owed. Meets owed c.replay.result (g.R.Sink.written c.args.report.now) (g.R.Sink.written c.replay.new.report) (g.C.Sink.written c.args.frames.now) (g.C.Sink.written c.replay.new.frames)) (form_known _ _ _ c.parse.ensures.value c.in-Replay.is)
     (c.replay.ensures.does.answer decided))
     (search rules) (search rules) (search rules) (search rules)
 
 pub returns-in-Replay-clause-completes : goal.returns-in-Replay-clause-completes
 returns-in-Replay-clause-completes g c =
     let replay_complete =
-    replay_done c.in-Replay.format (g.D.Source.left c.args.conf.now) (g.S.Source.left c.args.input.now) (g.R.Sink.written c.args.report.now) (g.R.Sink.written c.replay.new.report) (g.C.Sink.written c.args.frames.now) (g.C.Sink.written c.replay.new.frames) c.replay.result
+    replay_done c.in-Replay.kind (g.D.Source.left c.args.conf.now) (g.S.Source.left c.args.input.now) (g.R.Sink.written c.args.report.now) (g.R.Sink.written c.replay.new.report) (g.C.Sink.written c.args.frames.now) (g.C.Sink.written c.replay.new.frames) c.replay.result
     _ (returns-in-Replay-clause-answers g c).decided c.replay.ensures.does.answer in
     search rules
 
 pub returns-in-Replay-clause-leaves : goal.returns-in-Replay-clause-leaves
 returns-in-Replay-clause-leaves g c =
     let front = λ (stopped : Stopped c.replay.result).
-    in_replay c.in-Replay.format _ (router_in c.args.words.now) (g.D.Source.left c.args.conf.now) (g.S.Source.left c.args.input.now) (λ owed. AppendsFront (g.R.Sink.written c.args.report.now) (g.R.Sink.written c.replay.new.report) owed.report × AppendsFront (g.C.Sink.written c.args.frames.now) (g.C.Sink.written c.replay.new.frames) owed.frames) (form_known _ _ _ c.parse.ensures.value c.in-Replay.is) (c.replay.ensures.does.front stopped) in
+    in_replay c.in-Replay.kind _ (router_in c.args.words.now) (g.D.Source.left c.args.conf.now) (g.S.Source.left c.args.input.now) (λ owed. AppendsFront (g.R.Sink.written c.args.report.now) (g.R.Sink.written c.replay.new.report) owed.report × AppendsFront (g.C.Sink.written c.args.frames.now) (g.C.Sink.written c.replay.new.frames) owed.frames) (form_known _ _ _ c.parse.ensures.value c.in-Replay.is) (c.replay.ensures.does.front stopped) in
     search rules
 
 pub returns-in-Replay-clause-promises : goal.returns-in-Replay-clause-promises
 returns-in-Replay-clause-promises g c =
     let replay_run =
-    run_done g.D.Source g.S.Source g.C.Sink g.R.Sink c.in-Replay.format c.args.conf.now c.replay.new.conf c.args.input.now c.replay.new.input c.args.frames.now c.replay.new.frames c.args.report.now c.replay.new.report
-    KeepsPromises c.replays_keep_promises.ensures.read c.replay.result c.replay.ensures.does.answer c.replay.ensures.leaves in
+    run_done g.D.Source g.S.Source g.C.Sink g.R.Sink c.in-Replay.kind c.args.conf.now c.replay.new.conf c.args.input.now c.replay.new.input c.args.frames.now c.replay.new.frames c.args.report.now c.replay.new.report
+    (IsKept c.in-Replay.kind) (is_kept c.replays_keep_promises.ensures.read c.checks_keep_promises.ensures c.handshakes_keep_promises.ensures c.interfaces_follow_adjacencies.ensures c.quiet_answers_hold.ensures c.cover_answers_hold.ensures c.in-Replay.kind) c.replay.result c.replay.ensures.does.answer c.replay.ensures.leaves in
     search rules
 
 -- ---- arguments of the form Node
