@@ -3,7 +3,7 @@ ghost use Rattle.std.specs.Prelude.{◌≡◌, Ok, None, OnOk};
 ghost use Rattle.wire_base.specs.model.Capture.{next_of};
 
 use crate::frames::show_record;
-use crate::pdus::Shown;
+use isis_text::Shown;
 use pcap_frames::{CapRecord, Reader};
 use std::alloc::Global;
 use std::fmt::Write as _;

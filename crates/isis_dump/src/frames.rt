@@ -1,6 +1,5 @@
 //! A record of a capture: its number, its time, and the PDU in its frame.
-use crate::octets::show_refused;
-use crate::pdus::{Shown, show_pdu};
+use isis_text::{Shown, show_pdu, show_refused};
 use link_frame::{Class, classify};
 use pcap_frames::CapRecord;
 use std::fmt::Write;

@@ -1,16 +1,11 @@
 //! Reads a capture from standard input, and writes its IS-IS frames as text to standard output: each PDU with its TLVs and
 //! their entries, or the first rule that it breaks.
 //!
-//! It depends only on the codecs, reads in chunks, and never stores more of a capture than a record and a chunk.
+//! It depends only on the codecs and their text form, reads in chunks, and never stores more of a capture than a record and a chunk.
 #![tactic(auto)]
 
 mod dump;
 mod frames;
-mod hellos;
-mod octets;
-mod pdus;
-mod prefixes;
-mod tlvs;
 
 use dump::dump;
 use std::alloc::Global;

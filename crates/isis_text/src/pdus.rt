@@ -1,6 +1,6 @@
 //! A PDU: its line, and the lines of its TLVs (ISO/IEC 10589, 9.5 to 9.13).
 ghost use Rattle.std.specs.Prelude.{◌≡◌};
-ghost use Rattle.isis_dump.specs.Levels.{type_in, level_in};
+ghost use Rattle.isis_text.specs.Levels.{type_in, level_in};
 
 use crate::hellos::show_hello;
 use crate::octets::show_refused;

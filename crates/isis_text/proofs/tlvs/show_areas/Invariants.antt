@@ -1,5 +1,5 @@
 use Rattle.std.proofs.Common.{length}
-use Rattle.isis_dump.proofs.tlvs.show_areas.Given as goal
+use Rattle.isis_text.proofs.tlvs.show_areas.Given as goal
 
 abbrev pub decreases-areas : goal.decreases-areas
 decreases-areas l = length l.rest

@@ -1,0 +1,178 @@
+//! The BIFTs of a router (RFC 8279, 6.4 and 6.7).
+ghost use Rattle.std.specs.Prelude.{◌<◌, ◌≤◌, length};
+ghost use Rattle.wire_base.specs.model.Configuration.{IsSound};
+ghost use Rattle.bier_forward.specs.Packets.{LeadsToEnds};
+
+use crate::cells::{Cell, Column, Row, Table};
+use crate::copies::{Copied, copies_of, push_way};
+use crate::hops::hop;
+use crate::planes::{Ground, Plane, ids_in, node_of, planes};
+use crate::sets::{ids_of_set, sets_of};
+use crate::systems::Names;
+use router_core::Router;
+use std::alloc::Global;
+use view_graph::supports;
+use wire_base::{M, Triple};
+
+static COLUMNS: [Column; 9] = [
+    Column {
+        title: "SD",
+        key: "sd",
+    },
+    Column {
+        title: "BSL",
+        key: "bsl",
+    },
+    Column {
+        title: "SI",
+        key: "si",
+    },
+    Column {
+        title: "Classes",
+        key: "classes",
+    },
+    Column {
+        title: "F-BM",
+        key: "f_bm",
+    },
+    Column {
+        title: "BFR-NBR",
+        key: "nbr",
+    },
+    Column {
+        title: "Way",
+        key: "way",
+    },
+    Column {
+        title: "Interface",
+        key: "interface",
+    },
+    Column {
+        title: "BIFT-id",
+        key: "bift_id",
+    },
+];
+
+/// The number of entropy classes: an entropy is in the class that is its remainder by this number.
+const CLASSES: u16 = 16;
+
+/// The copies of a packet for all BFR-ids of a set, and the entropy classes in which they are sent.
+#[derive(Drop)]
+struct Group {
+    classes: Vec<u16>,
+    copies: Vec<Copied>,
+}
+
+/// Returns the rows of a router's BIFTs, by sub-domain, length, set and entropy class: each BFR-NBR with its F-BM as BFR-ids, the
+/// interface to it, and its BIFT-id. They are the copies that the router's hop, `enter_packets`, makes of a packet for all BFR-ids of
+/// the set. Classes with equal tables share their rows. A set that the router does not support, by `supports`, has no table.
+pub fn bift_tables(alloc: Global, router: &Router, names: Names<'_>) -> M<Table> {
+    let conf = router.conf();
+    let mut heading = String::from_str(alloc, "BIFTs of ")?;
+    heading.push_str(names.of(alloc, conf.system)?.as_str())?;
+    let mut table = Table::new(alloc, heading, &COLUMNS);
+    let view = router.current_view()?;
+    let Some(own) = node_of(view.as_slice(), conf.system) else {
+        return Ok(table);
+    };
+    let ground = Ground {
+        alloc,
+        conf,
+        view: &view,
+        own,
+        names,
+    };
+    let planes = planes(alloc, conf)?;
+    for plane in planes.as_slice() {
+        push_plane(&mut table, ground, *plane)?;
+    }
+    Ok(table)
+}
+
+/// Returns whether the router has a BIFT-id for a triple.
+pub(crate) fn is_supported(ground: Ground<'_>, triple: Triple) -> bool {
+    match ground.view.as_slice().get(usize::from(ground.own)) {
+        Some(node) => supports(ground.conf, node, triple),
+        None => false,
+    }
+}
+
+fn push_plane(table: &mut Table, ground: Ground<'_>, plane: Plane) -> M<()>
+    requires sound { IsSound ground.conf.now }
+    requires leads { LeadsToEnds ground.conf.now ground.view.now.nodes }
+{
+    let alloc = ground.alloc;
+    let ids = ids_in(alloc, ground.view.as_slice(), plane.sd)?;
+    let sets = sets_of(alloc, ids.as_slice(), plane.bsl)?;
+    for si in sets.as_slice() {
+        let triple = Triple {
+            sd: plane.sd,
+            bsl: plane.bsl,
+            si: *si,
+        };
+        if is_supported(ground, triple) {
+            let own = ids_of_set(alloc, ids.as_slice(), triple)?;
+            push_set(table, ground, triple, own.as_slice())?;
+        }
+    }
+    Ok(())
+}
+
+/// Appends the rows of a set, whose BFR-ids are given.
+fn push_set(table: &mut Table, ground: Ground<'_>, triple: Triple, ids: &[u16]) -> M<()>
+    requires sound { IsSound ground.conf.now }
+    requires leads { LeadsToEnds ground.conf.now ground.view.now.nodes }
+{
+    let mut groups = Vec::new(ground.alloc);
+    for class in 0..CLASSES {
+        let copies = copies_in_class(ground, triple, ids, class)?;
+        add_class(ground.alloc, &mut groups, class, copies)?;
+    }
+    for group in groups.as_slice() {
+        for copy in group.copies.as_slice() {
+            table.push(copy_row(ground, triple, group, copy)?)?;
+        }
+    }
+    Ok(())
+}
+
+fn copies_in_class(ground: Ground<'_>, triple: Triple, ids: &[u16], class: u16) -> M<Vec<Copied>>
+    requires sound { IsSound ground.conf.now }
+    requires leads { LeadsToEnds ground.conf.now ground.view.now.nodes }
+{
+    let effects = hop(ground, triple, ids, u8::MAX, u32::from(class))?;
+    copies_of(ground.alloc, triple, &effects.sent)
+}
+
+/// Adds a class to the group with the same copies, or to a new one.
+fn add_class(alloc: Global, groups: &mut Vec<Group>, class: u16, copies: Vec<Copied>) -> M<()> {
+    for group in groups.iter_mut() {
+        if are_same(group.copies.as_slice(), copies.as_slice()) {
+            group.classes.push(class)?;
+            return Ok(());
+        }
+    }
+    let mut classes = Vec::new(alloc);
+    classes.push(class)?;
+    groups.push(Group { classes, copies })?;
+    Ok(())
+}
+
+fn are_same(some: &[Copied], others: &[Copied]) -> bool {
+    some.len() == others.len()
+        && some
+            .iter()
+            .zip(others)
+            .all(|(one, other)| one.is_same(other))
+}
+
+fn copy_row(ground: Ground<'_>, triple: Triple, group: &Group, copy: &Copied) -> M<Row> {
+    let mut row = Row::new(ground.alloc);
+    row.number(u64::from(triple.sd))?;
+    row.number(u64::from(triple.bsl.bits()))?;
+    row.number(u64::from(triple.si))?;
+    row.put(Cell::Numbers(group.classes.clone()?))?;
+    row.put(Cell::Numbers(copy.ids.clone()?))?;
+    push_way(&mut row, ground, copy)?;
+    Ok(row)
+}
