@@ -6,7 +6,7 @@ import itertools
 import random
 
 from . import frames
-from .layout import hops_from
+from .layout import hops_from, neighbors_without
 from .trouble import Trouble
 
 MOST_ROUNDS = 1000  # of one settle line
@@ -54,8 +54,7 @@ class Rule:
 
     def longest_path(self, cut):
         """The most links of a shortest path, without those that are cut."""
-        neighbors = [[end["peer_at"] for end in self.domain.ends(a)] for a in range(len(self.domain.routers))]
-        left = [[b for b in row if (a, b) not in cut and (b, a) not in cut] for a, row in enumerate(neighbors)]
+        left = neighbors_without(self.domain, cut)
         return max(max(hops_from(a, left).values()) for a in range(len(left)))
 
 

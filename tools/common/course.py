@@ -3,13 +3,18 @@
 Schedule, report and capture hold it all, but none of them shows where one event of a `settle` line ends and the next begins. So
 the flooding is repeated by the independent implementation in tools/independent, and each frame that it sends must be the
 capture's next. What became of a packet is read from the report and the capture: each of its BFR-ids is in one copy, one
-delivery or one drop. The independent implementation forwards a packet only where these leave two readings.
+delivery or one drop. The independent implementation forwards a packet only where these leave two readings. So it is with the
+hellos of `handshake`, the interfaces that they bring up or down, and the answers of `check`.
 """
 import copy
 
 from . import frames
 from .domain import Domain, independent
+from .texts import ANSWERS, HELLO_LINES, INTERFACES
 from .trouble import Trouble
+
+import hellos as independent_hellos
+import quiet as independent_quiet
 
 MOST_EVENTS, MOST_IN_FLIGHT = 1_000_000, 500_000
 
@@ -52,6 +57,18 @@ class Stop(Exception):
     """The run reached a limit here, and its report says so."""
 
 
+def reader_of(domain, schedule, report, records):
+    """A run of the independent implementation, by the command that these are a replay of: `handshake` sends hellos, and `check`
+    has lines of its own. A line that was rejected tells nothing."""
+    words = report.end.split()
+    accepted = schedule[: int(words[1]) - 1] if words[0] == "refused" else schedule
+    first = {line.split()[0] for line in accepted if line.strip() and not line.startswith("#")}
+    has_hellos = any(frames.is_hello(record.octets) for record in records)
+    if has_hellos or first & set(HELLO_LINES) or any(told.kind in INTERFACES for told in report.told):
+        return independent_hellos.Handshake(domain.confs)
+    return (independent_quiet.Check if first & set(ANSWERS) else independent.Replay)(domain.confs)
+
+
 class Course:
     """All steps of a replay, line by line."""
 
@@ -59,12 +76,17 @@ class Course:
         # a copy: events change configurations
         self.domain = domain = Domain(copy.deepcopy(domain.confs))
         self.report, self.records = report, records
-        self.reader = independent.Replay(domain.confs)
+        self.reader = reader_of(domain, schedule, report, records)
         self.routers = self.reader.routers
+        self.has_hellos = isinstance(self.reader, independent_hellos.Handshake)
         self.queues = {(a, end["peer_at"]): [] for a in range(len(domain.routers)) for end in domain.ends(a)}
         self.ways = [(a, end["peer_at"]) for a in range(len(domain.routers)) for end in domain.ends(a)]
         self.link_at = {(a, end["peer_at"]): link for a in range(len(domain.routers)) for link, end in enumerate(domain.ends(a))}
-        self.in_flight = self.events = self.injections = 0
+        # with hellos, all interfaces begin down
+        self.down_at_start = [(a, b) for a, b in self.ways if self.has_hellos]
+        self.hellos = {way: [] for way in self.ways}
+        self.in_flight = self.injections = 0
+        self.events = self.reader.events
         self.next_record = self.next_told = 0
         self.touched, self.steps, self.injected = set(range(len(domain.routers))), [], {}
         self.start, self.step = self.databases(), Step(0, "")
@@ -98,14 +120,27 @@ class Course:
         return True
 
     def do(self, event):
+        if event[0] in ANSWERS:
+            return self.answer(event)
         if event[0] != "settle":
             return self.event(*event)
         for done in range(event[1]):
             before = self.events, self.next_record
+            if self.has_hellos:
+                self.hello_round()
             self.round()
             if self.next_record == before[1] and not self.in_flight:
                 # The domain is at rest, so the other rounds only count.
                 return self.count((event[1] - done - 1) * (self.events - before[0]))
+
+    def hello_round(self):
+        """What comes first in a round with hellos: each router sends one on each circuit that works, and then they arrive."""
+        for a, b in self.ways:
+            if self.reader.adjacencies[a, b].works:
+                self.event("hello", a, b)
+        for a, b in self.ways:
+            for _ in range(len(self.hellos[a, b])):
+                self.event("greet", a, b, 0)
 
     def round(self):
         """One round: each router sends on each interface that is up, then each frame in flight arrives."""
@@ -130,7 +165,8 @@ class Course:
     def event(self, name, *words):
         if self.in_flight >= MOST_IN_FLIGHT and name in ("inject", "take", "send", "again"):
             raise Stop
-        self.count(1)
+        if name not in HELLO_LINES:
+            self.count(1)
         try:
             getattr(self, "do_" + name)(*words)
         except (IndexError, TypeError, KeyError):
@@ -182,8 +218,12 @@ class Course:
     def do_tick(self, a):
         self.touched.add(a)
         self.routers[a].tick()
+        if self.has_hellos:
+            self.handshake("tick", a)
 
     def do_restart(self, a):
+        if self.has_hellos:
+            self.handshake("restart", a)
         self.touched.add(a)
         self.routers[a].start()
 
@@ -209,6 +249,57 @@ class Course:
         own = next(sub["id"] for sub in self.routers[a].conf["subs"] if sub["sd"] == subdomain)
         packet = Packet(self.injections, subdomain, (entropy, own, payload), ttl, ids)
         self.account(a, packet, lambda: self.routers[a].inject(subdomain, bits, ids, ttl, entropy, payload))
+
+    # Hellos, and the answers of `check`
+
+    def handshake(self, *event):
+        """An event of the handshake, done by the independent implementation; the interfaces that it changes."""
+        before = len(self.reader.report)
+        try:
+            self.reader.hello_event(event, self.step.line)
+        except independent.Refused:
+            if self.report.end.startswith(f"refused {self.step.line} event "):
+                raise Stop
+            raise self.wrong(f"`{event[0]}` isn't possible here")
+        changes = self.reader.report[before:]
+        self.count(len(changes))
+        for text in changes:
+            told = self.tell_text(text)
+            a, b = self.domain.place[told.router], self.domain.place[told.neighbor]
+            self.touched.add(a)
+            self.step.ends.append((a, b, told.kind == "up"))
+
+    def do_hello(self, a, b):
+        self.handshake("hello", a, b)
+        record = self.take_record()
+        if record.octets != self.reader.hellos[a, b][-1]:
+            raise self.wrong(f"frame {record.number} isn't the hello that {self.domain.name(a)} sends")
+        item = Item(record, a, b)
+        self.hellos[a, b].append(item)
+        self.step.sent.append(item)
+
+    def do_greet(self, a, b, place):
+        works = self.reader.adjacencies[b, a].works
+        self.ended(self.hellos[a, b].pop(place), "taken" if works else "link")
+        self.handshake("greet", a, b, place)
+
+    def do_forget(self, a, b, place):
+        self.ended(self.hellos[a, b].pop(place), "lost")
+        self.handshake("forget", a, b, place)
+
+    def do_break(self, a, b):
+        self.handshake("break", a, b)
+
+    def do_mend(self, a, b):
+        self.handshake("mend", a, b)
+
+    def answer(self, event):
+        """A line `quiet` or `cover`: the report's next line is what the independent implementation answers."""
+        try:
+            self.reader.do(event, self.step.line)
+        except independent.Refused:
+            raise self.wrong(f"`{event[0]}` isn't possible here")
+        self.tell_text(self.reader.report[-1])
 
     # What becomes of a frame
 
@@ -294,12 +385,23 @@ class Course:
         return self.report.told[self.next_told] if self.next_told < len(self.report.told) else None
 
     def is_told(self, told, router, injection):
-        return told.line == self.step.line and told.router == self.domain.name(router) and told.injection == injection
+        is_now = told.is_of_a_frame and told.line == self.step.line
+        return is_now and told.router == self.domain.name(router) and told.injection == injection
 
     def tell(self, router, injection):
         told = self.peek_told()
         if told is None or not self.is_told(told, router, injection):
             raise self.wrong(f"the report's next line isn't what {self.domain.name(router)} dropped")
+        self.accept(told)
+
+    def tell_text(self, text):
+        told = self.peek_told()
+        if told is None or told.text != text:
+            raise self.wrong(f"the report's next line isn't `{text}`")
+        self.accept(told)
+        return told
+
+    def accept(self, told):
         self.next_told += 1
         self.step.told.append(told)
 

@@ -22,11 +22,12 @@ class Driver:
     another one, the frames of the first are in the capture. These two lines are packets from a router to itself, which are
     delivered at once and change nothing."""
 
-    def __init__(self, program, folder, domain, echo, limit):
+    def __init__(self, program, folder, domain, echo, limit, command="replay"):
         self.program, self.folder, self.ends = program, folder, time.monotonic() + limit
-        self.echo, self.count = echo, 0  # the line of such a packet; lines so far
+        self.echo, self.count, self.injections = echo, 0, 0  # the line of such a packet; lines and injections so far
+        self.said = []  # the lines of the report but the answers to such packets
         write_octets(self.at("domain.toml"), domain.encode())
-        words = [program, "replay", "domain.toml", "/dev/stdin", "live"]
+        words = [program, command, "domain.toml", "/dev/stdin", "live"]
         self.process = subprocess.Popen(words, cwd=folder, stdin=subprocess.PIPE, stdout=subprocess.PIPE)
         self.answers, self.last, self.seen = queue.Queue(), "", len(capture.HEADER)
         threading.Thread(target=self.listen, daemon=True).start()
@@ -76,6 +77,7 @@ class Driver:
         except BrokenPipeError:
             raise self.ended()
         self.count += len(lines)
+        self.injections += sum(line.startswith("inject ") for line in lines)
 
     def await_answer(self):
         self.send([self.echo])
@@ -90,10 +92,17 @@ class Driver:
                 self.send(["#"])
                 continue
             if line is None:
+                self.answers.put(None)  # where `ended` looks for it
                 raise self.ended()
             if line.startswith(wanted):
                 return
             self.last = line
+            self.said.append(line)
+
+    def taken(self):
+        """The lines of the report since this was last asked."""
+        said, self.said = self.said, []
+        return said
 
     def ended(self):
         """Why the program ended."""

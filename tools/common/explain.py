@@ -5,6 +5,7 @@ import tomllib
 
 from . import places  # sets where the independent program is found
 from .lines import lines_of
+from .texts import HELLO_LINES
 from .trouble import Trouble, read_octets
 
 import model as independent
@@ -64,6 +65,17 @@ EVENTS = {
     4: "500,000 frames are in flight",
     5: "no frame has that index",
     6: "only IS-IS frames can be repeated",
+    8: "the router neither is in the sub-domain nor left it, or has no label range of that BitString length there",
+    9: "`leave` needs a sub-domain that the router is in, `join` one that it left",
+    10: "the range would end above label 1,048,575",
+    11: "a label of the range is in a range that the router has or had",
+    12: "1,000 ranges of the router were moved already",
+}
+# What is different for the lines of hellos.
+HELLO_EVENTS = {
+    1: "16,000,000 events of hellos were done, or 1,000,000 others",
+    3: "`hello` and `break` need a circuit that works, `mend` a broken one",
+    4: "100,000 hellos are in flight",
 }
 EDGES = {
     1: "the packet is for no BFR-id",
@@ -258,15 +270,20 @@ def line(path, refusal):
     if len(words) < 4 or words[1] not in ("text", "event"):
         return None
     number, code = int(words[0]), int(words[2])
-    reason = TEXTS.get(code) if words[1] == "text" else event_text(code, words)
     text = line_text(path, number)
+    reason = TEXTS.get(code) if words[1] == "text" else event_text(code, words, text.split(" ")[0])
     return f"{path}:{number}: {f'`{text}`: ' if text else ''}{reason or ' '.join(words[3:])}"
 
 
-def event_text(code, words):
+def event_text(code, words, first):
+    """Why an event was rejected, by its number, the report's words, and the line's first word."""
+    is_hello = first in HELLO_LINES
     if code == 5:
-        return f"there is no frame {words[4]}; {words[5]} are in flight there, counted from 0"
-    return EDGES.get(int(words[4])) if code == 7 else EVENTS.get(code)
+        what = "hello" if is_hello else "frame"
+        return f"there is no {what} {words[4]}; {words[5]} are in flight there, counted from 0"
+    if code == 7:
+        return EDGES.get(int(words[4]))
+    return HELLO_EVENTS.get(code) if is_hello and code in HELLO_EVENTS else EVENTS.get(code)
 
 
 def line_text(path, number):

@@ -4,6 +4,7 @@ LENGTHS = {1: 64, 2: 128, 3: 256, 4: 512, 5: 1024, 6: 2048, 7: 4096}
 # No label stack of the domain is deeper, and `headers` passes over those that are.
 DEEPEST_STACK = 8
 LSPS = (18, 20)  # PDU types, of level 1 and 2
+HELLO = 17  # the PDU type of a point-to-point hello
 
 
 class Header:
@@ -27,6 +28,36 @@ def number(octets, start, count):
 
 def is_isis(octets):
     return len(octets) >= 17 and number(octets, 12, 2) <= 1500 and octets[14:17] == b"\xfe\xfe\x03"
+
+
+def is_hello(octets):
+    """Whether a frame is an IS-IS point-to-point hello."""
+    return is_isis(octets) and len(octets) >= 22 and octets[21] & 31 == HELLO
+
+
+class Hello:
+    """A point-to-point hello with the TLV of a three-way handshake (RFC 5303): sender and neighbor are system IDs, None where the
+    sender knows no neighbor; states are 0 Up, 1 Initializing, 2 Down."""
+
+    __slots__ = ("source", "hold", "state", "circuit", "neighbor", "neighbor_circuit")
+
+
+def hello_of(octets):
+    """The hello in a frame; None for another frame, and for a hello without that TLV."""
+    end = 14 + number(octets, 12, 2)
+    if not is_hello(octets) or end > len(octets):
+        return None
+    it, at = Hello(), 37
+    it.source, it.hold = octets[26:32], number(octets, 32, 2)
+    while at + 2 <= end:
+        kind, size, at = octets[at], octets[at + 1], at + 2
+        if kind == 240 and size in (5, 15) and at + size <= end:
+            it.state, it.circuit, is_whole = octets[at], number(octets, at + 1, 4), size == 15
+            it.neighbor = octets[at + 5 : at + 11] if is_whole else None
+            it.neighbor_circuit = number(octets, at + 11, 4) if is_whole else None
+            return it
+        at += size
+    return None
 
 
 def neighbors(octets):

@@ -22,11 +22,15 @@ FORMS = {
     "headers": ("CAPTURE",),
     "grow": ("N",),
     "topo": ("CAPTURE", "LEVEL", "MT", "FROM"),
+    "handshake": ("CONF", "SCHEDULE", "FRAMES"),
+    "check": ("CONF", "SCHEDULE", "FRAMES"),
 }
 READ, WRITTEN = ("CONF", "SCHEDULE", "CAPTURE", "INPUT"), ("FRAMES",)
 NO_FILES = ("ROUTER", "N", "LEVEL", "MT", "FROM")
 EXAMPLES = """each command with an example, from the folder examples/:
   bier_domain replay replay-ring/domain.toml replay-ring/schedule frames.pcap
+  bier_domain check check-television/domain.toml check-television/schedule frames.pcap
+  bier_domain handshake handshake-fibre/domain.toml handshake-fibre/schedule frames.pcap
   bier_domain hop hop-four-receivers/input.hop
   bier_domain node node-television/domain.toml west-4 node-television/capture.pcap frames.pcap
   bier_domain headers headers-of-a-capture/capture.pcap

@@ -18,6 +18,12 @@ def hops_from(start, neighbors):
     return hops
 
 
+def neighbors_without(domain, cut):
+    """The neighbors of each router over the links of which no direction is among `cut`."""
+    rows = [[end["peer_at"] for end in domain.ends(a)] for a in range(len(domain.routers))]
+    return [[b for b in row if (a, b) not in cut and (b, a) not in cut] for a, row in enumerate(rows)]
+
+
 def walk_order(neighbors):
     """The routers in depth-first order, so that rings come out as rings."""
     order, seen = [], set()
@@ -137,7 +143,7 @@ def push(one, other):
 def place(domain):
     """A position for each router, in units of one link; the least coordinates are 0."""
     count = len(domain.routers)
-    neighbors = [[end["peer_at"] for end in domain.ends(a)] for a in range(count)]
+    neighbors = neighbors_without(domain, ())
     if count == 1:
         return [(0.0, 0.0)]
     wanted, turns = distances(neighbors), 200 if count <= 60 else 40

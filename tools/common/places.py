@@ -12,9 +12,11 @@ if IS_INSTALLED:  # as share/mastdamson of some prefix
     PREFIX = os.path.dirname(os.path.dirname(ROOT))
     BUILT = os.path.join(PREFIX, "libexec", "mastdamson", "bier_domain")
     DUMP = os.path.join(PREFIX, "bin", "isis_dump")
+    SHOW_ROUTER = os.path.join(PREFIX, "bin", "show_router")
 else:
     BUILT = os.path.join(ROOT, "crates", "bier_domain", "out", "bier_domain")
     DUMP = os.path.join(ROOT, "crates", "isis_dump", "out", "isis_dump")
+    SHOW_ROUTER = os.path.join(ROOT, "crates", "show_router", "out", "show_router")
 
 sys.path.insert(0, os.path.join(TOOLS, "independent"))
 

@@ -1,4 +1,7 @@
-"""Spreads the runs of a sweep over the cores of this machine, or over machines by GNU parallel."""
+"""Spreads the runs of a tool over the cores of this machine, or over machines by GNU parallel.
+
+A worker is the tool itself with --worker. A job names the tool, and has all that a run needs but for its number.
+"""
 import collections
 import json
 import os
@@ -14,11 +17,9 @@ import time
 from . import places
 from .trouble import Trouble, read_text, write_octets
 
-SWEEP = os.path.join(places.TOOLS, "sweep")
 MOST_IN_BATCH = 16
 CORES = 8  # what a machine may have, for the size of batches
 WINDOW = 60  # seconds over which the speed is measured
-
 
 
 class Workers:
@@ -53,7 +54,7 @@ WORKERS = Workers()
 
 
 class Progress:
-    """The progress of a sweep, on standard error: one line that is updated on a terminal, else a line every ten seconds."""
+    """The progress of a tool, on standard error: one line that is updated on a terminal, else a line every ten seconds."""
 
     def __init__(self, done, count):
         self.done, self.count = done, count
@@ -102,6 +103,26 @@ def results(job, numbers, given, left_out, folder):
         yield from over_cores(job, numbers, max(1, given.jobs or os.cpu_count() or 1))
 
 
+def work(lines, out, begin):
+    """A worker: for each line, a job with its runs, one line for each result. The status is 1 where a run broke.
+
+    `begin` returns for a job without its runs what does a run by its number."""
+    last, do, status, parent = None, None, 0, os.getppid()
+    for line in lines:
+        job = json.loads(line)
+        numbers = job.pop("runs")
+        if last != job:
+            last, do = job, begin(job)
+        for number in numbers:
+            if os.getppid() != parent:
+                return 1  # nobody reads the results
+            result = do(number)
+            status = 1 if "broken" in result else status
+            out.write(json.dumps(result) + "\n")
+            out.flush()
+    return status
+
+
 # This machine
 
 
@@ -130,7 +151,8 @@ def serve(job, todo, done):
         except queue.Empty:
             break
         if worker is None:
-            worker = WORKERS.start([sys.executable, SWEEP, "--worker"], stdin=subprocess.PIPE, stdout=subprocess.PIPE)
+            words = [sys.executable, os.path.join(places.TOOLS, job["tool"]), "--worker"]
+            worker = WORKERS.start(words, stdin=subprocess.PIPE, stdout=subprocess.PIPE)
         if worker is None:
             break
         if not serve_batch(worker, job, batch, done):
@@ -176,9 +198,9 @@ def hosts_of(path):
     return found
 
 
-def parallel_words(log, login, given):
+def parallel_words(log, login, given, tool):
     """GNU parallel's arguments: each line of its input is a job, which some machine reads as its standard input."""
-    command = f"cd {shlex.quote(places.ROOT)} && exec python3 tools/sweep --worker"
+    command = f"cd {shlex.quote(places.ROOT)} && exec python3 tools/{tool} --worker"
     words = ["parallel", "--will-cite", "--pipe", "-N", "1", "--joblog", log, "--sshloginfile", login]
     # A machine that stops answering is given up in the end.
     words += ["--timeout", str(given.limit * MOST_IN_BATCH), "-j", str(given.jobs or "100%")]
@@ -196,7 +218,7 @@ def over_hosts(job, numbers, given, left_out, folder):
     write_octets(log, b"")
     all_batches, said = batches(numbers, len(hosts) * (given.jobs or CORES)), []
     pipes = {"stdin": subprocess.PIPE, "stdout": subprocess.PIPE, "stderr": subprocess.PIPE}
-    parallel = WORKERS.start(parallel_words(log, login, given), **pipes)
+    parallel = WORKERS.start(parallel_words(log, login, given, job["tool"]), **pipes)
     feeder = threading.Thread(target=feed, args=(parallel.stdin, job, all_batches), daemon=True)
     listener = threading.Thread(target=lambda: said.extend(parallel.stderr), daemon=True)
     feeder.start()

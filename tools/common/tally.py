@@ -1,8 +1,6 @@
 """One run of a sweep and its result, and the sums over all runs."""
 import collections
 import html
-import json
-import os
 import socket
 import subprocess
 import tempfile
@@ -97,22 +95,15 @@ def rule_of(job):
     return chance.Rule(Domain(independent.read_domain(job["domain"].encode())), job["rule"])
 
 
-def work(lines, out):
-    """A worker: for each line, a job with its runs, one line for each result. The status is 1 where one broke."""
-    last, rule, status, parent = None, None, 0, os.getppid()
-    for line in lines:
-        job = json.loads(line)
-        if last != (job["domain"], job["rule"]):
-            last, rule = (job["domain"], job["rule"]), rule_of(job)
-        for number in job["runs"]:
-            if os.getppid() != parent:
-                return 1  # nobody reads the results
-            with tempfile.TemporaryDirectory() as folder:
-                result = one(job, rule, number, folder)
-            status = status if is_whole(result) else 1
-            out.write(json.dumps(result) + "\n")
-            out.flush()
-    return status
+def begin(job):
+    """What does a run of a job by its number, for a worker."""
+    rule = rule_of(job)
+
+    def do(number):
+        with tempfile.TemporaryDirectory() as folder:
+            return one(job, rule, number, folder)
+
+    return do
 
 
 # All runs

@@ -1,13 +1,27 @@
 """Reports and schedules, line by line."""
 from .trouble import Trouble, read_octets, read_text
 
+HELLO_LINES = ("hello", "greet", "forget", "break", "mend")  # of a schedule of `handshake`
 CAUSES = ("none", "ttl", "lost", "link", "outer", "route")
+INTERFACES = ("up", "down")  # lines of `handshake`: an interface comes up or goes down
+ANSWERS = ("quiet", "cover")  # lines of `check`: what a line of the same name asks
 
 
 class Told:
-    """A line of a report: what a router delivered, or dropped and why. IS-IS frames have no injection and no BFR-ids."""
+    """A line of a report: what a router delivered, or dropped and why. IS-IS frames have no injection and no BFR-ids.
 
-    __slots__ = ("text", "line", "is_got", "router", "injection", "cause", "ids", "payload")
+    Nor has any other kind of line; of those, one about an interface has its router and neighbor, and an answer has its text
+    alone."""
+
+    __slots__ = ("text", "line", "kind", "router", "neighbor", "injection", "cause", "ids", "payload")
+
+    @property
+    def is_got(self):
+        return self.kind == "got"
+
+    @property
+    def is_of_a_frame(self):
+        return self.kind in ("got", "drop")
 
 
 class Report:
@@ -28,15 +42,20 @@ def ids_of(word):
 def told_of(path, number, text):
     """One line of a report but the last."""
     words, told = text.split(" "), Told()
-    told.text, told.payload, told.cause = text, "", ""
+    told.text, told.payload, told.cause, told.injection, told.ids = text, "", "", None, ()
+    told.router = told.neighbor = None
     try:
-        told.line, told.is_got, told.router = int(words[0]), words[1] == "got", words[2]
-        told.injection = None if words[3] == "-" else int(words[3])
-        if told.is_got:
-            told.ids, told.payload = [int(words[4])], words[5]
-        elif words[1] == "drop":
-            told.cause, told.ids = words[4], ids_of(words[5])
-        else:
+        told.line, told.kind = int(words[0]), words[1]
+        if told.is_of_a_frame:
+            told.router = words[2]
+            told.injection = None if words[3] == "-" else int(words[3])
+            if told.is_got:
+                told.ids, told.payload = [int(words[4])], words[5]
+            else:
+                told.cause, told.ids = words[4], ids_of(words[5])
+        elif told.kind in INTERFACES:
+            told.router, told.neighbor = words[2:]
+        elif told.kind not in ANSWERS:
             raise ValueError
     except (IndexError, ValueError):
         raise Trouble(f"{path}: line {number} isn't a line of a replay's report: {text[:60]}")

@@ -39,6 +39,7 @@ def tree_by_schedule(domain, schedule, report, records, number):
     hops = [hop_of(item) for step in course.steps for item in step.sent if item.injection == number]
     line, ingress, *_ = course.injected[number]
     found = Tree(number, line, ingress, hops, told_of(report, number))
+    found.down.update(course.down_at_start)
     for step in course.steps[: found.last_line]:
         for a, b, is_up in step.ends:
             (found.down.discard if is_up else found.down.add)((a, b))

@@ -161,7 +161,7 @@ def program_page(guide, version, date, tools):
     out += [".SH FILES", *blocks(part(found["Installing"], "### What is installed"))]
     out += [".SH EXAMPLES", *code(line.strip() for line in installed(EXAMPLES).splitlines()[1:])]
     out += ["from the folder \\fB/usr/share/doc/mastdamson/examples\\fP."]
-    return page("bier_domain", "proved replay of BIER multicast domains", version, date, [*out, *see_also(["isis_dump", *tools])])
+    return page("bier_domain", "proved replay of BIER multicast domains", version, date, [*out, *see_also(["isis_dump", "show_router", *tools])])
 
 
 def see_also(names):
@@ -174,6 +174,17 @@ def dump_page(guide, version, date):
     text = blocks(part(sections(installed(guide))["The tools"], "### `isis_dump`"))
     out = [".SH SYNOPSIS", ".B isis_dump", "< \\fICAPTURE\\fP", ".SH DESCRIPTION", *text]
     return page("isis_dump", "prints the IS-IS frames of a capture", version, date, [*out, *see_also(["bier_domain"])])
+
+
+def look_page(guide, version, date):
+    """show_router(1), from its part of the same section."""
+    text = part(sections(installed(guide))["The tools"], "### `show_router`")
+    out = [".SH SYNOPSIS"]
+    for words in [*commands_of(text)[:2], "follow CONF SCHEDULE"]:
+        command, *files = words.split()
+        out += [f".B show_router {command}", "".join(f"\\fI{it}\\fP " for it in files).strip(), ".br"]
+    out += [".SH DESCRIPTION", *blocks(text)]
+    return page("show_router", "looks into a router of a replay or on a capture", version, date, [*out, *see_also(["bier_domain"])])
 
 
 def options(lines):

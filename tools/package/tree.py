@@ -12,8 +12,8 @@ from common.trouble import Trouble, read_octets
 
 from . import man
 
-TOOLS = ("check-capture", "fail-each", "heard", "import", "lint", "picture", "player", "storm", "sweep")
-PROGRAMS = {"bier_domain": "usr/libexec/mastdamson/bier_domain", "isis_dump": "usr/bin/isis_dump"}
+TOOLS = ("check-capture", "design", "fail-each", "heard", "import", "lint", "picture", "player", "storm", "sweep")
+PROGRAMS = {"bier_domain": "usr/libexec/mastdamson/bier_domain", "isis_dump": "usr/bin/isis_dump", "show_router": "usr/bin/show_router"}
 SHARE, DOC, MAN = "usr/share/mastdamson", "usr/share/doc/mastdamson", "usr/share/man/man1"
 COMPLETIONS = "usr/share/bash-completion/completions"
 PLUGIN = "usr/lib/x86_64-linux-gnu/wireshark/plugins/bier.lua"
@@ -81,7 +81,7 @@ def tools():
     for name in TOOLS:
         found[f"{SHARE}/tools/{name}"] = copied(os.path.join(places.TOOLS, name), True)
         found[f"usr/bin/mastdamson-{name}"] = File(target=f"../share/mastdamson/tools/{name}")
-    for part in ("common", "page", "independent"):
+    for part in ("common", "designs", "page", "independent"):
         found.update(folder(os.path.join(places.TOOLS, part), f"{SHARE}/tools/{part}", skip=("compare",)))
     found[PLUGIN] = copied(os.path.join(places.TOOLS, "wireshark", "bier.lua"), False)
     return found
@@ -142,6 +142,7 @@ def pages(build, root):
     made = {name: man.tool_page(name, help_of(root, name), build.version, date) for name in command_names()}
     made["bier_domain"] = man.program_page(guide, build.version, date, command_names())
     made["isis_dump"] = man.dump_page(guide, build.version, date)
+    made["show_router"] = man.look_page(guide, build.version, date)
     return {f"{MAN}/{name}.1.gz": packed(text) for name, text in made.items()}
 
 

@@ -3,11 +3,13 @@
 // a Uint8Array.
 
 const PDU_NAMES = {
+  17: "point-to-point hello",
   18: "LSP, level 1", 20: "LSP, level 2",
   24: "CSNP, level 1", 25: "CSNP, level 2",
   26: "PSNP, level 1", 27: "PSNP, level 2",
 };
 const NEXT_PROTOCOLS = { 1: "MPLS", 2: "MPLS", 3: "Ethernet", 4: "IPv4", 5: "OAM", 6: "IPv6" };
+const ADJACENCY_STATES = ["Up", "Initializing", "Down"];
 const BIT_LENGTHS = [0, 64, 128, 256, 512, 1024, 2048, 4096];
 
 class Dissection {
@@ -157,10 +159,34 @@ function isisFrame(it, at, end) {
   const name = PDU_NAMES[type];
   it.head(pdu, end, "IS-IS " + (name || `type ${type}`));
   it.summary = name ? name.slice(0, 4).replace(",", "") : "IS-IS";
-  if (type === 18 || type === 20) lsp(it, pdu, end);
+  if (type === 17) hello(it, pdu, end);
+  else if (type === 18 || type === 20) lsp(it, pdu, end);
   else if (type === 24 || type === 25) csnp(it, pdu, end);
   else if (type === 26 || type === 27) psnp(it, pdu, end);
   else it.rest(pdu + 8, "Octets");
+}
+
+function hello(it, at, end) {
+  if (!it.has(at, 20, end)) return;
+  it.add(at + 8, at + 9, "Circuit type", it.octets[at + 8]);
+  it.add(at + 9, at + 15, "Source", it.system(at + 9));
+  it.add(at + 15, at + 17, "Holding time", it.number(at + 15, 2));
+  it.add(at + 17, at + 19, "PDU length", it.number(at + 17, 2));
+  it.add(at + 19, at + 20, "Local circuit ID", it.octets[at + 19]);
+  it.summary = "hello";
+  tlvs(it, at + 20, end);
+}
+
+// The TLV of a three-way handshake (RFC 5303).
+function adjacency(it, from, to) {
+  const state = ADJACENCY_STATES[it.octets[from]] || it.octets[from];
+  it.add(from - 2, to, "TLV 240, adjacency", state);
+  if (from + 5 <= to) it.add(from + 1, from + 5, "Circuit", it.number(from + 1, 4), 2);
+  it.summary = `hello, ${state}`;
+  if (from + 15 > to) return;
+  it.add(from + 5, from + 11, "Neighbor", it.system(from + 5), 2);
+  it.add(from + 11, from + 15, "Neighbor's circuit", it.number(from + 11, 4), 2);
+  it.summary += `, hears ${it.system(from + 5)}`;
 }
 
 function lsp(it, at, end) {
@@ -210,6 +236,7 @@ function tlv(it, code, from, to) {
   else if (code === 135) prefixes(it, from, to);
   else if (code === 137) it.add(from - 2, to, "TLV 137, name", String.fromCharCode(...it.octets.subarray(from, to)));
   else if (code === 1) it.add(from - 2, to, "TLV 1, area", it.hex(from + 1, to - from - 1));
+  else if (code === 240) adjacency(it, from, to);
   else if (code === 129) it.add(from - 2, to, "TLV 129, protocols", it.hex(from, to - from));
   else it.add(from - 2, to, `TLV ${code}`, it.hex(from, to - from));
   return 0;

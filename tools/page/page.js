@@ -1,10 +1,12 @@
 "use strict";
 // The page of a replay. All that it shows is in the element `data`, which tools/player writes:
-//   routers, links      the domain; a link is [a, b, metric from a, metric from b]
+//   routers, links      the domain; a router's `own` is its BFR-id by sub-domain, a link is [a, b, metric from a, metric from b]
 //   lines               one a line of the schedule, see Line below
 //   frames              [a, b, injection or 0, head, body, first id of its set, sub-domain]; the first frame is number 1
 //   heads, bodies       the first 12 octets of frames as hexadecimal digits, and the rest in base64
 //   entries, databases  entries of LSDBs, and the LSDBs as lists of them
+//   start, down         before the first line, each router's LSDB, and the interfaces [a, b] that are down
+//   tables              texts, and for each line from 0 the routers with another text [router, text]; or why there are none
 
 const $ = (id) => document.getElementById(id);
 const data = JSON.parse($("data").textContent);
@@ -43,12 +45,19 @@ class State {
   constructor() {
     this.line = 0;
     this.queues = new Map(); // "a,b": numbers of frames, in order
-    this.down = new Set(); // "a,b"
+    this.down = new Set(data.down.map(([a, b]) => `${a},${b}`));
     this.databases = data.start.slice();
     for (const [a, b] of data.links) {
       this.queues.set(`${a},${b}`, []);
       this.queues.set(`${b},${a}`, []);
     }
+    this.tables = [];
+    this.takeTables();
+  }
+
+  takeTables() {
+    const lines = data.tables.lines || [];
+    for (const [place, text] of lines[this.line] || []) this.tables[place] = text;
   }
 
   queueOf(number) {
@@ -63,6 +72,7 @@ class State {
     for (const gone of [line.x, line.l, line.m]) for (const number of gone) this.remove(number);
     for (const [a, b, isUp] of line.u) isUp ? this.down.delete(`${a},${b}`) : this.down.add(`${a},${b}`);
     for (const [place, database] of line.d) this.databases[place] = database;
+    this.takeTables();
   }
 
   remove(number) {
@@ -174,7 +184,7 @@ function fillFrame(row, number) {
 }
 
 function fillTold(row, text) {
-  row.classList.add(text.split(" ")[1]);
+  row.classList.add(kindOf(text));
   const code = document.createElement("code");
   code.textContent = text;
   row.append(code);
@@ -187,15 +197,39 @@ function fillLine(row, line, place) {
   const code = document.createElement("code");
   code.textContent = line.t;
   row.append(part("number", place + 1));
-  const { drops } = line, got = line.g.length - drops;
-  if (drops) row.append(part("mark drop", `✕${drops}`));
-  if (got) row.append(part("mark got", `✓${got}`));
+  if (line.drops) row.append(part("mark drop", `✕${line.drops}`));
+  if (line.got) row.append(part("mark got", `✓${line.got}`));
+  for (const answer of answersOf(line)) row.append(answer);
   row.append(code);
   row.title = line.t;
   row.onclick = () => goTo(place + 1);
 }
 
-for (const line of data.lines) line.drops = line.g.filter((text) => text.split(" ")[1] === "drop").length;
+// The answers to `quiet` and `cover`, as marks of a line.
+function answersOf(line) {
+  const coverage = coverageOf(line), quiet = line.g.find((told) => kindOf(told) === "quiet");
+  if (quiet) return [quiet.endsWith(" quiet yes") ? part("mark got", "yes") : part("mark drop", "no")];
+  if (!coverage) return [];
+  const { asked, covered } = coverage;
+  return [part(covered.length < asked.length ? "mark drop" : "mark got", `${covered.length} of ${asked.length}`)];
+}
+
+// Of a line `cover` the sub-domain and the BFR-ids that it asks for, and those that the answer lists; null for another line.
+function coverageOf(line) {
+  const told = line && line.g.find((text) => kindOf(text) === "cover");
+  if (!told) return null;
+  const numbers = (word) => [...new Set(word.split(",").filter((number) => number !== "-").map(Number))];
+  const words = line.t.trim().split(/ +/);
+  return { subdomain: Number(words[2]), asked: numbers(words[4]), covered: numbers(told.split(" ")[2]) };
+}
+
+const kindOf = (told) => told.split(" ")[1];
+const countOf = (line, kind) => line.g.filter((told) => kindOf(told) === kind).length;
+
+for (const line of data.lines) {
+  line.drops = countOf(line, "drop");
+  line.got = countOf(line, "got");
+}
 
 // ---------------------------------------------------------------- the map
 
@@ -397,24 +431,42 @@ function showBadge(it, queue) {
   it.count.textContent = packets || queue.length;
 }
 
+// What is written below a router for a line of the report that is about it.
+const FATES = {
+  got: (words) => `#${words[3]} got ${words[4]}`,
+  drop: (words) => `#${words[3]} ${words[4]} ${words[5]}`,
+  up: (words) => `up to ${words[3]}`,
+  down: (words) => `down to ${words[3]}`,
+};
+
+// Routers that a line `cover` asks for: green where they are covered, red where they aren't.
+function addCoverage(fates, coverage) {
+  if (!coverage) return;
+  for (const { name, own } of data.routers) {
+    const id = own[coverage.subdomain], isCovered = coverage.covered.includes(id);
+    if (!coverage.asked.includes(id)) continue;
+    fates.set(name, { got: Number(isCovered), drop: Number(!isCovered), up: 0, down: 0, text: [isCovered ? "covered" : "not covered"] });
+  }
+}
+
 function updateRouters(line) {
   const fates = new Map();
-  for (const text of line ? line.g : []) {
-    const words = text.split(" ");
-    if (!fates.has(words[2])) fates.set(words[2], { got: 0, drop: 0, text: [] });
+  for (const words of (line ? line.g : []).map((text) => text.split(" ")).filter(([, kind]) => FATES[kind])) {
+    if (!fates.has(words[2])) fates.set(words[2], { got: 0, drop: 0, up: 0, down: 0, text: [] });
     const fate = fates.get(words[2]);
     fate[words[1]]++;
-    fate.text.push(words[1] === "got" ? `#${words[3]} got ${words[4]}` : `#${words[3]} ${words[4]} ${words[5]}`);
+    fate.text.push(FATES[words[1]](words));
   }
+  addCoverage(fates, coverageOf(line));
   const differing = differs();
   data.routers.forEach((router, place) => {
     const { group, fate } = routerElements[place], told = fates.get(router.name);
     const names = ["router", router.plain && "plain", router.overload && "overload", differing.has(place) && "differs"];
-    if (told) names.push(told.drop ? "drop" : "got");
+    if (told) names.push(told.drop ? "drop" : told.got ? "got" : null);
     if (selected && selected.router === place) names.push("on");
     group.setAttribute("class", names.filter(Boolean).join(" "));
     fate.textContent = told ? short(told.text[0]) + (told.text.length > 1 ? ` +${told.text.length - 1}` : "") : "";
-    fate.setAttribute("fill", told && told.drop ? "#c9302c" : "#1d7436");
+    fate.setAttribute("fill", told && (told.drop || told.down) ? "#c9302c" : "#1d7436");
   });
 }
 
@@ -468,14 +520,23 @@ function groupTitle(all, rank) {
   return rank === 0 ? `${many} of ${data.routers.length} routers agree` : `${many} differ`;
 }
 
+// What a router holds: the tables of show_router, or else its LSDB.
+function showRouter(box, heading, place) {
+  heading(nameOf(place));
+  const add = (kind, text) => box.append(Object.assign(document.createElement(kind), { textContent: text }));
+  if (state.tables[place] !== undefined) {
+    add("pre", data.tables.texts[state.tables[place]]);
+    return;
+  }
+  add("p", data.tables.why);
+  box.append(listOf(data.databases[state.databases[place]].map(entryText), 300));
+}
+
 function showDatabases() {
   const all = groups(), box = $("databases");
   box.replaceChildren();
   const heading = (text) => box.append(Object.assign(document.createElement("h3"), { textContent: text }));
-  if (selected && selected.router !== undefined) {
-    heading(`LSDB of ${nameOf(selected.router)}`);
-    box.append(listOf(data.databases[state.databases[selected.router]].map(entryText), 300));
-  }
+  if (selected && selected.router !== undefined) showRouter(box, heading, selected.router);
   all.forEach(([database, places], rank) => {
     heading(`${groupTitle(all, rank)}, ${data.databases[database].length} LSPs`);
     const chips = document.createElement("div");
@@ -515,10 +576,15 @@ function updateLists(line) {
   toldList.set((line ? line.g : []).filter((text) => router === null || text.split(" ")[2] === router));
   sentList.set(choose(sent, $("data-only").checked));
   wayList.set(choose(way, $("way-data-only").checked));
-  const drops = line ? line.drops : 0;
-  $("told-count").textContent = line ? `${line.g.length - drops} delivered, ${drops} dropped` : "";
+  $("told-count").textContent = line ? countText(line) : "";
   $("sent-count").textContent = `${sentList.items.length} frames` + chosenText();
   $("way-count").textContent = `${wayList.items.length} frames` + chosenText();
+}
+
+// How many BFR-ids a line delivered and dropped; of interfaces that its hellos changed only those that there are.
+function countText(line) {
+  const changes = ["up", "down"].map((kind) => [countOf(line, kind), kind]).filter(([count]) => count);
+  return [`${line.got} delivered`, `${line.drops} dropped`, ...changes.map(([count, kind]) => `${count} ${kind}`)].join(", ");
 }
 
 function chosenText() {
@@ -579,6 +645,8 @@ const KIND_COLOURS = {
   inject: "#1d5fa8", settle: "#aab6c2", send: "#aab6c2", take: "#7d8995", lose: "#c9302c",
   down: "#c9302c", up: "#2a9d4a", restart: "#7b4ab8", tick: "#d9c58f", again: "#d98e04",
   relabel: "#1f8a8a", leave: "#8a5a1f", join: "#5a8a1f",
+  hello: "#aab6c2", greet: "#7d8995", forget: "#c9302c", break: "#c9302c", mend: "#2a9d4a",
+  quiet: "#1b2733", cover: "#1b2733",
 };
 
 function drawBar() {
@@ -608,7 +676,7 @@ function drawColumn(pen, line, x, step, tall) {
   const base = 52, wide = Math.min(width, 26), left = x + (width - wide) / 2;
   pen.fillStyle = KIND_COLOURS[kind] || "#e6e9ed";
   pen.fillRect(left, base - tall, wide, Math.max(tall, 2));
-  if (line.g.length > line.drops) {
+  if (line.got) {
     pen.fillStyle = "#2a9d4a";
     pen.fillRect(left, 54, wide, 4);
   }
@@ -630,6 +698,8 @@ function barByHand() {
 
 // ---------------------------------------------------------------- where we are
 
+const BEFORE = `before the first line: each router has only its own LSP${data.down.length ? ", and all interfaces are down" : ""}`;
+
 let shownLine = 0, selected = null, timer = null;
 
 function goTo(number) {
@@ -643,7 +713,7 @@ function goTo(number) {
 function update() {
   const line = shownLine ? data.lines[shownLine - 1] : null;
   $("line-number").value = shownLine;
-  $("line-text").textContent = line ? line.t : "before the first line: each router has only its own LSP";
+  $("line-text").textContent = line ? line.t : BEFORE;
   updateMap(line);
   updateLists(line);
   showDatabases();

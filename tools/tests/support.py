@@ -13,7 +13,9 @@ from common import places
 
 EXAMPLES = os.path.join(places.ROOT, "examples")
 INDEPENDENT = os.path.join(places.TOOLS, "independent", "replay.py")
-REPLAYS = sorted(name for name in os.listdir(EXAMPLES) if name.startswith("replay-"))
+# the examples of the commands that run a schedule; `replay` and those that have lines of their own
+REPLAYS = sorted(name for name in os.listdir(EXAMPLES) if name.startswith(("replay-", "handshake-", "check-")))
+PLAIN = [name for name in REPLAYS if name.startswith("replay-")]
 # those whose packets have labels of the domain file alone, so that captures can be read without their schedules
 UNMOVED = [name for name in REPLAYS if name != "replay-relabel"]
 SCRATCH = tempfile.TemporaryDirectory()
@@ -45,16 +47,20 @@ class Replay:
         self.files = [self.domain, self.schedule, self.report, self.frames]
 
 
+def command_of(name):
+    """The command of an example."""
+    return read(os.path.join(EXAMPLES, name, "words")).split()[0]
+
+
 @functools.cache
 def replayed(name):
-    """Replays an example; also one whose schedule is rejected."""
+    """Runs an example by its command; also one whose schedule is rejected."""
     folder = os.path.join(SCRATCH.name, name)
     os.makedirs(folder)
     for part in ("domain.toml", "schedule"):
         shutil.copyfile(os.path.join(EXAMPLES, name, part), os.path.join(folder, part))
-    done = subprocess.run(
-        [program(), "replay", "domain.toml", "schedule", "frames"], cwd=folder, capture_output=True, timeout=120
-    )
+    words = [program(), command_of(name), "domain.toml", "schedule", "frames"]
+    done = subprocess.run(words, cwd=folder, capture_output=True, timeout=120)
     assert done.returncode in (0, 4), (name, done.returncode, done.stderr)
     with open(os.path.join(folder, "report"), "wb") as file:
         file.write(done.stdout)

@@ -3,7 +3,7 @@ import os
 import random
 import unittest
 
-from support import EXAMPLES, REPLAYS, UNMOVED, replayed, write
+from support import EXAMPLES, REPLAYS, UNMOVED, read, replayed, write
 from common import capture, course, domain, frames, texts, tree
 from common.domain import independent
 from common.trouble import Trouble
@@ -35,23 +35,39 @@ def ring(chance, count, plain):
     return text
 
 
-def replay_of(text, schedule):
+def replay_of(text, schedule, run=independent.Replay):
     """The parts of a replay by the independent program, and that program's world at its end."""
     confs = independent.read_domain(text.encode())
-    world = independent.Replay(confs)
+    world = run(confs)
     world.run(schedule.encode().splitlines(keepends=True))
     report = texts.report_of("report", "".join(line + "\n" for line in world.report))
     records = capture.read_capture(write("course.pcap", bytes(world.cap)))
     return (domain.Domain(confs), schedule.splitlines(), report, records), world
 
 
+def accepted(world, lines):
+    """The lines that a run of the independent program accepts."""
+    found = []
+    for line in lines:
+        try:
+            world.do(world.parse(line.encode().split(b" ")), 1)
+            found.append(line)
+        except independent.Refused:
+            pass
+    return found
+
+
 class TheCourse(unittest.TestCase):
-    def same(self, text, schedule):
+    def same(self, text, schedule, run=independent.Replay):
         """The course of a replay ends with what the independent program has in flight; its report."""
-        found, world = replay_of(text, schedule)
+        found, world = replay_of(text, schedule, run)
         path = course.Course(*found)
         for way, queue in path.queues.items():
             self.assertEqual([item.record.octets for item in queue], [octets for octets, _ in world.q[way]])
+        if isinstance(world, course.independent_hellos.Handshake):
+            self.assertEqual(path.has_hellos, any(word in schedule for word in ("settle", "hello", "break")))
+            for way, queue in path.hellos.items():
+                self.assertEqual([item.record.octets for item in queue], world.hellos[way])
         return found[2]
 
     def test_a_micro_loop(self):
@@ -86,6 +102,36 @@ class TheCourse(unittest.TestCase):
                 else:
                     lines.append(f"settle {chance.choice((1, 2, 3, 30))}")
             self.same(ring(chance, count, plain), "\n".join([*lines, "settle 30"]) + "\n")
+
+    def test_hellos_at_random(self):
+        """Hellos that arrive, are lost and overtake each other, circuits that break, and holding times that end."""
+        chance, seen = random.Random(3), set()
+        for _ in range(40):
+            count = chance.randint(3, 6)
+            lines = []
+            for _ in range(chance.randint(3, 40)):
+                a = chance.randrange(count)
+                end = f"r{a} r{(a + chance.choice((1, -1))) % count}"
+                ids = ",".join(map(str, sorted(chance.sample(range(1, count + 1), 2))))
+                inject = f"inject r0 0 64 {ids} 8 0 00"
+                lines += chance.choice((
+                    [f"settle {chance.choice((1, 2, 9))}"], [inject], [f"hello {end}"] * 2, [f"hello {end}", f"forget {end} 0"],
+                    [f"greet {end} {chance.choice((0, 0, 1))}"], [f"break {end}"], [f"mend {end}"], [f"tick r{a}"] * 30,
+                    [f"restart r{a}"], [f"lose {end} 0"],
+                ))
+            text, run = ring(chance, count, set()), course.independent_hellos.Handshake
+            lines = accepted(run(independent.read_domain(text.encode())), lines) + chance.choice(([], ["settle 2"], ["up r0 r1"]))
+            seen |= {told.kind for told in self.same(text, "\n".join(lines) + "\n", run).told}
+        self.assertEqual(seen, {"up", "down", "got", "drop"})
+
+    def test_answers(self):
+        """What `quiet` and `cover` answer belongs to its line, also after a cut and in a run that ends with a rejected line."""
+        cut = "quiet\nsettle 9\nquiet\ncover r0 0 64 1,2,5 8 0\ndown r0 r1\nquiet\ndown r1 r0\nsettle 9\ncover r0 0 64 3,4 2 0\n"
+        report = self.same(ring(random.Random(1), 5, {1}), f"{cut}cover r0 0 64 0 2 0\n", course.independent_quiet.Check)
+        texts_of = [told.text.split(" ", 2)[1:] for told in report.told]
+        self.assertEqual([kind for kind, _ in texts_of], ["quiet", "quiet", "cover", "quiet", "cover"])
+        self.assertEqual([text for _, text in texts_of[1:]], ["yes", "1,5", "no half r0 r1", "4"])
+        self.assertEqual(report.end, "refused 10 event 7 Edge 2 IdZero")
 
     def test_no_lines(self):
         empty, _ = replay_of(ring(random.Random(1), 4, set()), "")
@@ -131,6 +177,22 @@ class TheCourse(unittest.TestCase):
             (it, schedule, report, records[:10] + records[11:]),
             (parts("replay-pair")[0], schedule, report, records),
             (it, schedule, texts.Report(report.told[:-1], report.end), records),
+        ):
+            with self.assertRaises(Trouble):
+                course.Course(*wrong)
+
+    def test_other_hellos_and_answers(self):
+        """A hello that isn't the one that was sent, an interface or an answer that the report has otherwise."""
+        it, schedule, report, records = parts("handshake-fibre")
+        other = capture.Record(1, records[0].second, records[0].octets[:-1] + b"\x09")
+        fewer = texts.Report([told for told in report.told if told.text != "59 down site-1 hub-1"], report.end)
+        checked = parts("check-television")
+        changed = texts.report_of("report", read(replayed("check-television").report).replace("cover 4,7,8", "cover 4,8"))
+        for wrong in (
+            (it, schedule, report, [other, *records[1:]]),
+            (it, schedule, fewer, records),
+            (it, [line.replace("break", "#") for line in schedule], report, records),
+            (*checked[:2], changed, checked[3]),
         ):
             with self.assertRaises(Trouble):
                 course.Course(*wrong)

@@ -39,13 +39,20 @@ WARNED = [
     (None, ROUTER_E, "E has no link"),
     (None, ROUTER_E + ROUTER_F + LINK.format("E", "F"), "no link leads from E, F to the other 4 routers"),
 ]
-# A second line of a schedule in the ring, and the message.
+# A second line of a schedule in the ring, and the message; with another command than `replay`, that too.
 LINES = [
     ("take A B 3", "there is no frame 3; 0 are in flight there"),
     ("inject A 0 512 3 8 0 00", "the router doesn't support that BitString length"),
     ("inject A 0 64 0 8 0 00", "0 is no BFR-id"),
     ("up A B", "`up` needs an interface that is down"),
     ("jump A", "an unknown first word"),
+    ("join A 0", "`leave` needs a sub-domain that the router is in"),
+    ("relabel A 0 64 100", "a label of the range is in a range that the router has or had"),
+    ("greet A B 1", "there is no hello 1; 0 are in flight there", "handshake"),
+    ("mend A B", "`hello` and `break` need a circuit that works, `mend` a broken one", "handshake"),
+    ("up A B", "an unknown first word", "handshake"),
+    ("cover A 0 64 0 8 0", "0 is no BFR-id", "check"),
+    ("quiet A", "an unknown first word, or a wrong number of words", "check"),
 ]
 
 
@@ -94,12 +101,12 @@ class Explained(unittest.TestCase):
     def test_the_script(self):
         """The report and the status are the program's, and what is wrong goes to standard error."""
         ring = write("script.toml", RING)
-        for text, said in LINES:
+        for text, said, *command in LINES:
             path = write("script.schedule", f"settle 4\n{text}\n")
-            done = run_script("replay", ring, path, scratch("script.pcap"))
+            done = run_script(*(command or ["replay"]), ring, path, scratch("script.pcap"))
             with self.subTest(text):
                 self.assertEqual(done.returncode, 4)
-                self.assertTrue(done.stdout.startswith("refused 2 "), done.stdout)
+                self.assertTrue(done.stdout.splitlines()[-1].startswith("refused 2 "), done.stdout)
                 self.assertTrue(done.stderr.startswith(f"bier_domain: {path}:2: `{text}`: {said}"), done.stderr)
         done = run_script("replay", changed("script.bad", 'b = "B"', 'b = "Z"'), ring, scratch("script.pcap"))
         self.assertEqual((done.returncode, done.stdout), (3, "refused conf 6 Reference link[0].b\n"))

@@ -4,8 +4,8 @@ import struct
 import subprocess
 import unittest
 
-from support import EXAMPLES, INDEPENDENT, REPLAYS, replayed, scratch, tool, write
-from common import capture
+from support import EXAMPLES, INDEPENDENT, REPLAYS, command_of, needs, places, replayed, scratch, tool, write
+from common import capture, frames
 
 # Packets in tunnels in the domain FORK, computed by hand: A to C by way of P, which knows no BIER, on both links; A to D.
 TUNNELS = [
@@ -15,10 +15,10 @@ TUNNELS = [
 ]
 
 
-def modelled(folder, schedule=None):
+def modelled(folder, schedule=None, command="replay"):
     """The report and the capture that the independent program writes."""
     frames = scratch("independent.pcap")
-    words = [INDEPENDENT, "replay", os.path.join(folder, "domain.toml"), schedule or os.path.join(folder, "schedule"), frames]
+    words = [INDEPENDENT, command, os.path.join(folder, "domain.toml"), schedule or os.path.join(folder, "schedule"), frames]
     done = subprocess.run(words, capture_output=True, text=True)
     with open(frames, "rb") as file:
         return done.returncode, done.stdout, file.read()
@@ -30,7 +30,7 @@ class Model(unittest.TestCase):
         for name in REPLAYS:
             folder = os.path.join(EXAMPLES, name)
             with self.subTest(name):
-                status, report, frames = modelled(folder)
+                status, report, frames = modelled(folder, command=command_of(name))
                 with open(os.path.join(folder, "report")) as file:
                     self.assertEqual(report, file.read())
                 with open(os.path.join(folder, "status")) as file:
@@ -47,6 +47,33 @@ class Model(unittest.TestCase):
         records = [record.octets.hex() for record in capture.read_capture(write("fork.pcap", frames))]
         for tunnel in TUNNELS:
             self.assertIn(tunnel.replace(" ", ""), records)
+
+    def test_coverage(self):
+        """The example of coverage with a packet after each question: its deliveries are the BFR-ids that `cover` lists."""
+        folder, asked, lines = os.path.join(EXAMPLES, "check-television"), [], []
+        with open(os.path.join(folder, "schedule")) as file:
+            for line in file.read().splitlines():
+                lines += [line] + ([line.replace("cover", "inject") + " 00", "settle 9"] if line.startswith("cover") else [])
+        report = modelled(folder, write("covered", "\n".join(lines) + "\n"), "check")[1].splitlines()
+        got = {}
+        for _, kind, *words in (line.split() for line in report[:-1]):
+            if kind == "cover":
+                asked.append([int(bfr_id) for bfr_id in words[0].split(",")])
+            elif kind == "got":
+                got.setdefault(int(words[1]), []).append(int(words[2]))
+        # The schedule has a packet of its own, after the question on the same cut.
+        got = {number: sorted(ids) for number, ids in got.items()}
+        own = next(number for number in got if got[number] == got.get(number - 1) == [4, 5, 8, 9, 10, 11, 12])
+        self.assertEqual([got[number] for number in sorted(got) if number != own], asked)
+
+
+class Compare(unittest.TestCase):
+    def test_few_runs(self):
+        """The independent program compared with itself, by each command."""
+        for command in ("replay", "replay-ng", "handshake", "check", "node", "topo"):
+            done = tool(os.path.join("independent", "compare"), INDEPENDENT, "1", "4", command)
+            with self.subTest(command):
+                self.assertTrue(done.stdout.startswith("bad 0 of 4 "), done.stdout + done.stderr)
 
 
 # The pair of routers, and what B hears of A: its first link state PDU, twice in five seconds, or the second one much later.
@@ -112,6 +139,36 @@ class Captures(unittest.TestCase):
             done = tool("check-capture", it.frames, it.domain, it.schedule)
             with self.subTest(name):
                 self.assertEqual((done.returncode, done.stderr), (0, ""), done.stdout)
+
+    @needs("tshark", "tshark")
+    def test_hellos(self):
+        """tshark dissects each hello of the example as a point-to-point hello of three TLVs, and the adjacency's states in order."""
+        path = os.path.join(EXAMPLES, "handshake-fibre", "frames")
+        fields = ("isis.type", "isis.hello.clv.type", "isis.hello.adjacency_state", "_ws.malformed", "_ws.expert.severity")
+        words = ["tshark", "-r", path, "-Y", "isis.hello", "-T", "fields", *(it for field in fields for it in ("-e", field))]
+        cells = [line.split("\t") for line in subprocess.run(words, capture_output=True, text=True).stdout.splitlines()]
+        records = capture.read_capture(path)
+        self.assertEqual(len(cells), sum(frames.is_hello(record.octets) for record in records))
+        self.assertEqual({(kind, codes, *faults) for kind, codes, _, *faults in cells}, {("17", "1,129,240", "", "")})
+        # In the first round ten interfaces are down, in the second each router knows its neighbors.
+        self.assertEqual("".join(state for _, _, state, *_ in cells)[:30], "2" * 10 + "1" * 10 + "0" * 10)
+
+    @needs("tshark", "tshark")
+    def test_hellos_of_frr(self):
+        """The hellos of routers that aren't this project's: what the tools read is what tshark reads."""
+        done = tool("check-capture", os.path.join(places.TOOLS, "tests", "frr", "capture.pcap"))
+        self.assertEqual(done.returncode, 0, done.stdout)
+        self.assertIn("112 point-to-point hellos with a three-way handshake, 0 that tshark reads otherwise", done.stdout)
+
+    def test_wrong_hellos(self):
+        """A hello whose TLV 240 ends early."""
+        if "isn't installed" in tool("check-capture", replayed("replay-pair").frames).stderr:
+            self.skipTest("tshark isn't installed (Debian: tshark)")
+        octets = bytearray(next(it.octets for it in capture.read_capture(replayed("handshake-fibre").frames)))
+        octets[-6] = 6  # the length of TLV 240, beyond the end
+        done = tool("check-capture", write("wrong.pcap", capture.write_capture([octets])))
+        self.assertEqual(done.returncode, 1)
+        self.assertIn("1 IS-IS frames, 1 malformed", done.stdout)
 
     def test_wrong_captures(self):
         """A label that its receiver doesn't have, in and out of a tunnel."""

@@ -26,6 +26,12 @@ class Memory(unittest.TestCase):
         self.each_refused("replay", os.path.join(EXAMPLES, "ring", "domain.toml"), write("memory.schedule", SCHEDULE), "FRAMES")
 
     @needs("cc", "gcc")
+    def test_hellos_and_questions(self):
+        pair, lines = os.path.join(EXAMPLES, "pair", "domain.toml"), "settle 3\ninject A 0 64 2 8 0 00ff\ntick B\n"
+        self.each_refused("handshake", pair, write("memory.hellos", lines + "break A B\n"), "FRAMES")
+        self.each_refused("check", pair, write("memory.questions", lines + "quiet\ncover A 0 64 1,2 8 0\n"), "FRAMES")
+
+    @needs("cc", "gcc")
     def test_node(self):
         example = os.path.join(EXAMPLES, "node-television")
         self.each_refused("node", os.path.join(example, "domain.toml"), "west-4", os.path.join(example, "capture.pcap"), "FRAMES")

@@ -6,7 +6,7 @@ import subprocess
 import sys
 import unittest
 
-from support import EXAMPLES, INDEPENDENT, REPLAYS, needs, program, read, replayed, scratch, tool, write
+from support import EXAMPLES, INDEPENDENT, PLAIN, REPLAYS, needs, program, read, replayed, scratch, tool, write
 from common import capture, domain, places
 
 sys.path.insert(0, os.path.dirname(INDEPENDENT))
@@ -124,7 +124,7 @@ class Readers(unittest.TestCase):
 
     def test_written(self):
         """What `replay-ng` writes has the frames of `replay`, and each has the interface of its sender."""
-        for name in REPLAYS:
+        for name in PLAIN:
             with self.subTest(name):
                 it, path = replayed(name), scratch(f"{name}.pcapng")
                 words = [program(), "replay-ng", it.domain, it.schedule, path]

@@ -122,6 +122,19 @@ class Picture(unittest.TestCase):
         self.assertEqual(done.returncode, 1)
         self.assertIn("--schedule", done.stderr)
 
+    def test_hellos_and_cuts(self):
+        """A link that hellos brought down, with and without the schedule; the other way round a packet still arrives."""
+        it = replayed("handshake-fibre")
+        for words in ([], ["--schedule", it.schedule]):
+            for injection, wanted in (("1", []), ("4", []), ("6", ["\\ndown"]), ("7", [])):
+                dot = drawn(it.domain, it.report, it.frames, injection, *words)
+                self.assertEqual(re.findall(r'label="10(.*?down.*?)"', dot), wanted)
+            self.assertIn("dropped 11,12: lost, line 57", drawn(it.domain, it.report, it.frames, "4", *words))
+        it = replayed("check-television")
+        dot = drawn("--schedule", it.schedule, it.domain, it.report, it.frames, "1")
+        self.assertIn("dropped 6,7: none, line 80", dot)
+        self.assertEqual(len(re.findall(r'label="10(.*?down.*?)"', dot)), 1)
+
     @needs("dot", "graphviz")
     def test_drawing(self):
         it = replayed("replay-television")

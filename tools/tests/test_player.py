@@ -2,13 +2,14 @@
 import base64
 import html
 import json
+import os
 import re
 import subprocess
 import tempfile
 import unittest
 
 from support import REPLAYS, needs, program, replayed, scratch, tool, write
-from common import capture
+from common import capture, tables
 
 TRIES = 3  # Chromium may fail to start where a machine is busy
 
@@ -144,6 +145,42 @@ class Page(unittest.TestCase):
         order = lambda heights: sorted(range(len(heights)), key=lambda place: (round(heights[place], 2), place))
         self.assertEqual(order([-y / 1.5 for y in pictured]), order([y - max(shown) for y in shown]))
 
+    def test_tables(self):
+        """Of a router that is clicked the page has the tables of show_router after each line, or why it has none."""
+        it = replayed("replay-ring")
+        without = scratch("without.html")
+        done = tool("player", *it.files, "-o", without, env={"SHOW_ROUTER": "/nowhere"})
+        self.assertEqual((done.returncode, done.stderr), (0, ""))
+        with open(without) as file:
+            self.assertIn("show_router isn't built", data_of(file.read())["tables"]["why"])
+        if not os.access(tables.program(), os.X_OK):
+            self.skipTest("show_router isn't built")
+        data = data_of(page("replay-ring")[0])
+        self.assertEqual(len(data["tables"]["lines"]), len(data["lines"]) + 1)
+        shown = {}
+        for number, line in enumerate(data["tables"]["lines"]):
+            shown.update(line)
+            if number in (9, 10):
+                text = data["tables"]["texts"][shown[1]]
+                self.assertTrue(text.startswith("IS-IS link-state database of B\n"))
+                self.assertEqual("\n        1  C     Down " in text, number == 10)
+                self.assertIn("\n\nBIRT of B\n", text)
+
+    @needs("chromium", "chromium")
+    def test_tables_in_chromium(self):
+        """A click on a router shows its tables, or its LSDB and why there are no tables."""
+        text, _ = page("replay-ring")
+        script = """
+          document.querySelectorAll(".router")[1].dispatchEvent(new MouseEvent("click", { bubbles: true }));
+          steps.text = [...document.querySelectorAll("#databases > :not(.chips)")].map((it) => it.textContent);
+        """
+        dom, console = opened(with_script(text, "tables.html", script), "#line=10&tab=databases")
+        self.assertEqual(console, [])
+        shown = written(dom)["text"]
+        self.assertEqual(shown[0], "B")
+        wanted = "IS-IS link-state database of B" if os.access(tables.program(), os.X_OK) else "show_router isn't built"
+        self.assertTrue(shown[1].startswith(wanted), shown[1])
+
     def test_no_lines(self):
         it, empty, report, frames = replayed("replay-pair"), write("empty", ""), scratch("empty.report"), scratch("empty.pcap")
         with open(report, "wb") as file:
@@ -234,6 +271,40 @@ class Page(unittest.TestCase):
         self.assertEqual(len(re.findall(r'class="link down"', dom)), 1)
         self.assertIn("3 of 4 routers agree", dom)
         self.assertIn("B.00-00: sequence 2, others sequence 1", dom)
+
+    @needs("chromium", "chromium")
+    def test_hellos_in_chromium(self):
+        """Interfaces that begin down, come up and go down by hellos; a hello, field by field."""
+        _, path = page("handshake-fibre")
+        for line, down, shown in (
+            (0, 10, "and all interfaces are down"),
+            (2, 0, "0 delivered, 0 dropped, 10 up"),
+            (59, 1, "0 delivered, 0 dropped, 1 down"),
+            (59, 1, ">down to hub-1</text>"),
+            (64, 2, "64 down hub-1 site-1"),
+        ):
+            dom, console = opened(path, f"#line={line}")
+            self.assertEqual(console, [])
+            self.assertEqual(len(re.findall(r'class="link down"', dom)), down, line)
+            self.assertIn(shown, dom)
+        dom, console = opened(path, "#line=2&frame=11")
+        self.assertEqual(console, [])
+        self.assertIn("Frame 11: hub-1 → site-1, hello, Initializing, hears site-1", dom)
+        fields = re.findall(r'<span class="name"[^>]*>([^<]*)</span><span class="value">([^<]*)</span>', dom)
+        wanted = {("Source", "hub-1"), ("Holding time", "30"), ("TLV 240, adjacency", "Initializing"), ("Neighbor", "site-1")}
+        self.assertLessEqual(wanted, set(fields))
+
+    @needs("chromium", "chromium")
+    def test_coverage_in_chromium(self):
+        """At a question about coverage the routers that are covered are green, and those that aren't red."""
+        _, path = page("check-television")
+        for line, covered, missed, mark in ((7, 9, 0, "9 of 9"), (9, 5, 4, "5 of 9"), (78, 7, 2, "7 of 9")):
+            dom, console = opened(path, f"#line={line}")
+            self.assertEqual(console, [])
+            classes = [words.split() for words in re.findall(r'<g transform="[^"]*" class="(router[^"]*)"', dom)]
+            found = [sum(name in words for words in classes) for name in ("got", "drop")]
+            self.assertEqual(found, [covered, missed], line)
+            self.assertIn(f">{mark}</span>", dom)
 
 
 if __name__ == "__main__":

@@ -12,6 +12,8 @@ _bier_domain() {
     commands=(
         'replay:a domain over a schedule'
         'replay-ng:the same with a pcapng capture'
+        'handshake:a domain whose interfaces follow hellos'
+        'check:a domain with questions about coverage'
         'node:one router on a capture'
         'hop:what one router does with a packet'
         'headers:the BIER headers of a capture'
@@ -25,7 +27,7 @@ _bier_domain() {
     case $words[2]:$CURRENT in
         node:4) _bier_domain_routers ;;
         topo:4) compadd 1 2 ;;
-        replay:[345]|replay-ng:[345]|node:[356]|hop:3|headers:3|topo:3) _files ;;
+        replay:[345]|replay-ng:[345]|handshake:[345]|check:[345]|node:[356]|hop:3|headers:3|topo:3) _files ;;
     esac
 }
 
