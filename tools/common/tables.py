@@ -5,7 +5,8 @@ import subprocess
 
 from . import places
 
-SECONDS = 120  # for a replay that is too large for its page
+SECONDS = 30  # for a replay that is too large for its page
+MOST = 100  # routers whose tables a page holds
 
 
 def program():
@@ -31,6 +32,8 @@ def followed(domain, schedule):
 def page_tables(it, domain, schedule):
     """The tables for a page: each text once, and for each line from 0 the routers with another text than before, as their index and
     the index of the text."""
+    if len(it.routers) > MOST:
+        return {"why": f"the domain has more than {MOST} routers, so only LSDBs are shown: ask show_router for a router's tables"}
     found, why = followed(domain, schedule)
     if found is None:
         return {"why": why}
