@@ -14,6 +14,14 @@ const HEADERS: &str =
 const REPLAY: &str =
     "replay ring schedule frames | settle 4 / inject A 0 64 3 8 0 00ff / inject A 0 64 3 8 1 00ff / settle 4";
 
+// Two routers whose interfaces come up by hellos, and a packet.
+const HANDSHAKE: &str =
+    "handshake pair schedule frames | settle 3 / inject A 0 64 2 8 0 00ff / settle 1";
+
+// Questions before and after two routers agree, and a packet.
+const CHECK: &str =
+    "check pair schedule frames | quiet / settle 3 / quiet / cover A 0 64 1,2 8 0 / inject A 0 64 2 8 0 00ff / settle 1";
+
 // What the first router of two advertises, twice, five seconds apart.
 const NODE: &str = "node pair B capture frames | 100 A 105 A";
 
@@ -104,7 +112,7 @@ fn each_fails_in_turn(alloc: Global, work: &str) -> Option<[bool; 4]> {
 
 #[test]
 fn each_call_fails_in_turn(rt: HostRuntime) {
-    for work in [HOP, HEADERS, REPLAY, NODE] {
+    for work in [HOP, HEADERS, REPLAY, HANDSHAKE, CHECK, NODE] {
         assert!(rt;
             each_fails_in_turn(rt.alloc(), work) == Some([true; 4]),
             "at {work}"
