@@ -1,0 +1,5 @@
+use Rattle.live_stream.proofs.HelloRecords.{starts_so}
+use Rattle.live_stream.proofs.hello_stream.start.Goals as goal
+
+pub returns : goal.returns
+returns c = starts_so c.args.domain c.args.router c.in_ok-conf.conf c.in_ok-seat.seat c.in_ok-greeter.greeter c.in_ok-seat.ensures c.in_ok-conf.ensures.at c.in_ok-greeter.ensures
