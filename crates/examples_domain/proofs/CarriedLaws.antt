@@ -5,6 +5,7 @@ use Rattle.std.proofs.lemmas.Bool.{leb-true}
 use Rattle.wire_base.specs.declared.view.ViewNode.{ViewNode}
 use Rattle.wire_base.specs.model.Control.{Control}
 use Rattle.wire_base.specs.model.Hop.{has}
+use Rattle.wire_base.specs.model.OnFrame.{outer_ttl}
 use Rattle.wire_base.specs.model.View.{control_view}
 use Rattle.replay_text.specs.declared.event.Event.TheVariants.{Take}
 use Rattle.domain_model.specs.World.{WorldState}
@@ -12,7 +13,7 @@ use Rattle.domain_model.proofs.EachLaws.{each_got}
 use Rattle.laws_ledger.specs.Runs.{AreAllowed, unlined}
 use Rattle.laws_ledger.proofs.RunLaws.{nothing_done}
 use Rattle.laws_course.specs.Course.{own_node, IsCovered, HasAgreed, IsSteady, IsCarried}
-use Rattle.laws_course.proofs.OnceLaws.{small_fit}
+use Rattle.laws_course.proofs.TunnelLaws.{small_fit}
 use Rattle.examples_domain.specs.Branch.{branch_a, branch_b, branch_p, branch_c, branch, rest, at_rest, branch_view, begun, the_injection, enters, taken}
 use Rattle.examples_domain.proofs.BranchLaws.{rest_true}
 use Rattle.domain_model.specs.Run.{goes_on}
@@ -89,20 +90,20 @@ allowed = (
   ((omega arith, omega arith), refl, ((omega arith, omega arith), refl, ((omega arith, omega arith), refl, tt))),
 )
 
-few : length (control_view ingress) ≤ 255
+few : length (control_view ingress) ≤ outer_ttl
 few = let four = ap (λ (g : List ViewNode). length g) view_a in omega (arith, four)
 
 covered_own : IsCovered branch_a (control_view ingress) (own_node ingress) the_injection 1
 unfolding views_on_literals hops_on_literals runs_on_literals
-covered_own = record { reachable = inl refl; covers = record { count = 0; is = refl; enough = omega arith }; tunnels = small_fit (control_view ingress) _ (own_node ingress) few }
+covered_own = record { reachable = inl refl; covers = record { count = 0; is = refl; enough = omega arith; tunnels = small_fit (control_view ingress) _ (own_node ingress) few } }
 
 covered_b : IsCovered branch_a (control_view ingress) (own_node ingress) the_injection 2
 unfolding views_on_literals hops_on_literals runs_on_literals
-covered_b = record { reachable = inr (1, refl); covers = record { count = 1; is = refl; enough = omega arith }; tunnels = small_fit (control_view ingress) _ (own_node ingress) few }
+covered_b = record { reachable = inr (1, refl); covers = record { count = 1; is = refl; enough = omega arith; tunnels = small_fit (control_view ingress) _ (own_node ingress) few } }
 
 covered_c : IsCovered branch_a (control_view ingress) (own_node ingress) the_injection 4
 unfolding views_on_literals hops_on_literals runs_on_literals
-covered_c = record { reachable = inr (3, refl); covers = record { count = 1; is = refl; enough = omega arith }; tunnels = small_fit (control_view ingress) _ (own_node ingress) few }
+covered_c = record { reachable = inr (3, refl); covers = record { count = 1; is = refl; enough = omega arith; tunnels = small_fit (control_view ingress) _ (own_node ingress) few } }
 
 pub carried : (k : ℕ) → has the_injection.ids k ≡ true → IsCovered branch_a (control_view ingress) (own_node ingress) the_injection k → IsCarried begun enters taken ingress 1 k the_injection
 carried k named covered = record {

@@ -1,7 +1,8 @@
 -- Copies that are on their course, and copies that aren't.
-use Rattle.std.proofs.Common.{◌≡◌, inl, inr, ℕ, ◌+◌, ◌<◌, Some, refl, sym, subst, ◌∙◌, arith}
+use Rattle.std.proofs.Common.{◌≡◌, inl, inr, ℕ, ◌+◌, ◌<◌, ◌≤◌, length, Some, refl, sym, subst, ◌∙◌, arith}
 use Rattle.std.proofs.lemmas.Option.{same_Some}
 use Rattle.laws_course.specs.Course.{IsOnCourse}
+use Rattle.laws_course.proofs.TunnelLaws.{small_fit}
 use Rattle.examples_domain.specs.Branch.{branch, branch_a, branch_view, for_c}
 use Rattle.wire_base.specs.model.Walk.{dist}
 use Rattle.wire_base.specs.model.Graph.{owner, covers, node_bift}
@@ -9,6 +10,14 @@ use Rattle.wire_base.specs.model.Tight.{IsTight, tight_from, next_step}
 use Rattle.wire_base.specs.model.Supporting.{firsts}
 use Rattle.wire_base.specs.model.Choice.{candidates, choice, is_direct}
 use Rattle.wire_base.specs.model.HopCount.{hops, tunnel_links}
+use Rattle.wire_base.specs.model.OnFrame.{outer_ttl}
+
+nodes : length branch_view ≡ 4
+nodes = refl
+
+-- four nodes have no long tunnel
+few : length branch_view ≤ outer_ttl
+few = omega (arith, nodes)
 
 pub on_enters : IsOnCourse branch.routers branch_a branch_view 0 4 0 2 (for_c 255)
 unfolding dist owner covers node_bift tight_from next_step firsts candidates choice is_direct hops tunnel_links
@@ -23,7 +32,7 @@ on_enters = record {
   on = record { before = 10; after = 0; to = refl; on = refl; whole = refl };
   times = 0;
   path = refl;
-  covers = record { count = 0; is = refl; enough = omega arith };
+  covers = record { count = 0; is = refl; enough = omega arith; tunnels = small_fit branch_view _ _ few };
   links = (1, refl, omega arith);
 }
 
@@ -40,7 +49,7 @@ on_goes_on = record {
   on = record { before = 0; after = 0; to = refl; on = refl; whole = refl };
   times = 0;
   path = refl;
-  covers = record { count = 0; is = refl; enough = omega arith };
+  covers = record { count = 0; is = refl; enough = omega arith; tunnels = small_fit branch_view _ _ few };
   links = (0, refl, omega arith);
 }
 

@@ -7,6 +7,7 @@ use Rattle.wire_base.specs.declared.conf.End.{End}
 use Rattle.wire_base.specs.declared.conf.LinkConf.{LinkConf}
 use Rattle.wire_base.specs.declared.conf.RouterConf.{RouterConf}
 use Rattle.wire_base.specs.declared.conf.Level.TheVariants.{Two}
+use Rattle.wire_base.specs.declared.limits.TheConstants.{MOST_ENDS, MOST_ROUTERS}
 use Rattle.wire_base.specs.model.Configuration.{DomainConf, IsValid, sub_octets}
 use Rattle.domain_conf.specs.declared.fault.ConfFault.{ConfFault}
 use Rattle.domain_conf.specs.declared.bier.BierEntry.{BierEntry}
@@ -70,13 +71,15 @@ end_joins i l some = by (eqb l.a i) (eqb l.b i) refl refl some
     by false true a b some = inr (eqb-true l.b i b)
     by false false a b some = absurd (false≢true some)
 
-router_small : (n i : ℕ) → 3 ≤ n → n ≤ 250 → file.is_too_large (router (grown_links n) i) ≡ false
+router_small : (n i : ℕ) → file.is_too_large (router (grown_links n) i) ≡ false
 unfolding sub_octets
-router_small n i some few = or_from (ltb 64 (length (filter_map (end_of i) (grown_links n)))) _ (le-ltb 64 (length (filter_map (end_of i) (grown_links n))) (few_ends n i (end_of i) (end_joins i) some few)) refl
+router_small n i =
+    let few = few_ends n i (end_of i) (end_joins i) in
+    or_from (ltb MOST_ENDS (length (filter_map (end_of i) (grown_links n)))) _ (le-ltb MOST_ENDS (length (filter_map (end_of i) (grown_links n))) (omega (arith, few))) refl
 
 -- ---- the domain
 
-module _ (n : ℕ) (some : 3 ≤ n) (few : n ≤ 250) where
+module _ (n : ℕ) (some : 3 ≤ n) (few : n ≤ MOST_ROUTERS) where
   confs : List RouterConf
   confs = file.confs_from Two area (grown_entries n (grown_links n)) 0 (map router_entry (range_with_len 0 n))
 
@@ -86,7 +89,7 @@ module _ (n : ℕ) (some : 3 ≤ n) (few : n ≤ 250) where
 
   all_small : AllByRecursion (λ c. file.is_too_large c ≡ false) confs
   unfolding grown_routers
-  all_small = subst (AllByRecursion (λ c. file.is_too_large c ≡ false)) (sym confs_are) (all_map (λ c. file.is_too_large c ≡ false) (router (grown_links n)) (range_with_len 0 n) (λ i there. router_small n i some few))
+  all_small = subst (AllByRecursion (λ c. file.is_too_large c ≡ false)) (sym confs_are) (all_map (λ c. file.is_too_large c ≡ false) (router (grown_links n)) (range_with_len 0 n) (λ i there. router_small n i))
 
   same_domain : (let d : DomainConf = record { routers = confs; links = map link_of (map link_entry (grown_links n)) } in d) ≡ grown_domain n
   unfolding grown_domain

@@ -10,6 +10,7 @@ use Rattle.std.specs.Fmt.{decimal}
 use Rattle.std.specs.List.{AllByRecursion, list_all, range_with_len}
 use Rattle.std.specs.Str.{bytes_eq}
 use Rattle.std.specs.Str.Parse.{AllDigits}
+use Rattle.wire_base.specs.declared.limits.TheConstants.{MOST_ROUTERS}
 use Rattle.wire_base.specs.model.Configuration.{IsStation, is_name_octet}
 use Rattle.wire_base.specs.model.Lists.{AreApart}
 use Rattle.domain_conf.specs.LabelRanges.{same_labels, takes_label}
@@ -34,7 +35,7 @@ digits_name (d ∷ ds) all =
     (or_right _ _ (or_left _ _ (and_from _ _ (le-leb 48 d (omega (arith, h))) (le-leb d 57 (omega (arith, h))))))
     (digits_name ds all.1)
 
-router_is : (i : ℕ) → i < 250 → IsRouterEntry (router_entry i)
+router_is : (i : ℕ) → i < MOST_ROUTERS → IsRouterEntry (router_entry i)
 router_is i few = record {
   name = and_from _ _ (digits_name (decimal i) (decimal_is_IsNumeral i (omega (arith, few))).0.1) (le-leb (length (decimal i)) 31 (length-decimal-le 31 i (omega arith) (omega (arith, few)) (omega (arith, few))));
   system = record { long = refl; each = (omega arith, (omega arith, (omega arith, (omega arith, (omega arith, (omega arith, tt)))))) };
@@ -45,24 +46,24 @@ router_is i few = record {
   };
 }
 
-names_differ : (i j : ℕ) → i < 250 → j < 250 → eqb i j ≡ false → of_name (router_entry i) (router_entry j) ≡ false
+names_differ : (i j : ℕ) → i < MOST_ROUTERS → j < MOST_ROUTERS → eqb i j ≡ false → of_name (router_entry i) (router_entry j) ≡ false
 names_differ i j p q differ = bytes_differ (decimal j) (decimal i) (λ e. eqb-false i j differ (sym (decimal_injective j i (omega (arith, q)) (omega (arith, p)) e)))
 
-systems_differ : (i j : ℕ) → i < 250 → j < 250 → eqb i j ≡ false → of_system (router_entry i) (router_entry j) ≡ false
+systems_differ : (i j : ℕ) → i < MOST_ROUTERS → j < MOST_ROUTERS → eqb i j ≡ false → of_system (router_entry i) (router_entry j) ≡ false
 systems_differ i j p q differ = bytes_differ (system j).0 (system i).0 (λ e. let same : (j + 1) % 256 ≡ (i + 1) % 256 = cc in eqb-false i j differ (omega (arith, same, p, q)))
 
-prefixes_differ : (i j : ℕ) → i < 250 → j < 250 → eqb i j ≡ false → of_prefix (router_entry i) (router_entry j) ≡ false
+prefixes_differ : (i j : ℕ) → i < MOST_ROUTERS → j < MOST_ROUTERS → eqb i j ≡ false → of_prefix (router_entry i) (router_entry j) ≡ false
 prefixes_differ i j p q differ = bytes_differ (prefix j).0 (prefix i).0 (λ e. let same : j + 1 ≡ i + 1 = cc in eqb-false i j differ (omega (arith, same)))
 
 -- what holds of any two routers that differ holds of all
-module _ {X : Type 0} (n : ℕ) (few : n ≤ 250) (same : X → X → Bool) (f : ℕ → X) (differ : (i j : ℕ) → i < 250 → j < 250 → eqb i j ≡ false → same (f i) (f j) ≡ false) where
+module _ {X : Type 0} (n : ℕ) (few : n ≤ MOST_ROUTERS) (same : X → X → Bool) (f : ℕ → X) (differ : (i j : ℕ) → i < MOST_ROUTERS → j < MOST_ROUTERS → eqb i j ≡ false → same (f i) (f j) ≡ false) where
   all_apart : AreApart same (map f (range_with_len 0 n))
   all_apart = apart_map eqb same f (range_with_len 0 n) (λ i j here there d. let h = in_range 0 n i here in let k = in_range 0 n j there in differ i j (omega (arith, h, few)) (omega (arith, k, few)) d) (range_apart 0 n)
 
-all_made : {X : Type 0} (P : X → Type 0) (f : ℕ → X) (n : ℕ) → n ≤ 250 → ((i : ℕ) → i < 250 → P (f i)) → AllByRecursion P (map f (range_with_len 0 n))
+all_made : {X : Type 0} (P : X → Type 0) (f : ℕ → X) (n : ℕ) → n ≤ MOST_ROUTERS → ((i : ℕ) → i < MOST_ROUTERS → P (f i)) → AllByRecursion P (map f (range_with_len 0 n))
 all_made P f n few h = all_map P f (range_with_len 0 n) (λ i there. let k = in_range 0 n i there in h i (omega (arith, k, few)))
 
-routers_are : (n : ℕ) → n ≤ 250 → AreRouters (map router_entry (range_with_len 0 n))
+routers_are : (n : ℕ) → n ≤ MOST_ROUTERS → AreRouters (map router_entry (range_with_len 0 n))
 routers_are n few = record {
   each = all_made IsRouterEntry router_entry n few router_is;
   names = all_apart n few of_name router_entry names_differ;
@@ -76,13 +77,13 @@ routers_are n few = record {
 other_router : (i j : ℕ) (b : Bool) → eqb i j ≡ false → (eqb j i && b) ≡ false
 other_router i j b differ = rw (ne_eqb j i (λ e. eqb-false i j differ (sym e))) refl
 
-biers_are : (n : ℕ) → n ≤ 250 → AreBiers (kind ∷ []) (map bier_entry (range_with_len 0 n))
+biers_are : (n : ℕ) → n ≤ MOST_ROUTERS → AreBiers (kind ∷ []) (map bier_entry (range_with_len 0 n))
 biers_are n few = record {
   each = all_made (IsBierEntry (kind ∷ [])) bier_entry n few (λ i h. record { sd = omega arith; kind = refl; id = omega (arith, h) });
   once = all_apart n few of_sub bier_entry (λ i j p q differ. other_router i j _ differ);
 }
 
-labels_are : (n : ℕ) → n ≤ 250 → AreLabels (kind ∷ []) (map labels_entry (range_with_len 0 n))
+labels_are : (n : ℕ) → n ≤ MOST_ROUTERS → AreLabels (kind ∷ []) (map labels_entry (range_with_len 0 n))
 labels_are n few = record {
   each = all_made (IsLabelsEntry (kind ∷ [])) labels_entry n few (λ i h. record { range = record { max_si = omega arith; first = omega arith; last = omega arith }; kind = refl });
   lengths = all_apart n few same_labels labels_entry (λ i j p q differ. other_router i j _ differ);
@@ -106,7 +107,7 @@ made_station : (x y : ℕ) → x < 65536 → y < 65536 → IsStation (made_mac x
 unfolding made_mac
 made_station x y p q = record { octets_are = record { long = refl; each = (omega arith, (omega arith, (omega (arith, p), (omega arith, (omega (arith, q), (omega arith, tt)))))) }; one_station = refl }
 
-link_is : (n : ℕ) → n ≤ 250 → (l : Link) → IsGrownLink n l → IsLinkEntry n (link_entry l)
+link_is : (n : ℕ) → n ≤ MOST_ROUTERS → (l : Link) → IsGrownLink n l → IsLinkEntry n (link_entry l)
 link_is n few l is = record {
   a = is.a;
   b = is.b;
@@ -141,7 +142,7 @@ macs_differ l m apart =
     crossed : l.a ≡ m.b → l.b ≡ m.a → ⊥
     crossed p q = true≢false (sym (joins_crossed l m p q) ∙ apart)
 
-links_are : (n : ℕ) → n ≤ 250 → (links : List Link) → AreGrown n links → AreLinks n (map link_entry links)
+links_are : (n : ℕ) → n ≤ MOST_ROUTERS → (links : List Link) → AreGrown n links → AreLinks n (map link_entry links)
 links_are n few links are = record {
   each = all_map (IsLinkEntry n) link_entry links (λ l there. link_is n few l (all_in (IsGrownLink n) links l are.each there));
   once = apart_map joins_same same_routers link_entry links (λ l m here there apart. apart) are.once;
@@ -150,7 +151,7 @@ links_are n few links are = record {
 
 -- ---- all of them
 
-pub grown_entries_are : (n : ℕ) → 3 ≤ n → n ≤ 250 → AreEntries (grown_entries n (grown_links n))
+pub grown_entries_are : (n : ℕ) → 3 ≤ n → n ≤ MOST_ROUTERS → AreEntries (grown_entries n (grown_links n))
 grown_entries_are n some few =
     let count = length-map-range_with_len router_entry 0 n in
     record {

@@ -1,11 +1,10 @@
 -- The links of a grown domain: each joins two routers of it, no two join the same two, and few end at one router.
-use Rattle.std.proofs.Common.{◌≡◌, ℕ, ◌+◌, ◌-◌, ◌/◌, ◌%◌, ◌<◌, ◌≤◌, Bool, true, false, ◌&&◌, ◌||◌, ◌⊎◌, inl, inr, cond, eqb, List, [], ◌∷◌, ◌++◌, length, map, filter, filter_map, fold, Option, Some, None, is_some, refl, ap, subst, ◌∙◌, arith, length-append, append-nil}
+use Rattle.std.proofs.Common.{◌≡◌, ℕ, ◌+◌, ◌-◌, ◌/◌, ◌%◌, ◌<◌, ◌≤◌, Bool, true, false, ◌&&◌, ◌||◌, ◌⊎◌, inl, inr, cond, eqb, List, [], ◌∷◌, ◌++◌, length, map, filter, filter_map, fold, Option, is_some, refl, ap, subst, ◌∙◌, arith, length-append, append-nil}
 use Rattle.std.proofs.lemmas.Bool.{and_parts, and_from, or_cases, or_left, or_right, eqb-true, eq-eqb, ne_eqb, eqb-false, false_from_ne_true, cases_lt}
 use Rattle.std.proofs.Math.Nat.{mod-eq_of_lt, add-mod_right}
 use Rattle.std.proofs.lemmas.List.{map-append}
 use Rattle.std.proofs.lemmas.List.Sums.{fold-append}
 use Rattle.std.proofs.lemmas.List.Elements.{filter_map-append, filter-append}
-use Rattle.std.proofs.lemmas.List.FromFn.{length-range_with_len}
 use Rattle.std.specs.List.{AllByRecursion, list_any, range_with_len}
 use Rattle.wire_base.specs.declared.conf.End.{End}
 use Rattle.wire_base.specs.model.Lists.{AreApart}
@@ -14,7 +13,7 @@ use Rattle.domain_conf.proofs.ValidArrays.{eqb_turned}
 use Rattle.domain_conf.proofs.ValidLists.{all_snoc, apart_snoc}
 use Rattle.grown_domain.specs.declared.links.Link.{Link}
 use Rattle.grown_domain.specs.Links.{joins_same, ring_link, ring, chord, is_fifth, with_link, grown_links}
-use Rattle.grown_domain.proofs.Ranged.{in_range, range_in, range_apart, range_more, some_kept}
+use Rattle.grown_domain.proofs.Ranged.{in_range, range_apart, range_more, some_kept}
 
 -- ---- two links
 
@@ -138,61 +137,58 @@ linked_more n i b is =
 -- ---- the links of one router
 
 module _ (f : Link → Option End) where
-  some_more : (links : List Link) (l : Link) → length (filter_map f (with_link links l)) ≤ length (filter_map f links) + 1
+  some_more : (links : List Link) (l : Link) → length (filter_map f (with_link links l)) ≤ length (filter_map f links) + length (filter_map f (l ∷ []))
   unfolding with_link
-  some_more links l = by (list_any (joins_same l) links) (f l) refl
+  some_more links l = by (list_any (joins_same l) links)
     where
-      by : (b : Bool) (o : Option End) → f l ≡ o → length (filter_map f (cond b links (links ++ l ∷ []))) ≤ length (filter_map f links) + 1
-      by true o is = omega arith
-      by false None is = rw (filter_map-append f links (l ∷ []), is) (omega (arith, length-append (filter_map f links) []))
-      by false (Some e) is = rw (filter_map-append f links (l ∷ []), is) (omega (arith, length-append (filter_map f links) (e ∷ [])))
+      by : (b : Bool) → length (filter_map f (cond b links (links ++ l ∷ []))) ≤ length (filter_map f links) + length (filter_map f (l ∷ []))
+      by true = omega arith
+      by false = rw (filter_map-append f links (l ∷ [])) (omega (arith, length-append (filter_map f links) (filter_map f (l ∷ []))))
 
-  pub few_more : (links more : List Link) → length (filter_map f (fold with_link links more)) ≤ length (filter_map f links) + length more
+  pub few_more : (links more : List Link) → length (filter_map f (fold with_link links more)) ≤ length (filter_map f links) + length (filter_map f more)
   few_more links [] = omega arith
-  few_more links (l ∷ more) = omega (arith, some_more links l, few_more (with_link links l) more)
+  few_more links (l ∷ more) =
+      let both = ap (λ (ends : List End). length ends) (filter_map-append f (l ∷ []) more) in
+      omega (arith, some_more links l, few_more (with_link links l) more, both, length-append (filter_map f (l ∷ [])) (filter_map f more))
 
--- there are at most fifty chords
-few_chords : (n : ℕ) → n ≤ 250 → length (map (chord n) (filter is_fifth (range_with_len 0 n))) ≤ 50
-few_chords n few =
-    subst (λ k. length (map (chord n) (filter is_fifth (range_with_len 0 n))) ≤ k) (length-range_with_len 0 50)
-    (as_many (λ (l : Link). l.a / 5) (map (chord n) (filter is_fifth (range_with_len 0 n))) (range_with_len 0 50) apart among)
-  where
-    fifth_in : (i : ℕ) → IsIn i (filter is_fifth (range_with_len 0 n)) → (i < n) × (i % 5 ≡ 0)
-    fifth_in i there = let h = in_filter is_fifth (range_with_len 0 n) i there in let k = in_range 0 n i h.0 in (omega (arith, k), eqb-true (i % 5) 0 h.1)
+-- Of links from different routers, only those from three routers end at a router.
+module _ (n i x y : ℕ) (f : Link → Option End) (ends : (l : Link) → is_some (f l) ≡ true → (l.a ≡ i) ⊎ (l.b ≡ i)) where
+  three_at : (make : ℕ → Link) (places : List ℕ) → ((j : ℕ) → (make j).a ≡ j) → AreApart eqb places → ((j : ℕ) → IsIn j places → (make j).b ≡ i → (j ≡ x) ⊎ (j ≡ y)) → length (filter_map f (map make places)) ≤ 3
+  three_at make places from differ crosses = rw (some_kept f (map make places)) (as_many (λ (l : Link). l.a) (filter (λ l. is_some (f l)) (map make places)) (i ∷ x ∷ y ∷ []) apart among)
+    where
+      apart : AreApart (λ (k l : Link). eqb k.a l.a) (filter (λ l. is_some (f l)) (map make places))
+      apart = apart_filter (λ (k l : Link). eqb k.a l.a) (λ l. is_some (f l)) (map make places) (apart_map eqb (λ (k l : Link). eqb k.a l.a) make places (λ j k here there differ. rw (from j, from k) differ) differ)
 
-    tell : (i j : ℕ) → IsIn i (filter is_fifth (range_with_len 0 n)) → IsIn j (filter is_fifth (range_with_len 0 n)) → eqb i j ≡ false → eqb (i / 5) (j / 5) ≡ false
-    tell i j here there differ = let h = fifth_in i here in let k = fifth_in j there in let apart = eqb-false i j differ in ne_eqb (i / 5) (j / 5) (λ e. apart (omega (arith, h, k, e)))
-
-    apart : AreApart (λ (x y : Link). eqb (x.a / 5) (y.a / 5)) (map (chord n) (filter is_fifth (range_with_len 0 n)))
-    apart = apart_map eqb (λ (x y : Link). eqb (x.a / 5) (y.a / 5)) (chord n) (filter is_fifth (range_with_len 0 n)) tell (apart_filter eqb is_fifth (range_with_len 0 n) (range_apart 0 n))
-
-    among : (l : Link) → IsIn l (map (chord n) (filter is_fifth (range_with_len 0 n))) → IsIn (l.a / 5) (range_with_len 0 50)
-    among l there =
-        let m = in_map (chord n) (filter is_fifth (range_with_len 0 n)) l there in
-        let h = fifth_in m.0 m.1 in
-        subst (λ (l : Link). IsIn (l.a / 5) (range_with_len 0 50)) m.2 (range_in 0 50 (m.0 / 5) (omega arith) (omega (arith, h)))
+      among : (l : Link) → IsIn l (filter (λ l. is_some (f l)) (map make places)) → IsIn l.a (i ∷ x ∷ y ∷ [])
+      among l there =
+          let h = in_filter (λ l. is_some (f l)) (map make places) l there in
+          let m = in_map make places l h.0 in
+          subst (λ (l : Link). IsIn l.a (i ∷ x ∷ y ∷ [])) m.2 (by m.0 m.1 (ends (make m.0) (ap (λ l. is_some (f l)) m.2 ∙ h.1)))
+        where
+          by : (j : ℕ) → IsIn j places → ((make j).a ≡ i) ⊎ ((make j).b ≡ i) → IsIn (make j).a (i ∷ x ∷ y ∷ [])
+          by j there (inl e) = inl e
+          by j there (inr e) = elim (crosses j there e) [ inl p ↦ inr (inl (from j ∙ p)) | inr p ↦ inr (inr (inl (from j ∙ p))) ]
 
 -- at most three links of the ring end at one router: those that begin there, before it or at the last one
-few_of_ring : (n i : ℕ) (f : Link → Option End) → ((l : Link) → is_some (f l) ≡ true → (l.a ≡ i) ⊎ (l.b ≡ i)) → 3 ≤ n → length (filter_map f (ring n)) ≤ 3
+few_of_ring : (n i : ℕ) (f : Link → Option End) → ((l : Link) → is_some (f l) ≡ true → (l.a ≡ i) ⊎ (l.b ≡ i)) → length (filter_map f (ring n)) ≤ 3
 unfolding ring
-few_of_ring n i f ends some = rw (some_kept f (ring n)) (as_many (λ (l : Link). l.a) (filter (λ l. is_some (f l)) (ring n)) (i ∷ (i - 1) ∷ (n - 1) ∷ []) apart among)
+few_of_ring n i f ends = three_at n i (i - 1) (n - 1) f ends (ring_link n) (range_with_len 0 n) (λ j. refl) (range_apart 0 n) (λ j there e. let k = in_range 0 n j there in by j (omega (arith, k)) e (wraps n (j + 1) (omega (arith, k))))
   where
-    apart : AreApart (λ (x y : Link). eqb x.a y.a) (filter (λ l. is_some (f l)) (ring n))
-    apart = apart_filter (λ (x y : Link). eqb x.a y.a) (λ l. is_some (f l)) (ring n) (apart_map eqb (λ (x y : Link). eqb x.a y.a) (ring_link n) (range_with_len 0 n) (λ i j here there differ. differ) (range_apart 0 n))
+    by : (j : ℕ) → j < n → (j + 1) % n ≡ i → Wraps n (j + 1) → (j ≡ i - 1) ⊎ (j ≡ n - 1)
+    by j within e (inl s) = inl (omega (arith, e, s))
+    by j within e (inr s) = inr (omega (arith, within, s))
 
-    among : (l : Link) → IsIn l (filter (λ l. is_some (f l)) (ring n)) → IsIn l.a (i ∷ (i - 1) ∷ (n - 1) ∷ [])
-    among l there =
-        let h = in_filter (λ l. is_some (f l)) (ring n) l there in
-        let m = in_map (ring_link n) (range_with_len 0 n) l h.0 in
-        let k = in_range 0 n m.0 m.1 in
-        subst (λ (l : Link). IsIn l.a (i ∷ (i - 1) ∷ (n - 1) ∷ [])) m.2 (by m.0 (omega (arith, k)) (ends (ring_link n m.0) (ap (λ l. is_some (f l)) m.2 ∙ h.1)) (wraps n (m.0 + 1) (omega (arith, k))))
-      where
-        by : (j : ℕ) → j < n → (j ≡ i) ⊎ ((j + 1) % n ≡ i) → Wraps n (j + 1) → IsIn j (i ∷ (i - 1) ∷ (n - 1) ∷ [])
-        by j within (inl e) s = inl e
-        by j within (inr e) (inl s) = inr (inl (omega (arith, e, s)))
-        by j within (inr e) (inr s) = inr (inr (inl (omega (arith, within, s))))
+-- and at most three chords: those that begin there, or halfway around the ring before or after it
+few_of_chords : (n i : ℕ) (f : Link → Option End) → ((l : Link) → is_some (f l) ≡ true → (l.a ≡ i) ⊎ (l.b ≡ i)) → length (filter_map f (map (chord n) (filter is_fifth (range_with_len 0 n)))) ≤ 3
+few_of_chords n i f ends =
+    three_at n i (i - n / 2) (i + n - n / 2) f ends (chord n) (filter is_fifth (range_with_len 0 n)) (λ j. refl) (apart_filter eqb is_fifth (range_with_len 0 n) (range_apart 0 n))
+    (λ j there e. let k = in_range 0 n j (in_filter is_fifth (range_with_len 0 n) j there).0 in by j (omega (arith, k)) e (wraps n (j + n / 2) (omega (arith, k))))
+  where
+    by : (j : ℕ) → j < n → (j + n / 2) % n ≡ i → Wraps n (j + n / 2) → (j ≡ i - n / 2) ⊎ (j ≡ i + n - n / 2)
+    by j within e (inl s) = inl (omega (arith, e, s))
+    by j within e (inr s) = inr (omega (arith, e, s))
 
-pub few_ends : (n i : ℕ) (f : Link → Option End) → ((l : Link) → is_some (f l) ≡ true → (l.a ≡ i) ⊎ (l.b ≡ i)) → 3 ≤ n → n ≤ 250 → length (filter_map f (grown_links n)) ≤ 64
+pub few_ends : (n i : ℕ) (f : Link → Option End) → ((l : Link) → is_some (f l) ≡ true → (l.a ≡ i) ⊎ (l.b ≡ i)) → length (filter_map f (grown_links n)) ≤ 6
 unfolding grown_links
-few_ends n i f ends some few =
-    omega (arith, few_more f (ring n) (map (chord n) (filter is_fifth (range_with_len 0 n))), few_of_ring n i f ends some, few_chords n few)
+few_ends n i f ends =
+    omega (arith, few_more f (ring n) (map (chord n) (filter is_fifth (range_with_len 0 n))), few_of_ring n i f ends, few_of_chords n i f ends)

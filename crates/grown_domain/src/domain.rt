@@ -1,6 +1,7 @@
 //! The generated domain.
 ghost use Rattle.std.specs.Prelude.{◌≡◌, ◌≤◌, ℕ, Ok, IfOk};
 ghost use Rattle.wire_base.specs.declared.conf.Level.TheVariants.{Two};
+ghost use Rattle.wire_base.specs.declared.limits.TheConstants.{MOST_ROUTERS};
 ghost use Rattle.domain_conf.specs.Assembled.{domain_from};
 ghost use Rattle.grown_domain.specs.Domain.{grown_domain, grown_routers};
 ghost use Rattle.grown_domain.specs.Entries.{grown_entries};
@@ -14,7 +15,7 @@ use wire_base::{Domain, M, RouterConf, Rows};
 
 #[tactic(auto, unfolding(crate::specs::Domain::grown_routers))]
 fn routers(alloc: Global, links: &[Link], n: u16) -> M<Rows<RouterConf>>
-    requires { n ≤ 250 }
+    requires { n ≤ MOST_ROUTERS }
     ensures { IfOk result (λ routers. routers ≡ grown_routers links.now n) }
 {
     let mut routers = Rows::new(alloc);
@@ -27,7 +28,7 @@ fn routers(alloc: Global, links: &[Link], n: u16) -> M<Rows<RouterConf>>
 /// Returns the domain of `n` routers in a ring, with a chord halfway around the ring from every fifth of them.
 pub fn grown(alloc: Global, n: u16) -> M<Domain>
     requires some { 3 ≤ n }
-    requires few { n ≤ 250 }
+    requires few { n ≤ MOST_ROUTERS }
     ensures { IfOk result (λ domain. domain ≡ grown_domain n) }
 {
     let links = grown_links(alloc, n)?;
@@ -40,5 +41,5 @@ pub fn grown(alloc: Global, n: u16) -> M<Domain>
 /// The domain is the one that a domain file with its entries describes. The body is empty: the contract is the law.
 #[tactic(auto, using(crate::proofs::GrownDomain::said_by_file))]
 pub fn grown_as_in_a_file()
-    ensures { (n : ℕ) → 3 ≤ n → n ≤ 250 → domain_from Two area (grown_entries n (grown_links n)) ≡ Ok (grown_domain n) }
+    ensures { (n : ℕ) → 3 ≤ n → n ≤ MOST_ROUTERS → domain_from Two area (grown_entries n (grown_links n)) ≡ Ok (grown_domain n) }
 {}

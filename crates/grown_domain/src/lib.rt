@@ -1,6 +1,6 @@
-//! A domain and a schedule for it, of any size from 3 to 250 routers, to measure how an engine scales.
+//! A domain and a schedule for it, of any size from 3 to `MOST_ROUTERS` routers, to measure how an engine scales.
 //!
-//! It depends on `domain_conf` and `replay_text`, and promises the domain and the lines for each number from 3 to 250.
+//! It depends on `domain_conf` and `replay_text`, and promises the domain and the lines for each such number.
 #![tactic(auto)]
 
 mod domain;

@@ -1,6 +1,7 @@
 //! The links of the generated domain.
 ghost use Rattle.std.specs.Prelude.{◌≡◌, ◌<◌, ◌≤◌, ◌==◌, map, IfOk, OnOk};
 ghost use Rattle.std.specs.List.{list_any, range_with_len};
+ghost use Rattle.wire_base.specs.declared.limits.TheConstants.{MOST_ROUTERS};
 ghost use Rattle.grown_domain.specs.Links as spec;
 
 use std::alloc::Global;
@@ -28,7 +29,7 @@ fn is_joined(links: &[Link], link: &Link) -> bool
 
 /// Returns the link from router `i` to the next one around the ring of `n` routers.
 fn ring_link(n: u16, i: u16) -> Link
-    requires few { n ≤ 250 }
+    requires few { n ≤ MOST_ROUTERS }
     requires within { i < n }
     ensures { result ≡ spec.ring_link n i }
 {
@@ -41,7 +42,7 @@ fn ring_link(n: u16, i: u16) -> Link
 
 /// Returns the link from router `i` to the one halfway around the ring.
 fn chord(n: u16, i: u16) -> Link
-    requires few { n ≤ 250 }
+    requires few { n ≤ MOST_ROUTERS }
     requires within { i < n }
     ensures { result ≡ spec.chord n i }
 {
@@ -54,7 +55,7 @@ fn chord(n: u16, i: u16) -> Link
 
 #[tactic(auto, unfolding(crate::specs::Links::ring))]
 fn ring(alloc: Global, n: u16) -> M<Rows<Link>>
-    requires few { n ≤ 250 }
+    requires few { n ≤ MOST_ROUTERS }
     ensures { IfOk result (λ links. links ≡ spec.ring n) }
 {
     let mut links = Rows::new(alloc);
@@ -77,7 +78,7 @@ fn push_new(links: &mut Rows<Link>, link: Link) -> M<()>
 
 /// Returns the ring of `n` routers, followed by a chord from every fifth of them, if no link joins its two routers yet.
 pub fn grown_links(alloc: Global, n: u16) -> M<Rows<Link>>
-    requires few { n ≤ 250 }
+    requires few { n ≤ MOST_ROUTERS }
     ensures { IfOk result (λ links. links ≡ spec.grown_links n) }
 {
     let mut links = ring(alloc, n)?;

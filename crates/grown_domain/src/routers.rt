@@ -1,5 +1,6 @@
 //! The routers of the generated domain.
 ghost use Rattle.std.specs.Prelude.{◌≡◌, ◌<◌, ◌++◌, ◌∷◌, [], filter_map, option_to_list, IfOk, OnOk};
+ghost use Rattle.wire_base.specs.declared.limits.TheConstants.{MOST_ROUTERS};
 ghost use Rattle.domain_conf.specs.Links.{made_mac};
 ghost use Rattle.grown_domain.specs.Routers as spec;
 
@@ -91,7 +92,7 @@ fn ends_of(alloc: Global, links: &[Link], place: u16) -> M<Rows<End>>
 
 /// Returns the sub-domain of all routers, with the router's own BFR-id.
 fn subs_of(alloc: Global, place: u16) -> M<Rows<OwnSub>>
-    requires { place < 250 }
+    requires { place < MOST_ROUTERS }
     ensures { IfOk result (λ subs. subs ≡ spec.own_sub place ∷ []) }
 {
     let mut ranges = Rows::new(alloc);
@@ -122,7 +123,7 @@ fn kinds(alloc: Global) -> M<Rows<SubKind>>
 
 /// Returns the router at an index, of a domain with those links.
 pub fn router(alloc: Global, links: &[Link], place: u16) -> M<RouterConf>
-    requires { place < 250 }
+    requires { place < MOST_ROUTERS }
     ensures { IfOk result (λ conf. conf ≡ spec.router links.now place) }
 {
     Ok(RouterConf {

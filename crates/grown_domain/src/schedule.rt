@@ -1,6 +1,7 @@
 //! The schedule for the generated domain.
 ghost use Rattle.std.specs.Prelude.{◌≡◌, ◌<◌, ◌≤◌, IfOk};
 ghost use Rattle.std.specs.List.{range_with_len};
+ghost use Rattle.wire_base.specs.declared.limits.TheConstants.{MOST_ROUTERS};
 ghost use Rattle.replay_text.specs.Events.{LineFits};
 ghost use Rattle.grown_domain.specs.Schedule as spec;
 
@@ -17,7 +18,7 @@ fn settling(n: u16) -> Line
 
 /// Returns the BFR-ids of all `n` routers.
 fn ids(alloc: Global, n: u16) -> M<Rows<u16>>
-    requires { n ≤ 250 }
+    requires { n ≤ MOST_ROUTERS }
     ensures { IfOk result (λ ids. ids ≡ range_with_len 1 n) }
 {
     let mut ids = Rows::new(alloc);
@@ -29,7 +30,7 @@ fn ids(alloc: Global, n: u16) -> M<Rows<u16>>
 
 /// Returns the injection of a packet at the first router for all of them.
 fn sending(alloc: Global, n: u16, entropy: u32) -> M<Line>
-    requires { n ≤ 250 }
+    requires { n ≤ MOST_ROUTERS }
     ensures { IfOk result (λ line. line ≡ spec.sending n entropy) }
 {
     Ok(Line::One(Event::Inject {
@@ -70,7 +71,7 @@ impl GrownLine {
     #[tactic(auto, using(crate::proofs::ScheduleLines::sending_fits))]
     pub fn line(self, alloc: Global, n: u16) -> M<Line>
         requires some { 0 < n }
-        requires few { n ≤ 250 }
+        requires few { n ≤ MOST_ROUTERS }
         ensures value { IfOk result (λ line. line ≡ spec.line_of n self) }
         ensures fits { IfOk result (λ line. LineFits n line) }
     {

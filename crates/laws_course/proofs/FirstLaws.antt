@@ -10,7 +10,6 @@ use Rattle.wire_base.specs.declared.view.ViewNode.{ViewNode}
 use Rattle.wire_base.specs.model.Control.{Control}
 use Rattle.wire_base.specs.model.Graph.{covers_at}
 use Rattle.wire_base.specs.model.Hop.{has, is_this}
-use Rattle.wire_base.specs.model.HopCount.{CoversPath}
 use Rattle.wire_base.specs.model.Ingress.{IngressPacket, id_set, sets_of, packet_for, packets_for}
 use Rattle.wire_base.specs.model.Item.{Item, ControlItem, PacketItem, DataItem}
 use Rattle.wire_base.specs.model.OnFrame.{node_place}
@@ -34,7 +33,7 @@ use Rattle.laws_ledger.proofs.OutcomeLaws.{others, IsEnded, group_named}
 use Rattle.laws_ledger.proofs.MadeLaws.{picks, own, IsHopSent, IsHopDrop, IsGroupLost, hop_made_is}
 use Rattle.laws_ledger.proofs.WorldLaws.{now_at}
 use Rattle.laws_ledger.proofs.CountLaws.{injection_there}
-use Rattle.laws_course.specs.Course.{next_for, FitTunnels, IsOnCourse, IsReachable, IsCovered}
+use Rattle.laws_course.specs.Course.{next_for, FitTunnels, CoversPath, IsOnCourse, IsReachable, IsCovered}
 use Rattle.laws_course.proofs.HopLaws.{IsThere, copy_course, hop_safe}
 use Rattle.laws_course.proofs.ChangedLaws.{Keeps}
 use Rattle.laws_course.proofs.StepLaws.{drop_named, listed_has, IsOther, drop_parts, facts, r_among, course_back}
@@ -138,7 +137,7 @@ module _ (w : WorldState) (truth : IsTruthful w) (s : ℕ) (ingress : Control) (
             let known = facts w truth s ingress at in
             let same = of_set e in
             let t = there c y goes same in
-            let fit : FitTunnels g (next_for r g p.triple i.entropy k) u = subst (λ (z : Triple). FitTunnels g (next_for r g z i.entropy k) u) (sym same) c.tunnels in
+            let fit : FitTunnels g (next_for r g p.triple i.entropy k) u = subst (λ (z : Triple). FitTunnels g (next_for r g z i.entropy k) u) (sym same) c.covers.tunnels in
             good_hop (λ z h named. course_back w truth s ingress at k s h.way.link (record x { bift = h.way.bift; ids = h.ids; ttl = h.left; outer = h.way.outer })
             (copy_course (domain_now w) truth.now g known.graph known.nodes r (r_among w truth s ingress at) u k known.own x u (i.ttl + 1) t confs s r (now_at w truth s ingress at) refl z h named fit))
             (λ l h named. hop_safe (domain_now w) truth.now g known.graph known.nodes r (r_among w truth s ingress at) u k known.own x u (i.ttl + 1) t confs s r (now_at w truth s ingress at) refl known.now known.leads l h named)

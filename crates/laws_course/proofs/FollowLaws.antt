@@ -1,8 +1,9 @@
 -- Following a next node.
-use Rattle.std.proofs.Common.{◌≡◌, inl, inr, ℕ, zero, suc, ◌+◌, ◌≤◌, Bool, true, false, if◌then◌else◌, Option, Some, None, option_map, option_and_then, refl, sym, ap, subst, ◌∙◌, arith}
+use Rattle.std.proofs.Common.{◌≡◌, inl, inr, ℕ, zero, suc, ◌+◌, ◌≤◌, Bool, true, false, if◌then◌else◌, List, Option, Some, None, option_map, option_and_then, refl, sym, ap, subst, ◌∙◌, arith}
 use Rattle.std.proofs.lemmas.Option.{same_Some}
 use Rattle.wire_base.specs.model.HopCount.{follow}
-use Rattle.laws_course.specs.Course.{Follows, IsPassed}
+use Rattle.wire_base.specs.declared.view.ViewNode.{ViewNode}
+use Rattle.laws_course.specs.Course.{Follows, IsPassed, FitTunnels}
 
 module _ (next : ℕ → Option ℕ) (ends : ℕ → Bool) where
   stepped : (o : Option ℕ) (h : ℕ) → option_map (λ n. n + 1) o ≡ Some h → (k : ℕ) × (o ≡ Some k) × (h ≡ k + 1)
@@ -84,6 +85,15 @@ module _ (next : ℕ → Option ℕ) where
   pub passed-next : (u x y : ℕ) → IsPassed next u x → next x ≡ Some y → (j : ℕ) × Follows next j u y
   passed-next u x y (inl e) q = (0, subst (λ (z : ℕ). next z ≡ Some y) e q)
   passed-next u x y (inr r) q = (suc r.0, Follows-more r.0 u x y r.1 q)
+
+  -- what is passed from the next node is passed from u
+  pub passed-first : (u x y : ℕ) → next u ≡ Some x → IsPassed next x y → IsPassed next u y
+  passed-first u x y q (inl e) = inr (0, subst (λ (z : ℕ). next u ≡ Some z) (sym e) q)
+  passed-first u x y q (inr r) = inr (suc r.0, (x, q, r.1))
+
+  -- so the tunnels of the rest of a path are short enough
+  pub fit-next : (g : List ViewNode) (u x : ℕ) → next u ≡ Some x → FitTunnels g next u → FitTunnels g next x
+  fit-next g u x q fit y z h passed goes far links = fit y z h (passed-first u x y q passed) goes far links
 
   -- what holds of each next node holds of all that are followed
   pub Follows-each : (P : ℕ → Type 0) (Q : ℕ → Type 0) → ((y z : ℕ) → Q y → next y ≡ Some z → P z × Q z) → (j u x : ℕ) → Q u → Follows next j u x → P x × Q x

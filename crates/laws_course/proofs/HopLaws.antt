@@ -42,7 +42,7 @@ use Rattle.laws_ledger.proofs.CopyLaws.{IsNearWay, IsFarWay, HasWay}
 use Rattle.laws_ledger.proofs.MadeLaws.{picks, own, IsHopSent, IsHopDrop, IsGroupLost}
 use Rattle.laws_course.specs.Course.{next_for, Follows, IsPassed, FitTunnels, node_by, node_at, node_of, target_at, HasLinks, IsOnCourse}
 use Rattle.laws_course.proofs.KnownLaws.{each_contained, IsOfNow}
-use Rattle.laws_course.proofs.FollowLaws.{follow-down, follow-zero, follow-next, passed-next, Follows-each}
+use Rattle.laws_course.proofs.FollowLaws.{follow-down, follow-zero, follow-next, passed-next, fit-next, Follows-each}
 use Rattle.laws_course.proofs.NodeLaws.{router_at, peer_node, prefix_is, router_found, own_from}
 
 -- ---- what a packet's header says
@@ -150,7 +150,7 @@ module _ (d : DomainConf) (valid : IsConsistent d) (g : List ViewNode) (graph : 
       pub on : IsOnWay g to y i.last
       pub links : HasLinks g y to outer
 
-    module _ (y : ℕ) (on : IsOnWay g here y i.last) (passes : (y ≡ i.last) ⊎ (is_overloaded g y ≡ false)) (within : y < length g) (q : next x here ≡ Some y) (fit : FitTunnels g (next x) u) where
+    module _ (y : ℕ) (on : IsOnWay g here y i.last) (passes : (y ≡ i.last) ⊎ (is_overloaded g y ≡ false)) (within : y < length g) (q : next x here ≡ Some y) (fit : FitTunnels g (next x) here) where
       near_facts : is_direct g here y ≡ true → (to target : ℕ) → to ≡ y → target ≡ to → WayFacts y to target None
       unfolding is_direct
       near_facts t to target same ends =
@@ -175,7 +175,7 @@ module _ (d : DomainConf) (valid : IsConsistent d) (g : List ViewNode) (graph : 
           let all = tunnel_links-some g graph y here on.before i.inside on.to in
           let not_yet : (here == y) ≡ false = by (here == y) refl in
           let down = follow-down (next_step g y) (λ z. z == y) (length g) here all.0 v all.1 not_yet step in
-          let few = fit here y all.0 i.path q far all.1 in
+          let few = fit here y all.0 (inl refl) q far all.1 in
           record {
             target_is = is;
             step = subst (IsTight g i.last here) (sym same) onward.0;
@@ -233,7 +233,7 @@ module _ (d : DomainConf) (valid : IsConsistent d) (g : List ViewNode) (graph : 
           let p = not_own ks (λ j. is_this (picks os a q g here x ttl j) y) group.those h in
           record { named = p.0; other = p.1; goes = sym (same_choice k) ∙ this_some (picks os a q g here x ttl k) y p.2 }
 
-      way_facts : (y : ℕ) (w : HasWay q g here x.triple y) → IsOnWay g here y i.last → (y ≡ i.last) ⊎ (is_overloaded g y ≡ false) → y < length g → (here ≡ y → ⊥) → next x here ≡ Some y → FitTunnels g (next x) u
+      way_facts : (y : ℕ) (w : HasWay q g here x.triple y) → IsOnWay g here y i.last → (y ≡ i.last) ⊎ (is_overloaded g y ≡ false) → y < length g → (here ≡ y → ⊥) → next x here ≡ Some y → FitTunnels g (next x) here
           → (z : DataItem) → z.outer ≡ w.outer → WayFacts y (node_at d.routers g (peer_place d.routers a w.link)) (target_at d.routers g (peer_place d.routers a w.link) z) w.outer
       way_facts y w on passes within other goes fit z same = by w.outer same w.leads
         where
@@ -261,7 +261,7 @@ module _ (d : DomainConf) (valid : IsConsistent d) (g : List ViewNode) (graph : 
               some_step (Some v) e h = (v, e, h)
 
       -- the copy for the id goes on its course
-      pub copy_course : (s : Sending) (h : IsHopSent os a q g here x ttl s) → has h.ids k ≡ true → FitTunnels g (next x) u
+      pub copy_course : (s : Sending) (h : IsHopSent os a q g here x ttl s) → has h.ids k ≡ true → FitTunnels g (next x) here
           → IsOnCourse d.routers r g u k a (peer_place d.routers a h.way.link) (record x { bift = h.way.bift; ids = h.ids; ttl = h.left; outer = h.way.outer })
       copy_course s h named fit =
           let item : DataItem = record x { bift = h.way.bift; ids = h.ids; ttl = h.left; outer = h.way.outer } in
@@ -286,7 +286,12 @@ module _ (d : DomainConf) (valid : IsConsistent d) (g : List ViewNode) (graph : 
             on = subst (λ (z : ℕ). IsOnWay g (node_at d.routers g b) z i.last) (sym is) f.on;
             times = path.0;
             path = subst (Follows (next x) path.0 u) (sym is) path.1;
-            covers = record { count = left.0; is = ap (hops g r.kinds r.table x.triple (x.entropy % 16) k) is ∙ left.1; enough = (let less = h.group.less in let lasts = i.lasts in omega (arith, left.2, less, lasts)) };
+            covers = record {
+              count = left.0;
+              is = ap (hops g r.kinds r.table x.triple (x.entropy % 16) k) is ∙ left.1;
+              enough = (let less = h.group.less in let lasts = i.lasts in omega (arith, left.2, less, lasts));
+              tunnels = subst (FitTunnels g (next x)) (sym is) (fit-next (next x) g here h.node m.goes fit);
+            };
             links = subst (λ (z : ℕ). HasLinks g z (node_at d.routers g b) h.way.outer) (sym is) f.links;
           }
 

@@ -28,7 +28,7 @@ use Rattle.laws_ledger.specs.Weights.{is_one_of}
 use Rattle.laws_ledger.proofs.ShapeLaws.{IsControlItem, IsControlSending, IsControlDrop, IsOff, IsQuiet, IsEndedBy, IsDropped, IsTaken, IsEntered, Shape, Quiet, Dropped, Taken, Entered, shape_of}
 use Rattle.laws_ledger.proofs.WorldLaws.{owner_at, copy_at}
 use Rattle.laws_ledger.proofs.SourceLaws.{IfPacket, IsDropFrom, inject_from}
-use Rattle.laws_course.specs.Course.{Agreed, next_for, FitTunnels, IsOnCourse, IfCopyFor, TunnelsFit, loses_copy}
+use Rattle.laws_course.specs.Course.{Agreed, IsOnCourse, loses_copy}
 use Rattle.laws_course.proofs.ChangedLaws.{Keeps}
 use Rattle.laws_course.proofs.StepLaws.{listed_has, IsOther, drop_parts, pushed_kept, taken_keeps, taken_drops, comes_up, idle_taken}
 
@@ -80,7 +80,7 @@ module _ (w : WorldState) (truth : IsTruthful w) (s : ℕ) (ingress : Control) (
   abbrev Here : ℕ → ℕ → Item → Type 0
   Here a link item = Keeps confs r g u n k a link item
 
-  module _ (agreed : Agreed w g u) (kept : AllQueues Here w.flights) (fit : TunnelsFit w r g u n k) (e : Event) (h : Happened) where
+  module _ (agreed : Agreed w g u) (kept : AllQueues Here w.flights) (e : Event) (h : Happened) where
     -- ---- a copy that comes to a router
 
     module _ (a b link i : ℕ) (x : DataItem) (joined : link_between confs a b ≡ Some link) (there : slice_get (queue_at w.flights a link) i ≡ Some (PacketItem x)) where
@@ -91,11 +91,6 @@ module _ (w : WorldState) (truth : IsTruthful w) (s : ℕ) (ingress : Control) (
       course number named =
           subst (λ (z : ℕ). IsOnCourse confs r g u k a z x) (peer_is confs truth.valid.consistent.systems a b link joined)
           (let on : Here a link (PacketItem x) = each_got (Here a link) (queue_at w.flights a link) i (PacketItem x) (kept a link) there in on number named)
-
-      fits : x.number ≡ n → has x.ids k ≡ true → FitTunnels g (next_for r g x.triple x.entropy k) u
-      fits number named =
-          let on : IfCopyFor (λ y. FitTunnels g (next_for r g y.triple y.entropy k) u) n k (PacketItem x) = each_got (IfCopyFor (λ y. FitTunnels g (next_for r g y.triple y.entropy k) u) n k) (queue_at w.flights a link) i (PacketItem x) (fit a link) there in
-          on number named
 
       -- whether the copy is one for the id
       data IsFor : Type 0 where
@@ -118,7 +113,7 @@ module _ (w : WorldState) (truth : IsTruthful w) (s : ℕ) (ingress : Control) (
               let on = course number named in
               let true_copy = copy in
               subst (λ (m : ℕ). AllByRecursion (λ (z : Sending). Keeps confs r g u m k z.from z.link z.item) (packet_taken confs b c x x.outer).sent × AllByRecursion (IsOther m k) (packet_taken confs b c x x.outer).drops) number
-              (taken_keeps w truth s ingress at agreed n k a b x true_copy.lives on c router (fits number named) true_copy.outer, taken_drops w truth s ingress at agreed n k a b x true_copy.lives on c router true_copy.outer)
+              (taken_keeps w truth s ingress at agreed n k a b x true_copy.lives on c router true_copy.outer, taken_drops w truth s ingress at agreed n k a b x true_copy.lives on c router true_copy.outer)
           by (No none) = idle_taken (λ a' link'. IsOnCourse confs r g u k a' (peer_place confs a' link')) confs n k b c x none
 
     taken_kept : IsTaken w e h → IsKeptBy confs r g u n k h
@@ -189,13 +184,13 @@ module _ (w : WorldState) (truth : IsTruthful w) (s : ℕ) (ingress : Control) (
 
   -- ---- an event after the injection
 
-  pub later_kept : Agreed w g u → n ≤ w.injections → AllQueues Here w.flights → TunnelsFit w r g u n k → (e : Event) → loses_copy w n e ≡ false → IsKeptBy confs r g u n k (happens w e)
-  later_kept agreed made kept fit e harmless = by (happens w e) (shape_of w e)
+  pub later_kept : Agreed w g u → n ≤ w.injections → AllQueues Here w.flights → (e : Event) → loses_copy w n e ≡ false → IsKeptBy confs r g u n k (happens w e)
+  later_kept agreed made kept e harmless = by (happens w e) (shape_of w e)
     where
       by : (h : Happened) → Shape w e h → IsKeptBy confs r g u n k h
       by h (Quiet q none) = quiet_kept confs r g u n k w h kept q
-      by h (Dropped t none) = dropped_kept agreed kept fit e h harmless t
-      by h (Taken t none) = taken_kept agreed kept fit e h t
+      by h (Dropped t none) = dropped_kept agreed kept e h harmless t
+      by h (Taken t none) = taken_kept agreed kept e h t
       by h (Entered t) = other_kept e h kept (λ same. omega (arith, same, made)) t
 
 -- the domain stays

@@ -27,5 +27,5 @@ begun w e c n k i h =
 
 pub gone_on : (w : WorldState) (e : Event) (s : ℕ) (c : Control) (n k : ℕ) → GoesOn w e s c n k → KeptFor (happens w e).world c n k × (drops_of n k (happens w e).made.drops ≡ 0)
 gone_on w e s c n k h =
-    let step = later_kept w h.truth s c h.ingress n k h.agreed h.made h.kept h.tunnels e h.harmless in
+    let step = later_kept w h.truth s c h.ingress n k h.agreed h.made h.kept e h.harmless in
     (kept_there w e c.conf (control_view c) (own_node c) n k step, none_dropped n k (happens w e).made.drops step.drops)

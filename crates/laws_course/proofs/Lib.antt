@@ -1,5 +1,6 @@
 pub mod KnownLaws
 pub mod FollowLaws
+pub mod TunnelLaws
 pub mod NodeLaws
 pub mod HopLaws
 pub mod TransitLaws

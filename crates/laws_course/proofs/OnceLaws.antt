@@ -5,15 +5,12 @@ use Rattle.std.proofs.lemmas.Bool.{eqb-true}
 use Rattle.std.proofs.lemmas.List.Sums.{fold-append}
 use Rattle.std.proofs.lemmas.Option.{same_Some}
 use Rattle.wire_base.specs.declared.conf.RouterConf.{RouterConf}
-use Rattle.wire_base.specs.declared.triple.Triple.{Triple}
 use Rattle.wire_base.specs.declared.view.ViewNode.{ViewNode}
 use Rattle.wire_base.specs.model.Configuration.{DomainConf}
 use Rattle.wire_base.specs.model.Control.{Control}
 use Rattle.wire_base.specs.model.Hop.{has, one_if}
-use Rattle.wire_base.specs.model.HopCount.{tunnel_links}
 use Rattle.wire_base.specs.model.Item.{Item, ControlItem, PacketItem}
 use Rattle.wire_base.specs.model.OnFrame.{node_place}
-use Rattle.wire_base.specs.model.Tight.{next_step}
 use Rattle.wire_base.specs.model.View.{control_view}
 use Rattle.replay_text.specs.declared.event.Event.{Event}
 use Rattle.domain_model.specs.World.{first_world, WorldState, queue_at}
@@ -21,34 +18,19 @@ use Rattle.domain_model.specs.Faults.{event_fault}
 use Rattle.domain_model.specs.Step.{happens}
 use Rattle.domain_model.specs.Run.{Run, first_run, goes_on, run_of, world_after}
 use Rattle.domain_model.specs.Truth.{IsTruthful, EventFits}
-use Rattle.domain_model.proofs.EachLaws.{each_weaker}
 use Rattle.domain_model.proofs.WorldTruth.{happens_true, first_true}
 use Rattle.laws_members.proofs.DomainLaws.{strip, become_stripped}
-use Rattle.laws_ledger.specs.Ledger.{Injection, injection_of, names, entered, injected, numbered, injections_in, carries, copies_of, is_drop, deliveries, drops_of, drops, ledger, triple_for, IsCopyOf}
-use Rattle.laws_ledger.specs.Runs.{AreAllowed, unlined, IsItemIn, IsAccounted}
+use Rattle.laws_ledger.specs.Ledger.{Injection, injection_of, names, entered, injected, numbered, injections_in, carries, copies_of, is_drop, deliveries, drops_of, drops, ledger}
+use Rattle.laws_ledger.specs.Runs.{AreAllowed, unlined, IsAccounted}
 use Rattle.laws_ledger.specs.Weights.{is_of, copies_in}
 use Rattle.laws_ledger.proofs.WorldLaws.{owner_at}
 use Rattle.laws_ledger.proofs.FallLaws.{over-most}
 use Rattle.laws_ledger.proofs.RunLaws.{run_accounted, tally-told, next_truth, next_allowed, run_goes_on, still_injected, now_injected, entered_more, listed_one}
-use Rattle.laws_course.specs.Course.{Agreed, next_for, FitTunnels, IfCopyFor, Kept, TunnelsFit, loses_copy, IsCovered, HasAgreed, IsSteady, own_node, IsCarried, IsCarriedIn, carried_on}
-use Rattle.laws_course.proofs.FollowLaws.{follow-most}
+use Rattle.laws_course.specs.Course.{Agreed, Kept, loses_copy, IsCovered, HasAgreed, IsSteady, own_node, IsCarried, IsCarriedIn, carried_on}
 use Rattle.laws_course.proofs.StepLaws.{none_dropped}
 use Rattle.laws_course.proofs.ChangedLaws.{Keeps, keeps_stay}
 use Rattle.laws_course.proofs.KeptLaws.{IsKeptBy, later_kept}
 use Rattle.laws_course.proofs.FirstLaws.{first_kept}
-
--- tunnels fit where there are at most 255 nodes
-pub small_fit : (g : List ViewNode) (next : ℕ → Option ℕ) (u : ℕ) → length g ≤ 255 → FitTunnels g next u
-unfolding tunnel_links
-small_fit g next u few y z h passed goes far links = let most = follow-most (next_step g z) (λ x. x == z) (length g) y h links in omega (arith, few, most)
-
-pub all_fit : (w : WorldState) (conf : RouterConf) (g : List ViewNode) (u n k : ℕ) → length g ≤ 255 → TunnelsFit w conf g u n k
-all_fit w conf g u n k few a link = each (queue_at w.flights a link)
-  where
-    each : (xs : List Item) → AllByRecursion (IfCopyFor (λ x. FitTunnels g (next_for conf g x.triple x.entropy k) u) n k) xs
-    each [] = tt
-    each (ControlItem p ∷ xs) = (tt, each xs)
-    each (PacketItem x ∷ xs) = ((λ number named. small_fit g (next_for conf g x.triple x.entropy k) u few), each xs)
 
 -- a run whose copies of the injection for the id are on their course, and that dropped none
 pub record IsOnce (r : Run) (conf : RouterConf) (g : List ViewNode) (u n k : ℕ) (i : Injection) : Type 0 where
@@ -58,18 +40,6 @@ pub record IsOnce (r : Run) (conf : RouterConf) (g : List ViewNode) (u n k : ℕ
   pub made : n ≤ r.world.injections
   pub kept : Kept r.world conf g u n k
   pub none : drops n k r ≡ 0
-
--- the tunnels of copies are those of the injection's way
-tunnels_of : (r : Run) (conf : RouterConf) (g : List ViewNode) (u n k : ℕ) (i : Injection) → IsAccounted r → injected r n ≡ Some i → FitTunnels g (next_for conf g (triple_for i k) i.entropy k) u → TunnelsFit r.world conf g u n k
-tunnels_of r conf g u n k i accounts is fit a link = each_weaker (IsItemIn r) (IfCopyFor (λ x. FitTunnels g (next_for conf g x.triple x.entropy k) u) n k) one (queue_at r.world.flights a link) (accounts.copies a link)
-  where
-    one : (x : Item) → IsItemIn r x → IfCopyFor (λ x. FitTunnels g (next_for conf g x.triple x.entropy k) u) n k x
-    one (ControlItem p) h = tt
-    one (PacketItem x) h = λ number named. (
-        let same : h.injection ≡ i = same_Some h.injection i (sym h.there ∙ ap (injected r) number ∙ is) in
-        let of : IsCopyOf i x = subst (λ (j : Injection). IsCopyOf j x) same h.is in
-        subst (λ (m : ℕ). FitTunnels g (next_for conf g x.triple m k) u) (sym of.entropy) (subst (λ (t : Triple). FitTunnels g (next_for conf g t i.entropy k) u) (sym (of.triple k named)) fit)
-        )
 
 -- the drops of one event more
 drops_next : (r : Run) (e : ℕ × Event) (n k : ℕ) → drops n k (goes_on r e) ≡ drops n k r + drops_of n k (happens r.world e.1).made.drops
@@ -91,28 +61,28 @@ domain_next r e = refl
 -- the step, where the ingress has that configuration and that view
 abbrev MovesOn : WorldState → ℕ → ℕ → RouterConf → List ViewNode → Type 0
 MovesOn w n k conf g =
-    Agreed w g (node_place g conf.system) → n ≤ w.injections → Kept w conf g (node_place g conf.system) n k → TunnelsFit w conf g (node_place g conf.system) n k
+    Agreed w g (node_place g conf.system) → n ≤ w.injections → Kept w conf g (node_place g conf.system) n k
     → (e : Event) → loses_copy w n e ≡ false → IsKeptBy w.domain.routers conf g (node_place g conf.system) n k (happens w e)
 
 -- for a configuration that differs at most in its sub-domains and label ranges
 moves_stripped : (w : WorldState) (n k : ℕ) (conf : RouterConf) (g : List ViewNode) → MovesOn w n k conf g → MovesOn w n k (strip conf) g
-moves_stripped w n k conf g h agreed made kept fit e harmless =
+moves_stripped w n k conf g h agreed made kept e harmless =
     let u = node_place g conf.system in
-    let q = h agreed made (λ a link. keeps_stay w.domain.routers (strip conf) conf refl g u n k a link (queue_at w.flights a link) (kept a link)) fit e harmless in
+    let q = h agreed made (λ a link. keeps_stay w.domain.routers (strip conf) conf refl g u n k a link (queue_at w.flights a link) (kept a link)) e harmless in
     record { kept = λ a link. keeps_stay w.domain.routers conf (strip conf) refl g u n k a link (queue_at (happens w e).world.flights a link) (q.kept a link); drops = q.drops }
 
 moves_whole : (w : WorldState) (n k : ℕ) (conf : RouterConf) (g : List ViewNode) → MovesOn w n k (strip conf) g → MovesOn w n k conf g
-moves_whole w n k conf g h agreed made kept fit e harmless =
+moves_whole w n k conf g h agreed made kept e harmless =
     let u = node_place g conf.system in
-    let q = h agreed made (λ a link. keeps_stay w.domain.routers conf (strip conf) refl g u n k a link (queue_at w.flights a link) (kept a link)) fit e harmless in
+    let q = h agreed made (λ a link. keeps_stay w.domain.routers conf (strip conf) refl g u n k a link (queue_at w.flights a link) (kept a link)) e harmless in
     record { kept = λ a link. keeps_stay w.domain.routers (strip conf) conf refl g u n k a link (queue_at (happens w e).world.flights a link) (q.kept a link); drops = q.drops }
 
 moved : (w : WorldState) → IsTruthful w → (s : ℕ) (c : Control) → slice_get w.routers s ≡ Some c → (conf : RouterConf) (g : List ViewNode) → strip c.conf ≡ strip conf → control_view c ≡ g → (n k : ℕ) → MovesOn w n k conf g
 moved w truth s c at conf g same view n k =
-    let here : MovesOn w n k c.conf (control_view c) = λ agreed made kept fit e harmless. later_kept w truth s c at n k agreed made kept fit e harmless in
+    let here : MovesOn w n k c.conf (control_view c) = λ agreed made kept e harmless. later_kept w truth s c at n k agreed made kept e harmless in
     moves_whole w n k conf g (subst (λ (z : RouterConf). MovesOn w n k z g) same (moves_stripped w n k c.conf g (subst (MovesOn w n k c.conf) view here)))
 
-module _ (s : ℕ) (first conf : RouterConf) (one : strip first ≡ strip conf) (g : List ViewNode) (n k : ℕ) (i : Injection) (fit : FitTunnels g (next_for conf g (triple_for i k) i.entropy k) (node_place g conf.system)) where
+module _ (s : ℕ) (first conf : RouterConf) (one : strip first ≡ strip conf) (g : List ViewNode) (n k : ℕ) (i : Injection) where
   abbrev u : ℕ
   u = node_place g conf.system
 
@@ -123,8 +93,7 @@ module _ (s : ℕ) (first conf : RouterConf) (one : strip first ≡ strip conf) 
       let owner = owner_at r.world o.truth s a.router a.there in
       let same : strip a.router.conf ≡ strip conf = become_stripped owner.router a.router.conf owner.become ∙ ap strip (same_Some owner.router first (sym owner.there ∙ at)) ∙ one in
       let agreed : Agreed r.world g u = subst (λ (c : RouterConf). Agreed r.world g (node_place g c.system)) same a.agreed in
-      let tunnels = tunnels_of r conf g u n k i o.accounts o.known fit in
-      let step = moved r.world o.truth s a.router a.there conf g same a.view n k agreed o.made o.kept tunnels e.1 harmless in
+      let step = moved r.world o.truth s a.router a.there conf g same a.view n k agreed o.made o.kept e.1 harmless in
       record {
         truth = next_truth r e o.truth fits ok;
         accounts = run_goes_on r e o.truth fits ok o.accounts;
@@ -186,7 +155,7 @@ module _ (r : Run) (e : ℕ × Event) (n k : ℕ) (i : Injection) (c : Control) 
       let happened = happens_true r.world e.1 truth fits ok in
       let same : (goes_on r e).world.domain ≡ r.world.domain = domain_next r e ∙ happened.domain in
       let owner = owner_at r.world truth i.router c at in
-      once_on i.router owner.router c.conf (sym (become_stripped owner.router c.conf owner.become)) (control_view c) n k i covered.tunnels fs (goes_on r e) (ap (λ (d : DomainConf). slice_get d.routers i.router) same ∙ owner.there) allowed steady once_first
+      once_on i.router owner.router c.conf (sym (become_stripped owner.router c.conf owner.become)) (control_view c) n k i fs (goes_on r e) (ap (λ (d : DomainConf). slice_get d.routers i.router) same ∙ owner.there) allowed steady once_first
 
 -- ---- what that says of deliveries
 

@@ -33,7 +33,7 @@ use Rattle.laws_ledger.proofs.OutcomeLaws.{others, IsEnded, group_named}
 use Rattle.laws_ledger.proofs.CopyLaws.{HasOnward, IsOnwardSent, IsOnwardLost, onward_is}
 use Rattle.laws_ledger.proofs.MadeLaws.{picks, own, IsHopSent, IsHopDrop, IsGroupLost, hop_made_is, EndsHere, Fate, Hops, GoesOn, Ends, fate_of}
 use Rattle.laws_ledger.proofs.WorldLaws.{now_at, owner_at}
-use Rattle.laws_course.specs.Course.{Agreed, next_for, FitTunnels, node_by, node_at, IsOnCourse, IfCopyFor}
+use Rattle.laws_course.specs.Course.{Agreed, next_for, FitTunnels, node_by, node_at, target_at, IsOnCourse, IfCopyFor}
 use Rattle.laws_course.proofs.KnownLaws.{each_contained, place_has, ComesOverUp, IsKnown, known_of}
 use Rattle.laws_course.proofs.ChangedLaws.{node_stays, course_stays}
 use Rattle.laws_course.proofs.NodeLaws.{node_some}
@@ -140,19 +140,26 @@ module _ (w : WorldState) (truth : IsTruthful w) (s : ℕ) (ingress : Control) (
     pub its_facts : IsKnown nows c g
     its_facts = subst (IsKnown nows c) same_view (known b c there)
 
-    -- what is known of the packet where it is hopped
-    hopped_there : EndsHere c x.outer → IsThere (domain_now w) truth.now g graph nodes r r_among u k facts.own x (node_place g c.conf.system) x.ttl
-    hopped_there ends =
-        let here = ends_here (domain_now w) truth.now g graph nodes r r_among u k facts.own a b x i c.conf conf x.outer refl (by x.outer ends) in
-        subst (λ (z : ℕ). IsThere (domain_now w) truth.now g graph nodes r r_among u k facts.own x z x.ttl) (sym node) (course_there (domain_now w) truth.now g graph nodes r r_among u k facts.own a b x i lives here)
+    -- where its tunnel ends, it is at its target
+    at_target : EndsHere c x.outer → node_at nows g b ≡ target_at nows g b x
+    at_target ends = ends_here (domain_now w) truth.now g graph nodes r r_among u k facts.own a b x i c.conf conf x.outer refl (by x.outer ends)
       where
         by : (o : Option Outer) → EndsHere c o → (t : Outer) → o ≡ Some t → bytes_eq t.dst.0 c.conf.prefix.0 ≡ true
         by None h t e = cc
         by (Some z) h t e = subst (λ (y : Outer). bytes_eq y.dst.0 c.conf.prefix.0 ≡ true) (same_Some z t e) h
 
+    -- what is known of the packet where it is hopped
+    hopped_there : EndsHere c x.outer → IsThere (domain_now w) truth.now g graph nodes r r_among u k facts.own x (node_place g c.conf.system) x.ttl
+    hopped_there ends =
+        subst (λ (z : ℕ). IsThere (domain_now w) truth.now g graph nodes r r_among u k facts.own x z x.ttl) (sym node) (course_there (domain_now w) truth.now g graph nodes r r_among u k facts.own a b x i lives (at_target ends))
+
+    -- the tunnels from there are short enough
+    fits_there : EndsHere c x.outer → FitTunnels g (next_for r g x.triple x.entropy k) (node_place g c.conf.system)
+    fits_there ends = subst (FitTunnels g (next_for r g x.triple x.entropy k)) (sym (node ∙ at_target ends)) i.covers.tunnels
+
     -- a copy that the hop makes for the id
-    hop_keeps : FitTunnels g (next_for r g x.triple x.entropy k) u → EndsHere c x.outer → AllByRecursion (λ (z : Sending). On x.number k z.from z.link z.item) (hop_made confs b c x x.ttl).sent
-    hop_keeps fit ends =
+    hop_keeps : EndsHere c x.outer → AllByRecursion (λ (z : Sending). On x.number k z.from z.link z.item) (hop_made confs b c x x.ttl).sent
+    hop_keeps ends =
         let v = control_view c in
         each_weaker (IsHopSent confs b c.conf v (node_place v c.conf.system) x x.ttl) (λ (z : Sending). On x.number k z.from z.link z.item) one (hop_made confs b c x x.ttl).sent (hop_made_is confs b c.conf v (node_place v c.conf.system) x x.ttl).sent
       where
@@ -160,7 +167,7 @@ module _ (w : WorldState) (truth : IsTruthful w) (s : ℕ) (ingress : Control) (
         one z h =
             let k' : IsHopSent confs b c.conf g (node_place g c.conf.system) x x.ttl z = subst (λ (v : List ViewNode). IsHopSent confs b c.conf v (node_place v c.conf.system) x x.ttl z) same_view h in
             subst (λ (y : Sending). On x.number k y.from y.link y.item) (sym k'.is) (λ number named. course_back k b k'.way.link (record x { bift = k'.way.bift; ids = k'.ids; ttl = k'.left; outer = k'.way.outer })
-            (copy_course (domain_now w) truth.now g graph nodes r r_among u k facts.own x (node_place g c.conf.system) x.ttl (hopped_there ends) confs b c.conf conf refl z k' named fit))
+            (copy_course (domain_now w) truth.now g graph nodes r r_among u k facts.own x (node_place g c.conf.system) x.ttl (hopped_there ends) confs b c.conf conf refl z k' named (fits_there ends)))
 
     hop_drops : EndsHere c x.outer → AllByRecursion (IsOther x.number k) (hop_made confs b c x x.ttl).drops
     hop_drops ends =
@@ -198,11 +205,11 @@ module _ (w : WorldState) (truth : IsTruthful w) (s : ℕ) (ingress : Control) (
 
     -- ---- whatever becomes of it
 
-    pub taken_keeps : FitTunnels g (next_for r g x.triple x.entropy k) u → OuterFits nows x.outer → AllByRecursion (λ (z : Sending). On x.number k z.from z.link z.item) (packet_taken confs b c x x.outer).sent
-    taken_keeps fit fits = by (packet_taken confs b c x x.outer) (fate_of confs b c x)
+    pub taken_keeps : OuterFits nows x.outer → AllByRecursion (λ (z : Sending). On x.number k z.from z.link z.item) (packet_taken confs b c x x.outer).sent
+    taken_keeps fits = by (packet_taken confs b c x x.outer) (fate_of confs b c x)
       where
         by : (m : Made) → Fate confs b c x m → AllByRecursion (λ (z : Sending). On x.number k z.from z.link z.item) m.sent
-        by m (Hops ends is) = subst (λ (z : Made). AllByRecursion (λ (y : Sending). On x.number k y.from y.link y.item) z.sent) (sym is) (hop_keeps fit ends)
+        by m (Hops ends is) = subst (λ (z : Made). AllByRecursion (λ (y : Sending). On x.number k y.from y.link y.item) z.sent) (sym is) (hop_keeps ends)
         by m (GoesOn t e on more is) = subst (λ (z : Made). AllByRecursion (λ (y : Sending). On x.number k y.from y.link y.item) z.sent) (sym is) (onward_keeps t e fits on (sent_onward confs b c.conf (control_view c) (node_place (control_view c) c.conf.system) x t) (onward_here t e fits on))
         by m (Ends t e on few is) = absurd (lives_on (domain_now w) truth.now g graph nodes r r_among u k facts.own a b x i c.conf conf t e fits on few)
 

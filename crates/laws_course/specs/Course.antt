@@ -3,9 +3,11 @@
 --
 -- A router's index in the domain is called a or b, and its node in a topology is found by its system ID. The ingress is
 -- the node u of the topology g, and has the configuration r.
-use Rattle.std.specs.Prelude.{◌≡◌, ℕ, zero, suc, ◌-◌, ◌<◌, ◌≤◌, ◌%◌, ◌⊎◌, Bool, true, false, List, [], ◌∷◌, ◌++◌, length, slice_get, Option, Some, None}
+use Rattle.std.specs.Prelude.{◌≡◌, ℕ, zero, suc, ◌+◌, ◌-◌, ◌<◌, ◌≤◌, ◌%◌, ◌⊎◌, Bool, true, false, List, [], ◌∷◌, ◌++◌, length, slice_get, Option, Some, None}
 use Rattle.std.specs.List.{AllByRecursion, fold}
 use Rattle.wire_base.specs.declared.conf.RouterConf.{RouterConf}
+use Rattle.wire_base.specs.declared.conf.SubKind.{SubKind}
+use Rattle.wire_base.specs.declared.conf.TableRow.{TableRow}
 use Rattle.wire_base.specs.declared.triple.Triple.{Triple}
 use Rattle.wire_base.specs.declared.view.ViewNode.{ViewNode}
 use Rattle.wire_base.specs.model.Choice.{choose, is_direct}
@@ -13,9 +15,9 @@ use Rattle.wire_base.specs.model.Configuration.{DomainConf, IsValid}
 use Rattle.wire_base.specs.model.Control.{Control}
 use Rattle.wire_base.specs.model.Graph.{is_overloaded, owner}
 use Rattle.wire_base.specs.model.Hop.{has}
-use Rattle.wire_base.specs.model.HopCount.{CoversPath, tunnel_links}
+use Rattle.wire_base.specs.model.HopCount.{hops, tunnel_links}
 use Rattle.wire_base.specs.model.Item.{Item, ControlItem, PacketItem, DataItem, Outer, target_of}
-use Rattle.wire_base.specs.model.OnFrame.{node_place}
+use Rattle.wire_base.specs.model.OnFrame.{node_place, outer_ttl}
 use Rattle.wire_base.specs.model.Place.{own_id}
 use Rattle.wire_base.specs.model.Tight.{IsTight}
 use Rattle.wire_base.specs.model.View.{control_view}
@@ -52,9 +54,22 @@ Follows next (suc j) u x = (y : ℕ) × (next u ≡ Some y) × Follows next j y 
 abbrev pub IsPassed : (ℕ → Option ℕ) → ℕ → ℕ → Type 0
 IsPassed next u y = (y ≡ u) ⊎ ((j : ℕ) × Follows next j u y)
 
--- each tunnel of the path from u has at most 255 links
+-- each tunnel of the path from u has at most 255 links, as many as its outer TTL covers
 abbrev pub FitTunnels : List ViewNode → (ℕ → Option ℕ) → ℕ → Type 0
-FitTunnels g next u = (y z h : ℕ) → IsPassed next u y → next y ≡ Some z → is_direct g y z ≡ false → tunnel_links g z y ≡ Some h → h ≤ 255
+FitTunnels g next u = (y z h : ℕ) → IsPassed next u y → next y ≡ Some z → is_direct g y z ≡ false → tunnel_links g z y ≡ Some h → h ≤ outer_ttl
+
+-- A TTL covers the path from u to the owner of k: it is at least the number of hops, and the tunnels of the path are short enough.
+pub record CoversPath (g : List ViewNode) (kinds : List SubKind) (table : List TableRow) (t : Triple) (u class k ttl : ℕ) : Type 0 where
+  pub count : ℕ
+  pub is : hops g kinds table t class k u ≡ Some count
+  pub enough : count ≤ ttl
+  pub tunnels : FitTunnels g (λ y. choose g kinds table t class y k) u
+
+-- y is the node that a tunnel of h links to x reaches over its link number j + 1: that many fewer links are left
+pub record LinksLeft (g : List ViewNode) (x y h j : ℕ) : Type 0 where
+  pub left : ℕ
+  pub are : tunnel_links g x y ≡ Some left
+  pub fewer : h ≡ left + (j + 1)
 
 -- ---- courses
 
@@ -106,10 +121,6 @@ abbrev pub Kept : WorldState → RouterConf → List ViewNode → ℕ → ℕ �
 Kept w r g u n k =
     (a link : ℕ) → AllByRecursion (IfCopyFor (IsOnCourse w.domain.routers r g u k a (peer_place w.domain.routers a link)) n k) (queue_at w.flights a link)
 
--- and their tunnels are short enough
-abbrev pub TunnelsFit : WorldState → RouterConf → List ViewNode → ℕ → ℕ → ℕ → Type 0
-TunnelsFit w r g u n k = (a link : ℕ) → AllByRecursion (IfCopyFor (λ x. FitTunnels g (next_for r g x.triple x.entropy k) u) n k) (queue_at w.flights a link)
-
 -- ---- events
 
 -- whether an event loses a copy of injection n
@@ -121,11 +132,10 @@ loses_copy w n e = false
 abbrev pub IsReachable : RouterConf → List ViewNode → ℕ → Injection → ℕ → Type 0
 IsReachable r g u i k = (own_id r i.sd ≡ Some k) ⊎ ((x : ℕ) × (next_for r g (triple_for i k) i.entropy k u ≡ Some x))
 
--- k is reachable at the injection, whose TTL covers the path, and whose tunnels are short enough
+-- k is reachable at the injection, whose TTL covers the path
 pub record IsCovered (r : RouterConf) (g : List ViewNode) (u : ℕ) (i : Injection) (k : ℕ) : Type 0 where
   pub reachable : IsReachable r g u i k
   pub covers : CoversPath g r.kinds r.table (triple_for i k) u (i.entropy % 16) k i.ttl
-  pub tunnels : FitTunnels g (next_for r g (triple_for i k) i.entropy k) u
 
 -- ---- runs
 
@@ -162,14 +172,13 @@ pub record Begins (w : WorldState) (e : Event) (c : Control) (n k : ℕ) (i : In
   pub covered : IsCovered c.conf (control_view c) (own_node c) i k
 
 -- The injection n was made before, at the router c of index s. Its copies for k are on their course in the topology of
--- c, with which all topologies agree; their tunnels are short enough; and the event loses no copy of it.
+-- c, with which all topologies agree; and the event loses no copy of it.
 pub record GoesOn (w : WorldState) (e : Event) (s : ℕ) (c : Control) (n k : ℕ) : Type 0 where
   pub truth : IsTruthful w
   pub ingress : slice_get w.routers s ≡ Some c
   pub agreed : Agreed w (control_view c) (own_node c)
   pub made : n ≤ w.injections
   pub kept : KeptFor w c n k
-  pub tunnels : TunnelsFit w c.conf (control_view c) (own_node c) n k
   pub harmless : loses_copy w n e ≡ false
 
 -- A run, an event that is its injection n and names k, and the events after it, each allowed. k is reachable at the

@@ -10,5 +10,5 @@ mod ways;
 
 pub use once::{reachable_ids_arrive_once, runs_carry_reachable_ids};
 pub use steps::copies_stay_on_course;
-pub use tunnels::tunnels_of_small_views_fit;
+pub use tunnels::{outer_ttls_cover_short_tunnels, tunnels_of_small_views_fit};
 pub use ways::chosen_copies_are_sent;
