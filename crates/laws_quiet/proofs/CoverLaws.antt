@@ -13,7 +13,7 @@ use Rattle.wire_base.specs.model.Control.{Control}
 use Rattle.wire_base.specs.model.Graph.{IsGraph, has_id_at, node_has_id}
 use Rattle.wire_base.specs.model.HopCount.{hops}
 use Rattle.wire_base.specs.model.Item.{Item, ControlItem, PacketItem}
-use Rattle.wire_base.specs.model.OnFrame.{node_place}
+use Rattle.wire_base.specs.model.OnFrame.{node_place, outer_ttl}
 use Rattle.wire_base.specs.model.OwnLsp.{info_of}
 use Rattle.wire_base.specs.model.Place.{id_of, own_id, sub_in}
 use Rattle.wire_base.specs.model.View.{control_view, sub_of}
@@ -31,12 +31,12 @@ use Rattle.domain_model.proofs.EachLaws.{each_got}
 use Rattle.laws_ledger.specs.Ledger.{Injection, entered, triple_for}
 use Rattle.laws_ledger.specs.Runs.{unlined}
 use Rattle.laws_ledger.specs.Weights.{is_of, is_one_of, takes_copy}
-use Rattle.laws_course.specs.Course.{Agreed, FitTunnels, HasAgreed, IsCarried, IsCovered, IsSteady, loses_copy, next_for, own_node}
-use Rattle.laws_course.proofs.KnownLaws.{few_nodes, known_of}
+use Rattle.laws_course.specs.Course.{Agreed, HasAgreed, IsCarried, IsCovered, IsSteady, loses_copy, own_node}
+use Rattle.laws_course.proofs.KnownLaws.{known_of}
 use Rattle.laws_course.proofs.NodeLaws.{node_some}
-use Rattle.laws_course.proofs.OnceLaws.{small_fit}
 use Rattle.laws_quiet.specs.Cover.{AreTakes, IsCoveredRun, covers_id, is_covered, is_own, way_from}
 use Rattle.laws_quiet.proofs.AgreeLaws.{agreed}
+use Rattle.laws_quiet.proofs.LongestLaws.{owner_fits, way_fits}
 
 -- ---- BFR-ids that are covered
 
@@ -85,31 +85,30 @@ module _ (w : WorldState) (truth : IsTruthful w) (a : ℕ) (c : Control) (at : s
   graph : IsGraph (control_view c)
   graph = (known_of (domain_now w) truth.now c control).graph
 
-  pub few_here : length (control_view c) ≤ 255
-  few_here =
-      let few = few_nodes w a c truth at in
-      let most : length w.domain.routers ≤ 250 = truth.valid.consistent.few in
-      omega (arith, few, most)
-
-  fits : (k : ℕ) (i : Injection) → FitTunnels (control_view c) (next_for c.conf (control_view c) (triple_for i k) i.entropy k) (own_node c)
-  fits k i = small_fit (control_view c) (next_for c.conf (control_view c) (triple_for i k) i.entropy k) (own_node c) few_here
+  node : own_node c < length (control_view c)
+  node = (known_of (domain_now w) truth.now c control).own
 
   own_covered : (k : ℕ) (i : Injection) → own_id c.conf i.sd ≡ Some k → IsCovered c.conf (control_view c) (own_node c) i k
-  own_covered k i own = record {
-    reachable = inl own;
-    covers = record { count = 0; is = hops_here (control_view c) graph c.conf.kinds c.conf.table (triple_for i k) (i.entropy % 16) k (own_node c) (own_has i.sd k own); enough = omega arith };
-    tunnels = fits k i;
-  }
+  own_covered k i own =
+      let t = triple_for i k in
+      record {
+        reachable = inl own;
+        covers = record {
+          count = 0;
+          is = hops_here (control_view c) graph c.conf.kinds c.conf.table t (i.entropy % 16) k (own_node c) (own_has i.sd k own);
+          enough = omega arith;
+          tunnels = owner_fits (control_view c) graph c.conf.kinds c.conf.table t (i.entropy % 16) k (own_node c) node (own_has i.sd k own);
+        };
+      }
 
-  on_covered : (k : ℕ) (i : Injection) (w : Way) → way_from c (triple_for i k) (i.entropy % 16) k ≡ Some w → 0 < w.hops → w.hops ≤ i.ttl → IsCovered c.conf (control_view c) (own_node c) i k
-  on_covered k i w way some enough =
+  on_covered : (k : ℕ) (i : Injection) (w : Way) → way_from c (triple_for i k) (i.entropy % 16) k ≡ Some w → 0 < w.hops → w.hops ≤ i.ttl → w.longest ≤ outer_ttl → IsCovered c.conf (control_view c) (own_node c) i k
+  on_covered k i w way some enough short =
       let g = control_view c in
       let is : hops g c.conf.kinds c.conf.table (triple_for i k) (i.entropy % 16) k (own_node c) ≡ Some w.hops =
       sym (hops_are g graph c.conf.kinds c.conf.table (triple_for i k) (i.entropy % 16) k (own_node c)) ∙ ap (option_map (λ (x : Way). x.hops)) way in
       record {
         reachable = inr (first_hop g graph c.conf.kinds c.conf.table (triple_for i k) (i.entropy % 16) k (own_node c) w.hops is some);
-        covers = record { count = w.hops; is = is; enough = enough };
-        tunnels = fits k i;
+        covers = record { count = w.hops; is = is; enough = enough; tunnels = way_fits g graph c.conf.kinds c.conf.table (triple_for i k) (i.entropy % 16) k (own_node c) node w way short };
       }
 
   pub covered_is : (k : ℕ) (i : Injection) → covers_id c i.sd i.bsl i.ttl i.entropy k ≡ true → IsCovered c.conf (control_view c) (own_node c) i k
@@ -120,7 +119,7 @@ module _ (w : WorldState) (truth : IsTruthful w) (a : ℕ) (c : Control) (at : s
       on (Some w) q e =
           let p = and_parts (nat_lt 0 w.hops) _ e in
           let r = and_parts (nat_le w.hops i.ttl) _ p.1 in
-          on_covered k i w q (ltb-true 0 w.hops p.0) (leb-true w.hops i.ttl r.0)
+          on_covered k i w q (ltb-true 0 w.hops p.0) (leb-true w.hops i.ttl r.0) (leb-true w.longest outer_ttl r.1)
 
       by : (is_own (own_id c.conf i.sd) k ≡ true) ⊎ (is_covered i.ttl (way_from c (triple_for i k) (i.entropy % 16) k) ≡ true) → IsCovered c.conf (control_view c) (own_node c) i k
       by (inl own) = own_covered k i (own_is (own_id c.conf i.sd) k own)

@@ -25,10 +25,9 @@ use Rattle.laws_ledger.proofs.SourceLaws.{IfPacket}
 use Rattle.laws_ledger.proofs.SumLaws.{sum-none}
 use Rattle.laws_course.specs.Course.{Agreed, GoesOn, KeptFor, own_node}
 use Rattle.laws_course.proofs.LawLaws.{begun, gone_on}
-use Rattle.laws_course.proofs.OnceLaws.{all_fit}
 use Rattle.laws_quiet.specs.Cover.{AreTakes, IsCoveredAt, deliveries_by, drops_by}
 use Rattle.laws_quiet.proofs.AgreeLaws.{agreed}
-use Rattle.laws_quiet.proofs.CoverLaws.{KeepsRouters, agreed_kept, covered_is, few_here, inject_keeps, take_keeps, take_loses_none}
+use Rattle.laws_quiet.proofs.CoverLaws.{KeepsRouters, agreed_kept, covered_is, inject_keeps, take_keeps, take_loses_none}
 
 both_none : (a b : ℕ) → a ≡ 0 → b ≡ 0 → a + b ≡ 0
 both_none a b p q = omega (arith, p, q)
@@ -103,7 +102,6 @@ module _ (s : ℕ) (c : Control) (n k : ℕ) where
     agreed = h.agreed;
     made = h.made;
     kept = h.kept;
-    tunnels = all_fit w c.conf (control_view c) (own_node c) n k (few_here w h.truth s c h.ingress);
     harmless = take_loses_none w n e takes;
   }
 

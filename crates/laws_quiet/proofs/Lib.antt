@@ -3,6 +3,7 @@ pub mod ClaimLaws
 pub mod CoverLaws
 pub mod DeliverLaws
 pub mod EdgeLaws
+pub mod LongestLaws
 pub mod OwnLaws
 pub mod SaidLaws
 pub mod SameLaws

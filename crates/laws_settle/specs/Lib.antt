@@ -1,0 +1,5 @@
+pub mod Fresh
+pub mod Gentle
+pub mod Idle
+pub mod Settled
+pub mod Width
