@@ -10,7 +10,7 @@ use Rattle.wire_base.specs.declared.view.ViewNode.{ViewNode}
 use Rattle.bier_tunnel.specs.declared.ways.Way.{Way}
 use Rattle.bift_table.specs.declared.any.AnyTable.{AnyTable}
 use Rattle.bier_forward.specs.declared.routes.ClassTable.{ClassTable}
-use Rattle.bier_forward.specs.declared.routes.Routes.{Routes}
+use Rattle.bier_forward.specs.declared.cache.Routes.{Routes}
 use Rattle.bier_forward.specs.declared.routes.TripleRows.{TripleRows}
 use Rattle.bier_forward.specs.Kept.{AreRoutes, HasRows, HasTable, IsKeptRows, IsKeptTable}
 use Rattle.bier_forward.specs.Tunnels.{IsBuilt}

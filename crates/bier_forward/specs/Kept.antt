@@ -12,7 +12,7 @@ use Rattle.bift_table.specs.Bift.{member_at, router_at, table_of}
 use Rattle.bier_forward.specs.declared.routes.ClassTable.{ClassTable}
 use Rattle.bier_forward.specs.declared.routes.Period.{Period}
 use Rattle.bier_forward.specs.declared.routes.Period.TheVariants.{One, Two, Four, Eight, Sixteen}
-use Rattle.bier_forward.specs.declared.routes.Routes.{Routes}
+use Rattle.bier_forward.specs.declared.cache.Routes.{Routes}
 use Rattle.bier_forward.specs.declared.routes.TripleRows.{TripleRows}
 use Rattle.bier_forward.specs.Hops.{AreRows}
 use Rattle.bier_forward.specs.Tunnels.{IsBuilt}

@@ -11,10 +11,10 @@ ghost use Rattle.bier_forward.specs.Kept.{AreRoutes};
 ghost use Rattle.bier_forward.specs.Packets.{LeadsToEnds, entered, entering_with};
 ghost use Rattle.bier_forward.specs.Sets.{HasLength};
 
+use crate::cache::Routes;
 use crate::effects::Effects;
 use crate::forward::{hop_onto, own_id};
 use crate::incoming::Incoming;
-use crate::routes::Routes;
 use bfr_edge::{Packet, head_of};
 use std::alloc::Global;
 use wire_base::limits::MOST_PAYLOAD;

@@ -13,10 +13,10 @@ ghost use Rattle.bier_forward.specs.Kept.{AreRoutes, HasTable, LeadsAs};
 ghost use Rattle.bier_forward.specs.Packets.{IsShort, LeadsToEnds, hopped};
 ghost use Rattle.bier_forward.specs.Tunnels.{IsBuilt};
 
+use crate::cache::Routes;
 use crate::effects::Effects;
 use crate::incoming::Incoming;
 use crate::outcome::give;
-use crate::routes::Routes;
 use bier_bits::{AnyBits, BitString};
 use bier_hop::Hop;
 use bier_tunnel::Fib;

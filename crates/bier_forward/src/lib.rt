@@ -7,6 +7,7 @@
 #![tactic(auto)]
 
 mod bift;
+mod cache;
 mod copy;
 mod effects;
 mod enter;
@@ -19,10 +20,10 @@ mod table_rows;
 mod transit;
 mod ways;
 
+pub use cache::Routes;
 pub use effects::{DropNote, Effects};
 pub use enter::enter_packets;
 pub use forward::hop_packet;
 pub use incoming::{Incoming, read_packet};
-pub use routes::Routes;
 pub use sent_frames::SentFrames;
 pub use transit::forward_tunnel;

@@ -1,23 +1,18 @@
-//! What a router caches for its present topology: rows, tables and the routes of tunnels, each built on first use.
+//! How a router builds what it caches: rows, tables and the routes of tunnels, each on first use.
 ghost use Rattle.std.specs.Prelude.{◌≡◌, ◌<◌, ◌≤◌, ◌%◌, Some, IfOk, IfSome, OnOk, List, length, slice_get};
 ghost use Rattle.std.specs.List.{AllByRecursion};
 ghost use Rattle.wire_base.specs.declared.conf.RouterConf.{RouterConf as Conf};
 ghost use Rattle.wire_base.specs.declared.view.ViewNode.{ViewNode as Node};
 ghost use Rattle.wire_base.specs.model.Place.{same_triple};
+ghost use Rattle.bier_forward.specs.declared.cache.TheConstants.{MOST_ROWS};
 ghost use Rattle.bier_forward.specs.Kept.{AreRoutes, FitsSize, HasRows, HasTable, IsKeptRows, IsKeptTable, IsPeriod, number_of};
 ghost use Rattle.bier_forward.specs.Tunnels.{IsBuilt};
 
+use crate::cache::{MOST_ROWS, MOST_TABLES, Routes};
 use crate::table_rows::table_rows;
-use bier_tunnel::Fib;
 use bift_table::AnyTable;
 use std::alloc::Global;
 use wire_base::{FirstList, M, RouterConf, RowSet, Triple, View};
-
-/// The maximum number of triples whose rows are cached.
-const MOST_ROWS: usize = 4;
-
-/// The maximum number of cached tables: for one triple at most those of all classes.
-const MOST_TABLES: usize = 16;
 
 /// The rows of a triple.
 #[derive(Drop)]
@@ -43,16 +38,6 @@ pub struct ClassTable {
     period: Period,
     class: u8,
     pub(crate) table: AnyTable,
-}
-
-/// What a router caches for its present topology: the rows of the last few triples; their tables, each for all classes that select
-/// the same routers, the newest first; and the routes of tunnels. All are built on first use, and all belong to one topology:
-/// another topology starts with an empty cache.
-#[derive(Drop)]
-pub struct Routes {
-    rows: Vec<TripleRows>,
-    pub(crate) tables: Vec<ClassTable>,
-    pub(crate) fib: Option<Fib>,
 }
 
 impl Period {
@@ -144,6 +129,8 @@ fn table_place(tables: &[ClassTable], triple: Triple, class: u8) -> Option<usize
 fn keep_rows(kept: &mut Vec<TripleRows>, conf: &RouterConf, view: &View, triple: Triple) -> M<usize>
     requires ends { length conf.now.ends ≤ 65536 }
     requires kept { AllByRecursion (IsKeptRows conf.now view.now.nodes) kept.old.items }
+    requires few { length kept.old.items ≤ MOST_ROWS }
+    ensures few { length kept.new.items ≤ MOST_ROWS }
     ensures kept { OnOk result (AllByRecursion (IsKeptRows conf.now view.now.nodes) kept.new.items) }
     ensures rows { IfOk result (λ i. IfSome (slice_get kept.new.items i) (λ k. HasRows conf.now view.now.nodes triple k.rows.bits)) }
     ensures within { IfOk result (λ i. i < length kept.new.items) }

@@ -10,9 +10,9 @@ ghost use Rattle.bier_forward.specs.Kept.{AreRoutes};
 ghost use Rattle.bier_tunnel.specs.Ways.{next_of};
 ghost use Rattle.bier_forward.specs.Tunnels.{IsBuilt, carried_on, link_to_prefix};
 
+use crate::cache::Routes;
 use crate::copy::ip_head;
 use crate::effects::Effects;
-use crate::routes::Routes;
 use crate::ways::{build, end_at};
 use bier_tunnel::{Fib, Next, next_of};
 use gre_ip::{Tunnel, write_onward};

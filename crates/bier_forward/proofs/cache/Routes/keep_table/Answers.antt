@@ -4,7 +4,7 @@ use Rattle.bier_forward.specs.declared.routes.ClassTable.{ClassTable}
 use Rattle.bier_forward.specs.declared.routes.TripleRows.{TripleRows}
 use Rattle.bier_forward.specs.Kept.{HasRows, HasTable, IsKeptTable, IsPeriod}
 use Rattle.bier_forward.proofs.KeptLaws.{all-take, kept-from, read-at}
-use Rattle.bier_forward.proofs.routes.Routes.keep_table.Goals as goal
+use Rattle.bier_forward.proofs.cache.Routes.keep_table.Goals as goal
 
 pub returns-in-Some-clause-table : goal.returns-in-Some-clause-table
 returns-in-Some-clause-table c =
