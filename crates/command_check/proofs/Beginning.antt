@@ -23,7 +23,8 @@ use Rattle.command_drive.specs.declared.command.Flow.TheVariants as flow
 use Rattle.command_drive.specs.Reading.{Behind}
 use Rattle.command_drive.specs.Doing.{Did, told}
 use Rattle.command_replay.specs.Course.{Turned, turn_owes, unless_rejected}
-use Rattle.command_replay.specs.Owed.{Rest, unsaid, state_of, unless_refused, rounds_owe, said_owes, Rounds, Begins}
+use Rattle.domain_replay.specs.Parts.{unsaid, state_of}
+use Rattle.command_replay.specs.Owed.{Rest, unless_refused, rounds_owe, said_owes, Rounds, Begins}
 use Rattle.command_replay.proofs.Answered.{said_told}
 use Rattle.command_replay.proofs.Steps.{did_as}
 use Rattle.command_check.specs.Checked.{base_turn, answer_turn, refusal_turn, cover_turn, read_turn, said_turn, check_turns}

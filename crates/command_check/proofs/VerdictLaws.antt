@@ -20,15 +20,16 @@ use Rattle.domain_core.specs.Quiet.{quiet_of}
 use Rattle.domain_core.proofs.CoverRuns.{none_dropped, are_delivered}
 use Rattle.domain_core.proofs.QuietLaws.{yes_is_quiet, quiet_is_yes}
 use Rattle.replay_report.specs.declared.recording.Recording.TheVariants.{Pcap}
+use Rattle.domain_replay.specs.Captures.{capture_front}
 use Rattle.domain_replay.specs.Lines.{quiet_text, cover_text}
+use Rattle.domain_replay.specs.Parts.{Past, past_and}
 use Rattle.domain_replay.specs.Telling.{ReplayState, first_state}
 use Rattle.domain_replay.specs.Texts.{names_of}
-use Rattle.command_replay.specs.Course.{Turned, Course, lines_course, course_by}
+use Rattle.command_replay.specs.Course.{Turned, Course, course_part, lines_course, course_by, opens_with}
 use Rattle.command_replay.proofs.Coursed.{course_joined}
 use Rattle.command_check.specs.Checked.{answer_turn, cover_turn, read_turn, check_turns, check_course}
 use Rattle.command_check.specs.Verdicts.{world_at, Follows, Reports, IsAnsweredQuiet, IsReachedIn, IsAnsweredCover}
-use Rattle.command_check.proofs.Allowed.{course_allowed}
-use Rattle.command_check.proofs.CheckCourse.{IsFrom, course_from, names_from}
+use Rattle.command_check.proofs.CheckCourse.{course_is, names_from}
 
 -- one line
 one_line : (n : ℕ) (s : ReplayState) (text reported : List ℕ) → check_turns (n + 1) text s ≡ answer_turn s reported → (lines_course check_turns n s (text ∷ [])).report ≡ reported
@@ -40,9 +41,8 @@ module _ (d : DomainConf) (before : List (List ℕ)) where
   state : ReplayState
   state = (check_course d before).state
 
-  from : IsFrom d (check_course d before).events state
-  unfolding state
-  from = course_from d before
+  abbrev past : Past
+  past = past_and (opens_with (capture_front Pcap d.routers)) (course_part (check_course d before))
 
   -- a line that is answered
   answered : (text reported : List ℕ) (said : CheckLine) → Follows d before text said → read_turn (length before + 1) (Ok said) state ≡ answer_turn state reported → Reports d before text reported
@@ -50,7 +50,7 @@ module _ (d : DomainConf) (before : List (List ℕ)) where
   answered text reported said follows is =
       let c = check_course d before in
       let count : 0 + length before ≡ length before = omega arith in
-      let reads : check_line text (names_of c.state.world.domain) ≡ Ok said = ap (check_line text) (names_from d c.events c.state (course_from d before)) ∙ follows.reads in
+      let reads : check_line text (names_of c.state.world.domain) ≡ Ok said = ap (check_line text) (names_from d past c.state (course_is d before)) ∙ follows.reads in
       ap (λ (x : Course ReplayState). x.report) (course_joined check_turns before (text ∷ []) 0 (first_state Pcap d) follows.runs)
       ∙ ap (λ (m : ℕ). c.report ++ (lines_course check_turns m c.state (text ∷ [])).report) count
       ∙ ap (λ (l : List ℕ). c.report ++ l)
@@ -58,14 +58,14 @@ module _ (d : DomainConf) (before : List (List ℕ)) where
 
   world_is : state.world ≡ world_at d before
   unfolding state
-  world_is = let is = course_from d before in is.world
+  world_is = (course_is d before).part.world
 
   routers_are : (world_at d before).domain.routers ≡ d.routers
-  routers_are = let is = course_from d before in ap (λ (x : DomainConf). x.routers) is.run.domain
+  routers_are = ap (λ (x : DomainConf). x.routers) (course_is d before).part.run.domain
 
   module _ (valid : IsValid d) where
     truth : IsTruthful (world_at d before)
-    truth = true_after d valid (check_course d before).events (course_allowed d valid before)
+    truth = true_after d valid (check_course d before).events ((course_is d before).allowed valid)
 
     pub quiet_holds : (text : List ℕ) → Follows d before text check.Quiet → IsAnsweredQuiet d before text
     quiet_holds text follows = record {
@@ -73,11 +73,11 @@ module _ (d : DomainConf) (before : List (List ℕ)) where
           (ap (λ (w : WorldState). answer_turn state (quiet_text w.domain.routers (length before + 1) (quiet_of w))) world_is
           ∙ ap (λ (rs : List RouterConf). answer_turn state (quiet_text rs (length before + 1) (quiet_of (world_at d before)))) routers_are);
       quiet = (yes_is_quiet (world_at d before) truth, quiet_is_yes (world_at d before) truth);
-      agreed = λ yes a c at. run_agrees d (check_course d before).events valid (course_allowed d valid before) a c (yes_is_quiet (world_at d before) truth yes) at;
+      agreed = λ yes a c at. run_agrees d (check_course d before).events valid ((course_is d before).allowed valid) a c (yes_is_quiet (world_at d before) truth yes) at;
     }
 
     issuers : AreIssuers (world_at d before).routers
-    issuers = (run_issuing d (check_course d before).events valid (course_allowed d valid before)).issuers
+    issuers = (run_issuing d (check_course d before).events valid ((course_is d before).allowed valid)).issuers
 
     module _ (router sd : ℕ) (bsl : Bsl) (ids : List ℕ) (ttl entropy : ℕ) (ks : List ℕ) (covers : cover_of (world_at d before) router sd bsl ids ttl entropy ≡ Ok ks) where
       abbrev event : List ℕ → Event

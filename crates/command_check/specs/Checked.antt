@@ -1,8 +1,9 @@
 -- The command `check`: a schedule in a domain, whose lines may also ask whether the domain is quiet and which BFR-ids an
 -- injection would reach.
-use Rattle.std.specs.Prelude.{ℕ, List, [], ◌∷◌, Option, Some, None, option_map, Result, Ok, Err}
+use Rattle.std.specs.Prelude.{ℕ, ◌≡◌, ◌⊎◌, List, [], ◌∷◌, Option, Some, None, option_map, Result, Ok, Err}
 use Rattle.wire_base.specs.declared.faults.EdgeFault.{EdgeFault}
 use Rattle.wire_base.specs.model.Configuration.{DomainConf}
+use Rattle.quiet_domain.specs.declared.answer.Quiet.{Quiet as Answer}
 use Rattle.replay_text.specs.Check.{check_line}
 use Rattle.replay_text.specs.declared.check.CheckLine.{CheckLine}
 use Rattle.replay_text.specs.declared.check.CheckLine.TheVariants.{Base, Quiet, Cover}
@@ -11,30 +12,18 @@ use Rattle.replay_text.specs.declared.event.Line.{Line}
 use Rattle.replay_text.specs.declared.fault.TextFault.{TextFault}
 use Rattle.domain_model.specs.declared.fault.EventFault.{EventFault}
 use Rattle.domain_model.specs.declared.fault.EventFault.TheVariants.{Edge}
-use Rattle.domain_model.specs.Faults.{event_fault}
 use Rattle.domain_model.specs.Run.{line_events, on_line}
-use Rattle.domain_model.specs.Step.{happens}
-use Rattle.domain_model.specs.World.{WorldState}
 use Rattle.domain_core.specs.Cover.{cover_of}
 use Rattle.domain_core.specs.Quiet.{quiet_of}
 use Rattle.domain_replay.specs.Captures.{capture_front}
 use Rattle.domain_replay.specs.Lines.{quiet_text, cover_text}
+use Rattle.domain_replay.specs.Parts.{unsaid, state_of, allowed_first}
 use Rattle.domain_replay.specs.Telling.{ReplayState, Told, first_state, tells_line}
 use Rattle.domain_replay.specs.Texts.{Refusal, BadText, BadEvent, names_of}
 use Rattle.replay_report.specs.declared.recording.Recording.TheVariants.{Pcap}
 use Rattle.command_replay.specs.Course.{Turned, Turns, Course, Played, lines_course, opens_with, played}
-use Rattle.command_replay.specs.Owed.{state_of, unsaid}
 
 -- ---- a line of a schedule
-
-abbrev pub before_fault : Event → List Event → Option EventFault → List Event
-before_fault e rest None = e ∷ rest
-before_fault e rest (Some why) = []
-
--- the events that are executed: those before the first that is not allowed
-unfoldable pub events_done : WorldState → List Event → List Event
-events_done w [] = []
-events_done w (e ∷ es) = before_fault e (events_done (happens w e).world es) (event_fault w e)
 
 -- what the events of a line report, and why the one after them is not allowed, if one is not
 abbrev pub events_turn : ℕ → List Event → Told → Turned ReplayState
@@ -47,7 +36,7 @@ events_turn line done t = record {
 }
 
 abbrev pub base_turn : ℕ → Line → ReplayState → Turned ReplayState
-base_turn line said s = events_turn line (events_done s.world (line_events s.world said)) (tells_line line (unsaid s) said)
+base_turn line said s = events_turn line (allowed_first s.world (line_events s.world said)) (tells_line line (unsaid s) said)
 
 -- ---- a question
 
@@ -82,6 +71,11 @@ read_turn line (Ok said) s = said_turn line said s
 -- how a line is executed in a running domain
 abbrev pub check_turns : Turns ReplayState
 check_turns line text s = read_turn line (check_line text (names_of s.world.domain)) s
+
+-- What is reported beside the events: the answer to a question.
+abbrev pub IsAnswer : DomainConf → (report frames : List ℕ) → Type 0
+IsAnswer d report frames =
+    (frames ≡ []) × ((report ≡ []) ⊎ (((line : ℕ) × (answer : Answer) × (report ≡ quiet_text d.routers line answer)) ⊎ ((line : ℕ) × (ids : List ℕ) × (report ≡ cover_text line ids))))
 
 -- ---- a schedule
 

@@ -20,11 +20,21 @@ use Rattle.domain_core.specs.Cover.{IsReceived}
 use Rattle.domain_core.specs.Quiet.{quiet_of}
 use Rattle.domain_replay.specs.Lines.{quiet_text, cover_text}
 use Rattle.domain_replay.specs.Texts.{names_of}
-use Rattle.command_check.specs.Checked.{checked}
+use Rattle.domain_replay.specs.Parts.{IsWoven}
+use Rattle.replay_report.specs.declared.recording.Recording.TheVariants.{Pcap}
+use Rattle.laws_replay.specs.Promises.{KeepsPromises}
+use Rattle.command_replay.specs.Course.{played_past}
+use Rattle.command_check.specs.Checked.{checked, IsAnswer}
 
 -- the world of the run after some lines
 abbrev pub world_at : DomainConf → List (List ℕ) → WorldState
 world_at d lines = (checked d lines).run.world
+
+-- What is promised of the run of lines that are checked: all that is promised of runs; and report and capture are those of the run,
+-- with the answers between its events.
+pub record KeepsChecks (d : DomainConf) (lines : List (List ℕ)) : Type 0 where
+  pub run : KeepsPromises d (checked d lines).run
+  pub woven : IsWoven Pcap d (played_past (checked d lines)) (IsAnswer d)
 
 -- a line, with that content, that follows lines none of which is rejected
 pub record Follows (d : DomainConf) (before : List (List ℕ)) (text : List ℕ) (said : CheckLine) : Type 0 where

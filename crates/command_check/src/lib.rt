@@ -12,4 +12,6 @@ mod laws;
 
 pub use check_command::check;
 pub use checking::Checking;
-pub use laws::{checks_keep_promises, cover_answers_hold, quiet_answers_hold};
+pub use laws::{
+    checks_keep_promises, cover_answers_hold, quiet_answers_hold, settle_lines_make_checks_quiet,
+};

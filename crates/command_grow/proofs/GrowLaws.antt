@@ -36,7 +36,8 @@ use Rattle.command_drive.specs.Answer.{Verdict}
 use Rattle.command_drive.specs.Reading.{Behind, Closed, Reads, first}
 use Rattle.command_drive.specs.Doing.{told}
 use Rattle.command_drive.specs.Reporting.{alone}
-use Rattle.command_replay.specs.Owed.{unsaid, state_of, unless_refused}
+use Rattle.domain_replay.specs.Parts.{unsaid, state_of}
+use Rattle.command_replay.specs.Owed.{unless_refused}
 use Rattle.command_grow.specs.Grow.{summary, ends_by, grow_answer}
 use Rattle.command_grow.specs.Counted.{lines_from, counted_then, lines_owe}
 

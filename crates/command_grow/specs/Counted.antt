@@ -10,7 +10,8 @@ use Rattle.command_drive.specs.Answer.{Verdict}
 use Rattle.command_drive.specs.declared.items.Close.TheVariants as close
 use Rattle.command_drive.specs.Reading.{Behind, Closed, Cut}
 use Rattle.command_drive.specs.Doing.{nothing_more}
-use Rattle.command_replay.specs.Owed.{Rest, unsaid, state_of, rejected, unless_refused}
+use Rattle.domain_replay.specs.Parts.{unsaid, state_of}
+use Rattle.command_replay.specs.Owed.{Rest, rejected, unless_refused}
 use Rattle.command_grow.specs.Grow.{summary}
 
 -- that many lines of the schedule from an index on

@@ -1,6 +1,7 @@
 //! The command `grow`: a generated domain that runs its schedule.
 ghost use Rattle.std.specs.Prelude.{◌<◌, ◌≤◌, ℕ, List};
 ghost use Rattle.wire_base.specs.Causes.{last_count};
+ghost use Rattle.wire_base.specs.declared.limits.TheConstants.{MOST_ROUTERS};
 ghost use Rattle.wire_base.specs.declared.status.Status.TheVariants as status;
 ghost use Rattle.command_drive.specs.Reporting.{Reports};
 ghost use Rattle.command_grow.specs.Grow.{grow_answer};
@@ -15,7 +16,7 @@ use wire_base::{Sink, Source, Status};
 /// allocation fails, a prefix of the report is written.
 pub fn grow<R: Sink>(alloc: Global, n: u16, report: &mut R) -> Status
     requires some { 3 ≤ n }
-    requires few { n ≤ 250 }
+    requires few { n ≤ MOST_ROUTERS }
     requires faults { R.faults report.old < last_count }
     requires zeros { R.zeros report.old < last_count }
     ensures { Reports ⟦<NoSource as Source>⟧ R.Sink status.InputRefused (λ (octets : List ℕ). grow_answer n) (λ (octets : List ℕ). grow_answer n) result (record {}) (record {}) report.old report.new }

@@ -1,5 +1,6 @@
 //! The schedule of a generated domain, line by line.
 ghost use Rattle.std.specs.Prelude.{◌≡◌, ◌≤◌, ◌++◌, length, IfOk, OnOk};
+ghost use Rattle.wire_base.specs.declared.limits.TheConstants.{MOST_ROUTERS};
 ghost use Rattle.domain_model.specs.World.{ids_in_flight};
 ghost use Rattle.replay_report.specs.declared.recording.Recording.TheVariants as recordings;
 ghost use Rattle.domain_replay.specs.Telling.{first_state};
@@ -68,7 +69,7 @@ pub struct Growing {
     replay: Replay,
     n: u16,
     line: u32,
-    ghost few: { n ≤ 250 },
+    ghost few: { n ≤ MOST_ROUTERS },
     ghost some: { 3 ≤ n },
     ghost routers: { length replay.world.domain.routers ≡ n },
 }
@@ -77,7 +78,7 @@ impl Growing {
     /// Returns the domain just started, before the first line.
     pub fn new(alloc: Global, n: u16) -> M<Self>
         requires some { 3 ≤ n }
-        requires few { n ≤ 250 }
+        requires few { n ≤ MOST_ROUTERS }
         ensures replay { IfOk result (λ new. new.replay ≡ first_state recordings.Discarded (grown_domain n)) }
         ensures n { IfOk result (λ new. new.n ≡ n) }
         ensures line { IfOk result (λ new. new.line ≡ 0) }

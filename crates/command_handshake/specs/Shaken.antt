@@ -9,9 +9,10 @@ use Rattle.replay_text.specs.Hand.{hand_line}
 use Rattle.domain_model.specs.declared.fault.EventFault.{EventFault}
 use Rattle.replay_report.specs.Captures.{capture_front}
 use Rattle.replay_report.specs.declared.recording.Recording.TheVariants.{Pcap}
+use Rattle.domain_replay.specs.Parts.{Past}
 use Rattle.domain_replay.specs.Texts.{Refusal, BadText, BadEvent, names_of}
-use Rattle.domain_handshake.specs.Handshakes.{HandState, Outcome, base_does, hello_does, start_does}
-use Rattle.command_replay.specs.Course.{Turned, Turns, Course, Opening, Played, lines_course, played}
+use Rattle.domain_handshake.specs.Handshakes.{HandState, Moment, moment_of, Outcome, base_does, hello_does, start_does}
+use Rattle.command_replay.specs.Course.{Turned, Turns, Course, Played, lines_course, played}
 
 -- ---- a line
 
@@ -46,10 +47,10 @@ abbrev pub start_turned : DomainConf → Turned HandState
 start_turned d = turned_by (start_does Pcap d)
 
 -- Before the first line: the front of the capture, and what comes of the interfaces that go down.
-abbrev pub opens_shaken : (front : List ℕ) → Turned HandState → Opening
+abbrev pub opens_shaken : (front : List ℕ) → Turned HandState → Past
 opens_shaken front t = record { report = t.report; frames = front ++ t.frames; events = t.events }
 
-abbrev pub opening : DomainConf → Opening
+abbrev pub opening : DomainConf → Past
 opening d = opens_shaken (capture_front Pcap d.routers) (start_turned d)
 
 -- what the lines come to after that
@@ -60,26 +61,30 @@ shaken_course d lines = lines_course hand_turns 0 (start_turned d).next lines
 abbrev pub shaken : DomainConf → List (List ℕ) → Played
 shaken d lines = played d (opening d) (shaken_course d lines)
 
--- ---- the events of the circuits
+-- ---- the events of the circuits, and the moments
 
--- those of a line
-abbrev pub read_hellos : ℕ → HandState → Result HandLine TextFault → List HelloEvent
-read_hellos line s (Err why) = []
-read_hellos line s (Ok said) = (said_does line s said).hellos
+-- what a line adds to the hellos or the moments
+abbrev pub read_adds : {X : Type 0} → (Outcome → List X) → ℕ → HandState → Result HandLine TextFault → List X
+read_adds part line s (Err why) = []
+read_adds part line s (Ok said) = part (said_does line s said)
 
-unfoldable pub line_hellos : ℕ → List ℕ → HandState → List HelloEvent
-line_hellos line text s = read_hellos line s (hand_line text (names_of s.replay.world.domain))
+unfoldable pub line_adds : {X : Type 0} → (Outcome → List X) → ℕ → List ℕ → HandState → List X
+line_adds part line text s = read_adds part line s (hand_line text (names_of s.replay.world.domain))
 
-abbrev pub unless_ended : Option Refusal → List HelloEvent → List HelloEvent
+abbrev pub unless_ended : {X : Type 0} → Option Refusal → List X → List X
 unless_ended None rest = rest
 unless_ended (Some why) rest = []
 
--- those of the lines after n others, up to a line that is rejected
-unfoldable pub lines_hellos : ℕ → HandState → List (List ℕ) → List HelloEvent
-lines_hellos n s [] = []
-lines_hellos n s (text ∷ more) =
-    let t = hand_turns (n + 1) text s in line_hellos (n + 1) text s ++ unless_ended t.refused (lines_hellos (n + 1) t.next more)
+-- what the lines after n others add, up to a line that is rejected
+unfoldable pub lines_add : {X : Type 0} → (Outcome → List X) → ℕ → HandState → List (List ℕ) → List X
+lines_add part n s [] = []
+lines_add part n s (text ∷ more) =
+    let t = hand_turns (n + 1) text s in line_adds part (n + 1) text s ++ unless_ended t.refused (lines_add part (n + 1) t.next more)
 
--- those of a schedule, in order
+-- the events of the circuits of a schedule, in order
 abbrev pub shaken_hellos : DomainConf → List (List ℕ) → List HelloEvent
-shaken_hellos d lines = lines_hellos 0 (start_turned d).next lines
+shaken_hellos d lines = lines_add (λ o. o.hellos) 0 (start_turned d).next lines
+
+-- the moment before the first line, and then the one after each event
+abbrev pub shaken_moments : DomainConf → List (List ℕ) → List Moment
+shaken_moments d lines = moment_of (start_turned d).next ∷ lines_add (λ o. o.moments) 0 (start_turned d).next lines

@@ -12,9 +12,9 @@ pub fn handshakes_keep_promises()
 {}
 
 /// In a valid domain interfaces follow the three-way handshake. Each goes down before the first line, and none of these events is
-/// rejected. After any lines, none of which is rejected, an interface is up exactly where its adjacency is; and an adjacency that is up
-/// rests on a hello that its router received, that lists this router, and that the neighbor sent after it had received one of this
-/// router's (RFC 5303, 3).
+/// rejected. From then on an interface is up exactly where its adjacency is, before and after each event of the lines, up to the event
+/// or the line that is rejected, if one is; and an adjacency that is up rests on a hello that its router received, that lists this
+/// router, and that the neighbor sent after it had received one of this router's (RFC 5303, 3).
 pub fn interfaces_follow_adjacencies()
     ensures { (d : DomainConf) (lines : List (List ℕ)) → IsValid d → KeepsHandshakes d lines }
 {}

@@ -1,5 +1,5 @@
 -- What command lines mean.
-use Rattle.std.specs.Prelude.{ℕ, ◌≡◌, ◌⊎◌, ◌<◌, List, [], ◌∷◌, map, Option, Some, None, codes, option_map, option_and_then, if◌then◌else◌}
+use Rattle.std.specs.Prelude.{ℕ, ◌-◌, ◌≡◌, ◌⊎◌, ◌<◌, List, [], ◌∷◌, map, Option, Some, None, codes, if◌then◌else◌}
 use Rattle.std.specs.Borrow.{Bor}
 use Rattle.std.specs.Fmt.{decimal}
 use Rattle.std.specs.List.{find, range_with_len}
@@ -7,6 +7,7 @@ use Rattle.std.specs.Str.{bytes_eq}
 use Rattle.wire_base.specs.declared.addresses.SystemId.{SystemId}
 use Rattle.wire_base.specs.declared.conf.Level.{Level}
 use Rattle.wire_base.specs.declared.conf.Level.TheVariants as levels
+use Rattle.wire_base.specs.declared.limits.TheConstants.{MOST_ROUTERS}
 use Rattle.domain_conf.specs.Forms.{system_in}
 use Rattle.command_line.specs.CommandLine as line
 use Rattle.command_line.specs.CommandLine.{CommandLine}
@@ -22,9 +23,9 @@ use Rattle.command_line.specs.declared.arguments.ScheduleKind.TheVariants as kin
 unfoldable pub number_from : (low count : ℕ) → List ℕ → Option ℕ
 number_from low count word = find (λ n. bytes_eq (decimal n) word) (range_with_len low count)
 
--- N of `grow N`: 3 to 250
+-- N of `grow N`: from 3 to the most routers of a domain
 abbrev pub routers_of : List ℕ → Option ℕ
-routers_of word = number_from 3 248 word
+routers_of word = number_from 3 (MOST_ROUTERS - 2) word
 
 -- LEVEL: 1 or 2
 unfoldable pub level_of : List ℕ → Option Level

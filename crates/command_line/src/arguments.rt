@@ -6,6 +6,7 @@ ghost use Rattle.command_line.specs.declared.arguments.Arguments.TheVariants as 
 
 use domain_conf::system_octets;
 use itoa::Buffer;
+use wire_base::limits::MOST_ROUTERS;
 use wire_base::{Level, SystemId};
 
 /// The commands that execute a schedule in a domain.
@@ -46,7 +47,7 @@ pub enum Arguments<'a> {
     Headers {
         capture: &'a str,
     },
-    /// `grow N`: the number of routers, 3 to 250.
+    /// `grow N`: the number of routers, 3 to `MOST_ROUTERS`.
     Grow {
         routers: u16,
     },
@@ -86,9 +87,9 @@ fn number_in(word: &[u8], low: u16, end: u16) -> Option<u16>
 fn grow_by<'a>(word: &[u8]) -> Arguments<'a>
     ensures value { meaning result ≡ grow_of (routers_of word.now) }
     ensures some { (n : ℕ) → result ≡ arguments.Grow n → 3 ≤ n }
-    ensures few { (n : ℕ) → result ≡ arguments.Grow n → n ≤ 250 }
+    ensures few { (n : ℕ) → result ≡ arguments.Grow n → n ≤ MOST_ROUTERS }
 {
-    match number_in(word, 3, 251) {
+    match number_in(word, 3, MOST_ROUTERS as u16 + 1) {
         Some(routers) => Arguments::Grow { routers },
         None => Arguments::Unknown,
     }
@@ -134,7 +135,7 @@ fn topo_by<'a>(capture: &'a str, level: &str, mt: &str, from: &str) -> Arguments
 fn with_one<'a>(command: &str, argument: &'a str) -> Arguments<'a>
     ensures value { meaning result ≡ command_of_one command.now argument.now }
     ensures some { (n : ℕ) → result ≡ arguments.Grow n → 3 ≤ n }
-    ensures few { (n : ℕ) → result ≡ arguments.Grow n → n ≤ 250 }
+    ensures few { (n : ℕ) → result ≡ arguments.Grow n → n ≤ MOST_ROUTERS }
     ensures topology { IsTopology result }
 {
     match command {
@@ -205,7 +206,7 @@ fn with_four<'a>(
 pub fn parse<'a>(words: &[&'a str]) -> Arguments<'a>
     ensures value { meaning result ≡ command_line_in words.now }
     ensures some { (n : ℕ) → result ≡ arguments.Grow n → 3 ≤ n }
-    ensures few { (n : ℕ) → result ≡ arguments.Grow n → n ≤ 250 }
+    ensures few { (n : ℕ) → result ≡ arguments.Grow n → n ≤ MOST_ROUTERS }
     ensures topology { IsTopology result }
 {
     match words {

@@ -35,7 +35,8 @@ use Rattle.command_drive.specs.Lines.{shown, lines_read}
 use Rattle.command_drive.proofs.Inputs.{closes, lines_of_whole, lines_of_front, lines_past_limit}
 use Rattle.command_drive.specs.Doing.{told}
 use Rattle.command_replay.specs.ScheduleText.{ending, ends_so, answer_by, answer_to, schedule_answer, schedule_cut}
-use Rattle.command_replay.specs.Owed.{Rest, unsaid, state_of, rejected, unless_refused, told_then, rounds_owe, said_owes, read_owes, ends, lines_owe}
+use Rattle.domain_replay.specs.Parts.{unsaid, state_of}
+use Rattle.command_replay.specs.Owed.{Rest, rejected, unless_refused, told_then, rounds_owe, said_owes, read_owes, ends, lines_owe}
 use Rattle.command_replay.proofs.SaidLines.{line_doable}
 
 -- ---- verdicts

@@ -13,6 +13,7 @@ use Rattle.replay_text.specs.declared.event.Event.{Event}
 use Rattle.domain_model.specs.World.{ids_in_flight}
 use Rattle.domain_model.specs.Run.{Run, run_of}
 use Rattle.domain_replay.specs.Lines.{done_text}
+use Rattle.domain_replay.specs.Parts.{Past, past_and}
 use Rattle.domain_replay.specs.Telling.{ReplayState}
 use Rattle.domain_replay.specs.Texts.{Refusal, TooLong, refusal_text, run_done_text}
 use Rattle.command_drive.specs.Answer.{Verdict}
@@ -25,7 +26,7 @@ use Rattle.command_drive.proofs.Inputs.{closes, lines_of_whole, lines_of_front, 
 use Rattle.command_drive.proofs.Meanings.{drives_as}
 use Rattle.command_replay.specs.Owed.{ends, rejected}
 use Rattle.command_replay.specs.ScheduleText.{ending}
-use Rattle.command_replay.specs.Course.{Turned, Turns, Course, no_lines, line_before, ends_with, course_by, lines_course, unless_rejected, turn_owes, turns_owe, Opening, Played, played, answer_for, answer_of, plays_mean, ShowsFronts, IsCounted, AreCounted, owed_on, lines_mean, Agree}
+use Rattle.command_replay.specs.Course.{Turned, Turns, turn_part, Course, course_part, no_lines, line_before, ends_with, course_by, lines_course, unless_rejected, turn_owes, turns_owe, Played, played, answer_for, answer_of, plays_mean, ShowsFronts, IsCounted, AreCounted, owed_on, lines_mean, Agree}
 use Rattle.command_replay.proofs.Answered.{behind_of, told_told}
 
 -- ---- the end of a report, by the last state
@@ -43,20 +44,30 @@ ended_so report frames end = record { status = end.0; report = report ++ end.1; 
 told_ended : (a f report frames : List ℕ) (end : Status × List ℕ) → told a f (ended_so report frames end) ≡ ended_so (a ++ report) (f ++ frames) end
 told_ended a f report frames end = let reports = sym (append_assoc a report end.1) in λ i. record { status = end.0; report = reports i; frames = f ++ frames }
 
--- What each line keeps, of the events so far and the state after them, lines keep.
-module _ {S : Type 0} (turns : Turns S) (P : List (ℕ × Event) → S → Type 0) (keeps : (n : ℕ) (text : List ℕ) (es : List (ℕ × Event)) (s : S) → P es s → P (es ++ (turns n text s).events) (turns n text s).next) where
-  pub course_keeps : (lines : List (List ℕ)) (n : ℕ) (es : List (ℕ × Event)) (s : S) → P es s → P (es ++ (lines_course turns n s lines).events) (lines_course turns n s lines).state
+pub past_none : (p : Past) → past_and p (record { report = []; frames = []; events = [] }) ≡ p
+past_none p = let report = append-nil p.report in let frames = append-nil p.frames in let events = append-nil p.events in λ i. record { report = report i; frames = frames i; events = events i }
+
+past_then : (p q r : Past) → past_and (past_and p q) r ≡ past_and p (past_and q r)
+past_then p q r =
+    let report = append_assoc p.report q.report r.report in
+    let frames = append_assoc p.frames q.frames r.frames in
+    let events = append_assoc p.events q.events r.events in
+    λ i. record { report = report i; frames = frames i; events = events i }
+
+-- What each line keeps, of what happened so far and the state after it, lines keep.
+module _ {S : Type 0} (turns : Turns S) (P : Past → S → Type 0) (keeps : (n : ℕ) (text : List ℕ) (past : Past) (s : S) → P past s → P (past_and past (turn_part (turns n text s))) (turns n text s).next) where
+  pub course_keeps : (lines : List (List ℕ)) (n : ℕ) (past : Past) (s : S) → P past s → P (past_and past (course_part (lines_course turns n s lines))) (lines_course turns n s lines).state
   unfolding lines_course
-  course_keeps [] n es s is = subst (λ (l : List (ℕ × Event)). P l s) (sym (append-nil es)) is
-  course_keeps (text ∷ more) n es s is = by (turns (n + 1) text s).refused (keeps (n + 1) text es s is) (λ fs next h. course_keeps more (n + 1) fs next h)
+  course_keeps [] n past s is = subst (λ (p : Past). P p s) (sym (past_none past)) is
+  course_keeps (text ∷ more) n past s is = by (turns (n + 1) text s).refused (keeps (n + 1) text past s is) (λ now next h. course_keeps more (n + 1) now next h)
     where
-      by : (o : Option Refusal) → P (es ++ (turns (n + 1) text s).events) (turns (n + 1) text s).next
-          → ((fs : List (ℕ × Event)) (next : S) → P fs next → P (fs ++ (lines_course turns (n + 1) next more).events) (lines_course turns (n + 1) next more).state)
-          → P (es ++ (course_by (n + 1) (turns (n + 1) text s) (λ next. lines_course turns (n + 1) next more) o).events) (course_by (n + 1) (turns (n + 1) text s) (λ next. lines_course turns (n + 1) next more) o).state
+      by : (o : Option Refusal) → P (past_and past (turn_part (turns (n + 1) text s))) (turns (n + 1) text s).next
+          → ((now : Past) (next : S) → P now next → P (past_and now (course_part (lines_course turns (n + 1) next more))) (lines_course turns (n + 1) next more).state)
+          → let c = course_by (n + 1) (turns (n + 1) text s) (λ next. lines_course turns (n + 1) next more) o in P (past_and past (course_part c)) c.state
       by None here rest =
           let t = turns (n + 1) text s in
           let c = lines_course turns (n + 1) t.next more in
-          subst (λ (l : List (ℕ × Event)). P l c.state) (append_assoc es t.events c.events) (rest (es ++ t.events) t.next here)
+          subst (λ (p : Past). P p c.state) (past_then past (turn_part t) (course_part c)) (rest (past_and past (turn_part t)) t.next here)
       by (Some why) here rest = here
 
 -- lines, none of which is rejected, and then others
@@ -133,7 +144,7 @@ module _ {S : Type 0} (view : S → ReplayState) (turns : Turns S) where
 
   -- ---- a schedule
 
-  module _ (d : DomainConf) (opening : Opening) (start : S) (shows : ShowsFronts turns) (counted : AreCounted view turns d opening.events start) where
+  module _ (d : DomainConf) (opening : Past) (start : S) (shows : ShowsFronts turns) (counted : AreCounted view turns d opening.events start) where
     abbrev plays : List (List ℕ) → Played
     plays lines = played d opening (lines_course turns 0 start lines)
 

@@ -22,7 +22,8 @@ use Rattle.command_drive.specs.declared.command.Flow.{Flow}
 use Rattle.command_drive.specs.declared.command.Flow.TheVariants as flow
 use Rattle.command_drive.specs.Reading.{Behind}
 use Rattle.command_drive.specs.Doing.{Owed, Did, Concludes, told}
-use Rattle.command_replay.specs.Owed.{unsaid, state_of, unless_refused, told_then, rounds_owe, said_owes, read_owes, lines_owe, Does, Rounds, Begins}
+use Rattle.domain_replay.specs.Parts.{unsaid, state_of}
+use Rattle.command_replay.specs.Owed.{unless_refused, told_then, rounds_owe, said_owes, read_owes, lines_owe, Does, Rounds, Begins}
 
 -- what is owed in other words
 pub did_as : {T : Type 0} (how : Flow) (refusal : Status) (old other new newer : Owed T) (texts texts_now : Texts) → ((items : List T) (behind : Behind) → other items behind ≡ old items behind)

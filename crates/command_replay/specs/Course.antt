@@ -10,8 +10,9 @@ use Rattle.wire_base.specs.model.Configuration.{DomainConf}
 use Rattle.domain_model.specs.Run.{Run, run_of}
 use Rattle.domain_model.specs.World.{ids_in_flight}
 use Rattle.domain_replay.specs.Counting.{counts_of}
+use Rattle.domain_replay.specs.Parts.{Past}
 use Rattle.domain_replay.specs.Telling.{ReplayState}
-use Rattle.domain_replay.specs.Texts.{Refusal, refusal_text}
+use Rattle.domain_replay.specs.Texts.{Refusal, refusal_text, Reached}
 use Rattle.command_drive.specs.Answer.{Verdict}
 use Rattle.command_drive.specs.Doing.{told}
 use Rattle.command_drive.specs.Driving.{Meaning}
@@ -35,6 +36,10 @@ pub record Turned (S : Type 0) : Type 0 where
 -- how a line is executed: its number, its text, and the state before it
 abbrev pub Turns : Type 0 → Type 0
 Turns S = ℕ → List ℕ → S → Turned S
+
+-- what it adds to what happened before
+abbrev pub turn_part : {S : Type 0} → Turned S → Past
+turn_part t = record { report = t.report; frames = t.frames; events = t.events }
 
 -- ---- the lines
 
@@ -69,6 +74,9 @@ lines_course turns n s [] = no_lines s
 lines_course turns n s (text ∷ more) =
     let t = turns (n + 1) text s in course_by (n + 1) t (λ next. lines_course turns (n + 1) next more) t.refused
 
+abbrev pub course_part : {S : Type 0} → Course S → Past
+course_part c = record { report = c.report; frames = c.frames; events = c.events }
+
 -- ---- what must be produced for lines
 
 abbrev pub unless_rejected : ℕ → Option Refusal → Verdict → Verdict
@@ -94,19 +102,21 @@ pub record Played : Type 0 where
   pub frames : List ℕ
   pub refused : Option (ℕ × Refusal)
 
--- What comes before the first line: what is reported and recorded, and the events that the domain executes.
-pub record Opening : Type 0 where
-  pub report : List ℕ
-  pub frames : List ℕ
-  pub events : List (ℕ × Event)
-
--- the front of the capture, before its records
-abbrev pub opens_with : (front : List ℕ) → Opening
+-- What comes before the first line is a part of the run too: often the front of the capture alone, before its records.
+abbrev pub opens_with : (front : List ℕ) → Past
 opens_with front = record { report = []; frames = front; events = [] }
 
 -- the lines of a schedule in a domain, and what comes before them
-abbrev pub played : {S : Type 0} → DomainConf → Opening → Course S → Played
+abbrev pub played : {S : Type 0} → DomainConf → Past → Course S → Played
 played d o c = record { run = run_of d (o.events ++ c.events); report = o.report ++ c.report; frames = o.frames ++ c.frames; refused = c.refused }
+
+-- the events that were executed, and all that was reported and recorded
+abbrev pub played_past : Played → Past
+played_past p = record { report = p.report; frames = p.frames; events = p.run.events }
+
+-- how far lines are executed
+abbrev pub reach_of : (plays : List (List ℕ) → Played) → List (List ℕ) → Reached
+reach_of plays lines = let p = plays lines in record { run = p.run; refused = p.refused }
 
 abbrev pub ends_played : Played → Status × List ℕ → Verdict
 ends_played p end = record { status = end.0; report = p.report ++ end.1; frames = p.frames }
@@ -140,10 +150,10 @@ abbrev pub AreCounted : {S : Type 0} → (view : S → ReplayState) → Turns S 
 AreCounted view turns d opened start = (lines : List (List ℕ)) → IsCounted d (opened ++ (lines_course turns 0 start lines).events) (view (lines_course turns 0 start lines).state)
 
 -- what must be produced for the items that a reader of lines returns, and for what comes before them
-abbrev pub owed_on : {S : Type 0} → (view : S → ReplayState) → Turns S → Opening → (start : S) → Reads (List ℕ) → Verdict
+abbrev pub owed_on : {S : Type 0} → (view : S → ReplayState) → Turns S → Past → (start : S) → Reads (List ℕ) → Verdict
 owed_on view turns o start read = told o.report o.frames (turns_owe view turns 0 read.items read.behind start)
 
-abbrev pub lines_mean : {S : Type 0} → (view : S → ReplayState) → Turns S → Opening → (start : S) → Meaning
+abbrev pub lines_mean : {S : Type 0} → (view : S → ReplayState) → Turns S → Past → (start : S) → Meaning
 lines_mean view turns o start end octets = owed_on view turns o start (lines_read [] TEXT_LIMIT false end octets)
 
 -- Two meanings agree. After a read error they need to do so only if that is what ends the run.

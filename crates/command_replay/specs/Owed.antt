@@ -11,7 +11,8 @@ use Rattle.replay_text.specs.Schedule.{schedule_line}
 use Rattle.domain_model.specs.declared.fault.EventFault.{EventFault}
 use Rattle.domain_model.specs.World.{ids_in_flight}
 use Rattle.domain_replay.specs.Lines.{done_text, text_refused_text, event_refused_text, too_long}
-use Rattle.domain_replay.specs.Telling.{Telling, Told, ReplayState, with_texts, tells_line}
+use Rattle.domain_replay.specs.Parts.{unsaid, state_of}
+use Rattle.domain_replay.specs.Telling.{Told, ReplayState, tells_line}
 use Rattle.command_drive.specs.Answer.{Verdict}
 use Rattle.command_drive.specs.declared.items.Close.TheVariants as close
 use Rattle.command_drive.specs.declared.command.Flow.{Flow}
@@ -21,13 +22,6 @@ use Rattle.command_drive.specs.Doing.{Did, told, nothing_more}
 -- what remains to be produced from a state of the domain on
 abbrev pub Rest : Type 0
 Rest = ReplayState → Verdict
-
--- a running domain of which nothing is reported yet, and one whose reports are discarded
-abbrev pub unsaid : ReplayState → Telling
-unsaid s = with_texts s (record { frames = []; report = [] })
-
-abbrev pub state_of : Telling → ReplayState
-state_of t = record { world = t.world; counts = t.counts; recording = t.recording }
 
 -- ---- a line
 

@@ -9,7 +9,8 @@ ghost use Rattle.command_drive.specs.declared.items.Close.TheVariants as closes;
 ghost use Rattle.command_drive.specs.Doing.{Concludes};
 ghost use Rattle.command_drive.specs.Reading.{Closed};
 ghost use Rattle.command_drive.specs.declared.command.Flow.TheVariants as flow;
-ghost use Rattle.command_replay.specs.Owed.{unsaid, ends, Does, Rounds, Begins};
+ghost use Rattle.domain_replay.specs.Parts.{unsaid};
+ghost use Rattle.command_replay.specs.Owed.{ends, Does, Rounds, Begins};
 
 use command_drive::{Close, Command, Flow, Texts};
 use domain_replay::{Recording, Replay, push_event_refused, push_text_refused, push_too_long};

@@ -1,7 +1,6 @@
 -- What a step answers keeps copies on their course.
-use Rattle.std.proofs.Common.{◌≡◌, ◌≤◌, ℕ, length, Option, None, slice_get, Some, Result, Ok, Err, IfOk, OnOk, MatchResult, sym, subst, arith}
+use Rattle.std.proofs.Common.{◌≡◌, ℕ, length, Option, None, Result, Ok, Err, IfOk, OnOk, MatchResult, sym, subst}
 use Rattle.wire_base.specs.model.Control.{Control}
-use Rattle.wire_base.specs.model.View.{control_view}
 use Rattle.replay_text.specs.declared.event.Event.{Event}
 use Rattle.domain_model.specs.declared.fault.EventFault.{EventFault}
 use Rattle.domain_model.specs.declared.step_out.StepOut.{StepOut}
@@ -9,21 +8,15 @@ use Rattle.domain_model.specs.Faults.{event_fault}
 use Rattle.domain_model.specs.Step.{happens}
 use Rattle.domain_model.specs.Truth.{IsTruthful, EventFits}
 use Rattle.domain_model.specs.World.{WorldState}
-use Rattle.laws_ledger.specs.Ledger.{Injection, triple_for}
-use Rattle.laws_course.specs.Course.{Begins, GoesOn, own_node, next_for}
-use Rattle.laws_course.proofs.KnownLaws.{few_nodes}
+use Rattle.laws_ledger.specs.Ledger.{Injection}
+use Rattle.laws_course.specs.Course.{Begins, GoesOn}
 use Rattle.laws_course.proofs.LawLaws.{begun, gone_on}
-use Rattle.laws_course.proofs.OnceLaws.{all_fit, small_fit}
 use Rattle.laws_course.proofs.WayLaws.{copy_sent}
 use Rattle.domain_core.specs.Answers.{outcome, Refuses}
 use Rattle.frames_in_flight.specs.Told.{told}
 use Rattle.domain_core.specs.Course.{Enters, StaysOut, KeepsCourse}
 
 module _ (w : WorldState) (t : IsTruthful w) (e : Event) where
-  -- so few routers have short tunnels
-  few : (s : ℕ) (c : Control) → slice_get w.routers s ≡ Some c → length (control_view c) ≤ 255
-  few s c at = let nodes = few_nodes w s c t at in let routers = t.valid.consistent.few in omega (arith, nodes, routers)
-
   begins : EventFits (length w.domain.routers) e → event_fault w e ≡ None → (c : Control) (n k : ℕ) (i : Injection) → Enters w e c n k i → Begins w e c n k i
   begins fits ok c n k i h = record {
     truth = t;
@@ -31,11 +24,7 @@ module _ (w : WorldState) (t : IsTruthful w) (e : Event) where
     allowed = ok;
     enters = h.enters;
     ingress = h.ingress;
-    covered = record {
-      reachable = h.reachable;
-      covers = h.covers;
-      tunnels = small_fit (control_view c) (next_for c.conf (control_view c) (triple_for i k) i.entropy k) (own_node c) (few i.router c h.ingress);
-    };
+    covered = record { reachable = h.reachable; covers = h.covers };
   }
 
   goes : (c : Control) (n k : ℕ) → (h : StaysOut w e c n k) → GoesOn w e h.place c n k
@@ -45,7 +34,6 @@ module _ (w : WorldState) (t : IsTruthful w) (e : Event) where
     agreed = h.agreed;
     made = h.made;
     kept = h.kept;
-    tunnels = all_fit w c.conf (control_view c) (own_node c) n k (few h.place c h.ingress);
     harmless = h.harmless;
   }
 

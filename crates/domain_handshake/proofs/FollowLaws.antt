@@ -35,10 +35,11 @@ use Rattle.domain_model.proofs.LinkLaws.{join_of, end_found}
 use Rattle.domain_model.proofs.QueueLaws.{got_within, set_read}
 use Rattle.domain_replay.specs.Telling.{Telling, Told, told, tells, tells_or, tells_unless, reports_on, tells_all, tells_line}
 use Rattle.domain_replay.proofs.Stays.{happens_domain}
-use Rattle.domain_handshake.specs.Following.{history, ups_of, widths, ends_counts, IsWorldOf, IsRunning}
-use Rattle.domain_handshake.specs.Handshakes.{HandState, Outcome, writes, joined, goes_on, and_then, one_more, in_turn, nothing, unsaid, world_does, change_does, follows, follows_if, follows_all, hello_unless, hello_does}
+use Rattle.domain_handshake.specs.Following.{EndsFollow, IsFollowed, history, ups_of, widths, ends_counts, IsWorldOf, IsRunning}
+use Rattle.domain_replay.specs.Parts.{unsaid, if_allowed, allowed_first}
+use Rattle.domain_handshake.specs.Handshakes.{HandState, Moment, Outcome, writes, joined, goes_on, and_then, one_more, in_turn, nothing, moments_along, world_does, change_does, follows, follows_if, follows_all, moment_after, with_hello, hello_unless, hello_does}
 use Rattle.domain_handshake.specs.Lines.{change_event, changes_text, end_event, fault_of, sent_record}
-use Rattle.domain_handshake.proofs.Keeping.{Keeps, IsKeeping}
+use Rattle.domain_handshake.proofs.Keeping.{HandPast, Keeps, IsKeeping}
 use Rattle.domain_handshake.proofs.WorldUps.{row_at, with_up, up_in, toward_is, steady_ups, moved_ups, moved_count, with_widths}
 
 -- ---- a row that is written
@@ -243,12 +244,23 @@ world_still line s said steady = still_all line (line_events s.replay.world said
 -- ---- the run
 
 -- After an event that is not allowed the circuits alone are known.
-abbrev pub StandsBy : DomainConf → Option EventFault → List (ℕ × Event) → List HelloEvent → HandState → Type 0
-StandsBy d None es hs s = IsRunning d hs s
-StandsBy d (Some why) es hs s = s.circuits ≡ circuits_after d (history hs)
+abbrev pub KnownBy : DomainConf → Option EventFault → List HelloEvent → HandState → Type 0
+KnownBy d None hs s = IsRunning d hs s
+KnownBy d (Some why) hs s = s.circuits ≡ circuits_after d (history hs)
+
+-- And the interfaces followed the adjacencies after each event so far.
+abbrev pub StandsBy : DomainConf → Option EventFault → HandPast → HandState → Type 0
+StandsBy d why past s = KnownBy d why past.hellos s × AllByRecursion IsFollowed past.moments
 
 history_more : (hs : List HelloEvent) (e : HelloEvent) → history (hs ++ e ∷ []) ≡ e ∷ history hs
 history_more hs e = fold-append (λ (past : List HelloEvent) (x : HelloEvent). x ∷ past) [] hs (e ∷ [])
+
+still_follows : (v w : WorldState) (c : CircuitsState) → IsStill v w → EndsFollow v c → EndsFollow w c
+still_follows v w c still ends a b =
+    toward_is w a b
+    ∙ ap (λ (x : DomainConf). up_in (ups_of w) a (link_between x.routers a b)) still.domain
+    ∙ ap (λ (ups : List (List Bool)). up_in ups a (link_between v.domain.routers a b)) still.ups
+    ∙ sym (toward_is v a b) ∙ ends a b
 
 -- A line that moves no interface.
 pub world_follows : (d : DomainConf) (hs : List HelloEvent) (s : HandState) (line : ℕ) (said : Line) → IsRunning d hs s → moves said ≡ false → IsRunning d hs (world_does line s said).next
@@ -259,27 +271,45 @@ world_follows d hs s line said is steady =
     record {
       is = record { domain = still.domain ∙ is.is.domain; interfaces = ap widths still.ups ∙ is.is.interfaces };
       circuits = same.0 ∙ is.circuits;
-      ends = λ a b.
-          toward_is next.replay.world a b
-          ∙ ap (λ (x : DomainConf). up_in (ups_of next.replay.world) a (link_between x.routers a b)) still.domain
-          ∙ ap (λ (ups : List (List Bool)). up_in ups a (link_between s.replay.world.domain.routers a b)) still.ups
-          ∙ sym (toward_is s.replay.world a b) ∙ is.ends a b ∙ ap (λ (c : CircuitsState). up_between c a b) (sym same.0);
+      ends = λ a b. still_follows s.replay.world next.replay.world s.circuits still is.ends a b ∙ ap (λ (c : CircuitsState). up_between c a b) (sym same.0);
     }
 
+-- It moves none with any of its events.
+moments_follow : (c : CircuitsState) (w : WorldState) (es : List Event) → AllByRecursion IsSteady es → EndsFollow w c → AllByRecursion IsFollowed (moments_along c w (allowed_first w es))
+unfolding allowed_first moments_along
+moments_follow c w [] steady ends = tt
+moments_follow c w (e ∷ es) steady ends =
+    let next = (happens w e).world in
+    let after = still_follows w next c (record { domain = happens_domain w e; ups = steady_ups w e steady.0 }) ends in
+    by (event_fault w e) after (moments_follow c next es steady.1 after)
+  where
+    later : List Event
+    later = allowed_first (happens w e).world es
+
+    by : (o : Option EventFault) → EndsFollow (happens w e).world c → AllByRecursion IsFollowed (moments_along c (happens w e).world later) → AllByRecursion IsFollowed (moments_along c w (if_allowed e later o))
+    by None after rest = (after, rest)
+    by (Some why) after rest = tt
+
+pub world_moments : (d : DomainConf) (hs : List HelloEvent) (s : HandState) (line : ℕ) (said : Line) → IsRunning d hs s → moves said ≡ false → AllByRecursion IsFollowed (world_does line s said).moments
+unfolding world_does
+world_moments d hs s line said is steady = moments_follow s.circuits s.replay.world (line_events s.replay.world said) (line_steady s.replay.world said steady) is.ends
+
 module _ (d : DomainConf) (valid : IsValid d) where
-  stands_by : (why : Option EventFault) (es : List (ℕ × Event)) (hs : List HelloEvent) (s : HandState) → IsRunning d hs s → StandsBy d why es hs s
-  stands_by None es hs s is = is
-  stands_by (Some why) es hs s is = is.circuits
+  known_by : (why : Option EventFault) (hs : List HelloEvent) (s : HandState) → IsRunning d hs s → KnownBy d why hs s
+  known_by None hs s is = is
+  known_by (Some why) hs s is = is.circuits
 
   pub world_stands : (line : ℕ) (said : Line) → moves said ≡ false → IsKeeping (StandsBy d) (λ s. world_does line s said)
-  world_stands line said steady es hs s is =
-      let o = world_does line s said in
-      let hellos_are : hs ≡ hs ++ o.hellos = sym (append-nil hs) ∙ ap (λ (l : List HelloEvent). hs ++ l) (sym (world_circuits line s said).1) in
-      subst (λ (l : List HelloEvent). StandsBy d o.refused (es ++ o.events) l o.next) hellos_are (stands_by o.refused (es ++ o.events) hs o.next (world_follows d hs s line said is steady))
+  unfolding world_does
+  world_stands line said steady past s is =
+      let o = world_does line s said in (
+        subst (λ (l : List HelloEvent). KnownBy d o.refused l o.next) (sym (append-nil past.hellos)) (known_by o.refused past.hellos o.next (world_follows d past.hellos s line said is.0 steady)),
+        each_joined IsFollowed past.moments o.moments is.1 (world_moments d past.hellos s line said is.0 steady),
+      )
 
   -- ---- an event of the circuits
 
-  module _ (line : ℕ) (e : HelloEvent) (es : List (ℕ × Event)) (hs : List HelloEvent) (s : HandState) (is : IsRunning d hs s) where
+  module _ (line : ℕ) (e : HelloEvent) (hs : List HelloEvent) (s : HandState) (is : IsRunning d hs s) where
     abbrev n : circuits.Happened
     n = circuits.happens s.circuits e
 
@@ -316,39 +346,52 @@ module _ (d : DomainConf) (valid : IsValid d) where
         by true full = inr refl
         by false room = inl (came frames room).refused
 
-    came_stands : (o : Outcome) → CameOf d (up_between n.state) n.state [] o → StandsBy d o.refused (es ++ o.events) (hs ++ e ∷ o.hellos) o.next
+    came_stands : (o : Outcome) → CameOf d (up_between n.state) n.state [] o → KnownBy d o.refused (hs ++ e ∷ o.hellos) o.next
     came_stands o come =
-        subst (λ (why : Option EventFault). StandsBy d why (es ++ o.events) (hs ++ e ∷ o.hellos) o.next) (sym come.refused)
+        subst (λ (why : Option EventFault). KnownBy d why (hs ++ e ∷ o.hellos) o.next) (sym come.refused)
         (subst (λ (l : List HelloEvent). IsRunning d (hs ++ e ∷ l) o.next) (sym come.hellos_is) (record {
           is = come.is;
           circuits = come.circuits_is ∙ circuits_next;
           ends = λ a b. come.ends a b ∙ ap (λ (c : CircuitsState). up_between c a b) (sym come.circuits_is);
         }))
 
-    followed : (frames : List ℕ) → let o = follows line moved frames n.out.changes in StandsBy d o.refused (es ++ o.events) (hs ++ e ∷ o.hellos) o.next
+    followed : (frames : List ℕ) → let o = follows line moved frames n.out.changes in KnownBy d o.refused (hs ++ e ∷ o.hellos) o.next
     unfolding follows
     followed frames = by (nat_lt most_events (s.replay.world.events + length n.out.changes)) refl
       where
         by : (b : Bool) → nat_lt most_events (s.replay.world.events + length n.out.changes) ≡ b
-            → let o = follows_if b (follows_all line moved frames n.out.changes) moved in StandsBy d o.refused (es ++ o.events) (hs ++ e ∷ o.hellos) o.next
+            → let o = follows_if b (follows_all line moved frames n.out.changes) moved in KnownBy d o.refused (hs ++ e ∷ o.hellos) o.next
         by true full = circuits_next
         by false room = came_stands (follows_all line moved frames n.out.changes) (came frames room)
 
+  -- The moment after an event that is allowed is that of its state.
+  after_follows : (why : Option EventFault) (hs : List HelloEvent) (s : HandState) → KnownBy d why hs s → AllByRecursion IsFollowed (moment_after s why)
+  after_follows None hs s is = (is.ends, tt)
+  after_follows (Some why) hs s is = tt
+
   pub hello_stands : (line : ℕ) (e : HelloEvent) → IsKeeping (StandsBy d) (λ s. hello_does line s e)
   unfolding hello_does
-  hello_stands line e es hs s is = by (circuit_fault s.circuits e)
+  hello_stands line e past s is = by (circuit_fault s.circuits e)
     where
-      by : (q : Option CircuitFault) → Keeps (StandsBy d) es hs (hello_unless line s e q)
-      by None = followed line e es hs s is (sent_record s.replay.recording s.replay.world.domain.routers line e (circuits.happens s.circuits e).out.sent)
-      by (Some why) = subst (λ (l : List HelloEvent). s.circuits ≡ circuits_after d (history l)) (sym (append-nil hs)) is.circuits
+      by : (q : Option CircuitFault) → Keeps (StandsBy d) past (hello_unless line s e q)
+      by None =
+          let n = circuits.happens s.circuits e in
+          let frames = sent_record s.replay.recording s.replay.world.domain.routers line e n.out.sent in
+          let o = follows line (record { replay = s.replay; circuits = n.state }) frames n.out.changes in
+          let known = followed line e past.hellos s is.0 frames in
+          (known, each_joined IsFollowed past.moments (moment_after o.next o.refused) is.1 (after_follows o.refused (past.hellos ++ e ∷ o.hellos) o.next known))
+      by (Some why) = (
+        subst (λ (l : List HelloEvent). s.circuits ≡ circuits_after d (history l)) (sym (append-nil past.hellos)) is.0.circuits,
+        each_joined IsFollowed past.moments [] is.1 tt,
+      )
 
-  by_none : (why : Option EventFault) (es : List (ℕ × Event)) (hs : List HelloEvent) (s : HandState) → why ≡ None → StandsBy d why es hs s → IsRunning d hs s
-  by_none None es hs s none is = is
-  by_none (Some why) es hs s none is = absurd cc
+  by_none : (why : Option EventFault) (hs : List HelloEvent) (s : HandState) → why ≡ None → KnownBy d why hs s → IsRunning d hs s
+  by_none None hs s none is = is
+  by_none (Some why) hs s none is = absurd cc
 
 pub hello_follows : (d : DomainConf) (before : List HelloEvent) (s : HandState) (line : ℕ) (e : HelloEvent) → IsValid d → IsRunning d before s → (hello_does line s e).refused ≡ None
     → IsRunning d (before ++ (hello_does line s e).hellos) (hello_does line s e).next
-hello_follows d before s line e valid is none = (let o = hello_does line s e in by_none d valid o.refused o.events (before ++ o.hellos) o.next none (hello_stands d valid line e [] before s is))
+hello_follows d before s line e valid is none = (let o = hello_does line s e in by_none d valid o.refused (before ++ o.hellos) o.next none (hello_stands d valid line e (record { past = record { report = []; frames = []; events = [] }; hellos = before; moments = [] }) s (is, tt)).0)
 
 -- what follows is never rejected by itself
 pub hello_rejected : (d : DomainConf) (before : List HelloEvent) (s : HandState) (line : ℕ) (e : HelloEvent) → IsValid d → IsRunning d before s
@@ -357,5 +400,5 @@ unfolding hello_does
 hello_rejected d before s line e valid is = by (circuit_fault s.circuits e)
   where
     by : (q : Option CircuitFault) → ((hello_unless line s e q).refused ≡ option_map fault_of q) ⊎ ((hello_unless line s e q).refused ≡ Some faults.Events)
-    by None = rejected d valid line e [] before s is (sent_record s.replay.recording s.replay.world.domain.routers line e (circuits.happens s.circuits e).out.sent)
+    by None = rejected d valid line e before s is (sent_record s.replay.recording s.replay.world.domain.routers line e (circuits.happens s.circuits e).out.sent)
     by (Some why) = inl refl

@@ -8,6 +8,7 @@ use Rattle.std.proofs.lemmas.List.Elements.{filter-append}
 use Rattle.std.proofs.lemmas.List.FromFn.{length-map-range_with_len}
 use Rattle.std.proofs.lemmas.Option.{none-some, same_Some}
 use Rattle.wire_base.specs.declared.conf.RouterConf.{RouterConf}
+use Rattle.wire_base.specs.declared.limits.TheConstants.{MOST_EVENTS}
 use Rattle.wire_base.specs.model.Configuration.{DomainConf, IsValid, IsSound}
 use Rattle.wire_base.specs.model.Control.{Control}
 use Rattle.wire_base.specs.model.Flooding.{first_control}
@@ -229,12 +230,12 @@ module _ (d : DomainConf) (valid : IsValid d) where
       let few : length r.ends ≤ 64 = all.0.few_ends in
       omega (arith, row, whole, more, few)
 
-  room : 0 + length (map goes_down (directions confs)) ≤ 1000000
+  room : 0 + length (map goes_down (directions confs)) ≤ MOST_EVENTS
   unfolding directions
   room =
       let few = rows_few 0 confs valid.consistent.sound in
       let same = length-map (directions_from confs 0 confs) goes_down in
-      let count : length confs ≤ 250 = valid.consistent.few in
+      let count = valid.consistent.few in
       omega (arith, few, same, count)
 
   -- ---- the start

@@ -27,7 +27,8 @@ use Rattle.domain_replay.specs.Telling as telling
 use Rattle.domain_replay.specs.Telling.{Telling, ReplayState, first_state, with_texts, tells_line}
 use Rattle.domain_replay.proofs.CourseLaws.{past_told, line_past}
 use Rattle.domain_handshake.specs.Doing.{Did, Does}
-use Rattle.domain_handshake.specs.Handshakes.{HandState, Outcome, fresh_state, unsaid, state_of, writes, in_turn, world_does, change_does, follows, follows_if, follows_all, with_hello, hello_unless, hello_does, greet_on, greets_on, round_over, round_does, event_does, end_goes_down, start_does}
+use Rattle.domain_replay.specs.Parts.{unsaid, state_of}
+use Rattle.domain_handshake.specs.Handshakes.{HandState, Outcome, fresh_state, writes, in_turn, world_does, change_does, follows, follows_if, follows_all, with_hello, hello_unless, hello_does, greet_on, greets_on, round_over, round_does, event_does, end_goes_down, start_does}
 use Rattle.domain_handshake.specs.Lines.{changes_text, fault_of, sent_record}
 use Rattle.domain_handshake.proofs.Parts.{refuses_did, then_does, then_stops}
 

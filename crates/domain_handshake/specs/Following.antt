@@ -10,11 +10,15 @@ use Rattle.isis_hello.specs.Circuits.{CircuitsState}
 use Rattle.isis_hello.specs.History.{circuits_after}
 use Rattle.domain_model.specs.Faults.{is_up_toward}
 use Rattle.domain_model.specs.World.{WorldState}
-use Rattle.domain_handshake.specs.Handshakes.{HandState}
+use Rattle.domain_handshake.specs.Handshakes.{HandState, Moment}
 
 -- An interface is up exactly where its adjacency is: that of each router toward each other.
 abbrev pub EndsFollow : WorldState → CircuitsState → Type 0
 EndsFollow w c = (a b : ℕ) → is_up_toward w a b ≡ up_between c a b
+
+-- The interfaces are as the adjacencies are, between two events.
+abbrev pub IsFollowed : Moment → Type 0
+IsFollowed m = EndsFollow m.world m.circuits
 
 -- events of the circuits as a history, the newest first
 abbrev pub history : List HelloEvent → List HelloEvent

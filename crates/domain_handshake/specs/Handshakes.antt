@@ -18,12 +18,13 @@ use Rattle.replay_text.specs.declared.event.Line.{Line}
 use Rattle.replay_text.specs.declared.event.Line.TheVariants.{Empty, One, Settle}
 use Rattle.domain_model.specs.declared.fault.EventFault.{EventFault}
 use Rattle.domain_model.specs.declared.fault.EventFault.TheVariants as faults
-use Rattle.domain_model.specs.Faults.{event_fault, most_events}
+use Rattle.domain_model.specs.Faults.{most_events}
 use Rattle.domain_model.specs.Run.{Direction, directions, line_events, on_line}
 use Rattle.domain_model.specs.Step.{happens}
 use Rattle.domain_model.specs.World.{WorldState}
 use Rattle.replay_report.specs.declared.recording.Recording.{Recording}
-use Rattle.domain_replay.specs.Telling.{Telling, Told, ReplayState, first_state, with_texts, tells_line}
+use Rattle.domain_replay.specs.Parts.{unsaid, state_of, allowed_first}
+use Rattle.domain_replay.specs.Telling.{Told, ReplayState, first_state, tells_line}
 use Rattle.domain_handshake.specs.Lines.{changes_text, change_event, sent_record, fault_of}
 
 -- the domain as it is replayed, and its circuits
@@ -35,31 +36,41 @@ pub record HandState : Type 0 where
 abbrev pub fresh_state : Recording → DomainConf → HandState
 fresh_state recording d = record { replay = first_state recording d; circuits = first_circuits d }
 
+-- the domain and its circuits between two events
+pub record Moment : Type 0 where
+  pub world : WorldState
+  pub circuits : CircuitsState
+
+abbrev pub moment_of : HandState → Moment
+moment_of s = record { world = s.replay.world; circuits = s.circuits }
+
 -- ---- what a part of a schedule comes to
 
 -- What it appends to the report and to the capture, the events that the domain executes, each with its line, the events of the
--- circuits, why an event is not allowed, if one is not, and the state after it.
+-- circuits, the moment after each event, why an event is not allowed, if one is not, and the state after it. An event of the circuits
+-- and the interfaces that it moves are one event.
 pub record Outcome : Type 0 where
   pub report : List ℕ
   pub frames : List ℕ
   pub events : List (ℕ × Event)
   pub hellos : List HelloEvent
+  pub moments : List Moment
   pub refused : Option EventFault
   pub next : HandState
 
 -- nothing is reported, recorded or executed
 abbrev pub nothing : HandState → Outcome
-nothing s = record { report = []; frames = []; events = []; hellos = []; refused = None; next = s }
+nothing s = record { report = []; frames = []; events = []; hellos = []; moments = []; refused = None; next = s }
 
 abbrev pub refuses : EventFault → HandState → Outcome
-refuses why s = record { report = []; frames = []; events = []; hellos = []; refused = Some why; next = s }
+refuses why s = record { report = []; frames = []; events = []; hellos = []; moments = []; refused = Some why; next = s }
 
 abbrev pub writes : (report frames : List ℕ) → HandState → Outcome
-writes report frames s = record { report = report; frames = frames; events = []; hellos = []; refused = None; next = s }
+writes report frames s = record { report = report; frames = frames; events = []; hellos = []; moments = []; refused = None; next = s }
 
 -- two parts, one after the other
 abbrev pub joined : Outcome → Outcome → Outcome
-joined o p = record { report = o.report ++ p.report; frames = o.frames ++ p.frames; events = o.events ++ p.events; hellos = o.hellos ++ p.hellos; refused = p.refused; next = p.next }
+joined o p = record { report = o.report ++ p.report; frames = o.frames ++ p.frames; events = o.events ++ p.events; hellos = o.hellos ++ p.hellos; moments = o.moments ++ p.moments; refused = p.refused; next = p.next }
 
 abbrev pub goes_on : Outcome → (HandState → Outcome) → Option EventFault → Outcome
 goes_on o rest None = joined o (rest o.next)
@@ -78,21 +89,10 @@ in_turn part s xs = fold (one_more part) (nothing s) xs
 
 -- ---- the domain alone
 
--- nothing is reported or recorded yet
-abbrev pub unsaid : ReplayState → Telling
-unsaid s = with_texts s (record { frames = []; report = [] })
-
-abbrev pub state_of : Telling → ReplayState
-state_of t = record { world = t.world; counts = t.counts; recording = t.recording }
-
-abbrev pub if_allowed : Event → List Event → Option EventFault → List Event
-if_allowed e rest None = e ∷ rest
-if_allowed e rest (Some why) = []
-
--- the first of some events, up to one that is not allowed
-unfoldable pub allowed_first : WorldState → List Event → List Event
-allowed_first w [] = []
-allowed_first w (e ∷ es) = if_allowed e (allowed_first (happens w e).world es) (event_fault w e)
+-- the moments after each of some events of the domain, from a world on
+unfoldable pub moments_along : CircuitsState → WorldState → List Event → List Moment
+moments_along c w [] = []
+moments_along c w (e ∷ es) = let next = (happens w e).world in record { world = next; circuits = c } ∷ moments_along c next es
 
 abbrev pub world_told : ℕ → HandState → Told → List Event → Outcome
 world_told line s t es = record {
@@ -100,6 +100,7 @@ world_told line s t es = record {
   frames = t.telling.frames;
   events = on_line line es;
   hellos = [];
+  moments = moments_along s.circuits s.replay.world es;
   refused = t.refused;
   next = record s { replay = state_of t.telling };
 }
@@ -131,9 +132,13 @@ abbrev pub hello_happens : ℕ → HandState → HelloEvent → circuits.Happene
 hello_happens line s e n =
     follows line (record s { circuits = n.state }) (sent_record s.replay.recording s.replay.world.domain.routers line e n.out.sent) n.out.changes
 
--- an event of the circuits occurred
+abbrev pub moment_after : HandState → Option EventFault → List Moment
+moment_after s None = moment_of s ∷ []
+moment_after s (Some why) = []
+
+-- an event of the circuits occurred, and what followed from it
 abbrev pub with_hello : HelloEvent → Outcome → Outcome
-with_hello e o = record o { hellos = e ∷ o.hellos }
+with_hello e o = record o { hellos = e ∷ o.hellos; moments = moment_after o.next o.refused }
 
 abbrev pub hello_unless : ℕ → HandState → HelloEvent → Option CircuitFault → Outcome
 hello_unless line s e None = with_hello e (hello_happens line s e (circuits.happens s.circuits e))

@@ -1,5 +1,6 @@
 //! What is true of interfaces and their adjacencies. The bodies are empty: the contracts are the laws.
 ghost use Rattle.std.specs.Prelude.{◌≡◌, ◌++◌, ◌⊎◌, ℕ, List, [], None, Some, false, option_map};
+ghost use Rattle.std.specs.List.{AllByRecursion};
 ghost use Rattle.wire_base.specs.model.Configuration.{DomainConf, IsValid};
 ghost use Rattle.isis_hello.specs.declared.event.HelloEvent.{HelloEvent};
 ghost use Rattle.isis_hello.specs.Events.{circuit_fault};
@@ -8,7 +9,7 @@ ghost use Rattle.replay_text.specs.Hand.{moves};
 ghost use Rattle.domain_model.specs.declared.fault.EventFault.TheVariants as faults;
 ghost use Rattle.domain_model.specs.Faults.{is_up_toward};
 ghost use Rattle.replay_report.specs.declared.recording.Recording.{Recording};
-ghost use Rattle.domain_handshake.specs.Following.{IsRunning};
+ghost use Rattle.domain_handshake.specs.Following.{IsFollowed, IsRunning};
 ghost use Rattle.domain_handshake.specs.Handshakes.{HandState, start_does, hello_does, world_does};
 ghost use Rattle.domain_handshake.specs.Lines.{fault_of};
 
@@ -24,7 +25,7 @@ pub fn interfaces_begin_down()
 /// An event of hellos is rejected only for its own reasons, or with Events where the domain has no room for what follows from it. If it
 /// is not, the interfaces follow the adjacencies after it as before it: no interface comes up that is up, and none goes down that is
 /// down. A line of a schedule, which moves no interface, leaves all of them as they are, with each of its events.
-#[tactic(auto, using(crate::proofs::FollowLaws::hello_rejected, crate::proofs::FollowLaws::world_follows))]
+#[tactic(auto, using(crate::proofs::FollowLaws::hello_rejected, crate::proofs::FollowLaws::world_follows, crate::proofs::FollowLaws::world_moments))]
 pub fn hellos_move_interfaces()
     ensures rejected { (d : DomainConf) (before : List HelloEvent) (s : HandState) (line : ℕ) (e : HelloEvent) → IsValid d → IsRunning d before s →
         ((hello_does line s e).refused ≡ option_map fault_of (circuit_fault s.circuits e)) ⊎ ((hello_does line s e).refused ≡ Some faults.Events) }
@@ -32,4 +33,6 @@ pub fn hellos_move_interfaces()
         (hello_does line s e).refused ≡ None → IsRunning d (before ++ (hello_does line s e).hellos) (hello_does line s e).next }
     ensures world { (d : DomainConf) (before : List HelloEvent) (s : HandState) (line : ℕ) (said : Line) → IsRunning d before s → moves said ≡ false →
         IsRunning d before (world_does line s said).next }
+    ensures events { (d : DomainConf) (before : List HelloEvent) (s : HandState) (line : ℕ) (said : Line) → IsRunning d before s → moves said ≡ false →
+        AllByRecursion IsFollowed (world_does line s said).moments }
 {}

@@ -9,3 +9,4 @@ pub mod SendLaws
 mod LineTells
 mod SameDomain
 pub mod CourseLaws
+pub mod PartLaws

@@ -5,3 +5,4 @@ pub mod Texts
 pub mod Telling
 pub mod Replaying
 pub mod Courses
+pub mod Parts

@@ -1,5 +1,5 @@
 -- A run of allowed events keeps all that is promised of runs.
-use Rattle.std.proofs.Common.{ℕ, take}
+use Rattle.std.proofs.Common.{take}
 use Rattle.wire_base.specs.model.Configuration.{DomainConf, IsValid}
 use Rattle.domain_model.specs.Run.{Run}
 use Rattle.laws_ledger.proofs.DeliveryLaws.{one_delivery, delivers_named, once_at}

@@ -8,3 +8,4 @@ pub mod Holding
 pub mod Allowed
 pub mod UpLaws
 pub mod SmallViews
+pub mod SettleLines

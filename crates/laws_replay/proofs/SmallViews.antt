@@ -1,5 +1,6 @@
--- A topology that a router's LSDB describes has no more nodes than the domain has routers.
-use Rattle.std.proofs.Common.{◌≡◌, ℕ, zero, suc, ◌<◌, ◌≤◌, ◌&&◌, not, Bool, true, false, if◌then◌else◌, List, [], ◌∷◌, length, map, filter, slice_get, Some, inl, inr, refl, sym, ap, ◌∙◌, arith}
+-- A topology that a router's LSDB describes has no more nodes than the domain has routers, so that in a small domain no tunnel is too
+-- long.
+use Rattle.std.proofs.Common.{◌≡◌, ℕ, zero, suc, ◌<◌, ◌≤◌, ◌&&◌, not, Bool, true, false, if◌then◌else◌, List, [], ◌∷◌, length, map, filter, fold, slice_get, Some, inl, inr, refl, sym, ap, ◌∙◌, arith}
 use Rattle.std.specs.Prelude.{◌⊎◌}
 use Rattle.std.specs.List.{AllByRecursion}
 use Rattle.std.specs.Ordering.{is_lt}
@@ -11,11 +12,23 @@ use Rattle.wire_base.specs.declared.conf.RouterConf.{RouterConf}
 use Rattle.wire_base.specs.declared.entry.Entry.{Entry}
 use Rattle.wire_base.specs.model.Control.{AreAscending, Control, fragment_0, ids_of, is_below, same_system, system_order}
 use Rattle.wire_base.specs.model.View.{Claim, claim_of, claims_of, is_other, node_of, own_claim, put_claim, view_of, control_view, with_known}
-use Rattle.wire_base.specs.model.HopCount.{tunnel_links}
+use Rattle.wire_base.specs.declared.triple.Triple.{Triple}
+use Rattle.wire_base.specs.model.Configuration.{DomainConf, IsValid}
+use Rattle.wire_base.specs.model.HopCount.{hops, tunnel_links}
+use Rattle.wire_base.specs.model.OnFrame.{outer_ttl}
 use Rattle.wire_base.specs.model.Walk.{dist}
+use Rattle.replay_text.specs.declared.event.Event.{Event}
+use Rattle.domain_model.specs.Run.{Run, first_run, goes_on, run_of}
+use Rattle.domain_model.specs.Step.{happens}
+use Rattle.domain_model.proofs.WorldTruth.{happens_true, first_true}
+use Rattle.laws_ledger.specs.Runs.{AreAllowed, unlined}
+use Rattle.laws_ledger.proofs.RunLaws.{next_truth, next_allowed}
+use Rattle.laws_course.specs.Course.{CoversPath, own_node}
 use Rattle.laws_course.proofs.KnownLaws.{known_of}
+use Rattle.laws_course.proofs.OnceLaws.{truth_on}
+use Rattle.laws_course.proofs.TunnelLaws.{small_covers}
 use Rattle.laws_route.proofs.RouteLemmas.{tunnel_links-some}
-use Rattle.domain_model.specs.World.{WorldState}
+use Rattle.domain_model.specs.World.{WorldState, first_world}
 use Rattle.laws_members.proofs.DomainLaws.{same_stripped, length_stripped}
 use Rattle.domain_model.specs.Truth.{IsAmong, IsOwnLsp, IsDeadLsp, IsTrueEntry, IsTrueControl, IsTruthful, confs_now, domain_now, head_of}
 use Rattle.domain_model.proofs.DomainLaws.{bytes_from}
@@ -144,3 +157,26 @@ tunnel_short w a c u x n truth at within path =
     let small = view_small w a c truth at in
     let below = arrives.2 in
     (arrives.0, arrives.1, omega (arith, below, small))
+
+-- ---- runs of small domains
+
+domain_next : (r : Run) (e : ℕ × Event) → (goes_on r e).world.domain ≡ (happens r.world e.1).world.domain
+unfolding goes_on
+domain_next r e = refl
+
+-- a run keeps its domain
+domain_on : (es : List (ℕ × Event)) (r : Run) → IsTruthful r.world → AreAllowed r.world (unlined es) → (fold goes_on r es).world.domain ≡ r.world.domain
+domain_on [] r truth all = refl
+domain_on (e ∷ es) r truth all =
+    let kept = happens_true r.world e.1 truth all.0 all.1 in
+    domain_on es (goes_on r e) (next_truth r e truth all.0 all.1) (next_allowed r e (unlined es) all.2) ∙ domain_next r e ∙ kept.domain
+
+-- a run of a domain of at most 255 routers: a TTL covers a path where it is at least the number of hops
+pub run_covers : (d : DomainConf) (es : List (ℕ × Event)) (a : ℕ) (c : Control) (t : Triple) (class k ttl n : ℕ) → IsValid d → AreAllowed (first_world d) (unlined es) → length d.routers ≤ outer_ttl → slice_get (run_of d es).world.routers a ≡ Some c
+    → hops (control_view c) c.conf.kinds c.conf.table t class k (own_node c) ≡ Some n → n ≤ ttl → CoversPath (control_view c) c.conf.kinds c.conf.table t (own_node c) class k ttl
+unfolding run_of first_run first_world
+run_covers d es a c t class k ttl n valid allowed small at is enough =
+    let truth = truth_on es (first_run d) (first_true d valid) allowed in
+    let most = view_small (run_of d es).world a c truth at in
+    let routers = ap (λ (x : DomainConf). length x.routers) (domain_on es (first_run d) (first_true d valid) allowed) in
+    small_covers (control_view c) c.conf.kinds c.conf.table t (own_node c) class k ttl n (omega (arith, most, routers, small)) is enough

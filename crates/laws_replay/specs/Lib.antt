@@ -4,3 +4,4 @@ pub mod Reports
 pub mod Once
 pub mod Promises
 pub mod Paths
+pub mod Settling

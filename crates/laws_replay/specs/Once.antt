@@ -4,13 +4,12 @@ use Rattle.std.specs.Prelude.{◌≡◌, ℕ, ◌+◌, ◌%◌, true, List, ◌�
 use Rattle.wire_base.specs.model.Configuration.{DomainConf}
 use Rattle.wire_base.specs.model.Control.{Control}
 use Rattle.wire_base.specs.model.Hop.{has}
-use Rattle.wire_base.specs.model.HopCount.{CoversPath}
 use Rattle.wire_base.specs.model.View.{control_view}
 use Rattle.replay_text.specs.declared.event.Event.{Event}
 use Rattle.domain_model.specs.Run.{Run, goes_on, run_of}
 use Rattle.laws_ledger.specs.Ledger.{Injection, entered, triple_for, copies_of, deliveries, drops}
 use Rattle.laws_ledger.specs.Weights.{copies_in}
-use Rattle.laws_course.specs.Course.{IsReachable, IsSteady, KeptFor, own_node}
+use Rattle.laws_course.specs.Course.{CoversPath, IsReachable, IsSteady, KeptFor, own_node}
 use Rattle.laws_replay.specs.Moments.{moment}
 
 -- The premises: the events `before`, the event e that is injection n, and the events `after` it, up to the moment in
@@ -24,7 +23,7 @@ pub record IsUndisturbed (d : DomainConf) (before : List (ℕ × Event)) (e : �
   pub ingress : slice_get (run_of d before).world.routers i.router ≡ Some c
   -- k is reachable: the ingress has it, or its topology has a router to send it to
   pub reachable : IsReachable c.conf (control_view c) (own_node c) i k
-  -- the TTL is at least the number of hops to the owner of k
+  -- the TTL is at least the number of hops to the owner of k, and each tunnel of the path has at most 255 links
   pub covers : CoversPath (control_view c) c.conf.kinds c.conf.table (triple_for i k) (own_node c) (i.entropy % 16) k i.ttl
   -- after the injection and after each later event the ingress has the topology that it had, and so has each router
   -- that it reaches; and no event loses a copy of the injection

@@ -14,8 +14,9 @@ ghost use Rattle.laws_replay.specs.Promises.{KeepsPromises, LineFits};
 /// BFR-id that an injection names is in one copy, one delivery or one drop. The report has the run's deliveries and
 /// drops, and its numbers add up. Nothing is delivered twice. An injection's copies are gone after a bounded number of
 /// `take` events. A BFR-id that is reachable, while topologies agree, no copy is lost and the TTL covers its path, is
-/// never dropped, and once no copy of the injection is in flight it was delivered exactly once. No tunnel is too long,
-/// since a domain has at most 250 routers.
+/// never dropped, and once no copy of the injection is in flight it was delivered exactly once. A TTL covers a path if
+/// it is at least the number of hops, and each tunnel of the path has at most 255 links. In a domain of at most 255
+/// routers no tunnel has more.
 pub fn replays_keep_promises()
     ensures read { (d : DomainConf) (lines : List (List ℕ)) → IsValid d → KeepsPromises d (schedule_reaches d lines).run }
     ensures made { (d : DomainConf) (lines : List Line) → IsValid d → AllByRecursion (LineFits (length d.routers)) lines → KeepsPromises d (schedule_done d lines).run }

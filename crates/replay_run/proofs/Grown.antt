@@ -2,6 +2,7 @@
 use Rattle.std.proofs.Common.{◌≡◌, ℕ, zero, suc, ◌+◌, ◌<◌, ◌≤◌, ◌^◌, List, [], ◌∷◌, length, map, refl, sym, ap, subst, ◌∙◌, arith}
 use Rattle.std.specs.List.{AllByRecursion, range_with_len}
 use Rattle.std.proofs.lemmas.List.{length-map}
+use Rattle.wire_base.specs.declared.limits.TheConstants.{MOST_ROUTERS}
 use Rattle.wire_base.specs.model.Configuration.{DomainConf, IsValid}
 use Rattle.replay_text.specs.declared.event.Line.{Line}
 use Rattle.command_line.specs.Form.{Form, Grow}
@@ -28,7 +29,7 @@ routers_are : (n : ℕ) → length (grown_domain n).routers ≡ n
 unfolding grown_domain grown_routers
 routers_are n = length-map (range_with_len 0 n) (router (grown_links n)) ∙ length-range 0 n
 
-sending_fits : (n entropy : ℕ) → 3 ≤ n → n ≤ 250 → entropy < 16 → LineFits n (sending n entropy)
+sending_fits : (n entropy : ℕ) → 3 ≤ n → n ≤ MOST_ROUTERS → entropy < 16 → LineFits n (sending n entropy)
 sending_fits n entropy some few within = record {
   place = omega (arith, some);
   sd_fits = omega arith;
@@ -39,7 +40,7 @@ sending_fits n entropy some few within = record {
   short = omega arith;
 }
 
-lines_fit : (n : ℕ) → 3 ≤ n → n ≤ 250 → AllByRecursion (LineFits n) (grown_lines n)
+lines_fit : (n : ℕ) → 3 ≤ n → n ≤ MOST_ROUTERS → AllByRecursion (LineFits n) (grown_lines n)
 unfolding grown_lines
 lines_fit n some few =
     let sends : AllByRecursion (λ (entropy : ℕ). LineFits n (sending n entropy)) (range_with_len 0 16) =
@@ -47,12 +48,12 @@ lines_fit n some few =
     (tt, each_joined (LineFits n) (map (sending n) (range_with_len 0 16)) (settling n ∷ []) (each_mapped (LineFits n) (sending n) (range_with_len 0 16) sends) (tt, tt))
 
 pub grown_keeps : ((d : DomainConf) (lines : List Line) → IsValid d → AllByRecursion (LineFits (length d.routers)) lines → KeepsPromises d (schedule_done d lines).run)
-    → (n : ℕ) → 3 ≤ n → n ≤ 250 → KeepsPromises (grown_domain n) (grown_run n).run
+    → (n : ℕ) → 3 ≤ n → n ≤ MOST_ROUTERS → KeepsPromises (grown_domain n) (grown_run n).run
 grown_keeps law n some few = law (grown_domain n) (grown_lines n) (grown_valid n some few) (subst (λ (count : ℕ). AllByRecursion (LineFits count) (grown_lines n)) (sym (routers_are n)) (lines_fit n some few))
 
 -- where the number is known by two equations
 pub grown_from : ((d : DomainConf) (lines : List Line) → IsValid d → AllByRecursion (LineFits (length d.routers)) lines → KeepsPromises d (schedule_done d lines).run)
-    → (form : Form) (m n : ℕ) → form ≡ Grow m → 3 ≤ m → m ≤ 250 → form ≡ Grow n → KeepsPromises (grown_domain n) (grown_run n).run
+    → (form : Form) (m n : ℕ) → form ≡ Grow m → 3 ≤ m → m ≤ MOST_ROUTERS → form ≡ Grow n → KeepsPromises (grown_domain n) (grown_run n).run
 grown_from law form m n is_m some few is_n =
     let same : m ≡ n = number (sym is_m ∙ is_n) in
     subst (λ (k : ℕ). KeepsPromises (grown_domain k) (grown_run k).run) same (grown_keeps law m some few)

@@ -5,7 +5,9 @@ ghost use Rattle.replay_run.specs.Run.{Answers, Completes, Leaves, Promises};
 
 use crate::node::node;
 use crate::schedule::replay;
-use command_check::{checks_keep_promises, cover_answers_hold, quiet_answers_hold};
+use command_check::{
+    checks_keep_promises, cover_answers_hold, quiet_answers_hold, settle_lines_make_checks_quiet,
+};
 use command_drive::deliver;
 use command_grow::grow;
 use command_handshake::{handshakes_keep_promises, interfaces_follow_adjacencies};
@@ -13,7 +15,7 @@ use command_headers::run_headers;
 use command_hop::{packets_are_parted, run_hop};
 use command_line::{Arguments, USAGE, parse};
 use command_topo::run_topo;
-use laws_replay::replays_keep_promises;
+use laws_replay::{replays_keep_promises, settle_lines_make_quiet};
 use std::alloc::Global;
 use wire_base::{Sink, Source, Status};
 
@@ -23,7 +25,7 @@ use wire_base::{Sink, Source, Status};
 /// The arguments are `replay CONF SCHEDULE FRAMES`, `replay-ng CONF SCHEDULE FRAMES`, `handshake CONF SCHEDULE FRAMES`, `check CONF
 /// SCHEDULE FRAMES`, `node CONF ROUTER CAPTURE FRAMES`, `hop INPUT`, `headers CAPTURE`, `grow N` or `topo CAPTURE LEVEL MT FROM`; for
 /// any others the report is the usage line. ROUTER is the name of a router of the domain; if there is none of that name, the domain file
-/// is rejected as one that refers to an unknown name. N is 3 to 250, the number of routers of a domain that is made with its schedule.
+/// is rejected as one that refers to an unknown name. N is the number of routers of a domain that is made with its schedule, from 3 to `MOST_ROUTERS`.
 /// LEVEL is 1 or 2, MT a topology from 0 to 4095 (RFC 5120), and FROM the system ID at which paths begin.
 pub fn run<D: Source, S: Source, C: Sink, R: Sink>(
     alloc: Global,
@@ -52,7 +54,7 @@ pub fn run<D: Source, S: Source, C: Sink, R: Sink>(
     // BFR-id that an injection names is at every moment in one copy, one delivery or one drop; the report's numbers add up; nothing
     // is delivered twice; and while topologies agree, no copy is lost and the TTL covers its path, a reachable BFR-id is never
     // dropped and arrives exactly once. In the run of `handshake` an interface is up exactly where its adjacency is. The
-    // answers of `check` are true of the run at that moment.
+    // answers of `check` are true of the run at that moment. A line `settle` with enough rounds makes the domain quiet.
     // `hop` reports each BFR-id of a packet in exactly one line.
     ensures promises { Promises D.Source S.Source C.Sink R.Sink (form_in words.now) (router_in words.now) result
         conf.old conf.new input.old input.new frames.old frames.new report.old report.new }
@@ -62,6 +64,8 @@ pub fn run<D: Source, S: Source, C: Sink, R: Sink>(
     checks_keep_promises();
     quiet_answers_hold();
     cover_answers_hold();
+    settle_lines_make_quiet();
+    settle_lines_make_checks_quiet();
     handshakes_keep_promises();
     interfaces_follow_adjacencies();
     match parse(words) {

@@ -53,7 +53,7 @@ pub returns-in-Replay-clause-promises : goal.returns-in-Replay-clause-promises
 returns-in-Replay-clause-promises g c =
     let replay_run =
     run_done g.D.Source g.S.Source g.C.Sink g.R.Sink c.in-Replay.kind c.args.conf.now c.replay.new.conf c.args.input.now c.replay.new.input c.args.frames.now c.replay.new.frames c.args.report.now c.replay.new.report
-    (IsKept c.in-Replay.kind) (is_kept c.replays_keep_promises.ensures.read c.checks_keep_promises.ensures c.handshakes_keep_promises.ensures c.interfaces_follow_adjacencies.ensures c.quiet_answers_hold.ensures c.cover_answers_hold.ensures c.in-Replay.kind) c.replay.result c.replay.ensures.does.answer c.replay.ensures.leaves in
+    (IsKept c.in-Replay.kind) (is_kept c.replays_keep_promises.ensures.read c.checks_keep_promises.ensures c.handshakes_keep_promises.ensures c.interfaces_follow_adjacencies.ensures c.quiet_answers_hold.ensures c.cover_answers_hold.ensures c.settle_lines_make_quiet.ensures.quiet c.settle_lines_make_quiet.ensures.idle c.settle_lines_make_checks_quiet.ensures.quiet c.settle_lines_make_checks_quiet.ensures.idle c.in-Replay.kind) c.replay.result c.replay.ensures.does.answer c.replay.ensures.leaves in
     search rules
 
 -- ---- arguments of the form Node

@@ -1,7 +1,8 @@
 use Rattle.std.proofs.Common.{ℕ, List, ◌≡◌, ◌∙◌}
 use Rattle.command_drive.specs.declared.command.Flow.TheVariants as flow
 use Rattle.domain_replay.specs.Telling.{tells_line}
-use Rattle.command_replay.specs.Owed.{unsaid, Does, Begins}
+use Rattle.domain_replay.specs.Parts.{unsaid}
+use Rattle.command_replay.specs.Owed.{Does, Begins}
 use Rattle.command_replay.proofs.Steps.{begins_rounds, begins_at_once, if_ok, if_ok_then}
 use Rattle.command_replay.proofs.replaying.Replaying.begin.Goals as goal
 

@@ -4,7 +4,8 @@ use Rattle.domain_replay.specs.Telling.{tells_line}
 use Rattle.command_drive.specs.declared.command.Flow.{Flow}
 use Rattle.command_drive.specs.declared.command.Flow.TheVariants as flow
 use Rattle.command_drive.proofs.Meanings.{told_none}
-use Rattle.command_replay.specs.Owed.{unsaid, rounds_owe, Does}
+use Rattle.domain_replay.specs.Parts.{unsaid}
+use Rattle.command_replay.specs.Owed.{rounds_owe, Does}
 use Rattle.command_replay.proofs.Steps.{round_goes}
 use Rattle.command_replay.proofs.replaying.Replaying.round.Goals as goal
 
