@@ -161,7 +161,7 @@ def program_page(guide, version, date, tools):
     out += [".SH FILES", *blocks(part(found["Installing"], "### What is installed"))]
     out += [".SH EXAMPLES", *code(line.strip() for line in installed(EXAMPLES).splitlines()[1:])]
     out += ["from the folder \\fB/usr/share/doc/mastdamson/examples\\fP."]
-    return page("bier_domain", "proved replay of BIER multicast domains", version, date, [*out, *see_also(["isis_dump", "show_router", *tools])])
+    return page("bier_domain", "proved replay of BIER multicast domains", version, date, [*out, *see_also(["isis_dump", "live_router", "show_router", *tools])])
 
 
 def see_also(names):
@@ -185,6 +185,15 @@ def look_page(guide, version, date):
         out += [f".B show_router {command}", "".join(f"\\fI{it}\\fP " for it in files).strip(), ".br"]
     out += [".SH DESCRIPTION", *blocks(text)]
     return page("show_router", "looks into a router of a replay or on a capture", version, date, [*out, *see_also(["bier_domain"])])
+
+
+def live_page(guide, version, date):
+    """live_router(1), from the part of the same section on the tool that runs it."""
+    out = [".SH SYNOPSIS"]
+    for words in ("", "hello "):
+        out += [f".B live_router {words}".strip(), "\\fICONF\\fP \\fIROUTER\\fP \\fISTREAM\\fP \\fIFRAMES\\fP", ".br"]
+    out += [".SH DESCRIPTION", *blocks(part(sections(installed(guide))["The tools"], "### `mastdamson-live`"))]
+    return page("live_router", "runs a router on a live stream, or its hellos", version, date, [*out, *see_also(["bier_domain", "mastdamson-live"])])
 
 
 def options(lines):

@@ -12,8 +12,9 @@ from common.trouble import Trouble, read_octets
 
 from . import man
 
-TOOLS = ("check-capture", "design", "fail-each", "heard", "import", "lint", "picture", "player", "storm", "sweep")
-PROGRAMS = {"bier_domain": "usr/libexec/mastdamson/bier_domain", "isis_dump": "usr/bin/isis_dump", "show_router": "usr/bin/show_router"}
+TOOLS = ("check-capture", "design", "fail-each", "heard", "import", "lint", "live", "picture", "player", "storm", "sweep")
+BESIDE = ("isis_dump", "live_router", "show_router")  # programs beside the product
+PROGRAMS = {"bier_domain": "usr/libexec/mastdamson/bier_domain", **{name: f"usr/bin/{name}" for name in BESIDE}}
 SHARE, DOC, MAN = "usr/share/mastdamson", "usr/share/doc/mastdamson", "usr/share/man/man1"
 COMPLETIONS = "usr/share/bash-completion/completions"
 PLUGIN = "usr/lib/x86_64-linux-gnu/wireshark/plugins/bier.lua"
@@ -143,6 +144,7 @@ def pages(build, root):
     made["bier_domain"] = man.program_page(guide, build.version, date, command_names())
     made["isis_dump"] = man.dump_page(guide, build.version, date)
     made["show_router"] = man.look_page(guide, build.version, date)
+    made["live_router"] = man.live_page(guide, build.version, date)
     return {f"{MAN}/{name}.1.gz": packed(text) for name, text in made.items()}
 
 

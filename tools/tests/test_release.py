@@ -106,7 +106,7 @@ class ManPages(unittest.TestCase):
     @needs("man", "man-db")
     def test_pages_are_right_for_groff(self):
         given = (GUIDE, "1.2.3", "14 Nov 2023")
-        for page in (man.program_page(*given, tree.command_names()), man.dump_page(*given)):
+        for page in (man.program_page(*given, tree.command_names()), man.dump_page(*given), man.live_page(*given)):
             done = subprocess.run(
                 ["man", "--warnings", "--local-file", "-"],
                 input=page,
