@@ -21,7 +21,7 @@ use Rattle.view_graph.proofs.FragmentLaws.{same_is}
 use Rattle.view_graph.proofs.HeardLaws.{said_heard}
 use Rattle.view_graph.proofs.SystemLaws.{same_turned}
 use Rattle.bier_forward.specs.Kept.{AreRoutes}
-use Rattle.bier_forward.specs.declared.routes.Routes.{Routes}
+use Rattle.bier_forward.specs.declared.cache.Routes.{Routes}
 use Rattle.bier_forward.proofs.MemberLaws.{routes_stay}
 use Rattle.router_core.specs.SnpNeeds.{is_confusing}
 use Rattle.router_core.specs.declared.kept.Kept.{Kept}

@@ -1,5 +1,5 @@
 //! Tables of octets, and of the results of the parsers of bit strings, headers, frames, tunnels, TLVs, PDUs, captures
-//! and domain files. Most of the results were computed by other software. This crate contains only tests.
+//! and domain files, and of the packets of an injection. Most of the results were computed by other software. This crate contains only tests.
 #![tactic(auto)]
 
 #[cfg(test)]
@@ -16,6 +16,8 @@ mod frames;
 mod headers;
 #[cfg(test)]
 mod infos;
+#[cfg(test)]
+mod ingresses;
 #[cfg(test)]
 mod pdus;
 #[cfg(test)]

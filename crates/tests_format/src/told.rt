@@ -24,7 +24,7 @@ impl Told {
         if self.is_whole {
             self.text.as_slice()
         } else {
-            b"want of memory"
+            b"out of memory"
         }
     }
 

@@ -1,5 +1,6 @@
 //! The links of small generated domains.
 ghost use Rattle.std.specs.Prelude.{◌≤◌};
+ghost use Rattle.wire_base.specs.declared.limits.TheConstants.{MOST_ROUTERS};
 
 use grown_domain::grown;
 use std::alloc::Global;
@@ -43,7 +44,7 @@ const TWELVE: &[(u16, u16)] = &[
 /// Returns whether the links of a generated domain join those routers, in order.
 fn joins(alloc: Global, n: u16, wanted: &[(u16, u16)]) -> M<bool>
     requires some { 3 ≤ n }
-    requires few { n ≤ 250 }
+    requires few { n ≤ MOST_ROUTERS }
 {
     let domain = grown(alloc, n)?;
     let links = domain.links.as_slice();

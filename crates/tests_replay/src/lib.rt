@@ -1,6 +1,6 @@
 //! Schedules on small domains, captures at one router, generated domains, and texts of `hop` and `headers`, with their
 //! complete reports and what their captures contain; each call of a source or a sink that fails; and the topology of a
-//! router. This crate contains only tests.
+//! router, and what it does with a frame. This crate contains only tests.
 #![tactic(auto)]
 
 #[cfg(test)]
@@ -13,6 +13,8 @@ mod faults;
 mod grown;
 #[cfg(test)]
 mod inputs;
+#[cfg(test)]
+mod received;
 #[cfg(test)]
 mod reports;
 #[cfg(test)]

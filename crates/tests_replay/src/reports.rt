@@ -157,6 +157,7 @@ const GROWN: &str = "\
 grow 3 |  => 0 | grow 3 injected 16 named 48 got 48 dropped 0 flight 0
 grow 12 |  => 0 | grow 12 injected 16 named 192 got 192 dropped 0 flight 0
 grow 40 |  => 0 | grow 40 injected 16 named 640 got 640 dropped 0 flight 0
+grow 250 |  => 0 | grow 250 injected 16 named 4000 got 4000 dropped 0 flight 0
 topo input 2 4096 0000.0000.0001 |  => 2 | usage: bier_domain replay CONF SCHEDULE FRAMES | node CONF ROUTER CAPTURE FRAMES | hop INPUT | headers CAPTURE | grow N | handshake CONF SCHEDULE FRAMES | topo CAPTURE LEVEL MT FROM | replay-ng CONF SCHEDULE FRAMES | check CONF SCHEDULE FRAMES
 topo input 3 0 0000.0000.0001 |  => 2 | usage: bier_domain replay CONF SCHEDULE FRAMES | node CONF ROUTER CAPTURE FRAMES | hop INPUT | headers CAPTURE | grow N | handshake CONF SCHEDULE FRAMES | topo CAPTURE LEVEL MT FROM | replay-ng CONF SCHEDULE FRAMES | check CONF SCHEDULE FRAMES
 topo input 2 00 0000.0000.0001 |  => 2 | usage: bier_domain replay CONF SCHEDULE FRAMES | node CONF ROUTER CAPTURE FRAMES | hop INPUT | headers CAPTURE | grow N | handshake CONF SCHEDULE FRAMES | topo CAPTURE LEVEL MT FROM | replay-ng CONF SCHEDULE FRAMES | check CONF SCHEDULE FRAMES

@@ -72,7 +72,7 @@ fn confs(domain: &Domain) -> &[RouterConf]
 }
 
 /// Returns the second router of a domain that has two.
-fn second(alloc: Global, domain: &Domain) -> Option<Router> {
+pub fn second(alloc: Global, domain: &Domain) -> Option<Router> {
     match confs(domain) {
         [_, conf] => Router::new(alloc, conf.copy().ok()?).ok(),
         _ => None,
