@@ -13,10 +13,12 @@ if IS_INSTALLED:  # as share/mastdamson of some prefix
     BUILT = os.path.join(PREFIX, "libexec", "mastdamson", "bier_domain")
     DUMP = os.path.join(PREFIX, "bin", "isis_dump")
     SHOW_ROUTER = os.path.join(PREFIX, "bin", "show_router")
+    LIVE = os.path.join(PREFIX, "bin", "live_router")
 else:
     BUILT = os.path.join(ROOT, "crates", "bier_domain", "out", "bier_domain")
     DUMP = os.path.join(ROOT, "crates", "isis_dump", "out", "isis_dump")
     SHOW_ROUTER = os.path.join(ROOT, "crates", "show_router", "out", "show_router")
+    LIVE = os.path.join(ROOT, "crates", "live_router", "out", "live_router")
 
 sys.path.insert(0, os.path.join(TOOLS, "independent"))
 

@@ -7,11 +7,14 @@ tools/independent/replay.py check CONF SCHEDULE FRAMES
 tools/independent/replay.py handshake CONF SCHEDULE FRAMES
 tools/independent/replay.py node CONF ROUTER CAPTURE FRAMES
 tools/independent/replay.py topo CAPTURE LEVEL MT FROM
+tools/independent/replay.py live CONF ROUTER STREAM FRAMES         those of `live_router`, and of `live_router hello`
+tools/independent/replay.py live-hello CONF ROUTER STREAM FRAMES
 """
 import os, sys
 sys.path.insert(0, os.path.dirname(os.path.abspath(__file__)))
 from captures import CaptureNg
 from hellos import Handshake
+from live import Live, LiveHellos
 from model import ConfFault, Refused, Replay, fault, read_domain
 from node import Node
 from quiet import Check
@@ -23,7 +26,7 @@ class ReplayNg(Replay):
         self.cap = CaptureNg(sum(len(r["ends"]) for r in routers))
 
 USAGE = ("usage: replay.py replay|replay-ng|check|handshake CONF SCHEDULE FRAMES | node CONF ROUTER CAPTURE FRAMES"
-         " | topo CAPTURE LEVEL MT FROM")
+         " | topo CAPTURE LEVEL MT FROM | live|live-hello CONF ROUTER STREAM FRAMES")
 
 def read(path):
     try:
@@ -31,15 +34,16 @@ def read(path):
     except OSError as error:
         sys.exit(f"replay.py: {path}: {error.strerror}")
 
+STREAMS = {"live": Live, "live-hello": LiveHellos}
 SCHEDULES = {"replay": Replay, "replay-ng": ReplayNg, "check": Check, "handshake": Handshake}
 
 def begun(words):
     """The run that the arguments ask for."""
     routers = read_domain(read(words[1]))
     if words[0] in SCHEDULES: return SCHEDULES[words[0]](routers)
-    conf = next((r for r in routers if r["name"] == words[2]), None)
-    if conf is None: fault(6, "Reference", "words[2]")
-    return Node(conf)
+    place = next((i for i, r in enumerate(routers) if r["name"] == words[2]), None)
+    if place is None: fault(6, "Reference", "words[2]")
+    return Node(routers[place]) if words[0] == "node" else STREAMS[words[0]](routers, place)
 
 class Output:
     """What a run has made, written out bit by bit."""
@@ -67,7 +71,7 @@ def topo(path, level, mt, start):
 def main():
     words = sys.argv[1:]
     if words in (["--help"], ["-h"]): print(__doc__.strip()); return 0
-    if not words or {"node": 5, "topo": 5, **dict.fromkeys(SCHEDULES, 4)}.get(words[0]) != len(words): print(USAGE); return 2
+    if not words or {"node": 5, "topo": 5, **dict.fromkeys(STREAMS, 5), **dict.fromkeys(SCHEDULES, 4)}.get(words[0]) != len(words): print(USAGE); return 2
     if words[0] == "topo": return topo(*words[1:])
     try:
         run = begun(words)
