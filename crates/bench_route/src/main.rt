@@ -3,7 +3,6 @@
 //! long each part took; `bench/routes` runs it that way.
 #![tactic(auto)]
 
-mod conf;
 mod measure;
 mod ring;
 mod stop;

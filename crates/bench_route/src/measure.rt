@@ -2,10 +2,10 @@
 ghost use Rattle.std.specs.Prelude.{◌≡◌, ◌≤◌, ◌<◌, length};
 ghost use Rattle.wire_base.specs.model.Configuration.{IsSound};
 
-use crate::conf::own_conf;
 use crate::ring::{changed_entry, database, parted_entries};
 use crate::stop::Stop;
 use birt_rows::rows;
+use examples_model::ring_router_a;
 use lsp_store::Store;
 use path_tree::distances_to;
 use std::alloc::Global;
@@ -39,7 +39,7 @@ pub fn measure(rt: &HostRuntime, nodes: u16) -> Result<(Ring, Times), Stop>
     requires some { 0 < nodes }
 {
     let alloc = rt.alloc();
-    let conf = own_conf(alloc)?;
+    let conf = ring_router_a(alloc)?;
     let mut store = database(alloc, nodes)?;
     let start = Instant::now(rt)?;
     let seen = view(alloc, &conf, &[true, true], &store)?;

@@ -61,7 +61,7 @@ climbs-lower : (a low : ℕ) (xs : List ℕ) → a ≤ low → Climbs low xs →
 climbs-lower a low [] le is = tt
 climbs-lower a low (x ∷ xs) le is = (omega (arith, is.0), is.1)
 
-div-le : (a b d : ℕ) → 0 < d → a ≤ b → a / d ≤ b / d
+pub div-le : (a b d : ℕ) → 0 < d → a ≤ b → a / d ≤ b / d
 div-le a b d some le = le-div (a / d) b d some (omega (arith, div-mul-le_self a d, le))
 
 climbs-sets : (bits low : ℕ) (ids : List ℕ) → 0 < bits → Rises low ids → Climbs (set_identifier bits low) (map (set_identifier bits) ids)
@@ -69,7 +69,7 @@ climbs-sets bits low [] some is = tt
 climbs-sets bits low (k ∷ ks) some is =
     (div-le (low - 1) (k - 1) bits some (omega (arith, is.0)), climbs-sets bits k ks some (rises-lower k (suc k) ks (omega arith) is.1))
 
-some-bits : (bsl : Bsl) → 0 < bits_of bsl
+pub some-bits : (bsl : Bsl) → 0 < bits_of bsl
 some-bits B64 = omega arith
 some-bits B128 = omega arith
 some-bits B256 = omega arith

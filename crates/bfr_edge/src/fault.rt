@@ -67,7 +67,8 @@ fn router_fault(conf: &RouterConf, sd: u8, bsl: Bsl) -> Option<EdgeFault>
     }
 }
 
-fn sub_in(subs: &[OwnSub], sd: u8) -> Option<&OwnSub>
+/// Returns the membership of a sub-domain in a list, if there is one.
+pub fn sub_in(subs: &[OwnSub], sd: u8) -> Option<&OwnSub>
     ensures { option_map (λ s. s.now) result ≡ sub_in subs.now sd }
 {
     for sub in subs {

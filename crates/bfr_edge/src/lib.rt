@@ -10,6 +10,7 @@ mod head;
 mod packet;
 
 pub use enter::ingress;
+pub use fault::sub_in;
 pub use head::head_of;
 pub use packet::Packet;
 pub use wire_base::EdgeFault;

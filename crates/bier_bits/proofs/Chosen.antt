@@ -3,8 +3,8 @@ use Rattle.std.proofs.Common.{◌≡◌, ℕ, suc, ◌+◌, ◌≤◌, Bool, tru
 use Rattle.std.proofs.lemmas.Bool.{ne_eqb, le-ltb}
 use Rattle.std.proofs.lemmas.List.{append-nil, length-append}
 use Rattle.std.proofs.lemmas.List.Elements.{filter-append}
-use Rattle.wire_base.specs.model.BitSet.{has_member, with_member, up_to, IsWithin}
-use Rattle.wire_base.proofs.SetLaws.{within-filter, within-up_to, filter-is}
+use Rattle.wire_base.specs.model.BitSet.{with_member, up_to, IsWithin}
+use Rattle.wire_base.proofs.SetLaws.{within-filter, within-up_to}
 
 -- the positions that pass, among the first n
 abbrev pub chosen : (ℕ → Bool) → ℕ → List ℕ
@@ -37,7 +37,3 @@ count_more test n m is passes =
 
 pub count_same : (test : ℕ → Bool) (n m : ℕ) → m ≡ suc n → test m ≡ false → length (chosen test m) ≡ length (chosen test n)
 count_same test n m is fails = ap length (sym (chosen_same test n m (chosen test n) is fails refl))
-
--- at the end of the loop: a set is what passes its test
-pub chosen_all : (test : ℕ → Bool) (n m : ℕ) (bits xs : List ℕ) → m ≡ n → bits ≡ chosen test m → IsWithin 0 n xs → ((p : ℕ) → 1 ≤ p → p ≤ n → has_member p xs ≡ test p) → bits ≡ xs
-chosen_all test n m bits xs end so_far is same = so_far ∙ ap (chosen test) end ∙ filter-is n test xs is same

@@ -5,7 +5,6 @@ use Rattle.std.specs.List.{list_all}
 use Rattle.std.specs.Simd.Lanes.{zip2, chunk, put_chunk, fold_l}
 use Rattle.std.proofs.lemmas.Bool.{cases_lt, cases_eq, ne_eqb, true≢false}
 use Rattle.std.proofs.lemmas.Bool.Decides.{nat_tests, eqb_tells}
-use Rattle.std.proofs.lemmas.List.{drop_more, drop_all}
 use Rattle.std.proofs.lemmas.List.Folds.{list_all-append, list_all_at}
 use Rattle.std.proofs.lemmas.Nat.{le_or_l, le_or_r, and_le_l}
 use Rattle.std.proofs.lemmas.Nat.Bits.{bit_at_and, bit_at_or, bit_at_not, bit_at-lt, bit_at-zero, same_from_bits_below}
@@ -145,12 +144,6 @@ fold_or a (x ∷ xs) = fold_or (bit_or a x) xs ∙ ap (λ (b : Bool). b && list_
 -- eight words, and then one, more that are looked at
 pub zero_eight : (words : List ℕ) (at : ℕ) (all eight : Bool) → eight ≡ list_all (λ x. x == 0) (chunk at 8 words) → list_all (λ x. x == 0) (drop at words) ≡ all → (eight && list_all (λ x. x == 0) (drop (at + 8) words)) ≡ all
 zero_eight words at all eight is so_far = rw is (sym (list_all-append (λ x. x == 0) (chunk at 8 words) (drop (at + 8) words)) ∙ ap (list_all (λ x. x == 0)) (sym (chunk-drop at 8 words)) ∙ so_far)
-
-pub zero_one : (words : List ℕ) (k : ℕ) (all : Bool) → k < length words → list_all (λ x. x == 0) (drop k words) ≡ all → ((get_or words k 0 == 0) && list_all (λ x. x == 0) (drop (k + 1) words)) ≡ all
-zero_one words k all lt so_far = ap (list_all (λ x. x == 0)) (sym (drop_more words k 0 lt)) ∙ so_far
-
-pub zero_end : (words : List ℕ) (k : ℕ) (all : Bool) → length words ≤ k → list_all (λ x. x == 0) (drop k words) ≡ all → true ≡ all
-zero_end words k all le so_far = ap (list_all (λ x. x == 0)) (sym (drop_all k words le)) ∙ so_far
 
 -- each word of a list where none has a bit
 pub zero_at : (xs : List ℕ) → list_all (λ x. x == 0) xs ≡ true → (k : ℕ) → get_or xs k 0 ≡ 0

@@ -2,7 +2,7 @@
 use Rattle.std.proofs.Common.{◌≡◌, ℕ, zero, suc, ◌+◌, ◌-◌, ◌*◌, ◌/◌, ◌%◌, ◌^◌, ◌<◌, ◌==◌, List, ◌++◌, length, get_or, drop, take, set, sym, ap, ◌∙◌, arith, inl, inr}
 use Rattle.std.specs.Int.{bit_at}
 use Rattle.std.proofs.lemmas.Bool.{cases_lt}
-use Rattle.std.proofs.lemmas.List.{drop-drop, get_or-drop, get_or-set_same, get_or-set_other, length-set, length-take-le}
+use Rattle.std.proofs.lemmas.List.{drop-drop, get_or-drop, length-take-le}
 use Rattle.std.proofs.lemmas.Slice.{drop-append-drop}
 use Rattle.std.proofs.Math.Seq.{drop-append-add}
 use Rattle.std.proofs.lemmas.Nat.Bits.{bit_at_cat_low, bit_at_cat_high}
@@ -87,16 +87,4 @@ write_one words out n k at x wide long lt place value fits so_far j below =
           let there : 8 * (length words - 1 - j) ≡ at + 0 = omega (arith, wide, place, same) in
           ap (λ (i : ℕ). get_or words i 0) (sym same) ∙ sym value ∙ sym (big_number-reads_back 8 x (drop 8 (drop at out)) (omega (arith, fits)))
           ∙ ap (big_number 8) (sym (past 0)) ∙ ap (λ (f : ℕ). big_number 8 (drop f (take at out ++ tail))) (sym there)
-    ]
-
-pub read_one : (words octets : List ℕ) (n k : ℕ) → length words ≡ n → k < n → AreOctets words octets k → AreOctets (set words k (big_number 8 (drop (8 * (n - 1 - k)) octets))) octets (k + 1)
-read_one words octets n k wide lt so_far j below =
-    let x = big_number 8 (drop (8 * (n - 1 - k)) octets) in
-    let same : length (set words k x) ≡ length words = length-set words k x in
-    elim (cases_lt j k) [
-      | inl before ↦ get_or-set_other words k j x 0 (λ e. omega (arith, e, before)) ∙ so_far j before ∙ ap (λ (l : ℕ). big_number 8 (drop (8 * (l - 1 - j)) octets)) (sym same)
-      | inr here ↦
-          let at : j ≡ k = omega (arith, here, below) in
-          let there : 8 * (n - 1 - k) ≡ 8 * (length (set words k x) - 1 - j) = omega (arith, same, wide, at) in
-          ap (λ (i : ℕ). get_or (set words k x) i 0) at ∙ get_or-set_same words k x 0 (omega (arith, wide, lt)) ∙ ap (λ (f : ℕ). big_number 8 (drop f octets)) there
     ]

@@ -42,7 +42,7 @@ all-distinct : (P : ℕ → Type 0) (xs : List ℕ) → AllByRecursion P xs → 
 all-distinct P [] all = tt
 all-distinct P (x ∷ xs) all = (all.0, all-filter P (λ y. not (y == x)) (distinct xs) (all-distinct P xs all.1))
 
-all-map : {X Y : Type 0} (P : Y → Type 0) (f : X → Y) (xs : List X) → AllByRecursion (λ x. P (f x)) xs → AllByRecursion P (map f xs)
+pub all-map : {X Y : Type 0} (P : Y → Type 0) (f : X → Y) (xs : List X) → AllByRecursion (λ x. P (f x)) xs → AllByRecursion P (map f xs)
 all-map P f [] all = tt
 all-map P f (x ∷ xs) all = (all.0, all-map P f xs all.1)
 

@@ -1,5 +1,5 @@
 -- BFR-ids and their positions in packets of a triple.
-use Rattle.std.proofs.Common.{◌≡◌, ℕ, ◌+◌, ◌*◌, ◌==◌, ◌<◌, ◌≤◌, false, Option, Some, None, option_and_then, refl, sym, ap, subst, ◌∙◌, inl, inr, arith}
+use Rattle.std.proofs.Common.{◌≡◌, ℕ, ◌+◌, ◌*◌, ◌==◌, ◌<◌, ◌≤◌, false, Option, Some, None, refl, sym, ap, subst, ◌∙◌, inl, inr, arith}
 use Rattle.std.proofs.lemmas.Bool.{eq-eqb, ne_eqb}
 use Rattle.std.proofs.lemmas.Bool.Decides.{eqb_tells}
 use Rattle.wire_base.specs.declared.bsl.Bsl.{Bsl}
@@ -7,7 +7,6 @@ use Rattle.wire_base.specs.declared.bsl.Bsl.TheVariants.{B64, B128, B256, B512, 
 use Rattle.wire_base.specs.declared.triple.Triple.{Triple}
 use Rattle.wire_base.specs.model.Hop.{is_this}
 use Rattle.wire_base.specs.model.Place.{bits_of, bit_position, id_at, position_in, set_identifier}
-use Rattle.bier_hop.specs.Outcomes.{IsOwn}
 
 -- ---- for each length
 
@@ -91,11 +90,3 @@ position-tells t k p low high = elim (eqb_tells (id_at t p) k) [
     by (Some n) q other = ne_eqb p n (λ e. other (ap (id_at t) e ∙ (position-is t k n q).id))
 
 -- ---- the own position
-
-pub own-within : (t : Triple) (own o : Option ℕ) → o ≡ option_and_then (position_in t) own → IsOwn (bits_of t.bsl) o
-own-within t None o e = subst (IsOwn (bits_of t.bsl)) (sym e) tt
-own-within t (Some k) o e = subst (IsOwn (bits_of t.bsl)) (sym e) (by (position_in t k) refl)
-  where
-    by : (o : Option ℕ) → position_in t k ≡ o → IsOwn (bits_of t.bsl) o
-    by None q = tt
-    by (Some p) q = let is = position-is t k p q in (is.low, is.high)

@@ -18,6 +18,7 @@ use Rattle.wire_base.specs.model.OnFrame.{link_to, node_place}
 use Rattle.wire_base.specs.model.OwnLsp.{picked}
 use Rattle.wire_base.specs.model.View.{Claim, claim_of, claims_of, edge_to, edges_from, end_link, is_other, least_of, lists, metric_to, node_of, own_claim, put_claim, view_of, with_known}
 use Rattle.bier_forward.specs.Packets.{LeadsToEnds}
+use Rattle.bier_forward.proofs.DueLaws.{all-map}
 
 -- ---- links and ends
 
@@ -46,7 +47,7 @@ has-end s (false ∷ up) (e ∷ ends) h = later (same_system e.peer s) (end_towa
 -- ---- edges
 
 -- edges lead to systems to which the claim has a link
-edges-lead : (P : ℕ → Type 0) (c : Claim) (place : ℕ) (ds : List Claim) → ((k : ℕ) (d : Claim) → slice_get ds k ≡ Some d → is_some (metric_to c.links d.system) ≡ true → P (place + k))
+pub edges-lead : (P : ℕ → Type 0) (c : Claim) (place : ℕ) (ds : List Claim) → ((k : ℕ) (d : Claim) → slice_get ds k ≡ Some d → is_some (metric_to c.links d.system) ≡ true → P (place + k))
     → AllByRecursion (λ (e : ViewEdge). P e.to) (edges_from c place ds)
 edges-lead P c place [] each = tt
 edges-lead P c place (d ∷ ds) each =
@@ -73,10 +74,6 @@ first-of Q none s (n ∷ g) all = by (same_system n.system s) refl (first-of Q n
     by : (b : Bool) → same_system n.system s ≡ b → Q (edges_of g (node_place g s)) → Q (edges_of (n ∷ g) (if b then 0 else 1 + node_place g s))
     by true e more = all.0 e
     by false e more = let step : suc (node_place g s) ≡ 1 + node_place g s = omega arith in subst (λ (k : ℕ). Q (edges_of (n ∷ g) k)) step more
-
-all-map : {X Y : Type 0} (P : Y → Type 0) (f : X → Y) (xs : List X) → AllByRecursion (λ x. P (f x)) xs → AllByRecursion P (map f xs)
-all-map P f [] all = tt
-all-map P f (x ∷ xs) all = (all.0, all-map P f xs all.1)
 
 all-put : (P : Claim → Type 0) (c : Claim) (cs : List Claim) → P c → AllByRecursion P cs → AllByRecursion P (put_claim c cs)
 all-put P c [] h all = (h, tt)

@@ -1,8 +1,8 @@
 -- A packet's table: at each position the router that its BFR-id has by the definition.
 use mathlib.Core.Bool.{true≢false, false≢true}
-use Rattle.std.proofs.Common.{◌≡◌, ℕ, zero, suc, ◌+◌, ◌-◌, ◌%◌, ◌==◌, ◌&&◌, ◌||◌, ◌≤◌, ◌<◌, nat_lt, not, Bool, true, false, List, [], ◌∷◌, length, filter, get_or, replicate, Option, Some, None, is_some, option_and_then, option_map, slice_get, AllPairs, refl, sym, ap, subst, ◌∙◌, inl, inr, arith, if◌then◌else◌}
+use Rattle.std.proofs.Common.{◌≡◌, ℕ, zero, suc, ◌+◌, ◌-◌, ◌%◌, ◌==◌, ◌&&◌, ◌||◌, ◌≤◌, ◌<◌, not, Bool, true, false, List, [], ◌∷◌, length, filter, get_or, replicate, Option, Some, None, is_some, option_and_then, option_map, slice_get, AllPairs, refl, sym, ap, subst, ◌∙◌, inl, inr, arith, if◌then◌else◌}
 use Rattle.std.specs.List.{AllByRecursion, filter_map, list_any, range_with_len}
-use Rattle.std.proofs.lemmas.Bool.{cases_lt, eqb-true, ltb-true}
+use Rattle.std.proofs.lemmas.Bool.{cases_lt, eqb-true}
 use Rattle.std.proofs.lemmas.List.{get_or_past}
 use Rattle.std.proofs.lemmas.Option.{slice_get_cases, slice_get_past, slice_get_within}
 use Rattle.std.proofs.lemmas.Slice.Eq.{bytes_eq-Decides}
@@ -14,7 +14,7 @@ use Rattle.wire_base.specs.declared.view.ViewEdge.{ViewEdge}
 use Rattle.wire_base.specs.declared.view.ViewNode.{ViewNode}
 use Rattle.wire_base.specs.model.Choice.{candidates, choice, choose, end_toward, first_at, is_direct, is_length, member, toward}
 use Rattle.wire_base.specs.model.Control.{same_system}
-use Rattle.wire_base.specs.model.Graph.{IsBefore, IsGraph, covers_at, edges_at, edges_of, octets_before, owner}
+use Rattle.wire_base.specs.model.Graph.{IsBefore, IsGraph, covers_at, edges_at, edges_of, owner}
 use Rattle.wire_base.specs.model.OnFrame.{link_to, node_place}
 use Rattle.wire_base.specs.model.Place.{bits_of, id_at}
 use Rattle.wire_base.specs.model.Supporting.{firsts, meets}
@@ -23,21 +23,10 @@ use Rattle.wire_base.specs.model.Walk.{dist}
 use Rattle.bift_table.specs.Bift.{member_at, router_at}
 use Rattle.bier_forward.specs.Hops.{AreNext, AreRows, IsNext, place_of}
 use Rattle.bier_forward.specs.Packets.{LeadsToEnds}
+use Rattle.laws_route.proofs.GraphLemmas.{before-differs}
 use Rattle.bier_forward.proofs.DueLaws.{all-filter}
 
 -- ---- the place of a node
-
-before-differs : (xs ys : List ℕ) → octets_before xs ys ≡ true → xs ≡ ys → ⊥
-before-differs xs ys before same = self xs (subst (λ (zs : List ℕ). octets_before xs zs ≡ true) (sym same) before)
-  where
-    self : (xs : List ℕ) → octets_before xs xs ≡ true → ⊥
-    self [] h = false≢true h
-    self (x ∷ xs) h = by (nat_lt x x) refl (x == x) h (self xs)
-      where
-        by : (a : Bool) → nat_lt x x ≡ a → (b : Bool) → (a || (b && octets_before xs xs)) ≡ true → (octets_before xs xs ≡ true → ⊥) → ⊥
-        by true e b h more = (let l : x < x = ltb-true x x e in omega (arith, l))
-        by false e true h more = more h
-        by false e false h more = false≢true h
 
 -- where the nodes stand in the order of their systems, each is the first of its system
 pub place-of-node : (g : List ViewNode) → AllPairs (λ a b. IsBefore a.system b.system) g → (x : ℕ) (n : ViewNode) → slice_get g x ≡ Some n → node_place g n.system ≡ x
@@ -52,7 +41,7 @@ place-of-node (m ∷ g) order zero n at =
 place-of-node (m ∷ g) order (suc x) n at =
     let within : x < length g = slice_get_within g x n at in
     let first : IsBefore m.system n.system = subst (λ (k : ViewNode). IsBefore m.system k.system) (read g x n at) (order 0 (suc x) n (omega arith) (omega (arith, within))) in
-    let b : same_system m.system n.system ≡ false = differs m n first in
+    let b : same_system m.system n.system ≡ false = before-differs m.system n.system first in
     let more = place-of-node g (λ i j d less high. order (suc i) (suc j) d (omega (arith, less)) (omega (arith, high))) x n at in
     rw b (let e : 1 + node_place g n.system ≡ suc x = omega (arith, more) in e)
   where
@@ -60,13 +49,6 @@ place-of-node (m ∷ g) order (suc x) n at =
     read [] x n at = refl
     read (k ∷ g) zero n at = cc
     read (k ∷ g) (suc x) n at = read g x n at
-
-    differs : (a b : ViewNode) → IsBefore a.system b.system → same_system a.system b.system ≡ false
-    differs a b before = by (same_system a.system b.system) refl
-      where
-        by : (t : Bool) → same_system a.system b.system ≡ t → t ≡ false
-        by true e = absurd (before-differs a.system.0 b.system.0 before ((bytes_eq-Decides a.system.0 b.system.0).0 e))
-        by false e = refl
 
 -- ---- candidates
 

@@ -57,18 +57,6 @@ impl Effects {
         }
     }
 
-    /// Returns the effects of an ignored frame.
-    pub fn passed_over(alloc: Global) -> Self
-        ensures { result ≡ on_frame.passed_over }
-    {
-        Effects {
-            sent: SentFrames::new(alloc),
-            got: Rows::new(alloc),
-            drops: Rows::new(alloc),
-            passed: true,
-        }
-    }
-
     /// Returns the effects of a dropped frame.
     pub fn dropped(alloc: Global, cause: Cause) -> M<Self>
         ensures { IfOk result (λ e. e ≡ on_frame.dropped cause) }

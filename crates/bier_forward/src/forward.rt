@@ -17,6 +17,7 @@ use crate::cache::Routes;
 use crate::effects::Effects;
 use crate::incoming::Incoming;
 use crate::outcome::give;
+use bfr_edge::sub_in;
 use bier_bits::{AnyBits, BitString};
 use bier_hop::Hop;
 use bier_tunnel::Fib;
@@ -269,10 +270,8 @@ fn own_position(conf: &RouterConf, triple: Triple) -> Option<u16>
 pub(crate) fn own_id(subs: &[OwnSub], sd: u8) -> Option<u16>
     ensures { result ≡ id_of (sub_in subs.now sd) }
 {
-    for sub in subs {
-        if sub.sd == sd {
-            return if sub.id == 0 { None } else { Some(sub.id) };
-        }
+    match sub_in(subs, sd) {
+        Some(sub) if sub.id != 0 => Some(sub.id),
+        _ => None,
     }
-    None
 }

@@ -26,4 +26,5 @@ pub use enter::enter_packets;
 pub use forward::hop_packet;
 pub use incoming::{Incoming, read_packet};
 pub use sent_frames::SentFrames;
+pub use table_rows::own_place;
 pub use transit::forward_tunnel;

@@ -22,7 +22,7 @@ pub(crate) fn table_rows(alloc: Global, conf: &RouterConf, view: &View, triple: 
 }
 
 /// Returns the index of a system's node, if it has one.
-pub(crate) fn own_place(nodes: &[ViewNode], system: SystemId) -> Option<u16>
+pub fn own_place(nodes: &[ViewNode], system: SystemId) -> Option<u16>
     requires { length nodes.now ≤ 65536 }
     ensures { MatchOption result (node_place nodes.now system ≡ length nodes.now) (λ u. (node_place nodes.now system ≡ u) × (u < length nodes.now)) }
 {

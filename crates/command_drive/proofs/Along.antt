@@ -161,12 +161,6 @@ module _ {T C R : Type 0} (c : sink.Ghosts C) (r : sink.Ghosts R) where
   going (flow.Ends ended) refusal start old new texts texts_now f0 f1 r0 r1 m did =
       (did.0, λ items behind. moves_end c r start (old items behind) texts texts_now items behind m.report_part m.frames_part ended f0 f1 r0 r1 m.report_written m.frames_written (m.owed items behind) (did.1 items behind))
 
--- fewer rounds are left
-pub rounds_fewer : (how : Flow) (waits waits_now : ℕ) → (how ≡ flow.More → waits_now < waits) → rounds_left how waits_now < waits + 1
-rounds_fewer flow.On waits waits_now fewer = omega arith
-rounds_fewer flow.More waits waits_now fewer = let less = fewer refl in omega (arith, less)
-rounds_fewer (flow.Ends ended) waits waits_now fewer = omega arith
-
 module _ {T C R : Type 0} (c : sink.Ghosts C) (r : sink.Ghosts R) where
   pub going_more : (how : Flow) (refusal : Status) (old new : Owed T) (texts_now : Texts) (f0 f1 : C) (r0 r1 : R) → how ≡ flow.More → Going c r how refusal old new texts_now f0 f1 r0 r1 → Moves c r old new f0 f1 r0 r1
   going_more how refusal old new texts_now f0 f1 r0 r1 is goes = subst (λ (h : Flow). Going c r h refusal old new texts_now f0 f1 r0 r1) is goes

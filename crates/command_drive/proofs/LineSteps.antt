@@ -254,9 +254,6 @@ pub part_less : (unread line unread_now line_now : List ℕ) → TakesPart false
 unfolding kept
 part_less unread line unread_now line_now takes = omega (arith, length-append line_now unread_now, length-append line unread, ap length takes.1, ap length takes.2, length-take 16386 (line ++ unread))
 
-pub end_passed : (unread line unread_now line_now : List ℕ) → TakesPart true unread line unread_now line_now → length unread_now < length (line ++ unread)
-end_passed unread line unread_now line_now takes = omega (arith, length-append line unread, ap length takes.2, length-append takes.0 (10 ∷ unread_now))
-
 -- a chunk was read
 pub chunk_less : (room count held held_now room_now : ℕ) (short : Bool) → count ≢ 0 → room_now ≡ room - count → held_now ≤ held + min count room → (short ≡ true → count < room)
     → 3 * room_now + (2 * held_now + (if short then 1 else 0)) ≤ 3 * room + (2 * held + 0)

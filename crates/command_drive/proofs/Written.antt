@@ -26,13 +26,6 @@ whole_front (Some xs) (Some ys) None text written kept = absurd kept
 whole_front (Some xs) (Some ys) (Some zs) text written kept =
     (length text, kept ∙ written ∙ ap (λ (l : List ℕ). xs ++ l) (sym (take-length text)))
 
--- and what is written in part and then kept
-pub part_front : (a b c : Option (List ℕ)) (n : ℕ) (text : List ℕ) → Appends a b (take n text) → Keeps b c → AppendsFront a c text
-part_front None b c n text written kept = (n, tt)
-part_front (Some xs) None c n text written kept = absurd written
-part_front (Some xs) (Some ys) None n text written kept = absurd kept
-part_front (Some xs) (Some ys) (Some zs) n text written kept = (n, kept ∙ written)
-
 pub on_err : {X E : Type 0} (result : Result X E) (P : Type 0) → P → OnErr result P
 on_err (Ok x) P holds = tt
 on_err (Err e) P holds = holds

@@ -14,6 +14,7 @@ ghost use Rattle.command_handshake.specs.Owed.{Does, Begins, HandNamesOnce};
 ghost use Rattle.command_handshake.specs.Shaken.{said_does};
 
 use command_drive::{Close, Command, Flow, Texts};
+use command_replay::names_in;
 use domain_handshake::Handshakes;
 use domain_model::EventFault;
 use domain_replay::{Recording, push_event_refused, push_text_refused, push_too_long};
@@ -22,18 +23,6 @@ use replay_text::{Event, HandLine, Line, read_hand_line};
 use std::alloc::Global;
 use wire_base::limits::MOST_ROUTERS;
 use wire_base::{Domain, M, Name, Octets, Rows, Status};
-
-/// Returns the names of a domain's routers, by index.
-fn names_in(alloc: Global, domain: &Domain) -> M<Rows<Name>>
-    ensures names { IfOk result (λ names. names ≡ names_of domain.now) }
-    ensures few { IfOk result (λ names. length names ≤ MOST_ROUTERS) }
-{
-    let mut names = Rows::new(alloc);
-    for router in domain.routers.as_slice() {
-        names.push(router.name.copy()?)?;
-    }
-    Ok(names)
-}
 
 /// Returns how a run continues after a part of a line. An event that is not allowed ends it, and is reported.
 fn flow_after(alloc: Global, done: Result<(), EventFault>, line: u32, texts: &mut Texts) -> M<Flow>

@@ -17,14 +17,14 @@ use Rattle.wire_base.specs.model.Hop.{hop, has, distinct, is_this, local, unless
 use Rattle.replay_text.specs.declared.hop.HopRow.{HopRow}
 use Rattle.replay_text.specs.Ids.{in_range}
 use Rattle.replay_text.proofs.EachOnce as once
-use Rattle.command_hop.specs.Forward.{Outcome, Local, Copy, Dropped, name_of, delivered, others, copies, copy_of, dropped, dropped_of, ways, outcomes, outcome_text, outcomes_text}
-use Rattle.bier_hop.specs.Outcomes.{IsNumbering, drop_outcome}
-use Rattle.bier_hop.specs.declared.out.Why.{Why}
-use Rattle.bier_hop.specs.declared.out.Why.TheVariants.{NoRow, Ttl}
+use Rattle.command_hop.specs.Forward.{Outcome, Local, Copy, name_of, delivered, others, copies, copy_of, dropped, dropped_of, ways, outcomes, outcome_text, outcomes_text}
+use Rattle.bier_hop.specs.Outcomes.{IsNumbering}
+use Rattle.bier_hop.specs.declared.out.Why.TheVariants.{NoRow}
 use Rattle.wire_base.specs.declared.bsl.Bsl.{Bsl}
 use Rattle.wire_base.specs.model.Place.{bits_of}
 use Rattle.command_hop.specs.declared.ways.Ways.{Ways}
-use Rattle.command_hop.specs.Ways.{AreNumbered, AreWays, routers_of, length_of, has_name, number_in, neighbour, number_of, leading, IsKnown, IsLinked, chosen, name_at, seen, texts}
+use Rattle.bift_table.specs.Any.{bsl_of, positions_of}
+use Rattle.command_hop.specs.Ways.{AreNumbered, AreWays, has_name, number_in, neighbour, number_of, leading, IsKnown, IsLinked, chosen, name_at, seen, texts}
 use Rattle.command_hop.proofs.Partition.{goes_to, copy_to, copy_at, copies_are, unrouted_is, within-filter}
 use Rattle.command_hop.proofs.WayLaws.{at_number}
 
@@ -334,14 +334,10 @@ is_numbering table numbered =
       apart = λ p q f g at_p at_q same. numbered p f at_p ∙ ap neighbour same ∙ sym (numbered q g at_q);
     }
 
-pub texts_pushed : {E : Type 0} (result : Result (Unit {0}) E) (rows : List HopRow) (built : Ways) (bsl : Bsl) (own line : ℕ) (ids old new : List ℕ) → length_of built.table ≡ bsl → AreWays rows built → IsWithin 0 (bits_of bsl) ids
-    → OnOk result (new ≡ old ++ texts line built.names (hop (in_range (bits_of bsl) own) (chosen (routers_of built.table)) ids 255)) → OnOk result (new ≡ old ++ outcomes_text line (outcomes own rows ids))
+pub texts_pushed : {E : Type 0} (result : Result (Unit {0}) E) (rows : List HopRow) (built : Ways) (bsl : Bsl) (own line : ℕ) (ids old new : List ℕ) → bsl_of built.table ≡ bsl → AreWays rows built → IsWithin 0 (bits_of bsl) ids
+    → OnOk result (new ≡ old ++ texts line built.names (hop (in_range (bits_of bsl) own) (chosen (positions_of built.table)) ids 255)) → OnOk result (new ≡ old ++ outcomes_text line (outcomes own rows ids))
 texts_pushed (Err e) rows built bsl own line ids old new length are is pushed = tt
 texts_pushed (Ok u) rows built bsl own line ids old new length are is pushed =
-    pushed ∙ ap (λ (l : List ℕ). old ++ l) (texts_are rows built.names (routers_of built.table) own (bits_of bsl) line ids (λ p low high. are.linked p low (omega (arith, high, ap bits_of length))) is)
+    pushed ∙ ap (λ (l : List ℕ). old ++ l) (texts_are rows built.names (positions_of built.table) own (bits_of bsl) line ids (λ p low high. are.linked p low (omega (arith, high, ap bits_of length))) is)
 
 -- ---- the outcomes
-
-pub drop_seen : (names : List (List ℕ)) (ids : List ℕ) (why : Why) → seen names (drop_outcome ids why) ≡ Dropped ids
-drop_seen names ids NoRow = refl
-drop_seen names ids Ttl = refl

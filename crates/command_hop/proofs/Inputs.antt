@@ -1,5 +1,5 @@
 -- How the answer to a hop text ends.
-use Rattle.std.proofs.Common.{◌≡◌, ℕ, ◌+◌, ◌≤◌, Bool, true, List, [], ◌∷◌, length, Option, Some, None, refl, ap, ◌∙◌, inl, inr}
+use Rattle.std.proofs.Common.{◌≡◌, ℕ, ◌+◌, ◌≤◌, Bool, true, List, [], ◌∷◌, length, Option, Some, None, refl, ap, ◌∙◌}
 use Rattle.std.specs.Prelude.{◌⊎◌}
 use Rattle.std.proofs.lemmas.Bool.{le-leb}
 use Rattle.std.proofs.lemmas.List.{take_all}
@@ -13,11 +13,6 @@ use Rattle.command_drive.specs.Texts.{Ended, Longer, close_of, is_short, within_
 use Rattle.command_hop.specs.HopText.{hop_answer, answer_from, ending, packets_from, refusal_from, fresh, after, AreAllowed, IsAllowed}
 
 -- ---- how an answer ends
-
--- at the end of a text it is done, unless a line is refused
-pub ended_status : (n k : ℕ) (o : Option (ℕ × TextFault)) → ((ending Ended n k o).0 ≡ Done) ⊎ ((ending Ended n k o).0 ≡ InputRefused)
-ended_status n k (Some refusal) = inr refl
-ended_status n k None = inl refl
 
 pub longer_status : (n k : ℕ) (o : Option (ℕ × TextFault)) → (ending Longer n k o).0 ≡ InputRefused
 longer_status n k (Some refusal) = refl

@@ -7,11 +7,13 @@ use Rattle.std.proofs.lemmas.List.{get_or_append_left, get_or_push, get_or_past}
 use Rattle.std.proofs.lemmas.Slice.Eq.{bytes_eq-Decides}
 use Rattle.wire_base.specs.declared.view.First.{First}
 use Rattle.wire_base.specs.model.Place.{bits_of}
-use Rattle.bift_table.specs.Bift.{router_at, member_at}
+use Rattle.bift_table.specs.Bift.{router_at, member_at, table_of}
+use Rattle.bift_table.specs.declared.any.AnyTable.{AnyTable}
+use Rattle.bift_table.specs.Any.{bsl_of, positions_of}
+use Rattle.bift_table.proofs.BiftLaws.{table-at}
 use Rattle.replay_text.specs.declared.hop.HopRow.{HopRow}
 use Rattle.command_hop.specs.Forward.{name_of}
-use Rattle.command_hop.specs.Ways.{has_name, with_name, number_in, neighbour, number_of, leads, leading, IsKnown, IsListed, IsLinked, AreWays, length_of, routers_of, name_at}
-use Rattle.command_hop.specs.declared.ways.AnyTable.{AnyTable}
+use Rattle.command_hop.specs.Ways.{has_name, with_name, number_in, neighbour, number_of, leads, leading, IsKnown, IsListed, IsLinked, AreWays, name_at}
 
 itself : (name : List ℕ) → bytes_eq name name ≡ true
 itself name = (bytes_eq-Decides name name).1 refl
@@ -151,9 +153,10 @@ module _ (rows : List HopRow) (names : List (List ℕ)) (lists : List (List Firs
       apart e = cc
 
 pub ways_made : (rows : List HopRow) (names : List (List ℕ)) (lists : List (List First)) (table : AnyTable) (bits : ℕ) → length lists ≡ bits → ((q : ℕ) → q < bits → IsListed rows names (q + 1) (slice_index_or lists q []))
-    → ((p : ℕ) → 1 ≤ p → router_at (routers_of table) p ≡ member_at 0 (slice_index_or lists (p - 1) [])) → bits_of (length_of table) ≡ bits → AreWays rows (record { names = names; table = table })
-ways_made rows names lists table bits count listed routers is =
+    → positions_of table ≡ table_of lists 0 → bits_of (bsl_of table) ≡ bits → AreWays rows (record { names = names; table = table })
+ways_made rows names lists table bits count listed built is =
+    let routers = λ (p : ℕ) (low : 1 ≤ p). ap (λ (t : List (Option First)). router_at t p) built ∙ table-at lists 0 p low in
     record {
-      linked = λ p low high. linked_at rows names lists (routers_of table) bits count listed routers p low (omega (arith, high, is));
-      numbered = numbered_at rows names lists (routers_of table) bits count listed routers;
+      linked = λ p low high. linked_at rows names lists (positions_of table) bits count listed routers p low (omega (arith, high, is));
+      numbered = numbered_at rows names lists (positions_of table) bits count listed routers;
     }

@@ -2,15 +2,12 @@
 use Rattle.std.specs.Prelude.{ℕ, suc, ◌≡◌, ◌≤◌, ◌/◌, ◌%◌, Bool, true, List, [], ◌∷◌, ◌++◌, slice_index_or, Option, Some, None, option_map, unwrap_or, if◌then◌else◌}
 use Rattle.std.specs.List.{list_any, flat_map}
 use Rattle.std.specs.Str.{bytes_eq}
-use Rattle.wire_base.specs.declared.bsl.Bsl.{Bsl}
-use Rattle.wire_base.specs.declared.bsl.Bsl.TheVariants as lengths
 use Rattle.wire_base.specs.declared.view.First.{First}
 use Rattle.wire_base.specs.model.Hop as model
 use Rattle.wire_base.specs.model.Place.{bits_of}
 use Rattle.bift_table.specs.Bift.{router_at}
+use Rattle.bift_table.specs.Any.{bsl_of, positions_of}
 use Rattle.replay_text.specs.declared.hop.HopRow.{HopRow}
-use Rattle.command_hop.specs.declared.ways.AnyTable.{AnyTable}
-use Rattle.command_hop.specs.declared.ways.AnyTable.TheVariants.{B64, B128, B256, B512, B1024, B2048, B4096}
 use Rattle.command_hop.specs.declared.ways.Ways.{Ways}
 use Rattle.command_hop.specs.Forward.{Outcome, Local, Copy, Dropped, outcome_text, name_of}
 
@@ -52,25 +49,7 @@ pub record IsListed (rows : List HopRow) (names : List (List ℕ)) (p : ℕ) (li
   pub list_is : list ≡ leads names (name_of rows p)
   pub known : IsKnown names (name_of rows p)
 
--- ---- tables of any length
-
-abbrev pub length_of : AnyTable → Bsl
-length_of (B64 table) = lengths.B64
-length_of (B128 table) = lengths.B128
-length_of (B256 table) = lengths.B256
-length_of (B512 table) = lengths.B512
-length_of (B1024 table) = lengths.B1024
-length_of (B2048 table) = lengths.B2048
-length_of (B4096 table) = lengths.B4096
-
-abbrev pub routers_of : AnyTable → List (Option First)
-routers_of (B64 table) = table
-routers_of (B128 table) = table
-routers_of (B256 table) = table
-routers_of (B512 table) = table
-routers_of (B1024 table) = table
-routers_of (B2048 table) = table
-routers_of (B4096 table) = table
+-- ---- tables
 
 -- a bit position leads where its row states
 pub record IsLinked (rows : List HopRow) (names : List (List ℕ)) (table : List (Option First)) (p : ℕ) : Type 0 where
@@ -87,8 +66,8 @@ chosen table p = option_map number_of (router_at table p)
 
 -- A table and names that represent rows.
 pub record AreWays (rows : List HopRow) (ways : Ways) : Type 0 where
-  pub linked : (p : ℕ) → 1 ≤ p → p ≤ bits_of (length_of ways.table) → IsLinked rows ways.names (routers_of ways.table) p
-  pub numbered : AreNumbered (routers_of ways.table)
+  pub linked : (p : ℕ) → 1 ≤ p → p ≤ bits_of (bsl_of ways.table) → IsLinked rows ways.names (positions_of ways.table) p
+  pub numbered : AreNumbered (positions_of ways.table)
 
 -- ---- outcomes
 

@@ -5,16 +5,17 @@ ghost use Rattle.wire_base.specs.model.Hop.{hop};
 ghost use Rattle.wire_base.specs.model.Place.{bits_of};
 ghost use Rattle.bier_bits.specs.Any.{positions_of, bsl_of};
 ghost use Rattle.bier_bits.specs.Sets.{is_width};
+ghost use Rattle.bift_table.specs.Any as tables;
 ghost use Rattle.bier_hop.specs.Outcomes.{IsNumbering, IsOwn, left, outcome};
 ghost use Rattle.replay_text.specs.Ids.{in_range};
 ghost use Rattle.replay_text.specs.declared.hop.HopRow.{HopRow};
 ghost use Rattle.command_hop.specs.Forward as forward;
-ghost use Rattle.command_hop.specs.Ways.{AreWays, name_at, number_of, seen, chosen, texts, routers_of, length_of};
+ghost use Rattle.command_hop.specs.Ways.{AreWays, name_at, number_of, seen, chosen, texts};
 
-use crate::ways::{AnyTable, Ways};
+use crate::ways::Ways;
 use bier_bits::{AnyBits, BitString};
 use bier_hop::{Hop, Out};
-use bift_table::Table;
+use bift_table::{AnyTable, Table};
 use replay_text::push_set;
 use std::alloc::Global;
 use std::marker::Brand;
@@ -151,9 +152,9 @@ fn push_along<L: Ledger>(
     requires name { blank.name ≡ L.name }
     requires parts { blank.parts ≡ L.parts }
     requires some { 0 < blank.parts }
-    requires length { length_of ways.now.table ≡ bsl_of bits.now }
-    requires numbered { IsNumbering (routers_of ways.now.table) number_of (chosen (routers_of ways.now.table)) }
-    ensures { OnOk result (out.new ≡ out.old ++ texts line ways.now.names (hop (in_range (bits_of (bsl_of bits.now)) own) (chosen (routers_of ways.now.table)) (positions_of bits.now) 255)) }
+    requires length { tables.bsl_of ways.now.table ≡ bsl_of bits.now }
+    requires numbered { IsNumbering (tables.positions_of ways.now.table) number_of (chosen (tables.positions_of ways.now.table)) }
+    ensures { OnOk result (out.new ≡ out.old ++ texts line ways.now.names (hop (in_range (bits_of (bsl_of bits.now)) own) (chosen (tables.positions_of ways.now.table)) (positions_of bits.now) 255)) }
 {
     let mut steps = Steps::<L>::new(blank);
     let names = ways.names.as_slice();
@@ -193,7 +194,7 @@ pub fn push_outcomes(
     ways: &Ways,
     bits: &AnyBits,
 ) -> M<()>
-    requires length { length_of ways.now.table ≡ bsl_of bits.now }
+    requires length { tables.bsl_of ways.now.table ≡ bsl_of bits.now }
     requires ways { (rows : List HopRow) × AreWays rows ways.now }
     ensures { (rows : List HopRow) → AreWays rows ways.now → OnOk result (out.new ≡ out.old ++ forward.outcomes_text line (forward.outcomes own rows (positions_of bits.now))) }
 {

@@ -3,11 +3,12 @@ ghost use Rattle.std.specs.Prelude.{◌≡◌, ◌+◌, ◌<◌, ◌≤◌, ◌^
 ghost use Rattle.std.specs.List.{flat_map};
 ghost use Rattle.replay_text.specs.declared.fault.TextFault.TheVariants as fault;
 ghost use Rattle.bier_bits.specs.Any.{positions_of};
+ghost use Rattle.bift_table.specs.Any.{bsl_of};
 ghost use Rattle.wire_base.specs.declared.status.Status.TheVariants as status;
 ghost use Rattle.replay_text.specs.Fault.{rule_text, fault_text};
 ghost use Rattle.command_hop.specs.HopText as text;
 ghost use Rattle.command_hop.specs.Forward as forward;
-ghost use Rattle.command_hop.specs.Ways.{AreWays, length_of};
+ghost use Rattle.command_hop.specs.Ways.{AreWays};
 
 use crate::forward::push_outcomes;
 use crate::ways::{Ways, ways_of};
@@ -43,7 +44,7 @@ fn ready(alloc: Global, ways: &mut Option<Ways>, rows: &[HopRow], bsl: Bsl) -> M
     requires { IfSome ways.old (λ built. AreWays rows.now built) }
     ensures ways { IfOk result (λ built. AreWays rows.now built) }
     ensures taken { ways.new ≡ None }
-    ensures bsl { IfOk result (λ built. length_of built.table ≡ bsl) }
+    ensures bsl { IfOk result (λ built. bsl_of built.table ≡ bsl) }
 {
     match ways.take() {
         Some(built) if built.table.bsl() == bsl => Ok(built),

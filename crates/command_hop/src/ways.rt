@@ -1,44 +1,14 @@
 //! The forwarding table of configured rows: each different name is a neighbor with a number.
-ghost use Rattle.std.specs.Prelude.{◌≡◌, ◌≤◌, ◌<◌, ◌+◌, ◌-◌, ◌++◌, ℕ, List, [], length, true, false, IfOk, MatchOption, slice_index_or, option_map};
+ghost use Rattle.std.specs.Prelude.{◌≡◌, ◌≤◌, ◌<◌, ◌+◌, ◌++◌, ℕ, List, [], length, true, false, IfOk, MatchOption, slice_index_or, option_map};
 ghost use Rattle.std.specs.Str.{bytes_eq};
-ghost use Rattle.wire_base.specs.model.Place.{bits_of};
-ghost use Rattle.bift_table.specs.Bift.{router_at, member_at};
+ghost use Rattle.bift_table.specs.Any.{bsl_of};
 ghost use Rattle.command_hop.specs.Forward as forward;
 ghost use Rattle.command_hop.specs.Ways as spec;
 
-use bift_table::Table;
+use bift_table::AnyTable;
 use replay_text::HopRow;
 use std::alloc::Global;
 use wire_base::{Bsl, First, FirstList, M, Name, RowSet, Rows, SystemId};
-
-/// A forwarding table of one of the seven BitStringLengths.
-#[derive(Drop)]
-pub(crate) enum AnyTable {
-    B64(Table<1>),
-    B128(Table<2>),
-    B256(Table<4>),
-    B512(Table<8>),
-    B1024(Table<16>),
-    B2048(Table<32>),
-    B4096(Table<64>),
-}
-
-impl AnyTable {
-    /// Returns its BitStringLength.
-    pub fn bsl(&self) -> Bsl
-        ensures { result ≡ spec.length_of self.now }
-    {
-        match self {
-            AnyTable::B64(_) => Bsl::B64,
-            AnyTable::B128(_) => Bsl::B128,
-            AnyTable::B256(_) => Bsl::B256,
-            AnyTable::B512(_) => Bsl::B512,
-            AnyTable::B1024(_) => Bsl::B1024,
-            AnyTable::B2048(_) => Bsl::B2048,
-            AnyTable::B4096(_) => Bsl::B4096,
-        }
-    }
-}
 
 /// The neighbors' names, indexed by their numbers, and the table.
 #[derive(Drop)]
@@ -127,31 +97,14 @@ fn lists_of(alloc: Global, names: &mut Rows<Name>, rows: &[HopRow], bits: u16) -
     Ok(RowSet { bits: lists })
 }
 
-/// Returns the table of a length.
-fn table_of(alloc: Global, rows: &RowSet, bsl: Bsl) -> M<AnyTable>
-    requires { length rows.now.bits ≡ bits_of bsl }
-    ensures bsl { IfOk result (λ table. spec.length_of table ≡ bsl) }
-    ensures routers { IfOk result (λ table. (p : ℕ) → 1 ≤ p → router_at (spec.routers_of table) p ≡ member_at 0 (slice_index_or rows.now.bits (p - 1) [])) }
-{
-    Ok(match bsl {
-        Bsl::B64 => AnyTable::B64(Table::build(alloc, rows, 0)?),
-        Bsl::B128 => AnyTable::B128(Table::build(alloc, rows, 0)?),
-        Bsl::B256 => AnyTable::B256(Table::build(alloc, rows, 0)?),
-        Bsl::B512 => AnyTable::B512(Table::build(alloc, rows, 0)?),
-        Bsl::B1024 => AnyTable::B1024(Table::build(alloc, rows, 0)?),
-        Bsl::B2048 => AnyTable::B2048(Table::build(alloc, rows, 0)?),
-        Bsl::B4096 => AnyTable::B4096(Table::build(alloc, rows, 0)?),
-    })
-}
-
 /// Returns the table of rows for packets of a length. The neighbors are numbered in the order of their least bit
 /// positions.
 pub(crate) fn ways_of(alloc: Global, rows: &[HopRow], bsl: Bsl) -> M<Ways>
     ensures ways { IfOk result (λ ways. spec.AreWays rows.now ways) }
-    ensures bsl { IfOk result (λ ways. spec.length_of ways.table ≡ bsl) }
+    ensures bsl { IfOk result (λ ways. bsl_of ways.table ≡ bsl) }
 {
     let mut names = Rows::new(alloc);
     let lists = lists_of(alloc, &mut names, rows, bsl.bits())?;
-    let table = table_of(alloc, &lists, bsl)?;
+    let table = AnyTable::build(alloc, bsl, &lists, 0)?;
     Ok(Ways { names, table })
 }

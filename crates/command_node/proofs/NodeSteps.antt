@@ -1,5 +1,5 @@
 -- What a node's calls do is what it does.
-use Rattle.std.proofs.Common.{◌≡◌, ℕ, ◌+◌, ◌-◌, ◌<◌, ◌≤◌, zero, suc, Bool, true, if◌then◌else◌, List, [], ◌∷◌, ◌++◌, take, slice_get, Some, option_map, sym, ap, ◌∙◌, append_assoc, arith}
+use Rattle.std.proofs.Common.{◌≡◌, ℕ, ◌+◌, ◌-◌, ◌<◌, ◌≤◌, zero, suc, Bool, true, if◌then◌else◌, List, [], ◌∷◌, ◌++◌, length, take, slice_get, Some, option_map, sym, ap, subst, ◌∙◌, append_assoc, arith}
 use Rattle.std.specs.List.{fold, range_with_len}
 use Rattle.std.proofs.lemmas.List.{append-nil}
 use Rattle.std.proofs.lemmas.List.Concat.{flat_map-cons}
@@ -9,6 +9,7 @@ use Rattle.wire_base.specs.declared.effects.Sent.{Sent}
 use Rattle.wire_base.specs.model.Capture.{written_record}
 use Rattle.wire_base.specs.model.Flooding.{send}
 use Rattle.wire_base.specs.model.OnFrame.{Next, framed}
+use Rattle.router_core.specs.Bounds.{FitRecords}
 use Rattle.laws_router.specs.State.{is_up}
 use Rattle.command_node.specs.NodeRun.{Node, frame_record, frames_text, goes_out, next_sent, sends_on, second_passes, seconds_pass}
 
@@ -37,6 +38,12 @@ frames_more sec usec sent i octets old out new is so added =
     ∙ append_assoc old (frames_text sec usec (take i sent)) (written_record sec usec octets)
     ∙ ap (λ (l : List ℕ). old ++ l) (sym (records_more sec usec sent i octets is))
     ∙ ap (λ (k : ℕ). old ++ frames_text sec usec (take k sent)) (sym one)
+
+-- each frame fits a record
+pub fits_at : (sent : List Sent) (i : ℕ) (octets : List ℕ) → FitRecords sent → option_map (λ s. s.octets) (slice_get sent i) ≡ Some octets → length octets ≤ 65535
+fits_at [] i octets fit is = absurd (none-some octets is)
+fits_at (s ∷ sent) zero octets fit is = subst (λ (l : List ℕ). length l ≤ 65535) (same_Some s.octets octets is) fit.0
+fits_at (s ∷ sent) (suc i) octets fit is = fits_at sent i octets fit.1 is
 
 -- what is due on a link that is up went out
 pub sent_on : (sec : ℕ) (n : Node) (link : ℕ) (next : Next) (sent : List Sent) → is_up n.control link ≡ true → next ≡ framed link (send n.control link) → sent ≡ next.effects.sent → goes_out sec 0 sent (record n { control = next.control }) ≡ sends_on sec n link

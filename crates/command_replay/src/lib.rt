@@ -11,4 +11,4 @@ mod replaying;
 
 pub use laws::schedules_are_answered;
 pub use replay_command::play;
-pub use replaying::Replaying;
+pub use replaying::{Replaying, names_in};

@@ -20,7 +20,7 @@ use wire_base::limits::MOST_ROUTERS;
 use wire_base::{Domain, M, Name, Octets, Rows, Status};
 
 /// Returns the names of a domain's routers, by index.
-fn names_in(alloc: Global, domain: &Domain) -> M<Rows<Name>>
+pub fn names_in(alloc: Global, domain: &Domain) -> M<Rows<Name>>
     ensures names { IfOk result (λ names. names ≡ names_of domain.now) }
     ensures few { IfOk result (λ names. length names ≤ MOST_ROUTERS) }
 {

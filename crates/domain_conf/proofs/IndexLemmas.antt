@@ -37,12 +37,6 @@ found_at-put bs m n w h cs =
 
 -- ---- places in a list
 
-position-none : {X : Type 0} (p : X → Bool) (i : ℕ) (xs : List X) → list_any p xs ≡ false → position_from p i xs ≡ None
-position-none p i [] none = refl
-position-none p i (x ∷ xs) none =
-    let parts = or_parts (p x) (list_any p xs) none in
-    cond-false (p x) (Some i) (position_from p (i + 1) xs) parts.0 ∙ position-none p (i + 1) xs parts.1
-
 -- one more at the end, which is the first to pass
 position-push_new : {X : Type 0} (p : X → Bool) (i : ℕ) (xs : List X) (x : X) → list_any p xs ≡ false → p x ≡ true → position_from p i (xs ++ x ∷ []) ≡ Some (i + length xs)
 position-push_new p i [] x none is = cond-true (p x) (Some i) None is ∙ ap Some (sym (add-zero i))

@@ -81,11 +81,6 @@ in_map f [] v i = absurd i
 in_map f (x ∷ xs) v (inl e) = (x, inl refl, sym e)
 in_map f (x ∷ xs) v (inr i) = let m = in_map f xs v i in (m.0, inr m.1, m.2)
 
-pub map_in : {X Y : Type 0} (f : X → Y) (xs : List X) (x : X) → IsIn x xs → IsIn (f x) (map f xs)
-map_in f [] x i = absurd i
-map_in f (y ∷ ys) x (inl e) = inl (ap f e)
-map_in f (y ∷ ys) x (inr i) = inr (map_in f ys x i)
-
 -- ---- images that some have
 
 pub in_filter_map : {X Y : Type 0} (f : X → Option Y) (xs : List X) (v : Y) → IsIn v (filter_map f xs) → (x : X) × IsIn x xs × (f x ≡ Some v)

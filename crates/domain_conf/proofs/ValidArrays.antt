@@ -94,12 +94,6 @@ and_turned true false = refl
 and_turned false true = refl
 and_turned false false = refl
 
-or_turned : (a b : Bool) → (a || b) ≡ (b || a)
-or_turned true true = refl
-or_turned true false = refl
-or_turned false true = refl
-or_turned false false = refl
-
 pub share_turned : (x y : LabelRange) → share_label x y ≡ share_label y x
 share_turned x y = and_turned (leb x.label (y.label + y.max_si)) (leb y.label (x.label + x.max_si))
 

@@ -33,7 +33,7 @@ use Rattle.domain_conf.specs.declared.assemble.Entries.{Entries}
 use Rattle.domain_conf.specs.Assembled.{system_at, end_of, ends_of, subs_of, conf_of, confs_from, HasFewSubs, is_too_large, within_limits, with_limits, domain_from}
 use Rattle.domain_conf.proofs.ValidLists.{bind_ok, passed, ok_is}
 use Rattle.domain_conf.proofs.ValidArrays.{AreSubdomains, AreRows, AreRouters, IsRouterEntry, AreBiers, AreLabels, AreLinks, IsLinkEntry, of_name, of_system, of_prefix, bytes_turned}
-use Rattle.domain_conf.proofs.ValidAmong.{IsIn, all_in, all_from, get_in, in_map, map_in, all_map, apart_map, filter_map_in}
+use Rattle.domain_conf.proofs.ValidAmong.{IsIn, all_in, all_from, get_in, in_map, all_map, apart_map, filter_map_in}
 use Rattle.domain_conf.proofs.ValidSubs.{subs_sound, subs_apart, subs_few, labels_apart, subs_may_stand}
 use Rattle.domain_conf.proofs.ValidEnds.{IsFirst, IsSecond, end_is, far, peer_is, system_there, some_there, ends_sound, peers_apart, peer_macs_apart, far_within, bytes_self}
 

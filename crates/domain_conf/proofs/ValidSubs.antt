@@ -21,7 +21,7 @@ use Rattle.domain_conf.specs.declared.labels.LabelsEntry.{LabelsEntry}
 use Rattle.domain_conf.specs.LabelRanges.{same_labels, takes_label}
 use Rattle.domain_conf.specs.Assembled.{is_labels_of, ranges_of, sub_of, subs_of}
 use Rattle.domain_conf.proofs.ValidArrays.{AreSubdomains, AreBiers, IsBierEntry, AreLabels, IsLabelsEntry, of_sub, eqb_turned, label_turned}
-use Rattle.domain_conf.proofs.ValidAmong.{IsIn, all_in, all_from, in_filter, all_filter, apart_filter, all_map, apart_map, apart_in, in_map, map_in, apart_flat_map, as_many}
+use Rattle.domain_conf.proofs.ValidAmong.{IsIn, all_in, all_from, in_filter, all_filter, apart_filter, all_map, apart_map, apart_in, in_map, apart_flat_map, as_many}
 
 -- of two that aren't both true, the second isn't where the first is
 and_last : (a b : Bool) → a ≡ true → (a && b) ≡ false → b ≡ false

@@ -22,4 +22,5 @@ mod subdomains;
 
 pub use fault::ConfFault;
 pub use forms::system_octets;
+pub use links::made_mac;
 pub use read::read_domain;

@@ -39,7 +39,7 @@ impl AtRouters for LinkEntry {
 /// Returns the Ethernet address of a router's interface toward a peer if the file has none: 02:00, the router's index
 /// and the peer's index.
 #[tactic(auto, unfolding(crate::specs::Links::made_mac))]
-fn made_mac(own: u16, peer: u16) -> Mac
+pub fn made_mac(own: u16, peer: u16) -> Mac
     ensures { result ≡ spec.made_mac own peer }
 {
     Mac([

@@ -1,16 +1,14 @@
 -- The BFR-ids that the packets of an injection reach, packet by packet, are those of its list, ascending.
-use Rattle.std.proofs.Common.{◌≡◌, ◌⊎◌, ℕ, suc, ◌+◌, ◌-◌, ◌*◌, ◌/◌, ◌%◌, ◌^◌, ◌<◌, ◌≤◌, ◌==◌, ◌&&◌, ◌||◌, nat_le, nat_lt, not, Bool, true, false, if◌then◌else◌, List, [], ◌∷◌, ◌++◌, length, map, filter, find, slice_get, slice_index_or, is_some, Fits, w16, Option, Some, None, Result, Ok, Err, inl, inr, refl, sym, ap, subst, ◌∙◌, arith}
+use Rattle.std.proofs.Common.{◌≡◌, ◌⊎◌, ℕ, suc, ◌+◌, ◌-◌, ◌*◌, ◌/◌, ◌%◌, ◌^◌, ◌<◌, ◌≤◌, ◌==◌, ◌&&◌, ◌||◌, nat_le, nat_lt, not, Bool, true, false, if◌then◌else◌, List, [], ◌∷◌, ◌++◌, length, map, filter, find, slice_get, slice_index_or, Fits, w16, Option, Some, None, Result, Ok, Err, inl, inr, refl, sym, ap, subst, ◌∙◌, arith}
 use mathlib.Core.Bool.{false≢true, true≢false}
 use Rattle.std.specs.List.{AllByRecursion, flat_map, list_any}
 use Rattle.std.proofs.Math.Bool.{or-true}
-use Rattle.std.proofs.Math.Nat.{div-mul-le_self, div-add-mod}
+use Rattle.std.proofs.Math.Nat.{div-add-mod}
 use Rattle.std.proofs.lemmas.Bool.{cases_Bool, cases_order, eq-eqb, eqb-true, le-leb, le-ltb, lt-ltb, ne_eqb}
 use Rattle.std.proofs.lemmas.Bool.Decides.{eqb_tells}
 use Rattle.std.proofs.lemmas.List.Concat.{flat_map-cons}
 use Rattle.std.proofs.lemmas.List.Elements.{filter-append}
-use Rattle.std.proofs.lemmas.Nat.{le-div}
 use Rattle.wire_base.specs.declared.bsl.Bsl.{Bsl}
-use Rattle.wire_base.specs.declared.bsl.Bsl.TheVariants.{B64, B128, B256, B512, B1024, B2048, B4096}
 use Rattle.wire_base.specs.declared.faults.EdgeFault.{EdgeFault}
 use Rattle.wire_base.specs.declared.faults.EdgeFault.TheVariants as edge
 use Rattle.wire_base.specs.declared.triple.Triple.{Triple}
@@ -19,12 +17,12 @@ use Rattle.wire_base.specs.model.Control.{Control}
 use Rattle.wire_base.specs.model.Hop.{distinct, has}
 use Rattle.wire_base.specs.model.Ingress.{edge_fault, id_set, ids_of_set, packet_for, packets_for, sets_of}
 use Rattle.wire_base.specs.model.Item.{positions_of}
-use Rattle.wire_base.specs.model.Place.{bit_position, bits_of, id_at, position_in, set_identifier}
+use Rattle.wire_base.specs.model.Place.{bit_position, bits_of, id_at, set_identifier}
 use Rattle.wire_base.proofs.SetLaws.{has_head}
 use Rattle.bfr_edge.specs.Entry.{Refuses, placed}
-use Rattle.bfr_edge.proofs.GroupLaws.{Climbs, Rises, has-distinct, none-early, rises-id_set, sets-rise}
+use Rattle.bfr_edge.proofs.GroupLaws.{Climbs, Rises, has-distinct, none-early, rises-id_set, sets-rise, some-bits, div-le}
 use Rattle.domain_model.specs.Moves.{listed}
-use Rattle.domain_model.proofs.IdLaws.{ids_all, ids_more, ids_up_to}
+use Rattle.domain_model.proofs.IdLaws.{ids_all}
 use Rattle.domain_model.specs.World.{WorldState}
 use Rattle.domain_model.proofs.EachLaws.{each_both, each_got, each_kept, each_passing, each_weaker}
 use Rattle.domain_model.specs.Truth.{IsTrueControl, IsTruthful, confs_now, domain_now}
@@ -126,18 +124,6 @@ grouped f (s ∷ ss) xs low is climbs there =
 
 -- ---- the sets of BFR-ids
 
-some_bits : (bsl : Bsl) → 0 < bits_of bsl
-some_bits B64 = omega arith
-some_bits B128 = omega arith
-some_bits B256 = omega arith
-some_bits B512 = omega arith
-some_bits B1024 = omega arith
-some_bits B2048 = omega arith
-some_bits B4096 = omega arith
-
-div_le : (a b d : ℕ) → 0 < d → a ≤ b → a / d ≤ b / d
-div_le a b d some le = le-div (a / d) b d some (omega (arith, div-mul-le_self a d, le))
-
 rises_lower : (a low : ℕ) (xs : List ℕ) → a ≤ low → Rises low xs → Rises a xs
 rises_lower a low [] le is = tt
 rises_lower a low (x ∷ xs) le is = (omega (arith, is.0, le), is.1)
@@ -145,7 +131,7 @@ rises_lower a low (x ∷ xs) le is = (omega (arith, is.0, le), is.1)
 sets_climb : (bits low : ℕ) (ids : List ℕ) → 0 < bits → Rises low ids → Climbs (set_identifier bits low) (map (set_identifier bits) ids)
 sets_climb bits low [] some is = tt
 sets_climb bits low (k ∷ ks) some is =
-    (div_le (low - 1) (k - 1) bits some (omega (arith, is.0)), sets_climb bits k ks some (rises_lower k (suc k) ks (omega arith) is.1))
+    (div-le (low - 1) (k - 1) bits some (omega (arith, is.0)), sets_climb bits k ks some (rises_lower k (suc k) ks (omega arith) is.1))
 
 mapped_in : (f : ℕ → ℕ) (xs : List ℕ) → AreIn f (map f xs) xs
 mapped_in f [] = tt
@@ -164,7 +150,7 @@ module _ (bsl : Bsl) (ids : List ℕ) (none : list_any (λ j. j == 0) ids ≡ fa
   pub sets_whole : flat_map (ids_of_set bsl ids) (sets_of bsl ids) ≡ id_set ids
   sets_whole =
       grouped si_of (sets_of bsl ids) (id_set ids) 0 (sets-rise bsl ids none)
-      (climbs_lower 0 (si_of 1) (map si_of (id_set ids)) (omega arith) (sets_climb (bits_of bsl) 1 (id_set ids) (some_bits bsl) (rises-id_set ids none)))
+      (climbs_lower 0 (si_of 1) (map si_of (id_set ids)) (omega arith) (sets_climb (bits_of bsl) 1 (id_set ids) (some-bits bsl) (rises-id_set ids none)))
       sets_cover
 
 -- ---- the BFR-ids of one set
@@ -274,31 +260,9 @@ module _ (c : Control) (sd : ℕ) (bsl : Bsl) (ids : List ℕ) (ttl entropy : �
 
 -- ---- positions
 
--- one position more
-pub reached_more : (e : EntryPoint) (t : Triple) (set : List ℕ) (n : ℕ) → reached_at e t (filter (λ p. has_member p set) (up_to n)) ++ reached_at e t (filter (λ p. has_member p set) ((n + 1) ∷ [])) ≡ reached_at e t (filter (λ p. has_member p set) (up_to (n + 1)))
-reached_more e t set n =
-    sym (filter-append (reaches_from e t) (ids_up_to t set n) (listed (map (id_at t) (filter (λ p. has_member p set) ((n + 1) ∷ [])))))
-    ∙ ap (filter (reaches_from e t)) (ids_more t set n)
-
 -- all positions
 pub reached_all : (e : EntryPoint) (t : Triple) (set : List ℕ) (n : ℕ) → IsWithin 0 n set → reached_at e t (filter (λ p. has_member p set) (up_to n)) ≡ reached_at e t set
 reached_all e t set n within = ap (filter (reaches_from e t)) (ids_all t set n within)
-
-si_back : (b : Bsl) (si p : ℕ) → 1 ≤ p → p ≤ bits_of b → set_identifier (bits_of b) (si * bits_of b + p) ≡ si
-si_back B64 si p low high = omega (arith, low, high)
-si_back B128 si p low high = omega (arith, low, high)
-si_back B256 si p low high = omega (arith, low, high)
-si_back B512 si p low high = omega (arith, low, high)
-si_back B1024 si p low high = omega (arith, low, high)
-si_back B2048 si p low high = omega (arith, low, high)
-si_back B4096 si p low high = omega (arith, low, high)
-
--- the BFR-id of a position is in the triple's set
-pub placed_there : (t : Triple) (p : ℕ) → 1 ≤ p → p ≤ bits_of t.bsl → is_some (position_in t (id_at t p)) ≡ true
-placed_there t p low high = rw (ne_eqb (id_at t p) 0 (λ e. some (t.si * bits_of t.bsl) e), eq-eqb (set_identifier (bits_of t.bsl) (id_at t p)) t.si (si_back t.bsl t.si p low high)) refl
-  where
-    some : (m : ℕ) → m + p ≡ 0 → ⊥
-    some m e = omega (arith, e, low)
 
 -- ---- the answer
 

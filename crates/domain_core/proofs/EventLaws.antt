@@ -1,7 +1,6 @@
 -- What is left to be asked of an event once its own rules allow it.
-use Rattle.std.proofs.Common.{◌≡◌, inl, ℕ, ◌+◌, ◌≤◌, nat_le, Bool, true, false, List, length, map, slice_get, Option, Some, None, sym, ap, subst, ◌∙◌}
+use Rattle.std.proofs.Common.{◌≡◌, inl, ℕ, ◌+◌, ◌≤◌, nat_le, Bool, true, false, length, map, slice_get, Option, Some, None, sym, ap, subst, ◌∙◌}
 use Rattle.std.proofs.lemmas.List.{length-map}
-use Rattle.wire_base.specs.declared.conf.RouterConf.{RouterConf}
 use Rattle.wire_base.specs.model.Configuration.{DomainConf}
 use Rattle.wire_base.specs.model.Control.{Control}
 use Rattle.laws_members.proofs.DomainLaws.{same_stripped, length_stripped}
@@ -18,10 +17,9 @@ use Rattle.domain_model.specs.Faults.{most_events, most_in_flight, first_fault, 
 use Rattle.domain_core.specs.Held.{state_of, world_in, IsDone}
 use Rattle.domain_core.specs.Network.{NetworkState, confs_in, world_of, seen_of, AreFramesOver, IsAsBefore, IsTrueNetwork}
 use Rattle.domain_model.specs.Step.{doing, happens}
-use Rattle.domain_model.specs.Truth.{confs_now, IsTruthful, EventFits, AreWorldDrops}
+use Rattle.domain_model.specs.Truth.{IsTruthful, EventFits, AreWorldDrops}
 use Rattle.domain_model.specs.World.{WorldState, in_flight}
-use Rattle.domain_core.proofs.RefusalLaws.{none_first}
-use Rattle.domain_model.proofs.WorldTruth.{happens_true}
+use Rattle.domain_model.proofs.WorldTruth.{happens_true, first_none}
 
 -- what a router says of an injection; of all else nothing
 abbrev pub late_fault : WorldState → Event → Option EventFault
@@ -40,7 +38,7 @@ late_fault w (Join a sd) = None
 
 ruled_late : (w : WorldState) (e : Event) → early_rule w e ≡ None → rule_fault w e ≡ late_fault w e
 ruled_late w (Inject a sd bsl ks ttl entropy payload) h =
-    ap (λ (b : Bool). first_fault b faults.InFlight (entry_fault (slice_get w.routers a) sd bsl ks)) (none_first (nat_le most_in_flight (in_flight w.flights)) faults.InFlight None h).0
+    ap (λ (b : Bool). first_fault b faults.InFlight (entry_fault (slice_get w.routers a) sd bsl ks)) (first_none (nat_le most_in_flight (in_flight w.flights)) faults.InFlight None h).0
 ruled_late w (Take a b i) h = h
 ruled_late w (Lose a b i) h = h
 ruled_late w (Again a b i) h = h
@@ -56,7 +54,7 @@ ruled_late w (Join a sd) h = h
 pub late_is : (w : WorldState) (e : Event) → early_fault w e ≡ None → event_fault w e ≡ late_fault w e
 unfolding event_fault
 late_is w e h =
-    let k = none_first (nat_le most_events w.events) faults.Events (early_rule w e) h in
+    let k = first_none (nat_le most_events w.events) faults.Events (early_rule w e) h in
     ap (λ (b : Bool). first_fault b faults.Events (rule_fault w e)) k.0 ∙ ruled_late w e k.1
 
 -- a fault that is found early is the first
@@ -85,18 +83,6 @@ early_is w e f h = by (nat_le most_events w.events) h
     by : (b : Bool) → first_fault b faults.Events (early_rule w e) ≡ Some f → first_fault b faults.Events (rule_fault w e) ≡ Some f
     by true k = k
     by false k = ruled_early w e f k
-
--- what is unchanged is true still
-pub still_true : (old new : Network) → state_of new ≡ state_of old → IsTrueNetwork (state_of old) → IsTrueNetwork (state_of new)
-still_true old new same true_before = subst IsTrueNetwork (sym same) true_before
-
--- also where a router has counted a frame
-pub still_network : (old new : Network) → world_in new ≡ world_in old → new.flights ≡ old.flights → new.domain ≡ old.domain → IsTrueNetwork (state_of old) → IsTrueNetwork (state_of new)
-still_network old new same flights domain t = record {
-  truth = subst IsTruthful (sym same) t.truth;
-  frames = subst (λ (d : DomainConf). AreFramesOver d.routers (confs_in (state_of new)) new.flights) (sym domain)
-      (subst (λ (cs : List RouterConf). AreFramesOver old.domain.routers cs new.flights) (sym (ap confs_now same)) (subst (AreFramesOver old.domain.routers (confs_in (state_of old))) (sym flights) t.frames));
-}
 
 pub as_before : (old new : Network) (e : Event) → state_of new ≡ state_of old → IsAsBefore (seen_of (state_of old)) (seen_of (state_of new)) e
 as_before old new e same = record { world = ap world_of same; heard = inl (ap (λ (n : NetworkState). (seen_of n).heard) same) }

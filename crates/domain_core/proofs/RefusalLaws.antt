@@ -1,34 +1,24 @@
 -- What is known where an event is allowed.
 use Rattle.std.proofs.Common.{◌≡◌, ℕ, ◌+◌, ◌<◌, ◌≤◌, not, nat_le, Bool, true, false, List, length, slice_get, is_none, is_some, Option, Some, None, refl, sym, ap, subst, ◌∙◌}
 use mathlib.Core.Bool.{true≢false}
-use Rattle.std.proofs.lemmas.Bool.{leb-false, ltb-false}
 use Rattle.std.proofs.lemmas.Option.{same_Some}
 use Rattle.wire_base.specs.declared.bsl.Bsl.{Bsl}
 use Rattle.wire_base.specs.declared.conf.End.{End}
-use Rattle.wire_base.specs.declared.conf.LabelRange.{LabelRange}
-use Rattle.wire_base.specs.declared.conf.OwnSub.{OwnSub}
 use Rattle.wire_base.specs.declared.conf.RouterConf.{RouterConf}
-use Rattle.wire_base.specs.declared.limits.TheConstants.{LAST_LABEL, MOST_RELABELS}
 use Rattle.wire_base.specs.model.Control.{Control}
-use Rattle.wire_base.specs.model.Membership.{own_range, moved, is_too_high, used_label, is_worn, CanRelabel}
-use Rattle.wire_base.specs.model.Place.{sub_in, known_subs}
+use Rattle.wire_base.specs.model.Membership.{own_range, CanRelabel}
+use Rattle.wire_base.specs.model.Place.{sub_in}
 use Rattle.replay_text.specs.declared.event.Event.TheVariants.{Down, Up, Send, Relabel, Leave, Join}
 use Rattle.domain_model.specs.declared.fault.EventFault.{EventFault}
 use Rattle.domain_model.specs.declared.fault.EventFault.TheVariants as faults
-use Rattle.domain_model.specs.Faults.{most_events, first_fault, unless_joined, unless_room, up_over, is_up_toward, used_fault, range_fault, relabel_fault, member_fault, rule_fault, event_fault}
+use Rattle.domain_model.specs.Faults.{most_events, unless_joined, unless_room, up_over, is_up_toward, relabel_fault, member_fault, rule_fault, event_fault}
 use Rattle.domain_model.specs.Truth.{confs_now, IsTruthful}
 use Rattle.domain_model.specs.World.{WorldState, is_up, link_between, peer_place}
 use Rattle.domain_core.proofs.FramedBack.{at_now}
 use Rattle.domain_core.proofs.FramedWorld.{conf_there}
 use Rattle.domain_model.proofs.LinkLaws.{join_of, end_found, peer_is}
 use Rattle.domain_model.proofs.QueueLaws.{got_within}
-
-pub none_first : (b : Bool) (reason : EventFault) (next : Option EventFault) → first_fault b reason next ≡ None → (b ≡ false) × (next ≡ None)
-none_first true reason next h = absurd (some_none reason h)
-  where
-    some_none : (e : EventFault) → Some e ≡ None → ⊥
-    some_none e h = cc
-none_first false reason next h = (refl, h)
+use Rattle.domain_model.proofs.WorldTruth.{first_none, may_relabel, may_turn}
 
 not_false : (b : Bool) → not b ≡ false → b ≡ true
 not_false true h = refl
@@ -43,25 +33,25 @@ module _ (w : WorldState) (a b link : ℕ) (c : Control) (at : slice_get w.route
   toward = ap (λ (o : Option Control). up_over o (link_between w.domain.routers a b)) at ∙ ap (up_over (Some c)) joined
 
   ruled : (next : Option EventFault) → unless_joined w a b next ≡ None → next ≡ None
-  ruled next h = (none_first (is_none (link_between w.domain.routers a b)) faults.NoLink next h).1
+  ruled next h = (first_none (is_none (link_between w.domain.routers a b)) faults.NoLink next h).1
 
   pub up_at_down : event_fault w (Down a b) ≡ None → is_up c link ≡ true
   unfolding event_fault
   up_at_down h =
-      let r = ruled _ (none_first (nat_le most_events w.events) faults.Events (rule_fault w (Down a b)) h).1 in
-      sym toward ∙ not_false (is_up_toward w a b) (none_first (not (is_up_toward w a b)) faults.EndState None r).0
+      let r = ruled _ (first_none (nat_le most_events w.events) faults.Events (rule_fault w (Down a b)) h).1 in
+      sym toward ∙ not_false (is_up_toward w a b) (first_none (not (is_up_toward w a b)) faults.EndState None r).0
 
   pub down_at_up : event_fault w (Up a b) ≡ None → is_up c link ≡ false
   unfolding event_fault
   down_at_up h =
-      let r = ruled _ (none_first (nat_le most_events w.events) faults.Events (rule_fault w (Up a b)) h).1 in
-      sym toward ∙ (none_first (is_up_toward w a b) faults.EndState None r).0
+      let r = ruled _ (first_none (nat_le most_events w.events) faults.Events (rule_fault w (Up a b)) h).1 in
+      sym toward ∙ (first_none (is_up_toward w a b) faults.EndState None r).0
 
   pub up_at_send : event_fault w (Send a b) ≡ None → is_up c link ≡ true
   unfolding event_fault
   up_at_send h =
-      let r = ruled _ (none_first (nat_le most_events w.events) faults.Events (rule_fault w (Send a b)) h).1 in
-      sym toward ∙ not_false (is_up_toward w a b) (none_first (not (is_up_toward w a b)) faults.EndState (unless_room w None) r).0
+      let r = ruled _ (first_none (nat_le most_events w.events) faults.Events (rule_fault w (Send a b)) h).1 in
+      sym toward ∙ not_false (is_up_toward w a b) (first_none (not (is_up_toward w a b)) faults.EndState (unless_room w None) r).0
 
   -- the end is one of the router's
   pub link_within : IsTruthful w → link < length c.conf.ends
@@ -78,56 +68,21 @@ leads_to w a b link t joined os same = sym (ap (λ (cs : List RouterConf). peer_
 
 -- ---- other labels, and sub-domains that are left or joined
 
-unused_first : (o : Option ℕ) (next : Option EventFault) → used_fault o next ≡ None → (o ≡ None) × (next ≡ None)
-unused_first None next h = (refl, h)
-unused_first (Some label) next h = absurd (some_none (faults.LabelUsed label) h)
-  where
-    some_none : (e : EventFault) → Some e ≡ None → ⊥
-    some_none e h = cc
-
-ranged : (r : RouterConf) (sd : ℕ) (bsl : Bsl) (label : ℕ) → 16 ≤ label → (o : Option LabelRange) → own_range r sd bsl ≡ o → range_fault r label o ≡ None → CanRelabel r sd bsl label
-ranged r sd bsl label low None e h = absurd (some_none faults.NoSub h)
-  where
-    some_none : (f : EventFault) → Some f ≡ None → ⊥
-    some_none f h = cc
-ranged r sd bsl label low (Some x) e h =
-    let high = none_first (is_too_high (moved x label)) faults.LabelHigh _ h in
-    let used = unused_first (used_label r (moved x label)) _ high.1 in
-    let worn = none_first (is_worn r) faults.Relabels None used.1 in
-    record {
-      range = x;
-      own = e;
-      first = low;
-      last = ltb-false LAST_LABEL (label + x.max_si) high.0;
-      free = used.0;
-      room = leb-false MOST_RELABELS (length r.past) worn.0;
-    }
-
-some_there : {X : Type 0} (o : Option X) → is_none o ≡ false → is_some o ≡ true
-some_there None h = absurd (true≢false h)
-some_there (Some x) h = refl
-
-member_there : (c : Control) (subs : RouterConf → List OwnSub) (sd : ℕ) → member_fault (Some c) subs sd ≡ None → is_some (sub_in (subs c.conf) sd) ≡ true
-member_there c subs sd h =
-    let known = none_first (is_none (sub_in (known_subs c.conf) sd)) faults.NoSub _ h in
-    let state = none_first (is_none (sub_in (subs c.conf) sd)) faults.SubState None known.1 in
-    some_there (sub_in (subs c.conf) sd) state.0
-
 module _ (w : WorldState) (a : ℕ) (c : Control) (at : slice_get w.routers a ≡ Some c) (sd : ℕ) where
   pub can_relabel : (bsl : Bsl) (label : ℕ) → 16 ≤ label → event_fault w (Relabel a sd bsl label) ≡ None → CanRelabel c.conf sd bsl label
   unfolding event_fault
   can_relabel bsl label low h =
-      let r = (none_first (nat_le most_events w.events) faults.Events (rule_fault w (Relabel a sd bsl label)) h).1 in
-      ranged c.conf sd bsl label low (own_range c.conf sd bsl) refl (ap (λ (o : Option Control). relabel_fault o sd bsl label) (sym at) ∙ r)
+      let r = (first_none (nat_le most_events w.events) faults.Events (rule_fault w (Relabel a sd bsl label)) h).1 in
+      may_relabel c.conf sd bsl label low (own_range c.conf sd bsl) refl (ap (λ (o : Option Control). relabel_fault o sd bsl label) (sym at) ∙ r)
 
   pub can_leave : event_fault w (Leave a sd) ≡ None → is_some (sub_in c.conf.subs sd) ≡ true
   unfolding event_fault
   can_leave h =
-      let r = (none_first (nat_le most_events w.events) faults.Events (rule_fault w (Leave a sd)) h).1 in
-      member_there c (λ r. r.subs) sd (ap (λ (o : Option Control). member_fault o (λ r. r.subs) sd) (sym at) ∙ r)
+      let r = (first_none (nat_le most_events w.events) faults.Events (rule_fault w (Leave a sd)) h).1 in
+      may_turn c (λ r. r.subs) sd (ap (λ (o : Option Control). member_fault o (λ r. r.subs) sd) (sym at) ∙ r)
 
   pub can_join : event_fault w (Join a sd) ≡ None → is_some (sub_in c.conf.away sd) ≡ true
   unfolding event_fault
   can_join h =
-      let r = (none_first (nat_le most_events w.events) faults.Events (rule_fault w (Join a sd)) h).1 in
-      member_there c (λ r. r.away) sd (ap (λ (o : Option Control). member_fault o (λ r. r.away) sd) (sym at) ∙ r)
+      let r = (first_none (nat_le most_events w.events) faults.Events (rule_fault w (Join a sd)) h).1 in
+      may_turn c (λ r. r.away) sd (ap (λ (o : Option Control). member_fault o (λ r. r.away) sd) (sym at) ∙ r)

@@ -1,8 +1,7 @@
 //! Which BFR-ids an injection would reach.
-ghost use Rattle.std.specs.Prelude.{◌≡◌, ◌<◌, ◌≤◌, ◌+◌, ◌^◌, ◌++◌, ◌∷◌, [], true, length, is_some, map, filter, IfOk, OnOk, Ok, MatchOption, MatchResult};
+ghost use Rattle.std.specs.Prelude.{◌≡◌, ◌<◌, ◌≤◌, ◌+◌, ◌^◌, ◌++◌, ◌∷◌, [], true, length, is_some, map, filter, IfOk, OnOk, Ok, MatchResult};
 ghost use Rattle.std.specs.List.{AllByRecursion};
 ghost use Rattle.wire_base.specs.model.BitSet.{has_member};
-ghost use Rattle.wire_base.specs.model.OnFrame.{node_place};
 ghost use Rattle.wire_base.specs.model.Place.{bits_of, id_at, id_of, position_in, sub_in};
 ghost use Rattle.bier_bits.specs.Any.{bsl_of, positions_of};
 ghost use Rattle.bfr_edge.specs.Entry.{positions_in};
@@ -14,10 +13,11 @@ ghost use Rattle.domain_core.specs.Network.{IsTrueNetwork};
 use crate::network::Network;
 use bfr_edge::{Packet, ingress};
 use bier_bits::AnyBits;
+use bier_forward::own_place;
 use quiet_domain::{Paths, Way};
 use std::alloc::Global;
 use std::marker::Model;
-use wire_base::{Bsl, EdgeFault, M, OwnSub, RouterConf, Rows, SystemId, Triple, View, ViewNode};
+use wire_base::{Bsl, EdgeFault, M, OwnSub, RouterConf, Rows, Triple, View};
 
 /// Where packets enter: the router's configuration, its topology and its node there, the TTL of the copies, and the
 /// entropy class.
@@ -130,19 +130,6 @@ fn is_covered(ttl: u8, path: Option<Way>) -> bool
         Some(way) => way.hops > 0 && way.hops <= u16::from(ttl) && way.longest <= 255,
         None => false,
     }
-}
-
-/// Returns the index of a system's node, if it has one.
-fn own_place(nodes: &[ViewNode], system: SystemId) -> Option<u16>
-    requires { length nodes.now ≤ 65536 }
-    ensures { MatchOption result (node_place nodes.now system ≡ length nodes.now) (λ u. (node_place nodes.now system ≡ u) × (u < length nodes.now)) }
-{
-    for place in 0..nodes.len() {
-        if nodes[place].system == system {
-            return Some(place as u16);
-        }
-    }
-    None
 }
 
 impl Network {

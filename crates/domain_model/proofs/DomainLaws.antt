@@ -14,7 +14,7 @@ use Rattle.laws_members.proofs.MeaningLaws.{earlier_self}
 use Rattle.laws_members.specs.Becoming.{IsEarlier}
 use Rattle.domain_model.specs.Truth.{IsAmong}
 use Rattle.domain_model.proofs.EachLaws.{each_got}
-use Rattle.domain_model.proofs.FlagLaws.{bytes_self}
+use Rattle.laws_router.proofs.EntryLaws.{bytes_self}
 
 -- ---- octets
 

@@ -1,5 +1,5 @@
 -- What holds of each element of a list holds of each of what the list becomes.
-use Rattle.std.proofs.Common.{◌≡◌, ℕ, zero, suc, Bool, true, false, List, [], ◌∷◌, ◌++◌, take, drop, map, replicate, filter, slice_get, slice_set, slice_index_or, fold, Some, refl, sym, subst}
+use Rattle.std.proofs.Common.{◌≡◌, ℕ, zero, suc, Bool, true, false, List, [], ◌∷◌, ◌++◌, take, drop, map, replicate, filter, slice_get, slice_set, fold, Some, refl, sym, subst}
 use Rattle.std.specs.List.{AllByRecursion, flat_map, remove}
 use Rattle.std.proofs.lemmas.List.Concat.{flat_map-cons}
 use Rattle.std.proofs.lemmas.Option.{same_Some}
@@ -67,11 +67,6 @@ pub each_set : {X : Type 0} (P : X → Type 0) (xs : List X) (i : ℕ) (x : X) �
 each_set P [] i x all h = tt
 each_set P (y ∷ ys) zero x all h = (h, all.1)
 each_set P (y ∷ ys) (suc i) x all h = (all.0, each_set P ys i x all.1 h)
-
-pub each_read : {X : Type 0} (P : X → Type 0) (xs : List X) (i : ℕ) (d : X) → AllByRecursion P xs → P d → P (slice_index_or xs i d)
-each_read P [] i d all h = h
-each_read P (x ∷ xs) zero d all h = all.0
-each_read P (x ∷ xs) (suc i) d all h = each_read P xs i d all.1 h
 
 pub each_repeated : {X : Type 0} (P : X → Type 0) (n : ℕ) (x : X) → P x → AllByRecursion P (replicate n x)
 each_repeated P zero x h = tt

@@ -1,10 +1,8 @@
 -- Which entry and which flags an identifier has, once an entry was put or a row of flags was changed.
 use Rattle.std.proofs.Common.{◌≡◌, ℕ, zero, suc, Bool, true, false, if◌then◌else◌, List, [], ◌∷◌, drop, filter, map, slice_index_or, replicate, Option, Some, None, refl, sym, ap, subst, ◌∙◌}
-use mathlib.Core.Bool.{false≢true}
 use Rattle.std.specs.declared.cmp.Ordering.{Ordering}
 use Rattle.std.specs.declared.cmp.Ordering.TheVariants.{Less, Equal, Greater}
-use Rattle.std.specs.Ordering.{is_eq, is_gt, match_ordering}
-use Rattle.std.specs.Str.{bytes_eq}
+use Rattle.std.specs.Ordering.{is_gt, match_ordering}
 use Rattle.std.specs.List.{AllByRecursion}
 use Rattle.std.proofs.lemmas.Bool.{and_from, eq-eqb}
 use Rattle.std.proofs.lemmas.Option.{same_Some}
@@ -14,20 +12,13 @@ use Rattle.wire_base.specs.model.Control.{same_id, id_order, is_below, AreAscend
 use Rattle.lsp_store.proofs.OrderLaws.{tie_is_same, above_differs, below_differs, same_turned}
 use Rattle.isis_flood.proofs.FloodLaws.{same_from_tie}
 use Rattle.domain_model.proofs.EachLaws.{each_weaker, each_both}
+use Rattle.isis_flood.proofs.KeptLaws.{eq_is}
+use Rattle.laws_router.proofs.EntryLaws.{bytes_self}
 
 -- ---- identifiers
 
-eq_is : (o : Ordering) → is_eq o ≡ true → o ≡ Equal
-eq_is Less h = absurd (false≢true h)
-eq_is Equal h = refl
-eq_is Greater h = absurd (false≢true h)
-
 pub same_id_is : (a b : LspId) → same_id a b ≡ true → a ≡ b
 same_id_is a b h = same_from_tie a b (eq_is (id_order a b) (tie_is_same a b ∙ h))
-
-pub bytes_self : (xs : List ℕ) → bytes_eq xs xs ≡ true
-bytes_self [] = refl
-bytes_self (x ∷ xs) = and_from _ _ (eq-eqb x x refl) (bytes_self xs)
 
 pub same_id_self : (a : LspId) → same_id a a ≡ true
 same_id_self a = and_from _ _ (bytes_self a.system.0) (and_from _ _ (eq-eqb a.pseudonode a.pseudonode refl) (eq-eqb a.fragment a.fragment refl))

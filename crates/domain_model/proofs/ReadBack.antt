@@ -30,11 +30,7 @@ flat_mapped : {X Y Z : Type 0} (f : Y → List Z) (g : X → Y) (xs : List X) �
 flat_mapped f g [] = refl
 flat_mapped {X} {Y} {Z} f g (x ∷ xs) = ap (λ (l : List Z). f (g x) ++ l) (flat_mapped f g xs)
 
-flat_none : {X Y : Type 0} (f : X → List Y) (xs : List X) → AllByRecursion (λ x. f x ≡ []) xs → flat_map f xs ≡ []
-flat_none f [] all = refl
-flat_none {X} {Y} f (x ∷ xs) all = ap (λ (l : List Y). l ++ flat_map f xs) all.0 ∙ flat_none f xs all.1
-
-map_joined : {X Y : Type 0} (f : X → Y) (xs ys : List X) → map f (xs ++ ys) ≡ map f xs ++ map f ys
+pub map_joined : {X Y : Type 0} (f : X → Y) (xs ys : List X) → map f (xs ++ ys) ≡ map f xs ++ map f ys
 map_joined f [] ys = refl
 map_joined {X} {Y} f (x ∷ xs) ys = ap (λ (l : List Y). f x ∷ l) (map_joined f xs ys)
 

@@ -191,10 +191,6 @@ unfolding started
 started_kept r up sound long =
     issue_kept r.system up true false (new_flood r.system up) [] (own_lsp r up 1) (new_kept r.system up (omega (arith, long, sound.few_ends))) (own_id r up 1) (own_short r up 1 sound) (λ h. own_life r up 1)
 
-started_conf : (r : RouterConf) (up : List Bool) → (started r up).conf ≡ r
-unfolding started
-started_conf r up = refl
-
 started_router : (confs : List RouterConf) (r : RouterConf) (up : List Bool) → length confs ≤ MOST_ROUTERS → IsSound r → length up ≡ length r.ends → IsTrueState confs (started r up).flood (started r up).entries → IsRouter (started r up)
 unfolding started
 started_router confs r up small sound long s =

@@ -382,7 +382,7 @@ module _ (old : DomainConf) (confs : List RouterConf) (of : AreOf old confs) (ev
 
 -- ---- when a configuration may change
 
-first_none : (b : Bool) (reason : EventFault) (next : Option EventFault) → first_fault b reason next ≡ None → (b ≡ false) × (next ≡ None)
+pub first_none : (b : Bool) (reason : EventFault) (next : Option EventFault) → first_fault b reason next ≡ None → (b ≡ false) × (next ≡ None)
 first_none true reason next h = absurd (some_none reason h)
   where
     some_none : (e : EventFault) → Some e ≡ None → ⊥
@@ -396,7 +396,7 @@ used_none (Some label) next h = absurd (some_none (faults.LabelUsed label) h)
     some_none : (e : EventFault) → Some e ≡ None → ⊥
     some_none e h = cc
 
-may_relabel : (r : RouterConf) (sd : ℕ) (bsl : Bsl) (label : ℕ) → 16 ≤ label → (o : Option LabelRange) → own_range r sd bsl ≡ o → range_fault r label o ≡ None → CanRelabel r sd bsl label
+pub may_relabel : (r : RouterConf) (sd : ℕ) (bsl : Bsl) (label : ℕ) → 16 ≤ label → (o : Option LabelRange) → own_range r sd bsl ≡ o → range_fault r label o ≡ None → CanRelabel r sd bsl label
 may_relabel r sd bsl label low None e h = absurd (some_none faults.NoSub h)
   where
     some_none : (f : EventFault) → Some f ≡ None → ⊥
@@ -418,7 +418,7 @@ some_of : {X : Type 0} (o : Option X) → is_none o ≡ false → is_some o ≡ 
 some_of None h = absurd (true≢false h)
 some_of (Some x) h = refl
 
-may_turn : (c : Control) (subs : RouterConf → List OwnSub) (sd : ℕ) → member_fault (Some c) subs sd ≡ None → is_some (sub_in (subs c.conf) sd) ≡ true
+pub may_turn : (c : Control) (subs : RouterConf → List OwnSub) (sd : ℕ) → member_fault (Some c) subs sd ≡ None → is_some (sub_in (subs c.conf) sd) ≡ true
 may_turn c subs sd h =
     let known = first_none (is_none (sub_in (known_subs c.conf) sd)) faults.NoSub _ h in
     let state = first_none (is_none (sub_in (subs c.conf) sd)) faults.SubState None known.1 in

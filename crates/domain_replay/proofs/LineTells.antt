@@ -10,7 +10,7 @@ use Rattle.replay_report.specs.Counting.{NamesOnce}
 use Rattle.domain_replay.specs.Telling.{Telling, Told, told}
 use Rattle.domain_replay.specs.Replaying.{Tells, NumbersFit, IsAsked}
 
-event_fits : (count : ℕ) (e : Event) → lines.EventFits count e → NumbersFit e → EventFits count e
+pub event_fits : (count : ℕ) (e : Event) → lines.EventFits count e → NumbersFit e → EventFits count e
 event_fits count (Inject router sd bsl ids ttl entropy payload) fits numbers =
     record {
       place = fits.within;

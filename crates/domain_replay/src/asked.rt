@@ -14,7 +14,7 @@ fn ids_fit(ids: &[u16])
 }
 
 /// Proves that the numbers of an event fit their types.
-pub(crate) fn numbers_fit(event: &Event)
+pub fn numbers_fit(event: &Event)
     ensures { NumbersFit event.now }
 {
     match event {

@@ -9,6 +9,7 @@ mod laws;
 mod replay;
 mod reported_world;
 
+pub use asked::numbers_fit;
 pub use domain_core::confs_of;
 pub use laws::{a_start_is_told, each_line_is_told};
 pub use replay::Replay;

@@ -1,11 +1,12 @@
 -- The routers of the small domains are sound.
-use Rattle.std.proofs.Common.{◌≡◌, ℕ, ◌<◌, ◌≤◌, Bool, true, List, [], ◌∷◌, length, map, refl, arith}
+use Rattle.std.proofs.Common.{◌≡◌, ℕ, ◌<◌, ◌≤◌, Bool, true, List, [], ◌∷◌, length, map, refl, sym, subst, arith}
 use Rattle.std.specs.List.{AllByRecursion}
 use Rattle.wire_base.specs.declared.conf.OwnSub.{OwnSub}
+use Rattle.wire_base.specs.declared.conf.RouterConf.{RouterConf}
 use Rattle.wire_base.specs.model.Lists.{AreApart}
 use Rattle.wire_base.specs.model.Configuration.{IsOctets, IsPrefix, IsStation, IsEnd, IsOwnSub, IsSound, is_name, same_sub, same_peer, same_peer_mac, share_label, sub_octets}
 use Rattle.wire_base.proofs.SoundLemmas.{all_ranges, still}
-use Rattle.examples_model.specs.Domains.{system, address, mac, end, sub, router}
+use Rattle.examples_model.specs.Domains.{system, address, mac, end, sub, router, ring_a}
 
 -- a number of an octet
 abbrev pub IsNumber : ℕ → Type 0
@@ -100,6 +101,9 @@ two_links letter n label p q overload name number low high hp hq peers macs =
       peers_differ = peers;
       macs_differ = macs;
     })
+
+pub ring_a_sound : (c : RouterConf) → c ≡ ring_a → IsSound c
+ring_a_sound c same = subst IsSound (sym same) (two_links 65 1 100 2 4 _ refl (omega arith) (omega arith) (omega arith) (omega arith) (omega arith) ((refl, tt), (tt, tt)) ((refl, tt), (tt, tt)))
 
 pub one_link : (letter n label p : ℕ) (overload : Bool) → is_name (letter ∷ []) ≡ true → n < 256 → 16 ≤ label → label ≤ 1048575 → p < 256
     → IsSound (router letter n overload (sub n label ∷ []) (p ∷ []))

@@ -1,5 +1,5 @@
-//! Tests of the shared definitions on small domains. Each function computes nothing; what it ensures is proved by
-//! computing the definition.
+//! Tests of the shared definitions on small domains: functions that compute nothing, and whose clauses are proved by
+//! computing the definition. `routers` has router A of two of the domains as a value.
 #![tactic(auto)]
 
 mod configurations;
@@ -9,6 +9,7 @@ mod frames;
 mod ingresses;
 mod own_lsps;
 mod packets;
+mod routers;
 mod tunnels;
 mod views;
 
@@ -36,6 +37,7 @@ pub use packets::{
     a_capture_of_one_frame, a_packet_behind_a_label, a_ttl_of_2_covers_two_hops, an_empty_tlv_fits,
     octets_of_positions, places_of_bfr_ids,
 };
+pub use routers::{end_of_a, ring_router_a, router_a};
 pub use tunnels::{ones_complement_sums, tunnels_are_read, what_is_no_tunnel, what_items_are_for};
 pub use views::{
     line_settled_view, links_count_where_both_list_them, pair_settles, ring_settled_view,

@@ -9,7 +9,8 @@ use Rattle.wire_base.specs.declared.entry.Entry.{Entry}
 use Rattle.wire_base.specs.model.Control.{Control, entry_in, fragment_0, same_system}
 use Rattle.wire_base.specs.model.Hop.{has}
 use Rattle.domain_model.specs.Step.{happens}
-use Rattle.domain_model.proofs.FlagLaws.{bytes_self, found_each, found_id, same_id_is}
+use Rattle.laws_router.proofs.EntryLaws.{bytes_self}
+use Rattle.domain_model.proofs.FlagLaws.{found_each, found_id, same_id_is}
 use Rattle.laws_ledger.specs.Runs.{unlined}
 use Rattle.laws_router.specs.State.{IsIssued, IssuesAlone}
 use Rattle.quiet_domain.specs.Live.{AreSameLive, alike_by, are_alike, has_same, is_live, is_same, is_same_at}

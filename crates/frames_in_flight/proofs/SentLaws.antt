@@ -1,11 +1,10 @@
 -- Frames that are sent together: those that share their link go to the end of its direction at once, and of each is noted to
 -- whom it goes.
-use Rattle.std.proofs.Common.{◌≡◌, ◌∙◌, ◌+◌, ℕ, zero, suc, List, [], ◌∷◌, ◌++◌, length, map, take, drop, slice_set, slice_get, slice_index_or, option_map, Option, Some, refl, ap, sym}
+use Rattle.std.proofs.Common.{◌≡◌, ◌∙◌, ◌+◌, ℕ, zero, suc, List, [], ◌∷◌, ◌++◌, map, take, drop, slice_set, slice_get, slice_index_or, option_map, Option, Some, refl, ap, sym}
 use Rattle.std.specs.List.{AllByRecursion}
 use Rattle.std.proofs.lemmas.List.{append-nil, append_assoc}
 use Rattle.std.proofs.lemmas.Option.{none-some, same_Some}
 use Rattle.wire_base.specs.declared.conf.RouterConf.{RouterConf}
-use Rattle.wire_base.specs.declared.effects.Sent.{Sent}
 use Rattle.frame_list.specs.Spans.{Noted, noted_anew, noted_as}
 use Rattle.bier_forward.specs.SentFrames.{sent_in}
 use Rattle.domain_model.specs.Wires.{wires_in}
@@ -50,29 +49,11 @@ all_sent confs a number link (f ∷ frames) flights over =
     ∙ all_sent confs a number link frames (push_frames flights a link (first ∷ [])) over.1
     ∙ ap (λ (l : ℕ). push_all_sent confs a number (push_frames flights a l (flight_as (note_over confs a number l) f ∷ [])) (sent_in frames)) (sym over.0)
 
-over_suc : (link l : ℕ) (sent : List Sent) (i : ℕ) → AllByRecursion (IsOver link) (take i sent) → option_map (λ s. s.link) (slice_get sent i) ≡ Some l → l ≡ link → AllByRecursion (IsOver link) (take (suc i) sent)
-over_suc link l [] i over is same = tt
-over_suc link l (s ∷ sent) zero over is same = (same_Some s.link l is ∙ same, tt)
-over_suc link l (s ∷ sent) (suc i) over is same = (over.0, over_suc link l sent i over.1 is same)
-
-pub over_more : (link l : ℕ) (sent : List Sent) (i : ℕ) → AllByRecursion (IsOver link) (take i sent) → option_map (λ s. s.link) (slice_get sent i) ≡ Some l → l ≡ link → AllByRecursion (IsOver link) (take (i + 1) sent)
-over_more link l sent i over is same = rw (one i) (over_suc link l sent i over is same)
-
 -- ---- to whom frames go
 
 -- the first ones go to those that are noted, and of the others their link is noted
 abbrev pub half_noted : List RouterConf → ℕ → ℕ → List (Noted ℕ) → List (Noted ℕ)
 half_noted confs a i frames = map (peer_noted confs a) (take i frames) ++ drop i frames
-
-pub half_length : (confs : List RouterConf) (a i : ℕ) (frames : List (Noted ℕ)) → length (half_noted confs a i frames) ≡ length frames
-half_length confs a zero [] = refl
-half_length confs a (suc i) [] = refl
-half_length confs a zero (f ∷ frames) = refl
-half_length confs a (suc i) (f ∷ frames) = ap suc (half_length confs a i frames)
-
-pub half_done : (confs : List RouterConf) (a : ℕ) (frames : List (Noted ℕ)) → half_noted confs a (length frames) frames ≡ map (peer_noted confs a) frames
-half_done confs a [] = refl
-half_done confs a (f ∷ frames) = ap (λ (l : List (Noted ℕ)). peer_noted confs a f ∷ l) (half_done confs a frames)
 
 half_suc : (confs : List RouterConf) (a i link : ℕ) (frames : List (Noted ℕ)) → option_map (λ f. f.note) (slice_get (half_noted confs a i frames) i) ≡ Some link
     → noted_anew (half_noted confs a i frames) i (peer_place confs a link) ≡ half_noted confs a (suc i) frames

@@ -10,10 +10,6 @@ first_word [] long = absurd (omega arith)
 first_word (x ∷ []) long = absurd (omega arith)
 first_word (x ∷ y ∷ rest) long = omega arith
 
-pub no_word : (xs : List ℕ) → length xs < 1 → word_sum xs ≡ 0
-no_word [] short = refl
-no_word (x ∷ xs) short = absurd (omega arith)
-
 -- what is left to FFFF makes the sum FFFF
 pub makes_right : (n c : ℕ) → 0 < n → c ≡ 65535 - ones_sum n → ones_sum (n + c) ≡ 65535
 makes_right n c some is =

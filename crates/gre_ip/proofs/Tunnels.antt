@@ -250,10 +250,6 @@ four (a ∷ b ∷ c ∷ d ∷ x ∷ xs) e = absurd (omega arith)
 abbrev pub spelling : IpFree → ℕ → TunnelPacket → List ℕ → List ℕ
 spelling f sum t rest = ip_header f (24 + length t.carried) t.ttl t.src t.dst sum ++ (gre t.inner ++ (t.carried ++ rest))
 
--- the header's sum is that with another checksum in its place, and the checksum
-abbrev Rests : IpFree → ℕ → ℕ → Ipv4 → Ipv4 → Type 0
-Rests f total ttl src dst = (sum : ℕ) → sum < 65536 → word_sum (ip_header f total ttl src dst sum) ≡ word_sum (ip_header f total ttl src dst 0) + sum
-
 abbrev cells : List ℕ → List ℕ → ℕ → Kind → List ℕ → TunnelPacket
 cells s d ttl kind carried = record { src = record { 0 = s }; dst = record { 0 = d }; ttl = ttl; inner = kind; carried = carried }
 
@@ -377,9 +373,6 @@ tunnel_again t rest fits = tunnel_only (tunnel t ++ rest) t (tunnel_spelled t re
 
 same_packet : (a b : TunnelPacket) → (let x : Result TunnelPacket IpFault = Ok a in x) ≡ Ok b → a ≡ b
 same_packet a b e = cc
-
-append_none : (xs : List ℕ) → xs ++ [] ≡ xs
-append_none xs = append-nil xs
 
 pub tunnel_one : (a b : TunnelPacket) → TunnelFits a → TunnelFits b → tunnel a ≡ tunnel b → a ≡ b
 tunnel_one a b fits-a fits-b e =

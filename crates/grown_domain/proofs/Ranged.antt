@@ -1,5 +1,5 @@
 -- Lists of what a function makes of the numbers from one on.
-use Rattle.std.proofs.Common.{◌≡◌, ℕ, zero, suc, ◌+◌, ◌<◌, ◌≤◌, Bool, true, false, inl, inr, cond, eqb, List, [], ◌∷◌, ◌++◌, length, map, filter, filter_map, slice_get, Option, Some, None, is_some, refl, sym, ap, ◌∙◌, arith}
+use Rattle.std.proofs.Common.{◌≡◌, ℕ, zero, suc, ◌+◌, ◌<◌, ◌≤◌, Bool, true, false, inl, inr, cond, eqb, List, [], ◌∷◌, ◌++◌, length, map, filter, filter_map, slice_get, Option, Some, None, is_some, refl, ap, ◌∙◌, arith}
 use Rattle.std.proofs.lemmas.Bool.{eqb-true, eqb-false, ne_eqb, false_from_ne_true}
 use Rattle.std.proofs.lemmas.Slice.Eq.{bytes_eq-Decides}
 use Rattle.std.specs.List.{AllByRecursion, range_with_len, cons_option}
@@ -13,14 +13,6 @@ pub in_range : (a n i : ℕ) → IsIn i (range_with_len a n) → (a ≤ i) × (i
 in_range a zero i there = absurd there
 in_range a (suc n) i (inl e) = (omega arith, omega arith)
 in_range a (suc n) i (inr there) = let h = in_range (a + 1) n i there in (omega arith, omega arith)
-
-pub range_in : (a n i : ℕ) → a ≤ i → i < a + n → IsIn i (range_with_len a n)
-range_in a zero i low high = absurd (omega arith)
-range_in a (suc n) i low high = by (eqb a i) refl (λ differ. range_in (a + 1) n i (omega (arith, differ)) (omega arith))
-  where
-    by : (b : Bool) → eqb a i ≡ b → ((a ≡ i → ⊥) → IsIn i (range_with_len (a + 1) n)) → IsIn i (a ∷ range_with_len (a + 1) n)
-    by true is more = inl (sym (eqb-true a i is))
-    by false is more = inr (more (eqb-false a i is))
 
 pub all_range : (P : ℕ → Type 0) (a n : ℕ) → ((i : ℕ) → a ≤ i → i < a + n → P i) → AllByRecursion P (range_with_len a n)
 all_range P a zero h = tt

@@ -5,10 +5,11 @@ ghost use Rattle.domain_conf.specs.Links.{made_mac};
 ghost use Rattle.grown_domain.specs.Routers as spec;
 
 use crate::links::Link;
+use domain_conf::made_mac;
 use std::alloc::Global;
 use wire_base::{
-    Bsl, End, Ipv4, Kind, LabelRange, Level, M, Mac, Name, Octets, OwnSub, RouterConf, Rows,
-    SubKind, SystemId,
+    Bsl, End, Ipv4, Kind, LabelRange, Level, M, Name, Octets, OwnSub, RouterConf, Rows, SubKind,
+    SystemId,
 };
 
 /// Returns `r` followed by the router's index.
@@ -30,29 +31,13 @@ fn system(place: u16) -> SystemId
     SystemId([0, 0, first, second, third, fourth])
 }
 
-/// Returns the Ethernet address of a router toward a peer if the domain file has none: 02:00, the router's index and
-/// the peer's index.
-#[tactic(auto, unfolding(domain_conf::specs::Links::made_mac))]
-fn mac(own: u16, peer: u16) -> Mac
-    ensures { result ≡ made_mac own peer }
-{
-    Mac([
-        2,
-        0,
-        (own / 256) as u8,
-        (own % 256) as u8,
-        (peer / 256) as u8,
-        (peer % 256) as u8,
-    ])
-}
-
 fn end_toward(own: u16, peer: u16, metric: u32) -> End
     ensures { result ≡ spec.end_toward own peer metric }
 {
     End {
         peer: system(peer),
-        peer_mac: mac(peer, own),
-        own_mac: mac(own, peer),
+        peer_mac: made_mac(peer, own),
+        own_mac: made_mac(own, peer),
         metric,
     }
 }

@@ -8,7 +8,7 @@ use Rattle.wire_base.specs.declared.triple.Summary.{Summary}
 use Rattle.wire_base.specs.model.Control.{age_of, age_by_life, is_unknown, is_full, entry_in}
 use Rattle.lsp_store.specs.Places.{is_refused}
 
-known_age : (e : Entry) (s : Summary) → is_unknown (age_of (Some e) s) ≡ false
+pub known_age : (e : Entry) (s : Summary) → is_unknown (age_of (Some e) s) ≡ false
 known_age e s = cases (e.seq == s.seq) (s.seq == 0) (nat_lt e.seq s.seq) (e.life == 0) (s.life == 0) (e.sum == s.sum)
   where
     lives : (x y z : Bool) → is_unknown (age_by_life x y z) ≡ false

@@ -53,7 +53,7 @@ not_lowered_trans a b c h k = record { each = λ id. stays_trans (entry_in a id)
 
 -- ---- an entry that is put
 
-eq_is : (o : Ordering) → is_eq o ≡ true → o ≡ Equal
+pub eq_is : (o : Ordering) → is_eq o ≡ true → o ≡ Equal
 eq_is Less h = absurd (false≢true h)
 eq_is Equal h = refl
 eq_is Greater h = absurd (false≢true h)

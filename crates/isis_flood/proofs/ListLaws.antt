@@ -54,10 +54,6 @@ rows_few octets = rows_within (length octets) octets
 
 -- ---- at the end of a walk
 
--- those of a value were added
-pub added_few : (before now : List Summary) (octets : List ℕ) → now ≡ before ++ entries_of row_at octets → length now ≤ length before + length octets
-added_few before now octets is = let l = ap length is in omega (arith, l, length-append before (entries_of row_at octets), entries_few row_at octets)
-
 pub listed_few : (rows : List Summary) (octets : List ℕ) → rows ≡ rows_of octets → length rows ≤ length octets
 listed_few rows octets is = let l = ap length is in omega (arith, l, rows_few octets)
 

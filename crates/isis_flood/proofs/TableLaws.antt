@@ -1,5 +1,5 @@
 -- A table of rows: what stands at the place of an identifier, and what the table becomes there.
-use Rattle.std.proofs.Common.{◌≡◌, ℕ, zero, suc, ◌<◌, ◌≤◌, Bool, true, false, List, [], ◌∷◌, length, get_or, set, refl, sym, ap, subst, ◌∙◌, arith}
+use Rattle.std.proofs.Common.{◌≡◌, ℕ, suc, ◌<◌, ◌≤◌, Bool, true, false, List, [], ◌∷◌, length, get_or, set, refl, sym, ap, subst, ◌∙◌, arith}
 use mathlib.Core.Bool.{false≢true, true≢false}
 use Rattle.std.specs.declared.cmp.Ordering.{Ordering}
 use Rattle.std.specs.declared.cmp.Ordering.TheVariants.{Less, Equal, Greater}
@@ -9,8 +9,8 @@ use Rattle.std.proofs.lemmas.List.{length-map}
 use Rattle.wire_base.specs.declared.addresses.LspId.{LspId}
 use Rattle.wire_base.specs.model.Control.{id_order, is_below, AreAscending}
 use Rattle.lsp_store.specs.Places.{place_in, stands_at}
-use Rattle.lsp_store.proofs.OrderLaws.{id_total, tie_is_same, below_from_above, below_trans, below_differs, above_differs, same_turned}
-use Rattle.lsp_store.proofs.PlaceLaws.{place_within, stands_within}
+use Rattle.lsp_store.proofs.OrderLaws.{tie_is_same, below_from_above, below_trans, below_differs, above_differs, same_turned}
+use Rattle.lsp_store.proofs.PlaceLaws.{place_within, stands_within, below_all, tied_below, removed_ascends}
 use Rattle.isis_flood.specs.declared.table.Bits.{Bits}
 use Rattle.isis_flood.specs.Masks.{row_ids, no_bits, bits_in, put_bits, without_bits, IsPlace}
 
@@ -45,35 +45,14 @@ all_put P (x ∷ xs) e h all = cases (all_put P xs e h all.1) (id_order e.id x.i
     cases later Equal = (h, all.1)
     cases later Greater = (all.0, later)
 
-below_all : (es : List Bits) (x y : LspId) → is_below x y ≡ true → AllByRecursion (λ z. is_below y z ≡ true) (row_ids es) → AllByRecursion (λ z. is_below x z ≡ true) (row_ids es)
-below_all [] x y h all = tt
-below_all (e ∷ es) x y h all = (below_trans x y e.id h all.0, below_all es x y h all.1)
-
--- an identifier that ties with another is below what that one is below
-tied_below : (es : List Bits) (x y : LspId) → id_order x y ≡ Equal → AllByRecursion (λ z. is_below y z ≡ true) (row_ids es) → AllByRecursion (λ z. is_below x z ≡ true) (row_ids es)
-tied_below [] x y h all = tt
-tied_below (e ∷ es) x y h all = (ap is_lt (id_total.congr x y e.id h) ∙ all.0, tied_below es x y h all.1)
-
 put_ascends : (es : List Bits) (e : Bits) → AreAscending (row_ids es) → AreAscending (row_ids (put_bits e es))
 put_ascends [] e asc = (tt, tt)
 put_ascends (x ∷ xs) e asc = cases (put_ascends xs e asc.1) (id_order e.id x.id) refl
   where
     cases : AreAscending (row_ids (put_bits e xs)) → (o : Ordering) → id_order e.id x.id ≡ o → AreAscending (row_ids (match_ordering o (e ∷ x ∷ xs) (e ∷ xs) (x ∷ put_bits e xs)))
-    cases later Less o = ((ap is_lt o, below_all xs e.id x.id (ap is_lt o) asc.0), asc)
-    cases later Equal o = (tied_below xs e.id x.id o asc.0, asc.1)
+    cases later Less o = ((ap is_lt o, below_all (row_ids xs) e.id x.id (ap is_lt o) asc.0), asc)
+    cases later Equal o = (tied_below (row_ids xs) e.id x.id o asc.0, asc.1)
     cases later Greater o = (all_put (λ z. is_below x.id z ≡ true) xs e (below_from_above e.id x.id (ap is_gt o)) asc.0, later)
-
-all_removed : (P : LspId → Type 0) (es : List Bits) (i : ℕ) → AllByRecursion P (row_ids es) → AllByRecursion P (row_ids (remove es i))
-all_removed P [] zero all = tt
-all_removed P [] (suc i) all = tt
-all_removed P (x ∷ xs) zero all = all.1
-all_removed P (x ∷ xs) (suc i) all = (all.0, all_removed P xs i all.1)
-
-removed_ascends : (es : List Bits) (i : ℕ) → AreAscending (row_ids es) → AreAscending (row_ids (remove es i))
-removed_ascends [] zero asc = tt
-removed_ascends [] (suc i) asc = tt
-removed_ascends (x ∷ xs) zero asc = asc.1
-removed_ascends (x ∷ xs) (suc i) asc = (all_removed (λ z. is_below x.id z ≡ true) xs i asc.0, removed_ascends xs i asc.1)
 
 -- ---- lookups
 
@@ -165,7 +144,7 @@ pub remove_goes : (rs now new : List Bits) (p : ℕ) (id : LspId) → rs ≡ now
 remove_goes rs now new p id same at is = is ∙ ap (λ (xs : List Bits). remove xs p) same ∙ ap (λ n. remove now n) at.place ∙ without_there now id (stands_there at)
 
 pub remove_ascends : (rs new : List Bits) (p : ℕ) → AreAscending (row_ids rs) → new ≡ remove rs p → AreAscending (row_ids new)
-remove_ascends rs new p asc is = rw is (removed_ascends rs p asc)
+remove_ascends rs new p asc is = rw is (removed_ascends (λ (b : Bits). b.id) rs p asc)
 
 pub none_goes : (rs now : List Bits) (p : ℕ) (id : LspId) → rs ≡ now → AreAscending (row_ids rs) → IsPlace now id false p → now ≡ without_bits id now
 none_goes rs now p id same asc at = sym (without_missing now id (subst (λ (xs : List Bits). AreAscending (row_ids xs)) same asc) (stands_there at))

@@ -1,5 +1,5 @@
 //! Received LSPs (ISO/IEC 10589, 7.3.15.1 and 7.3.16).
-ghost use Rattle.std.specs.Prelude.{◌≡◌, ◌<◌, ◌≤◌, ◌+◌, ◌&&◌, not, length, true, false, if◌then◌else◌, IfOk, OnOk, OnErr};
+ghost use Rattle.std.specs.Prelude.{◌≡◌, ◌<◌, ◌≤◌, ◌+◌, ◌&&◌, not, length, true, false, if◌then◌else◌, OnOk, OnErr};
 ghost use Rattle.wire_base.specs.model.Control.{entry_in, put_entry, age_of, is_full, is_unknown, is_newer_or_confused, purge};
 ghost use Rattle.wire_base.specs.model.Flooding.{mark_all, pass_on, kept, on_lsp, lsp_aged, stores, only_says, puts_marked, is_own_ahead, is_unheld_own};
 ghost use Rattle.wire_base.specs.declared.entry.Age.TheVariants.{Unknown};
@@ -12,41 +12,9 @@ ghost use Rattle.isis_flood.specs.Kept.{NotLowered};
 
 use crate::flood::Flood;
 use isis_pdu::LspHead;
-use lsp_store::{Store, is_same_id, purge};
-use std::alloc::Global;
+use lsp_store::{Store, is_same_id, purge, received};
 use wire_base::limits::MOST_ENTRIES;
-use wire_base::{Age, Entry, FloodOut, LspId, M, Memory, Octets, Summary};
-
-/// Returns the summary of an LSP, as a CSNP or PSNP lists it.
-fn summary_of(head: &LspHead) -> Summary
-    ensures { result ≡ head_summary (head_of head.now) }
-{
-    Summary {
-        life: head.life,
-        id: head.id,
-        seq: head.seq,
-        sum: head.sum,
-    }
-}
-
-/// Returns the LSDB entry of an LSP: a purge for an expired one.
-fn kept(alloc: Global, head: &LspHead, tlvs: &[u8]) -> M<Entry>
-    ensures entry { IfOk result (λ e. e ≡ kept (head_of head.now) tlvs.now) }
-    ensures id { IfOk result (λ e. e.id ≡ head.now.id) }
-{
-    if head.life == 0 {
-        return Ok(purge(alloc, head.id, head.seq));
-    }
-    Ok(Entry {
-        id: head.id,
-        seq: head.seq,
-        life: head.life,
-        hold: 0,
-        sum: head.sum,
-        flags: head.flags,
-        content: Octets::from_slice(alloc, tlvs)?,
-    })
-}
+use wire_base::{Age, Entry, FloodOut, LspId, M, Memory};
 
 /// Stores an entry that the LSDB has room for. `guess` is a guess of its index.
 fn put_into(store: &mut Store, e: Entry, guess: usize) -> M<()>
@@ -165,7 +133,7 @@ impl Flood {
         ensures done { LspDone result self.old.flood store.old.entries self.new.flood store.new.entries (stores self.old.flood store.old.entries link (kept (head_of head.now) tlvs.now)) }
         ensures spare { self.old.spare ≤ self.new.spare + 1 }
     {
-        let entry = kept(store.allocator(), head, tlvs)?;
+        let entry = received(store.allocator(), &head.summary(), head.flags, tlvs)?;
         self.put_passed(store, link, entry, guess)?;
         Ok(FloodOut::Kept)
     }
@@ -184,7 +152,7 @@ impl Flood {
         ensures spare { self.old.spare ≤ self.new.spare + 1 }
     {
         if head.life == 0 {
-            return Ok(FloodOut::Ack(summary_of(head)));
+            return Ok(FloodOut::Ack(head.summary()));
         }
         if is_full(store) {
             return Ok(FloodOut::Full);
@@ -267,7 +235,7 @@ impl Flood {
         }
         // Rows and entries mostly have the same indices, so one search finds both.
         let guess = self.place_of(&head.id);
-        let age = store.compare_near(&summary_of(head), guess);
+        let age = store.compare_near(&head.summary(), guess);
         if self.is_own_ahead(&head.id, spent, age) {
             return Ok(FloodOut::Reissue(head.seq));
         }

@@ -19,6 +19,7 @@ use Rattle.isis_hello.specs.declared.fault.HelloFault.TheVariants as faults
 use Rattle.isis_hello.specs.declared.hello.Hello.{Hello}
 use Rattle.isis_hello.specs.Hello.{HelloFits, NamedFits, IsHello, around, body_at, circuit_type, hello, hello_at, hello_body, named_octets, tlvs_sized, way_in, way_of, way_tlv}
 use Rattle.isis_hello.proofs.WayLemmas.{way_in_again, way_in_takes}
+use Rattle.laws_format.proofs.PduLaws.{or_true}
 
 -- ---- what is in the grammar is parsed
 
@@ -67,10 +68,6 @@ hello_only octets h is =
 not_false : (b : Bool) → not b ≡ false → b ≡ true
 not_false true e = refl
 not_false false e = absurd cc
-
-or_true : (a b : Bool) → (a || b) ≡ true → (a ≡ true) ⊎ (b ≡ true)
-or_true true b e = inl refl
-or_true false b e = inr e
 
 record SizedTaken (size : ℕ) (octets : List ℕ) (x : List ℕ × List ℕ) : Type 0 where
   size_is : size ≡ 20 + length x.0

@@ -1,5 +1,5 @@
 -- What is known of an event that is allowed.
-use Rattle.std.proofs.Common.{◌≡◌, ℕ, suc, ◌+◌, ◌<◌, ◌⊎◌, Bool, true, false, cond, List, [], ◌∷◌, slice_get, Option, Some, None, Result, Ok, Err, refl, sym, ap, subst, ◌∙◌, arith, inl, inr}
+use Rattle.std.proofs.Common.{◌≡◌, ℕ, suc, ◌+◌, ◌<◌, ◌⊎◌, Bool, true, false, List, [], ◌∷◌, slice_get, Option, Some, None, Result, Ok, Err, refl, sym, ap, subst, ◌∙◌, arith, inl, inr}
 use Rattle.std.proofs.lemmas.Bool.{leb-false}
 use Rattle.std.proofs.lemmas.Option.{none-some, same_Some}
 use Rattle.std.specs.Prelude.{IfOk, is_none, option_map}
@@ -14,6 +14,7 @@ use Rattle.isis_hello.specs.declared.fault.CircuitFault.{CircuitFault}
 use Rattle.isis_hello.specs.declared.fault.CircuitFault.TheVariants as faults
 use Rattle.isis_hello.specs.Circuits.{CircuitsState, circuit_at, end_between, hello_of, link_between}
 use Rattle.isis_hello.specs.Events.{Did, IsSent, IsSentOn, first_fault, rule_fault, circuit_fault, hello_frame, sends, sends_from, sends_on}
+use Rattle.laws_format.proofs.PduLaws.{chosen}
 
 -- a reason that does not apply
 first_none : (b : Bool) (reason : CircuitFault) (next : Option CircuitFault) → first_fault b reason next ≡ None → (b ≡ false) × (next ≡ None)
@@ -25,10 +26,6 @@ unfolding circuit_fault
 few_events s e is = leb-false _ _ (first_none _ faults.Events (rule_fault s e) is).0
 
 -- ---- an interface that leads to a router is there
-
-chosen : {A : Type 0} (b : Bool) (x y z : A) → cond b x y ≡ z → ((b ≡ true) × (x ≡ z)) ⊎ ((b ≡ false) × (y ≡ z))
-chosen true x y z e = inl (refl, e)
-chosen false x y z e = inr (refl, e)
 
 some_more : (m : Option ℕ) (k : ℕ) → option_map (λ n. n + 1) m ≡ Some k → (j : ℕ) × (m ≡ Some j) × (k ≡ suc j)
 some_more None k e = absurd (none-some k e)

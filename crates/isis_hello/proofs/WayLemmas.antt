@@ -19,6 +19,8 @@ use Rattle.isis_hello.specs.declared.hello.Tri.{Tri}
 use Rattle.isis_hello.specs.declared.hello.Tri.TheVariants.{Up, Initializing, Down}
 use Rattle.isis_hello.specs.declared.way.ThreeWay.{ThreeWay}
 use Rattle.isis_hello.specs.Hello.{NamedFits, tri_number, named_octets, way, way_tlv, is_way, tri_at, neighbor_at, named_at, way_at, first_way, found_with, way_among, way_in}
+use Rattle.laws_format.proofs.PduLaws.{chosen}
+use Rattle.laws_format.proofs.ChecksumLaws.{and_true}
 
 -- ---- the first one, with what was found before
 
@@ -81,14 +83,10 @@ not_true : (b : Bool) → not b ≡ true → b ≡ false
 not_true true e = absurd cc
 not_true false e = refl
 
-and_parts : (a b : Bool) → (a && b) ≡ true → (a ≡ true) × (b ≡ true)
-and_parts true b e = (refl, e)
-and_parts false b e = absurd cc
-
 first_again : (before after : List Tlv) (w : ThreeWay) → list_all (λ t. not (is_way t)) before ≡ true → first_way (before ++ way_tlv w ∷ after) ≡ way_at (way w)
 first_again [] after w first = refl
 first_again (t ∷ before) after w first =
-    let both = and_parts (not (is_way t)) (list_all (λ t. not (is_way t)) before) first in
+    let both = and_true (not (is_way t)) (list_all (λ t. not (is_way t)) before) first in
     rw (not_true (is_way t) both.0) (first_again before after w both.1)
 
 pub way_in_again : (before after : List Tlv) (w : ThreeWay) → list_all (λ t. not (is_way t)) before ≡ true → w.circuit < 256 ^ 4 → NamedFits w.named → way_in (flat_map tlv (before ++ way_tlv w ∷ after)) ≡ Ok w
@@ -96,10 +94,6 @@ unfolding way_in
 way_in_again before after w first circuit named = ap way_among (tlvs_again (before ++ way_tlv w ∷ after)) ∙ first_again before after w first ∙ way_again w circuit named
 
 -- ---- what is parsed was written so
-
-chosen : {A : Type 0} (b : Bool) (x y z : A) → cond b x y ≡ z → ((b ≡ true) × (x ≡ z)) ⊎ ((b ≡ false) × (y ≡ z))
-chosen true x y z e = inl (refl, e)
-chosen false x y z e = inr (refl, e)
 
 state_takes : (n : ℕ) (state : Tri) → tri_at n ≡ Ok state → n ≡ tri_number state
 state_takes n state e =

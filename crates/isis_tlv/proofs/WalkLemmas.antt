@@ -51,11 +51,6 @@ few_within read zero octets = omega arith
 few_within read (suc n) [] = omega arith
 few_within read (suc n) (octet ∷ octets) = few_then (read (octet ∷ octets)) (walked_within read n) n (λ rest. few_within read n rest)
 
--- there are no more items than octets
-pub walked_few : {X E : Type 0} (read : List ℕ → Result (X × List ℕ) E) (octets : List ℕ) → length (walked read octets) ≤ length octets
-unfolding walked
-walked_few read octets = few_within read (length octets) octets
-
 -- ---- a step
 
 pub step_gives : {A X E : Type 0} (view : A → X) (read : List ℕ → Result (X × List ℕ) E) → Shortens read → (old : List ℕ) (r : Option (Result A E)) (new : List ℕ)

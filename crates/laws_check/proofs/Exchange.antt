@@ -38,6 +38,7 @@ use Rattle.laws_check.specs.Csnps.{AreToldBySums, IsAnswered, IsExchange, IsSoun
 use Rattle.laws_check.proofs.CsnpAt.{IsReceiving, if_receives}
 use Rattle.laws_check.proofs.Joined.{joined_differ}
 use Rattle.laws_check.proofs.SameByCsnps.{same_live}
+use Rattle.router_core.proofs.KeepLaws.{sent_entries}
 
 -- ---- lists
 
@@ -280,10 +281,6 @@ true_within [] k h = absurd (false≢true h)
 true_within (x ∷ xs) zero h = omega arith
 true_within (x ∷ xs) (suc k) h = let low = true_within xs k h in omega (arith, low)
 
-send_entries : (c : Control) (link : ℕ) → (send c link).control.entries ≡ c.entries
-unfolding send
-send_entries c link = refl
-
 send_sent : (c : Control) (link : ℕ) → slice_index_or c.flood.due link false ≡ true → (send c link).sent ≡ due_csnps c true ++ (due_lsps c link ++ due_psnps c link)
 unfolding send send_of
 send_sent c link due = ap (λ (b : Bool). due_csnps c b ++ (due_lsps c link ++ due_psnps c link)) due
@@ -352,7 +349,7 @@ module _ (w : WorldState) (a b : ℕ) (c d : Control) (link back : ℕ) (v : Wor
   at_last = ap (λ (x : WorldState). slice_get x.routers b) h.is ∙ received.underway.receiver
 
   near_is : lsdb_at v a ≡ c.entries
-  near_is = ap (λ (x : WorldState). lsdb_of (slice_get x.routers a)) h.is ∙ ap lsdb_of received.underway.sender ∙ send_entries c link
+  near_is = ap (λ (x : WorldState). lsdb_of (slice_get x.routers a)) h.is ∙ ap lsdb_of received.underway.sender ∙ sent_entries c link
 
   far_is : lsdb_at v b ≡ last.entries
   far_is = ap lsdb_of at_last

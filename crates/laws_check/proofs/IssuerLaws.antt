@@ -22,6 +22,7 @@ use Rattle.laws_course.specs.Course.{Agreed, own_node}
 use Rattle.laws_quiet.specs.Quiet.{AreIssuers, IsQuiet}
 use Rattle.laws_quiet.proofs.AgreeLaws.{agreed}
 use Rattle.laws_check.proofs.OwnIssued.{down_issued, first_issued, join_issued, leave_issued, pdu_issued, relabel_issued, restart_issued, send_issued, tick_issued, up_issued}
+use Rattle.laws_course.proofs.OnceLaws.{world_next}
 
 -- ---- an event
 
@@ -145,18 +146,14 @@ pub record IsIssuing (w : WorldState) : Type 0 where
   pub truth : IsTruthful w
   pub issuers : AreIssuers w.routers
 
-next_world : (r : Run) (e : ℕ × Event) → (goes_on r e).world ≡ (happens r.world e.1).world
-unfolding goes_on
-next_world r e = refl
-
 next_issuing : (w : WorldState) (e : Event) (es : List Event) → IsIssuing w → AreAllowed w (e ∷ es) → IsIssuing (happens w e).world
 next_issuing w e es h allowed = record { truth = (happens_true w e h.truth allowed.0 allowed.1).truth; issuers = happens_issued w h.truth h.issuers e }
 
 issuing_on : (es : List (ℕ × Event)) (r : Run) → IsIssuing r.world → AreAllowed r.world (unlined es) → IsIssuing (fold goes_on r es).world
 issuing_on [] r h allowed = h
 issuing_on (e ∷ es) r h allowed =
-    issuing_on es (goes_on r e) (subst IsIssuing (sym (next_world r e)) (next_issuing r.world e.1 (unlined es) h allowed))
-    (subst (λ (w : WorldState). AreAllowed w (unlined es)) (sym (next_world r e)) allowed.2)
+    issuing_on es (goes_on r e) (subst IsIssuing (sym (world_next r e)) (next_issuing r.world e.1 (unlined es) h allowed))
+    (subst (λ (w : WorldState). AreAllowed w (unlined es)) (sym (world_next r e)) allowed.2)
 
 module _ (d : DomainConf) (es : List (ℕ × Event)) (valid : IsValid d) (allowed : AreAllowed (first_world d) (unlined es)) where
   pub run_issuing : IsIssuing (run_of d es).world

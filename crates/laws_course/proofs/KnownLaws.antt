@@ -195,12 +195,12 @@ edges_listed P c place (d ∷ ds) each =
     here true e (Some m) = (let z : place + 0 ≡ place = omega arith in subst P z (each 0 d refl e), tt)
 
 -- each node is a claim's
-claim_at : (k cs : List Claim) (x : ℕ) (n : ViewNode) → slice_get (map (node_of k) cs) x ≡ Some n → (c : Claim) × (slice_get cs x ≡ Some c) × (n ≡ node_of k c)
+pub claim_at : (k cs : List Claim) (x : ℕ) (n : ViewNode) → slice_get (map (node_of k) cs) x ≡ Some n → (c : Claim) × (slice_get cs x ≡ Some c) × (n ≡ node_of k c)
 claim_at k [] x n h = cc
 claim_at k (c ∷ cs) zero n h = (c, refl, sym (same_Some (node_of k c) n h))
 claim_at k (c ∷ cs) (suc x) n h = claim_at k cs x n h
 
-node_there : (k cs : List Claim) (x : ℕ) (c : Claim) → slice_get cs x ≡ Some c → slice_get (map (node_of k) cs) x ≡ Some (node_of k c)
+pub node_there : (k cs : List Claim) (x : ℕ) (c : Claim) → slice_get cs x ≡ Some c → slice_get (map (node_of k) cs) x ≡ Some (node_of k c)
 node_there k [] x c h = cc
 node_there k (d ∷ ds) zero c h = ap (λ (z : Claim). Some (node_of k z)) (same_Some d c h)
 node_there k (d ∷ ds) (suc x) c h = node_there k ds x c h
@@ -271,7 +271,7 @@ known_of d valid c t = record {
 
 -- ---- how many nodes
 
-length_put : (c : Claim) (cs : List Claim) → length (put_claim c cs) ≡ suc (length cs)
+pub length_put : (c : Claim) (cs : List Claim) → length (put_claim c cs) ≡ suc (length cs)
 length_put c [] = refl
 length_put c (d ∷ ds) = by (is_lt (system_order c.system d.system)) (length_put c ds)
   where

@@ -1,13 +1,11 @@
 -- Nodes of a view and the routers that they are.
-use Rattle.std.proofs.Common.{◌≡◌, ℕ, zero, suc, ◌+◌, ◌<◌, ◌≤◌, ◌==◌, ◌&&◌, ◌||◌, nat_lt, Bool, true, false, if◌then◌else◌, List, [], ◌∷◌, length, map, slice_get, is_some, Option, Some, None, option_map, option_and_then, refl, sym, ap, subst, ◌∙◌, arith}
+use Rattle.std.proofs.Common.{◌≡◌, ℕ, zero, suc, ◌+◌, ◌<◌, ◌≤◌, ◌==◌, ◌&&◌, ◌||◌, Bool, true, false, if◌then◌else◌, List, [], ◌∷◌, length, map, slice_get, is_some, Option, Some, None, option_map, option_and_then, refl, sym, ap, subst, ◌∙◌, arith}
 use mathlib.Core.Bool.{false≢true, true≢false}
-use Rattle.std.specs.Prelude.{AllPairs}
 use Rattle.std.specs.List.{AllByRecursion, list_any}
 use Rattle.std.specs.Str.{bytes_eq}
-use Rattle.std.proofs.lemmas.Bool.{eqb-true, eq-eqb, ltb-true}
+use Rattle.std.proofs.lemmas.Bool.{eqb-true, eq-eqb}
 use Rattle.std.proofs.lemmas.Option.{same_Some}
 use Rattle.wire_base.specs.declared.addresses.Ipv4.{Ipv4}
-use Rattle.wire_base.specs.declared.addresses.SystemId.{SystemId}
 use Rattle.wire_base.specs.declared.conf.End.{End}
 use Rattle.wire_base.specs.declared.conf.OwnSub.{OwnSub}
 use Rattle.wire_base.specs.declared.conf.RouterConf.{RouterConf}
@@ -15,8 +13,7 @@ use Rattle.wire_base.specs.declared.view.ViewNode.{ViewNode}
 use Rattle.wire_base.specs.declared.view.ViewSub.{ViewSub}
 use Rattle.wire_base.specs.model.Choice.{end_toward}
 use Rattle.wire_base.specs.model.Configuration.{DomainConf, IsConsistent, same_sub}
-use Rattle.wire_base.specs.model.Control.{same_system}
-use Rattle.wire_base.specs.model.Graph.{IsBefore, IsGraph, octets_before, place_in, node_has_id, has_id_at}
+use Rattle.wire_base.specs.model.Graph.{IsGraph, place_in, node_has_id, has_id_at}
 use Rattle.wire_base.specs.model.Item.{router_with}
 use Rattle.wire_base.specs.model.Lists.{AreApart}
 use Rattle.wire_base.specs.model.OnFrame.{node_place, link_to, prefix_of, node_with}
@@ -26,53 +23,18 @@ use Rattle.wire_base.specs.model.View.{sub_of, has_prefix}
 use Rattle.domain_model.specs.World.{peer_place}
 use Rattle.wire_base.proofs.SoundLemmas.{sound_subs}
 use Rattle.laws_members.specs.Becoming.{IsEarlier}
+use Rattle.bier_forward.proofs.TableLaws.{place-of-node}
 use Rattle.domain_model.proofs.EachLaws.{each_got}
-use Rattle.domain_model.proofs.DomainLaws.{bytes_is, bytes_from, sound_of, same_by_system, same_by_prefix}
+use Rattle.domain_model.proofs.DomainLaws.{bytes_from, sound_of, same_by_system, same_by_prefix}
 use Rattle.domain_model.proofs.LinkLaws.{end_found, peer_at, prefix_place}
 use Rattle.domain_model.proofs.ViewTruth.{places_of, IsRouterNode}
-use Rattle.laws_ledger.proofs.FlightLaws.{read_got}
 use Rattle.laws_course.specs.Course.{node_by, node_at}
 use Rattle.laws_course.proofs.KnownLaws.{place_has, IsOfNow}
 
 -- ---- places in a view
 
-not_before_itself : (xs : List ℕ) → octets_before xs xs ≡ false
-not_before_itself [] = refl
-not_before_itself (x ∷ xs) = by (nat_lt x x) refl (not_before_itself xs)
-  where
-    by : (b : Bool) → nat_lt x x ≡ b → octets_before xs xs ≡ false → (b || ((x == x) && octets_before xs xs)) ≡ false
-    by true e more = absurd (let l = ltb-true x x e in omega (arith, l))
-    by false e more = ap (λ (c : Bool). (x == x) && c) more ∙ both (x == x)
-      where
-        both : (c : Bool) → (c && false) ≡ false
-        both true = refl
-        both false = refl
-
-before_differs : (a b : SystemId) → IsBefore a b → same_system a b ≡ false
-before_differs a b h = by (same_system a b) refl
-  where
-    by : (t : Bool) → same_system a b ≡ t → same_system a b ≡ false
-    by false e = e
-    by true e = absurd (true≢false (sym h ∙ ap (octets_before a.0) (sym (bytes_is a.0 b.0 e)) ∙ not_before_itself a.0))
-
--- the place of a node's system is the node's
-place_by : (g : List ViewNode) → AllPairs (λ a b. IsBefore a.system b.system) g → (x : ℕ) (n : ViewNode) → slice_get g x ≡ Some n → node_place g n.system ≡ x
-place_by [] pairs x n h = cc
-place_by (m ∷ g) pairs zero n h = ap (λ (b : Bool). if b then 0 else 1 + node_place g n.system) (bytes_from m.system.0 n.system.0 (ap (λ (z : ViewNode). z.system.0) (same_Some m n h)))
-place_by (m ∷ g) pairs (suc x) n h =
-    let is = read_got g x n n h in
-    let before : IsBefore m.system n.system = subst (λ (z : ViewNode). IsBefore m.system z.system) is (pairs 0 (suc x) n (omega arith) (let l = within g x n h in omega (arith, l))) in
-    let other = before_differs m.system n.system before in
-    let more = place_by g (λ i j d lt l. pairs (suc i) (suc j) d (omega (arith, lt)) (omega (arith, l))) x n h in
-    ap (λ (b : Bool). if b then 0 else 1 + node_place g n.system) other ∙ omega (arith, more)
-  where
-    within : (xs : List ViewNode) (i : ℕ) (z : ViewNode) → slice_get xs i ≡ Some z → i < length xs
-    within [] i z e = cc
-    within (y ∷ ys) zero z e = omega arith
-    within (y ∷ ys) (suc i) z e = let l = within ys i z e in omega (arith, l)
-
 pub place_is : (g : List ViewNode) → IsGraph g → (x : ℕ) (n : ViewNode) → slice_get g x ≡ Some n → node_place g n.system ≡ x
-place_is g graph x n h = place_by g graph.in_order x n h
+place_is g graph x n h = place-of-node g graph.in_order x n h
 
 pub node_some : {X : Type 0} (xs : List X) (i : ℕ) → i < length xs → (x : X) × (slice_get xs i ≡ Some x)
 node_some [] i h = absurd (omega (arith, h))

@@ -159,7 +159,7 @@ module _ (r : Run) (e : ℕ × Event) (n k : ℕ) (i : Injection) (c : Control) 
 
 -- ---- what that says of deliveries
 
-copies_few : (n k : ℕ) (flights : List (List (List Item))) → copies_of n k flights ≤ copies_in n flights
+pub copies_few : (n k : ℕ) (flights : List (List (List Item))) → copies_of n k flights ≤ copies_in n flights
 copies_few n k flights = over-most (λ x. Unit {0}) (λ x. one_if (carries n k x)) (λ x. one_if (is_of n x)) (λ x h. one x) flights (λ a link. any (queue_at flights a link))
   where
     any : (xs : List Item) → AllByRecursion (λ x. Unit {0}) xs
@@ -202,7 +202,7 @@ pub unlined-join : (es fs : List (ℕ × Event)) → unlined (es ++ fs) ≡ unli
 unlined-join [] fs = refl
 unlined-join (e ∷ es) fs = ap (λ (l : List Event). e.1 ∷ l) (unlined-join es fs)
 
-world_next : (r : Run) (e : ℕ × Event) → (goes_on r e).world ≡ (happens r.world e.1).world
+pub world_next : (r : Run) (e : ℕ × Event) → (goes_on r e).world ≡ (happens r.world e.1).world
 unfolding goes_on
 world_next r e = refl
 

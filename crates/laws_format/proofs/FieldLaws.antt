@@ -56,10 +56,6 @@ octets_again fault n text rest len =
 abbrev pub IsWide : ℕ → Type 0
 IsWide n = (octets : List ℕ) → n ≤ length octets → AreOctets octets → take n octets ≡ big_bytes n (big_number n octets)
 
-pub wide1 : IsWide 1
-wide1 [] h f = absurd (omega arith)
-wide1 (a ∷ rest) h f = let ha = f 0 in let e : (a * 1 + 0) % 256 ≡ a = omega arith in rw e refl
-
 two_cells : (a b x : ℕ) → a < 256 → b < 256 → x ≡ a * 256 + b → (x / 256 % 256 ≡ a) × (x % 256 ≡ b)
 two_cells a b x ha hb e = (omega arith, omega arith)
 

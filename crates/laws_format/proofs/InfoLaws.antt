@@ -22,6 +22,7 @@ use Rattle.laws_format.proofs.FieldLaws.{bind_ok, guard_ok, ok_is, wide2, AreOct
 use Rattle.laws_format.proofs.TlvLaws.{tlv_parts, tlv_end, tlv_again, some_is}
 use Rattle.laws_format.proofs.ChecksumLaws.{and_true}
 use Rattle.laws_format.proofs.TlvListLaws.{tlv_shorter}
+use Rattle.laws_format.proofs.PduLaws.{or_true}
 
 -- ---- steps over the octets
 
@@ -561,10 +562,6 @@ info_fits value i fits few is =
     }
 
 -- ---- labels that two ranges share
-
-or_true : (a b : Bool) → (a || b) ≡ true → (a ≡ true) ⊎ (b ≡ true)
-or_true true b e = inl refl
-or_true false b e = inr e
 
 or_right : (a : Bool) → (a || true) ≡ true
 or_right true = refl

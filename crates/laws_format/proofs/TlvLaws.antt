@@ -8,8 +8,8 @@ use Rattle.wire_base.specs.declared.triple.Summary.{Summary}
 use Rattle.wire_base.specs.declared.faults.TlvFault.{TlvFault}
 use Rattle.wire_base.specs.declared.faults.TlvFault.TheVariants.{Overrun, EntryShort, PrefixLen}
 use Rattle.wire_base.specs.model.Fields.{AreOctets, octet_at, octets_at, number_at, counted, counted_at}
-use Rattle.wire_base.specs.model.Tlv.{Tlv, TlvFits, tlv, tlv_at, IsOverrun, Reach, ReachFits, reach, reach_at, Prefix, PrefixFits, prefix, prefix_at, prefix_bits, prefix_octets, has_subs, padded, bits_at, subs_if, subs_if_at, NoneUnless, LspIdFits, lsp_id, lsp_id_at, SummaryFits, row, row_at}
-use Rattle.laws_format.proofs.FieldLaws.{bind_ok, guard_ok, ok_is, Takes, Takes-then, octet_takes, octets_takes, octets_again, number_takes, number_again, counted_takes, counted_again, wide2, wide3, wide4, AreOctets-drop, spelled_once}
+use Rattle.wire_base.specs.model.Tlv.{Tlv, tlv, tlv_at, IsOverrun, Reach, ReachFits, reach, reach_at, Prefix, PrefixFits, prefix, prefix_at, prefix_bits, prefix_octets, has_subs, padded, bits_at, subs_if, subs_if_at, NoneUnless, LspIdFits, lsp_id, lsp_id_at, SummaryFits, row, row_at}
+use Rattle.laws_format.proofs.FieldLaws.{bind_ok, guard_ok, ok_is, Takes, Takes-then, octet_takes, octets_takes, octets_again, number_takes, number_again, counted_takes, counted_again, wide2, wide3, wide4, spelled_once}
 
 -- ---- an entry of TLV 22
 
@@ -171,14 +171,6 @@ tlv_parts (code ∷ n ∷ more) t rest e =
     let same : made ≡ (t, rest) = some_is made (t, rest) g.1 in
     subst (λ (x : Tlv × List ℕ). code ∷ n ∷ more ≡ tlv x.0 ++ x.1) same
     (ap (λ (l : List ℕ). code ∷ n ∷ l) (sym (take-append-drop n more)) ∙ ap (λ (k : ℕ). code ∷ k ∷ (take n more ++ drop n more)) (sym len))
-
--- what is read of octets has the widths of a TLV
-pub tlv_fits : (octets : List ℕ) (t : Tlv) (rest : List ℕ) → AreOctets octets → tlv_at octets ≡ Ok (Some (t, rest)) → TlvFits t × AreOctets rest
-tlv_fits octets t rest fits e =
-    let parts = tlv_parts octets t rest e in
-    let all : AreOctets (tlv t ++ rest) = subst AreOctets parts fits in
-    let after : AreOctets rest = subst AreOctets (drop_at (tlv t) rest (length (tlv t)) refl) (AreOctets-drop (length (tlv t)) (tlv t ++ rest) all) in
-    (record { code = all 0; value = all 1 }, after)
 
 pub tlv_end : (octets : List ℕ) → tlv_at octets ≡ Ok None → octets ≡ []
 tlv_end [] e = refl

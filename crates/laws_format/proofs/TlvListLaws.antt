@@ -1,7 +1,7 @@
 -- Lists of TLVs and of entries: what a writer wrote one after the other is walked as those values.
-use Rattle.std.proofs.Common.{◌≡◌, ℕ, zero, suc, ◌+◌, ◌*◌, ◌%◌, ◌<◌, ◌≤◌, Bool, true, false, ◌&&◌, eqb, eq-eqb, min, List, [], ◌∷◌, ◌++◌, length, take, drop, Option, Some, None, Result, Ok, Err, refl, sym, ap, ◌∙◌, arith, inl, inr}
+use Rattle.std.proofs.Common.{◌≡◌, ℕ, zero, suc, ◌+◌, ◌*◌, ◌%◌, ◌<◌, ◌≤◌, Bool, true, false, ◌&&◌, eq-eqb, min, List, [], ◌∷◌, ◌++◌, length, take, drop, Option, Some, None, Result, Ok, Err, refl, sym, ap, ◌∙◌, arith, inl, inr}
 use Rattle.std.specs.List.{list_all, flat_map, AllByRecursion}
-use Rattle.std.proofs.lemmas.Bool.{cases_lt, eqb-true}
+use Rattle.std.proofs.lemmas.Bool.{cases_lt}
 use Rattle.std.proofs.lemmas.List.{take_all, drop_all, take-append-drop, length-append, length-take, length-drop}
 use Rattle.std.proofs.lemmas.List.Concat.{flat_map-cons}
 use Rattle.wire_base.specs.declared.faults.TlvFault.{TlvFault}
@@ -403,29 +403,3 @@ unfolding row_tlvs
 row_tlvs_length rows fits = blocks_length (length rows) rows fits
 
 -- ---- steps for those who walk entries
-
-pub reaches_cons : (r : Reach) (rest : List ℕ) → ReachFits r → entries_of reach_at (reach r ++ rest) ≡ r ∷ entries_of reach_at rest
-reaches_cons r rest fits = entries_step reach_at reach_shortens (reach r ++ rest) r rest (reach_again r rest fits)
-
-pub prefixes_cons : (p : Prefix) (rest : List ℕ) → PrefixFits p → entries_of prefix_at (prefix p ++ rest) ≡ p ∷ entries_of prefix_at rest
-prefixes_cons p rest fits = entries_step prefix_at prefix_shortens (prefix p ++ rest) p rest (prefix_again p rest fits)
-
-pub rows_cons : (s : Summary) (rest : List ℕ) → SummaryFits s → entries_of row_at (row s ++ rest) ≡ s ∷ entries_of row_at rest
-rows_cons s rest fits = entries_step row_at row_shortens (row s ++ rest) s rest (row_again s rest fits)
-
-pub rows_none : entries_of row_at [] ≡ []
-rows_none = entries_end row_at row_shortens [] EntryShort row_none
-
--- the entries that TLVs 9 list, TLV by TLV
-pub rows_of_step : (octets : List ℕ) (t : Tlv) (rest : List ℕ) → tlv_at octets ≡ Ok (Some (t, rest)) → rows_of octets ≡ rows_in t ++ rows_of rest
-rows_of_step octets t rest e = ap (flat_map rows_in) (before_step octets t rest e) ∙ flat_map-cons rows_in t (tlvs_before rest)
-
-pub rows_of_end : (octets : List ℕ) → tlv_at octets ≡ Ok None → rows_of octets ≡ []
-rows_of_end octets e = ap (flat_map rows_in) (before_end octets e)
-
--- a TLV that passes is whole entries
-pub passes_whole : (t : Tlv) → passes true t ≡ true → t.code ≡ 9 → length t.value % 16 ≡ 0
-passes_whole t e nine =
-    let is : eqb t.code 9 ≡ true = eq-eqb _ _ nine in
-    let test : eqb (length t.value % 16) 0 ≡ true = rw is at e in
-    eqb-true _ _ test

@@ -8,6 +8,7 @@ use Rattle.wire_base.specs.model.Lists as lists
 use Rattle.wire_base.specs.model.Pdu.{blocks_within, row_tlv, row_tlvs}
 use Rattle.wire_base.specs.model.Tlv.{tlv, SummaryFits}
 use Rattle.laws_format.proofs.TlvListLaws.{length_rows, fits_take, fits_drop}
+use Rattle.lsp_origin.proofs.ContentLaws.{all_taken}
 
 -- ---- facts of each element
 
@@ -26,11 +27,6 @@ all_filtered P test (x ∷ xs) all = kept_if (test x) (all_filtered P test xs al
     kept_if : (b : Bool) → AllByRecursion P (filter test xs) → AllByRecursion P (cond b (x ∷ filter test xs) (filter test xs))
     kept_if true rest = (all.0, rest)
     kept_if false rest = rest
-
-pub all_taken : {X : Type 0} (P : X → Type 0) (n : ℕ) (xs : List X) → AllByRecursion P xs → AllByRecursion P (take n xs)
-all_taken P zero xs all = tt
-all_taken P (suc n) [] all = tt
-all_taken P (suc n) (x ∷ xs) all = (all.0, all_taken P n xs all.1)
 
 pub all_dropped : {X : Type 0} (P : X → Type 0) (n : ℕ) (xs : List X) → AllByRecursion P xs → AllByRecursion P (drop n xs)
 all_dropped P zero xs all = all

@@ -31,6 +31,7 @@ use Rattle.laws_ledger.proofs.LedgerLaws.{event_balances}
 use Rattle.laws_ledger.proofs.SumLaws.{sum-map}
 use Rattle.laws_ledger.proofs.TotalLaws.{carried-all, event_total}
 use Rattle.laws_ledger.proofs.SourceLaws.{IsSameSource, IfPacket, IsGotFrom, IsAfterFrom, event_from}
+use Rattle.domain_model.proofs.ReadBack.{map_joined}
 
 -- ---- injections
 
@@ -112,13 +113,9 @@ no_lines : {X : Type 0} (line : ℕ) (xs : List X) → map (λ (x : ℕ × X). x
 no_lines line [] = refl
 no_lines {X} line (x ∷ xs) = ap (λ (l : List X). x ∷ l) (no_lines line xs)
 
-map-join : {X Y : Type 0} (f : X → Y) (xs ys : List X) → map f (xs ++ ys) ≡ map f xs ++ map f ys
-map-join f [] ys = refl
-map-join {X} {Y} f (x ∷ xs) ys = ap (λ (l : List Y). f x ∷ l) (map-join f xs ys)
-
 pub tally-told : {X : Type 0} (p : X → Bool) (line : ℕ) (xs : List (ℕ × X)) (ys : List X) → tally p (map (λ (x : ℕ × X). x.1) (xs ++ on_line line ys)) ≡ tally p (map (λ (x : ℕ × X). x.1) xs) + tally p ys
 tally-told {X} p line xs ys =
-    ap (tally p) (map-join (λ (x : ℕ × X). x.1) xs (on_line line ys) ∙ ap (λ (l : List X). map (λ (x : ℕ × X). x.1) xs ++ l) (no_lines line ys))
+    ap (tally p) (map_joined (λ (x : ℕ × X). x.1) xs (on_line line ys) ∙ ap (λ (l : List X). map (λ (x : ℕ × X). x.1) xs ++ l) (no_lines line ys))
     ∙ tally-append p (map (λ (x : ℕ × X). x.1) xs) ys
 
 -- ---- one event more

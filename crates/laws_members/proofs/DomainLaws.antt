@@ -57,13 +57,6 @@ became_from (r ∷ rs) [] a now b e = absurd b
 became_from (r ∷ rs) (q ∷ qs) zero now b e = (r, refl, subst (HasBecome r) (same_Some q now e) b.0)
 became_from (r ∷ rs) (q ∷ qs) (suc a) now b e = became_from rs qs a now b.1 e
 
-pub became_to : (rs qs : List RouterConf) (a : ℕ) (r : RouterConf) → HaveBecome rs qs → slice_get rs a ≡ Some r → (now : RouterConf) × (slice_get qs a ≡ Some now) × HasBecome r now
-became_to [] [] a r b e = absurd cc
-became_to [] (q ∷ qs) a r b e = absurd b
-became_to (x ∷ rs) [] a r b e = absurd b
-became_to (x ∷ rs) (q ∷ qs) zero r b e = (q, refl, subst (λ y. HasBecome y q) (same_Some x r e) b.0)
-became_to (x ∷ rs) (q ∷ qs) (suc a) r b e = became_to rs qs a r b.1 e
-
 pub set_stripped : (rs : List RouterConf) (a : ℕ) (r next : RouterConf) → slice_get rs a ≡ Some r → IsLater r next → map strip (slice_set rs a next) ≡ map strip rs
 set_stripped [] a r next e l = refl
 set_stripped (x ∷ rs) zero r next e l = λ i. (later_stripped r next l ∙ ap strip (sym (same_Some x r e))) i ∷ map strip rs

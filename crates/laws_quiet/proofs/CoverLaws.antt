@@ -37,6 +37,7 @@ use Rattle.laws_course.proofs.NodeLaws.{node_some}
 use Rattle.laws_quiet.specs.Cover.{AreTakes, IsCoveredRun, covers_id, is_covered, is_own, way_from}
 use Rattle.laws_quiet.proofs.AgreeLaws.{agreed}
 use Rattle.laws_quiet.proofs.LongestLaws.{owner_fits, way_fits}
+use Rattle.laws_course.proofs.OnceLaws.{world_next}
 
 -- ---- BFR-ids that are covered
 
@@ -203,10 +204,6 @@ take_loses_none w n (Join a sd) h = refl
 
 -- ---- so topologies stay and agree
 
-world_goes : (r : Run) (e : ℕ × Event) → (goes_on r e).world ≡ (happens r.world e.1).world
-unfolding goes_on
-world_goes r e = refl
-
 pub agreed_kept : (w v : WorldState) (g : List ViewNode) (u : ℕ) → v.routers ≡ w.routers → Agreed w g u → Agreed v g u
 agreed_kept w v g u same h = λ b n c at path. h b n c (sym (ap (λ (rs : List Control). slice_get rs b) same) ∙ at) path
 
@@ -219,14 +216,14 @@ agreement_kept w v s g same h = record {
 }
 
 goes_agreed : (r : Run) (e : ℕ × Event) (s : ℕ) (g : List ViewNode) → KeepsRouters r.world e.1 → HasAgreed r.world s g → HasAgreed (goes_on r e).world s g
-goes_agreed r e s g keeps h = agreement_kept r.world (goes_on r e).world s g (ap (λ (v : WorldState). v.routers) (world_goes r e) ∙ keeps) h
+goes_agreed r e s g keeps h = agreement_kept r.world (goes_on r e).world s g (ap (λ (v : WorldState). v.routers) (world_next r e) ∙ keeps) h
 
 steady : (r : Run) (s : ℕ) (g : List ViewNode) (n : ℕ) (fs : List (ℕ × Event)) → HasAgreed r.world s g → AreTakes n r.world (unlined fs) → IsSteady r s g n fs
 steady r s g n [] h takes = h
 steady r s g n (f ∷ fs) h takes = (
   h,
   take_loses_none r.world n f.1 takes.0,
-  steady (goes_on r f) s g n fs (goes_agreed r f s g (take_keeps r.world n f.1 takes.0) h) (subst (λ (v : WorldState). AreTakes n v (unlined fs)) (sym (world_goes r f)) takes.1),
+  steady (goes_on r f) s g n fs (goes_agreed r f s g (take_keeps r.world n f.1 takes.0) h) (subst (λ (v : WorldState). AreTakes n v (unlined fs)) (sym (world_next r f)) takes.1),
 )
 
 pub covered_carried : (r : Run) (e : ℕ × Event) (fs : List (ℕ × Event)) (c : Control) (n k : ℕ) (i : Injection) → IsCoveredRun r e fs c n k i → IsCarried r e fs c n k i
@@ -234,7 +231,7 @@ covered_carried r e fs c n k i h =
     let s = h.here in
     let before : HasAgreed r.world i.router (control_view c) = record { router = c; there = s.ingress; view = refl; agreed = agreed r.world s.truth s.issuers s.quiet i.router c s.ingress } in
     let after = goes_agreed r e i.router (control_view c) (inject_keeps r.world n e.1 i s.enters) before in
-    let takes : AreTakes n (goes_on r e).world (unlined fs) = subst (λ (v : WorldState). AreTakes n v (unlined fs)) (sym (world_goes r e)) s.takes in
+    let takes : AreTakes n (goes_on r e).world (unlined fs) = subst (λ (v : WorldState). AreTakes n v (unlined fs)) (sym (world_next r e)) s.takes in
     record {
       truth = s.truth;
       accounts = h.accounts;

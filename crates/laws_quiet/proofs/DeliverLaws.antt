@@ -13,11 +13,11 @@ use Rattle.domain_model.specs.Run.{world_after}
 use Rattle.domain_model.specs.Step.{happens}
 use Rattle.domain_model.specs.Truth.{EventFits, IsTrueItem, IsTruthful, confs_now}
 use Rattle.domain_model.specs.World.{WorldState, peer_place, queue_at}
-use Rattle.domain_model.proofs.EachLaws.{each_from, each_weaker}
+use Rattle.domain_model.proofs.EachLaws.{each_weaker}
 use Rattle.domain_model.proofs.WorldTruth.{happens_true}
 use Rattle.laws_ledger.specs.Ledger.{Balances, Injection, carries, copies_of, drops_of, entered, injection_of, names, over_all}
 use Rattle.laws_ledger.specs.Runs.{AreAllowed}
-use Rattle.laws_ledger.specs.Weights.{copies_in, is_of, takes_copy}
+use Rattle.laws_ledger.specs.Weights.{copies_in, takes_copy}
 use Rattle.laws_ledger.proofs.FallLaws.{over-most}
 use Rattle.laws_ledger.proofs.LedgerLaws.{event_balances}
 use Rattle.laws_ledger.proofs.RunLaws.{entered_more, listed_one}
@@ -28,6 +28,7 @@ use Rattle.laws_course.proofs.LawLaws.{begun, gone_on}
 use Rattle.laws_quiet.specs.Cover.{AreTakes, IsCoveredAt, deliveries_by, drops_by}
 use Rattle.laws_quiet.proofs.AgreeLaws.{agreed}
 use Rattle.laws_quiet.proofs.CoverLaws.{KeepsRouters, agreed_kept, covered_is, inject_keeps, take_keeps, take_loses_none}
+use Rattle.laws_course.proofs.OnceLaws.{copies_few}
 
 both_none : (a b : ℕ) → a ≡ 0 → b ≡ 0 → a + b ≡ 0
 both_none a b p q = omega (arith, p, q)
@@ -52,18 +53,6 @@ none_yet w n k truth later =
     none : (x : Item) → IfPacket (λ y. y.number ≤ w.injections) x → one_if (carries n k x) ≤ 0
     none (ControlItem p) h = omega arith
     none (PacketItem x) h = let e : (x.number == n) ≡ false = ne_eqb x.number n (λ z. omega (arith, z, h, later)) in rw e (omega arith)
-
-copies_few : (n k : ℕ) (flights : List (List (List Item))) → copies_of n k flights ≤ copies_in n flights
-copies_few n k flights = over-most (λ x. Unit {0}) (λ x. one_if (carries n k x)) (λ x. one_if (is_of n x)) (λ x h. one x) flights (λ a link. each_from (λ x. Unit {0}) (λ x. tt) (queue_at flights a link))
-  where
-    one : (x : Item) → one_if (carries n k x) ≤ one_if (is_of n x)
-    one (ControlItem p) = omega arith
-    one (PacketItem x) = by (x.number == n) (has x.ids k)
-      where
-        by : (a b : Bool) → one_if (a && b) ≤ one_if a
-        by true true = omega arith
-        by true false = omega arith
-        by false b = omega arith
 
 -- ---- events that receive copies
 

@@ -1,6 +1,5 @@
 -- The edges of a system's node lead to systems that its LSPs list.
-use Rattle.std.proofs.Common.{◌≡◌, ℕ, suc, ◌+◌, Bool, true, false, if◌then◌else◌, List, [], ◌∷◌, ◌++◌, map, Contains, slice_get, is_some, Option, Some, None, option_map, refl, sym, ap, subst, ◌∙◌, arith}
-use Rattle.std.specs.Prelude.{option_to_list}
+use Rattle.std.proofs.Common.{◌≡◌, ℕ, ◌+◌, true, if◌then◌else◌, List, [], ◌∷◌, ◌++◌, map, Contains, slice_get, is_some, Option, Some, None, option_map, refl, sym, ap, subst, ◌∙◌, arith}
 use Rattle.std.specs.List.{AllByRecursion, flat_map}
 use Rattle.std.proofs.lemmas.Option.{same_Some, slice_get-map}
 use Rattle.wire_base.specs.declared.addresses.SystemId.{SystemId}
@@ -9,9 +8,10 @@ use Rattle.wire_base.specs.declared.entry.Entry.{Entry}
 use Rattle.wire_base.specs.declared.view.ViewEdge.{ViewEdge}
 use Rattle.wire_base.specs.declared.view.ViewNode.{ViewNode}
 use Rattle.wire_base.specs.model.OnFrame.{node_place}
-use Rattle.wire_base.specs.model.View.{Claim, Link, claim_of, edge_to, edges_from, links_in, lists, metric_to, node_of, nodes_of, tlvs_of, with_known}
+use Rattle.wire_base.specs.model.View.{Claim, Link, claim_of, edges_from, links_in, metric_to, node_of, nodes_of, tlvs_of, with_known}
 use Rattle.domain_model.proofs.EachLaws.{each_got}
 use Rattle.laws_course.proofs.KnownLaws.{each_contained, place_has}
+use Rattle.bier_forward.proofs.OwnEdges.{edges-lead}
 
 -- ---- edges of claims
 
@@ -22,23 +22,6 @@ IsLinked every c = c.links ≡ flat_map links_in (tlvs_of every c.system)
 linked_claims : (kinds : List SubKind) (every es : List Entry) → AllByRecursion (IsLinked every) (map (with_known kinds) (map (claim_of every) es))
 linked_claims kinds every [] = tt
 linked_claims kinds every (e ∷ es) = (refl, linked_claims kinds every es)
-
--- an edge leads to a system that the claim lists
-edges_leave : (P : ℕ → Type 0) (c : Claim) (place : ℕ) (ds : List Claim) → ((k : ℕ) (d : Claim) → slice_get ds k ≡ Some d → is_some (metric_to c.links d.system) ≡ true → P (place + k)) → AllByRecursion (λ (e : ViewEdge). P e.to) (edges_from c place ds)
-edges_leave P c place [] each = tt
-edges_leave P c place (d ∷ ds) each =
-    joined (edge_to c place d) (edges_from c (place + 1) ds)
-    (here (lists d c.system) (metric_to c.links d.system) refl)
-    (edges_leave P c (place + 1) ds (λ k x at h. let e : place + suc k ≡ (place + 1) + k = omega arith in subst P e (each (suc k) x at h)))
-  where
-    joined : (o : Option ViewEdge) (es : List ViewEdge) → AllByRecursion (λ (e : ViewEdge). P e.to) (option_to_list o) → AllByRecursion (λ (e : ViewEdge). P e.to) es → AllByRecursion (λ (e : ViewEdge). P e.to) (option_to_list o ++ es)
-    joined None es h more = more
-    joined (Some e) es h more = (h.0, more)
-
-    here : (b : Bool) (o : Option ℕ) → metric_to c.links d.system ≡ o → AllByRecursion (λ (e : ViewEdge). P e.to) (option_to_list (if b then option_map (λ m. record { to = place; metric = m }) o else None))
-    here false o e = tt
-    here true None e = tt
-    here true (Some m) e = (let z : place + 0 ≡ place = omega arith in subst P z (each 0 d refl (ap is_some e)), tt)
 
 node_at : (known : List Claim) (x : ℕ) (n : ViewNode) → slice_get (nodes_of known) x ≡ Some n → (c : Claim) × (slice_get known x ≡ Some c) × (n ≡ node_of known c)
 node_at known x n h = by (slice_get known x) refl (sym (slice_get-map (node_of known) known x) ∙ h)
@@ -58,7 +41,7 @@ leaves kinds every es s links said g is n at e has =
     let own : c.0.links ≡ links = each_got (IsLinked every) known (node_place g s) c.0 (linked_claims kinds every es) c.1 ∙ ap (λ (t : SystemId). flat_map links_in (tlvs_of every t)) system ∙ said in
     let Q : ℕ → Type 0 = λ p. (m : ViewNode) → slice_get g p ≡ Some m → is_some (metric_to links m.system) ≡ true in
     let each : AllByRecursion (λ (f : ViewEdge). Q f.to) (edges_from c.0 0 known) =
-    edges_leave Q c.0 0 known (λ k d there listed m node.
+    edges-lead Q c.0 0 known (λ k d there listed m node.
     let z : 0 + k ≡ k = omega arith in
     let found = node_at known k m (subst (λ (p : ℕ). slice_get (nodes_of known) p ≡ Some m) z (subst (λ (h : List ViewNode). slice_get h (0 + k) ≡ Some m) is node)) in
     let same : found.0 ≡ d = same_Some found.0 d (sym found.1 ∙ there) in

@@ -12,7 +12,7 @@ use Rattle.laws_ledger.specs.Ledger.{Injection, entered}
 use Rattle.laws_ledger.specs.Runs.{AreAllowed, unlined}
 use Rattle.laws_ledger.specs.Weights.{first_weight, copies_in, takes_in}
 use Rattle.laws_ledger.proofs.FallLaws.{takes_end}
-use Rattle.laws_course.proofs.OnceLaws.{allowed_parts, unlined-join, run_world, truth_on}
+use Rattle.laws_course.proofs.OnceLaws.{allowed_parts, unlined-join, run_world, truth_on, world_next}
 use Rattle.laws_replay.specs.Promises.{TakesEnd}
 use Rattle.laws_replay.proofs.Reached.{IsReached}
 use Rattle.laws_replay.proofs.MomentLaws.{first_allowed}
@@ -20,10 +20,6 @@ use Rattle.laws_replay.proofs.MomentLaws.{first_allowed}
 start_world : (d : DomainConf) → (first_run d).world ≡ first_world d
 unfolding first_run
 start_world d = refl
-
-next_world : (r : Run) (e : ℕ × Event) → (goes_on r e).world ≡ (happens r.world e.1).world
-unfolding goes_on
-next_world r e = refl
 
 module _ (d : DomainConf) (valid : IsValid d) where
   -- after events that were allowed the world is truthful
@@ -39,13 +35,13 @@ module _ (d : DomainConf) (valid : IsValid d) where
 
   one_more : (es : List (ℕ × Event)) (e : ℕ × Event) → (run_of d (es ++ e ∷ [])).world ≡ (happens (run_of d es).world e.1).world
   unfolding run_of
-  one_more es e = ap (λ (r : Run). r.world) (fold-append goes_on (first_run d) es (e ∷ [])) ∙ next_world (run_of d es) e
+  one_more es e = ap (λ (r : Run). r.world) (fold-append goes_on (first_run d) es (e ∷ [])) ∙ world_next (run_of d es) e
 
   and_more : (es : List (ℕ × Event)) (e : ℕ × Event) (fs : List (ℕ × Event)) → (run_of d (es ++ e ∷ fs)).world ≡ world_after (happens (run_of d es).world e.1).world (unlined fs)
   unfolding run_of
   and_more es e fs =
       ap (λ (r : Run). r.world) (fold-append goes_on (first_run d) es (e ∷ fs)) ∙ run_world fs (goes_on (run_of d es) e)
-      ∙ ap (λ (w : WorldState). world_after w (unlined fs)) (next_world (run_of d es) e)
+      ∙ ap (λ (w : WorldState). world_after w (unlined fs)) (world_next (run_of d es) e)
 
   none_left : (before : List (ℕ × Event)) (e : ℕ × Event) (after : List (ℕ × Event)) (n : ℕ) (i : Injection) → AreAllowed (first_world d) (unlined (before ++ e ∷ after))
       → entered (run_of d before).world.injections e.1 n ≡ Some i → first_weight i ≤ takes_in n (run_of d (before ++ e ∷ [])).world (unlined after)

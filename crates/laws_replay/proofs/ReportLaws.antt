@@ -25,6 +25,7 @@ use Rattle.domain_replay.specs.Texts.{made_text, events_text, run_text}
 use Rattle.laws_replay.specs.Reports.{ReportLine, Got, Dropped, line_text, got_on, drop_on, IsReported}
 use Rattle.laws_replay.proofs.Reached.{IsReached}
 use Rattle.laws_replay.proofs.MomentLaws.{run_is_accounted}
+use Rattle.laws_course.proofs.OnceLaws.{world_next}
 
 -- ---- lines
 
@@ -98,10 +99,6 @@ got_next r e = refl
 drops_next : (r : Run) (e : ℕ × Event) → (goes_on r e).drops ≡ r.drops ++ on_line e.0 (happens r.world e.1).made.drops
 unfolding goes_on
 drops_next r e = refl
-
-world_next : (r : Run) (e : ℕ × Event) → (goes_on r e).world ≡ (happens r.world e.1).world
-unfolding goes_on
-world_next r e = refl
 
 gots_from : (es : List (ℕ × Event)) (r : Run) → (fold goes_on r es).got ≡ r.got ++ filter_map got_on (lines_from r.world es)
 gots_from [] r = sym (append-nil r.got)

@@ -3,15 +3,14 @@
 use Rattle.std.proofs.Common.{◌≡◌, ℕ, zero, suc, ◌<◌, ◌≤◌, ◌&&◌, not, Bool, true, false, if◌then◌else◌, List, [], ◌∷◌, length, map, filter, fold, slice_get, Some, inl, inr, refl, sym, ap, ◌∙◌, arith}
 use Rattle.std.specs.Prelude.{◌⊎◌}
 use Rattle.std.specs.List.{AllByRecursion}
-use Rattle.std.specs.Ordering.{is_lt}
 use Rattle.std.proofs.lemmas.List.{length-map}
 use Rattle.std.proofs.lemmas.Option.{same_Some}
 use Rattle.wire_base.specs.declared.addresses.SystemId.{SystemId}
 use Rattle.wire_base.specs.declared.addresses.LspId.{LspId}
 use Rattle.wire_base.specs.declared.conf.RouterConf.{RouterConf}
 use Rattle.wire_base.specs.declared.entry.Entry.{Entry}
-use Rattle.wire_base.specs.model.Control.{AreAscending, Control, fragment_0, ids_of, is_below, same_system, system_order}
-use Rattle.wire_base.specs.model.View.{Claim, claim_of, claims_of, is_other, node_of, own_claim, put_claim, view_of, control_view, with_known}
+use Rattle.wire_base.specs.model.Control.{AreAscending, Control, fragment_0, ids_of, is_below, same_system}
+use Rattle.wire_base.specs.model.View.{claim_of, claims_of, is_other, node_of, own_claim, put_claim, view_of, control_view, with_known}
 use Rattle.wire_base.specs.declared.triple.Triple.{Triple}
 use Rattle.wire_base.specs.model.Configuration.{DomainConf, IsValid}
 use Rattle.wire_base.specs.model.HopCount.{hops, tunnel_links}
@@ -24,7 +23,7 @@ use Rattle.domain_model.proofs.WorldTruth.{happens_true, first_true}
 use Rattle.laws_ledger.specs.Runs.{AreAllowed, unlined}
 use Rattle.laws_ledger.proofs.RunLaws.{next_truth, next_allowed}
 use Rattle.laws_course.specs.Course.{CoversPath, own_node}
-use Rattle.laws_course.proofs.KnownLaws.{known_of}
+use Rattle.laws_course.proofs.KnownLaws.{known_of, length_put}
 use Rattle.laws_course.proofs.OnceLaws.{truth_on}
 use Rattle.laws_course.proofs.TunnelLaws.{small_covers}
 use Rattle.laws_route.proofs.RouteLemmas.{tunnel_links-some}
@@ -122,14 +121,6 @@ others_few own place confs es there asc all =
     let itself : is_elsewhere own.system own ≡ false = ap not (bytes_from own.system.0 own.system.0 refl) in
     let gone = one_gone (is_elsewhere own.system) confs own place there itself in
     omega (arith, few, gone)
-
-length_put : (c : Claim) (cs : List Claim) → length (put_claim c cs) ≡ suc (length cs)
-length_put c [] = refl
-length_put c (d ∷ ds) = by (is_lt (system_order c.system d.system)) (length_put c ds)
-  where
-    by : (b : Bool) → length (put_claim c ds) ≡ suc (length ds) → length (if b then c ∷ d ∷ ds else d ∷ put_claim c ds) ≡ suc (length (d ∷ ds))
-    by true more = refl
-    by false more = ap suc more
 
 view_length : (r : RouterConf) (up : List Bool) (entries : List Entry) → length (view_of r up entries) ≡ suc (length (filter (is_other r.system) entries))
 unfolding view_of claims_of

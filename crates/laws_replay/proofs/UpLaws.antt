@@ -14,7 +14,7 @@ use Rattle.wire_base.specs.model.View.{Claim, claims_of, edge_to, edges_from, li
 use Rattle.domain_model.specs.World.{WorldState}
 use Rattle.domain_model.specs.Truth.{IsTrueControl, IsTruthful, confs_now, domain_now}
 use Rattle.domain_model.proofs.EachLaws.{each_got}
-use Rattle.laws_course.proofs.KnownLaws.{each_contained, place_has, ComesOverUp, known_of}
+use Rattle.laws_course.proofs.KnownLaws.{each_contained, place_has, ComesOverUp, known_of, claim_at, node_there}
 use Rattle.laws_replay.specs.Paths.{IsUpToward}
 
 -- ---- edges of claims
@@ -66,16 +66,6 @@ edge_there P d place (x ∷ xs) (suc k) c at there back all =
     later : (o : Option ViewEdge) (es : List ViewEdge) → AllByRecursion P (option_to_list o ++ es) → AllByRecursion P es
     later None es all = all
     later (Some e) es all = all.1
-
-claim_at : (k cs : List Claim) (x : ℕ) (n : ViewNode) → slice_get (map (node_of k) cs) x ≡ Some n → (c : Claim) × (slice_get cs x ≡ Some c) × (n ≡ node_of k c)
-claim_at k [] x n h = cc
-claim_at k (c ∷ cs) zero n h = (c, refl, sym (same_Some (node_of k c) n h))
-claim_at k (c ∷ cs) (suc x) n h = claim_at k cs x n h
-
-node_there : (k cs : List Claim) (x : ℕ) (c : Claim) → slice_get cs x ≡ Some c → slice_get (map (node_of k) cs) x ≡ Some (node_of k c)
-node_there k [] x c h = cc
-node_there k (d ∷ ds) zero c h = ap (λ (z : Claim). Some (node_of k z)) (same_Some d c h)
-node_there k (d ∷ ds) (suc x) c h = node_there k ds x c h
 
 -- so an edge leads back
 edge_back : (r : RouterConf) (up : List Bool) (entries : List Entry) (P : ViewNode → ViewEdge → Type 0) → ((x : ℕ) (n : ViewNode) → slice_get (view_of r up entries) x ≡ Some n → AllByRecursion (P n) n.edges)

@@ -70,14 +70,6 @@ dist-edge g good u d n node apart q =
         let sum : n ≡ e.metric + w.0 = omega (arith, same, o.2, w.2) in
         (e.to, here.names, record { edge = e; leaves = l.0; enters = refl; passes = pass; rest = w.0; from_there = w.1; whole = q ∙ ap Some sum })
 
--- a tight one_more leads nearer
-pub tight-nearer : (g : List ViewNode) → IsGraph g → (d u v n m : ℕ) → IsTight g d u v → dist g u d ≡ Some n → dist g v d ≡ Some m → m < n
-tight-nearer g good d u v n m t p q =
-    let e = All-contains (IsEdge (length g)) (edges_of g u) t.edge (edges-good g good u) t.leaves in
-    let a : n ≡ t.edge.metric + t.rest = same_Some n (t.edge.metric + t.rest) (sym p ∙ t.whole) in
-    let b : m ≡ t.rest = same_Some m t.rest (sym q ∙ t.from_there) in
-    omega (arith, e.positive)
-
 pub IsTight-nearer : (g : List ViewNode) → IsGraph g → (d u v : ℕ) → IsTight g d u v → Nearer g d u v
 IsTight-nearer g good d u v t =
     record { far = t.edge.metric + t.rest; near = t.rest; from = t.whole; to = t.from_there; less = omega (arith, (edge-within g good u t.edge t.leaves).positive) }

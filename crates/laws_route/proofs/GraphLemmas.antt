@@ -1,17 +1,38 @@
 -- What passes the test is a graph.
-use Rattle.std.proofs.Common.{◌≡◌, ℕ, ◌<◌, ◌≤◌, ◌^◌, ◌==◌, ◌&&◌, not, nat_lt, nat_le, Bool, true, false, List, [], ◌∷◌, length, All, AllPairs, refl, ap, arith, sym, ◌∙◌}
+use mathlib.Core.Bool.{false≢true}
+use Rattle.std.proofs.Common.{◌≡◌, ℕ, ◌<◌, ◌≤◌, ◌^◌, ◌==◌, ◌&&◌, ◌||◌, not, nat_lt, nat_le, Bool, true, false, List, [], ◌∷◌, length, All, AllPairs, refl, ap, arith, sym, subst, ◌∙◌}
 use Rattle.std.specs.List.{list_all}
 use Rattle.std.proofs.lemmas.Bool.{leb-true, le-ltb, ltb-true, eq-eqb}
 use Rattle.std.proofs.lemmas.List.Elements.{All-nil, All-cons}
 use Rattle.std.proofs.lemmas.List.Kept.{AllPairs-cons}
+use Rattle.std.proofs.lemmas.Slice.Eq.{bytes_eq-Decides}
+use Rattle.wire_base.specs.declared.addresses.SystemId.{SystemId}
 use Rattle.wire_base.specs.declared.conf.LabelRange.{LabelRange}
 use Rattle.wire_base.specs.declared.view.ViewEdge.{ViewEdge}
 use Rattle.wire_base.specs.declared.view.ViewNode.{ViewNode}
 use Rattle.wire_base.specs.declared.view.ViewSub.{ViewSub}
+use Rattle.wire_base.specs.model.Control.{same_system}
 use Rattle.wire_base.specs.model.Graph.{octets_before, IsBefore, IsEdge, IsNode, IsGraph, ShareNoPrefix}
 use Rattle.wire_base.specs.model.Place.{bits_of}
 use Rattle.laws_route.proofs.TightLemmas.{both}
 use Rattle.laws_route.specs.GraphTest.{all_pairs, is_edge, is_node, differ, share_no_prefix, is_graph}
+
+-- a system before another is not that one
+pub before-differs : (a b : SystemId) → IsBefore a b → same_system a b ≡ false
+before-differs a b before = by (same_system a b) refl
+  where
+    itself : (xs : List ℕ) → octets_before xs xs ≡ true → ⊥
+    itself [] h = false≢true h
+    itself (x ∷ xs) h = less (nat_lt x x) refl (x == x) h (itself xs)
+      where
+        less : (s : Bool) → nat_lt x x ≡ s → (t : Bool) → (s || (t && octets_before xs xs)) ≡ true → (octets_before xs xs ≡ true → ⊥) → ⊥
+        less true e t h more = (let l : x < x = ltb-true x x e in omega (arith, l))
+        less false e true h more = more h
+        less false e false h more = false≢true h
+
+    by : (t : Bool) → same_system a b ≡ t → t ≡ false
+    by true e = absurd (itself a.0 (subst (λ (xs : List ℕ). octets_before a.0 xs ≡ true) (sym ((bytes_eq-Decides a.0 b.0).0 e)) before))
+    by false e = refl
 
 all-from : {X : Type 0} (P : X → Type 0) (p : X → Bool) → ((x : X) → p x ≡ true → P x) → (xs : List X) → list_all p xs ≡ true → All P xs
 all-from P p h [] q = All-nil P

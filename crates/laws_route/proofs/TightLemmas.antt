@@ -3,8 +3,8 @@ use Rattle.std.proofs.Common.{◌≡◌, ℕ, zero, suc, ◌+◌, ◌<◌, ◌�
 use Rattle.std.proofs.lemmas.Bool.{cases_Bool, cases_lt, eqb-true, eq-eqb}
 use Rattle.std.proofs.lemmas.List.Elements.{All-head, All-tail, filter_more}
 use Rattle.std.proofs.lemmas.List.Kept.{AllPairs-filter}
-use Rattle.std.proofs.lemmas.List.{length-map, take_all}
-use Rattle.std.proofs.lemmas.Option.{get_or_from_slice_get, slice_get_within, slice_get_read}
+use Rattle.std.proofs.lemmas.List.{length-map}
+use Rattle.std.proofs.lemmas.Option.{get_or_from_slice_get, slice_get_within}
 use Rattle.wire_base.specs.declared.view.ViewEdge.{ViewEdge}
 use Rattle.wire_base.specs.declared.view.ViewNode.{ViewNode}
 use Rattle.wire_base.specs.model.Graph.{edges_at, edges_of, is_overloaded, IsGraph, IsEdge}
@@ -147,11 +147,6 @@ tight_list-ordered g good d f u i j z h k =
     edges-ordered : (o : Option ViewNode) → slice_get g u ≡ o → AllPairs (λ a b. a.to < b.to) (edges_at o)
     edges-ordered None q = λ i j d h k. absurd (omega arith)
     edges-ordered (Some n) q = (rw (get_or_from_slice_get g u n n q) at (good.nodes u n (slice_get_within g u n q))).edges_in_order
-
--- the edges that a loop has read
-pub edges-read : (g : List ViewNode) (u : ℕ) (n : ViewNode) (es : List ViewEdge) (i : ℕ) → u < length g → n ≡ get_or g u n → es ≡ n.edges → length es ≤ i → take i es ≡ edges_of g u
-edges-read g u n es i within q r done =
-    take_all i es done ∙ r ∙ sym (ap edges_at (slice_get_read g (length g) u n refl within q))
 
 -- the list with other lengths that agree at the nodes
 pub tight_list-same : (g : List ViewNode) (d count : ℕ) (f h : ℕ → Option ℕ) (u : ℕ) → f u ≡ h u → ((x : ℕ) → x < count → f x ≡ h x) → (es : List ViewEdge) → All (λ e. IsEdge count e) es → tight_list g d f u es ≡ tight_list g d h u es

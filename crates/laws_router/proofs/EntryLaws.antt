@@ -3,7 +3,7 @@ use Rattle.std.proofs.Common.{◌≡◌, ◌∙◌, ℕ, Bool, true, false, List
 use Rattle.std.proofs.lemmas.Bool.{false≢true, true≢false, and_from, eq-eqb}
 use Rattle.std.specs.declared.cmp.Ordering.{Ordering}
 use Rattle.std.specs.declared.cmp.Ordering.TheVariants.{Less, Equal, Greater}
-use Rattle.std.specs.Ordering.{is_eq, is_gt, match_ordering}
+use Rattle.std.specs.Ordering.{is_gt, match_ordering}
 use Rattle.std.specs.List.{AllByRecursion}
 use Rattle.std.specs.Str.{bytes_eq}
 use Rattle.wire_base.specs.declared.addresses.LspId.{LspId}
@@ -11,13 +11,9 @@ use Rattle.wire_base.specs.declared.entry.Entry.{Entry}
 use Rattle.wire_base.specs.model.Control.{same_id, id_order, entry_in, put_entry, FlagRow, HasEntry}
 use Rattle.lsp_store.proofs.OrderLaws.{tie_is_same, above_differs}
 use Rattle.isis_flood.proofs.FloodLaws.{same_from_tie}
+use Rattle.isis_flood.proofs.KeptLaws.{eq_is}
 
 -- ---- equal identifiers
-
-eq_is : (o : Ordering) → is_eq o ≡ true → o ≡ Equal
-eq_is Less h = absurd (false≢true h)
-eq_is Equal h = refl
-eq_is Greater h = absurd (false≢true h)
 
 pub same_is : (a b : LspId) → same_id a b ≡ true → a ≡ b
 same_is a b h = same_from_tie a b (eq_is (id_order a b) (tie_is_same a b ∙ h))

@@ -13,7 +13,7 @@ use Rattle.wire_base.specs.declared.flood_out.FloodOut.{FloodOut}
 use Rattle.wire_base.specs.declared.flood_out.FloodOut.TheVariants as out
 use Rattle.wire_base.specs.declared.triple.Summary.{Summary}
 use Rattle.wire_base.specs.model.Pdu.{Head, head_summary}
-use Rattle.wire_base.specs.model.Control.{same_id, same_system, fragment_0, entry_in, put_entry, purge, seq_of, age_of, age_by_life, is_unknown, is_newer_or_confused, is_full, FlagRow, no_flags, Flood, IsFlagRow, HasEntry}
+use Rattle.wire_base.specs.model.Control.{same_id, same_system, fragment_0, entry_in, put_entry, purge, seq_of, age_of, is_unknown, is_newer_or_confused, is_full, FlagRow, no_flags, Flood, IsFlagRow, HasEntry}
 use Rattle.wire_base.specs.model.Flooding.{with_row, no_links, send_on, ask_on, set_srm, mark_all, kept, stores, puts_marked, only_says, flags_alone, lsp_aged, is_unheld_own, is_own_ahead, lsp_in, on_lsp, LspAnswer, SnpAnswer, with_flags, wanted, asks, is_live_summary, listed_aged, on_listed, on_list, lacks, send_lacking, on_csnp, on_psnp}
 use Rattle.wire_base.specs.model.Tlv.{rows_of}
 use Rattle.isis_flood.specs.Answers.{csnp_listed}
@@ -21,6 +21,7 @@ use Rattle.laws_router.specs.State.{IsShort}
 use Rattle.laws_router.specs.Kept.{OwnStands, Kept}
 use Rattle.laws_router.proofs.EntryLaws.{HasId, same_is, put_reads, put_has, put_keeps, put_other, rows_named, all_put, all_have}
 use Rattle.laws_router.proofs.FlagLaws.{KeepsRow, keeps_send, keeps_ask, keeps_srm, keeps_acknowledged, keeps_mark, keeps_pass, none_flagged, all_rows, rows_ascend}
+use Rattle.isis_flood.proofs.AgeLaws.{known_age}
 
 -- ---- one row, one entry
 
@@ -69,22 +70,6 @@ put_kept own up spent f es e k short live =
     cases unspent (x, (is, more)) false same = (x, (put_other e es (fragment_0 own) same ∙ is, more))
 
 -- ---- how new something is
-
-known_age : (e : Entry) (s : Summary) → is_unknown (age_of (Some e) s) ≡ false
-known_age e s = cases (e.seq == s.seq) (s.seq == 0) (nat_lt e.seq s.seq) (e.life == 0) (s.life == 0) (e.sum == s.sum)
-  where
-    lives : (x y z : Bool) → is_unknown (age_by_life x y z) ≡ false
-    lives true true z = refl
-    lives true false z = refl
-    lives false true z = refl
-    lives false false true = refl
-    lives false false false = refl
-
-    cases : (a b c x y z : Bool) → is_unknown (if a then (if b then Equal else age_by_life x y z) else (if c then Newer else Older)) ≡ false
-    cases true true c x y z = refl
-    cases true false c x y z = lives x y z
-    cases false b true x y z = refl
-    cases false b false x y z = refl
 
 -- what isn't unknown has an entry
 has_aged : (o : Option Entry) (s : Summary) (age : Age) → age ≡ age_of o s → is_unknown age ≡ false → (e : Entry) × (o ≡ Some e)

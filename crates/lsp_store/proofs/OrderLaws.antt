@@ -33,9 +33,6 @@ lt_is Less h = refl
 lt_is Equal h = absurd (false≢true h)
 lt_is Greater h = absurd (false≢true h)
 
-turned_gt : (o : Ordering) → o ≡ Greater → ordering_reverse o ≡ Less
-turned_gt o h = ap ordering_reverse h
-
 -- above is below turned round
 pub below_from_above : (a b : LspId) → is_gt (id_order a b) ≡ true → is_below b a ≡ true
 below_from_above a b h = ap is_lt (id_total.antisymm b a ∙ ap ordering_reverse (gt_is (id_order a b) h))

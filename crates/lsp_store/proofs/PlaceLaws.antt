@@ -172,35 +172,35 @@ all_put P (x ∷ xs) e h all = cases (all_put P xs e h all.1) (id_order e.id x.i
     cases later Equal = (h, all.1)
     cases later Greater = (all.0, later)
 
-below_all : (es : List Entry) (x y : LspId) → is_below x y ≡ true → AllByRecursion (λ z. is_below y z ≡ true) (ids_of es) → AllByRecursion (λ z. is_below x z ≡ true) (ids_of es)
+pub below_all : (ids : List LspId) (x y : LspId) → is_below x y ≡ true → AllByRecursion (λ z. is_below y z ≡ true) ids → AllByRecursion (λ z. is_below x z ≡ true) ids
 below_all [] x y h all = tt
-below_all (e ∷ es) x y h all = (below_trans x y e.id h all.0, below_all es x y h all.1)
+below_all (i ∷ ids) x y h all = (below_trans x y i h all.0, below_all ids x y h all.1)
 
 -- an identifier that ties with another is below what that one is below
-tied_below : (es : List Entry) (x y : LspId) → id_order x y ≡ Equal → AllByRecursion (λ z. is_below y z ≡ true) (ids_of es) → AllByRecursion (λ z. is_below x z ≡ true) (ids_of es)
+pub tied_below : (ids : List LspId) (x y : LspId) → id_order x y ≡ Equal → AllByRecursion (λ z. is_below y z ≡ true) ids → AllByRecursion (λ z. is_below x z ≡ true) ids
 tied_below [] x y h all = tt
-tied_below (e ∷ es) x y h all = (ap is_lt (id_total.congr x y e.id h) ∙ all.0, tied_below es x y h all.1)
+tied_below (i ∷ ids) x y h all = (ap is_lt (id_total.congr x y i h) ∙ all.0, tied_below ids x y h all.1)
 
 pub put_ascends : (es : List Entry) (e : Entry) → AreAscending (ids_of es) → AreAscending (ids_of (put_entry e es))
 put_ascends [] e asc = (tt, tt)
 put_ascends (x ∷ xs) e asc = cases (put_ascends xs e asc.1) (id_order e.id x.id) refl
   where
     cases : AreAscending (ids_of (put_entry e xs)) → (o : Ordering) → id_order e.id x.id ≡ o → AreAscending (ids_of (match_ordering o (e ∷ x ∷ xs) (e ∷ xs) (x ∷ put_entry e xs)))
-    cases later Less o = ((ap is_lt o, below_all xs e.id x.id (ap is_lt o) asc.0), asc)
-    cases later Equal o = (tied_below xs e.id x.id o asc.0, asc.1)
+    cases later Less o = ((ap is_lt o, below_all (ids_of xs) e.id x.id (ap is_lt o) asc.0), asc)
+    cases later Equal o = (tied_below (ids_of xs) e.id x.id o asc.0, asc.1)
     cases later Greater o = (all_put (λ z. is_below x.id z ≡ true) xs e (below_from_above e.id x.id (ap is_gt o)) asc.0, later)
 
-all_removed : (P : LspId → Type 0) (es : List Entry) (i : ℕ) → AllByRecursion P (ids_of es) → AllByRecursion P (ids_of (remove es i))
-all_removed P [] zero all = tt
-all_removed P [] (suc i) all = tt
-all_removed P (x ∷ xs) zero all = all.1
-all_removed P (x ∷ xs) (suc i) all = (all.0, all_removed P xs i all.1)
+all_removed : {X : Type 0} (id : X → LspId) (P : LspId → Type 0) (xs : List X) (i : ℕ) → AllByRecursion P (map id xs) → AllByRecursion P (map id (remove xs i))
+all_removed id P [] zero all = tt
+all_removed id P [] (suc i) all = tt
+all_removed id P (x ∷ xs) zero all = all.1
+all_removed id P (x ∷ xs) (suc i) all = (all.0, all_removed id P xs i all.1)
 
-pub removed_ascends : (es : List Entry) (i : ℕ) → AreAscending (ids_of es) → AreAscending (ids_of (remove es i))
-removed_ascends [] zero asc = tt
-removed_ascends [] (suc i) asc = tt
-removed_ascends (x ∷ xs) zero asc = asc.1
-removed_ascends (x ∷ xs) (suc i) asc = (all_removed (λ z. is_below x.id z ≡ true) xs i asc.0, removed_ascends xs i asc.1)
+pub removed_ascends : {X : Type 0} (id : X → LspId) (xs : List X) (i : ℕ) → AreAscending (map id xs) → AreAscending (map id (remove xs i))
+removed_ascends id [] zero asc = tt
+removed_ascends id [] (suc i) asc = tt
+removed_ascends id (x ∷ xs) zero asc = asc.1
+removed_ascends id (x ∷ xs) (suc i) asc = (all_removed id (λ z. is_below (id x) z ≡ true) xs i asc.0, removed_ascends id xs i asc.1)
 
 pub ids_set : (es : List Entry) (i : ℕ) (e x : Entry) → x ≡ get_or es i x → e.id ≡ x.id → ids_of (set es i e) ≡ ids_of es
 ids_set [] i e x at h = refl
@@ -304,7 +304,7 @@ aged_kept es i e x db at same = record {
 pub removed_kept : (es new : List Entry) (i : ℕ) → i < length es → IsDatabase es → new ≡ remove es i → IsDatabase new
 removed_kept es new i lt db is = rw is (record {
   few = let l = length-remove es i lt in omega (arith, l, db.few);
-  in_order = removed_ascends es i db.in_order;
+  in_order = removed_ascends (λ (e : Entry). e.id) es i db.in_order;
 })
 
 -- the list with the entry at a place changed is its parts with the entry between them

@@ -6,14 +6,14 @@
 #![tactic(auto)]
 
 mod ages;
+mod entries;
 mod keys;
 mod places;
-mod purges;
 mod seconds;
 mod store;
 
+pub use entries::{purge, received};
 pub use keys::{is_same_id, is_system_above, system_key};
 pub use places::{Keyed, place_near, place_of, stands_at};
-pub use purges::purge;
 pub use store::Store;
 pub use wire_base::{Age, Aged, Entry, PutFault};

@@ -2,7 +2,7 @@ ghost use Rattle.std.specs.Prelude.{◌≡◌, true, false, Some};
 ghost use Rattle.wire_base.specs.model.Control.{aged, aged_to};
 ghost use Rattle.lsp_store.specs.Places.{is_removed};
 
-use crate::purges::purge;
+use crate::entries::purge;
 use std::alloc::Global;
 use wire_base::{Aged, Entry};
 

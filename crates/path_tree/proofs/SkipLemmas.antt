@@ -7,9 +7,6 @@ use Rattle.laws_route.proofs.WalkLemmas.{Contains-cases}
 use Rattle.laws_route.proofs.TightLemmas.{Contains-cons}
 use Rattle.path_tree.specs.Search.{Skipped, TakesNext, marks}
 
-pub skipped-none : (settled : List Bool) (q : List (ℕ × ℕ)) → Skipped settled q q
-skipped-none settled q = record { from = λ entry c. c; others = λ entry c. inr c }
-
 module _ (settled : List Bool) (q0 q : List (ℕ × ℕ)) (e : ℕ × ℕ) (q' : List (ℕ × ℕ)) (s : Skipped settled q0 q) (p : IsPermutation q (e ∷ q')) where
   pub popped-in : Contains q0 e
   popped-in = s.from e (Contains-permutation (e ∷ q') q e (IsPermutation-sym q (e ∷ q') p) (0, omega arith, refl))

@@ -191,22 +191,6 @@ pub next_lowers : (reading after : Reading) → after ≡ (next_of reading).1 �
 unfolding next_of
 next_lowers reading after is = subst (λ (r : Reading). length r.octets ≤ length reading.octets) (sym is) (next_in_lowers reading.stage reading.octets)
 
--- once all records were given, the next answer changes nothing
-end_on : (n k : ℕ) (answer : Result (Option CaptureRecord) CaptureFault × Reading) → k ≤ n → Shrinks k answer → IsSpent answer
-    → ((r : Reading) → length r.octets < n → (next_of (drained r).1).1 ≡ (drained r).1) → (next_of (drain_on drained answer).1).1 ≡ (drain_on drained answer).1
-end_on n k (Ok None, after) enough shrinks is ends = ap (λ (a : Result (Option CaptureRecord) CaptureFault × Reading). a.1) is
-end_on n k (Ok (Some read), after) enough shrinks is ends = ends after (omega (arith, shrinks))
-end_on n k (Err fault, after) enough shrinks is ends = ap (λ (a : Result (Option CaptureRecord) CaptureFault × Reading). a.1) is
-
-end_goes : (n : ℕ) (reading : Reading) → length reading.octets < n → (next_of (drained reading).1).1 ≡ (drained reading).1
-end_goes zero reading enough = absurd (omega (arith, enough))
-end_goes (suc n) reading enough =
-    subst (λ (done : List CaptureRecord × Reading). (next_of done.1).1 ≡ done.1) (sym (drained_next reading))
-    (end_on n (length reading.octets) (next_of reading) (omega (arith, enough)) (next_shrinks reading) (spent reading) (λ r. end_goes n r))
-
-pub drained_end : (reading : Reading) → (next_of (drained reading).1).1 ≡ (drained reading).1
-drained_end reading = end_goes (suc (length reading.octets)) reading (omega arith)
-
 -- a reader that met a fault gives nothing more
 pub refused_still : (reading : Reading) (fault : CaptureFault) → reading.stage ≡ Refused fault → drained reading ≡ ([], reading)
 unfolding next_of

@@ -217,9 +217,6 @@ header_by form xs head is major minor link =
     let version : is_version form xs ≡ true = rw (major, minor) refl in
     rw (le-ltb (length xs) 4 (omega arith), is, le-ltb (length xs) 24 head, version, eq-eqb (number_in form 4 (drop 20 xs) % 65536) 1 link) refl
 
-header_shape_of : (a b d e f rest : List ℕ) → (a ++ (b ++ (d ++ (e ++ f)))) ++ rest ≡ a ++ (b ++ (d ++ (e ++ (f ++ rest))))
-header_shape_of a b d e f rest = append5 a b d e f rest
-
 pub header_again : (form : CaptureForm) (unread : List ℕ) (link : ℕ) (rest : List ℕ) → length unread ≡ 12 → link < 4294967296 → link % 65536 ≡ 1
     → header_at (header_octets form unread link ++ rest) ≡ Ok (Some (form, rest))
 header_again form unread link rest twelve small ethernet =

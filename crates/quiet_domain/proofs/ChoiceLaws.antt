@@ -1,15 +1,10 @@
 -- The router of a row that a class selects is the choice.
-use Rattle.std.proofs.Common.{◌≡◌, ℕ, zero, suc, ◌+◌, ◌*◌, ◌<◌, ◌%◌, ◌==◌, ◌&&◌, ◌||◌, nat_lt, inl, inr, Bool, true, false, if◌then◌else◌, List, [], ◌∷◌, length, get_or, map, slice_get, Option, Some, None, option_map, option_and_then, unwrap_or, refl, sym, ap, subst, ◌∙◌, arith}
-use mathlib.Core.Bool.{false≢true}
+use Rattle.std.proofs.Common.{◌≡◌, ℕ, zero, suc, ◌+◌, ◌*◌, ◌<◌, ◌%◌, ◌==◌, ◌&&◌, ◌||◌, inl, inr, true, false, if◌then◌else◌, List, [], ◌∷◌, length, get_or, map, slice_get, Option, Some, None, option_map, option_and_then, unwrap_or, refl, ap, subst, ◌∙◌, arith}
 use Rattle.std.specs.Prelude.{AllPairs, Contains}
 use Rattle.std.specs.List.{filter_map}
-use Rattle.std.proofs.lemmas.Bool.{ltb-true}
-use Rattle.std.proofs.lemmas.Bool.Decides.{eqb_tells}
 use Rattle.std.proofs.lemmas.List.{get_or_default, length-map}
 use Rattle.std.proofs.lemmas.Option.{get_or_from_slice_get, same_Some, slice_get_cases, slice_get_within, slice_get-map}
 use Rattle.std.proofs.lemmas.Slice.Eq.{bytes_eq-Decides}
-use Rattle.wire_base.specs.declared.bsl.Bsl.{Bsl}
-use Rattle.wire_base.specs.declared.bsl.Bsl.TheVariants.{B64, B128, B256, B512, B1024, B2048, B4096}
 use Rattle.wire_base.specs.declared.conf.End.{End}
 use Rattle.wire_base.specs.declared.conf.SubKind.{SubKind}
 use Rattle.wire_base.specs.declared.conf.TableRow.{TableRow}
@@ -18,60 +13,16 @@ use Rattle.wire_base.specs.declared.view.First.{First}
 use Rattle.wire_base.specs.declared.view.ViewNode.{ViewNode}
 use Rattle.wire_base.specs.model.Choice.{choice, choose, end_toward, first_at, is_direct, member, row, toward}
 use Rattle.wire_base.specs.model.Control.{same_system}
-use Rattle.wire_base.specs.model.Graph.{IsBefore, IsGraph, covers_at, octets_before, owner}
-use Rattle.wire_base.specs.model.Place.{bit_position, bits_of, id_at, position_in, set_identifier}
+use Rattle.wire_base.specs.model.Graph.{IsBefore, IsGraph, covers_at, owner}
+use Rattle.wire_base.specs.model.Place.{id_at}
 use Rattle.laws_route.proofs.ChoiceLemmas.{candidate-within, candidates-are}
+use Rattle.laws_route.proofs.GraphLemmas.{before-differs}
 use Rattle.laws_route.proofs.TightLemmas.{Contains-cons}
 use Rattle.quiet_domain.specs.Way.{node_of}
 
 -- ---- positions
 
-id_of : (b : Bsl) (k : ℕ) → 0 < k → set_identifier (bits_of b) k * bits_of b + bit_position (bits_of b) k ≡ k
-id_of B64 k h = omega arith
-id_of B128 k h = omega arith
-id_of B256 k h = omega arith
-id_of B512 k h = omega arith
-id_of B1024 k h = omega arith
-id_of B2048 k h = omega arith
-id_of B4096 k h = omega arith
-
--- a BFR-id that has a position is the one of that position
-pub placed_id : (t : Triple) (k p : ℕ) → position_in t k ≡ Some p → id_at t p ≡ k
-placed_id t k p q = elim (eqb_tells k 0) [
-  | inl z ↦ (let w : None ≡ Some p = rw z.0 at q in cc)
-  | inr z ↦ elim (eqb_tells (set_identifier (bits_of t.bsl) k) t.si) [
-    | inr s ↦ (let w : None ≡ Some p = rw (z.0, s.0) at q in cc)
-    | inl s ↦
-        let w : Some (bit_position (bits_of t.bsl) k) ≡ Some p = rw (z.0, s.0) at q in
-        let above : 0 < k = positive k z.1 in
-        subst (λ (n : ℕ). id_at t n ≡ k) (same_Some (bit_position (bits_of t.bsl) k) p w)
-        (ap (λ (n : ℕ). n * bits_of t.bsl + bit_position (bits_of t.bsl) k) (sym s.1) ∙ id_of t.bsl k above)
-  ]
-]
-  where
-    positive : (n : ℕ) → (n ≡ 0 → ⊥) → 0 < n
-    positive n h = omega arith
-
 -- ---- the node of a system
-
-before_differs : (xs ys : List ℕ) → octets_before xs ys ≡ true → xs ≡ ys → ⊥
-before_differs xs ys before same = self xs (subst (λ (zs : List ℕ). octets_before xs zs ≡ true) (sym same) before)
-  where
-    self : (xs : List ℕ) → octets_before xs xs ≡ true → ⊥
-    self [] h = false≢true h
-    self (x ∷ xs) h = by (nat_lt x x) refl (x == x) h (self xs)
-      where
-        by : (a : Bool) → nat_lt x x ≡ a → (b : Bool) → (a || (b && octets_before xs xs)) ≡ true → (octets_before xs xs ≡ true → ⊥) → ⊥
-        by true e b h more = (let l : x < x = ltb-true x x e in omega (arith, l))
-        by false e true h more = more h
-        by false e false h more = false≢true h
-
-systems_differ : (a b : ViewNode) → IsBefore a.system b.system → same_system a.system b.system ≡ false
-systems_differ a b before = by (same_system a.system b.system) refl
-  where
-    by : (t : Bool) → same_system a.system b.system ≡ t → t ≡ false
-    by true e = absurd (before_differs a.system.0 b.system.0 before ((bytes_eq-Decides a.system.0 b.system.0).0 e))
-    by false e = refl
 
 -- each node is the first of its system
 node_found : (g : List ViewNode) → AllPairs (λ a b. IsBefore a.system b.system) g → (x : ℕ) (n : ViewNode) → slice_get g x ≡ Some n → node_of g n.system ≡ Some x
@@ -82,7 +33,7 @@ node_found (m ∷ g) order zero n at =
 node_found (m ∷ g) order (suc x) n at =
     let within : x < length g = slice_get_within g x n at in
     let first : IsBefore m.system n.system = subst (λ (k : ViewNode). IsBefore m.system k.system) (get_or_from_slice_get g x n n at) (order 0 (suc x) n (omega arith) (omega (arith, within))) in
-    let b : same_system m.system n.system ≡ false = systems_differ m n first in
+    let b : same_system m.system n.system ≡ false = before-differs m.system n.system first in
     rw b (ap (option_map (λ y. y + 1)) (node_found g (λ i j d less high. order (suc i) (suc j) d (omega (arith, less)) (omega (arith, high))) x n at) ∙ ap (λ (y : ℕ). Some y) (omega arith))
 
 -- ---- the row

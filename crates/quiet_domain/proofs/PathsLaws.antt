@@ -1,5 +1,5 @@
 -- What is kept of a topology's nodes.
-use Rattle.std.proofs.Common.{◌≡◌, ◌⊎◌, ℕ, zero, suc, ◌<◌, ◌==◌, Bool, true, false, List, [], ◌∷◌, length, get_or, replicate, slice_get, slice_set, is_some, not, option_map, Option, Some, None, Result, Ok, Err, IfOk, inl, inr, refl, sym, ap, subst, ◌∙◌, arith}
+use Rattle.std.proofs.Common.{◌≡◌, ◌⊎◌, ℕ, zero, suc, ◌<◌, ◌==◌, Bool, true, false, List, [], ◌∷◌, length, get_or, slice_get, slice_set, is_some, not, option_map, Option, Some, None, Result, Ok, Err, IfOk, inl, inr, refl, sym, ap, subst, ◌∙◌, arith}
 use Rattle.std.proofs.lemmas.Bool.Decides.{eqb_tells}
 use Rattle.std.specs.Prelude.{◌↔◌}
 use Rattle.std.proofs.lemmas.Option.{same_Some, slice_get_read}
@@ -13,19 +13,6 @@ use Rattle.quiet_domain.specs.declared.birt.Birt.{Birt}
 use Rattle.quiet_domain.specs.declared.path.Hop.{Hop}
 use Rattle.quiet_domain.specs.declared.path.Way.{Way}
 use Rattle.quiet_domain.proofs.PathLaws.{hops_for, none_for}
-
-nothing_at : (n i : ℕ) (x : Birt) → slice_get (replicate n None) i ≡ Some (Some x) → ⊥
-nothing_at zero i x h = cc
-nothing_at (suc n) zero x h = cc
-nothing_at (suc n) (suc i) x h = nothing_at n i x h
-
-length_same : {X : Type 0} (n : ℕ) (x : X) → length (replicate n x) ≡ n
-length_same zero x = refl
-length_same (suc n) x = ap suc (length_same n x)
-
--- nothing is kept at first
-pub none_kept : (r : RouterConf) (g : List ViewNode) (t : Triple) (n : ℕ) → n ≡ length g → AreBirts r g t (replicate n None)
-none_kept r g t n same = record { count = length_same n None ∙ same; each = λ u x h. absurd (nothing_at n u x h) }
 
 length_set : {X : Type 0} (xs : List X) (i : ℕ) (x : X) → length (slice_set xs i x) ≡ length xs
 length_set [] i x = refl

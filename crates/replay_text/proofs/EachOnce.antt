@@ -1,5 +1,5 @@
 -- A list of numbers, each once, piece by piece.
-use Rattle.std.proofs.Common.{◌≡◌, ℕ, true, not, eqb, ◌||◌, List, [], ◌∷◌, ◌++◌, Option, Some, None, refl, sym, ap, ◌∙◌, append_assoc, append-nil, inl, inr}
+use Rattle.std.proofs.Common.{◌≡◌, ℕ, true, not, eqb, ◌||◌, List, [], ◌∷◌, ◌++◌, Option, Some, None, refl, sym, ap, ◌∙◌, append_assoc, inl, inr}
 use Rattle.std.specs.Prelude.{option_map, filter}
 use Rattle.std.proofs.lemmas.Bool.{cases_Bool, cases_eq, eq-eqb, ne_eqb}
 use Rattle.wire_base.specs.model.Hop.{distinct, has}
@@ -68,19 +68,11 @@ later : (ids : List ℕ) (n : ℕ) (o : Option (List ℕ)) → option_map (liste
 later ids n None = refl
 later ids n (Some ns) = ap (λ (l : List ℕ). Some l) (listed_more ids n ns)
 
-pub listed_fail : (bound : ℕ) (ids text piece : List ℕ) (more : List (List ℕ)) (total : Option (List ℕ)) → pieces 44 text ≡ piece ∷ more → number_to bound piece ≡ None → option_map (listed_after ids) (numbers_to bound (pieces 44 text)) ≡ total → total ≡ None
-unfolding numbers_to
-listed_fail bound ids text piece more total is bad so_far = sym so_far ∙ ap (λ (ps : List (List ℕ)). option_map (listed_after ids) (numbers_to bound ps)) is ∙ rw bad refl
-
 pub listed_step : (bound n : ℕ) (ids new text piece : List ℕ) (more : List (List ℕ)) (total : Option (List ℕ)) → new ≡ with_new ids n → pieces 44 text ≡ piece ∷ more → number_to bound piece ≡ Some n → option_map (listed_after ids) (numbers_to bound (pieces 44 text)) ≡ total → option_map (listed_after new) (numbers_to bound more) ≡ total
 unfolding numbers_to
 listed_step bound n ids new text piece more total changed is good so_far =
     let one : option_map (listed_after ids) (numbers_to bound (piece ∷ more)) ≡ option_map (listed_after (with_new ids n)) (numbers_to bound more) = rw good (later ids n (numbers_to bound more)) in
     ap (λ (l : List ℕ). option_map (listed_after l) (numbers_to bound more)) changed ∙ sym (ap (λ (ps : List (List ℕ)). option_map (listed_after ids) (numbers_to bound ps)) is ∙ one) ∙ so_far
-
-pub listed_done : (bound : ℕ) (ids : List ℕ) (total : Option (List ℕ)) → option_map (listed_after ids) (numbers_to bound []) ≡ total → total ≡ Some ids
-unfolding numbers_to
-listed_done bound ids total so_far = sym so_far ∙ ap (λ (l : List ℕ). Some l) (append-nil ids)
 
 pub none_after : (ns : List ℕ) → others [] ns ≡ ns
 none_after [] = refl

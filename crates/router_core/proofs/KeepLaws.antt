@@ -187,7 +187,7 @@ sent_conf : (c : Control) (link : ℕ) → (send c link).control.conf ≡ c.conf
 unfolding send
 sent_conf c link = refl
 
-sent_entries : (c : Control) (link : ℕ) → (send c link).control.entries ≡ c.entries
+pub sent_entries : (c : Control) (link : ℕ) → (send c link).control.entries ≡ c.entries
 unfolding send
 sent_entries c link = refl
 

@@ -1,3 +1,4 @@
+pub mod AddressLaws
 pub mod AgingLaws
 pub mod BoundLaws
 pub mod CountLaws
@@ -14,3 +15,4 @@ pub mod ReconfigurationLaws
 pub mod ReceivedLaws
 pub mod SaidLaws
 pub mod SendLaws
+pub mod SizeLaws

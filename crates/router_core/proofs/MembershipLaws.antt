@@ -51,9 +51,6 @@ used_second subs ys label h = sym (used_both subs ys label ∙ ap (λ (b : Bool)
 suc_less : (a e : ℕ) → a < e → e - a ≡ suc (e - (a + 1))
 suc_less a e lt = omega (arith, lt)
 
-pub found_now : (p : ℕ → Bool) (a e : ℕ) → a < e → p a ≡ true → find p (range_with_len a (e - a)) ≡ Some a
-found_now p a e lt h = ap (λ (n : ℕ). find p (range_with_len a n)) (suc_less a e lt) ∙ ap (λ (b : Bool). if b then Some a else find p (range_with_len (a + 1) (e - (a + 1)))) h
-
 pub found_later : (p : ℕ → Bool) (a e : ℕ) → a < e → p a ≡ false → find p (range_with_len (a + 1) (e - (a + 1))) ≡ find p (range_with_len a (e - a))
 found_later p a e lt h = sym (ap (λ (n : ℕ). find p (range_with_len a n)) (suc_less a e lt) ∙ ap (λ (b : Bool). if b then Some a else find p (range_with_len (a + 1) (e - (a + 1)))) h)
 

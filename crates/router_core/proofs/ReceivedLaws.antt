@@ -1,8 +1,7 @@
 -- What comes in frames finds room in frames, and a router stays one when it takes a PDU: what the PDU makes of it is what
 -- the code does, with all that it asks for made ready before.
-use Rattle.std.proofs.Common.{◌≡◌, ◌∙◌, ℕ, ◌+◌, ◌≤◌, ◌==◌, ◌&&◌, Bool, true, false, List, [], ◌∷◌, ◌++◌, length, map, take, replicate, get_or, Option, Some, None, is_none, IfSome, if◌then◌else◌, refl, sym, ap, subst, length-append, arith}
+use Rattle.std.proofs.Common.{◌≡◌, ◌∙◌, ℕ, ◌+◌, ◌≤◌, ◌==◌, ◌&&◌, Bool, true, false, List, [], ◌∷◌, ◌++◌, length, map, replicate, get_or, Option, Some, None, is_none, IfSome, if◌then◌else◌, refl, sym, ap, subst, length-append, arith}
 use Rattle.std.proofs.lemmas.Bool.{true≢false}
-use Rattle.std.proofs.lemmas.List.{length-take-le}
 use Rattle.std.specs.Prelude.{option_map}
 use Rattle.byteorder.specs.Endian.{big_bytes}
 use Rattle.byteorder.specs.Numbers.{length-bytes_high_first}
@@ -18,7 +17,6 @@ use Rattle.wire_base.specs.declared.flood_out.FloodOut.{FloodOut}
 use Rattle.wire_base.specs.declared.flood_out.FloodOut.TheVariants as out
 use Rattle.wire_base.specs.declared.triple.Summary.{Summary}
 use Rattle.wire_base.specs.model.Control.{Control, Flood, IsDatabase, entry_in, age_of, is_full, is_unknown}
-use Rattle.wire_base.specs.model.Ethernet.{IsFrame, IsisPdu}
 use Rattle.wire_base.specs.model.Flooding.{on_lsp, lsp_in, lsp_aged, is_own_ahead, is_unheld_own, snp_done, reissue_if, LspAnswer, SnpAnswer}
 use Rattle.wire_base.specs.model.OnFrame.{Drop, Effects, nothing, framed}
 use Rattle.wire_base.specs.model.Pdu.{Head, head_summary, Pdu, LspPdu, CsnpPdu, PsnpPdu, HelloPdu, OtherPdu, IsPdu, lsp_type, csnp_type, psnp_type, shaped, shape, lsp_body, csnp_body, psnp_body, lsp_covered}
@@ -36,11 +34,6 @@ use Rattle.laws_router.proofs.KeptLaws.{LspKept, SnpKept, lsp_kept, range_kept, 
 use Rattle.router_core.proofs.OwnLaws.{past_id, kept_of, router_of, reissued_is, reissued_keeps}
 
 -- ---- lengths
-
-pub isis_short : (frame pdu : List ℕ) → IsFrame frame (IsisPdu pdu) → length pdu ≤ 1497
-isis_short frame pdu is =
-    let long : length (take is.number is.rest) ≡ is.number = length-take-le is.number is.rest is.carries.1 in
-    omega (arith, long, ap length is.carries.2, is.carries.0)
 
 pub pdu_short : (level : Level) (octets : List ℕ) (p : Pdu) → IsPdu level octets p → length octets ≤ 1497 → HasRoom p
 pdu_short level octets (LspPdu head tlvs) is short =

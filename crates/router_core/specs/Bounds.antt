@@ -1,10 +1,13 @@
--- What a frame of arbitrary octets may do to a router: which drops leave it unchanged, and how much it sends.
-use Rattle.std.specs.Prelude.{ℕ, Bool, true, false, List, length, Option, Some, None, Result, Ok, Err, if◌then◌else◌}
+-- What a frame of arbitrary octets may do to a router: which drops leave it unchanged, and how much it sends. How long a
+-- frame is that a router sends.
+use Rattle.std.specs.Prelude.{ℕ, ◌≤◌, Bool, true, false, List, length, Option, Some, None, Result, Ok, Err, if◌then◌else◌}
+use Rattle.std.specs.List.{AllByRecursion}
 use Rattle.std.specs.Str.{bytes_eq}
 use Rattle.wire_base.specs.declared.cause.Cause.{Cause}
 use Rattle.wire_base.specs.declared.cause.Cause.TheVariants as cause
 use Rattle.wire_base.specs.declared.conf.Kind.TheVariants.{Mpls, Configured}
 use Rattle.wire_base.specs.declared.conf.RouterConf.{RouterConf}
+use Rattle.wire_base.specs.declared.effects.Sent.{Sent}
 use Rattle.wire_base.specs.declared.faults.FrameFault.{FrameFault}
 use Rattle.wire_base.specs.declared.faults.IpFault.{IpFault}
 use Rattle.wire_base.specs.model.Ethernet.{Carried, IsisPdu, MplsPacket, BierPacket, IpPacket, OtherFrame, frame_at}
@@ -59,3 +62,15 @@ packet_hopped r octets = packet_carried r (frame_at octets)
 abbrev pub most_sent : Option Packet → ℕ
 most_sent None = 1
 most_sent (Some p) = length p.header.positions
+
+-- ---- how long a frame is
+
+-- the maximum size in octets of a frame that a router sends, so that a record of a capture can hold it
+abbrev pub most_octets : ℕ
+most_octets = 65535
+
+abbrev pub FitsRecord : Sent → Type 0
+FitsRecord s = length s.octets ≤ most_octets
+
+abbrev pub FitRecords : List Sent → Type 0
+FitRecords sent = AllByRecursion FitsRecord sent

@@ -3,6 +3,7 @@ ghost use Rattle.std.specs.Prelude.{◌≡◌, ◌<◌, ◌≤◌, ◌++◌, ◌
 ghost use Rattle.wire_base.specs.model.Flooding.{csnp_of, psnp_of, lsp_of};
 ghost use Rattle.wire_base.specs.model.Item as item;
 ghost use Rattle.wire_base.specs.model.OnFrame.{frames_of};
+ghost use Rattle.router_core.specs.Bounds.{FitRecords};
 ghost use Rattle.router_core.specs.Sending.{conf_alone, octets_on};
 
 use bier_forward::SentFrames;
@@ -36,10 +37,13 @@ pub(crate) struct FramesOut {
 impl Model for FramesOut {
     ghost use Rattle.std.specs.Prelude.{List};
     ghost use Rattle.wire_base.specs.declared.effects.Sent.{Sent};
+    ghost use Rattle.router_core.specs.Bounds.{FitRecords};
 
     ghost Value = { List Sent };
 
     ghost view = { λ f. f.sent };
+
+    ghost invariant = { λ f. FitRecords f.sent };
 }
 
 impl FramesOut {
@@ -72,7 +76,8 @@ impl FramesOut {
 
     /// Returns the frames.
     pub(crate) fn into_sent(self) -> SentFrames
-        ensures { result ≡ self }
+        ensures sent { result ≡ self }
+        ensures sizes { FitRecords result }
     {
         self.sent
     }
@@ -81,7 +86,8 @@ impl FramesOut {
 /// Begins a frame with a PDU of that length: the Ethernet header and the LLC header, FE FE 03.
 fn begin(frame: &mut Octets, own: Mac, size: usize) -> M<()>
     requires { size ≤ 1497 }
-    ensures { OnOk result ((pdu : List ℕ) → length pdu ≡ size → frame.new ++ pdu ≡ item.isis_frame own pdu) }
+    ensures front { OnOk result ((pdu : List ℕ) → length pdu ≡ size → frame.new ++ pdu ≡ item.isis_frame own pdu) }
+    ensures long { OnOk result (length frame.new ≡ HEAD) }
 {
     let mut head = [0, 0, 0, 0, 0, 0, 0, 0, 0, 0, 0, 0, 0, 0, 0xfe, 0xfe, 3];
     write_eth(&mut head, ALL_ROUTERS, own, 3 + size as u16);
@@ -93,7 +99,8 @@ fn begin(frame: &mut Octets, own: Mac, size: usize) -> M<()>
 fn begin_on(frame: &mut Octets, conf: &RouterConf, link: u16, size: usize) -> M<()>
     requires link { link < length conf.now.ends }
     requires short { size ≤ 1497 }
-    ensures { OnOk result ((pdu : List ℕ) → length pdu ≡ size → frame.new ++ pdu ≡ octets_on (slice_get conf.now.ends link) pdu) }
+    ensures front { OnOk result ((pdu : List ℕ) → length pdu ≡ size → frame.new ++ pdu ≡ octets_on (slice_get conf.now.ends link) pdu) }
+    ensures long { OnOk result (length frame.new ≡ HEAD) }
 {
     begin(frame, conf.ends.as_slice()[usize::from(link)].own_mac, size)
 }

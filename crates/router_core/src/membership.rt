@@ -6,22 +6,12 @@ ghost use Rattle.wire_base.specs.declared.limits.TheConstants.{LAST_LABEL};
 ghost use Rattle.wire_base.specs.model.Membership.{is_too_high, is_used, is_worn, left, own_range, range_for, ranges_moved, rejoined, relabelled, subs_moved, subs_with, subs_without, used_label};
 ghost use Rattle.wire_base.specs.model.Place.{is_label_of, known_ranges, known_subs, ranges_of, sub_in};
 
+use bfr_edge::sub_in;
 use std::alloc::Global;
 use wire_base::limits::{LAST_LABEL, MOST_RELABELS};
 use wire_base::{Bsl, LabelRange, M, OwnSub, PastRange, RouterConf, Rows};
 
 // ---- reads
-
-fn sub_in(subs: &[OwnSub], sd: u8) -> Option<&OwnSub>
-    ensures { option_map (λ s. s.now) result ≡ sub_in subs.now sd }
-{
-    for sub in subs {
-        if sub.sd == sd {
-            return Some(sub);
-        }
-    }
-    None
-}
 
 /// Returns whether a sub-domain is among those of a router, as those that it is in.
 pub fn is_in(subs: &[OwnSub], sd: u8) -> bool

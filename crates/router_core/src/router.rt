@@ -8,7 +8,7 @@ ghost use Rattle.wire_base.specs.model.OnFrame.{nothing, framed, on_frame};
 ghost use Rattle.wire_base.specs.model.Place.{sub_in};
 ghost use Rattle.wire_base.specs.model.View.{control_view};
 ghost use Rattle.bfr_edge.specs.Entry.{Refuses};
-ghost use Rattle.router_core.specs.Bounds.{leaves_state, packet_hopped, most_sent};
+ghost use Rattle.router_core.specs.Bounds.{leaves_state, packet_hopped, most_sent, FitRecords};
 ghost use Rattle.laws_router.specs.State.{IsRouter, IssuesAlone, is_up, counted};
 
 use crate::control::Control;
@@ -126,13 +126,14 @@ impl Router {
     ///
     /// For arbitrary octets, a drop leaves the control state unchanged, unless its cause is a full LSDB. A packet that
     /// is forwarded here makes the router send at most one frame per bit position, and any other frame makes it send at
-    /// most one. The LSDB has at most 4,096 entries.
+    /// most one. Each frame that it sends has at most 65,535 octets. The LSDB has at most 4,096 entries.
     pub fn frame(&mut self, link: u16, bytes: &[u8]) -> M<Effects>
         requires link { link < length self.old.control.conf.ends }
         requires short { length bytes.now ≤ MOST_FRAME }
         ensures next { IfOk result (λ e. record { control = self.new.control; effects = e } ≡ on_frame self.old.control link bytes.now) }
         ensures untaken { IfOk result (λ e. list_any leaves_state e.drops ≡ true → self.new.control ≡ self.old.control) }
         ensures few { IfOk result (λ e. length e.sent ≤ most_sent (packet_hopped self.old.control.conf bytes.now)) }
+        ensures sizes { IfOk result (λ e. FitRecords e.sent) }
         ensures entries { length self.new.control.entries ≤ MOST_ENTRIES }
         ensures heard { OnOk result (self.new.heard ≡ counted self.old.heard) }
         ensures err { OnErr result (self.new ≡ self.old) }
@@ -160,10 +161,12 @@ impl Router {
     }
 
     /// Sends what is due on a link that is up: CSNPs, LSPs, and PSNPs with the entries that are acknowledged or
-    /// requested. An LSP remains due until it is acknowledged (ISO/IEC 10589, 7.3.15.4 and 7.3.17).
+    /// requested. An LSP remains due until it is acknowledged (ISO/IEC 10589, 7.3.15.4 and 7.3.17). Each frame has at
+    /// most 65,535 octets.
     pub fn send(&mut self, link: u16) -> M<Effects>
         requires { is_up self.old.control link ≡ true }
         ensures next { IfOk result (λ e. record { control = self.new.control; effects = e } ≡ framed link (send self.old.control link)) }
+        ensures sizes { IfOk result (λ e. FitRecords e.sent) }
         ensures err { OnErr result (self.new ≡ self.old) }
         ensures heard { self.new.heard ≡ self.old.heard }
     {
@@ -184,7 +187,8 @@ impl Router {
     /// nothing needs to be undone.
     pub fn due(&self, link: u16) -> M<Effects>
         requires { is_up self.now.control link ≡ true }
-        ensures { IfOk result (λ e. e ≡ (framed link (send self.now.control link)).effects) }
+        ensures due { IfOk result (λ e. e ≡ (framed link (send self.now.control link)).effects) }
+        ensures sizes { IfOk result (λ e. FitRecords e.sent) }
     {
         self.control.due(link)
     }
@@ -287,7 +291,8 @@ impl Router {
     }
 
     /// Injects a payload at this router, which is the BFIR, for the routers with the listed BFR-ids in a sub-domain,
-    /// with bit strings of that length. The copies carry that TTL (RFC 8279, 3; RFC 8296, 3).
+    /// with bit strings of that length. The copies carry that TTL (RFC 8279, 3; RFC 8296, 3). Each frame that it sends
+    /// has at most 65,535 octets.
     ///
     /// The errors, in order of precedence: a list without ids, the id 0 in it, an id whose set identifier is above 255,
     /// a router without a BFR-id in the sub-domain, and a router that supports no triple of the sub-domain and the
@@ -306,8 +311,10 @@ impl Router {
         requires payload { length payload.now ≤ MOST_PAYLOAD }
         ensures refused { MatchResult result (λ _. edge_fault self.old.control.conf sd bsl ids.now ≡ None) (λ e. Refuses (edge_fault self.old.control.conf sd bsl ids.now) e) }
         ensures effects { IfOk result (λ e. e ≡ inject self.old.control sd bsl ids.now ttl entropy payload.now) }
+        ensures sizes { IfOk result (λ e. FitRecords e.sent) }
         ensures state { self.new ≡ self.old }
     {
+        let _sound = self.control.conf();
         self.control
             .inject(&mut self.kept, sd, bsl, ids, ttl, entropy, payload)
     }

@@ -5,6 +5,7 @@ ghost use Rattle.wire_base.specs.model.Control.{AreAscending, HasEntry, entry_in
 ghost use Rattle.wire_base.specs.model.Flooding.{csnps, psnp_of, id_after, zero_id, last_id, is_known, due_csnps, send_of, send};
 ghost use Rattle.wire_base.specs.model.Lists.{blocks};
 ghost use Rattle.wire_base.specs.model.OnFrame.{frames_of, framed};
+ghost use Rattle.router_core.specs.Bounds.{FitRecords};
 ghost use Rattle.router_core.specs.Sending.{conf_alone, entry_frames, entry_summary, found, lsp_frames, row_ids};
 ghost use Rattle.laws_router.specs.State.{IsShort, is_up, control_of};
 
@@ -229,7 +230,8 @@ fn due_frames(conf: &RouterConf, store: &Store, flood: &Flood, link: u16) -> M<S
     requires short { AllByRecursion IsShort store.now.entries }
     requires order { AreAscending (row_ids flood.now.flood.rows) }
     requires flagged { AllByRecursion (HasEntry store.now.entries) flood.now.flood.rows }
-    ensures { (spent : Bool) → IfOk result (λ sent. sent ≡ frames_of conf.now link (send_of (control_of conf.now flood.now.flood store.now.entries spent) link)) }
+    ensures due { (spent : Bool) → IfOk result (λ sent. sent ≡ frames_of conf.now link (send_of (control_of conf.now flood.now.flood store.now.entries spent) link)) }
+    ensures sizes { IfOk result (λ sent. FitRecords sent) }
 {
     let entries = store.as_slice();
     let mut out = FramesOut::new(store.allocator());
@@ -245,7 +247,8 @@ impl Control {
     #[tactic(auto, unfolding(wire_base::specs::model::Flooding::send, wire_base::specs::model::OnFrame::framed))]
     pub(crate) fn due(&self, link: u16) -> M<Effects>
         requires { is_up self.now link ≡ true }
-        ensures { IfOk result (λ e. e ≡ (framed link (send self.now link)).effects) }
+        ensures due { IfOk result (λ e. e ≡ (framed link (send self.now link)).effects) }
+        ensures sizes { IfOk result (λ e. FitRecords e.sent) }
     {
         let alloc = self.allocator();
         let sent = due_frames(&self.conf, &self.store, &self.flood, link)?;
@@ -271,6 +274,7 @@ impl Control {
     pub(crate) fn send(&mut self, link: u16) -> M<Effects>
         requires { is_up self.old link ≡ true }
         ensures next { IfOk result (λ e. record { control = self.new; effects = e } ≡ framed link (send self.old link)) }
+        ensures sizes { IfOk result (λ e. FitRecords e.sent) }
         ensures err { OnErr result (self.new ≡ self.old) }
     {
         let effects = self.due(link)?;

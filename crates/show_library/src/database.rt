@@ -2,10 +2,10 @@
 
 use isis_pdu::{LspHead, Pdu, read_pdu};
 use link_frame::{Class, classify};
-use lsp_store::{Store, purge};
+use lsp_store::{Store, received};
 use pcap_frames::Reader;
 use std::alloc::Global;
-use wire_base::{Age, CaptureFault, Entry, Level, M, Memory, Octets, PutFault, Status, Summary};
+use wire_base::{Age, CaptureFault, Level, M, Memory, PutFault, Status};
 
 /// Returns the exit status of a capture that could not be read.
 fn status_of(why: CaptureFault) -> Status {
@@ -47,33 +47,12 @@ fn put_frame(alloc: Global, store: &mut Store, level: Level, frame: &[u8]) -> M<
 /// Adds an LSP that is newer than the entry of its LSP ID (ISO/IEC 10589, 7.3.16.2). A new LSP ID is not added to a full
 /// LSDB.
 fn put_lsp(alloc: Global, store: &mut Store, head: &LspHead, tlvs: &[u8]) -> M<()> {
-    let summary = Summary {
-        life: head.life,
-        id: head.id,
-        seq: head.seq,
-        sum: head.sum,
-    };
+    let summary = head.summary();
     match store.compare(&summary) {
-        Age::Unknown | Age::Newer => match store.put(entry_of(alloc, head, tlvs)?) {
+        Age::Unknown | Age::Newer => match store.put(received(alloc, &summary, head.flags, tlvs)?) {
             Ok(()) | Err(PutFault::Full(_)) => Ok(()),
             Err(PutFault::Memory) => Err(Memory),
         },
         Age::Equal | Age::Older | Age::Confused => Ok(()),
     }
-}
-
-/// Returns the LSDB entry for an LSP: a purge if it has expired.
-fn entry_of(alloc: Global, head: &LspHead, tlvs: &[u8]) -> M<Entry> {
-    if head.life == 0 {
-        return Ok(purge(alloc, head.id, head.seq));
-    }
-    Ok(Entry {
-        id: head.id,
-        seq: head.seq,
-        life: head.life,
-        hold: 0,
-        sum: head.sum,
-        flags: head.flags,
-        content: Octets::from_slice(alloc, tlvs)?,
-    })
 }

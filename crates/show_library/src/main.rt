@@ -4,12 +4,11 @@
 //! This program depends on the codecs, the LSDB, the topology and the routes.
 #![tactic(auto)]
 
-mod conf;
 mod database;
 mod routes;
 
-use conf::own_conf;
 use database::database;
+use examples_model::ring_router_a;
 use routes::{show_distances, show_rows};
 use std::alloc::Global;
 use std::io;
@@ -20,7 +19,7 @@ use wire_base::Status;
 
 /// Returns the output of the program for a capture.
 fn report(alloc: Global, capture: &[u8]) -> Result<String, Status> {
-    let conf = own_conf(alloc)?;
+    let conf = ring_router_a(alloc)?;
     let store = database(alloc, conf.level, capture)?;
     let seen = view(alloc, &conf, &[true, true], &store)?;
     let mut text = String::new(alloc);

@@ -1,45 +1,12 @@
 //! The events of a line of a schedule.
-ghost use Rattle.std.specs.Prelude.{◌≡◌, ◌<◌, ◌^◌, length, true};
-ghost use Rattle.std.specs.List.{AllByRecursion};
+ghost use Rattle.std.specs.Prelude.{◌≡◌, ◌<◌, length, true};
 ghost use Rattle.replay_text.specs.Events.{EventFits, LineFits};
-ghost use Rattle.domain_replay.specs.Replaying.{NumbersFit};
 
 use domain_core::World;
 use domain_model::EventFault;
+use domain_replay::numbers_fit;
 use replay_report::Direction;
 use replay_text::{Event, Line};
-
-fn ids_fit(ids: &[u16])
-    ensures { AllByRecursion (λ k. k < 2 ^ 16) ids.now }
-{
-    for id in ids {
-        let _id = *id;
-    }
-}
-
-/// Proves that the numbers of an event fit their types.
-fn numbers_fit(event: &Event)
-    ensures { NumbersFit event.now }
-{
-    match event {
-        Event::Inject { sd, ids, ttl, .. } => {
-            let _sd = *sd;
-            let _ttl = *ttl;
-            ids_fit(ids.as_slice());
-        }
-        Event::Take { .. } => (),
-        Event::Lose { .. } => (),
-        Event::Again { .. } => (),
-        Event::Down { .. } => (),
-        Event::Up { .. } => (),
-        Event::Send { .. } => (),
-        Event::Tick { .. } => (),
-        Event::Restart { .. } => (),
-        Event::Relabel { .. } => (),
-        Event::Leave { .. } => (),
-        Event::Join { .. } => (),
-    }
-}
 
 /// Executes an event in a domain.
 fn do_event(world: &mut World, event: &Event) -> Result<(), EventFault>

@@ -1,14 +1,15 @@
 //! The BIFTs of a router (RFC 8279, 6.4 and 6.7).
-ghost use Rattle.std.specs.Prelude.{◌<◌, ◌≤◌, length};
+ghost use Rattle.std.specs.Prelude.{◌<◌, length};
 ghost use Rattle.wire_base.specs.model.Configuration.{IsSound};
 ghost use Rattle.bier_forward.specs.Packets.{LeadsToEnds};
 
 use crate::cells::{Cell, Column, Row, Table};
 use crate::copies::{Copied, copies_of, push_way};
 use crate::hops::hop;
-use crate::planes::{Ground, Plane, ids_in, node_of, planes};
+use crate::planes::{Ground, Plane, ids_in, planes};
 use crate::sets::{ids_of_set, sets_of};
 use crate::systems::Names;
+use bier_forward::own_place;
 use router_core::Router;
 use std::alloc::Global;
 use view_graph::supports;
@@ -72,7 +73,7 @@ pub fn bift_tables(alloc: Global, router: &Router, names: Names<'_>) -> M<Table>
     heading.push_str(names.of(alloc, conf.system)?.as_str())?;
     let mut table = Table::new(alloc, heading, &COLUMNS);
     let view = router.current_view()?;
-    let Some(own) = node_of(view.as_slice(), conf.system) else {
+    let Some(own) = own_place(view.as_slice(), conf.system) else {
         return Ok(table);
     };
     let ground = Ground {

@@ -2,10 +2,11 @@
 ghost use Rattle.std.specs.Prelude.{◌<◌, ◌≤◌, length};
 
 use crate::cells::{Cell, Column, Row, Table};
-use crate::planes::{Ground, Plane, ids_in, node_of, planes};
+use crate::planes::{Ground, Plane, ids_in, planes};
 use crate::reasons::{Owner, owner_of, reason_for};
 use crate::sets::{ids_of_set, sets_of};
 use crate::systems::Names;
+use bier_forward::own_place;
 use birt_rows::rows;
 use router_core::Router;
 use std::alloc::Global;
@@ -52,7 +53,7 @@ pub fn birt_table(alloc: Global, router: &Router, names: Names<'_>) -> M<Table> 
     heading.push_str(names.of(alloc, conf.system)?.as_str())?;
     let mut table = Table::new(alloc, heading, &COLUMNS);
     let view = router.current_view()?;
-    let Some(own) = node_of(view.as_slice(), conf.system) else {
+    let Some(own) = own_place(view.as_slice(), conf.system) else {
         return Ok(table);
     };
     let ground = Ground {

@@ -7,11 +7,11 @@ use crate::bift::is_supported;
 use crate::cells::{Cell, Column, Row, Table};
 use crate::copies::{Copied, copies_of, push_way};
 use crate::hops::hop;
-use crate::planes::{Ground, distinct, node_of};
+use crate::planes::{Ground, distinct};
 use crate::reasons::{Reason, reason_for};
 use crate::sets::{ids_of_bits, ids_of_set, sets_of};
 use crate::systems::Names;
-use bier_forward::{DropNote, Effects};
+use bier_forward::{DropNote, Effects, own_place};
 use router_core::Router;
 use std::alloc::Global;
 use wire_base::{Bsl, Cause, M, Triple};
@@ -84,7 +84,7 @@ pub fn packet_table(alloc: Global, router: &Router, names: Names<'_>, query: Que
     heading.push_str(names.of(alloc, conf.system)?.as_str())?;
     let mut table = Table::new(alloc, heading, &COLUMNS);
     let view = router.current_view()?;
-    let Some(own) = node_of(view.as_slice(), conf.system) else {
+    let Some(own) = own_place(view.as_slice(), conf.system) else {
         return Ok(table);
     };
     let ground = Ground {

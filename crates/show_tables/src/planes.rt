@@ -1,10 +1,8 @@
 //! Where a router stands in its topology, the sub-domains and BitStringLengths of its tables, and the sets of BFR-ids in them.
-ghost use Rattle.std.specs.Prelude.{◌≡◌, ◌<◌, ◌≤◌, IfSome, length};
-ghost use Rattle.wire_base.specs.declared.limits.TheConstants.{MOST_NODES};
 
 use crate::systems::Names;
 use std::alloc::Global;
-use wire_base::{Bsl, Kind, M, OwnSub, RouterConf, SystemId, TableRow, View, ViewNode, kind_of};
+use wire_base::{Bsl, Kind, M, OwnSub, RouterConf, TableRow, View, ViewNode, kind_of};
 
 /// A router in its topology: its configuration, its topology, the index of its own node there, and the names of systems.
 #[derive(Clone, Copy)]
@@ -26,19 +24,6 @@ pub(crate) struct Plane {
 /// Returns an index of an interface as routers have it; a router has at most 64.
 pub(crate) fn link_at(place: usize) -> u16 {
     u16::try_from(place).unwrap_or(u16::MAX)
-}
-
-/// Returns the index of a system's node.
-pub(crate) fn node_of(nodes: &[ViewNode], system: SystemId) -> Option<u16>
-    requires { length nodes.now ≤ MOST_NODES }
-    ensures { IfSome result (λ place. place < length nodes.now) }
-{
-    for place in 0..nodes.len() {
-        if nodes[place].system == system {
-            return Some(place as u16);
-        }
-    }
-    None
 }
 
 /// Returns the sub-domains of a router with their lengths: those of its label ranges, or of the configured table.

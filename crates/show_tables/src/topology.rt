@@ -2,8 +2,8 @@
 ghost use Rattle.std.specs.Prelude.{◌<◌, length};
 
 use crate::cells::{Cell, Column, Row, Table};
-use crate::planes::node_of;
 use crate::systems::Names;
+use bier_forward::own_place;
 use path_tree::{distances_from, distances_to, tight_steps};
 use router_core::Router;
 use std::alloc::Global;
@@ -46,7 +46,7 @@ pub fn topology_table(alloc: Global, router: &Router, names: Names<'_>) -> M<Tab
     heading.push_str(names.of(alloc, conf.system)?.as_str())?;
     let mut table = Table::new(alloc, heading, &COLUMNS);
     let view = router.current_view()?;
-    if let Some(own) = node_of(view.as_slice(), conf.system) {
+    if let Some(own) = own_place(view.as_slice(), conf.system) {
         push_nodes(alloc, &mut table, &view, names, own)?;
     }
     Ok(table)

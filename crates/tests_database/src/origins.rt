@@ -2,7 +2,7 @@ ghost use Rattle.std.specs.Prelude.{◌≡◌, length, IfOk};
 ghost use Rattle.wire_base.specs.model.Configuration.{IsSound};
 ghost use Rattle.examples_model.specs.Domains.{pair_a};
 
-use crate::routers::{end, router};
+use examples_model::{end_of_a, router_a};
 use lsp_origin::{originate, purge};
 use std::alloc::Global;
 use wire_base::{Entry, LspId, M, RouterConf, Rows, SystemId};
@@ -28,7 +28,7 @@ fn issues_its_first_pdu(rt: HostRuntime) {
 fn pair_a(alloc: Global) -> M<RouterConf>
     ensures { IfOk result (λ r. r ≡ pair_a) }
 {
-    router(alloc, Rows::from_slice(alloc, &[end(2)])?)
+    router_a(alloc, Rows::from_slice(alloc, &[end_of_a(2)])?)
 }
 
 fn first_pdu(alloc: Global) -> M<Told> {

@@ -1,16 +1,15 @@
-ghost use Rattle.std.specs.Prelude.{◌≡◌, [], true, false, filter, IfOk, length};
+ghost use Rattle.std.specs.Prelude.{◌≡◌, [], true, false, filter, length};
 ghost use Rattle.wire_base.specs.model.Configuration.{IsSound};
 ghost use Rattle.wire_base.specs.declared.addresses.SystemId.{SystemId};
-ghost use Rattle.examples_model.specs.Domains.{ring_a};
 ghost use Rattle.view_graph.specs.Keep.{IsUnchanged, is_first_of, is_named};
 
-use crate::routers::{end, router};
+use examples_model::ring_router_a;
 use lsp_store::Store;
 use std::alloc::Global;
 use view_graph::{ViewKeep, supports, view};
 use wire_base::{
-    Bsl, Entry, LspId, M, Memory, Octets, RouterConf, Rows, SystemId, Triple, View, ViewEdge,
-    ViewNode, ViewSub,
+    Bsl, Entry, LspId, M, Memory, Octets, RouterConf, SystemId, Triple, View, ViewEdge, ViewNode,
+    ViewSub,
 };
 
 const UP: [bool; 2] = [true, true];
@@ -173,7 +172,7 @@ fn a_kept_view_is_renewed(rt: HostRuntime) {
 
 /// Returns the first row of the ring for which A's topology differs.
 fn wrong_ring(alloc: Global) -> M<Option<usize>> {
-    let conf = ring_a(alloc)?;
+    let conf = ring_router_a(alloc)?;
     wrong_ring_of(alloc, &conf)
 }
 
@@ -228,7 +227,7 @@ fn ring_told(conf: &RouterConf, seen: &View, [a, b, c, d]: [&[ViewEdge]; 4]) -> 
 
 /// Returns the first row of what B alone advertises for which A's topology differs.
 fn wrong_alone(alloc: Global) -> M<Option<usize>> {
-    let conf = ring_a(alloc)?;
+    let conf = ring_router_a(alloc)?;
     wrong_alone_of(alloc, &conf)
 }
 
@@ -276,7 +275,7 @@ fn alone_told(seen: &View, wanted: &[ViewEdge]) -> Alone {
 
 /// Returns the first renewal with another result.
 fn wrong_renewal(alloc: Global) -> M<Option<usize>> {
-    let conf = ring_a(alloc)?;
+    let conf = ring_router_a(alloc)?;
     wrong_renewal_of(alloc, &conf)
 }
 
@@ -456,21 +455,6 @@ fn put_ring(store: &mut Store, seq: u32, b_says: Option<&[u8]>) -> M<()> {
     }
     put(store, 3, 1, C_SAYS)?;
     put(store, 4, 1, D_SAYS)
-}
-
-/// Router A of the ring.
-#[tactic(auto, using(view_graph::proofs::ExampleLaws::ring_a_sound))]
-fn ring_a(alloc: Global) -> M<RouterConf>
-    ensures sound { IfOk result (λ c. IsSound c) }
-    ensures ends { IfOk result (λ c. length c.ends ≡ 2) }
-{
-    built_ring_a(alloc)
-}
-
-fn built_ring_a(alloc: Global) -> M<RouterConf>
-    ensures { IfOk result (λ c. c ≡ ring_a) }
-{
-    router(alloc, Rows::from_slice(alloc, &[end(2), end(4)])?)
 }
 
 fn are_same_views(a: &View, b: &View) -> bool {

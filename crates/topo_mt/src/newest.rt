@@ -1,50 +1,17 @@
 //! The newest LSPs of a capture.
-ghost use Rattle.std.specs.Prelude.{◌≡◌, false, OnOk, OnErr, IfOk, IfErr};
+ghost use Rattle.std.specs.Prelude.{◌≡◌, false, OnOk, OnErr, IfErr};
 ghost use Rattle.wire_base.specs.declared.faults.PutFault.TheVariants as puts;
 ghost use Rattle.wire_base.specs.model.Control.{put_entry};
 ghost use Rattle.wire_base.specs.model.Flooding.{kept};
-ghost use Rattle.wire_base.specs.model.Pdu.{head_summary};
 ghost use Rattle.isis_pdu.specs.Views.{head_of};
 ghost use Rattle.lsp_store.specs.Places.{is_refused};
 ghost use Rattle.topo_mt.specs.Gather.{GatherAnswers, gathered, is_taken, is_wanted};
 
 use crate::observer::OBSERVER;
 use isis_pdu::LspHead;
-use lsp_store::{Store, purge};
-use std::alloc::Global;
+use lsp_store::{Store, received};
 use wire_base::limits::MOST_ENTRIES;
-use wire_base::{Age, Entry, LspId, M, Octets, PutFault, Summary};
-
-/// Returns the summary of an LSP, as a CSNP or PSNP lists it.
-fn summary_of(head: &LspHead) -> Summary
-    ensures { result ≡ head_summary (head_of head.now) }
-{
-    Summary {
-        life: head.life,
-        id: head.id,
-        seq: head.seq,
-        sum: head.sum,
-    }
-}
-
-/// Returns the LSDB entry of an LSP: a purge for an expired one.
-fn kept(alloc: Global, head: &LspHead, tlvs: &[u8]) -> M<Entry>
-    ensures entry { IfOk result (λ e. e ≡ kept (head_of head.now) tlvs.now) }
-    ensures id { IfOk result (λ e. e.id ≡ head.now.id) }
-{
-    if head.life == 0 {
-        return Ok(purge(alloc, head.id, head.seq));
-    }
-    Ok(Entry {
-        id: head.id,
-        seq: head.seq,
-        life: head.life,
-        hold: 0,
-        sum: head.sum,
-        flags: head.flags,
-        content: Octets::from_slice(alloc, tlvs)?,
-    })
-}
+use wire_base::{Age, LspId, PutFault};
 
 /// Returns whether an LSP with that result of the comparison is put.
 fn is_wanted(age: Age) -> bool
@@ -61,7 +28,7 @@ fn is_wanted(age: Age) -> bool
 fn is_taken(store: &Store, head: &LspHead) -> bool
     ensures { result ≡ is_taken store.now.entries (head_of head.now) }
 {
-    head.seq != 0 && head.id.system != OBSERVER && is_wanted(store.compare(&summary_of(head)))
+    head.seq != 0 && head.id.system != OBSERVER && is_wanted(store.compare(&head.summary()))
 }
 
 /// Returns whether the LSDB has no room for an LSP ID.
@@ -78,7 +45,7 @@ fn put_kept(store: &mut Store, head: &LspHead, tlvs: &[u8]) -> Result<(), PutFau
     ensures err { OnErr result (store.new.entries ≡ store.old.entries) }
     ensures fault { IfErr result (λ fault. fault ≡ puts.Memory) }
 {
-    let entry = kept(store.allocator(), head, tlvs)?;
+    let entry = received(store.allocator(), &head.summary(), head.flags, tlvs)?;
     store.put(entry)
 }
 

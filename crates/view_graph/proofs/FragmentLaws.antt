@@ -20,7 +20,8 @@ use Rattle.view_graph.specs.Edges.{is_before}
 use Rattle.view_graph.specs.Keep.{is_first_of}
 use Rattle.view_graph.specs.Places.{Begins, is_live_part}
 use Rattle.view_graph.proofs.SystemLaws.{tie_is_same, before_trans, before_differs, same_turned}
-use Rattle.view_graph.proofs.GraphLaws.{all_weaker, and_both}
+use Rattle.laws_format.proofs.InfoLaws.{all_weaker}
+use Rattle.view_graph.proofs.GraphLaws.{and_both}
 
 pub same_is : (a b : SystemId) → same_system a b ≡ true → a ≡ b
 same_is a b h = rw ((bytes_eq-Decides a.0 b.0).0 h) refl

@@ -29,16 +29,13 @@ use Rattle.wire_base.specs.model.Graph.{octets_before, IsBefore, IsEdge, IsNode,
 use Rattle.wire_base.specs.model.View.{Claim, Link, metric_to, lists, edges_from, first_each, all_ranges, unless_overlap, with_known, put_claim, claim_of, is_other, own_claim, claims_of, is_shared, has_prefix, node_of}
 use Rattle.view_graph.specs.Edges.{is_before, AreInOrder}
 use Rattle.view_graph.proofs.SystemLaws.{tie_is_same, before_from_above, before_trans, before_differs, same_turned}
+use Rattle.laws_format.proofs.InfoLaws.{all_weaker}
 
 -- ---- words on lists
 
 pub all_from : {X : Type 0} (P : X → Type 0) (xs : List X) → AllByRecursion P xs → All P xs
 all_from P [] all = λ i d lt. absurd (omega (arith, lt))
 all_from P (x ∷ xs) all = All-cons P x xs all.0 (all_from P xs all.1)
-
-pub all_weaker : {X : Type 0} (P Q : X → Type 0) → ((x : X) → P x → Q x) → (xs : List X) → AllByRecursion P xs → AllByRecursion Q xs
-all_weaker P Q h [] all = tt
-all_weaker P Q h (x ∷ xs) all = (h x all.0, all_weaker P Q h xs all.1)
 
 pub and_both : (a b : Bool) → (a && b) ≡ true → (a ≡ true) × (b ≡ true)
 and_both true b h = (refl, h)

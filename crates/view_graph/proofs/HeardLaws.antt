@@ -20,7 +20,7 @@ use Rattle.lsp_store.specs.Places.{place_in as id_place}
 use Rattle.lsp_store.proofs.OrderLaws.{id_total, below_trans, below_differs, above_differs as above_differs_id, same_turned as same_turned_id}
 use Rattle.view_graph.specs.Keep.{Keep, IsUnchanged, heard, said_by, said_in, is_first_of, is_named}
 use Rattle.view_graph.proofs.FragmentLaws.{same_is, claim_at}
-use Rattle.view_graph.proofs.GraphLaws.{all_weaker}
+use Rattle.laws_format.proofs.InfoLaws.{all_weaker}
 
 -- ---- the first entry that passes
 

@@ -20,7 +20,8 @@ use Rattle.laws_format.proofs.TlvLaws.{some_is}
 use Rattle.view_graph.proofs.FragmentLaws.{same_is}
 use Rattle.view_graph.proofs.HeardLaws.{said_heard}
 use Rattle.view_graph.proofs.SystemLaws.{tie_is_same, before_trans, before_differs, before_from_above, same_turned}
-use Rattle.view_graph.proofs.GraphLaws.{others, others_apart, all_weaker}
+use Rattle.laws_format.proofs.InfoLaws.{all_weaker}
+use Rattle.view_graph.proofs.GraphLaws.{others, others_apart}
 
 kept : (s : SystemId) (kinds : List SubKind) (cs : List Claim) → AllByRecursion (λ d. same_system d.system s ≡ false) cs → without_system s (map (with_known kinds) cs) ≡ map (with_known kinds) cs
 kept s kinds [] apart = refl

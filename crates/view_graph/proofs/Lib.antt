@@ -4,7 +4,6 @@ pub mod AscentLaws
 pub mod ChangeLaws
 pub mod ClaimLaws
 pub mod EdgeLaws
-pub mod ExampleLaws
 pub mod FragmentLaws
 pub mod GraphLaws
 pub mod ListLaws

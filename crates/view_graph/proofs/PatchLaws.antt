@@ -3,7 +3,7 @@ use Rattle.std.proofs.Common.{◌≡◌, ℕ, zero, suc, ◌+◌, ◌<◌, ◌==
 use Rattle.std.specs.Prelude.{option_to_list}
 use Rattle.std.specs.Ordering.{match_ordering}
 use Rattle.std.specs.List.{AllByRecursion}
-use Rattle.std.proofs.lemmas.Bool.{eqb-true, eq-eqb}
+use Rattle.std.proofs.lemmas.Bool.{eq-eqb}
 use Rattle.std.proofs.lemmas.List.{length-map}
 use Rattle.std.proofs.lemmas.Option.{get_or_from_slice_get, slice_get-map, slice_get_within}
 use Rattle.laws_format.proofs.TlvLaws.{some_is}
@@ -18,9 +18,9 @@ use Rattle.view_graph.specs.declared.patch.NewNode.{NewNode}
 use Rattle.view_graph.specs.Edges.{is_before, AreInOrder, place_in, metrics_to, half_edges, leads_to}
 use Rattle.view_graph.specs.Keep.{is_named, said_by}
 use Rattle.view_graph.specs.Renewal.{node_claims, has, AreNoted, is_listed_by, said_of, lists_at, edges_now, halves_now, IsMade, IsPatch, is_made, IsAt, AreTurning}
-use Rattle.view_graph.proofs.EdgeLaws.{all_read, edges_whole, from_start, get_map}
+use Rattle.view_graph.proofs.EdgeLaws.{all_read, edges_whole, from_start, get_map, apart}
 use Rattle.view_graph.proofs.FragmentLaws.{same_is}
-use Rattle.view_graph.proofs.GraphLaws.{all_weaker}
+use Rattle.laws_format.proofs.InfoLaws.{all_weaker}
 use Rattle.view_graph.proofs.KeepLaws.{same_claims, said_head}
 use Rattle.view_graph.proofs.AnewLaws.{place_self, put_turns}
 use Rattle.view_graph.proofs.SystemLaws.{before_differs}
@@ -177,13 +177,6 @@ edges_like x p [] (d ∷ ds) long same = absurd (omega (arith, long))
 edges_like x p (c ∷ cs) [] long same = absurd (omega (arith, long))
 edges_like x p (c ∷ cs) (d ∷ ds) long same =
     ap (λ (o : Option ViewEdge). option_to_list o ++ edges_from x (p + 1) cs) (same 0 c d refl refl p) ∙ ap (λ (es : List ViewEdge). option_to_list (edge_to x p d) ++ es) (edges_like x (p + 1) cs ds (omega (arith, long)) (λ j. same (suc j)))
-
-apart : (a b : ℕ) → (a ≡ b → ⊥) → (a == b) ≡ false
-apart a b h = by (a == b) refl
-  where
-    by : (t : Bool) → (a == b) ≡ t → t ≡ false
-    by false e = refl
-    by true e = absurd (h (eqb-true a b e))
 
 lead_none : (q p : ℕ) (x : Claim) (ds : List Claim) → q < p → leads_to q (edges_from x p ds) ≡ false
 lead_none q p x [] lt = refl

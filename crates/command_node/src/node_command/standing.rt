@@ -1,6 +1,7 @@
 //! The state of a node: one router and the clock that the records of a capture set.
 ghost use Rattle.std.specs.Prelude.{◌≡◌, ◌<◌, ◌≤◌, ◌-◌, ◌^◌, length, Some, IfOk, IfSome, OnOk};
 ghost use Rattle.std.specs.Str.{bytes_eq};
+ghost use Rattle.router_core.specs.Bounds.{FitRecords};
 ghost use Rattle.command_node.specs.NodeRun as run;
 ghost use Rattle.wire_base.specs.model.Configuration.{IsSound};
 
@@ -97,6 +98,7 @@ impl Node {
     /// Adds frames to the capture, as sent at a given time.
     #[tactic(auto, unfolding(crate::specs::NodeRun::goes_out))]
     fn go_out(&mut self, sec: u32, usec: u32, sent: &SentFrames) -> M<()>
+        requires { FitRecords sent.now }
         ensures { OnOk result (self.new ≡ run.goes_out sec usec sent.now self.old) }
     {
         push_frames(&mut self.frames, sec, usec, sent)?;
@@ -193,6 +195,7 @@ impl Node {
 
     /// Reports what the router did with a frame.
     fn tell(&mut self, alloc: Global, captured: &NgRecord, effects: &Effects) -> M<()>
+        requires { FitRecords effects.now.sent }
         ensures { OnOk result (self.new ≡ run.tells captured.now effects.now self.old) }
     {
         self.tally.used = sum(self.tally.used, 1)?;

@@ -4,8 +4,8 @@ ghost use Rattle.std.specs.Fmt.{decimal};
 ghost use Rattle.bier_bits.specs.Any.{bsl_of, positions_of};
 ghost use Rattle.bier_forward.specs.Sets.{set_in, HaveLength};
 ghost use Rattle.wire_base.specs.model.BitSet.{has_member};
-ghost use Rattle.wire_base.specs.model.Capture.{written_record};
 ghost use Rattle.wire_base.specs.model.Place.{bits_of, id_at};
+ghost use Rattle.router_core.specs.Bounds.{FitRecords};
 ghost use Rattle.command_drive.specs.Answer.{behind};
 ghost use Rattle.command_drive.specs.Captured.{refused_record};
 ghost use Rattle.command_node.specs.NodeRun as run;
@@ -17,29 +17,15 @@ use pcap_frames::write_cap_record;
 use replay_text::{push_loss, push_number, push_payload};
 use router_core::{DropNote, Effects, Got, Packet, SentFrames};
 use std::alloc::Global;
-use wire_base::{M, Memory, Octets, Rows, Status, Triple};
-
-/// The greatest number of octets of a frame in a record of a capture.
-const MOST_RECORDED: usize = 65_535;
-
-/// Appends the record of a frame. A frame that does not fit a record is reported as out of memory, and a router sends
-/// none: a PDU has at most 1,500 octets, and a packet that arrived in a frame of at most 65,000 is sent with at most 38
-/// more.
-fn push_frame(out: &mut Octets, sec: u32, usec: u32, octets: &[u8]) -> M<()>
-    ensures { OnOk result (out.new ≡ out.old ++ written_record sec usec octets.now) }
-{
-    if octets.len() > MOST_RECORDED {
-        return Err(Memory);
-    }
-    write_cap_record(out, sec, usec, octets)
-}
+use wire_base::{M, Octets, Rows, Status, Triple};
 
 /// Appends a record of each frame, in order, with that time.
 pub fn push_frames(out: &mut Octets, sec: u32, usec: u32, sent: &SentFrames) -> M<()>
+    requires { FitRecords sent.now }
     ensures { OnOk result (out.new ≡ out.old ++ run.frames_text sec usec sent.now) }
 {
     'frames: for i in 0..sent.len() {
-        push_frame(out, sec, usec, sent.octets_at(i))?;
+        write_cap_record(out, sec, usec, sent.octets_at(i))?;
     }
     Ok(())
 }

@@ -1,10 +1,10 @@
 use Rattle.bier_bits.specs.Any.{positions_of, bsl_of}
-use Rattle.command_hop.specs.Ways.{routers_of}
+use Rattle.bift_table.specs.Any as tables
 use Rattle.command_hop.proofs.HopWays.{is_numbering, texts_pushed}
 use Rattle.command_hop.proofs.forward.push_outcomes.Goals as goal
 
 pub push_along-requires-clause-numbered : goal.push_along-requires-clause-numbered
-push_along-requires-clause-numbered c = is_numbering (routers_of c.args.ways.now.table) c.requires.ways.1.numbered
+push_along-requires-clause-numbered c = is_numbering (tables.positions_of c.args.ways.now.table) c.requires.ways.1.numbered
 
 pub returns : goal.returns
 returns c rows are =

@@ -8,5 +8,5 @@ use Rattle.router_core.proofs.framing.push_lsp.Goals as goal
 
 pub returns : goal.returns
 returns c = on_ok_weaker c.push.result (pushed c.args.conf.now c.args.link (lsp_of c.args.e.now) c.args.out.now c.out.inside.sent c.push.new.self _ (c.out.view_is ∙ c.in_ok-make_room.ensures)
-    (c.as_slice.ensures ∙ c.in_ok-append_lsp.ensures.ok ∙ c.in_ok-begin_on.ensures (lsp c.args.conf.now.level (record { life = c.args.e.now.life; id = c.args.e.now.id; seq = c.args.e.now.seq; sum = c.args.e.now.sum; flags = c.args.e.now.flags }) c.as_slice-tlvs.result.now) c.append_lsp.ensures.long
+    (c.as_slice.ensures ∙ c.in_ok-append_lsp.ensures.ok ∙ c.in_ok-begin_on.ensures.front (lsp c.args.conf.now.level (record { life = c.args.e.now.life; id = c.args.e.now.id; seq = c.args.e.now.seq; sum = c.args.e.now.sum; flags = c.args.e.now.flags }) c.as_slice-tlvs.result.now) c.append_lsp.ensures.long
     ∙ ap (λ (tlvs : List ℕ). octets_on (slice_get c.args.conf.now.ends c.args.link) (lsp c.args.conf.now.level (record { life = c.args.e.now.life; id = c.args.e.now.id; seq = c.args.e.now.seq; sum = c.args.e.now.sum; flags = c.args.e.now.flags }) tlvs)) c.as_slice-tlvs.ensures)) c.push.ensures.ok

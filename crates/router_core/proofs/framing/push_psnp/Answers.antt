@@ -9,4 +9,4 @@ use Rattle.router_core.proofs.framing.push_psnp.Goals as goal
 pub returns : goal.returns
 returns c = on_ok_weaker c.push.result (pushed c.args.conf.now c.args.link (psnp_of (conf_alone c.args.conf.now) c.args.rows.now) c.args.out.now c.out.inside.sent c.push.new.self _ (c.out.view_is ∙ c.in_ok-make_room.ensures)
     (c.as_slice.ensures ∙ c.in_ok-append_psnp_listing.ensures.ok
-    ∙ c.in_ok-begin_on.ensures (psnp c.args.conf.now.level c.args.conf.now.system (row_tlvs c.args.rows.now)) (omega (arith, c.in_ok-append_psnp_listing.ensures.long, c.listed_octets-size.ensures.long)))) c.push.ensures.ok
+    ∙ c.in_ok-begin_on.ensures.front (psnp c.args.conf.now.level c.args.conf.now.system (row_tlvs c.args.rows.now)) (omega (arith, c.in_ok-append_psnp_listing.ensures.long, c.listed_octets-size.ensures.long)))) c.push.ensures.ok

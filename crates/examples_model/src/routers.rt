@@ -1,7 +1,8 @@
-//! Router A of small domains, and its interfaces.
-ghost use Rattle.std.specs.Prelude.{◌≡◌, ◌<◌, IfOk};
+//! Router A of the pair and of the ring, as values.
+ghost use Rattle.std.specs.Prelude.{◌≡◌, ◌<◌, IfOk, length};
+ghost use Rattle.wire_base.specs.model.Configuration.{IsSound};
 ghost use Rattle.examples_model.specs.Domains as domains;
-ghost use Rattle.examples_model.specs.Domains.{pair_a};
+ghost use Rattle.examples_model.specs.Domains.{pair_a, ring_a};
 
 use std::alloc::Global;
 use wire_base::{
@@ -9,7 +10,8 @@ use wire_base::{
     SubKind, SystemId,
 };
 
-pub fn router(alloc: Global, ends: Rows<End>) -> M<RouterConf>
+/// Returns the configuration of router A with those links.
+pub fn router_a(alloc: Global, ends: Rows<End>) -> M<RouterConf>
     ensures { IfOk result (λ conf. conf ≡ record pair_a { ends = ends }) }
 {
     let range = LabelRange {
@@ -43,7 +45,8 @@ pub fn router(alloc: Global, ends: Rows<End>) -> M<RouterConf>
     })
 }
 
-pub fn end(peer: u8) -> End
+/// Returns router A's link to a router.
+pub fn end_of_a(peer: u8) -> End
     requires { 0 < peer }
     ensures { result ≡ domains.end 1 peer }
 {
@@ -53,4 +56,14 @@ pub fn end(peer: u8) -> End
         own_mac: Mac([2, 0, 0, 0, 0, peer - 1]),
         metric: 10,
     }
+}
+
+/// Returns the configuration of router A of the ring, with links to B and D.
+#[tactic(auto, using(crate::proofs::Validity::ring_a_sound))]
+pub fn ring_router_a(alloc: Global) -> M<RouterConf>
+    ensures is { IfOk result (λ conf. conf ≡ ring_a) }
+    ensures sound { IfOk result (λ conf. IsSound conf) }
+    ensures ends { IfOk result (λ conf. length conf.ends ≡ 2) }
+{
+    router_a(alloc, Rows::from_slice(alloc, &[end_of_a(2), end_of_a(4)])?)
 }
