@@ -16,7 +16,7 @@ from .trouble import Trouble
 import hellos as independent_hellos
 import quiet as independent_quiet
 
-MOST_EVENTS, MOST_IN_FLIGHT = 1_000_000, 500_000
+MOST_EVENTS, MOST_IN_FLIGHT = 16_000_000, 500_000
 
 
 class Item:

@@ -43,7 +43,7 @@ EXPECTED = {
 }
 OPTIONAL = ("router.overload", "link.mac_a", "link.mac_b")
 ARRAYS = sorted({key.split(".")[0] for key in EXPECTED if "." in key})
-LIMITS = {"subdomain": 8, "row": 2048, "router": 250, "bier": 2000, "labels": 14000, "link": 8000}
+LIMITS = {"subdomain": 8, "row": 2048, "router": 1000, "bier": 4000, "labels": 16000, "link": 8000}
 # The keys that must not be the same in two entries, by the key that is named.
 TOGETHER = {
     "row.si": ("sd", "bsl", "si"),

@@ -11,7 +11,7 @@ from .trouble import Trouble
 NAME = re.compile(r"[A-Za-z][A-Za-z0-9_-]{0,31}\Z")
 SYSTEM = re.compile(r"[0-9a-fA-F]{4}(\.[0-9a-fA-F]{4}){2}\Z")
 MAC = re.compile(r"[0-9a-fA-F]{2}(:[0-9a-fA-F]{2}){5}\Z")
-MOST_ROUTERS, MOST_LINKS_OF_A_ROUTER, MOST_SUBDOMAINS, MOST_OCTETS, MOST_ROWS = 250, 64, 8, 245, 2048
+MOST_ROUTERS, MOST_LINKS_OF_A_ROUTER, MOST_SUBDOMAINS, MOST_OCTETS, MOST_ROWS = 1000, 64, 8, 245, 2048
 MOST_METRIC = 16777214
 MOST_LABEL = 1048575
 MARK = "  # assigned"

@@ -43,7 +43,7 @@ def joined_tables(text):
     return "".join(out)
 
 def read_domain(data):
-    if len(data) > 4194304: fault(7, "Limit", "-")
+    if len(data) > 8388608: fault(7, "Limit", "-")
     doc = read_toml(data)
     tops = ["level", "area", "subdomain", "row", "router", "bier", "labels", "link"]
     for k in sorted(doc, key=lambda s: s.encode()):
@@ -55,7 +55,7 @@ def read_domain(data):
     area = doc.get("area", "490001")
     if not isinstance(area, str): fault(2, "Field", "area")
     if not re.fullmatch(r"([0-9a-fA-F]{2}){1,13}", area, re.A): fault(4, "Range", "area")
-    limits = [("subdomain", 8), ("row", 2048), ("router", 250), ("bier", 2000), ("labels", 14000), ("link", 8000)]
+    limits = [("subdomain", 8), ("row", 2048), ("router", 1000), ("bier", 4000), ("labels", 16000), ("link", 8000)]
     arr = {}
     for name, lim in limits:
         v = doc.get(name, [])
@@ -429,11 +429,11 @@ class Router:
         e = self.entries.get(i); a = age(e, h)
         if i == self.own_id() and not self.spent and a in ("Newer", "Confused"): self.reissue(h["seq"]); return
         if i[:6] == self.conf["system"] and h["life"] > 0 and a in ("Unknown", "Newer", "Confused"):
-            if a == "Unknown" and len(self.entries) >= 4096: out["drops"].append(("full", None)); return
+            if a == "Unknown" and len(self.entries) >= 16384: out["drops"].append(("full", None)); return
             self.entries[i] = purge(i, h["seq"]); self.mark(i); return
         if a == "Unknown" and h["life"] == 0:
             out["sent"].append((c, self.isis(c, write_psnp(self.conf["level"], self.conf["system"], [struct.pack(">H", h["life"]) + i + struct.pack(">IH", h["seq"], h["sum"])])))); return
-        if a == "Unknown" and len(self.entries) >= 4096: out["drops"].append(("full", None)); return
+        if a == "Unknown" and len(self.entries) >= 16384: out["drops"].append(("full", None)); return
         if a in ("Unknown", "Newer"):
             self.entries[i] = purge(i, h["seq"]) if h["life"] == 0 else dict(id=i, seq=h["seq"], life=h["life"], hold=0, sum=h["sum"], flags=h["flags"], content=h["content"])
             self.forget(i)
@@ -462,7 +462,7 @@ class Router:
                 if i == self.own_id() and not self.spent: re_ = s["seq"]
                 else: self.entries[i] = purge(i, s["seq"]); self.mark(i)
             elif s["life"] and s["seq"] and s["sum"]:
-                if len(self.entries) >= 4096: out["drops"].append(("full", None)); continue
+                if len(self.entries) >= 16384: out["drops"].append(("full", None)); continue
                 self.entries[i] = dict(id=i, seq=0, life=0, hold=60, sum=0, flags=0, content=b"")
                 self.ssn[c].add(i); self.srm[c].discard(i)
         return re_
@@ -822,7 +822,7 @@ class Replay:
 
     def step(self, ev, line):
         k = ev[0]
-        if self.events >= 1000000: raise Refused("1 Events")
+        if self.events >= 16000000: raise Refused("1 Events")
         if k in ("take", "lose", "again", "down", "up", "send"):
             a, b = ev[1], ev[2]; l = self.end(a, b)
             if l is None: raise Refused("2 NoLink")

@@ -3,7 +3,7 @@ import heapq, re
 from captures import Broken, records_of
 from model import age, nodes_of, read_pdu, walk_tlvs
 
-MOST_ENTRIES = 4096
+MOST_ENTRIES = 16384
 
 def part_of(tlv, code):
     """The topology and the entries of a TLV 222 or 235; None for any other."""

@@ -5,7 +5,7 @@ import unittest
 from support import places
 
 # Every thirteenth number, and the last one: twenty.
-NUMBERS = [*range(3, 250, 13), 250]
+NUMBERS = [*range(3, 250, 13), 250, 256, 257, 300]
 
 
 @unittest.skipUnless(places.built_program(), "the program isn't built (rt ci builds it)")

@@ -228,10 +228,10 @@ class Import(unittest.TestCase):
         it, _, notes = self.imported(write("star.csv", star))
         self.assertEqual(len(list(it.links())), 64)
         self.assertEqual(sum("hub has 64 links already, not imported" in note for note in notes), 6)
-        chain = "a,b\n" + "".join(f"r{at},r{at + 1}\n" for at in range(259))
+        chain = "a,b\n" + "".join(f"r{at},r{at + 1}\n" for at in range(1009))
         it, _, notes = self.imported(write("chain.csv", chain))
-        self.assertEqual((len(it.routers), len(list(it.links()))), (250, 249))
-        self.assertEqual(sum("at most 250 routers, not imported" in note for note in notes), 10)
+        self.assertEqual((len(it.routers), len(list(it.links()))), (1000, 999))
+        self.assertEqual(sum("at most 1000 routers, not imported" in note for note in notes), 10)
         self.assertEqual(sum("one of the two routers isn't imported" in note for note in notes), 10)
 
     def test_label_ranges(self):

@@ -8,8 +8,8 @@ use bier_tunnel::Fib;
 /// The maximum number of triples whose rows are cached.
 pub const MOST_ROWS: usize = 4;
 
-/// The maximum number of cached tables: for one triple at most those of all classes.
-pub const MOST_TABLES: usize = 16;
+/// The maximum number of cached tables.
+pub const MOST_TABLES: usize = 4;
 
 /// What a router caches for its present topology: the rows of the last few triples; their tables, each for all classes that select
 /// the same routers, the newest first; and the routes of tunnels. All are built on first use, and all belong to one topology:

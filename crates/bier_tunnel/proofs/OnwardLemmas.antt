@@ -16,7 +16,7 @@ use Rattle.wire_base.specs.model.Choice.{end_toward, is_system}
 use Rattle.wire_base.specs.model.Graph.{IsGraph, edges_of}
 use Rattle.wire_base.specs.model.HopCount.{follow, tunnel_links}
 use Rattle.wire_base.specs.model.Item.{ip_frame}
-use Rattle.wire_base.specs.model.OnFrame.{dropped, forwarded, link_to, next_link, node_with, or_no_route, sent_on}
+use Rattle.wire_base.specs.model.OnFrame.{dropped, forwarded, link_to, next_link, node_with, or_no_route, outer_ttl, sent_on}
 use Rattle.wire_base.specs.model.Tight.{IsTight, next_step}
 use Rattle.wire_base.specs.model.Tunnel.{TunnelPacket, tunnel_on}
 use Rattle.wire_base.specs.model.Walk.{dist}
@@ -124,7 +124,7 @@ module _ (g : List ViewNode) (good : IsGraph g) (u : ℕ) (node : u < length g) 
   result-over r x (Some link) q = leads-over r x link (sym q)
 
   -- few nodes have few links between them
-  pub result-lasts : (r : RouterConf) (x : ℕ) (o : Option ℕ) → length g ≤ 250 → o ≡ next_link r g u x → IfSome o (λ link. Lasts g u x)
+  pub result-lasts : (r : RouterConf) (x : ℕ) (o : Option ℕ) → length g ≤ outer_ttl + 1 → o ≡ next_link r g u x → IfSome o (λ link. Lasts g u x)
   result-lasts r x None few q = tt
   result-lasts r x (Some link) few q = let over = leads-over r x link (sym q) in record { links = over.left + 1; are = over.here; few = omega (arith, few, over.few) }
 

@@ -7,7 +7,7 @@ use Rattle.wire_base.specs.declared.view.ViewNode.{ViewNode}
 use Rattle.wire_base.specs.model.Graph.{edges_of}
 use Rattle.wire_base.specs.model.HopCount.{tunnel_links}
 use Rattle.wire_base.specs.model.Item.{ip_frame}
-use Rattle.wire_base.specs.model.OnFrame.{Effects, dropped, link_to, nothing, or_no_route, sent_on}
+use Rattle.wire_base.specs.model.OnFrame.{Effects, dropped, link_to, nothing, or_no_route, outer_ttl, sent_on}
 use Rattle.wire_base.specs.model.Tight.{IsTight}
 use Rattle.wire_base.specs.model.Tunnel.{tunnel_on}
 use Rattle.wire_base.specs.model.Walk.{dist}
@@ -40,11 +40,11 @@ pub record LeadsOver (r : RouterConf) (g : List ViewNode) (u x link : ℕ) : Typ
   pub there : tunnel_links g x next ≡ Some left
   pub few : left + 1 < length g
 
--- A tunnel from u to x has fewer links than an outer TTL of 255 covers: at most 249 where there are at most 250 routers.
+-- a tunnel from u to x has no more links than its outer TTL covers
 pub record Lasts (g : List ViewNode) (u x : ℕ) : Type 0 where
   pub links : ℕ
   pub are : tunnel_links g x u ≡ Some links
-  pub few : links ≤ 249
+  pub few : links ≤ outer_ttl
 
 -- what is forwarded over a link
 abbrev pub GoesOver : (ℕ → Type 0) → Next → Type 0

@@ -1,11 +1,10 @@
 //! The routes of the tunnels of a router.
-ghost use Rattle.std.specs.Prelude.{◌≡◌, ◌≤◌, ◌<◌, ◌↔◌, ℕ, List, None, false, IfOk, IfSome, length, option_and_then, option_map};
+ghost use Rattle.std.specs.Prelude.{◌≡◌, ◌+◌, ◌≤◌, ◌<◌, ◌↔◌, ℕ, List, None, false, IfOk, IfSome, length, option_and_then, option_map};
 ghost use Rattle.std.specs.Str.{bytes_eq};
 ghost use Rattle.wire_base.specs.declared.conf.RouterConf.{RouterConf};
-ghost use Rattle.wire_base.specs.declared.limits.TheConstants.{MOST_ROUTERS};
 ghost use Rattle.wire_base.specs.declared.view.ViewNode.{ViewNode};
 ghost use Rattle.wire_base.specs.model.Control.{Control};
-ghost use Rattle.wire_base.specs.model.OnFrame.{in_transit, next_link, node_place, node_with, prefix_of};
+ghost use Rattle.wire_base.specs.model.OnFrame.{in_transit, next_link, node_place, node_with, outer_ttl, prefix_of};
 ghost use Rattle.wire_base.specs.model.Tunnel.{TunnelPacket};
 ghost use Rattle.wire_base.specs.model.View.{control_view};
 ghost use Rattle.bier_tunnel.specs.declared.next.Next.TheVariants.{Leave, Outer, Route};
@@ -60,7 +59,7 @@ impl Fib {
             → result ≡ next_link r g u (node_place g target) }
         ensures onward { (r : RouterConf) (g : List ViewNode) (u : ℕ) → AreWays r g u self.now
             → IfSome result (LeadsOver r g u (node_place g target)) }
-        ensures lasts { (r : RouterConf) (g : List ViewNode) (u : ℕ) → AreWays r g u self.now → length g ≤ MOST_ROUTERS
+        ensures lasts { (r : RouterConf) (g : List ViewNode) (u : ℕ) → AreWays r g u self.now → length g ≤ outer_ttl + 1
             → IfSome result (λ link. Lasts g u (node_place g target)) }
         ensures within { (r : RouterConf) (g : List ViewNode) (u : ℕ) → AreWays r g u self.now
             → IfSome result (λ link. link < length r.ends) }

@@ -156,7 +156,7 @@ module _ (n : ℕ) (d : DomainConf) (some : 0 < length d.routers) where
 
 pub routers_count : (n : ℕ) → length (grown_domain n).routers ≡ n
 unfolding grown_domain grown_routers
-routers_count n = length-map-range_with_len (router (grown_links n)) 0 n
+routers_count n = length-map-range_with_len (router (grown_links n) n) 0 n
 
 pub start_count : (n : ℕ) (s : ReplayState) → s ≡ first_state Discarded (grown_domain n) → length s.world.domain.routers ≡ n
 unfolding first_world

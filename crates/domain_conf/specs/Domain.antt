@@ -89,7 +89,7 @@ document_of bytes = if utf8_valid_len bytes == length bytes then parse_document 
 abbrev pub document_read : List ℕ → Result Members ConfFault
 document_read bytes = or_fault fault.Toml (document_of bytes)
 
--- What a file of at most 4 MiB describes, or the first rule that it breaks. The rules of the document come first, then
+-- What a file of at most 8 MiB describes, or the first rule that it breaks. The rules of the document come first, then
 -- those of the top keys, then those of each array as a whole, then entry by entry, and last those of whole routers.
 unfoldable pub domain_of : List ℕ → Result DomainConf ConfFault
 domain_of bytes =

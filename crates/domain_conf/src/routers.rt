@@ -31,7 +31,7 @@ pub struct RouterEntry {
     pub overload: bool,
 }
 
-/// Routers in the order of the file, at most 250, with an index of their names, and their system IDs and prefixes, so
+/// Routers in the order of the file, at most `MOST_ROUTERS`, with an index of their names, and their system IDs and prefixes, so
 /// that a look-up does not scan the routers.
 #[derive(Drop)]
 pub struct Routers {

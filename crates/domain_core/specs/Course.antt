@@ -2,6 +2,7 @@
 -- Each copy for a BFR-id stays on a shortest path to the id's owner, and none is dropped (RFC 8279, 6.5 and 6.9).
 use Rattle.std.specs.Prelude.{◌≡◌, ℕ, ◌≤◌, ◌%◌, false, List, [], slice_get, Some}
 use Rattle.wire_base.specs.model.Control.{Control}
+use Rattle.wire_base.specs.model.HopCount.{CoversPath}
 use Rattle.wire_base.specs.model.Item.{DataItem}
 use Rattle.wire_base.specs.model.OnFrame.{choice_of}
 use Rattle.wire_base.specs.model.View.{control_view}
@@ -9,7 +10,7 @@ use Rattle.replay_text.specs.declared.event.Event.{Event}
 use Rattle.domain_model.specs.Moves.{packet_of, item_copied}
 use Rattle.domain_model.specs.World.{WorldState}
 use Rattle.laws_ledger.specs.Ledger.{Injection, entered, triple_for, drops_of}
-use Rattle.laws_course.specs.Course.{Agreed, CoversPath, IsReachable, KeptFor, loses_copy, own_node}
+use Rattle.laws_course.specs.Course.{Agreed, IsReachable, KeptFor, loses_copy, own_node}
 use Rattle.domain_model.specs.declared.step_out.StepOut.{StepOut}
 
 -- The event is the injection n, at the router c, where k is reachable over a path that the TTL covers.

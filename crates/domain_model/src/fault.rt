@@ -6,7 +6,7 @@ use wire_base::{EdgeFault, Memory};
 /// is reported.
 #[derive(Clone, Copy, Debug, PartialEq, Eq)]
 pub enum EventFault {
-    /// 1,000,000 events have occurred.
+    /// `MOST_EVENTS` events have occurred.
     Events,
     /// No link joins the two routers.
     NoLink,

@@ -34,7 +34,7 @@ pub use frames::{
 pub use ingresses::{one_packet_for_each_set, packets_enter, why_nothing_enters};
 pub use own_lsps::{pair_first_csnp, pair_first_lsp, pair_first_lsp_content, plain_router_lsp};
 pub use packets::{
-    a_capture_of_one_frame, a_packet_behind_a_label, a_ttl_of_2_covers_two_hops, an_empty_tlv_fits,
+    a_bit_has_two_hops, a_capture_of_one_frame, a_packet_behind_a_label, an_empty_tlv_fits,
     octets_of_positions, places_of_bfr_ids,
 };
 pub use routers::{end_of_a, ring_router_a, router_a};

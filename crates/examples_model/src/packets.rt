@@ -6,7 +6,7 @@ ghost use Rattle.wire_base.specs.model.BierHeader.{coded_header_at};
 ghost use Rattle.wire_base.specs.model.BitSet.{set_of, octets_of};
 ghost use Rattle.wire_base.specs.model.Capture.{capture_at};
 ghost use Rattle.wire_base.specs.model.Ethernet.{MplsPacket, frame_at};
-ghost use Rattle.wire_base.specs.model.HopCount.{CoversPath};
+ghost use Rattle.wire_base.specs.model.HopCount.{hops};
 ghost use Rattle.wire_base.specs.model.Labels.{stack_at};
 ghost use Rattle.wire_base.specs.model.Place.{place, position_in};
 ghost use Rattle.wire_base.specs.model.Tlv.{TlvFits};
@@ -50,9 +50,9 @@ pub fn a_capture_of_one_frame()
     ensures no_capture { capture_at (10 ∷ 13 ∷ 13 ∷ 10 ∷ []) ≡ ([], Some Magic) }
 {}
 
-/// In the ring a bit for C passes two routers from A, so that a TTL of 2 covers its path.
-pub fn a_ttl_of_2_covers_two_hops()
-    ensures { CoversPath ring_view pair_a.kinds [] (record { sd = 0; bsl = lengths.B64; si = 0 }) 0 1 3 2 }
+/// In the ring a bit for C has two hops from A.
+pub fn a_bit_has_two_hops()
+    ensures { hops ring_view pair_a.kinds [] (record { sd = 0; bsl = lengths.B64; si = 0 }) 1 3 0 ≡ Some 2 }
 {}
 
 /// A TLV of the greatest code and of no value fits.

@@ -26,18 +26,18 @@ use Rattle.grown_domain.proofs.GrownEntries.{grown_entries_are}
 
 -- ---- one router
 
-labels_fit : (i j : ℕ) → file.is_labels_of i 0 (labels_entry j) ≡ eqb j i
-labels_fit i j = by (eqb j i)
+labels_fit : (n i j : ℕ) → file.is_labels_of i 0 (labels_entry n j) ≡ eqb j i
+labels_fit n i j = by (eqb j i)
   where
     by : (b : Bool) → (b && true) ≡ b
     by true = refl
     by false = refl
 
-subs_same : (n i : ℕ) → i < n → file.subs_of (map bier_entry (range_with_len 0 n)) (map labels_entry (range_with_len 0 n)) i ≡ own_sub i ∷ []
+subs_same : (n i : ℕ) → i < n → file.subs_of (map bier_entry (range_with_len 0 n)) (map (labels_entry n) (range_with_len 0 n)) i ≡ own_sub n i ∷ []
 unfolding file.subs_of
 subs_same n i within =
     let bier : _ = kept_one (λ (b : BierEntry). eqb b.router i) bier_entry i (λ j. refl) 0 n (omega arith) (omega (arith, within)) in
-    let labels : _ = kept_one (file.is_labels_of i 0) labels_entry i (labels_fit i) 0 n (omega arith) (omega (arith, within)) in
+    let labels : _ = kept_one (file.is_labels_of i 0) (labels_entry n) i (labels_fit n i) 0 n (omega arith) (omega (arith, within)) in
     rw (bier, labels) refl
 
 system_same : (n i : ℕ) → i < n → file.system_at (map router_entry (range_with_len 0 n)) i ≡ system i
@@ -47,15 +47,15 @@ ends_same : (n i : ℕ) (links : List Link) → AllByRecursion (IsGrownLink n) l
 ends_same n i [] all = refl
 ends_same n i (l ∷ links) all = rw (system_same n l.a all.0.a, system_same n l.b all.0.b) (ap (λ (more : List End). cons_option (end_of i l) more) (ends_same n i links all.1))
 
-conf_same : (n : ℕ) (links : List Link) (i : ℕ) → AllByRecursion (IsGrownLink n) links → i < n → file.conf_of Two area (grown_entries n links) i (router_entry i) ≡ router links i
+conf_same : (n : ℕ) (links : List Link) (i : ℕ) → AllByRecursion (IsGrownLink n) links → i < n → file.conf_of Two area (grown_entries n links) i (router_entry i) ≡ router links n i
 unfolding file.ends_of
 conf_same n links i all within = rw (subs_same n i within, ends_same n i links all) refl
 
-confs_same : (n : ℕ) (links : List Link) → AllByRecursion (IsGrownLink n) links → (a k : ℕ) → a + k ≤ n → file.confs_from Two area (grown_entries n links) a (map router_entry (range_with_len a k)) ≡ map (router links) (range_with_len a k)
+confs_same : (n : ℕ) (links : List Link) → AllByRecursion (IsGrownLink n) links → (a k : ℕ) → a + k ≤ n → file.confs_from Two area (grown_entries n links) a (map router_entry (range_with_len a k)) ≡ map (router links n) (range_with_len a k)
 confs_same n links all a zero fits = refl
 confs_same n links all a (suc k) fits =
     ap (λ (r : RouterConf). r ∷ file.confs_from Two area (grown_entries n links) (a + 1) (map router_entry (range_with_len (a + 1) k))) (conf_same n links a all (omega (arith, fits)))
-    ∙ ap (λ (rs : List RouterConf). router links a ∷ rs) (confs_same n links all (a + 1) k (omega (arith, fits)))
+    ∙ ap (λ (rs : List RouterConf). router links n a ∷ rs) (confs_same n links all (a + 1) k (omega (arith, fits)))
 
 pairs_same : (links : List Link) → map link_of (map link_entry links) ≡ map joined links
 pairs_same [] = refl
@@ -71,7 +71,7 @@ end_joins i l some = by (eqb l.a i) (eqb l.b i) refl refl some
     by false true a b some = inr (eqb-true l.b i b)
     by false false a b some = absurd (false≢true some)
 
-router_small : (n i : ℕ) → file.is_too_large (router (grown_links n) i) ≡ false
+router_small : (n i : ℕ) → file.is_too_large (router (grown_links n) n i) ≡ false
 unfolding sub_octets
 router_small n i =
     let few = few_ends n i (end_of i) (end_joins i) in
@@ -89,7 +89,7 @@ module _ (n : ℕ) (some : 3 ≤ n) (few : n ≤ MOST_ROUTERS) where
 
   all_small : AllByRecursion (λ c. file.is_too_large c ≡ false) confs
   unfolding grown_routers
-  all_small = subst (AllByRecursion (λ c. file.is_too_large c ≡ false)) (sym confs_are) (all_map (λ c. file.is_too_large c ≡ false) (router (grown_links n)) (range_with_len 0 n) (λ i there. router_small n i))
+  all_small = subst (AllByRecursion (λ c. file.is_too_large c ≡ false)) (sym confs_are) (all_map (λ c. file.is_too_large c ≡ false) (router (grown_links n) n) (range_with_len 0 n) (λ i there. router_small n i))
 
   same_domain : (let d : DomainConf = record { routers = confs; links = map link_of (map link_entry (grown_links n)) } in d) ≡ grown_domain n
   unfolding grown_domain

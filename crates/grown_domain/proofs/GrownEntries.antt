@@ -1,5 +1,5 @@
 -- What holds of the entries of a grown domain.
-use Rattle.std.proofs.Common.{◌≡◌, ℕ, ◌+◌, ◌/◌, ◌%◌, ◌<◌, ◌≤◌, Bool, true, false, ◌&&◌, eqb, List, [], ◌∷◌, length, map, refl, sym, subst, ◌∙◌, arith}
+use Rattle.std.proofs.Common.{◌≡◌, ℕ, ◌+◌, ◌/◌, ◌%◌, ◌<◌, ◌≤◌, nat_lt, Bool, true, false, ◌&&◌, cond, eqb, List, [], ◌∷◌, length, map, refl, sym, subst, ◌∙◌, arith}
 use mathlib.Core.Bool.{true≢false}
 use Rattle.std.proofs.lemmas.Bool.{and_from, or_from, or_left, or_right, eqb-false, ne_eqb, le-leb}
 use Rattle.std.proofs.lemmas.Fmt.{decimal_is_IsNumeral, length-decimal-le, decimal_injective}
@@ -20,7 +20,7 @@ use Rattle.domain_conf.proofs.ValidArrays.{IsRouterEntry, AreRouters, IsBierEntr
 use Rattle.domain_conf.proofs.ValidDomain.{AreEntries}
 use Rattle.grown_domain.specs.declared.links.Link.{Link}
 use Rattle.grown_domain.specs.Links.{joins_same, grown_links}
-use Rattle.grown_domain.specs.Routers.{system, prefix, kind}
+use Rattle.grown_domain.specs.Routers.{system, prefix, last_set, kind}
 use Rattle.grown_domain.specs.Entries.{router_entry, bier_entry, labels_entry, link_entry, grown_entries}
 use Rattle.grown_domain.proofs.Ranged.{in_range, range_apart, bytes_differ}
 use Rattle.grown_domain.proofs.GrownLinks.{IsGrownLink, AreGrown, joins_straight, joins_crossed, grown_links_are}
@@ -40,7 +40,7 @@ router_is i few = record {
   name = and_from _ _ (digits_name (decimal i) (decimal_is_IsNumeral i (omega (arith, few))).0.1) (le-leb (length (decimal i)) 31 (length-decimal-le 31 i (omega arith) (omega (arith, few)) (omega (arith, few))));
   system = record { long = refl; each = (omega arith, (omega arith, (omega arith, (omega arith, (omega arith, (omega arith, tt)))))) };
   prefix = record {
-    octets_are = record { long = refl; each = (omega arith, (omega arith, (omega arith, (omega (arith, few), tt)))) };
+    octets_are = record { long = refl; each = (omega arith, (omega arith, (omega (arith, few), (omega arith, tt)))) };
     first = omega arith;
     one_router = omega arith;
   };
@@ -50,10 +50,10 @@ names_differ : (i j : ℕ) → i < MOST_ROUTERS → j < MOST_ROUTERS → eqb i j
 names_differ i j p q differ = bytes_differ (decimal j) (decimal i) (λ e. eqb-false i j differ (sym (decimal_injective j i (omega (arith, q)) (omega (arith, p)) e)))
 
 systems_differ : (i j : ℕ) → i < MOST_ROUTERS → j < MOST_ROUTERS → eqb i j ≡ false → of_system (router_entry i) (router_entry j) ≡ false
-systems_differ i j p q differ = bytes_differ (system j).0 (system i).0 (λ e. let same : (j + 1) % 256 ≡ (i + 1) % 256 = cc in eqb-false i j differ (omega (arith, same, p, q)))
+systems_differ i j p q differ = bytes_differ (system j).0 (system i).0 (λ e. let low : (j + 1) % 256 ≡ (i + 1) % 256 = cc in let high : (j + 1) / 256 % 256 ≡ (i + 1) / 256 % 256 = cc in eqb-false i j differ (omega (arith, low, high, p, q)))
 
 prefixes_differ : (i j : ℕ) → i < MOST_ROUTERS → j < MOST_ROUTERS → eqb i j ≡ false → of_prefix (router_entry i) (router_entry j) ≡ false
-prefixes_differ i j p q differ = bytes_differ (prefix j).0 (prefix i).0 (λ e. let same : j + 1 ≡ i + 1 = cc in eqb-false i j differ (omega (arith, same)))
+prefixes_differ i j p q differ = bytes_differ (prefix j).0 (prefix i).0 (λ e. let low : (j + 1) % 256 ≡ (i + 1) % 256 = cc in let high : (j + 1) / 256 ≡ (i + 1) / 256 = cc in eqb-false i j differ (omega (arith, low, high)))
 
 -- what holds of any two routers that differ holds of all
 module _ {X : Type 0} (n : ℕ) (few : n ≤ MOST_ROUTERS) (same : X → X → Bool) (f : ℕ → X) (differ : (i j : ℕ) → i < MOST_ROUTERS → j < MOST_ROUTERS → eqb i j ≡ false → same (f i) (f j) ≡ false) where
@@ -83,11 +83,18 @@ biers_are n few = record {
   once = all_apart n few of_sub bier_entry (λ i j p q differ. other_router i j _ differ);
 }
 
-labels_are : (n : ℕ) → n ≤ MOST_ROUTERS → AreLabels (kind ∷ []) (map labels_entry (range_with_len 0 n))
+few_sets : (n : ℕ) → last_set n ≤ 3
+few_sets n = by (nat_lt 256 n)
+  where
+    by : (b : Bool) → cond b 3 0 ≤ 3
+    by true = omega arith
+    by false = omega arith
+
+labels_are : (n : ℕ) → n ≤ MOST_ROUTERS → AreLabels (kind ∷ []) (map (labels_entry n) (range_with_len 0 n))
 labels_are n few = record {
-  each = all_made (IsLabelsEntry (kind ∷ [])) labels_entry n few (λ i h. record { range = record { max_si = omega arith; first = omega arith; last = omega arith }; kind = refl });
-  lengths = all_apart n few same_labels labels_entry (λ i j p q differ. other_router i j _ differ);
-  free = all_apart n few takes_label labels_entry (λ i j p q differ. other_router i j _ differ);
+  each = all_made (IsLabelsEntry (kind ∷ [])) (labels_entry n) n few (λ i h. record { range = record { max_si = omega (arith, few_sets n); first = omega arith; last = omega (arith, few_sets n) }; kind = refl });
+  lengths = all_apart n few same_labels (labels_entry n) (λ i j p q differ. other_router i j _ differ);
+  free = all_apart n few takes_label (labels_entry n) (λ i j p q differ. other_router i j _ differ);
 }
 
 -- ---- links

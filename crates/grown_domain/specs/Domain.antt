@@ -9,7 +9,7 @@ use Rattle.grown_domain.specs.Routers.{router}
 
 -- n routers with those links
 unfoldable pub grown_routers : List Link → ℕ → List RouterConf
-grown_routers links n = map (router links) (range_with_len 0 n)
+grown_routers links n = map (router links n) (range_with_len 0 n)
 
 unfoldable pub grown_domain : ℕ → DomainConf
 grown_domain n = record { routers = grown_routers (grown_links n) n; links = map joined (grown_links n) }

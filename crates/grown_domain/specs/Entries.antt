@@ -16,8 +16,8 @@ router_entry i = record { name = name i; system = system i; prefix = prefix i; o
 abbrev pub bier_entry : ℕ → BierEntry
 bier_entry i = record { router = i; sd = 0; id = i + 1 }
 
-abbrev pub labels_entry : ℕ → LabelsEntry
-labels_entry i = record { router = i; sd = 0; range = range }
+abbrev pub labels_entry : (n i : ℕ) → LabelsEntry
+labels_entry n i = record { router = i; sd = 0; range = range n }
 
 abbrev pub link_entry : Link → LinkEntry
 link_entry l = record { a = l.a; b = l.b; metric_ab = l.metric; metric_ba = l.metric; mac_a = made_mac l.a l.b; mac_b = made_mac l.b l.a }
@@ -29,6 +29,6 @@ grown_entries n links =
       table = [];
       routers = map router_entry (range_with_len 0 n);
       biers = map bier_entry (range_with_len 0 n);
-      labels = map labels_entry (range_with_len 0 n);
+      labels = map (labels_entry n) (range_with_len 0 n);
       links = map link_entry links;
     }

@@ -1,5 +1,5 @@
 -- The routers of the generated domain.
-use Rattle.std.specs.Prelude.{ℕ, ◌+◌, ◌==◌, false, List, [], ◌∷◌, filter_map, Option, Some, None, if◌then◌else◌}
+use Rattle.std.specs.Prelude.{ℕ, ◌+◌, ◌/◌, ◌%◌, ◌==◌, nat_lt, false, List, [], ◌∷◌, filter_map, Option, Some, None, if◌then◌else◌}
 use Rattle.std.specs.Fmt.{decimal}
 use Rattle.byteorder.specs.Endian.{big_bytes}
 use Rattle.wire_base.specs.declared.addresses.SystemId.{SystemId}
@@ -24,21 +24,25 @@ name i = 114 ∷ decimal i
 abbrev pub system : ℕ → SystemId
 system i = system_of (big_bytes 6 (i + 1))
 
--- 10.0.0.1, 10.0.0.2, and so on
+-- 10.0.0.1, 10.0.0.2, and so on; 10.0.0.255 is followed by 10.0.1.0
 abbrev pub prefix : ℕ → Ipv4
-prefix i = prefix_of (10 ∷ 0 ∷ 0 ∷ (i + 1) ∷ [])
+prefix i = prefix_of (10 ∷ 0 ∷ ((i + 1) / 256) ∷ ((i + 1) % 256) ∷ [])
 
 -- the area of a domain file that has none, 49.0001
 abbrev pub area : List ℕ
 area = 73 ∷ 0 ∷ 1 ∷ []
 
--- labels from 16,000 on for packets of 256 bits, for the first set only
-abbrev pub range : LabelRange
-range = record { bsl = B256; max_si = 0; label = 16000 }
+-- the last set of n BFR-ids: the first one if it has them all, or else the fourth
+abbrev pub last_set : ℕ → ℕ
+last_set n = if nat_lt 256 n then 3 else 0
+
+-- of n routers: labels from 16,000 on for packets of 256 bits
+abbrev pub range : ℕ → LabelRange
+range n = record { bsl = B256; max_si = last_set n; label = 16000 }
 
 -- sub-domain 0, with the BFR-id i + 1
-abbrev pub own_sub : ℕ → OwnSub
-own_sub i = record { sd = 0; id = i + 1; ranges = range ∷ [] }
+abbrev pub own_sub : (n i : ℕ) → OwnSub
+own_sub n i = record { sd = 0; id = i + 1; ranges = range n ∷ [] }
 
 abbrev pub kind : SubKind
 kind = record { sd = 0; kind = Mpls }
@@ -54,9 +58,9 @@ end_of i l =
     if l.b == i then Some (end_toward l.b l.a l.metric) else
     None
 
--- router i of a domain with those links
-abbrev pub router : List Link → ℕ → RouterConf
-router links i =
+-- router i of a domain of n routers with those links
+abbrev pub router : List Link → (n i : ℕ) → RouterConf
+router links n i =
     record {
       level = Two;
       area = area;
@@ -64,7 +68,7 @@ router links i =
       system = system i;
       prefix = prefix i;
       overload = false;
-      subs = own_sub i ∷ [];
+      subs = own_sub n i ∷ [];
       away = [];
       past = [];
       kinds = kind ∷ [];

@@ -20,7 +20,7 @@ fn routers(alloc: Global, links: &[Link], n: u16) -> M<Rows<RouterConf>>
 {
     let mut routers = Rows::new(alloc);
     for place in 0..n {
-        routers.push(router(alloc, links, place)?)?;
+        routers.push(router(alloc, links, n, place)?)?;
     }
     Ok(routers)
 }

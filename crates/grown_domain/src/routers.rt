@@ -75,15 +75,22 @@ fn ends_of(alloc: Global, links: &[Link], place: u16) -> M<Rows<End>>
     Ok(ends)
 }
 
-/// Returns the sub-domain of all routers, with the router's own BFR-id.
-fn subs_of(alloc: Global, place: u16) -> M<Rows<OwnSub>>
+/// Returns the maximum SI of `n` BFR-ids: 0 if one set has them all, otherwise 3.
+fn last_set(n: u16) -> u8
+    ensures { result ≡ spec.last_set n }
+{
+    if n > 256 { 3 } else { 0 }
+}
+
+/// Returns the sub-domain of all `n` routers, with the router's own BFR-id.
+fn subs_of(alloc: Global, n: u16, place: u16) -> M<Rows<OwnSub>>
     requires { place < MOST_ROUTERS }
-    ensures { IfOk result (λ subs. subs ≡ spec.own_sub place ∷ []) }
+    ensures { IfOk result (λ subs. subs ≡ spec.own_sub n place ∷ []) }
 {
     let mut ranges = Rows::new(alloc);
     ranges.push(LabelRange {
         bsl: Bsl::B256,
-        max_si: 0,
+        max_si: last_set(n),
         label: 16_000,
     })?;
     let mut subs = Rows::new(alloc);
@@ -106,19 +113,20 @@ fn kinds(alloc: Global) -> M<Rows<SubKind>>
     Ok(kinds)
 }
 
-/// Returns the router at an index, of a domain with those links.
-pub fn router(alloc: Global, links: &[Link], place: u16) -> M<RouterConf>
+/// Returns the router at an index, of a domain of `n` routers with those links.
+pub fn router(alloc: Global, links: &[Link], n: u16, place: u16) -> M<RouterConf>
     requires { place < MOST_ROUTERS }
-    ensures { IfOk result (λ conf. conf ≡ spec.router links.now place) }
+    ensures { IfOk result (λ conf. conf ≡ spec.router links.now n place) }
 {
+    let number = place + 1;
     Ok(RouterConf {
         level: Level::Two,
         area: Octets::from_slice(alloc, &[0x49, 0, 1])?,
         name: name(alloc, place)?,
         system: system(place),
-        prefix: Ipv4([10, 0, 0, (place + 1) as u8]),
+        prefix: Ipv4([10, 0, (number / 256) as u8, (number % 256) as u8]),
         overload: false,
-        subs: subs_of(alloc, place)?,
+        subs: subs_of(alloc, n, place)?,
         away: Rows::new(alloc),
         past: Rows::new(alloc),
         kinds: kinds(alloc)?,

@@ -7,6 +7,7 @@ use Rattle.wire_base.specs.declared.addresses.Ipv4.{Ipv4}
 use Rattle.wire_base.specs.declared.conf.RouterConf.{RouterConf}
 use Rattle.wire_base.specs.declared.view.ViewNode.{ViewNode}
 use Rattle.wire_base.specs.model.Graph.{is_overloaded, owner}
+use Rattle.wire_base.specs.model.HopCount.{Follows, CoversPath}
 use Rattle.wire_base.specs.model.Item.{Item, ControlItem, PacketItem, DataItem, Outer, router_with, outer_target}
 use Rattle.wire_base.specs.model.Tight.{IsTight}
 use Rattle.wire_base.specs.model.Walk.{dist}
@@ -14,7 +15,7 @@ use Rattle.domain_model.specs.World.{peer_place, end_between, link_between}
 use Rattle.domain_model.proofs.EachLaws.{each_weaker}
 use Rattle.laws_members.proofs.DomainLaws.{strip, got_stripped}
 use Rattle.laws_route.specs.OnWay.{IsOnWay}
-use Rattle.laws_course.specs.Course.{next_for, Follows, CoversPath, node_by, node_at, node_of, target_at, HasLinks, IsOnCourse, IfCopyFor}
+use Rattle.laws_course.specs.Course.{next_for, node_by, node_at, node_of, target_at, HasLinks, IsOnCourse, IfCopyFor}
 
 -- ---- nodes
 

@@ -10,6 +10,7 @@ use Rattle.wire_base.specs.declared.view.ViewNode.{ViewNode}
 use Rattle.wire_base.specs.model.Control.{Control}
 use Rattle.wire_base.specs.model.Graph.{covers_at}
 use Rattle.wire_base.specs.model.Hop.{has, is_this}
+use Rattle.wire_base.specs.model.HopCount.{FitTunnels, CoversPath}
 use Rattle.wire_base.specs.model.Ingress.{IngressPacket, id_set, sets_of, packet_for, packets_for}
 use Rattle.wire_base.specs.model.Item.{Item, ControlItem, PacketItem, DataItem}
 use Rattle.wire_base.specs.model.OnFrame.{node_place}
@@ -33,7 +34,7 @@ use Rattle.laws_ledger.proofs.OutcomeLaws.{others, IsEnded, group_named}
 use Rattle.laws_ledger.proofs.MadeLaws.{picks, own, IsHopSent, IsHopDrop, IsGroupLost, hop_made_is}
 use Rattle.laws_ledger.proofs.WorldLaws.{now_at}
 use Rattle.laws_ledger.proofs.CountLaws.{injection_there}
-use Rattle.laws_course.specs.Course.{next_for, FitTunnels, CoversPath, IsOnCourse, IsReachable, IsCovered}
+use Rattle.laws_course.specs.Course.{next_for, IsOnCourse, IsReachable, IsCovered}
 use Rattle.laws_course.proofs.HopLaws.{IsThere, copy_course, hop_safe}
 use Rattle.laws_course.proofs.ChangedLaws.{Keeps}
 use Rattle.laws_course.proofs.StepLaws.{drop_named, listed_has, IsOther, drop_parts, facts, r_among, course_back}

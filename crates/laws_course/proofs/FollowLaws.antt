@@ -1,9 +1,8 @@
 -- Following a next node.
 use Rattle.std.proofs.Common.{◌≡◌, inl, inr, ℕ, zero, suc, ◌+◌, ◌≤◌, Bool, true, false, if◌then◌else◌, List, Option, Some, None, option_map, option_and_then, refl, sym, ap, subst, ◌∙◌, arith}
 use Rattle.std.proofs.lemmas.Option.{same_Some}
-use Rattle.wire_base.specs.model.HopCount.{follow}
+use Rattle.wire_base.specs.model.HopCount.{follow, Follows, IsPassed, FitTunnels}
 use Rattle.wire_base.specs.declared.view.ViewNode.{ViewNode}
-use Rattle.laws_course.specs.Course.{Follows, IsPassed, FitTunnels}
 
 module _ (next : ℕ → Option ℕ) (ends : ℕ → Bool) where
   stepped : (o : Option ℕ) (h : ℕ) → option_map (λ n. n + 1) o ≡ Some h → (k : ℕ) × (o ≡ Some k) × (h ≡ k + 1)

@@ -16,7 +16,7 @@ use Rattle.wire_base.specs.model.Choice.{choose, choice, end_toward, is_direct, 
 use Rattle.wire_base.specs.model.Configuration.{DomainConf, IsConsistent}
 use Rattle.wire_base.specs.model.Graph.{IsGraph, edges_of, is_overloaded, owner, covers_at, node_covers, covers, node_bift, has_id_at, place_in}
 use Rattle.wire_base.specs.model.Hop.{has, is_this}
-use Rattle.wire_base.specs.model.HopCount.{follow, hops, tunnel_links}
+use Rattle.wire_base.specs.model.HopCount.{follow, hops, tunnel_links, Follows, IsPassed, FitTunnels}
 use Rattle.wire_base.specs.model.Item.{DataItem, Outer, ingress_header, router_with, outer_target}
 use Rattle.wire_base.specs.model.OnFrame.{node_place, link_to, next_link, bift_at, prefix_of, outer_ttl, class_of}
 use Rattle.wire_base.specs.model.Place.{bift_of, own_id}
@@ -40,7 +40,7 @@ use Rattle.bier_forward.specs.Packets.{LeadsToEnds}
 use Rattle.laws_ledger.proofs.OutcomeLaws.{others, IsGroup, IsEnded}
 use Rattle.laws_ledger.proofs.CopyLaws.{IsNearWay, IsFarWay, HasWay}
 use Rattle.laws_ledger.proofs.MadeLaws.{picks, own, IsHopSent, IsHopDrop, IsGroupLost}
-use Rattle.laws_course.specs.Course.{next_for, Follows, IsPassed, FitTunnels, node_by, node_at, node_of, target_at, HasLinks, IsOnCourse}
+use Rattle.laws_course.specs.Course.{next_for, node_by, node_at, node_of, target_at, HasLinks, IsOnCourse}
 use Rattle.laws_course.proofs.KnownLaws.{each_contained, IsOfNow}
 use Rattle.laws_course.proofs.FollowLaws.{follow-down, follow-zero, follow-next, passed-next, fit-next, Follows-each}
 use Rattle.laws_course.proofs.NodeLaws.{router_at, peer_node, prefix_is, router_found, own_from}

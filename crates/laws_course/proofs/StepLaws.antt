@@ -13,6 +13,7 @@ use Rattle.wire_base.specs.model.Choice.{end_toward}
 use Rattle.wire_base.specs.model.Control.{Control}
 use Rattle.wire_base.specs.model.Graph.{IsGraph, edges_at}
 use Rattle.wire_base.specs.model.Hop.{has, is_this, one_if}
+use Rattle.wire_base.specs.model.HopCount.{FitTunnels}
 use Rattle.wire_base.specs.model.Item.{Item, DataItem, Outer}
 use Rattle.wire_base.specs.model.OnFrame.{node_place, next_link, node_with}
 use Rattle.wire_base.specs.model.View.{control_view}
@@ -33,7 +34,7 @@ use Rattle.laws_ledger.proofs.OutcomeLaws.{others, IsEnded, group_named}
 use Rattle.laws_ledger.proofs.CopyLaws.{HasOnward, IsOnwardSent, IsOnwardLost, onward_is}
 use Rattle.laws_ledger.proofs.MadeLaws.{picks, own, IsHopSent, IsHopDrop, IsGroupLost, hop_made_is, EndsHere, Fate, Hops, GoesOn, Ends, fate_of}
 use Rattle.laws_ledger.proofs.WorldLaws.{now_at, owner_at}
-use Rattle.laws_course.specs.Course.{Agreed, next_for, FitTunnels, node_by, node_at, target_at, IsOnCourse, IfCopyFor}
+use Rattle.laws_course.specs.Course.{Agreed, next_for, node_by, node_at, target_at, IsOnCourse, IfCopyFor}
 use Rattle.laws_course.proofs.KnownLaws.{each_contained, place_has, ComesOverUp, IsKnown, known_of}
 use Rattle.laws_course.proofs.ChangedLaws.{node_stays, course_stays}
 use Rattle.laws_course.proofs.NodeLaws.{node_some}

@@ -11,7 +11,7 @@ use Rattle.wire_base.specs.declared.conf.RouterConf.{RouterConf}
 use Rattle.wire_base.specs.declared.view.ViewNode.{ViewNode}
 use Rattle.wire_base.specs.model.Configuration.{DomainConf, IsConsistent}
 use Rattle.wire_base.specs.model.Graph.{IsGraph, is_overloaded, node_covers}
-use Rattle.wire_base.specs.model.HopCount.{hops, tunnel_links}
+use Rattle.wire_base.specs.model.HopCount.{hops, tunnel_links, Follows, CoversPath}
 use Rattle.wire_base.specs.model.Item.{DataItem, Outer, router_with, outer_target}
 use Rattle.wire_base.specs.model.OnFrame.{node_place, link_to, next_link, node_with}
 use Rattle.wire_base.specs.model.Tight.{IsTight, next_step}
@@ -26,7 +26,7 @@ use Rattle.laws_route.proofs.DescentLemmas.{dist-end, dist-over, dist-edge, IsTi
 use Rattle.laws_route.proofs.RouteLemmas.{dist-through, IsTight-onward, next_step-tight, next_step-some}
 use Rattle.bier_forward.specs.Packets.{LeadsToEnds}
 use Rattle.laws_ledger.proofs.CopyLaws.{HasOnward}
-use Rattle.laws_course.specs.Course.{Follows, CoversPath, node_by, node_at, node_of, target_at, HasLinks, IsOnCourse}
+use Rattle.laws_course.specs.Course.{node_by, node_at, node_of, target_at, HasLinks, IsOnCourse}
 use Rattle.laws_course.proofs.FollowLaws.{follow-down, follow-zero}
 use Rattle.laws_course.proofs.NodeLaws.{IsRouterAt, router_at, same_router, peer_node, router_found, node_found}
 use Rattle.laws_course.proofs.HopLaws.{covered, next, IsThere, follows_in, edge_end}

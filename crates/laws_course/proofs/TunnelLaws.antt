@@ -8,13 +8,13 @@ use Rattle.wire_base.specs.declared.triple.Triple.{Triple}
 use Rattle.wire_base.specs.declared.view.ViewNode.{ViewNode}
 use Rattle.wire_base.specs.model.Choice.{choose}
 use Rattle.wire_base.specs.model.Graph.{IsGraph}
-use Rattle.wire_base.specs.model.HopCount.{hops, tunnel_links}
+use Rattle.wire_base.specs.model.HopCount.{hops, tunnel_links, CoversPath, FitTunnels, Follows}
 use Rattle.wire_base.specs.model.OnFrame.{outer_ttl}
 use Rattle.wire_base.specs.model.Tight.{next_step}
 use Rattle.wire_base.specs.model.Walk.{dist}
 use Rattle.laws_route.proofs.DescentLemmas.{dist-end, IsTight-within, IsTight-nearer}
 use Rattle.laws_route.proofs.RouteLemmas.{next_step-tight}
-use Rattle.laws_course.specs.Course.{CoversPath, FitTunnels, Follows, LinksLeft}
+use Rattle.laws_course.specs.Course.{LinksLeft}
 use Rattle.laws_course.proofs.FollowLaws.{follow-down, follow-most}
 
 -- ---- few nodes

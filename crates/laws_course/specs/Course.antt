@@ -3,21 +3,19 @@
 --
 -- A router's index in the domain is called a or b, and its node in a topology is found by its system ID. The ingress is
 -- the node u of the topology g, and has the configuration r.
-use Rattle.std.specs.Prelude.{◌≡◌, ℕ, zero, suc, ◌+◌, ◌-◌, ◌<◌, ◌≤◌, ◌%◌, ◌⊎◌, Bool, true, false, List, [], ◌∷◌, ◌++◌, length, slice_get, Option, Some, None}
+use Rattle.std.specs.Prelude.{◌≡◌, ℕ, ◌+◌, ◌-◌, ◌<◌, ◌≤◌, ◌%◌, ◌⊎◌, Bool, true, false, List, [], ◌∷◌, ◌++◌, length, slice_get, Option, Some, None}
 use Rattle.std.specs.List.{AllByRecursion, fold}
 use Rattle.wire_base.specs.declared.conf.RouterConf.{RouterConf}
-use Rattle.wire_base.specs.declared.conf.SubKind.{SubKind}
-use Rattle.wire_base.specs.declared.conf.TableRow.{TableRow}
 use Rattle.wire_base.specs.declared.triple.Triple.{Triple}
 use Rattle.wire_base.specs.declared.view.ViewNode.{ViewNode}
-use Rattle.wire_base.specs.model.Choice.{choose, is_direct}
+use Rattle.wire_base.specs.model.Choice.{choose}
 use Rattle.wire_base.specs.model.Configuration.{DomainConf, IsValid}
 use Rattle.wire_base.specs.model.Control.{Control}
 use Rattle.wire_base.specs.model.Graph.{is_overloaded, owner}
 use Rattle.wire_base.specs.model.Hop.{has}
-use Rattle.wire_base.specs.model.HopCount.{hops, tunnel_links}
+use Rattle.wire_base.specs.model.HopCount.{CoversPath, Follows, tunnel_links}
 use Rattle.wire_base.specs.model.Item.{Item, ControlItem, PacketItem, DataItem, Outer, target_of}
-use Rattle.wire_base.specs.model.OnFrame.{node_place, outer_ttl}
+use Rattle.wire_base.specs.model.OnFrame.{node_place}
 use Rattle.wire_base.specs.model.Place.{own_id}
 use Rattle.wire_base.specs.model.Tight.{IsTight}
 use Rattle.wire_base.specs.model.View.{control_view}
@@ -44,26 +42,6 @@ Agreed w g u = (b n : ℕ) (c : Control) → slice_get w.routers b ≡ Some c �
 -- where a copy is sent for the BFR-id k by the router at a node of the topology
 abbrev pub next_for : RouterConf → List ViewNode → Triple → ℕ → ℕ → ℕ → Option ℕ
 next_for r g t entropy k y = choose g r.kinds r.table t (entropy % 16) y k
-
--- x is reached from u by following `next` more than j times
-abbrev pub Follows : (ℕ → Option ℕ) → ℕ → ℕ → ℕ → Type 0
-Follows next zero u x = next u ≡ Some x
-Follows next (suc j) u x = (y : ℕ) × (next u ≡ Some y) × Follows next j y x
-
--- y is u, or is reached from it
-abbrev pub IsPassed : (ℕ → Option ℕ) → ℕ → ℕ → Type 0
-IsPassed next u y = (y ≡ u) ⊎ ((j : ℕ) × Follows next j u y)
-
--- each tunnel of the path from u has at most 255 links, as many as its outer TTL covers
-abbrev pub FitTunnels : List ViewNode → (ℕ → Option ℕ) → ℕ → Type 0
-FitTunnels g next u = (y z h : ℕ) → IsPassed next u y → next y ≡ Some z → is_direct g y z ≡ false → tunnel_links g z y ≡ Some h → h ≤ outer_ttl
-
--- A TTL covers the path from u to the owner of k: it is at least the number of hops, and the tunnels of the path are short enough.
-pub record CoversPath (g : List ViewNode) (kinds : List SubKind) (table : List TableRow) (t : Triple) (u class k ttl : ℕ) : Type 0 where
-  pub count : ℕ
-  pub is : hops g kinds table t class k u ≡ Some count
-  pub enough : count ≤ ttl
-  pub tunnels : FitTunnels g (λ y. choose g kinds table t class y k) u
 
 -- y is the node that a tunnel of h links to x reaches over its link number j + 1: that many fewer links are left
 pub record LinksLeft (g : List ViewNode) (x y h j : ℕ) : Type 0 where

@@ -6,13 +6,13 @@ ghost use Rattle.wire_base.specs.declared.triple.Triple.{Triple};
 ghost use Rattle.wire_base.specs.declared.view.ViewNode.{ViewNode};
 ghost use Rattle.wire_base.specs.model.Control.{Control};
 ghost use Rattle.wire_base.specs.model.Graph.{IsGraph};
-ghost use Rattle.wire_base.specs.model.HopCount.{hops, tunnel_links};
+ghost use Rattle.wire_base.specs.model.HopCount.{hops, tunnel_links, CoversPath, FitTunnels, Follows};
 ghost use Rattle.wire_base.specs.model.OnFrame.{outer_ttl};
 ghost use Rattle.wire_base.specs.model.Tight.{next_step};
 ghost use Rattle.wire_base.specs.model.View.{control_view};
 ghost use Rattle.domain_model.specs.World.{WorldState};
 ghost use Rattle.domain_model.specs.Truth.{IsTruthful};
-ghost use Rattle.laws_course.specs.Course.{CoversPath, FitTunnels, Follows, LinksLeft};
+ghost use Rattle.laws_course.specs.Course.{LinksLeft};
 
 /// A tunnel is forwarded over the next router of a shortest path, the one with the least system ID if there are several, and each
 /// such link leaves one less. So an outer TTL of 255 is enough for a tunnel with at most 255 links: over its first link the TTL is

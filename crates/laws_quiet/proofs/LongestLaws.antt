@@ -9,12 +9,12 @@ use Rattle.wire_base.specs.declared.triple.Triple.{Triple}
 use Rattle.wire_base.specs.declared.view.ViewNode.{ViewNode}
 use Rattle.wire_base.specs.model.Choice.{choose}
 use Rattle.wire_base.specs.model.Graph.{IsGraph, has_id_at}
+use Rattle.wire_base.specs.model.HopCount.{FitTunnels, Follows, IsPassed}
 use Rattle.wire_base.specs.model.OnFrame.{outer_ttl}
 use Rattle.wire_base.specs.model.Walk.{dist}
 use Rattle.laws_route.proofs.DescentLemmas.{dist-end}
 use Rattle.laws_route.proofs.HopCountLemmas.{descends}
 use Rattle.laws_route.proofs.OwnerLemmas.{owner-is}
-use Rattle.laws_course.specs.Course.{FitTunnels, Follows, IsPassed}
 use Rattle.quiet_domain.specs.declared.path.Way.{Way}
 use Rattle.quiet_domain.specs.Way.{hop_before, links_over, way_by, way_to}
 

@@ -13,7 +13,7 @@ use Rattle.wire_base.specs.model.Control.{AreAscending, Control, fragment_0, ids
 use Rattle.wire_base.specs.model.View.{claim_of, claims_of, is_other, node_of, own_claim, put_claim, view_of, control_view, with_known}
 use Rattle.wire_base.specs.declared.triple.Triple.{Triple}
 use Rattle.wire_base.specs.model.Configuration.{DomainConf, IsValid}
-use Rattle.wire_base.specs.model.HopCount.{hops, tunnel_links}
+use Rattle.wire_base.specs.model.HopCount.{hops, tunnel_links, CoversPath}
 use Rattle.wire_base.specs.model.OnFrame.{outer_ttl}
 use Rattle.wire_base.specs.model.Walk.{dist}
 use Rattle.replay_text.specs.declared.event.Event.{Event}
@@ -22,7 +22,7 @@ use Rattle.domain_model.specs.Step.{happens}
 use Rattle.domain_model.proofs.WorldTruth.{happens_true, first_true}
 use Rattle.laws_ledger.specs.Runs.{AreAllowed, unlined}
 use Rattle.laws_ledger.proofs.RunLaws.{next_truth, next_allowed}
-use Rattle.laws_course.specs.Course.{CoversPath, own_node}
+use Rattle.laws_course.specs.Course.{own_node}
 use Rattle.laws_course.proofs.KnownLaws.{known_of, length_put}
 use Rattle.laws_course.proofs.OnceLaws.{truth_on}
 use Rattle.laws_course.proofs.TunnelLaws.{small_covers}

@@ -4,12 +4,13 @@ use Rattle.std.specs.Prelude.{◌≡◌, ℕ, ◌+◌, ◌%◌, true, List, ◌�
 use Rattle.wire_base.specs.model.Configuration.{DomainConf}
 use Rattle.wire_base.specs.model.Control.{Control}
 use Rattle.wire_base.specs.model.Hop.{has}
+use Rattle.wire_base.specs.model.HopCount.{CoversPath}
 use Rattle.wire_base.specs.model.View.{control_view}
 use Rattle.replay_text.specs.declared.event.Event.{Event}
 use Rattle.domain_model.specs.Run.{Run, goes_on, run_of}
 use Rattle.laws_ledger.specs.Ledger.{Injection, entered, triple_for, copies_of, deliveries, drops}
 use Rattle.laws_ledger.specs.Weights.{copies_in}
-use Rattle.laws_course.specs.Course.{CoversPath, IsReachable, IsSteady, KeptFor, own_node}
+use Rattle.laws_course.specs.Course.{IsReachable, IsSteady, KeptFor, own_node}
 use Rattle.laws_replay.specs.Moments.{moment}
 
 -- The premises: the events `before`, the event e that is injection n, and the events `after` it, up to the moment in

@@ -5,7 +5,7 @@ ghost use Rattle.wire_base.specs.declared.view.ViewEdge.{ViewEdge};
 ghost use Rattle.wire_base.specs.declared.view.ViewNode.{ViewNode};
 ghost use Rattle.wire_base.specs.model.Configuration.{DomainConf, IsValid};
 ghost use Rattle.wire_base.specs.model.Control.{Control};
-ghost use Rattle.wire_base.specs.model.HopCount.{hops, tunnel_links};
+ghost use Rattle.wire_base.specs.model.HopCount.{hops, tunnel_links, CoversPath};
 ghost use Rattle.wire_base.specs.model.OnFrame.{node_place, outer_ttl};
 ghost use Rattle.wire_base.specs.model.View.{control_view};
 ghost use Rattle.wire_base.specs.model.Walk.{dist};
@@ -14,7 +14,7 @@ ghost use Rattle.domain_model.specs.Run.{run_of};
 ghost use Rattle.domain_model.specs.Truth.{IsTruthful};
 ghost use Rattle.domain_model.specs.World.{WorldState, first_world};
 ghost use Rattle.laws_ledger.specs.Runs.{AreAllowed, unlined};
-ghost use Rattle.laws_course.specs.Course.{CoversPath, own_node};
+ghost use Rattle.laws_course.specs.Course.{own_node};
 ghost use Rattle.laws_replay.specs.Paths.{IsUpToward};
 
 /// Where two routers have the same topology, and it has an edge from the one to the other, both interfaces of that link are up: so

@@ -11,7 +11,7 @@ use std::marker::Model;
 use wire_base::limits::MOST_ENTRIES;
 use wire_base::{Age, Aged, Entry, LspId, M, PutFault, Summary};
 
-/// An LSDB: at most 4,096 entries in the order of their LSP IDs, no LSP ID twice. Contracts model it as these entries, and
+/// An LSDB: at most `MOST_ENTRIES` entries in the order of their LSP IDs, no LSP ID twice. Contracts model it as these entries, and
 /// the number of new entries for which memory is already allocated.
 #[derive(Drop)]
 pub struct Store {
@@ -158,7 +158,7 @@ impl Store {
         age_of(self.get_near(&s.id, guess), s)
     }
 
-    /// Adds an entry, or replaces the one with its LSP ID. Returns Full if the LSP ID is new and there are 4,096 entries.
+    /// Adds an entry, or replaces the one with its LSP ID. Returns Full if the LSP ID is new and there are `MOST_ENTRIES` entries.
     /// Replacing an entry always succeeds and does not allocate.
     pub fn put(&mut self, e: Entry) -> Result<(), PutFault>
         ensures ok { OnOk result (self.new.entries ≡ put_entry e self.old.entries) }

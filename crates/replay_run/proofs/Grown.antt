@@ -27,7 +27,7 @@ length-range low (suc count) = ap suc (length-range (low + 1) count)
 
 routers_are : (n : ℕ) → length (grown_domain n).routers ≡ n
 unfolding grown_domain grown_routers
-routers_are n = length-map (range_with_len 0 n) (router (grown_links n)) ∙ length-range 0 n
+routers_are n = length-map (range_with_len 0 n) (router (grown_links n) n) ∙ length-range 0 n
 
 sending_fits : (n entropy : ℕ) → 3 ≤ n → n ≤ MOST_ROUTERS → entropy < 16 → LineFits n (sending n entropy)
 sending_fits n entropy some few within = record {

@@ -54,7 +54,7 @@ fn asked(entries: &[Entry], flood: &Flood, link: u16) -> usize
 fn lists(entries: usize) -> usize
     requires { entries ≤ MOST_ENTRIES }
     ensures lists { result ≡ (entries + 89) / MOST_LISTED }
-    ensures few { result ≤ 46 }
+    ensures few { result ≤ MOST_ENTRIES }
 {
     (entries + (MOST_LISTED - 1)) / MOST_LISTED
 }
@@ -63,7 +63,7 @@ fn lists(entries: usize) -> usize
 fn csnps(entries: &[Entry], due: bool) -> usize
     requires { length entries.now ≤ MOST_ENTRIES }
     ensures csnps { result ≡ (if due then max ((length (filter is_known entries.now) + 89) / MOST_LISTED) 1 else 0) }
-    ensures few { result ≤ 46 }
+    ensures few { result ≤ MOST_ENTRIES }
 {
     if due {
         return lists(known(entries)).max(1);

@@ -126,7 +126,7 @@ impl Router {
     ///
     /// For arbitrary octets, a drop leaves the control state unchanged, unless its cause is a full LSDB. A packet that
     /// is forwarded here makes the router send at most one frame per bit position, and any other frame makes it send at
-    /// most one. Each frame that it sends has at most 65,535 octets. The LSDB has at most 4,096 entries.
+    /// most one. Each frame that it sends has at most 65,535 octets. The LSDB has at most `MOST_ENTRIES` entries.
     pub fn frame(&mut self, link: u16, bytes: &[u8]) -> M<Effects>
         requires link { link < length self.old.control.conf.ends }
         requires short { length bytes.now ≤ MOST_FRAME }

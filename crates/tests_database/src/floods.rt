@@ -6,6 +6,7 @@ use isis_flood::{Flood, FloodOut, SnpOut};
 use isis_pdu::LspHead;
 use lsp_store::{Store, purge};
 use std::alloc::Global;
+use wire_base::limits::MOST_ENTRIES;
 use wire_base::{Entry, LspId, M, Memory, Octets, Summary, SystemId};
 
 /// System, fragment, sequence number, lifetime and checksum of what arrives.
@@ -213,7 +214,7 @@ fn a_full_database(rt: HostRuntime) {
     };
     assert_eq!(rt;
         when_full(rt.alloc()),
-        Ok((4096, [FloodOut::Full; 2], dropped, [NONE; 2]))
+        Ok((MOST_ENTRIES, [FloodOut::Full; 2], dropped, [NONE; 2]))
     );
 }
 
@@ -315,9 +316,9 @@ fn full_told(flood: &mut Flood, store: &mut Store) -> M<Full>
     Ok((len, [others, own], listed, flags))
 }
 
-/// Stores purges of another system, 4,094 of them.
+/// Stores purges of another system, until there is no more room.
 fn fill(store: &mut Store) -> M<()> {
-    for number in 2..4096u16 {
+    for number in 2..MOST_ENTRIES as u16 {
         let other = LspId {
             pseudonode: (number / 256) as u8,
             ..id(9, (number % 256) as u8)

@@ -1,6 +1,10 @@
 use lsp_store::{Age, Aged, Entry, PutFault, Store, purge};
 use std::alloc::Global;
+use wire_base::limits::MOST_ENTRIES;
 use wire_base::{LspId, Octets, Summary, SystemId};
+
+/// The number of the last LSP ID that there is room for.
+const LAST: u16 = 16_383;
 
 /// The result of storing an entry.
 type Put = Result<(), PutFault>;
@@ -24,9 +28,9 @@ const AGES: [(Said, Age); 5] = [
 #[test]
 fn takes_no_new_identifier_when_full(rt: HostRuntime) {
     let wanted: Full = (
-        [Ok(()), Err(PutFault::Full(4096)), Ok(())],
-        [4096; 2],
-        [Some((id_of(17), 0, 60)), Some((id_of(4095), 9, 0))],
+        [Ok(()), Err(PutFault::Full(MOST_ENTRIES)), Ok(())],
+        [MOST_ENTRIES; 2],
+        [Some((id_of(17), 0, 60)), Some((id_of(LAST), 9, 0))],
         [true; 2],
     );
     assert_eq!(rt; when_full(rt.alloc()), wanted);
@@ -78,7 +82,7 @@ fn at(store: &Store, place: usize) -> At {
     Some((entry.id, entry.life, entry.hold))
 }
 
-/// The results for 4,096 LSP IDs, for one more and for one that exists; how many entries there are before and after
+/// The results for as many LSP IDs as an LSDB has room for, for one more and for one that exists; how many entries there are before and after
 /// those two; one that existed and the one that was stored; and whether there was none with the new LSP ID, and no
 /// error against one more entry.
 type Full = ([Put; 3], [usize; 2], [At; 2], [bool; 2]);
@@ -92,24 +96,24 @@ fn full_told(store: &mut Store) -> Full {
     let filled = fill(store);
     let before = store.len();
     let there = at(store, 17);
-    let refused = put_purge(store, 4096);
-    let is_none = store.get(&id_of(4096)).is_none();
-    let taken = put_live(store, 4095, 9);
+    let refused = put_purge(store, LAST + 1);
+    let is_none = store.get(&id_of(LAST + 1)).is_none();
+    let taken = put_live(store, LAST, 9);
     (
         [filled, refused, taken],
         [before, store.len()],
-        [there, at(store, 4095)],
+        [there, at(store, usize::from(LAST))],
         [is_none, store.reserve(1).is_ok()],
     )
 }
 
-/// Stores 4,096 LSP IDs, from both ends in turn.
+/// Stores as many LSP IDs as there is room for, from both ends in turn.
 fn fill(store: &mut Store) -> Put {
-    for number in 0..4096u16 {
+    for number in 0..=LAST {
         let place = if number % 2 == 0 {
             number / 2
         } else {
-            4095 - number / 2
+            LAST - number / 2
         };
         put_purge(store, place)?;
     }

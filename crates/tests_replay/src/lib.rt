@@ -6,6 +6,8 @@
 #[cfg(test)]
 mod captures;
 #[cfg(test)]
+mod chains;
+#[cfg(test)]
 mod domains;
 #[cfg(test)]
 mod faults;

@@ -97,12 +97,22 @@ fn conf_of(alloc: Global, words: &[&str]) -> M<Octets> {
     Octets::from_slice(alloc, domain_of(name).as_bytes())
 }
 
-/// Runs those arguments on an input, and on the domain file that the second argument names.
-pub fn run_on(alloc: Global, words: &[&str], input: Octets, limits: Limits) -> M<Outcome> {
+/// Runs those arguments on a domain file and an input.
+pub fn run_in(
+    alloc: Global,
+    words: &[&str],
+    conf: Octets,
+    input: Octets,
+    limits: Limits,
+) -> M<Outcome> {
     let mut input = source(alloc, limits, Object::Input, input)?;
-    let conf = conf_of(alloc, words)?;
     let mut conf = source(alloc, limits, Object::Conf, conf)?;
     run_between(alloc, words, &mut conf, &mut input, limits)
+}
+
+/// Runs those arguments on an input, and on the domain file that the second argument names.
+pub fn run_on(alloc: Global, words: &[&str], input: Octets, limits: Limits) -> M<Outcome> {
+    run_in(alloc, words, conf_of(alloc, words)?, input, limits)
 }
 
 fn words_of<'a>(alloc: Global, text: &'a str) -> Result<Vec<&'a str>, AllocError> {

@@ -35,13 +35,14 @@ fn systems(alloc: Global, count: u16) -> M<Octets> {
 /// Returns whether the last of that many systems does not fit, and each before it does.
 fn last_has_no_room(alloc: Global) -> M<bool> {
     let words = ["node", "pair", "B", "capture", "frames"];
-    let heard = run_on(alloc, &words, systems(alloc, 4_096)?, FREE)?;
-    let report = b"4096 drop full -\ndone records 4096 used 4096 passed 0 got 0 dropped 1 sent 0\n";
+    let heard = run_on(alloc, &words, systems(alloc, 16_384)?, FREE)?;
+    let report =
+        b"16384 drop full -\ndone records 16384 used 16384 passed 0 got 0 dropped 1 sent 0\n";
     Ok(heard.report.as_slice() == report.as_slice())
 }
 
-/// Besides the router's own LSP there is room for 4,095 entries.
+/// Besides the router's own LSP there is room for 16,383 entries.
 #[test]
-fn the_last_of_4096_systems_has_no_room(rt: HostRuntime) {
+fn the_last_of_16384_systems_has_no_room(rt: HostRuntime) {
     assert!(rt; last_has_no_room(rt.alloc()) == Ok(true));
 }

@@ -11,6 +11,7 @@ use Rattle.std.proofs.lemmas.List.{map-append}
 use Rattle.std.proofs.lemmas.List.Elements.{filter-append}
 use Rattle.wire_base.specs.declared.addresses.LspId.{LspId}
 use Rattle.wire_base.specs.declared.entry.Entry.{Entry}
+use Rattle.wire_base.specs.declared.limits.TheConstants.{MOST_ENTRIES}
 use Rattle.wire_base.specs.model.Control.{AreAscending, ids_of, is_below, is_full, put_entry}
 use Rattle.lsp_store.proofs.OrderLaws.{above_from_below}
 
@@ -49,10 +50,10 @@ module _ (q : Entry → Bool) (f : Entry → Entry) (ids : (x : Entry) → (f x)
       by false h more = rw h (omega (arith, more))
 
   -- what was made of the entries before one leaves room
-  pub room : (es made : List Entry) (i : ℕ) → length es ≤ 4096 → i < length es → made ≡ map f (filter q (take i es)) → is_full made ≡ false
+  pub room : (es made : List Entry) (i : ℕ) → length es ≤ MOST_ENTRIES → i < length es → made ≡ map f (filter q (take i es)) → is_full made ≡ false
   room es made i most lt is =
       let short : length made ≤ i = subst (λ (l : List Entry). length l ≤ i) (sym is) (few es i) in
-      lt-leb 4096 (length made) (omega (arith, short, most, lt))
+      lt-leb MOST_ENTRIES (length made) (omega (arith, short, most, lt))
 
   step : (es : List Entry) (i : ℕ) (e : Entry) → i < length es → e ≡ get_or es i e → map f (filter q (take (i + 1) es)) ≡ map f (filter q (take i es)) ++ map f (filter q (e ∷ []))
   step es i e lt at =

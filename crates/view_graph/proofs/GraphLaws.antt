@@ -16,6 +16,7 @@ use Rattle.wire_base.specs.declared.addresses.LspId.{LspId}
 use Rattle.wire_base.specs.declared.conf.RouterConf.{RouterConf}
 use Rattle.wire_base.specs.declared.conf.SubKind.{SubKind}
 use Rattle.wire_base.specs.declared.entry.Entry.{Entry}
+use Rattle.wire_base.specs.declared.limits.TheConstants.{MOST_ENTRIES}
 use Rattle.wire_base.specs.declared.addresses.Ipv4.{Ipv4}
 use Rattle.wire_base.specs.declared.conf.LabelRange.{LabelRange}
 use Rattle.wire_base.specs.declared.view.ViewEdge.{ViewEdge}
@@ -160,7 +161,7 @@ fewer p (x ∷ xs) = by (p x) refl (fewer p xs)
     by true e more = rw e (omega (arith, more))
     by false e more = rw e (omega (arith, more))
 
-pub few_claims : (r : RouterConf) (up : List Bool) (entries : List Entry) → length entries ≤ 4096 → length (map (with_known r.kinds) (claims_of r up entries)) ≤ 65536
+pub few_claims : (r : RouterConf) (up : List Bool) (entries : List Entry) → length entries ≤ MOST_ENTRIES → length (map (with_known r.kinds) (claims_of r up entries)) ≤ 65536
 unfolding claims_of
 few_claims r up entries few =
     let a = length-map (claims_of r up entries) (with_known r.kinds) in

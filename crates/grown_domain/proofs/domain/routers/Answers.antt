@@ -10,5 +10,5 @@ loop-place-preserved c =
     let k : 0 + i ≡ i = omega arith in
     c.in_ok-push.ensures.ok
     ∙ ap (λ (r : RouterConf). c.loop-place.routers ++ r ∷ []) c.in_ok-router.ensures
-    ∙ ap (λ (rs : List RouterConf). rs ++ router c.args.links.now i ∷ []) c.loop-place.invariant
-    ∙ sym (map-range_with_len_more (router c.args.links.now) 0 i i k)
+    ∙ ap (λ (rs : List RouterConf). rs ++ router c.args.links.now c.args.n i ∷ []) c.loop-place.invariant
+    ∙ sym (map-range_with_len_more (router c.args.links.now c.args.n) 0 i i k)
