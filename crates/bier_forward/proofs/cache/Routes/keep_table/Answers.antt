@@ -24,7 +24,7 @@ returns-clause-kept c =
     let rows = read-at (λ (k : TripleRows). HasRows r g c.args.triple k.rows.bits) c.keep_rows.new.kept.items c.in_ok-place.place c.index.result.now c.in_ok-place.ensures.within (sym c.index.ensures) c.in_ok-place.ensures.rows in
     let period = subst (IsPeriod c.period_of-period.result) c.as_slice-2.ensures c.period_of-period.ensures in
     let table = kept-from r g c.args.triple c.period_of-period.result (c.args.class % c.number.result) c.index.result.now.rows.bits c.in_ok-table.table period rows c.in_ok-table.ensures.bsl c.in_ok-table.ensures.table in
-    let old = subst (λ (ks : List ClassTable). AllByRecursion (IsKeptTable r g) ks) (sym (c.reserve_exact.ensures.items ∙ c.truncate.ensures.items)) (all-take (IsKeptTable r g) c.args.self.now.tables.items 15 c.requires.kept.tables) in
+    let old = subst (λ (ks : List ClassTable). AllByRecursion (IsKeptTable r g) ks) (sym (c.reserve_exact.ensures.items ∙ c.truncate.ensures.items)) (all-take (IsKeptTable r g) c.args.self.now.tables.items 3 c.requires.kept.tables) in
     record {
       rows = c.in_ok-place.ensures.kept;
       tables = subst (λ (ks : List ClassTable). AllByRecursion (IsKeptTable r g) ks) (sym c.in_ok-insert.ensures.items) (table, old);
