@@ -1,5 +1,5 @@
 //! Tables of octets, and of the results of the parsers of bit strings, headers, frames, tunnels, TLVs, PDUs, captures
-//! and domain files, and of the packets of an injection. Most of the results were computed by other software. This crate contains only tests.
+//! and domain files, of the packets of an injection, and of the writers of PDUs. Most of the results were computed by other software. This crate contains only tests.
 #![tactic(auto)]
 
 #[cfg(test)]
@@ -26,3 +26,5 @@ mod rows;
 mod told;
 #[cfg(test)]
 mod tunnels;
+#[cfg(test)]
+mod written;
