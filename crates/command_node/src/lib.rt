@@ -13,5 +13,5 @@ mod refusals;
 
 pub use by_name::node_in;
 pub use domain_file::{NoDomain, domain_in};
-pub use node_command::node;
+pub use node_command::{Tally, conclude, countable, node, push_effects, push_frames, sum};
 pub use refusals::lines_of_refused_files;

@@ -15,12 +15,13 @@ use command_drive::{Close, Command, Flow, RecordReader, Texts, drive, refuse_by,
 use pcapng_frames::NgRecord;
 use standing::Node;
 use std::alloc::Global;
-use tally::Tally;
+pub use tally::{Tally, sum};
+pub use texts::{push_effects, push_frames};
 use texts::{push_done, push_gap};
 use wire_base::{Domain, M, Memory, Octets, RouterConf, Sink, Source, Status};
 
 /// Checks that the record counter can be incremented. An overflow is reported as out of memory.
-fn countable(records: u64) -> M<()>
+pub fn countable(records: u64) -> M<()>
     ensures { OnOk result (records < 2 ^ 63) }
 {
     if records < 1 << 63 {
@@ -29,8 +30,8 @@ fn countable(records: u64) -> M<()>
     Err(Memory)
 }
 
-/// Ends the report after the last record.
-fn conclude(out: &mut Octets, close: Close, tally: Tally) -> M<Status>
+/// Ends the report after the last record: with the counts of all records, or with why the capture is rejected.
+pub fn conclude(out: &mut Octets, close: Close, tally: Tally) -> M<Status>
     requires { tally.records < 2 ^ 63 }
     ensures { IfOk result (λ ended. (ended, out.new) ≡ behind out.old (end_by (Closed close) tally None)) }
 {

@@ -1,6 +1,7 @@
 //! What an event does at a router.
 ghost use Rattle.std.specs.Prelude.{◌≡◌, ◌≤◌, ◌<◌, ◌^◌, length, IfOk, IfSome};
 ghost use Rattle.replay_text.specs.Events.{EventFits};
+ghost use Rattle.router_core.specs.Bounds.{FitRecords};
 ghost use Rattle.live_stream.specs.Events as events;
 ghost use Rattle.live_stream.specs.Events.{Happened, Entered};
 
@@ -12,13 +13,14 @@ use std::alloc::Global;
 use wire_base::limits::MOST_PAYLOAD;
 use wire_base::{Bsl, EdgeFault, M, Memory};
 
-/// What an event did: the effects, or why it was not done.
+/// What an event did: the effects, whose frames fit records of a capture, or why it was not done.
 type Outcome = Result<Effects, LiveFault>;
 
 /// An interface comes up.
 fn come_up(alloc: Global, router: &mut Router, link: Option<u16>) -> M<Outcome>
     requires { IfSome link (λ l. l < length router.old.control.conf.ends) }
-    ensures { IfOk result (λ done. Happened done (events.over link (events.comes_up router.old.control)) router.old.control router.new.control) }
+    ensures done { IfOk result (λ done. Happened done (events.over link (events.comes_up router.old.control)) router.old.control router.new.control) }
+    ensures sizes { IfOk result (λ done. IfOk done (λ e. FitRecords e.sent)) }
 {
     let Some(link) = link else {
         return Ok(Err(LiveFault::NoLink));
@@ -32,7 +34,8 @@ fn come_up(alloc: Global, router: &mut Router, link: Option<u16>) -> M<Outcome>
 
 /// An interface goes down.
 fn go_down(alloc: Global, router: &mut Router, link: Option<u16>) -> M<Outcome>
-    ensures { IfOk result (λ done. Happened done (events.over link (events.goes_down router.old.control)) router.old.control router.new.control) }
+    ensures done { IfOk result (λ done. Happened done (events.over link (events.goes_down router.old.control)) router.old.control router.new.control) }
+    ensures sizes { IfOk result (λ done. IfOk done (λ e. FitRecords e.sent)) }
 {
     let Some(link) = link else {
         return Ok(Err(LiveFault::NoLink));
@@ -46,7 +49,8 @@ fn go_down(alloc: Global, router: &mut Router, link: Option<u16>) -> M<Outcome>
 
 /// The router sends what is due on an interface.
 fn send(router: &mut Router, link: Option<u16>) -> M<Outcome>
-    ensures { IfOk result (λ done. Happened done (events.over link (events.sends router.old.control)) router.old.control router.new.control) }
+    ensures done { IfOk result (λ done. Happened done (events.over link (events.sends router.old.control)) router.old.control router.new.control) }
+    ensures sizes { IfOk result (λ done. IfOk done (λ e. FitRecords e.sent)) }
 {
     let Some(link) = link else {
         return Ok(Err(LiveFault::NoLink));
@@ -67,7 +71,9 @@ fn link_to(router: &Router, seat: &Seat, to: u16) -> Option<u16>
 
 /// Returns the outcome of an injection. Out of memory is no reason.
 fn entered(done: Result<Effects, EdgeFault>) -> M<Outcome>
-    ensures { IfOk result (λ outcome. Entered done outcome) }
+    requires { IfOk done (λ e. FitRecords e.sent) }
+    ensures done { IfOk result (λ outcome. Entered done outcome) }
+    ensures sizes { IfOk result (λ done. IfOk done (λ e. FitRecords e.sent)) }
 {
     match done {
         Ok(effects) => Ok(Ok(effects)),
@@ -92,7 +98,8 @@ fn enter(
     requires ttl { 0 < header.0 }
     requires entropy { header.1 < 2 ^ 20 }
     requires payload { length payload.now ≤ MOST_PAYLOAD }
-    ensures { IfOk result (λ done. Happened done (events.enters router.old.control sd bsl ids.now header.0 header.1 payload.now) router.old.control router.new.control) }
+    ensures done { IfOk result (λ done. Happened done (events.enters router.old.control sd bsl ids.now header.0 header.1 payload.now) router.old.control router.new.control) }
+    ensures sizes { IfOk result (λ done. IfOk done (λ e. FitRecords e.sent)) }
 {
     let (ttl, entropy) = header;
     let done = router.inject(sd, bsl, ids, ttl, entropy, payload);
@@ -120,7 +127,8 @@ fn router_of(event: &Event) -> Option<u16>
 /// Lets an event happen at the router.
 fn do_event(alloc: Global, router: &mut Router, seat: &Seat, event: &Event) -> M<Outcome>
     requires fits { EventFits (length seat.now.domain.routers) event.now }
-    ensures { IfOk result (λ done. Happened done (events.done_at seat.now router.old.control event.now) router.old.control router.new.control) }
+    ensures done { IfOk result (λ done. Happened done (events.done_at seat.now router.old.control event.now) router.old.control router.new.control) }
+    ensures sizes { IfOk result (λ done. IfOk done (λ e. FitRecords e.sent)) }
 {
     match event {
         Event::Inject {
@@ -169,7 +177,8 @@ fn do_event(alloc: Global, router: &mut Router, seat: &Seat, event: &Event) -> M
 #[tactic(auto, unfolding(crate::specs::Events::event_next))]
 pub fn happen(alloc: Global, router: &mut Router, seat: &Seat, event: &Event) -> M<Outcome>
     requires fits { EventFits (length seat.now.domain.routers) event.now }
-    ensures { IfOk result (λ done. Happened done (events.event_next seat.now router.old.control event.now) router.old.control router.new.control) }
+    ensures done { IfOk result (λ done. Happened done (events.event_next seat.now router.old.control event.now) router.old.control router.new.control) }
+    ensures sizes { IfOk result (λ done. IfOk done (λ e. FitRecords e.sent)) }
 {
     let Some(at) = router_of(event) else {
         return Ok(Err(LiveFault::Kind));

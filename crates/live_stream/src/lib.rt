@@ -22,7 +22,6 @@ mod node;
 mod run;
 mod seat;
 mod stream;
-mod tally;
 mod texts;
 
 pub use event::{EVENT_TYPE, EVENT_VERSION};

@@ -4,6 +4,7 @@ ghost use Rattle.command_drive.specs.Answer.{behind};
 ghost use Rattle.command_drive.specs.Reading.{Closed};
 ghost use Rattle.command_node.specs.Owed.{end_by};
 ghost use Rattle.replay_text.specs.Events.{EventFits};
+ghost use Rattle.router_core.specs.Bounds.{FitRecords};
 ghost use Rattle.wire_base.specs.model.Configuration.{IsSound};
 ghost use Rattle.command_node.specs.NodeRun as run;
 ghost use Rattle.live_stream.specs.LiveRun as live;
@@ -13,9 +14,9 @@ use crate::fault::LiveFault;
 use crate::happening::happen;
 use crate::links::link_of;
 use crate::seat::Seat;
-use crate::tally::{Tally, sum};
-use crate::texts::{conclude, countable, push_effects, push_frames, push_refusal};
+use crate::texts::push_refusal;
 use command_drive::Close;
+use command_node::{Tally, conclude, countable, push_effects, push_frames, sum};
 use pcap_frames::write_cap_header;
 use pcapng_frames::NgRecord;
 use replay_text::Event;
@@ -76,6 +77,7 @@ impl LiveNode {
     /// Adds frames to the capture, as sent at a given time.
     #[tactic(auto, unfolding(command_node::specs::NodeRun::goes_out))]
     fn go_out(&mut self, sec: u32, usec: u32, sent: &SentFrames) -> M<()>
+        requires { FitRecords sent.now }
         ensures { OnOk result (self.new ≡ run.goes_out sec usec sent.now self.old) }
     {
         push_frames(&mut self.frames, sec, usec, sent)?;
@@ -93,6 +95,7 @@ impl LiveNode {
 
     /// Reports what the router did with a record.
     fn tell(&mut self, alloc: Global, captured: &NgRecord, effects: &Effects) -> M<()>
+        requires { FitRecords effects.now.sent }
         ensures { OnOk result (self.new ≡ run.tells captured.now effects.now self.old) }
     {
         self.tally.used = sum(self.tally.used, 1)?;
@@ -178,11 +181,12 @@ impl LiveNode {
         self.tally.records += 1;
         self.follow(alloc, seat, captured)
     }
+
     /// Ends the report after the last record.
     pub fn close(&self, out: &mut Octets, close: Close) -> M<Status>
         ensures { IfOk result (λ ended. (ended, out.new) ≡ behind out.old (end_by (Closed close) self.now.tally None)) }
     {
         countable(self.tally.records)?;
-        conclude(out, close, &self.tally)
+        conclude(out, close, self.tally)
     }
 }

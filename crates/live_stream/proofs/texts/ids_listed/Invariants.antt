@@ -1,7 +1,0 @@
-use Rattle.std.proofs.Common.{◌≡◌}
-use Rattle.bier_bits.specs.Any.{positions_of}
-use Rattle.command_node.proofs.NodeIds.{ids_up_to}
-use Rattle.live_stream.proofs.texts.ids_listed.Given as goal
-
-abbrev pub invariant-loop-position : goal.invariant-loop-position
-invariant-loop-position l = l.ids ≡ ids_up_to l.fn.triple (positions_of l.bits) l.position
