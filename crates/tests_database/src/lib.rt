@@ -1,6 +1,8 @@
-//! A router's LSDB, its flooding, its own LSP and its topology, case by case. This crate contains only tests.
+//! A router's LSDB, its flooding, its own LSP, its topology and its BFR-NBRs, case by case. This crate contains only tests.
 #![tactic(auto)]
 
+#[cfg(test)]
+mod bfr_nbrs;
 #[cfg(test)]
 mod floods;
 #[cfg(test)]

@@ -15,7 +15,7 @@ use wire_base::{
 const UP: [bool; 2] = [true, true];
 
 /// The own LSP of the ring's router B, and the same without its link to A.
-const B_SAYS: &[u8] =
+pub const B_SAYS: &[u8] =
     b"\x01\x04\x03\x49\0\x01\x81\x01\xcc\x89\x01B\x16\x16\0\0\0\0\0\x01\0\0\0\x0a\0\0\0\0\0\0\x03\0\0\0\x0a\0\x87\x17\0\0\0\0\x60\x0a\0\0\x02\x0d\x20\x0b\0\0\0\0\x02\x01\x04\0\x10\0\xc8";
 
 const B_SAYS_LESS: &[u8] =
@@ -400,7 +400,7 @@ fn is_among(systems: &[SystemId], system: &SystemId) -> bool
     systems.iter().any(|other| *other == *system)
 }
 
-fn system(n: u8) -> SystemId {
+pub fn system(n: u8) -> SystemId {
     SystemId([0, 0, 0, 0, 0, n])
 }
 
@@ -431,7 +431,7 @@ fn supported(conf: &RouterConf, seen: &View, place: usize, si: u8) -> bool {
 }
 
 /// Stores a live fragment 0.
-fn put(store: &mut Store, n: u8, seq: u32, content: &[u8]) -> M<()> {
+pub fn put(store: &mut Store, n: u8, seq: u32, content: &[u8]) -> M<()> {
     let content = Octets::from_slice(store.allocator(), content)?;
     let answer = store.put(Entry {
         id: LspId::fragment_0(system(n)),
@@ -449,7 +449,7 @@ fn put(store: &mut Store, n: u8, seq: u32, content: &[u8]) -> M<()> {
 }
 
 /// Stores the own LSPs of the ring's routers except A, and B's only if it has one.
-fn put_ring(store: &mut Store, seq: u32, b_says: Option<&[u8]>) -> M<()> {
+pub fn put_ring(store: &mut Store, seq: u32, b_says: Option<&[u8]>) -> M<()> {
     if let Some(content) = b_says {
         put(store, 2, seq, content)?;
     }
