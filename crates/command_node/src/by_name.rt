@@ -34,7 +34,7 @@ fn position_of(routers: &[RouterConf], name: &[u8]) -> Option<usize>
 }
 
 /// Returns the index in the domain of the router with that name.
-fn place_of(domain: &Domain, name: &[u8]) -> Option<u16>
+pub fn place_of(domain: &Domain, name: &[u8]) -> Option<u16>
     ensures value { result ≡ position (has_name name.now) domain.now.routers }
     ensures within { IfSome result (λ place. place < length domain.now.routers) }
 {

@@ -7,11 +7,13 @@ ghost use Rattle.command_drive.specs.Driving.{MayRise, Drives};
 ghost use Rattle.command_drive.specs.Reading.{Closed};
 ghost use Rattle.command_node.specs.Owed.{StartsAs, end_by, node_means};
 
+mod links;
 mod standing;
 mod tally;
 mod texts;
 
 use command_drive::{Close, Command, Flow, RecordReader, Texts, drive, refuse_by, refuse_length};
+pub use links::link_of;
 use pcapng_frames::NgRecord;
 use standing::Node;
 use std::alloc::Global;

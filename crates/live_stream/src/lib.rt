@@ -17,7 +17,6 @@ mod happening;
 mod hello_frames;
 mod hello_pdu;
 mod hello_stream;
-mod links;
 mod node;
 mod run;
 mod seat;

@@ -1,10 +1,8 @@
 //! A run on the files that the arguments name.
-ghost use Rattle.std.specs.Prelude.{◌≡◌, ◌<◌, length, IfSome, IfOk, IfErr, OnOk};
-ghost use Rattle.std.specs.List.{position};
+ghost use Rattle.std.specs.Prelude.{◌≡◌, ◌<◌, length, IfOk, IfErr, OnOk};
 ghost use Rattle.wire_base.specs.Causes.{last_count};
 ghost use Rattle.command_drive.specs.Answer.{IsDecided};
 ghost use Rattle.command_drive.specs.Driving.{MayRise};
-ghost use Rattle.command_node.specs.Routers.{has_name};
 ghost use Rattle.live_stream.specs.HelloRun.{hello_means};
 ghost use Rattle.live_stream.specs.LiveRun.{live_means};
 ghost use Rattle.live_stream.specs.Verdict.{IsAnswered, IsFound, IsUnnamed, Seats, Unseated};
@@ -12,9 +10,9 @@ ghost use Rattle.live_stream.specs.Verdict.{IsAnswered, IsFound, IsUnnamed, Seat
 use crate::hello_stream::run_hellos;
 use crate::stream::run_router;
 use command_drive::deliver;
-use command_node::{NoDomain, domain_in};
+use command_node::{NoDomain, domain_in, place_of};
 use std::alloc::Global;
-use wire_base::{Domain, RouterConf, Sink, Source, Status};
+use wire_base::{Domain, Sink, Source, Status};
 
 /// The line that is reported for an unknown command line.
 const USAGE: &[u8] =
@@ -29,28 +27,6 @@ pub fn refuse_words<R: Sink>(report: &mut R) -> Status
     requires report_zeros { R.zeros report.old < last_count }
 {
     deliver(report, Status::Usage, USAGE)
-}
-
-fn is_named(router: &RouterConf, name: &[u8]) -> bool
-    ensures { result ≡ has_name name.now router.now }
-{
-    router.name.as_slice() == name
-}
-
-fn position_of(routers: &[RouterConf], name: &[u8]) -> Option<usize>
-    ensures value { result ≡ position (has_name name.now) routers.now }
-    ensures within { IfSome result (λ place. place < length routers.now) }
-{
-    routers.iter().position(|router| is_named(router, name))
-}
-
-/// Returns the index in the domain of the router with that name.
-fn place_of(domain: &Domain, name: &[u8]) -> Option<u16>
-    ensures value { result ≡ position (has_name name.now) domain.now.routers }
-    ensures within { IfSome result (λ place. place < length domain.now.routers) }
-{
-    let place = position_of(domain.routers.as_slice(), name)?;
-    Some(place as u16)
 }
 
 /// Returns a domain and the index of its router of that name. If none has it, the report says so.

@@ -1,10 +1,10 @@
 //! The state of a node: one router and the clock that the records of a capture set.
 ghost use Rattle.std.specs.Prelude.{◌≡◌, ◌<◌, ◌≤◌, ◌-◌, ◌^◌, length, Some, IfOk, IfSome, OnOk};
-ghost use Rattle.std.specs.Str.{bytes_eq};
 ghost use Rattle.router_core.specs.Bounds.{FitRecords};
 ghost use Rattle.command_node.specs.NodeRun as run;
 ghost use Rattle.wire_base.specs.model.Configuration.{IsSound};
 
+use super::links::link_of;
 use super::tally::{Tally, sum};
 use super::texts::{push_effects, push_frames};
 use pcap_frames::write_cap_header;
@@ -15,7 +15,7 @@ use std::alloc::Global;
 use std::marker::Model;
 use std::mem;
 use wire_base::limits::MOST_FRAME;
-use wire_base::{End, M, Octets, RouterConf};
+use wire_base::{M, Octets, RouterConf};
 
 /// The number of seconds after which the router sends.
 const SENDS_EVERY: u64 = 5;
@@ -41,20 +41,6 @@ impl Model for Node {
     ghost Value = { run.Node };
 
     ghost view = { λ n. record { control = n.router.control; clock = n.clock; ticks = n.ticks; tally = n.tally; frames = n.frames; report = n.report } };
-}
-
-/// Returns the index of the interface whose peer has that Ethernet address.
-fn link_from(ends: &[End], mac: &[u8]) -> Option<u16>
-    requires { length ends.now ≤ 65535 }
-    ensures link { result ≡ run.link_from ends.now mac.now }
-    ensures there { IfSome result (λ link. link < length ends.now) }
-{
-    for (place, end) in ends.iter().enumerate() {
-        if end.peer_mac.0.as_slice() == mac {
-            return Some(place as u16);
-        }
-    }
-    None
 }
 
 impl Node {
@@ -175,14 +161,7 @@ impl Node {
         ensures there { IfSome result (λ link. link < length self.now.control.conf.ends) }
         ensures short { IfSome result (λ link. length captured.now.cap.octets ≤ MOST_FRAME) }
     {
-        let octets = captured.cap.octets.as_slice();
-        if !captured.ethernet || !captured.cap.whole {
-            return None;
-        }
-        if octets.len() < 12 || octets.len() > MOST_FRAME {
-            return None;
-        }
-        link_from(self.router.conf().ends.as_slice(), &octets[6..12])
+        link_of(self.router.conf(), captured)
     }
 
     /// Counts a record as ignored.

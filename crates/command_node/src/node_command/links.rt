@@ -1,4 +1,4 @@
-//! The interface that a record of a stream arrived on.
+//! The interface that a record arrived on.
 ghost use Rattle.std.specs.Prelude.{◌≡◌, ◌≤◌, ◌<◌, length, IfSome};
 ghost use Rattle.command_node.specs.NodeRun as run;
 

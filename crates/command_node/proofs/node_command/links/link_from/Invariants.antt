@@ -1,6 +1,6 @@
 use Rattle.std.proofs.Common.{◌≡◌, ◌+◌, drop, option_map}
 use Rattle.command_node.specs.NodeRun.{link_from}
-use Rattle.live_stream.proofs.links.link_from.Given as goal
+use Rattle.command_node.proofs.node_command.links.link_from.Given as goal
 
 -- none of the ends so far is the one
 abbrev pub invariant-loop-place : goal.invariant-loop-place
