@@ -3,6 +3,10 @@ use crate::told::Told;
 use domain_conf::read_domain;
 use std::alloc::{AllocError, Global};
 use std::test::Fail;
+use wire_base::limits::{
+    DOMAIN_FILE_LIMIT, MOST_BIER_ENTRIES, MOST_LABEL_ENTRIES, MOST_LINK_ENTRIES, MOST_ROUTERS,
+    MOST_SUBDOMAINS, MOST_TABLE_ROWS,
+};
 use wire_base::{Domain, End, OwnSub, RouterConf};
 
 // Three routers.
@@ -268,5 +272,64 @@ fn counts_what_a_router_has(rt: HostRuntime) -> Result<(), Fail> {
         let text = member(rt.alloc(), subdomains)?;
         assert_eq!(rt; is_beyond_limit(rt.alloc(), text.as_str()), subdomains > 5);
     }
+    Ok(())
+}
+
+/// The arrays of a file, how many entries each may have, and the error of as many empty ones.
+const ARRAYS: [(&str, usize, &str); 6] = [
+    ("subdomain", MOST_SUBDOMAINS, "2 Field subdomain[0].sd"),
+    ("row", MOST_TABLE_ROWS, "2 Field row[0].sd"),
+    ("router", MOST_ROUTERS, "2 Field router[0].name"),
+    ("bier", MOST_BIER_ENTRIES, "2 Field bier[0].router"),
+    ("labels", MOST_LABEL_ENTRIES, "2 Field labels[0].router"),
+    ("link", MOST_LINK_ENTRIES, "2 Field link[0].a"),
+];
+
+// Returns a file whose array has that many empty entries.
+fn empties(alloc: Global, array: &str, count: usize) -> Result<String, AllocError> {
+    let head = if array == "router" { "" } else { ROUTERS };
+    let mut text = format!(in alloc; "{head}\n{array} = [")?;
+    for _ in 0..count {
+        text.push_str("{},")?;
+    }
+    text.push_str("]\n")?;
+    Ok(text)
+}
+
+#[test]
+fn counts_the_entries_of_arrays(rt: HostRuntime) -> Result<(), Fail> {
+    for (array, most, wanted) in ARRAYS {
+        let full = empties(rt.alloc(), array, most)?;
+        let mut told = Told::new(rt.alloc());
+        tell_file(&mut told, rt.alloc(), full.as_str());
+        assert_eq!(rt; told.text(), wanted.as_bytes(), "at {array}");
+        let more = empties(rt.alloc(), array, most + 1)?;
+        let beyond = format!(in rt.alloc(); "7 Limit {array}")?;
+        let mut told = Told::new(rt.alloc());
+        tell_file(&mut told, rt.alloc(), more.as_str());
+        assert_eq!(rt; told.text(), beyond.as_bytes(), "at {array}");
+    }
+    Ok(())
+}
+
+// Returns a comment with that many octets, a multiple of 16.
+fn comment(alloc: Global, octets: usize) -> Result<String, AllocError> {
+    let mut text = String::new(alloc);
+    for _ in 0..octets / 16 {
+        text.push_str("#fifteen octets\n")?;
+    }
+    Ok(text)
+}
+
+#[test]
+fn counts_the_octets_of_a_file(rt: HostRuntime) -> Result<(), Fail> {
+    let mut text = comment(rt.alloc(), DOMAIN_FILE_LIMIT)?;
+    let mut told = Told::new(rt.alloc());
+    tell_file(&mut told, rt.alloc(), text.as_str());
+    assert_eq!(rt; told.text(), b"7 Limit router".as_slice());
+    text.push_str("#")?;
+    let mut told = Told::new(rt.alloc());
+    tell_file(&mut told, rt.alloc(), text.as_str());
+    assert_eq!(rt; told.text(), b"7 Limit -".as_slice());
     Ok(())
 }
