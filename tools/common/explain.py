@@ -59,7 +59,7 @@ TEXTS = {
     6: "the input has more than 67,108,864 octets",
 }
 EVENTS = {
-    1: "1,000,000 events were done",
+    1: "16,000,000 events were done",
     2: "no link joins the two routers",
     3: "`up` needs an interface that is down, `down` and `send` one that is up",
     4: "500,000 frames are in flight",
@@ -73,7 +73,7 @@ EVENTS = {
 }
 # What is different for the lines of hellos.
 HELLO_EVENTS = {
-    1: "16,000,000 events of hellos were done, or 1,000,000 others",
+    1: "16,000,000 events of hellos were done, or 16,000,000 others",
     3: "`hello` and `break` need a circuit that works, `mend` a broken one",
     4: "100,000 hellos are in flight",
 }
@@ -220,7 +220,7 @@ def reference_text(place):
 
 def limit_text(place):
     if place.path == "-":
-        return f"the file has {len(place.conf.octets):,} octets; at most 4,194,304 are read"
+        return f"the file has {len(place.conf.octets):,} octets; at most 8,388,608 are read"
     count = len(place.conf.entries(place.array))
     if place.at is None and not count:
         return f"there is no [[{place.array}]]"

@@ -11,7 +11,8 @@ from . import design_file
 from .judge import Findings
 from .share import Share
 
-MOST_EVENTS = 900_000  # of a run, of which the program does 1,000,000
+MOST_EVENTS = 15_000_000  # of a run, of which the program does 16,000,000
+MANY_EVENTS = 900_000  # of its cases, so that its capture stays small
 
 
 def find(design, program, given):
@@ -94,7 +95,7 @@ def shares_of(design, share, cases, given):
     """The cases, in as many shares as there are cores at least, and no more in one than a run has events for."""
     ends = 2 * sum(1 for _ in design.domain.links())
     start = ends * (share.bounds_of(False).settling() + 2 * len(design.domain.routers))
-    room = max(1, MOST_EVENTS - start)
+    room = max(1, min(MANY_EVENTS, MOST_EVENTS - start))
     workers = spread.CORES * len(spread.hosts_of(given.hosts)) if given.hosts else given.jobs or os.cpu_count() or 1
     shares, sums = [[] for _ in range(max(1, min(workers, len(cases))))], None
     needed = [(number, events_of(design, share, number)) for number in cases]

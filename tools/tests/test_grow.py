@@ -4,7 +4,7 @@ import unittest
 
 from support import places
 
-# Every thirteenth number, and the last one: twenty.
+# Every thirteenth number up to 250, and some around the border of one set of BFR-ids.
 NUMBERS = [*range(3, 250, 13), 250, 256, 257, 300]
 
 
