@@ -11,7 +11,8 @@ from .trouble import Trouble
 NAME = re.compile(r"[A-Za-z][A-Za-z0-9_-]{0,31}\Z")
 SYSTEM = re.compile(r"[0-9a-fA-F]{4}(\.[0-9a-fA-F]{4}){2}\Z")
 MAC = re.compile(r"[0-9a-fA-F]{2}(:[0-9a-fA-F]{2}){5}\Z")
-MOST_ROUTERS, MOST_LINKS_OF_A_ROUTER, MOST_SUBDOMAINS, MOST_OCTETS, MOST_ROWS = 1000, 64, 8, 245, 2048
+MOST_ROUTERS, MOST_LINKS_OF_A_ROUTER, MOST_SUBDOMAINS, MOST_OCTETS = 1000, 64, 8, 245
+MOST_LINKS, MOST_MEMBERS, MOST_RANGES = 8000, 4000, 16000  # of a domain file
 MOST_METRIC = 16777214
 MOST_LABEL = 1048575
 MARK = "  # assigned"
@@ -143,6 +144,8 @@ class Network:
                 self.note(f"{link.shown()}: one of the two routers isn't imported")
             elif full:
                 self.note(f"{link.shown()}: {full[0]} has {MOST_LINKS_OF_A_ROUTER} links already, not imported")
+            elif len(links) == MOST_LINKS:
+                self.note(f"{link.shown()}: a domain file has at most {MOST_LINKS} links, not imported")
             else:
                 links.append(link)
                 for end in link.ends():
@@ -257,15 +260,30 @@ class Network:
             self.note(f"sub-domain {subdomain}: a domain file has at most {MOST_SUBDOMAINS}, not imported")
         for router in self.routers:
             router.subs = {sd: sub for sd, sub in router.subs.items() if sd in subdomains[:MOST_SUBDOMAINS]}
-            self.check_ranges(router)
+        self.keep_members()
+        room = MOST_RANGES
+        for router in self.routers:
+            room -= self.check_ranges(router, room)
         for subdomain in subdomains[:MOST_SUBDOMAINS]:
             has_labels = any(router.subs[subdomain].ranges for router in self.routers if subdomain in router.subs)
             self.kinds[subdomain] = "mpls" if has_labels else "configured"
         if "configured" in self.kinds.values():
             self.assign_rows(options)
 
-    def check_ranges(self, router):
-        """Leaves out label ranges that the file can't have: of a length that was, above the last label, overlapping, too many."""
+    def keep_members(self):
+        """Leaves out sub-domains of routers beyond those that a file may have."""
+        count = 0
+        for router in self.routers:
+            for subdomain in list(router.subs):
+                if count == MOST_MEMBERS:
+                    del router.subs[subdomain]
+                    self.note(f"router {router.name}: sub-domain {subdomain}: a domain file has at most {MOST_MEMBERS} entries bier, not imported")
+                else:
+                    count += 1
+
+    def check_ranges(self, router, room):
+        """Leaves out label ranges that the file can't have: of a length that was, above the last label, overlapping, too many. Returns
+        how many are kept, at most `room`."""
         used, octets = [], 7 * len(router.subs)
         for subdomain, sub in router.subs.items():
             kept, lengths = [], set()
@@ -276,6 +294,7 @@ class Network:
                     else "isn't within 16 to 1048575" if label < 16 or last > MOST_LABEL
                     else "overlaps another range" if any(label <= end and start <= last for start, end in used)
                     else "is more than an LSP has room for" if octets + 6 > MOST_OCTETS
+                    else f"is beyond the {MOST_RANGES} of a domain file" if len(used) == room
                     else None
                 )
                 if why:
@@ -287,6 +306,7 @@ class Network:
                 octets += 6
                 kept.append((bits, highest, label))
             sub.ranges = kept
+        return len(used)
 
     # ---- the file
 

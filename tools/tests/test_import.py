@@ -3,6 +3,7 @@ import glob
 import os
 import struct
 import subprocess
+import types
 import unittest
 
 import national
@@ -239,9 +240,26 @@ class Import(unittest.TestCase):
             with self.subTest(ranges=ranges):
                 it, router = network.Network(), network.Router("x")
                 router.name, router.subs = "x", {1: network.Sub(1, ranges)}
-                it.check_ranges(router)
+                it.check_ranges(router, network.MOST_RANGES)
                 self.assertEqual(router.subs[1].ranges, kept)
                 self.assertEqual([note.split(": ")[-1] for note in it.notes], [f"{it}, not imported" for it in why])
+
+    def test_entries(self):
+        """A file has fewer members, label ranges and links than its routers could have."""
+        it = network.Network()
+        it.has_bier = True
+        it.routers = [network.Router(f"r{at}") for at in range(1000)]
+        for at, router in enumerate(it.routers):
+            ranges = [(bits, 0, 16 + 8 * sd + place) for sd in range(5) for place, bits in enumerate((64, 128, 256, 512, 1024))]
+            router.subs = {sd: network.Sub(at + 1, ranges[5 * sd : 5 * sd + 5]) for sd in range(5)}
+            for step in range(1, 10):
+                it.add_link(network.Link(router, it.routers[(at + step) % 1000], 10, 10))
+        it.fit(types.SimpleNamespace(prefix_base="10.0.0.1", bsl=64))
+        self.assertEqual(len(it.links), 8000)
+        self.assertEqual(sum(len(router.subs) for router in it.routers), 4000)
+        self.assertEqual(sum(len(sub.ranges) for router in it.routers for sub in router.subs.values()), 16000)
+        for count, why in ((1000, "at most 8000 links"), (1000, "at most 4000 entries bier"), (4000, "is beyond the 16000 of a domain file")):
+            self.assertEqual(sum(why in note for note in it.notes), count)
 
     def test_errors(self):
         for text, words, status, line in ERRORS:
