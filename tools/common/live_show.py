@@ -5,8 +5,8 @@ import struct
 import subprocess
 import tempfile
 
-from . import places
-from .capture import read_capture
+from . import from_capture, places
+from .capture import read_capture, written
 from .live_stream import HEADER, Frames, event, record
 from .trouble import Trouble, read_octets
 
@@ -53,10 +53,7 @@ def dumped(program, conf, router, peers, stream):
 
 
 def database(options, links):
-    """The LSPs of a router at the end of its stream, as `isis_dump` prints them."""
-    from .capture import written
-
+    """The lines of the LSPs of a router at the end of its stream, as `isis_dump` prints them."""
     program = os.path.abspath(options.program or os.environ.get("LIVE_ROUTER") or places.LIVE)
     frames = dumped(program, options.domain, options.router, [link.peer for link in links], options.record)
-    done = subprocess.run([places.DUMP], input=written(frames), stdout=subprocess.PIPE)
-    return done.stdout.decode("ascii", "replace")
+    return from_capture.dumped(options.record, written(frames), None)
