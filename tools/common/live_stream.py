@@ -11,7 +11,7 @@ from .trouble import Trouble
 EVENT_TYPE = 0x88B5  # the EtherType of events, for local experiments
 VERSION = 1
 F_SETPIPE_SZ = 1031
-MOST_WAITING = 4 << 20  # octets that wait for a program, with which no more frames are read
+MOST_WAITING = 4 << 20  # octets that wait for a program, with which no more frames are given to it
 PIPE = 32768  # less than the program reads at a time, so that it writes all that it has before it waits
 
 
@@ -114,7 +114,7 @@ class Child:
             self.process.stdin.close()
 
     def is_behind(self):
-        """Whether so much waits for it that nothing is to be added."""
+        """Whether so much waits for it that no frame is to be added."""
         return self.size > MOST_WAITING
 
     def close(self):
