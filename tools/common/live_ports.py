@@ -86,12 +86,12 @@ class Port:
         self.socket = None
 
     def receive(self):
-        """The frame that arrived; None where there is none, or the host itself sent it."""
+        """The frame that arrived; None where there is none, the host itself sent it, or it is longer than the program receives."""
         try:
-            octets, notes, _, address = self.socket.recvmsg(MOST, 256)
+            octets, notes, flags, address = self.socket.recvmsg(MOST, 256)
         except OSError:
             return None
-        if address[2] == socket.PACKET_OUTGOING:
+        if address[2] == socket.PACKET_OUTGOING or flags & socket.MSG_TRUNC:
             return None
         for level, kind, data in notes:
             if (level, kind) == (SOL_PACKET, AUXDATA):

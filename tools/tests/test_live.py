@@ -4,6 +4,7 @@ import struct
 import subprocess
 import sys
 import unittest
+from types import SimpleNamespace
 
 from support import places, read, scratch
 from common import live_ports, live_show, live_stream
@@ -47,6 +48,12 @@ class Streams(unittest.TestCase):
             self.assertEqual(live_show.whole_octets(path), whole)
             self.assertEqual(live_show.whole(path), [FRAME])
 
+    def test_neighbors_that_are_up_at_the_end(self):
+        lines = ["down m1 f1", "down m1 f2", "up m1 f2", "up m1 f1", "up m2 f3", "tick m1", "down m1 f2"]
+        octets = live_stream.HEADER + b"".join(live_stream.record(live_stream.event(line), 0) for line in lines)
+        self.assertEqual(live_show.peers_up(octets, "m1"), ["f1"])
+        self.assertEqual(live_show.peers_up(live_stream.HEADER, "m1"), [])
+
     def test_a_vlan_tag_comes_back(self):
         notes = struct.pack("IIIHHHH", live_ports.VLAN_VALID | live_ports.TPID_VALID, 60, 60, 0, 0, 5, 0x88A8)
         self.assertEqual(live_ports.with_tag(FRAME, notes), FRAME[:12] + b"\x88\xa8\x00\x05" + FRAME[12:])
@@ -64,6 +71,23 @@ class Programs(unittest.TestCase):
         ]
         self.assertEqual(said, [read(os.path.join(CRATE, "stdout"))] * 2)
         self.assertEqual(*map(read_octets, frames))
+
+    @is_built
+    def test_the_database_is_shown(self):
+        """The LSPs of a router whose interface is up are shown as they are; the question changes none."""
+        stream, sent = scratch("shown.pcap"), scratch("shown-sent.pcap")
+        octets = read_octets(os.path.join(DATA, "stream.pcap"))
+        with open(stream, "wb") as file:
+            file.write(octets + live_stream.record(live_stream.event("up A B"), 0) + live_stream.record(live_stream.event("send A B"), 0))
+        domain = os.path.join(DATA, "domain.toml")
+        subprocess.run([PROGRAM, domain, "A", stream, sent], stdout=subprocess.DEVNULL)
+        own = [pdu for pdu in (frame[17:] for frame in live_show.whole(sent)) if pdu[4] & 31 == 20 and pdu[12:18] == bytes([0, 0, 0, 0, 0, 1])]
+        options = SimpleNamespace(program=PROGRAM, domain=domain, router="A", record=stream)
+        shown = live_show.database(options).splitlines()
+        self.assertEqual(shown[:2], ["IS-IS link-state database of A", "LSP ID                   Router  PduLen  SeqNumber   Chksum  Holdtime  ATT/P/OL"])
+        self.assertEqual([line[:32] for line in shown[2:]], ["0000.0000.0001.00-00  *  A      ", "0000.0000.0002.00-00     B      "])
+        length, number, checksum, life = live_show.values(own[-1])
+        self.assertEqual(shown[2].split()[3:], [str(length), f"0x{number:08x}", f"0x{checksum:04x}", str(life), "0/0/0"])
 
     @is_built
     def test_the_independent_hellos_are_the_same(self):
