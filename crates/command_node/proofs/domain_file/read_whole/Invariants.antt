@@ -1,5 +1,6 @@
-use Rattle.std.proofs.Common.{◌≡◌, ◌-◌, ◌<◌, length}
+use Rattle.std.proofs.Common.{◌≡◌, ◌+◌, ◌-◌, ◌<◌, length}
 use Rattle.std.specs.Io.KnownBytes.{Consumes}
+use Rattle.wire_base.specs.declared.limits.TheConstants.{DOMAIN_FILE_LIMIT}
 use Rattle.command_node.proofs.domain_file.read_whole.Given as goal
 
 abbrev pub invariant-pieces : goal.invariant-pieces
@@ -10,4 +11,4 @@ invariant-pieces g l = record {
 }
 
 abbrev pub decreases-pieces : goal.decreases-pieces
-decreases-pieces g l = 4194305 - length l.text
+decreases-pieces g l = DOMAIN_FILE_LIMIT + 1 - length l.text
