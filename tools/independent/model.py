@@ -21,10 +21,18 @@ def read_toml(data):
     """The document, by TOML 1.1. Python's parser implements 1.0, so inline tables over several lines are joined for it."""
     try:
         text = data.decode("utf-8-sig")  # without a byte order mark
-        try: return tomllib.loads(text)
-        except tomllib.TOMLDecodeError: return tomllib.loads(joined_tables(text))
+        try: doc = tomllib.loads(text)
+        except tomllib.TOMLDecodeError: doc = tomllib.loads(joined_tables(text))
+        if are_small(doc): return doc
     except (UnicodeDecodeError, tomllib.TOMLDecodeError, RecursionError):
-        fault(1, "Toml", "-")
+        pass
+    fault(1, "Toml", "-")
+
+def are_small(value):
+    """Whether each integer has at most 64 bits with its sign, as TOML wants; Python reads larger ones."""
+    if isinstance(value, dict): return all(map(are_small, value.values()))
+    if isinstance(value, list): return all(map(are_small, value))
+    return not isinstance(value, int) or -2**63 <= value < 2**63
 
 # The strings of TOML, a comment, an end of line, and any other character.
 TOKEN = re.compile(r'"""(?:[^\\]|\\.)*?"{3,5}|\'\'\'.*?\'{3,5}|"(?:[^"\\\n]|\\.)*"|\'[^\'\n]*\'|#[^\n]*|\r?\n|.', re.S)
