@@ -64,8 +64,10 @@ class Child:
         frames, frames_in = os.pipe()
         fcntl.fcntl(frames_in, F_SETPIPE_SZ, 1 << 20)
         words = [*words, "/dev/stdin", f"/dev/fd/{frames_in}"]
+        pipes = {"stdin": subprocess.PIPE, "stdout": subprocess.PIPE, "pass_fds": [frames_in]}
         try:
-            self.process = subprocess.Popen(words, stdin=subprocess.PIPE, stdout=subprocess.PIPE, pass_fds=[frames_in])
+            # in a session of its own: Ctrl-C is for the tool, which then ends the stream
+            self.process = subprocess.Popen(words, **pipes, start_new_session=True)
         except OSError as error:
             raise Trouble(f"{words[0]}: {error.strerror}")
         os.close(frames_in)
