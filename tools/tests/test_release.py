@@ -68,6 +68,11 @@ class Release(unittest.TestCase):
                 self.assertIn(f"{tree.SHARE}/tools/common/{name}", files)
         self.assertFalse([path for path in files if "__pycache__" in path or path.endswith(".pyc")])
 
+    def test_what_is_executable_is_a_program_or_a_script(self):
+        for path, it in made_tree().items():
+            if it.is_executable:
+                self.assertIn(it.octets[:2], (b"#!", b"\x7fE"), path)
+
     def test_the_control_file(self):
         text = deb.control(BUILD, made_tree())
         self.assertIn("\nDepends: libc6 (>= 2.34), python3 (>= 3.11)\n", text)
@@ -106,7 +111,8 @@ class ManPages(unittest.TestCase):
     @needs("man", "man-db")
     def test_pages_are_right_for_groff(self):
         given = (GUIDE, "1.2.3", "14 Nov 2023")
-        for page in (man.program_page(*given, tree.command_names()), man.dump_page(*given), man.live_page(*given)):
+        beside = (man.dump_page(*given), man.live_page(*given), man.look_page(*given))
+        for page in (man.program_page(*given, tree.command_names()), *beside):
             done = subprocess.run(
                 ["man", "--warnings", "--local-file", "-"],
                 input=page,
