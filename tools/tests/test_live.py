@@ -60,6 +60,32 @@ class Streams(unittest.TestCase):
         self.assertEqual(live_ports.with_tag(FRAME, bytes(20)), FRAME)
 
 
+class Children(unittest.TestCase):
+    def test_a_program_has_a_session_of_its_own(self):
+        """So that Ctrl-C stops the tool, which ends the program's stream, and not the program."""
+        child = live_stream.Child(["/bin/sh", "-c", "exec cat > /dev/null"])
+        self.assertNotEqual(os.getsid(child.process.pid), os.getsid(0))
+        child.close()
+        self.assertEqual(child.wait(10), 0)
+        self.end(child)
+
+    def test_a_program_that_reads_nothing_is_behind(self):
+        child = live_stream.Child(["/bin/sh", "-c", "sleep 60"])
+        given = 0
+        while not child.is_behind() and given < 10**6:
+            child.give(FRAME, 10**9)
+            given += 1
+        self.assertGreater(given * (16 + len(FRAME)), live_stream.MOST_WAITING)
+        child.process.kill()
+        child.process.wait()
+        self.end(child)
+
+    def end(self, child):
+        os.close(child.frames)
+        child.process.stdout.close()
+        child.process.stdin.close()
+
+
 class Programs(unittest.TestCase):
     @is_built
     def test_the_independent_router_does_the_same(self):
