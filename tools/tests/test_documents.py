@@ -1,4 +1,4 @@
-"""The documents: what is made from the sources is current, links lead somewhere, and the field's terms are used."""
+"""The documents: what is made from the sources is current, links lead to files and headings, and the field's terms are used."""
 import importlib.machinery
 import importlib.util
 import os
@@ -10,6 +10,7 @@ import unittest
 from support import places
 
 LINK = re.compile(r"\]\(([^)#\s]+)(?:#[^)]*)?\)")
+ANCHOR = re.compile(r"\]\(([^)#\s:]*)#([^)\s]+)\)")
 # phrases in whose place the field has a term of its own (docs/glossary.md)
 PHRASES = """want of memory; memory is refused; read fault; write fault; on its way; on their way; what is told; is told of; no form;
 is dear; parted by; all is as it was; knows no BIER; fact of the code; edit that must be refused; edits that must be refused""".replace("\n", " ").split("; ")
@@ -24,6 +25,12 @@ def pages():
 def read(path):
     with open(path, encoding="utf-8") as file:
         return file.read()
+
+
+def headings(path):
+    """The anchors of a page's headings."""
+    lines = re.findall(r"^#+ (.*)$", read(path), re.M)
+    return [re.sub(r"[^\w\- ]", "", line.lower()).strip().replace(" ", "-") for line in lines]
 
 
 class Documents(unittest.TestCase):
@@ -45,6 +52,14 @@ class Documents(unittest.TestCase):
                 if not link.startswith(("http:", "https:")):
                     with self.subTest(page=os.path.basename(page), link=link):
                         self.assertTrue(os.path.exists(os.path.join(os.path.dirname(page), link)))
+
+    def test_links_lead_to_headings(self):
+        for page in pages():
+            for link, anchor in ANCHOR.findall(read(page)):
+                target = os.path.join(os.path.dirname(page), link) if link else page
+                if target.endswith(".md") and os.path.exists(target):
+                    with self.subTest(page=os.path.basename(page), link=link, anchor=anchor):
+                        self.assertIn(anchor, headings(target))
 
     def test_the_fields_terms_are_used(self):
         for page in pages():
