@@ -104,14 +104,17 @@ class Programs(unittest.TestCase):
         stream, sent = scratch("shown.pcap"), scratch("shown-sent.pcap")
         octets = read_octets(os.path.join(DATA, "stream.pcap"))
         with open(stream, "wb") as file:
-            file.write(octets + live_stream.record(live_stream.event("up A B"), 0) + live_stream.record(live_stream.event("send A B"), 0))
+            file.write(octets + b"".join(live_stream.record(live_stream.event(line), 0) for line in ("up A B", "send A B")))
         domain = os.path.join(DATA, "domain.toml")
         subprocess.run([PROGRAM, domain, "A", stream, sent], stdout=subprocess.DEVNULL)
-        own = [pdu for pdu in (frame[17:] for frame in live_show.whole(sent)) if pdu[4] & 31 == 20 and pdu[12:18] == bytes([0, 0, 0, 0, 0, 1])]
+        pdus = [frame[17:] for frame in live_show.whole(sent)]
+        own = [pdu for pdu in pdus if pdu[4] & 31 == 20 and pdu[12:18] == bytes([0, 0, 0, 0, 0, 1])]
         options = SimpleNamespace(program=PROGRAM, domain=domain, router="A", record=stream)
         shown = live_show.database(options).splitlines()
-        self.assertEqual(shown[:2], ["IS-IS link-state database of A", "LSP ID                   Router  PduLen  SeqNumber   Chksum  Holdtime  ATT/P/OL"])
-        self.assertEqual([line[:32] for line in shown[2:]], ["0000.0000.0001.00-00  *  A      ", "0000.0000.0002.00-00     B      "])
+        titles = "LSP ID                   Router  PduLen  SeqNumber   Chksum  Holdtime  ATT/P/OL"
+        self.assertEqual(shown[:2], ["IS-IS link-state database of A", titles])
+        wanted = ["0000.0000.0001.00-00  *  A      ", "0000.0000.0002.00-00     B      "]
+        self.assertEqual([line[:32] for line in shown[2:]], wanted)
         length, number, checksum, life = live_show.values(own[-1])
         self.assertEqual(shown[2].split()[3:], [str(length), f"0x{number:08x}", f"0x{checksum:04x}", str(life), "0/0/0"])
 
