@@ -11,7 +11,7 @@ MOST_NAMES = 4  # in a row of the table
 MOST_ROWS = 8  # of a list below the table
 NAMES = {
     "covered": "covered",
-    "disjoint": "disjoint ways",
+    "disjoint": "disjoint paths",
     "lost_unseen": "lost while unseen",
     "lost_disagreeing": "lost while routers disagree",
     "outage_ms": "outage",
