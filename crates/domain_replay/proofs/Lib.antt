@@ -6,7 +6,7 @@ pub mod DirectionLaws
 pub mod EventTells
 pub mod InTurn
 pub mod SendLaws
-mod LineTells
+pub mod LineTells
 mod SameDomain
 pub mod CourseLaws
 pub mod PartLaws

@@ -1,5 +1,5 @@
 use Rattle.std.proofs.Common.{length}
-use Rattle.show_router.proofs.EventLaws.{event_fits}
+use Rattle.domain_replay.proofs.LineTells.{event_fits}
 use Rattle.show_router.proofs.events.do_event.Goals as goal
 
 pub step-requires : goal.step-requires
