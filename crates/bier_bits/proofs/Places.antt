@@ -1,7 +1,7 @@
 -- The first place whose bit is set, word by word.
-use Rattle.std.proofs.Common.{◌≡◌, ℕ, ◌+◌, ◌-◌, ◌*◌, ◌/◌, ◌%◌, ◌^◌, ◌<◌, ◌≤◌, ◌==◌, ◌&&◌, nat_le, Bool, true, false, List, [], ◌∷◌, length, get_or, bit_and, min, max, w64, Option, Some, None, IfSome, refl, sym, ap, subst, ◌∙◌, arith, inl, inr}
+use Rattle.std.proofs.Common.{◌≡◌, ℕ, ◌+◌, ◌-◌, ◌*◌, ◌/◌, ◌%◌, ◌^◌, ◌<◌, ◌≤◌, ◌==◌, ◌&&◌, nat_le, not, Bool, true, false, List, [], ◌∷◌, length, get_or, bit_and, min, max, w64, Option, Some, None, is_some, IfSome, refl, sym, ap, subst, ◌∙◌, arith, inl, inr}
 use Rattle.std.specs.Int.{bit_at, trailing_zeros}
-use Rattle.std.proofs.lemmas.Bool.{cases_lt, cases_order, eq-eqb, le-leb, lt-leb, true≢false}
+use Rattle.std.proofs.lemmas.Bool.{cases_lt, cases_order, eq-eqb, ne_eqb, le-leb, lt-leb, true≢false}
 use Rattle.std.proofs.lemmas.Bool.Decides.{nat_tests}
 use Rattle.std.proofs.lemmas.Nat.{pow-add}
 use Rattle.std.proofs.lemmas.Option.{same_Some}
@@ -38,6 +38,15 @@ words_none words low k next so_far none i above below = elim (cases_lt i (64 * k
   | inr here ↦ rw (none (i / 64) (omega (arith, here)) (omega (arith, below)), bit_at-zero (i % 64)) refl
 ]
 
+-- no bit that both have, in several words
+pub both_none : (a b : List ℕ) (low k next : ℕ) → NoPlace (has_both a b) low (64 * k) → ((j : ℕ) → k ≤ j → j < next → bit_and (get_or a j 0) (get_or b j 0) ≡ 0) → NoPlace (has_both a b) low (64 * next)
+both_none a b low k next so_far none i above below = elim (cases_lt i (64 * k)) [
+  | inl before ↦ so_far i above before
+  | inr here ↦
+      let split : i ≡ 64 * (i / 64) + i % 64 = omega arith in
+      ap (has_both a b) split ∙ both_word a b (i / 64) (i % 64) (omega arith) ∙ ap (λ (n : ℕ). bit_at n (i % 64) == 1) (none (i / 64) (omega (arith, here)) (omega (arith, below))) ∙ ap (λ (d : ℕ). d == 1) (bit_at-zero (i % 64))
+]
+
 zero_bit : (b : ℕ) → b ≡ 0 → (b == 1) ≡ false
 zero_bit b e = grind (arith, nat_tests, e)
 
@@ -58,7 +67,7 @@ word_some test low k word high is some fits le ge so_far =
     }
 
 -- the bits of a word that was shifted
-shifted : (word r i : ℕ) → bit_at (word / 2 ^ r) i ≡ bit_at word (r + i)
+pub shifted : (word r i : ℕ) → bit_at (word / 2 ^ r) i ≡ bit_at word (r + i)
 shifted word r i = ap (λ (n : ℕ). n % 2) (div-div-eq-div-mul word (2 ^ r) (2 ^ i) ∙ ap (λ (n : ℕ). word / n) (sym (pow-add 2 r i)))
 
 -- the first word, from a place within it on
@@ -200,6 +209,13 @@ first_apart w words xs ys (Some p) is first = before (intersection xs ys) 0 (64 
     before (z ∷ zs) low high within at = λ q some lt.
         let same : z ≡ p = same_Some z p at in
         none_below q (z - 1) high (z ∷ zs) (omega (arith, within.0), within.1, within.2) (omega (arith, same, lt))
+
+-- a set without a first member is empty
+pub none_first : (xs : List ℕ) (none : Bool) → is_some (first_member xs) ≡ not none → none ≡ (length xs == 0)
+none_first [] true is = refl
+none_first [] false is = absurd (true≢false (sym is))
+none_first (x ∷ xs) true is = absurd (true≢false is)
+none_first (x ∷ xs) false is = sym (ne_eqb (length (x ∷ xs)) 0 (λ e. absurd (omega (arith, e))))
 
 -- the same where the end is that of the words
 pub found_among : (w from i : ℕ) (words : List ℕ) (test : ℕ → Bool) (xs : List ℕ) → length words ≡ w → IsFrom (64 * w) from test xs → IsNextPlace test from (64 * length words) i → Some (i + 1) ≡ first_member xs

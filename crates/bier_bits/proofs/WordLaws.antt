@@ -36,6 +36,10 @@ members_is w words xs is same = filter-is (64 * w) (λ p. has_place words (p - 1
 pub zero_is : (w : ℕ) → members_of w (replicate w 0) ≡ []
 zero_is w = members_is w (replicate w 0) [] tt (λ i lt. sym (rw (get_or-replicate {A = ℕ} w (i / 64) 0 0 (omega arith), bit_at-zero (i % 64)) refl))
 
+-- words without a bit stand for no position
+pub none_is : (w : ℕ) (words : List ℕ) → ((k : ℕ) → get_or words k 0 ≡ 0) → members_of w words ≡ []
+none_is w words none = members_is w words [] tt (λ i lt. sym (rw (none (i / 64), bit_at-zero (i % 64)) refl))
+
 -- ---- one position
 
 -- what a bit of the words is after another is set

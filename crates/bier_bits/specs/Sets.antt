@@ -34,6 +34,13 @@ places_in words = members_of (length words) words
 abbrev pub AreWords : List ℕ → Type 0
 AreWords words = (k : ℕ) → slice_index words k < 2 ^ 64
 
+-- a word whose bit k is not set only where word k is 0, and one whose bit k is not set only where two words k share no bit
+abbrev pub AreMarked : ℕ → List ℕ → Type 0
+AreMarked marks words = (k : ℕ) → bit_at marks k ≡ 0 → slice_index words k ≡ 0
+
+abbrev pub AreSharedMarks : ℕ → List ℕ → List ℕ → Type 0
+AreSharedMarks marks a b = (k : ℕ) → bit_at marks k ≡ 0 → bit_and (slice_index a k) (slice_index b k) ≡ 0
+
 -- no index from one number up to another passes a test, and the first that does
 abbrev pub NoPlace : (ℕ → Bool) → ℕ → ℕ → Type 0
 NoPlace test low high = (i : ℕ) → low ≤ i → i < high → test i ≡ false

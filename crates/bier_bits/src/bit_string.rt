@@ -3,25 +3,29 @@ ghost use Rattle.wire_base.specs.model.BitSet.{has_member, with_member, first_me
 ghost use Rattle.bier_bits.specs.Sets.{is_width, from_on, AreApartBelow};
 
 use crate::octets::{read_words, write_words};
-use crate::words::{Both, Either, Without, are_zero, count, cut, first_shared, join, next_place};
+use crate::words::{Both, Either, Without, clear, count, cut, first_shared, join, next_place};
 use std::marker::Model;
 
 /// A BitString of 64 W bits, modeled as a set of bit positions, which are counted from 1 to 64 W (RFC 8279, 3; RFC 8296,
 /// 2.1.2). W is 1, 2, 4, 8, 16, 32 or 64, for the seven lengths that a BIER header can carry.
 ///
-/// It holds W words of 64 bits: position p is bit (p - 1) mod 64 of word (p - 1) div 64.
+/// It holds W words of 64 bits: position p is bit (p - 1) mod 64 of word (p - 1) div 64. A further word marks those that may
+/// be nonzero, so that the operations on sparse sets visit only these.
 #[derive(Drop)]
 pub struct BitString<const W: usize> {
     lanes: [u64; W],
+    marks: u64,
 }
 
 impl<const W: usize> Model for BitString<W> {
     ghost use Rattle.std.specs.Prelude.{List, ℕ};
-    ghost use Rattle.bier_bits.specs.Sets.{members_of};
+    ghost use Rattle.bier_bits.specs.Sets.{members_of, AreMarked};
 
     ghost Value = { List ℕ };
 
     ghost view = { λ b. members_of W b.lanes };
+
+    ghost invariant = { λ b. AreMarked b.marks b.lanes };
 }
 
 impl<const W: usize> BitString<W> {
@@ -30,14 +34,20 @@ impl<const W: usize> BitString<W> {
         requires { IsTrue (is_width W) }
         ensures { result ≡ [] }
     {
-        BitString { lanes: [0; W] }
+        BitString {
+            lanes: [0; W],
+            marks: 0,
+        }
     }
 
     /// Returns an equal BitString.
     pub fn copy(&self) -> Self
         ensures { result ≡ self.now }
     {
-        BitString { lanes: self.lanes }
+        BitString {
+            lanes: self.lanes,
+            marks: self.marks,
+        }
     }
 
     /// Returns an equal BitString whose width parameter has the same value under another name.
@@ -48,7 +58,10 @@ impl<const W: usize> BitString<W> {
     {
         let mut lanes = [0; V];
         lanes.copy_from_slice(&self.lanes);
-        BitString { lanes }
+        BitString {
+            lanes,
+            marks: self.marks,
+        }
     }
 
     /// Returns the width in bits, which is also the highest position. The set is an ascending list of positions from 1 to
@@ -64,6 +77,7 @@ impl<const W: usize> BitString<W> {
     }
 
     /// Sets the bit at position `bp`, from 1 to the width.
+    #[tactic(auto, using(crate::proofs::Widths::width_le))]
     pub fn set(&mut self, bp: u16)
         requires width { IsTrue (is_width W) }
         requires low { 1 ≤ bp }
@@ -72,6 +86,7 @@ impl<const W: usize> BitString<W> {
     {
         let place = usize::from(bp - 1);
         self.lanes[place / 64] |= 1 << (place % 64);
+        self.marks |= 1 << (place / 64);
     }
 
     /// Clears the bit at position `bp`, from 1 to the width.
@@ -104,7 +119,10 @@ impl<const W: usize> BitString<W> {
     {
         let mut lanes = [0; W];
         join::<Both>(&self.lanes, &other.lanes, &mut lanes);
-        BitString { lanes }
+        BitString {
+            lanes,
+            marks: self.marks & other.marks,
+        }
     }
 
     /// Returns the positions of `self` that are not in `other`.
@@ -114,22 +132,36 @@ impl<const W: usize> BitString<W> {
     {
         let mut lanes = [0; W];
         join::<Without>(&self.lanes, &other.lanes, &mut lanes);
-        BitString { lanes }
+        BitString {
+            lanes,
+            marks: self.marks,
+        }
+    }
+
+    /// Clears all bits.
+    #[tactic(auto, using(crate::proofs::Widths::width_le))]
+    pub fn clear(&mut self)
+        requires { IsTrue (is_width W) }
+        ensures { self.new ≡ [] }
+    {
+        clear(&mut self.lanes, self.marks);
+        self.marks = 0;
     }
 
     /// Clears the positions of the mask in place, and returns those that were set.
+    #[tactic(auto, using(crate::proofs::Widths::width_le))]
     pub fn cut(&mut self, mask: &Self) -> Self
         requires { IsTrue (is_width W) }
         ensures taken { result ≡ intersection self.old mask.now }
         ensures left { self.new ≡ difference self.old mask.now }
     {
         let mut lanes = [0; W];
-        cut(&mut self.lanes, &mask.lanes, &mut lanes, 0);
-        BitString { lanes }
+        let shared = self.marks & mask.marks;
+        let marks = cut(&mut self.lanes, &mask.lanes, &mut lanes, shared, 0);
+        BitString { lanes, marks }
     }
 
     /// Like `cut`, if the mask has no position below `bp` that is set in `self`: those words are skipped.
-    #[tactic(auto, using(crate::proofs::Widths::width_le))]
     pub fn cut_from(&mut self, mask: &Self, bp: u16) -> Self
         requires width { IsTrue (is_width W) }
         requires low { 1 ≤ bp }
@@ -138,10 +170,25 @@ impl<const W: usize> BitString<W> {
         ensures taken { result ≡ intersection self.old mask.now }
         ensures left { self.new ≡ difference self.old mask.now }
     {
+        let mut taken = BitString::zero();
+        self.cut_from_into(mask, bp, &mut taken);
+        taken
+    }
+
+    /// Like `cut_from`, but stores the positions that were set in `taken`, instead of its previous positions.
+    #[tactic(auto, using(crate::proofs::Widths::width_le))]
+    pub fn cut_from_into(&mut self, mask: &Self, bp: u16, taken: &mut Self)
+        requires width { IsTrue (is_width W) }
+        requires low { 1 ≤ bp }
+        requires high { bp ≤ 64 * W }
+        requires apart { AreApartBelow bp self.old mask.now }
+        ensures taken { taken.new ≡ intersection self.old mask.now }
+        ensures left { self.new ≡ difference self.old mask.now }
+    {
         let from = usize::from(bp - 1) / 64;
-        let mut lanes = [0; W];
-        cut(&mut self.lanes, &mask.lanes, &mut lanes, from);
-        BitString { lanes }
+        let shared = self.marks & mask.marks;
+        clear(&mut taken.lanes, taken.marks);
+        taken.marks = cut(&mut self.lanes, &mask.lanes, &mut taken.lanes, shared, from);
     }
 
     /// Returns the union.
@@ -151,7 +198,10 @@ impl<const W: usize> BitString<W> {
     {
         let mut lanes = [0; W];
         join::<Either>(&self.lanes, &other.lanes, &mut lanes);
-        BitString { lanes }
+        BitString {
+            lanes,
+            marks: self.marks | other.marks,
+        }
     }
 
     /// Returns whether no bit is set.
@@ -159,7 +209,7 @@ impl<const W: usize> BitString<W> {
         requires { IsTrue (is_width W) }
         ensures { result ≡ (length self.now == 0) }
     {
-        are_zero(&self.lanes)
+        self.first().is_none()
     }
 
     /// Returns whether both BitStrings are equal.
@@ -187,7 +237,7 @@ impl<const W: usize> BitString<W> {
         requires { IsTrue (is_width W) }
         ensures { result ≡ first_member self.now }
     {
-        let place = next_place(&self.lanes, 0)?;
+        let place = next_place(&self.lanes, self.marks, 0)?;
         Some(place as u16 + 1)
     }
 
@@ -201,7 +251,7 @@ impl<const W: usize> BitString<W> {
         ensures low { IfSome result (λ p. bp ≤ p) }
         ensures high { IfSome result (λ p. p ≤ 64 * W) }
     {
-        let place = next_place(&self.lanes, usize::from(bp.max(1)) - 1)?;
+        let place = next_place(&self.lanes, self.marks, usize::from(bp.max(1)) - 1)?;
         Some(place as u16 + 1)
     }
 
@@ -211,7 +261,7 @@ impl<const W: usize> BitString<W> {
         requires { IsTrue (is_width W) }
         ensures { result ≡ first_member (intersection self.now other.now) }
     {
-        let place = first_shared(&self.lanes, &other.lanes, 0)?;
+        let place = first_shared(&self.lanes, &other.lanes, self.marks & other.marks, 0)?;
         Some(place as u16 + 1)
     }
 
@@ -226,7 +276,7 @@ impl<const W: usize> BitString<W> {
         ensures apart { IfSome result (λ p. AreApartBelow p self.now other.now) }
     {
         let from = usize::from(bp - 1) / 64;
-        let place = first_shared(&self.lanes, &other.lanes, from)?;
+        let place = first_shared(&self.lanes, &other.lanes, self.marks & other.marks, from)?;
         Some(place as u16 + 1)
     }
 
@@ -242,6 +292,7 @@ impl<const W: usize> BitString<W> {
     }
 
     /// Reads a BitString from 8 W octets in network order. Writing the result gives the same octets.
+    #[tactic(auto, using(crate::proofs::Widths::width_le))]
     pub fn read(bytes: &[u8]) -> Self
         requires width { IsTrue (is_width W) }
         requires octets { length bytes.now ≡ 8 * W }
@@ -249,7 +300,7 @@ impl<const W: usize> BitString<W> {
         ensures again { octets_of (8 * W) result ≡ bytes.now }
     {
         let mut lanes = [0; W];
-        read_words(bytes, &mut lanes);
-        BitString { lanes }
+        let marks = read_words(bytes, &mut lanes);
+        BitString { lanes, marks }
     }
 }

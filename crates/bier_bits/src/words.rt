@@ -1,9 +1,11 @@
-//! Operations on slices of 64-bit words, eight words at once while that many are left.
-ghost use Rattle.std.specs.Prelude.{◌≡◌, ◌≤◌, ◌<◌, ◌+◌, ◌*◌, ◌==◌, ℕ, length, slice_index, bit_and, bit_or, MatchOption};
-ghost use Rattle.std.specs.Int.{bit_not, w64};
-ghost use Rattle.std.specs.List.{list_all};
+//! Operations on slices of 64-bit words. Whole slices are joined eight words at once while that many are left; the words of
+//! sparse slices are visited by their marks.
+//!
+//! The marks of at most 64 words are one word: bit k is set if word k is not 0, and may be set if it is 0.
+ghost use Rattle.std.specs.Prelude.{◌≡◌, ◌≤◌, ◌<◌, ◌+◌, ◌*◌, ℕ, length, slice_index, bit_and, bit_or, MatchOption};
+ghost use Rattle.std.specs.Int.{bit_at, bit_not, w64};
 ghost use Rattle.std.specs.Simd.Lanes.{zip2, chunk, put_chunk};
-ghost use Rattle.bier_bits.specs.Sets.{AreWords, IsNextPlace, NoPlace, has_place, has_both, places_in, and_not};
+ghost use Rattle.bier_bits.specs.Sets.{AreWords, AreMarked, AreSharedMarks, IsNextPlace, NoPlace, has_place, has_both, places_in, and_not};
 
 use std::simd::prelude::*;
 
@@ -91,74 +93,78 @@ fn join_eight<J: Joint>(a: &[u64], b: &[u64], out: &mut [u64], at: usize)
     joined.copy_to_slice(&mut out[at..]);
 }
 
-/// Clears the bits of a mask in `words` and sets the cleared ones in `taken`, which is empty: eight words at once, and
-/// then the rest. Below the word `from` the mask has none of the set bits.
-pub fn cut(words: &mut [u64], mask: &[u64], taken: &mut [u64], from: usize)
+/// Returns the marks with that of word `k` as well, if the word is not 0.
+pub fn with_mark(marks: u64, k: usize, word: u64) -> u64
+    requires { k < 64 }
+    ensures kept { (j : ℕ) → bit_at result j ≡ 0 → bit_at marks j ≡ 0 }
+    ensures marked { bit_at result k ≡ 0 → word ≡ 0 }
+{
+    if word == 0 {
+        return marks;
+    }
+    marks | 1 << k
+}
+
+/// Returns the least index of a mark from an index on. If there is none, the result is at least 64.
+fn next_mark(marks: u64, from: usize) -> usize
+    ensures low { from ≤ result }
+    ensures none { (k : ℕ) → from ≤ k → k < result → bit_at marks k ≡ 0 }
+{
+    if from >= 64 {
+        return from;
+    }
+    let above = marks >> from;
+    if above == 0 {
+        return 64;
+    }
+    from + above.trailing_zeros() as usize
+}
+
+/// Clears the words.
+pub fn clear(words: &mut [u64], marks: u64)
+    requires few { length words.old ≤ 64 }
+    requires marked { AreMarked marks words.old }
+    ensures length { length words.new ≡ length words.old }
+    ensures empty { (k : ℕ) → slice_index words.new k ≡ 0 }
+{
+    let mut k = next_mark(marks, 0);
+    'visits: while k < words.len() {
+        words[k] = 0;
+        k = next_mark(marks, k + 1);
+    }
+}
+
+/// Clears the bits of a mask in `words` and sets the cleared ones in `taken`, which is empty. Returns the marks of `taken`.
+/// `shared` has the marks of the words that may share a bit with the mask. Below the word `from` they share none.
+pub fn cut(words: &mut [u64], mask: &[u64], taken: &mut [u64], shared: u64, from: usize) -> u64
     requires mask { length mask.now ≡ length words.old }
     requires taken { length taken.old ≡ length words.old }
+    requires few { length words.old ≤ 64 }
+    requires shared { AreSharedMarks shared words.old mask.now }
     requires none { NoPlace (has_both words.old mask.now) 0 (64 * from) }
     requires empty { (k : ℕ) → slice_index taken.old k ≡ 0 }
     ensures fits { AreWords mask.now }
     ensures taken { (k : ℕ) → k < length words.old → slice_index taken.new k ≡ bit_and (slice_index words.old k) (slice_index mask.now k) }
     ensures left { (k : ℕ) → k < length words.old → slice_index words.new k ≡ and_not (slice_index words.old k) (slice_index mask.now k) }
+    ensures marked { AreMarked result taken.new }
 {
-    let whole = words.len() / 8 * 8;
-    let mut at = whole.min(from / 8 * 8);
-    while at < whole {
-        cut_eight(words, mask, taken, at);
-        at += 8;
-    }
-    for k in whole..words.len() {
-        taken[k] = words[k] & mask[k];
+    let mut marks = 0;
+    let mut k = next_mark(shared, from);
+    'visits: while k < words.len() {
+        let both = words[k] & mask[k];
         words[k] &= !mask[k];
+        taken[k] = both;
+        marks = with_mark(marks, k, both);
+        k = next_mark(shared, k + 1);
     }
-}
-
-fn cut_eight(words: &mut [u64], mask: &[u64], taken: &mut [u64], at: usize)
-    requires words { at + 8 ≤ length words.old }
-    requires mask { at + 8 ≤ length mask.now }
-    requires taken { at + 8 ≤ length taken.old }
-    ensures taken { taken.new ≡ put_chunk at taken.old (zip2 bit_and (chunk at 8 words.old) (chunk at 8 mask.now)) }
-    ensures left { words.new ≡ put_chunk at words.old (zip2 and_not (chunk at 8 words.old) (chunk at 8 mask.now)) }
-{
-    let eight = u64x8::from_slice(&words[at..]);
-    let mask = u64x8::from_slice(&mask[at..]);
-    Both::eight(eight, mask).copy_to_slice(&mut taken[at..]);
-    Without::eight(eight, mask).copy_to_slice(&mut words[at..]);
-}
-
-/// Returns whether all words are 0.
-pub fn are_zero(words: &[u64]) -> bool
-    ensures fits { AreWords words.now }
-    ensures zero { result ≡ list_all (λ x. x == 0) words.now }
-{
-    let whole = words.len() / 8 * 8;
-    let mut at = 0;
-    while at < whole {
-        if !are_eight_zero(words, at) {
-            return false;
-        }
-        at += 8;
-    }
-    for k in whole..words.len() {
-        if words[k] != 0 {
-            return false;
-        }
-    }
-    true
-}
-
-fn are_eight_zero(words: &[u64], at: usize) -> bool
-    requires { at + 8 ≤ length words.now }
-    ensures { result ≡ list_all (λ x. x == 0) (chunk at 8 words.now) }
-{
-    u64x8::from_slice(&words[at..]).reduce_or() == 0
+    marks
 }
 
 /// Returns the index of the first set bit from an index on. Bits are counted from 0 through all words, the least significant
 /// bit of each word first.
-pub fn next_place(words: &[u64], from: usize) -> Option<usize>
-    requires { length words.now ≤ 64 }
+pub fn next_place(words: &[u64], marks: u64, from: usize) -> Option<usize>
+    requires few { length words.now ≤ 64 }
+    requires marked { AreMarked marks words.now }
     ensures { MatchOption result (NoPlace (has_place words.now) from (64 * length words.now)) (λ q. IsNextPlace (has_place words.now) from (64 * length words.now) q) }
 {
     let first = from / 64;
@@ -169,46 +175,44 @@ pub fn next_place(words: &[u64], from: usize) -> Option<usize>
     if above != 0 {
         return Some(from + above.trailing_zeros() as usize);
     }
-    let k = next_word(words, first + 1);
+    let k = next_word(words, marks, first + 1);
     if k >= words.len() {
         return None;
     }
     Some(64 * k + words[k].trailing_zeros() as usize)
 }
 
-/// Returns the index of the first nonzero word from an index on, or the length: eight words at once while they are
-/// 0, and then one by one.
-fn next_word(words: &[u64], from: usize) -> usize
+/// Returns the index of the first nonzero word from an index on. If there is none, the result is at least the length.
+fn next_word(words: &[u64], marks: u64, from: usize) -> usize
     requires few { length words.now ≤ 64 }
-    requires within { from ≤ length words.now }
+    requires marked { AreMarked marks words.now }
     ensures low { from ≤ result }
-    ensures high { result ≤ length words.now }
     ensures zero { (k : ℕ) → from ≤ k → k < result → slice_index words.now k ≡ 0 }
     ensures found { result < length words.now → 0 < slice_index words.now result }
 {
-    let mut at = from;
-    'eights: while at + 8 <= words.len() && are_eight_zero(words, at) {
-        at += 8;
-    }
-    'ones: while at < words.len() && words[at] == 0 {
-        at += 1;
+    let mut at = next_mark(marks, from);
+    'zeros: while at < words.len() && words[at] == 0 {
+        at = next_mark(marks, at + 1);
     }
     at
 }
 
-/// Returns the index of the first bit that is set in both. Below the word `from` they share none.
-pub fn first_shared(a: &[u64], b: &[u64], from: usize) -> Option<usize>
+/// Returns the index of the first bit that is set in both. `shared` has the marks of the words that may share a bit. Below the
+/// word `from` they share none.
+pub fn first_shared(a: &[u64], b: &[u64], shared: u64, from: usize) -> Option<usize>
     requires few { length a.now ≤ 64 }
     requires same { length b.now ≡ length a.now }
-    requires within { from ≤ length a.now }
+    requires shared { AreSharedMarks shared a.now b.now }
     requires none { NoPlace (has_both a.now b.now) 0 (64 * from) }
     ensures { MatchOption result (NoPlace (has_both a.now b.now) 0 (64 * length a.now)) (λ q. IsNextPlace (has_both a.now b.now) 0 (64 * length a.now) q) }
 {
-    for k in from..a.len() {
+    let mut k = next_mark(shared, from);
+    'visits: while k < a.len() {
         let both = a[k] & b[k];
         if both != 0 {
             return Some(64 * k + both.trailing_zeros() as usize);
         }
+        k = next_mark(shared, k + 1);
     }
     None
 }

@@ -7,7 +7,7 @@ use Rattle.bier_bits.proofs.WordLaws.{place_at}
 use Rattle.bier_bits.proofs.words.next_place.Goals as goal
 
 pub overflow_add-result : goal.overflow_add-result
-overflow_add-result c = record { fits = omega (arith, c.if-first-words.false, c.requires, trailing_le 64 (get_or c.args.words.now (c.args.from / 64) 0 / 2 ^ (c.args.from % 64))) }
+overflow_add-result c = record { fits = omega (arith, c.if-first-words.false, c.requires.few, trailing_le 64 (get_or c.args.words.now (c.args.from / 64) 0 / 2 ^ (c.args.from % 64))) }
 
 pub returns-then-above-ne0 : goal.returns-then-above-ne0
 returns-then-above-ne0 c =

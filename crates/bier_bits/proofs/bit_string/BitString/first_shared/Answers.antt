@@ -1,6 +1,7 @@
 use Rattle.std.proofs.Common.{◌∙◌}
 use Rattle.wire_base.specs.model.BitSet.{intersection}
 use Rattle.bier_bits.specs.Sets.{has_both}
+use Rattle.bier_bits.proofs.Marks.{shared_marks}
 use Rattle.bier_bits.proofs.Places.{from_shared, found_among, none_among}
 use Rattle.bier_bits.proofs.bit_string.BitString.first_shared.Goals as goal
 
@@ -13,3 +14,6 @@ pub returns : goal.returns
 returns g c =
     found_among g.row.W 0 c.in_ok-place.place c.self.inside.lanes (has_both c.self.inside.lanes c.other.inside.lanes) (intersection c.args.self.now c.args.other.now) c.self.told
     (from_shared g.row.W c.self.inside.lanes c.other.inside.lanes c.args.self.now c.args.other.now c.self.view_is c.other.view_is) c.in_ok-place.ensures
+
+pub first_shared-requires-clause-shared : goal.first_shared-requires-clause-shared
+first_shared-requires-clause-shared g c = shared_marks c.self.inside.marks c.other.inside.marks c.self.inside.lanes c.other.inside.lanes c.self.invariant c.other.invariant

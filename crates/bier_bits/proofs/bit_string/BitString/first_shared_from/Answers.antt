@@ -1,6 +1,7 @@
 use Rattle.std.proofs.Common.{◌∙◌, ◌/◌, ◌+◌, Some, ℕ, ap}
 use Rattle.wire_base.specs.model.BitSet.{intersection}
 use Rattle.bier_bits.specs.Sets.{has_both}
+use Rattle.bier_bits.proofs.Marks.{shared_marks}
 use Rattle.bier_bits.proofs.Places.{from_shared, found_among, none_among, none_apart, first_apart}
 use Rattle.bier_bits.proofs.bit_string.BitString.first_shared_from.Goals as goal
 
@@ -20,3 +21,6 @@ first_shared-requires-clause-none g c =
 
 pub returns-clause-apart : goal.returns-clause-apart
 returns-clause-apart g c = first_apart g.row.W c.self.inside.lanes c.args.self.now c.args.other.now (Some (c.in_ok-place.place + 1)) c.self.view_is (returns-clause-first g c)
+
+pub first_shared-requires-clause-shared : goal.first_shared-requires-clause-shared
+first_shared-requires-clause-shared g c = shared_marks c.self.inside.marks c.other.inside.marks c.self.inside.lanes c.other.inside.lanes c.self.invariant c.other.invariant

@@ -1,6 +1,6 @@
-use Rattle.std.proofs.Common.{◌∙◌}
-use Rattle.bier_bits.proofs.Joined.{empty_is}
+use Rattle.std.proofs.Common.{ℕ, Option, is_some, sym, ap, ◌∙◌}
+use Rattle.bier_bits.proofs.Places.{none_first}
 use Rattle.bier_bits.proofs.bit_string.BitString.is_empty.Goals as goal
 
 pub returns : goal.returns
-returns g c = c.are_zero.ensures.zero ∙ empty_is g.row.W c.self.inside.lanes c.args.self.now c.self.told c.are_zero.ensures.fits c.self.view_is
+returns g c = none_first c.args.self.now c.is_none.result (sym (ap (λ (o : Option ℕ). is_some o) c.first.ensures) ∙ c.is_none.ensures)

@@ -1,0 +1,71 @@
+-- Words that are marked where they are not 0.
+use Rattle.std.proofs.Common.{◌≡◌, ℕ, ◌+◌, ◌-◌, ◌*◌, ◌/◌, ◌%◌, ◌^◌, ◌<◌, ◌≤◌, List, length, get_or, set, bit_and, bit_or, w64, refl, sym, ap, ◌∙◌, arith, inl, inr}
+use Rattle.std.specs.Int.{bit_at, trailing_zeros}
+use Rattle.std.specs.Int.Bits.{and_zero_l, and_zero_r}
+use Rattle.std.proofs.lemmas.Bool.{cases_lt, cases_eq}
+use Rattle.std.proofs.lemmas.List.{get_or_past, get_or-set_same, get_or-set_other}
+use Rattle.std.proofs.lemmas.Nat.Bits.{bit_at_and, bit_at_or, bit_at-zero, bit_at-trailing_zeros, bit_at_set_same}
+use Rattle.bier_bits.specs.Sets.{AreMarked, AreSharedMarks}
+use Rattle.bier_bits.proofs.Places.{shifted}
+
+-- a place past the end has 0
+pub inside : (words : List ℕ) (k : ℕ) → (k < length words → get_or words k 0 ≡ 0) → get_or words k 0 ≡ 0
+inside words k within = elim (cases_lt k (length words)) [
+  | inl lt ↦ within lt
+  | inr past ↦ get_or_past words k 0 past
+]
+
+-- ---- one mark more
+
+pub mark_kept : (marks more j : ℕ) → bit_at (bit_or marks more) j ≡ 0 → bit_at marks j ≡ 0
+mark_kept marks more j none = omega (arith, bit_at_or marks more j, none)
+
+pub mark_kept_r : (marks more j : ℕ) → bit_at (bit_or marks more) j ≡ 0 → bit_at more j ≡ 0
+mark_kept_r marks more j none = omega (arith, bit_at_or marks more j, none)
+
+pub mark_set : (marks n word : ℕ) → n < 64 → bit_at (bit_or marks (1 * 2 ^ n % 2 ^ 64)) n ≡ 0 → word ≡ 0
+mark_set marks n word low none = absurd (omega (arith, bit_at_set_same w64 marks n low, none))
+
+-- ---- the next mark
+
+pub none_above : (marks from k : ℕ) → marks / 2 ^ from ≡ 0 → from ≤ k → bit_at marks k ≡ 0
+none_above marks from k none le =
+    let split : k ≡ from + (k - from) = omega (arith, le) in
+    ap (bit_at marks) split ∙ sym (shifted marks from (k - from)) ∙ ap (λ (n : ℕ). bit_at n (k - from)) none ∙ bit_at-zero (k - from)
+
+pub none_before : (marks from k : ℕ) → 0 < marks / 2 ^ from → marks / 2 ^ from < 2 ^ 64 → from ≤ k → k < from + trailing_zeros w64 (marks / 2 ^ from) → bit_at marks k ≡ 0
+none_before marks from k some fits le lt =
+    let split : k ≡ from + (k - from) = omega (arith, le) in
+    let t = bit_at-trailing_zeros w64 (marks / 2 ^ from) some fits in
+    ap (bit_at marks) split ∙ sym (shifted marks from (k - from)) ∙ t.2 (k - from) (omega (arith, le, lt))
+
+-- ---- words that are written
+
+-- one word, which is marked from now on if it is not 0
+pub marked_set : (words : List ℕ) (marks now n x : ℕ) → n < length words → ((j : ℕ) → bit_at now j ≡ 0 → bit_at marks j ≡ 0) → (bit_at now n ≡ 0 → x ≡ 0) → AreMarked marks words → AreMarked now (set words n x)
+marked_set words marks now n x lt kept marked are k none = elim (cases_eq k n) [
+  | inl e ↦ ap (λ (j : ℕ). get_or (set words n x) j 0) e ∙ get_or-set_same words n x 0 lt ∙ marked (sym (ap (bit_at now) e) ∙ none)
+  | inr ne ↦ get_or-set_other words n k x 0 ne ∙ are k (kept k none)
+]
+
+pub marked_bit : (words : List ℕ) (marks n x : ℕ) → n < length words → n < 64 → AreMarked marks words → AreMarked (bit_or marks (1 * 2 ^ n % 2 ^ 64)) (set words n x)
+marked_bit words marks n x lt low are = marked_set words marks (bit_or marks (1 * 2 ^ n % 2 ^ 64)) n x lt (λ j none. mark_kept marks (1 * 2 ^ n % 2 ^ 64) j none) (mark_set marks n x low) are
+
+-- ---- words that are joined
+
+pub shared_marks : (m n : ℕ) (a b : List ℕ) → AreMarked m a → AreMarked n b → AreSharedMarks (bit_and m n) a b
+shared_marks m n a b are_a are_b k none = elim (cases_lt 0 (bit_at m k)) [
+  | inl some ↦ ap (λ (y : ℕ). bit_and (get_or a k 0) y) (are_b k (omega (arith, bit_at_and m n k, none, some))) ∙ and_zero_r (get_or a k 0)
+  | inr zero ↦ ap (λ (x : ℕ). bit_and x (get_or b k 0)) (are_a k (omega (arith, zero))) ∙ and_zero_l (get_or b k 0)
+]
+
+pub marked_and : (m n : ℕ) (a b c : List ℕ) → AreMarked m a → AreMarked n b → ((k : ℕ) → k < length c → get_or c k 0 ≡ bit_and (get_or a k 0) (get_or b k 0)) → AreMarked (bit_and m n) c
+marked_and m n a b c are_a are_b joined k none = inside c k (λ lt. joined k lt ∙ shared_marks m n a b are_a are_b k none)
+
+pub marked_or : (m n : ℕ) (a b c : List ℕ) → AreMarked m a → AreMarked n b → ((k : ℕ) → k < length c → get_or c k 0 ≡ bit_or (get_or a k 0) (get_or b k 0)) → AreMarked (bit_or m n) c
+marked_or m n a b c are_a are_b joined k none = inside c k (λ lt. joined k lt ∙ rw (are_a k (mark_kept m n k none), are_b k (mark_kept_r m n k none)) refl)
+
+-- which words were cleared: those before a place, and those behind it that were 0
+pub record IsCleared (words : List ℕ) (marks at : ℕ) : Type 0 where
+  pub below : (k : ℕ) → k < at → get_or words k 0 ≡ 0
+  pub marked : AreMarked marks words
