@@ -1,5 +1,5 @@
 -- What a frame is read as, and how it is spelled.
-use Rattle.std.proofs.Common.{◌≡◌, ℕ, ◌+◌, ◌*◌, ◌/◌, ◌%◌, ◌<◌, ◌≤◌, ◌&&◌, ◌==◌, true, leb, List, [], ◌∷◌, ◌++◌, length, take, drop, Result, Ok, Err, is_ok, IfOk, refl, sym, ap, ap₂, ◌∙◌, subst, append_assoc, take-append-drop, arith, inl, inr}
+use Rattle.std.proofs.Common.{◌≡◌, ℕ, ◌+◌, ◌*◌, ◌/◌, ◌%◌, ◌<◌, ◌≤◌, ◌&&◌, ◌==◌, true, leb, List, [], ◌∷◌, ◌++◌, length, take, drop, slice_index_or, Result, Ok, Err, is_ok, IfOk, refl, sym, ap, ap₂, ◌∙◌, subst, append_assoc, take-append-drop, arith, inl, inr}
 use Rattle.std.proofs.lemmas.Bool.{cases_lt, cases_eq, cases_Bool, lt-ltb, le-ltb, le-leb, eq-eqb, ne_eqb, eqb-true, and_parts, false≢true}
 use Rattle.std.proofs.lemmas.List.{take_at, drop_at, drop-drop, length-append, length-drop, length-take, get_or-drop}
 use Rattle.byteorder.specs.Endian.{big_bytes, big_number}
@@ -186,3 +186,22 @@ head_source to from old new n six-to six-from is =
     let more = big_bytes 2 n ++ drop 14 old in
     let shape : new ≡ to ++ (from ++ more) = is ∙ simp append_assoc in
     ap (λ (l : List ℕ). take 6 l) (ap (λ (l : List ℕ). drop 6 l) shape ∙ drop_at to (from ++ more) 6 six-to) ∙ take_at from more 6 six-from
+
+-- ---- a head, octet by octet
+
+pub six_are : (xs : List ℕ) → length xs ≡ 6 → slice_index_or xs 0 0 ∷ slice_index_or xs 1 0 ∷ slice_index_or xs 2 0 ∷ slice_index_or xs 3 0 ∷ slice_index_or xs 4 0 ∷ slice_index_or xs 5 0 ∷ [] ≡ xs
+six_are [] long = absurd (omega (arith, long))
+six_are (a ∷ []) long = absurd (omega (arith, long))
+six_are (a ∷ b ∷ []) long = absurd (omega (arith, long))
+six_are (a ∷ b ∷ c ∷ []) long = absurd (omega (arith, long))
+six_are (a ∷ b ∷ c ∷ d ∷ []) long = absurd (omega (arith, long))
+six_are (a ∷ b ∷ c ∷ d ∷ e ∷ []) long = absurd (omega (arith, long))
+six_are (a ∷ b ∷ c ∷ d ∷ e ∷ f ∷ []) long = refl
+six_are (a ∷ b ∷ c ∷ d ∷ e ∷ f ∷ x ∷ more) long = absurd (omega (arith, long))
+
+pub head_is : (to from number : List ℕ) (n : ℕ) → length to ≡ 6 → length from ≡ 6 → number ≡ big_bytes 2 n
+    → slice_index_or to 0 0 ∷ slice_index_or to 1 0 ∷ slice_index_or to 2 0 ∷ slice_index_or to 3 0 ∷ slice_index_or to 4 0 ∷ slice_index_or to 5 0 ∷ slice_index_or from 0 0 ∷ slice_index_or from 1 0 ∷ slice_index_or from 2 0 ∷ slice_index_or from 3 0 ∷ slice_index_or from 4 0 ∷ slice_index_or from 5 0 ∷ slice_index_or number 0 0 ∷ slice_index_or number 1 0 ∷ [] ≡ ethernet to from n
+head_is to from number n six_to six_from is =
+    ap (λ (l : List ℕ). l ++ (slice_index_or from 0 0 ∷ slice_index_or from 1 0 ∷ slice_index_or from 2 0 ∷ slice_index_or from 3 0 ∷ slice_index_or from 4 0 ∷ slice_index_or from 5 0 ∷ slice_index_or number 0 0 ∷ slice_index_or number 1 0 ∷ [])) (six_are to six_to)
+    ∙ ap (λ (l : List ℕ). to ++ (l ++ (slice_index_or number 0 0 ∷ slice_index_or number 1 0 ∷ []))) (six_are from six_from)
+    ∙ ap (λ (l : List ℕ). to ++ (from ++ (slice_index_or l 0 0 ∷ slice_index_or l 1 0 ∷ []))) is

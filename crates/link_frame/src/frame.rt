@@ -1,11 +1,9 @@
 //! Ethernet frames (IEEE 802.3, 3.1.1 and 3.2.6).
-ghost use Rattle.std.specs.Prelude.{◌≡◌, ◌≤◌, ◌+◌, ◌++◌, List, ℕ, Ok, IfOk, IsTrue, length, drop};
-ghost use Rattle.arrayvec.specs.ArrayVec.{array_vec_len};
+ghost use Rattle.std.specs.Prelude.{◌≡◌, ◌≤◌, ◌++◌, List, ℕ, Ok, IfOk, IsTrue, length, drop};
 ghost use Rattle.wire_base.specs.model.Fields.{Gives};
 ghost use Rattle.wire_base.specs.model.Ethernet.{Carried, IsFrame, IsCarried, ethernet, frame_at, begins_isis, source_at};
 ghost use Rattle.link_frame.specs.Frames.{carried, HasPlaces};
 
-use arrayvec::ArrayVec;
 use byteorder::{BigEndian, ByteOrder};
 use wire_base::ethernet::{BIER_TYPE, FRAME_HEAD, IP_TYPE, MPLS_TYPE};
 use wire_base::{FrameFault, Mac};
@@ -103,24 +101,13 @@ pub fn write_eth(out: &mut [u8], to: Mac, from: Mac, number: u16)
 }
 
 /// Returns the first 14 octets of a frame.
-fn head(to: Mac, from: Mac, number: u16) -> ArrayVec<u8, FRAME_HEAD>
-    ensures items { result.items ≡ ethernet to.0 from.0 number }
-    ensures len { length result.items ≡ 14 }
+fn head(to: Mac, from: Mac, number: u16) -> [u8; FRAME_HEAD]
+    ensures items { result ≡ ethernet to.0 from.0 number }
     ensures six_to { length to.0 ≡ 6 }
     ensures six_from { length from.0 ≡ 6 }
 {
-    let mut octets = ArrayVec::new();
-    put(&mut octets, &to.0);
-    put(&mut octets, &from.0);
-    put(&mut octets, &number.to_be_bytes());
-    octets
-}
-
-/// Appends octets. Precondition: there is room for them.
-fn put<const N: usize>(octets: &mut ArrayVec<u8, N>, more: &[u8])
-    requires { array_vec_len octets.old + length more.now ≤ N }
-    ensures items { octets.new.items ≡ octets.old.items ++ more.now }
-    ensures len { array_vec_len octets.new ≡ array_vec_len octets.old + length more.now }
-{
-    octets.try_extend_from_slice(more).unwrap()
+    let [a, b, c, d, e, f] = to.0;
+    let [g, h, i, j, k, l] = from.0;
+    let [high, low] = number.to_be_bytes();
+    [a, b, c, d, e, f, g, h, i, j, k, l, high, low]
 }

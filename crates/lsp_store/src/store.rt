@@ -231,7 +231,9 @@ impl Store {
         if self.items.len() >= MOST_ENTRIES {
             return Err(PutFault::Full(self.items.len()));
         }
-        match self.items.insert(place, e) {
+        // An index below 2^16 does not wrap around when it is incremented. The compiler knows this from the type, and moves the
+        // entries from there on by one `memmove`, where it otherwise moves them by a loop.
+        match self.items.insert((place as u16) as usize, e) {
             Ok(()) => Ok(()),
             Err(_) => Err(PutFault::Memory),
         }

@@ -11,6 +11,11 @@ pub returns-then-len-ge-MOST_ENTRIES-clause-answers : goal.returns-then-len-ge-M
 returns-then-len-ge-MOST_ENTRIES-clause-answers c =
     answers_full c.self.inside.items.items c.args.self.now.entries c.args.self.now.spare c.len-then-len-ge-MOST_ENTRIES.result c.args.e.id (ap (λ (s : Stored). s.entries) c.self.view_is) (new_missing c.self.inside.items.items c.args.self.now.entries c.args.place c.args.e.id (ap (λ (s : Stored). s.entries) c.self.view_is) c.self.invariant c.requires) (c.len-then-len-ge-MOST_ENTRIES.ensures ∙ c.self.inside.items.ok.0) (omega (arith, c.if-len-ge-MOST_ENTRIES.true, c.len.ensures, c.len-then-len-ge-MOST_ENTRIES.ensures))
 
+pub overflow_cast-place : goal.overflow_cast-place
+overflow_cast-place c =
+    let within = add_within c.self.inside.items.items c.args.self.now.entries c.args.place c.args.e.id (ap (λ (s : Stored). s.entries) c.self.view_is) c.requires in
+    omega (arith, within, c.if-len-ge-MOST_ENTRIES.false, c.len.ensures, c.self.inside.items.ok.0)
+
 pub insert-requires : goal.insert-requires
 insert-requires c = omega (arith, add_within c.self.inside.items.items c.args.self.now.entries c.args.place c.args.e.id (ap (λ (s : Stored). s.entries) c.self.view_is) c.requires, c.self.inside.items.ok.0)
 
