@@ -1,5 +1,5 @@
 -- Each outcome of a hop, and the outcomes of what is left after it.
-use Rattle.std.proofs.Common.{◌≡◌, ℕ, zero, suc, ◌<◌, ◌≤◌, ◌==◌, ◌&&◌, ◌||◌, not, Bool, true, false, List, [], ◌∷◌, ◌++◌, length, get_or, filter, map, Option, Some, None, is_some, option_map, IfSome, refl, ap, sym, ◌∙◌, inl, inr, arith, subst}
+use Rattle.std.proofs.Common.{◌≡◌, ℕ, zero, suc, ◌<◌, ◌≤◌, ◌==◌, ◌&&◌, ◌||◌, not, Bool, true, false, List, [], ◌∷◌, ◌++◌, length, get_or, filter, map, Option, Some, None, is_some, is_none, option_map, IfSome, MatchOption, refl, ap, sym, ◌∙◌, inl, inr, arith, subst}
 use Rattle.std.specs.List.{filter_map}
 use Rattle.std.proofs.Math.Bool.{and-false}
 use Rattle.std.proofs.lemmas.Bool.{cases_Bool, cases_lt, true≢false, eq-eqb, ne_eqb}
@@ -13,11 +13,12 @@ use Rattle.wire_base.proofs.SetLaws.{has_head, has-filter, none_below, none_abov
 use Rattle.bier_bits.specs.Sets.{AreApartBelow}
 use Rattle.bift_table.specs.Bift.{router_at, leads_to, same_router, mask_of, routed_of}
 use Rattle.bift_table.proofs.BiftLaws.{has-mask, has-routed, same_router-is, same_router-refl}
+use Rattle.bier_hop.specs.declared.out.Action.{Action}
 use Rattle.bier_hop.specs.declared.out.Out.{Out}
 use Rattle.bier_hop.specs.declared.out.Out.TheVariants.{Local, Copy, Dropped}
 use Rattle.bier_hop.specs.declared.out.Why.{Why}
 use Rattle.bier_hop.specs.declared.out.Why.TheVariants.{NoRow, Ttl}
-use Rattle.bier_hop.specs.Outcomes.{HopState, IsOwn, IsNumbering, number_in, choose_in, own_in, drop_of, left_after, positions_of, IsCopy, IsNext}
+use Rattle.bier_hop.specs.Outcomes.{HopState, IsOwn, IsNumbering, number_in, choose_in, out_of, own_in, drop_of, left_after, positions_of, IsCopy, IsNext}
 use Rattle.bier_hop.proofs.CopyLaws.{filter-same, filter-filter, filter-none, filter-every, filter_map-none, filter_map-first, copies-first}
 
 -- ---- hops over any choice
@@ -358,6 +359,22 @@ copied {w} bits table own rest set ttl p (Some (Copy to sent (suc n))) low q e f
       local = tt;
     }
 
+-- ---- a drop of nothing, and of something
+
+pub drop-none : {w : ℕ} (rest : List ℕ) (why : Why) → (length rest == 0) ≡ true → None ≡ drop_of {w = w} rest why
+drop-none [] why e = refl
+drop-none (p ∷ ps) why e = absurd (true≢false (sym e ∙ sym (not-empty (p ∷ ps) p (has_head p ps))))
+
+pub drop-some : {w : ℕ} (rest set : List ℕ) (why : Why) → (length rest == 0) ≡ false → set ≡ rest → Some (Dropped set why) ≡ drop_of {w = w} rest why
+drop-some [] set why e same = absurd (true≢false e)
+drop-some {w} (p ∷ ps) set why e same =
+    let some : List ℕ → Option (Out w) = λ l. Some (Dropped l why) in
+    ap some same
+
+pub drop-first : {w : ℕ} (set : List ℕ) (why : Why) (p : ℕ) → first_member set ≡ Some p → drop_of {w = w} set why ≡ Some (Dropped set why)
+drop-first [] why p first = cc
+drop-first (q ∷ qs) why p first = refl
+
 -- ---- what each outcome leaves
 
 -- all that is left goes
@@ -366,11 +383,6 @@ all-left [] set why None none e = none
 all-left [] set why (Some out) none e = cc
 all-left (p ∷ ps) set why None none e = cc
 all-left {w} (p ∷ ps) set why (Some out) none e = none ∙ sym (difference-itself (p ∷ ps)) ∙ ap (left_after {w = w} (p ∷ ps)) (sym e)
-
--- what was cut by a mask goes, where it isn't nothing
-pub last-left : {w : ℕ} (rest mask set : List ℕ) (why : Why) (p : ℕ) (result : Option (Out w)) → set ≡ intersection rest mask → first_member set ≡ Some p → result ≡ drop_of set why → difference rest mask ≡ left_after rest result
-last-left rest mask [] why p result e first is = cc
-last-left {w} rest mask (q ∷ qs) why p result e first is = sym (difference-shared rest mask) ∙ ap (difference rest) (sym e) ∙ ap (left_after {w = w} rest) (sym is)
 
 -- ---- what isn't looked at
 
@@ -453,3 +465,17 @@ first-routed bits routed rest (Some p) within e =
     right-of : (a b : Bool) → (a && b) ≡ true → b ≡ true
     right-of true b h = h
     right-of false b h = absurd (true≢false (sym h))
+
+-- ---- an action on a set, as an outcome
+
+pub mapped-matches : {w : ℕ} (r : Option Action) (set : List ℕ) (result : Option (Out w)) (none : Type 0) (some : Out w → Type 0) → result ≡ option_map (out_of {w = w} set) r → MatchOption r none (λ action. some (out_of {w = w} set action)) → MatchOption result none some
+mapped-matches {w} None set result none some is holds = subst (λ (o : Option (Out w)). MatchOption o none some) (sym is) holds
+mapped-matches {w} (Some action) set result none some is holds = subst (λ (o : Option (Out w)). MatchOption o none some) (sym is) holds
+
+pub mapped-none : {w : ℕ} (r : Option Action) (set : List ℕ) (result : Option (Out w)) → result ≡ option_map (out_of {w = w} set) r → is_none result ≡ is_none r
+mapped-none {w} None set result is = ap (λ (o : Option (Out w)). is_none o) is
+mapped-none {w} (Some action) set result is = ap (λ (o : Option (Out w)). is_none o) is
+
+pub mapped-some : {w : ℕ} (r : Option Action) (set : List ℕ) (result : Option (Out w)) (some : Type 0) → result ≡ option_map (out_of {w = w} set) r → IfSome r (λ action. some) → IfSome result (λ out. some)
+mapped-some {w} None set result some is holds = subst (λ (o : Option (Out w)). IfSome o (λ out. some)) (sym is) holds
+mapped-some {w} (Some action) set result some is holds = subst (λ (o : Option (Out w)). IfSome o (λ out. some)) (sym is) holds

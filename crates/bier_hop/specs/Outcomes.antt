@@ -8,6 +8,8 @@ use Rattle.bier_bits.specs.Sets.{AreApartBelow}
 use Rattle.bift_table.specs.Bift.{router_at, leads_to, mask_of}
 use Rattle.bier_hop.specs.declared.out.Out.{Out}
 use Rattle.bier_hop.specs.declared.out.Out.TheVariants.{Local, Copy, Dropped}
+use Rattle.bier_hop.specs.declared.out.Action.{Action}
+use Rattle.bier_hop.specs.declared.out.Action.TheVariants as action
 use Rattle.bier_hop.specs.declared.out.Why.{Why}
 use Rattle.bier_hop.specs.declared.out.Why.TheVariants.{NoRow, Ttl}
 
@@ -49,6 +51,12 @@ abbrev pub outcome : {w : ℕ} → (First → ℕ) → Out w → Outcome
 outcome number (Local p) = model.Local p
 outcome number (Copy to set ttl) = model.Copy (number to.now) set ttl
 outcome number (Dropped set why) = drop_outcome set why
+
+-- an action on a set, as an outcome
+abbrev pub out_of : {w : ℕ} → List ℕ → Action → Out w
+out_of set (action.Local p) = Local p
+out_of set (action.Copy to ttl) = Copy to set ttl
+out_of set (action.Dropped why) = Dropped set why
 
 -- its positions
 abbrev pub positions_of : {w : ℕ} → Out w → List ℕ

@@ -1,13 +1,13 @@
-ghost use Rattle.std.specs.Prelude.{◌≡◌, ◌<◌, ◌≤◌, ◌+◌, ◌*◌, ◌==◌, ℕ, Option, None, [], ◌∷◌, length, true, false, IsTrue, IfSome, MatchOption, is_none};
+ghost use Rattle.std.specs.Prelude.{◌≡◌, ◌<◌, ◌≤◌, ◌+◌, ◌*◌, ◌==◌, ℕ, Option, None, [], ◌∷◌, length, true, false, IsTrue, IfSome, MatchOption, is_none, option_map};
 ghost use Rattle.std.specs.List.{list_any};
 ghost use Rattle.wire_base.specs.declared.view.First.{First};
 ghost use Rattle.wire_base.specs.model.BitSet.{difference, first_member, has_member, intersection, IsWithin};
 ghost use Rattle.wire_base.specs.model.Hop.{hop};
 ghost use Rattle.bier_bits.specs.Sets.{is_width, AreApartBelow};
 ghost use Rattle.bift_table.specs.Bift.{router_at, routed_of, routers_of};
-ghost use Rattle.bier_hop.specs.Outcomes.{IsFrom, IsNumbering, IsOwn, IsOwnWithin, HopState, left, number_in, choose_in, outcome, positions_of, own_in, cost, left_after, drop_of, IsCopy, IsNext};
+ghost use Rattle.bier_hop.specs.Outcomes.{IsFrom, IsNumbering, IsOwn, IsOwnWithin, HopState, left, number_in, choose_in, outcome, out_of, positions_of, own_in, cost, left_after, drop_of, IsCopy, IsNext};
 
-use crate::out::{Out, Why};
+use crate::out::{Action, Out, Why};
 use bier_bits::BitString;
 use bift_table::Table;
 use std::marker::Model;
@@ -15,18 +15,24 @@ use std::mem;
 use std::sync::ledger::Ledger;
 use wire_base::{First, Steps};
 
+/// What stays the same throughout a hop: the router's table, the routers in it, its own position and the packet's TTL.
+#[derive(Clone, Copy)]
+struct Context<'t, const W: usize> {
+    table: &'t Table<W>,
+    routers: &'t [First],
+    own: Option<u16>,
+    ttl: u16,
+}
+
 /// A packet being forwarded by one router. It is modeled as the router's table, its own position, the positions that have no
 /// outcome yet and the packet's TTL.
 ///
 /// No remaining position below `from` has an entry, so a hop reads each word of the packet about once.
 #[derive(Drop)]
 pub struct Hop<'t, const W: usize> {
-    table: &'t Table<W>,
-    routers: &'t [First],
-    own: Option<u16>,
+    context: Context<'t, W>,
     rest: BitString<W>,
     from: u16,
-    ttl: u16,
 }
 
 impl<'t, const W: usize> Model for Hop<'t, W> {
@@ -36,9 +42,9 @@ impl<'t, const W: usize> Model for Hop<'t, W> {
 
     ghost Value = { HopState };
 
-    ghost view = { λ h. record { table = h.table.now; own = h.own; rest = h.rest; ttl = h.ttl } };
+    ghost view = { λ h. record { table = h.context.table.now; own = h.context.own; rest = h.rest; ttl = h.context.ttl } };
 
-    ghost invariant = { λ h. (h.routers.now ≡ routers_of h.table.now) × IsOwn (64 * W) h.own × (h.ttl ≤ 256) × IsFrom (64 * W) h.from h.rest (routed_of h.table.now) };
+    ghost invariant = { λ h. (h.context.routers.now ≡ routers_of h.context.table.now) × IsOwn (64 * W) h.context.own × (h.context.ttl ≤ 256) × IsFrom (64 * W) h.from h.rest (routed_of h.context.table.now) };
 }
 
 impl<'t, const W: usize> Hop<'t, W> {
@@ -51,13 +57,16 @@ impl<'t, const W: usize> Hop<'t, W> {
         ensures state { result ≡ record { table = table.now; own = own; rest = set.entry; ttl = ttl } }
         ensures numbered { IsNumbering table.now (number_in table.now) (choose_in table.now) }
     {
-        Hop {
+        let context = Context {
             table,
             routers: table.routers(),
             own,
+            ttl,
+        };
+        Hop {
+            context,
             rest: set,
             from: 1,
-            ttl,
         }
     }
 
@@ -82,51 +91,79 @@ impl<'t, const W: usize> Hop<'t, W> {
         ensures ttl { self.new.ttl ≡ self.old.ttl }
         ensures steps { steps.new ≡ steps.old + cost result }
     {
-        outcome(
-            self.table,
-            self.routers,
-            self.own,
-            &mut self.rest,
-            &mut self.from,
-            self.ttl,
-            steps,
-        )
+        let mut set = BitString::zero();
+        let action = self.next_into(&mut set, steps);
+        out_of(action, set)
+    }
+
+    /// Like `next`, but stores the positions of a copy or a drop in `set`, instead of its previous positions. What `set` holds
+    /// after any other result is not specified.
+    pub fn next_into<L: Ledger>(
+        &mut self,
+        set: &mut BitString<W>,
+        steps: &mut Steps<L>,
+    ) -> Option<Action<'t>>
+        requires { IsTrue (is_width W) }
+        ensures outcomes { (number : First → ℕ) (choose : ℕ → Option ℕ) → IsNumbering self.old.table number choose → MatchOption result (left choose self.old ≡ []) (λ action. left choose self.old ≡ outcome number (out_of {w = W} set.new action) ∷ left choose self.new) }
+        ensures none { is_none result ≡ (length self.old.rest == 0) }
+        ensures rest { self.new.rest ≡ left_after self.old.rest (option_map (out_of {w = W} set.new) result) }
+        ensures shorter { IfSome result (λ _. length self.new.rest < length self.old.rest) }
+        ensures table { self.new.table ≡ self.old.table }
+        ensures own { self.new.own ≡ self.old.own }
+        ensures ttl { self.new.ttl ≡ self.old.ttl }
+        ensures steps { steps.new ≡ steps.old + cost (option_map (out_of {w = W} set.new) result) }
+    {
+        outcome(&self.context, &mut self.rest, &mut self.from, set, steps)
+    }
+}
+
+// Returns an action on a set as an outcome.
+fn out_of<'t, const W: usize>(action: Option<Action<'t>>, set: BitString<W>) -> Option<Out<'t, W>>
+    ensures { result ≡ option_map (out_of {w = W} set.entry) action.entry }
+{
+    match action {
+        None => None,
+        Some(Action::Local(bp)) => Some(Out::Local(bp)),
+        Some(Action::Copy { to, ttl }) => Some(Out::Copy { to, set, ttl }),
+        Some(Action::Dropped(why)) => Some(Out::Dropped { set, why }),
     }
 }
 
 // Returns the outcome of the remaining positions, none of which below `from` has an entry.
 fn outcome<'t, const W: usize, L: Ledger>(
-    table: &Table<W>,
-    routers: &'t [First],
-    own: Option<u16>,
+    context: &Context<'t, W>,
     rest: &mut BitString<W>,
     from: &mut u16,
-    ttl: u16,
+    set: &mut BitString<W>,
     steps: &mut Steps<L>,
-) -> Option<Out<'t, W>>
+) -> Option<Action<'t>>
     requires width { IsTrue (is_width W) }
-    requires routers { routers.now ≡ routers_of table.now }
-    requires own { IsOwn (64 * W) own }
-    requires ttl { ttl ≤ 256 }
-    requires from { IsFrom (64 * W) from.old rest.old (routed_of table.now) }
-    ensures next { IsNext (64 * W) (record { table = table.now; own = own; rest = rest.old; ttl = ttl }) result }
-    ensures rest { rest.new ≡ left_after rest.old result }
-    ensures from { IsFrom (64 * W) from.new rest.new (routed_of table.now) }
-    ensures steps { steps.new ≡ steps.old + cost result }
+    requires routers { context.now.routers.now ≡ routers_of context.now.table.now }
+    requires own { IsOwn (64 * W) context.now.own }
+    requires ttl { context.now.ttl ≤ 256 }
+    requires from { IsFrom (64 * W) from.old rest.old (routed_of context.now.table.now) }
+    ensures next { IsNext (64 * W) (record { table = context.now.table.now; own = context.now.own; rest = rest.old; ttl = context.now.ttl }) (option_map (out_of {w = W} set.new) result) }
+    ensures rest { rest.new ≡ left_after rest.old (option_map (out_of {w = W} set.new) result) }
+    ensures from { IsFrom (64 * W) from.new rest.new (routed_of context.now.table.now) }
+    ensures steps { steps.new ≡ steps.old + cost (option_map (out_of {w = W} set.new) result) }
 {
+    let ttl = context.ttl;
     if ttl == 0 {
-        return drop_all(rest, Why::Ttl);
+        return drop_all(rest, Why::Ttl, set);
     }
-    if let Some(bp) = own_in(own, rest) {
+    if let Some(bp) = own_in(context.own, rest) {
         rest.remove(bp);
-        return Some(Out::Local(bp));
+        return Some(Action::Local(bp));
     }
-    match first_routed(table, rest, *from) {
-        None => drop_all(rest, Why::NoRow),
-        Some(_) if ttl == 1 => dropped(rest.cut(table.routed()), Why::Ttl),
+    match first_routed(context.table, rest, *from) {
+        None => drop_all(rest, Why::NoRow, set),
+        Some(_) if ttl == 1 => {
+            cut_routed(context.table, rest, set);
+            Some(Action::Dropped(Why::Ttl))
+        }
         Some(bp) => {
             *from = bp;
-            copy_toward(table, routers, bp, rest, ttl, steps)
+            copy_toward(context, bp, rest, set, steps)
         }
     }
 }
@@ -154,51 +191,58 @@ fn first_routed<const W: usize>(table: &Table<W>, rest: &BitString<W>, from: u16
     rest.first_shared_from(table.routed(), from)
 }
 
-// Returns the copy to the router of a position that has an entry.
+// Moves the positions of the copy to the router of a position that has an entry to `set`.
 fn copy_toward<'t, const W: usize, L: Ledger>(
-    table: &Table<W>,
-    routers: &'t [First],
+    context: &Context<'t, W>,
     bp: u16,
     rest: &mut BitString<W>,
-    ttl: u16,
+    set: &mut BitString<W>,
     steps: &mut Steps<L>,
-) -> Option<Out<'t, W>>
+) -> Option<Action<'t>>
     requires width { IsTrue (is_width W) }
-    requires routers { routers.now ≡ routers_of table.now }
+    requires routers { context.now.routers.now ≡ routers_of context.now.table.now }
     requires low { 1 ≤ bp }
     requires high { bp ≤ 64 * W }
-    requires onward { 1 < ttl }
-    requires ttl { ttl ≤ 256 }
-    requires routed { has_member bp (routed_of table.now) ≡ true }
-    requires apart { AreApartBelow bp rest.old (routed_of table.now) }
-    ensures copy { IsCopy (record { table = table.now; own = None; rest = rest.old; ttl = ttl }) bp result }
-    ensures rest { rest.new ≡ left_after rest.old result }
+    requires onward { 1 < context.now.ttl }
+    requires ttl { context.now.ttl ≤ 256 }
+    requires routed { has_member bp (routed_of context.now.table.now) ≡ true }
+    requires apart { AreApartBelow bp rest.old (routed_of context.now.table.now) }
+    ensures copy { IsCopy (record { table = context.now.table.now; own = None; rest = rest.old; ttl = context.now.ttl }) bp (option_map (out_of {w = W} set.new) result) }
+    ensures rest { rest.new ≡ left_after rest.old (option_map (out_of {w = W} set.new) result) }
     ensures steps { steps.new ≡ steps.old + 1 }
 {
-    let row = table.row(bp, steps)?;
-    Some(Out::Copy {
+    let routers = context.routers;
+    let row = context.table.row(bp, steps)?;
+    rest.cut_from_into(row.mask, bp, set);
+    Some(Action::Copy {
         to: &routers[usize::from(row.number)],
-        set: rest.cut_from(row.mask, bp),
-        ttl: (ttl - 1) as u8,
+        ttl: (context.ttl - 1) as u8,
     })
 }
 
-// Drops everything that remains.
-fn drop_all<'t, const W: usize>(rest: &mut BitString<W>, why: Why) -> Option<Out<'t, W>>
+// Moves the positions that have an entry to `set`.
+fn cut_routed<const W: usize>(table: &Table<W>, rest: &mut BitString<W>, set: &mut BitString<W>)
     requires { IsTrue (is_width W) }
-    ensures drop { result ≡ drop_of rest.old why }
-    ensures rest { rest.new ≡ left_after rest.old result }
+    ensures taken { set.new ≡ intersection rest.old (routed_of table.now) }
+    ensures left { rest.new ≡ difference rest.old (routed_of table.now) }
 {
-    dropped(mem::replace(rest, BitString::zero()), why)
+    *set = rest.cut(table.routed());
 }
 
-// Returns the drop of a set, if it is not empty.
-fn dropped<'t, const W: usize>(set: BitString<W>, why: Why) -> Option<Out<'t, W>>
+// Drops everything that remains, if anything does: moves it to `set`.
+fn drop_all<'t, const W: usize>(
+    rest: &mut BitString<W>,
+    why: Why,
+    set: &mut BitString<W>,
+) -> Option<Action<'t>>
     requires { IsTrue (is_width W) }
-    ensures { result ≡ drop_of set.entry why }
+    ensures drop { option_map (out_of {w = W} set.new) result ≡ drop_of rest.old why }
+    ensures rest { rest.new ≡ left_after rest.old (option_map (out_of {w = W} set.new) result) }
 {
-    if set.is_empty() {
+    if rest.is_empty() {
         return None;
     }
-    Some(Out::Dropped { set, why })
+    mem::swap(rest, set);
+    rest.clear();
+    Some(Action::Dropped(why))
 }

@@ -8,4 +8,4 @@ mod hop;
 mod out;
 
 pub use hop::Hop;
-pub use out::{Out, Why};
+pub use out::{Action, Out, Why};
