@@ -8,6 +8,7 @@ use crate::replaying::Replaying;
 use command_drive::{LineReader, Texts, drive};
 use domain_replay::{Recording, confs_of, push_front};
 use std::alloc::Global;
+use std::mem::forget;
 use wire_base::{Domain, Sink, Source, Status};
 
 /// Runs the command `replay CONF SCHEDULE FRAMES` after the domain file was read: executes the schedule's lines in the
@@ -39,7 +40,7 @@ pub fn play<S: Source, C: Sink, R: Sink>(
     let Ok(mut replaying) = Replaying::new(alloc, domain, recording) else {
         return Status::Memory;
     };
-    drive(
+    let status = drive(
         alloc,
         &mut reader,
         &mut replaying,
@@ -47,5 +48,8 @@ pub fn play<S: Source, C: Sink, R: Sink>(
         input,
         frames,
         report,
-    )
+    );
+    // The program ends now: the domain's many pieces of memory are not freed one by one.
+    forget(replaying);
+    status
 }

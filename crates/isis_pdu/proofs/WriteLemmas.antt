@@ -21,6 +21,10 @@ lsp_joined level head tlvs front is =
     ap (λ (l : List ℕ). l ++ tlvs) is
     ∙ ap (λ (l : List ℕ). common 27 (lsp_type level) ++ (big_bytes 2 (27 + length tlvs) ++ (big_bytes 2 head.life ++ l))) (append_assoc (lsp_id head.id) after tlvs)
 
+pub lsp_whole : (level : Level) (head : Head) (tlvs front : List ℕ) (size : ℕ) → front ≡ common 27 (lsp_type level) ++ (big_bytes 2 size ++ (big_bytes 2 head.life ++ (lsp_id head.id ++ (big_bytes 4 head.seq ++ (big_bytes 2 head.sum ++ (head.flags ∷ [])))))) → 27 + length tlvs ≡ size → front ++ tlvs ≡ lsp level head tlvs
+lsp_whole level head tlvs front size is long =
+    lsp_joined level head tlvs front (is ∙ ap (λ (n : ℕ). common 27 (lsp_type level) ++ (big_bytes 2 n ++ (big_bytes 2 head.life ++ (lsp_id head.id ++ (big_bytes 4 head.seq ++ (big_bytes 2 head.sum ++ (head.flags ∷ []))))))) (sym long))
+
 pub lsp_read_again : {E : Type 0} (level : Level) (head : Head) (tlvs : List ℕ) (r : Result (List ℕ) E) → IfOk r (λ o. o ≡ lsp level head tlvs) → LspFits head tlvs
     → IfOk r (λ o. (rest : List ℕ) → pdu_at level (o ++ rest) ≡ Ok (LspPdu head tlvs))
 lsp_read_again level head tlvs (Ok o) spelled fits = λ rest. ap (λ (l : List ℕ). pdu_at level (l ++ rest)) spelled ∙ lsp_read level head tlvs rest fits

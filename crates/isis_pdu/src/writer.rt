@@ -44,12 +44,26 @@ fn id_octets(id: LspId) -> [u8; 8]
     [a, b, c, d, e, f, id.pseudonode, id.fragment]
 }
 
-/// Returns the octets before the TLVs of an LSP of that length.
-fn lsp_front(level: Level, head: &LspHead, size: u16) -> ArrayVec<u8, LSP_FRONT>
-    ensures spelled { result.items ≡ common 27 (lsp_type level) ++ (big_bytes 2 size ++ (big_bytes 2 head.now.life ++ (lsp_id head.now.id ++ (big_bytes 4 head.now.seq ++ (big_bytes 2 head.now.sum ++ (head.now.flags ∷ [])))))) }
-    ensures long { length result.items ≡ 27 }
+/// Proves that the numbers of an LSP fit their fields. This code computes nothing.
+fn numbers_fit(head: &LspHead)
+    ensures { HeadFits (head_of head.now) }
+{
+    let LspHead {
+        life: _life,
+        id,
+        seq: _seq,
+        sum: _sum,
+        flags: _flags,
+    } = *head;
+    let _id = id_octets(id);
+}
+
+/// Returns the octets before the TLVs of an LSP of that length. They are written at once: each LSP that is sent begins with them.
+fn front_octets(level: Level, head: &LspHead, size: u16) -> [u8; LSP_FRONT]
+    ensures spelled { result ≡ common 27 (lsp_type level) ++ (big_bytes 2 size ++ (big_bytes 2 head.now.life ++ (lsp_id head.now.id ++ (big_bytes 4 head.now.seq ++ (big_bytes 2 head.now.sum ++ (head.now.flags ∷ [])))))) }
     ensures fits { HeadFits (head_of head.now) }
 {
+    numbers_fit(head);
     let LspHead {
         life,
         id,
@@ -57,15 +71,51 @@ fn lsp_front(level: Level, head: &LspHead, size: u16) -> ArrayVec<u8, LSP_FRONT>
         sum,
         flags,
     } = *head;
-    let mut front = ArrayVec::new();
-    put(&mut front, &common(27, lsp_number(level)));
-    put(&mut front, &size.to_be_bytes());
-    put(&mut front, &life.to_be_bytes());
-    put(&mut front, &id_octets(id));
-    put(&mut front, &seq.to_be_bytes());
-    put(&mut front, &sum.to_be_bytes());
-    front.push(flags);
-    front
+    let [size_high, size_low] = size.to_be_bytes();
+    let [life_high, life_low] = life.to_be_bytes();
+    let [a, b, c, d, e, f, g, h] = id_octets(id);
+    let [seq_1, seq_2, seq_3, seq_4] = seq.to_be_bytes();
+    let [sum_high, sum_low] = sum.to_be_bytes();
+    [
+        0x83,
+        27,
+        1,
+        0,
+        lsp_number(level),
+        1,
+        0,
+        0,
+        size_high,
+        size_low,
+        life_high,
+        life_low,
+        a,
+        b,
+        c,
+        d,
+        e,
+        f,
+        g,
+        h,
+        seq_1,
+        seq_2,
+        seq_3,
+        seq_4,
+        sum_high,
+        sum_low,
+        flags,
+    ]
+}
+
+/// Returns the octets before the TLVs of an LSP of that length, with the checksum in `head` (ISO/IEC 10589, 9.8 and 9.9). With
+/// TLVs that make it that long, they are the LSP.
+pub fn lsp_front(level: Level, head: &LspHead, size: u16) -> [u8; LSP_FRONT]
+    ensures spelled { result ≡ common 27 (lsp_type level) ++ (big_bytes 2 size ++ (big_bytes 2 head.now.life ++ (lsp_id head.now.id ++ (big_bytes 4 head.now.seq ++ (big_bytes 2 head.now.sum ++ (head.now.flags ∷ [])))))) }
+    ensures whole { (tlvs : List ℕ) → LSP_FRONT + length tlvs ≡ size → result ++ tlvs ≡ lsp level (head_of head.now) tlvs }
+    ensures long { (tlvs : List ℕ) → length (lsp level (head_of head.now) tlvs) ≡ LSP_FRONT + length tlvs }
+    ensures fits { HeadFits (head_of head.now) }
+{
+    front_octets(level, head, size)
 }
 
 /// Appends an LSP with the checksum in `head` (ISO/IEC 10589, 9.8 and 9.9). Precondition: at most 1,470 octets of

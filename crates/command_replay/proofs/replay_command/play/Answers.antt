@@ -24,7 +24,7 @@ returns g c =
     let e = c.in-Ok-new.ensures in
     let front = capture_front c.args.recording c.args.domain.routers in
     let header : c.push_front.new.out ≡ front = c.in-Ok-push_front.ensures.ok ∙ ap₂ (λ (l : List ℕ) (rs : List RouterConf). l ++ capture_front c.args.recording rs) c.new-texts.ensures.frames c.confs_of.ensures.confs in
-    drives_as g.S.Source g.C.Sink g.R.Sink status.InputRefused _ (schedule_means c.args.recording c.args.domain) c.drive.result _ _ _ _ _ _
+    drives_as g.S.Source g.C.Sink g.R.Sink status.InputRefused _ (schedule_means c.args.recording c.args.domain) c.drive-status.result _ _ _ _ _ _
     (λ octets. answer_met c.args.recording c.args.domain r.replay r.names r.line r.rounds c.new-texts.result.report c.push_front.new.out e.replay e.names e.line e.rounds c.new-texts.ensures.report header _ octets (c.in-Ok.ensures.fresh Ends octets))
     (λ octets failed. cut_met c.args.recording c.args.domain r.replay r.names r.line r.rounds c.new-texts.result.report c.push_front.new.out e.replay e.names e.line e.rounds c.new-texts.ensures.report header _ octets (c.in-Ok.ensures.fresh Fails octets) failed)
-    c.drive.ensures
+    c.drive-status.ensures

@@ -6,4 +6,4 @@ use Rattle.isis_pdu.proofs.writer.lsp_octets.Goals as goal
 pub returns-clause-spelled : goal.returns-clause-spelled
 returns-clause-spelled c =
     c.in_ok-append_two.ensures.ok ∙ ap (λ (l : List ℕ). l ++ (c.as_slice.result.now ++ c.args.tlvs.now)) c.in_ok-out.ensures
-    ∙ lsp_joined c.args.level (head_of c.args.head.now) c.args.tlvs.now c.as_slice.result.now (c.as_slice.ensures.value ∙ c.lsp_front-front.ensures.spelled)
+    ∙ lsp_joined c.args.level (head_of c.args.head.now) c.args.tlvs.now c.as_slice.result.now (c.as_slice.ensures ∙ c.lsp_front-front.ensures.spelled)
