@@ -1,8 +1,9 @@
 -- A set that is written position by position.
-use Rattle.std.proofs.Common.{◌≡◌, ℕ, ◌++◌, List, [], ◌∷◌, Result, Ok, Err, OnOk, sym, ap, ◌∙◌, append_assoc, refl}
+use Rattle.std.proofs.Common.{◌≡◌, ℕ, ◌++◌, List, [], ◌∷◌, Option, Some, None, Result, Ok, Err, OnOk, sym, ap, ◌∙◌, append_assoc, refl}
 use Rattle.std.specs.List.{flat_map}
 use Rattle.std.specs.Fmt.{decimal}
 use Rattle.std.proofs.lemmas.List.Concat.{flat_map-append}
+use Rattle.wire_base.specs.model.BitSet.{first_member}
 use Rattle.bier_bits.specs.Sets.{from_on}
 use Rattle.bier_bits.proofs.Places.{from-zero}
 use Rattle.replay_text.specs.Ids.{ids_text}
@@ -29,7 +30,18 @@ left_more whole done rest more p so_far next = so_far ∙ ap (λ (l : List ℕ).
 pub whole_text : (set more : List ℕ) (p : ℕ) → from_on 0 set ≡ p ∷ more → ids_text set ≡ decimal p ++ flat_map behind_comma more
 whole_text set more p first = ap ids_text (sym (from-zero set) ∙ first)
 
-pub whole_written : {T E : Type 0} (result : Result T E) (old block new set more : List ℕ) (p : ℕ) → from_on 0 set ≡ p ∷ more → block ≡ decimal p → OnOk result (new ≡ old ++ (block ++ flat_map behind_comma more)) → OnOk result (new ≡ old ++ ids_text set)
-whole_written (Ok x) old block new set more p first number rest =
-    rest ∙ ap (λ (l : List ℕ). old ++ (l ++ flat_map behind_comma more)) number ∙ ap (λ (l : List ℕ). old ++ l) (sym (whole_text set more p first))
-whole_written (Err e) old block new set more p first number rest = tt
+-- no position, behind a block that was moved
+pub none_written : (old base out block new set : List ℕ) → None ≡ first_member (from_on 0 set) → out ++ block ≡ old ++ base → new ≡ block ++ 45 ∷ [] → out ++ new ≡ old ++ (base ++ ids_text set)
+none_written old base out block new [] none moved is = ap (λ (l : List ℕ). out ++ l) is ∙ sym (append_assoc out block (45 ∷ [])) ∙ ap (λ (l : List ℕ). l ++ 45 ∷ []) moved ∙ append_assoc old base (45 ∷ [])
+none_written old base out block new (x ∷ xs) none moved is =
+    let some : None ≡ Some x = none ∙ ap first_member (from-zero (x ∷ xs)) in
+    absurd cc
+
+-- the first position, behind a block that was moved, and the others
+pub set_written : {T E : Type 0} (result : Result T E) (old base out block block' new_out new_block set more : List ℕ) (p : ℕ) → from_on 0 set ≡ p ∷ more → out ++ block ≡ old ++ base → block' ≡ block ++ decimal p
+    → OnOk result (new_out ++ new_block ≡ out ++ (block' ++ flat_map behind_comma more)) → OnOk result (new_out ++ new_block ≡ old ++ (base ++ ids_text set))
+set_written (Ok x) old base out block block' new_out new_block set more p first moved number rest =
+    let others = flat_map behind_comma more in
+    rest ∙ ap (λ (l : List ℕ). out ++ (l ++ others)) number ∙ ap (λ (l : List ℕ). out ++ l) (append_assoc block (decimal p) others) ∙ sym (append_assoc out block (decimal p ++ others))
+    ∙ ap (λ (l : List ℕ). l ++ (decimal p ++ others)) moved ∙ append_assoc old base (decimal p ++ others) ∙ ap (λ (l : List ℕ). old ++ (base ++ l)) (sym (whole_text set more p first))
+set_written (Err e) old base out block block' new_out new_block set more p first moved number rest = tt

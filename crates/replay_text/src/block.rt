@@ -1,13 +1,193 @@
-//! Numbers that are collected on the stack, and then appended to a text together.
-ghost use Rattle.std.specs.Prelude.{◌≡◌, ◌<◌, ◌≤◌, ◌+◌, ◌++◌, ◌∷◌, [], ℕ, List, OnOk, OnErr, take, length};
+//! Text that is collected on the stack, and then appended to a report in one piece.
+ghost use Rattle.std.specs.Prelude.{◌≡◌, ◌<◌, ◌≤◌, ◌+◌, ◌/◌, ◌%◌, ◌++◌, ◌∷◌, [], ℕ, List, OnOk, take, length};
 ghost use Rattle.std.specs.Fmt.{decimal};
-ghost use Rattle.arrayvec.specs.ArrayVec.{array_vec_len};
 
-use arrayvec::ArrayVec;
+use std::marker::Model;
 use wire_base::{M, Octets};
 
-/// Octets that are appended together.
-pub type Block = ArrayVec<u8, 64>;
+/// The room of a block in octets.
+const ROOM: usize = 128;
+
+/// At most 128 octets, modeled as their list.
+///
+/// A method keeps the length in a local variable while it writes, where it would be loaded from memory and stored again
+/// for each octet.
+#[derive(Drop)]
+pub struct Block {
+    room: [u8; ROOM],
+    len: usize,
+}
+
+impl Model for Block {
+    ghost use Rattle.std.specs.Prelude.{List, ℕ, ◌≤◌, take};
+
+    ghost Value = { List ℕ };
+
+    ghost view = { λ b. take b.len b.room };
+
+    ghost invariant = { λ b. b.len ≤ 128 };
+}
+
+impl Block {
+    /// Creates an empty block.
+    pub fn new() -> Self
+        ensures { result ≡ [] }
+    {
+        Block {
+            room: [0; ROOM],
+            len: 0,
+        }
+    }
+
+    /// Returns the number of octets.
+    fn len(&self) -> usize
+        ensures value { result ≡ length self.now }
+        ensures fits { result ≤ 128 }
+    {
+        self.len
+    }
+
+    /// Returns the octets as a slice.
+    pub fn as_slice(&self) -> &[u8]
+        ensures { result.now ≡ self.now }
+    {
+        &self.room[..self.len]
+    }
+
+    /// Appends an octet.
+    pub fn push(&mut self, octet: u8)
+        requires { length self.old < 128 }
+        ensures text { self.new ≡ self.old ++ octet ∷ [] }
+        ensures len { length self.new ≡ length self.old + 1 }
+    {
+        let at = self.len();
+        self.len = put(&mut self.room, at, octet);
+    }
+
+    /// Appends octets.
+    pub fn append(&mut self, text: &[u8])
+        requires { length self.old + length text.now ≤ 128 }
+        ensures text { self.new ≡ self.old ++ text.now }
+        ensures len { length self.new ≡ length self.old + length text.now }
+    {
+        let at = self.len();
+        self.len = put_text(&mut self.room, at, text);
+    }
+
+    /// Appends the decimal digits of a number.
+    pub fn number(&mut self, number: u64)
+        requires { length self.old + length (decimal number) ≤ 128 }
+        ensures text { self.new ≡ self.old ++ decimal number }
+        ensures len { length self.new ≡ length self.old + length (decimal number) }
+    {
+        let at = self.len();
+        self.len = put_number(&mut self.room, at, number);
+    }
+
+    /// Appends the decimal digits of a number below 10,000.
+    pub fn few(&mut self, number: u16)
+        requires small { number < 10000 }
+        requires room { length self.old ≤ 124 }
+        ensures text { self.new ≡ self.old ++ decimal number }
+        ensures len { length self.new ≤ length self.old + 4 }
+    {
+        let at = self.len();
+        self.len = put_few(&mut self.room, at, number);
+    }
+
+    /// Appends the block to a text and empties it, unless it has room for a comma and four digits. If an allocation fails,
+    /// the text is unchanged.
+    pub fn make_room(&mut self, out: &mut Octets) -> M<()>
+        ensures same { OnOk result (out.new ++ self.new ≡ out.old ++ self.old) }
+        ensures front { (text : List ℕ) → take (length text) out.old ≡ text → take (length text) out.new ≡ text }
+        ensures room { OnOk result (length self.new ≤ 123) }
+    {
+        if self.len > ROOM - 5 {
+            out.append(self.as_slice())?;
+            self.len = 0;
+        }
+        Ok(())
+    }
+}
+
+/// Writes an octet behind the first `at` octets, and returns how many there are then.
+#[tactic(auto, using(std::proofs::lemmas::List::take_more_set))]
+fn put(room: &mut [u8; ROOM], at: usize, octet: u8) -> usize
+    requires { at < 128 }
+    ensures text { take result room.new ≡ take at room.old ++ octet ∷ [] }
+    ensures at { result ≡ at + 1 }
+{
+    room[at] = octet;
+    at + 1
+}
+
+/// Does the same with a text.
+fn put_text(room: &mut [u8; ROOM], at: usize, text: &[u8]) -> usize
+    requires { at + length text.now ≤ 128 }
+    ensures text { take result room.new ≡ take at room.old ++ text.now }
+    ensures at { result ≡ at + length text.now }
+{
+    let mut end = at;
+    'octets: for octet in text {
+        end = put(room, end, *octet);
+    }
+    end
+}
+
+/// Does the same with the decimal digits of a number.
+fn put_number(room: &mut [u8; ROOM], at: usize, number: u64) -> usize
+    requires { at + length (decimal number) ≤ 128 }
+    ensures text { take result room.new ≡ take at room.old ++ decimal number }
+    ensures at { result ≡ at + length (decimal number) }
+{
+    if number < 10_000 {
+        return put_few(room, at, number as u16);
+    }
+    let end = put_number(room, at, number / 10_000);
+    put_four(room, end, (number % 10_000) as u16)
+}
+
+/// Does the same with a number below 10,000.
+#[tactic(auto, using(crate::proofs::Digits::one_digit, crate::proofs::Digits::two_digits, crate::proofs::Digits::three_digits, crate::proofs::Digits::four_digits))]
+fn put_few(room: &mut [u8; ROOM], at: usize, number: u16) -> usize
+    requires small { number < 10000 }
+    requires room { at + length (decimal number) ≤ 128 }
+    ensures text { take result room.new ≡ take at room.old ++ decimal number }
+    ensures at { result ≡ at + length (decimal number) }
+{
+    if number < 10 {
+        put(room, at, digit(number))
+    } else if number < 100 {
+        put_two(room, at, number)
+    } else if number < 1000 {
+        let end = put(room, at, digit(number / 100));
+        put_two(room, end, number % 100)
+    } else {
+        put_four(room, at, number)
+    }
+}
+
+/// Does the same with the two digits of a number below 100.
+fn put_two(room: &mut [u8; ROOM], at: usize, number: u16) -> usize
+    requires small { number < 100 }
+    requires room { at + 2 ≤ 128 }
+    ensures text { take result room.new ≡ take at room.old ++ (48 + number / 10) ∷ (48 + number % 10) ∷ [] }
+    ensures at { result ≡ at + 2 }
+{
+    let end = put(room, at, digit(number / 10));
+    put(room, end, digit(number % 10))
+}
+
+/// Does the same with the four digits of a number below 10,000.
+fn put_four(room: &mut [u8; ROOM], at: usize, number: u16) -> usize
+    requires small { number < 10000 }
+    requires room { at + 4 ≤ 128 }
+    ensures text { take result room.new ≡ take at room.old ++ (48 + number / 100 / 10) ∷ (48 + number / 100 % 10) ∷ (48 + number % 100 / 10) ∷ (48 + number % 100 % 10) ∷ [] }
+    ensures at { result ≡ at + 4 }
+{
+    let end = put_two(room, at, number / 100);
+    put_two(room, end, number % 100)
+}
 
 /// Returns the decimal digit of a number below 10.
 fn digit(number: u16) -> u8
@@ -15,43 +195,4 @@ fn digit(number: u16) -> u8
     ensures { result ≡ 48 + number }
 {
     b'0' + number as u8
-}
-
-/// Appends the decimal digits of a number below 10,000 to a block that has room for four.
-#[tactic(auto, using(crate::proofs::Digits::one_digit, crate::proofs::Digits::two_digits, crate::proofs::Digits::three_digits, crate::proofs::Digits::four_digits))]
-pub fn put_number(block: &mut Block, number: u16)
-    requires small { number < 10000 }
-    requires room { array_vec_len block.old ≤ 60 }
-    ensures digits { block.new.items ≡ block.old.items ++ decimal number }
-    ensures len { array_vec_len block.new ≤ array_vec_len block.old + 4 }
-{
-    if number < 10 {
-        block.push(digit(number));
-    } else if number < 100 {
-        block.push(digit(number / 10));
-        block.push(digit(number % 10));
-    } else if number < 1000 {
-        block.push(digit(number / 100));
-        block.push(digit(number / 10 % 10));
-        block.push(digit(number % 10));
-    } else {
-        block.push(digit(number / 1000));
-        block.push(digit(number / 100 % 10));
-        block.push(digit(number / 10 % 10));
-        block.push(digit(number % 10));
-    }
-}
-
-/// Appends a block to a text and empties it, if it has no room for a comma and four digits. If an allocation fails, the
-/// text is unchanged.
-pub fn make_room(out: &mut Octets, block: &mut Block) -> M<()>
-    ensures same { OnOk result (out.new ++ block.new.items ≡ out.old ++ block.old.items) }
-    ensures front { (text : List ℕ) → take (length text) out.old ≡ text → take (length text) out.new ≡ text }
-    ensures room { OnOk result (array_vec_len block.new ≤ 59) }
-{
-    if block.len() > 59 {
-        out.append(block.as_slice())?;
-        block.clear();
-    }
-    Ok(())
 }

@@ -1,12 +1,12 @@
 //! The bit positions of bit strings, written as ids without an intermediate list.
-ghost use Rattle.std.specs.Prelude.{◌≡◌, ◌≤◌, ◌*◌, ◌++◌, ◌∷◌, length, take, IsTrue, OnOk, OnErr};
+ghost use Rattle.std.specs.Prelude.{◌≡◌, ◌≤◌, ◌*◌, ◌++◌, ◌∷◌, List, ℕ, length, take, IsTrue, OnOk, OnErr};
 ghost use Rattle.std.specs.Fmt.{decimal};
 ghost use Rattle.std.specs.List.{flat_map};
 ghost use Rattle.bier_bits.specs.Any.{positions_of};
 ghost use Rattle.bier_bits.specs.Sets.{is_width, from_on};
 ghost use Rattle.replay_text.specs.Ids.{ids_text};
 
-use crate::block::{Block, make_room, put_number};
+use crate::block::Block;
 use bier_bits::{AnyBits, BitString};
 use wire_base::{M, Octets};
 
@@ -42,38 +42,68 @@ pub fn push_set<const W: usize>(out: &mut Octets, set: &BitString<W>) -> M<()>
 }
 
 /// Does the same, except that text may follow the old end if an allocation fails.
-#[tactic(auto, using(crate::proofs::Appended::front, bier_bits::proofs::Widths::width_le))]
+#[tactic(auto, using(crate::proofs::Appended::front, crate::proofs::Appended::front_of_itself))]
 fn push_members<const W: usize>(out: &mut Octets, set: &BitString<W>) -> M<()>
     requires { IsTrue (is_width W) }
     ensures ok { OnOk result (out.new ≡ out.old ++ ids_text set.now) }
     ensures err { OnErr result (take (length out.old) out.new ≡ out.old) }
 {
-    let Some(first) = set.next_from(0) else {
-        return out.push(b'-');
-    };
     let mut block = Block::new();
-    put_number(&mut block, first);
-    push_from(out, set, first + 1, block)
+    put_set(out, &mut block, set)?;
+    out.append(block.as_slice())
 }
 
-/// Appends a block, and then a comma and the number of each bit position from a given one on.
-#[tactic(auto, using(crate::proofs::Appended::front, bier_bits::proofs::Widths::width_le))]
-fn push_from<const W: usize>(
+/// Appends the bit positions of a bit string to the text that a block ends. The block is appended to the text each time
+/// that it is full. If an allocation fails, what was in the text still is.
+pub fn put_positions(out: &mut Octets, block: &mut Block, bits: &AnyBits) -> M<()>
+    ensures ok { OnOk result (out.new ++ block.new ≡ out.old ++ (block.old ++ ids_text (positions_of bits.now))) }
+    ensures front { (text : List ℕ) → take (length text) out.old ≡ text → take (length text) out.new ≡ text }
+{
+    match bits {
+        AnyBits::B64(set) => put_set(out, block, set),
+        AnyBits::B128(set) => put_set(out, block, set),
+        AnyBits::B256(set) => put_set(out, block, set),
+        AnyBits::B512(set) => put_set(out, block, set),
+        AnyBits::B1024(set) => put_set(out, block, set),
+        AnyBits::B2048(set) => put_set(out, block, set),
+        AnyBits::B4096(set) => put_set(out, block, set),
+    }
+}
+
+/// Does the same for a bit string of one width.
+#[tactic(auto, using(bier_bits::proofs::Widths::width_le))]
+fn put_set<const W: usize>(out: &mut Octets, block: &mut Block, set: &BitString<W>) -> M<()>
+    requires { IsTrue (is_width W) }
+    ensures ok { OnOk result (out.new ++ block.new ≡ out.old ++ (block.old ++ ids_text set.now)) }
+    ensures front { (text : List ℕ) → take (length text) out.old ≡ text → take (length text) out.new ≡ text }
+{
+    block.make_room(out)?;
+    let Some(first) = set.next_from(0) else {
+        block.push(b'-');
+        return Ok(());
+    };
+    block.few(first);
+    put_from(out, block, set, first + 1)
+}
+
+/// Appends a comma and the number of each bit position from a given one on.
+#[tactic(auto, using(bier_bits::proofs::Widths::width_le))]
+fn put_from<const W: usize>(
     out: &mut Octets,
+    block: &mut Block,
     set: &BitString<W>,
     start: u16,
-    mut block: Block,
 ) -> M<()>
     requires { IsTrue (is_width W) }
-    ensures ok { OnOk result (out.new ≡ out.old ++ (block.items ++ flat_map (λ next. 44 ∷ decimal next) (from_on start set.now))) }
-    ensures err { OnErr result (take (length out.old) out.new ≡ out.old) }
+    ensures ok { OnOk result (out.new ++ block.new ≡ out.old ++ (block.old ++ flat_map (λ next. 44 ∷ decimal next) (from_on start set.now))) }
+    ensures front { (text : List ℕ) → take (length text) out.old ≡ text → take (length text) out.new ≡ text }
 {
     let mut low = start;
     'positions: while let Some(position) = set.next_from(low) {
-        make_room(out, &mut block)?;
+        block.make_room(out)?;
         block.push(b',');
-        put_number(&mut block, position);
+        block.few(position);
         low = position + 1;
     }
-    out.append(block.as_slice())
+    Ok(())
 }

@@ -2,12 +2,13 @@ use Rattle.std.proofs.Common.{◌≡◌, ◌-◌, ◌++◌, ◌∷◌, ℕ, List
 use Rattle.std.specs.List.{flat_map}
 use Rattle.std.specs.Fmt.{decimal}
 use Rattle.bier_bits.specs.Sets.{from_on}
-use Rattle.replay_text.proofs.positions.push_from.Given as goal
+use Rattle.replay_text.proofs.positions.put_from.Given as goal
 
 -- what is written, with what stands in the block, and what is left make the whole text
 abbrev pub invariant-positions : goal.invariant-positions
 invariant-positions g l =
-    (done : List ℕ) × (l.out ++ l.block.items ≡ l.fn.out ++ (l.fn.block.items ++ flat_map (λ next. 44 ∷ decimal next) done)) × (from_on l.start l.set ≡ done ++ from_on l.low l.set) × (take (length l.fn.out) l.out ≡ l.fn.out)
+    (done : List ℕ) × (l.out ++ l.block ≡ l.fn.out ++ (l.fn.block ++ flat_map (λ next. 44 ∷ decimal next) done)) × (from_on l.start l.set ≡ done ++ from_on l.low l.set)
+    × ((text : List ℕ) → take (length text) l.fn.out ≡ text → take (length text) l.out ≡ text)
 
 abbrev pub decreases-positions : goal.decreases-positions
 decreases-positions g l = 65536 - l.low

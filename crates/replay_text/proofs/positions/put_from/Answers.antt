@@ -1,14 +1,14 @@
 use Rattle.std.proofs.Common.{◌+◌, ◌++◌, ◌∷◌, []}
 use Rattle.bier_bits.specs.Sets.{from_on}
 use Rattle.replay_text.proofs.Walked.{written_more, left_more}
-use Rattle.replay_text.proofs.positions.push_from.Goals as goal
+use Rattle.replay_text.proofs.positions.put_from.Goals as goal
 
 pub positions-preserved : goal.positions-preserved
 positions-preserved g c =
     let done = c.positions.invariant.0 in
     let set = c.args.set.now in (
       done ++ c.in-Some.position ∷ [],
-      written_more c.args.out.now c.args.block.items c.positions.out c.positions.block.items c.make_room.new.out c.make_room.new.block.items c.push.new.self.items c.put_number.new.block.items done c.in-Some.position c.positions.invariant.1 c.in_ok-make_room.ensures.same c.push.ensures.items c.put_number.ensures.digits,
+      written_more c.args.out.now c.args.block.now c.positions.out c.positions.block c.make_room.new.out c.make_room.new.self c.push.new.self c.few.new.self done c.in-Some.position c.positions.invariant.1 c.in_ok-make_room.ensures.same c.push.ensures.text c.few.ensures.text,
       left_more (from_on c.args.start set) done (from_on c.positions.low set) (from_on (c.in-Some.position + 1) set) c.in-Some.position c.positions.invariant.2 c.in-Some.ensures.rest,
-      c.make_room.ensures.front c.args.out.now c.positions.invariant.3,
+      λ text was. c.make_room.ensures.front text (c.positions.invariant.3 text was),
     )

@@ -1,0 +1,7 @@
+use Rattle.std.proofs.Common.{◌≡◌, ◌+◌, length, take, arith}
+use Rattle.std.proofs.lemmas.List.{length-take-le}
+use Rattle.std.specs.Fmt.{decimal}
+use Rattle.replay_text.proofs.block.Block.number.Goals as goal
+
+pub returns-clause-len : goal.returns-clause-len
+returns-clause-len c = omega (arith, length-take-le c.put_number-self-inside.result c.put_number-self-inside.new.room (omega arith))
