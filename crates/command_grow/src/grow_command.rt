@@ -9,11 +9,13 @@ ghost use Rattle.command_grow.specs.Grow.{grow_answer};
 use crate::growing::{Growing, GrownLines};
 use command_drive::{NoSink, NoSource, Texts, drive};
 use std::alloc::Global;
+use std::mem::forget;
 use wire_base::{Sink, Source, Status};
 
 /// Runs the command `grow N`: builds the domain of N routers and its schedule, runs the schedule in the domain, and
 /// reports the counts of the run, or the line that is rejected. It reads nothing. After a write error, or if an
-/// allocation fails, a prefix of the report is written.
+/// allocation fails, a prefix of the report is written. The memory of the domain is not freed, since the program ends with
+/// the command.
 pub fn grow<R: Sink>(alloc: Global, n: u16, report: &mut R) -> Status
     requires some { 3 ≤ n }
     requires few { n ≤ MOST_ROUTERS }
@@ -28,7 +30,7 @@ pub fn grow<R: Sink>(alloc: Global, n: u16, report: &mut R) -> Status
     let mut texts = Texts::new(alloc);
     let mut input = NoSource;
     let mut frames = NoSink::new();
-    drive(
+    let status = drive(
         alloc,
         &mut lines,
         &mut growing,
@@ -36,5 +38,8 @@ pub fn grow<R: Sink>(alloc: Global, n: u16, report: &mut R) -> Status
         &mut input,
         &mut frames,
         report,
-    )
+    );
+    // Freeing the many pieces of a large domain one by one takes time, and the program ends now.
+    forget(growing);
+    status
 }

@@ -18,7 +18,7 @@ use wire_base::{Domain, Sink, Source, Status};
 ///
 /// The status and both outputs are those of the schedule. After a read error the lines that are complete in what was
 /// read are executed and reported. After a write error, or if an allocation fails, a prefix of each output is written.
-/// Each error has its cause.
+/// Each error has its cause. The memory of the domain is not freed, since the program ends with the command.
 pub fn play<S: Source, C: Sink, R: Sink>(
     alloc: Global,
     domain: Domain,
@@ -49,7 +49,7 @@ pub fn play<S: Source, C: Sink, R: Sink>(
         frames,
         report,
     );
-    // The program ends now: the domain's many pieces of memory are not freed one by one.
+    // Freeing the many pieces of a large domain one by one takes time, and the program ends now.
     forget(replaying);
     status
 }

@@ -11,4 +11,4 @@ returns g c =
     let e = c.in-Ok.ensures in
     let answers : List ℕ → _ = λ octets. grow_answer c.args.n in
     let met = answer_met c.args.n s.n s.line c.new-lines.result.given s.replay c.new-texts.result.report c.new-texts.result.frames c.requires.some c.new-texts.ensures.report c.new-texts.ensures.frames e.n e.line c.new-lines.ensures e.replay in
-    reports_by _ _ g.R.Sink InputRefused _ answers answers c.drive.result (record {}) c.drive.new.input c.new-frames.result c.drive.new.frames c.args.report.now c.drive.new.report (λ octets. met) (λ octets failed. met) refl refl c.drive.ensures
+    reports_by _ _ g.R.Sink InputRefused _ answers answers c.drive-status.result (record {}) c.drive-status.new.input c.new-frames.result c.drive-status.new.frames c.args.report.now c.drive-status.new.report (λ octets. met) (λ octets failed. met) refl refl c.drive-status.ensures
