@@ -13,7 +13,7 @@ front_put empty first second third new number kind three more is at_first at_sec
 
 -- all of it
 pub line_put : {T E : Type 0} (result : Result T E) (old out front line out' line' ended new number kind three more ids : List ℕ) → front ≡ number ++ (kind ++ (three ++ more)) → out ++ line ≡ old ++ (front ++ ids) → out' ++ line' ≡ out ++ line → ended ≡ line' ++ 10 ∷ []
-    → OnOk result (new ≡ out' ++ ended) → OnOk result (new ≡ old ++ (number ++ (kind ++ (three ++ (more ++ (ids ++ 10 ∷ []))))))
+    → OnOk result (new ≡ out' ++ ended) → OnOk result (new ≡ old ++ (number ++ (kind ++ (three ++ more ++ ids ++ 10 ∷ []))))
 line_put (Ok x) old out front line out' line' ended new number kind three more ids is_front is_line moved is_ended is =
     is ∙ ap (λ (l : List ℕ). out' ++ l) is_ended ∙ sym (append_assoc out' line' (10 ∷ [])) ∙ ap (λ (l : List ℕ). l ++ 10 ∷ []) (moved ∙ is_line ∙ ap (λ (l : List ℕ). old ++ (l ++ ids)) is_front) ∙ simp append_assoc
 line_put (Err e) old out front line out' line' ended new number kind three more ids is_front is_line moved is_ended is = tt
