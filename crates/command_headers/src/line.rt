@@ -1,5 +1,7 @@
 //! The line of a record: its BIER header, or why its octets are not a valid header.
-ghost use Rattle.std.specs.Prelude.{◌≡◌, ◌++◌, IfOk, OnOk};
+ghost use Rattle.std.specs.Prelude.{◌≡◌, ◌≤◌, ◌+◌, ◌++◌, ◌∷◌, [], IfOk, OnOk, length};
+ghost use Rattle.std.specs.Fmt.{decimal};
+ghost use Rattle.wire_base.specs.model.Place.{bits_of};
 ghost use Rattle.wire_base.specs.model.Labels.{stack_at};
 ghost use Rattle.wire_base.specs.model.BierHeader.{coded_header_at};
 ghost use Rattle.bier_head.specs.Views.{header_of};
@@ -9,7 +11,7 @@ ghost use Rattle.command_headers.specs.Sight as sight;
 use bier_head::{Header, read_by_field};
 use link_frame::{Class, classify, read_stack};
 use pcapng_frames::NgRecord;
-use replay_text::{push_positions, push_rule};
+use replay_text::{Block, push_rule, put_positions};
 use std::alloc::Global;
 use wire_base::{HeadFault, Kind, M, Octets};
 
@@ -23,7 +25,8 @@ fn push_bad(out: &mut Octets, fault: HeadFault) -> M<()>
 }
 
 fn kind_text(kind: Kind) -> &'static [u8]
-    ensures { result.now ≡ sight.kind_text kind }
+    ensures text { result.now ≡ sight.kind_text kind }
+    ensures six { length result.now ≡ 6 }
 {
     match kind {
         Kind::Mpls => b" mpls ",
@@ -31,32 +34,62 @@ fn kind_text(kind: Kind) -> &'static [u8]
     }
 }
 
-/// Appends three numbers, with a space after each.
-fn push_three(out: &mut Octets, first: u32, second: u32, third: u32) -> M<()>
-    ensures { OnOk result (out.new ≡ out.old ++ sight.three_text first second third) }
+/// Appends a number and a space.
+fn put_spaced(line: &mut Block, number: u32)
+    requires { length line.old + 11 ≤ 128 }
+    ensures text { line.new ≡ line.old ++ (decimal number ++ 32 ∷ []) }
+    ensures len { length line.new ≤ length line.old + 11 }
 {
-    out.append_number(u64::from(first))?;
-    out.push(b' ')?;
-    out.append_number(u64::from(second))?;
-    out.push(b' ')?;
-    out.append_number(u64::from(third))?;
-    out.push(b' ')
+    line.number(u64::from(number));
+    line.push(b' ');
 }
 
-/// Appends the fields of a header.
-fn push_fields(out: &mut Octets, header: &Header) -> M<()>
-    ensures { OnOk result (out.new ≡ out.old ++ sight.header_text (header_of header.now)) }
+/// Appends three numbers, with a space after each.
+#[tactic(auto, using(crate::proofs::Lines::three_put))]
+fn put_three(line: &mut Block, first: u32, second: u32, third: u32)
+    requires { length line.old + 33 ≤ 128 }
+    ensures text { line.new ≡ line.old ++ sight.three_text first second third }
+    ensures len { length line.new ≤ length line.old + 33 }
+{
+    put_spaced(line, first);
+    put_spaced(line, second);
+    put_spaced(line, third);
+}
+
+/// Returns the number of a record, its kind, and the fields of its header up to the bit positions.
+#[tactic(auto, using(crate::proofs::Lines::front_put))]
+fn front_of(number: u64, kind: Kind, header: &Header) -> Block
+    ensures { let h = header_of header.now in
+        result ≡ decimal number ++ (sight.kind_text kind ++ (sight.three_text h.bift h.ttl (bits_of h.bsl) ++ sight.three_text h.entropy h.proto h.bfir)) }
 {
     let bits = header.bits.bsl().bits();
-    push_three(out, header.bift, u32::from(header.ttl), u32::from(bits))?;
-    push_three(
-        out,
+    let mut line = Block::new();
+    line.number(number);
+    line.append(kind_text(kind));
+    put_three(
+        &mut line,
+        header.bift,
+        u32::from(header.ttl),
+        u32::from(bits),
+    );
+    put_three(
+        &mut line,
         header.entropy,
         u32::from(header.proto),
         u32::from(header.bfir),
-    )?;
-    push_positions(out, &header.bits)?;
-    out.push(b'\n')
+    );
+    line
+}
+
+/// Appends the line of a record with a header.
+fn push_seen(out: &mut Octets, number: u64, kind: Kind, header: &Header) -> M<()>
+    ensures { OnOk result (out.new ≡ out.old ++ (decimal number ++ (sight.kind_text kind ++ sight.header_text (header_of header.now)))) }
+{
+    let mut line = front_of(number, kind, header);
+    put_positions(out, &mut line, &header.bits)?;
+    line.make_room(out)?;
+    line.push(b'\n');
+    out.append(line.as_slice())
 }
 
 /// Appends the line of a record whose octets are a BIER packet, and returns how many headers it has: one, or none if
@@ -67,9 +100,7 @@ fn push_header(out: &mut Octets, number: u64, kind: Kind, bytes: &[u8]) -> M<u64
 {
     match read_by_field(kind, bytes) {
         Ok(header) => {
-            out.append_number(number)?;
-            out.append(kind_text(kind))?;
-            push_fields(out, &header)?;
+            push_seen(out, number, kind, &header)?;
             Ok(1)
         }
         Err(fault) => {

@@ -1,0 +1,15 @@
+use Rattle.std.proofs.Common.{◌≡◌, ◌++◌, ◌∙◌}
+use Rattle.std.specs.Fmt.{decimal}
+use Rattle.wire_base.specs.model.Place.{bits_of}
+use Rattle.bier_head.specs.Views.{header_of}
+use Rattle.replay_text.specs.Ids.{ids_text}
+use Rattle.command_headers.specs.Sight as sight
+use Rattle.command_headers.proofs.Lines.{line_put}
+use Rattle.command_headers.proofs.line.push_seen.Goals as goal
+
+pub returns : goal.returns
+returns c =
+    let h = header_of c.args.header.now in
+    line_put c.append.result c.args.out.now c.put_positions.new.out c.front_of-line.result c.put_positions.new.block c.make_room.new.out c.make_room.new.self c.as_slice.result.now c.append.new.self
+    (decimal c.args.number) (sight.kind_text c.args.kind) (sight.three_text h.bift h.ttl (bits_of h.bsl)) (sight.three_text h.entropy h.proto h.bfir) (ids_text h.positions)
+    c.front_of-line.ensures c.in_ok-put_positions.ensures.ok c.in_ok-make_room.ensures.same (c.as_slice.ensures ∙ c.push.ensures.text) c.append.ensures.ok
