@@ -1,22 +1,22 @@
 //! The forwarding of a packet by one router with configured rows.
-ghost use Rattle.std.specs.Prelude.{◌≡◌, ◌<◌, ◌*◌, ◌++◌, List, IfOk, OnOk, IsTrue};
+ghost use Rattle.std.specs.Prelude.{◌≡◌, ◌<◌, ◌*◌, ◌++◌, ◌∷◌, [], List, IfOk, OnOk, IsTrue, codes};
 ghost use Rattle.std.specs.Fmt.{decimal};
 ghost use Rattle.wire_base.specs.model.Hop.{hop};
 ghost use Rattle.wire_base.specs.model.Place.{bits_of};
 ghost use Rattle.bier_bits.specs.Any.{positions_of, bsl_of};
 ghost use Rattle.bier_bits.specs.Sets.{is_width};
 ghost use Rattle.bift_table.specs.Any as tables;
-ghost use Rattle.bier_hop.specs.Outcomes.{IsNumbering, IsOwn, left, outcome};
-ghost use Rattle.replay_text.specs.Ids.{in_range};
+ghost use Rattle.bier_hop.specs.Outcomes.{IsNumbering, IsOwn, left, out_of, outcome};
+ghost use Rattle.replay_text.specs.Ids.{in_range, ids_text};
 ghost use Rattle.replay_text.specs.declared.hop.HopRow.{HopRow};
 ghost use Rattle.command_hop.specs.Forward as forward;
 ghost use Rattle.command_hop.specs.Ways.{AreWays, name_at, number_of, seen, chosen, texts};
 
 use crate::ways::Ways;
 use bier_bits::{AnyBits, BitString};
-use bier_hop::{Hop, Out};
+use bier_hop::{Action, Hop};
 use bift_table::{AnyTable, Table};
-use replay_text::push_set;
+use replay_text::{Block, push_set};
 use std::alloc::Global;
 use std::marker::Brand;
 use std::sync::ledger::{Blank, Ledger};
@@ -24,6 +24,17 @@ use wire_base::{First, M, Name, Octets, Steps};
 
 /// A TTL with which every copy is sent.
 const TTL: u16 = 255;
+
+/// Returns the front of a copy's line, which is written once for all copies of a packet: the number of the packet's line, and the
+/// keyword.
+fn copy_front(line: u64) -> Block
+    ensures { result ≡ decimal line ++ codes " copy " }
+{
+    let mut front = Block::new();
+    front.number(line);
+    front.append(b" copy ");
+    front
+}
 
 /// Appends the number of a packet's line, and the keyword after it.
 fn begin_line(out: &mut Octets, line: u64, what: &[u8]) -> M<()>
@@ -54,11 +65,16 @@ fn push_local(out: &mut Octets, line: u64, own: u16) -> M<()>
 }
 
 /// Appends the line of one copy.
-fn push_copy<const W: usize>(out: &mut Octets, line: u64, name: &[u8], set: &BitString<W>) -> M<()>
+fn push_copy<const W: usize>(
+    out: &mut Octets,
+    front: &[u8],
+    name: &[u8],
+    set: &BitString<W>,
+) -> M<()>
     requires { IsTrue (is_width W) }
-    ensures { OnOk result (out.new ≡ out.old ++ forward.outcome_text line (forward.Copy name.now set.now)) }
+    ensures { OnOk result (out.new ≡ out.old ++ (front.now ++ (name.now ++ (32 ∷ (ids_text set.now ++ 10 ∷ []))))) }
 {
-    begin_line(out, line, b" copy ")?;
+    out.append(front)?;
     out.append(name)?;
     out.push(b' ')?;
     push_set(out, set)?;
@@ -75,37 +91,43 @@ fn push_drop<const W: usize>(out: &mut Octets, line: u64, set: &BitString<W>) ->
     out.push(b'\n')
 }
 
-/// Appends the line of an outcome.
+/// Appends the line of an outcome, given the front of a copy's line.
 fn push_outcome<const W: usize>(
     out: &mut Octets,
     line: u64,
+    front: &[u8],
     names: &[Name],
-    one: &Out<'_, W>,
+    action: &Action<'_>,
+    set: &BitString<W>,
 ) -> M<()>
-    requires { IsTrue (is_width W) }
-    ensures { OnOk result (out.new ≡ out.old ++ forward.outcome_text line (seen names.now (outcome number_of one.now))) }
+    requires width { IsTrue (is_width W) }
+    requires front { front.now ≡ decimal line ++ codes " copy " }
+    ensures { OnOk result (out.new ≡ out.old ++ forward.outcome_text line (seen names.now (outcome number_of (out_of {w = W} set.now action.now)))) }
 {
-    match one {
-        Out::Local(own) => push_local(out, line, *own),
-        Out::Copy { to, set, .. } => push_copy(out, line, name_of(names, to), set),
-        Out::Dropped { set, .. } => push_drop(out, line, set),
+    match action {
+        Action::Local(own) => push_local(out, line, *own),
+        Action::Copy { to, .. } => push_copy(out, front, name_of(names, to), set),
+        Action::Dropped(_) => push_drop(out, line, set),
     }
 }
 
-/// Appends the lines of the remaining outcomes of a packet.
+/// Appends the lines of the remaining outcomes of a packet, given the front of a copy's line.
 fn push_left<const W: usize, L: Ledger>(
     out: &mut Octets,
     line: u64,
+    front: &[u8],
     names: &[Name],
     mut hop: Hop<'_, W>,
     steps: &mut Steps<L>,
 ) -> M<()>
     requires width { IsTrue (is_width W) }
+    requires front { front.now ≡ decimal line ++ codes " copy " }
     requires numbered { IsNumbering hop.table number_of (chosen hop.table) }
     ensures { OnOk result (out.new ≡ out.old ++ texts line names.now (left (chosen hop.entry.table) hop.entry)) }
 {
-    'outcomes: while let Some(one) = hop.next(steps) {
-        push_outcome(out, line, names, &one)?;
+    let mut set = BitString::zero();
+    'outcomes: while let Some(action) = hop.next_into(&mut set, steps) {
+        push_outcome(out, line, front, names, &action, &set)?;
     }
     Ok(())
 }
@@ -137,7 +159,7 @@ fn push_hop<const W: usize, L: Ledger>(
 {
     let own = own_position(own, set.width());
     let hop = Hop::begin(table, own, set.copy(), TTL);
-    push_left(out, line, names, hop, steps)
+    push_left(out, line, copy_front(line).as_slice(), names, hop, steps)
 }
 
 /// Appends the lines of a packet that a table of its length forwards, with a ledger of the steps that is not read.
