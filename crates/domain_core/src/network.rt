@@ -9,6 +9,7 @@ ghost use Rattle.frames_in_flight.specs.Flights.{place_seen};
 ghost use Rattle.domain_model.specs.World.{link_between, frames_between, queue_at, first_world, ids_in_flight};
 
 use frames_in_flight::{FlightSeen, Flights, confs_of, link_between, reader_of};
+use lsp_store::Contents;
 use router_core::Router;
 use std::alloc::Global;
 use wire_base::limits::MOST_ROUTERS;
@@ -24,14 +25,25 @@ pub(crate) struct Network {
     pub(crate) events: u32,
 }
 
-/// Returns routers that have just started.
+/// Returns a router that has just started, which shares the contents of LSPs with others.
+fn router_of(alloc: Global, conf: &RouterConf, contents: &Contents) -> M<Router>
+    requires { IsSound conf.now }
+    ensures { IfOk result (λ router. router ≡ started_router conf.now) }
+{
+    let mut router = Router::new(alloc, conf.copy()?)?;
+    router.share_contents(contents.share()?);
+    Ok(router)
+}
+
+/// Returns routers that have just started. They store equal contents of an LSP once.
 fn routers_of(alloc: Global, confs: &[RouterConf]) -> M<Vec<Router>>
     requires { AllByRecursion IsSound confs.now }
     ensures { IfOk result (λ routers. routers.items ≡ map started_router confs.now) }
 {
+    let contents = Contents::new(alloc)?;
     let mut routers = Vec::new(alloc);
     for conf in confs {
-        routers.push(Router::new(alloc, conf.copy()?)?)?;
+        routers.push(router_of(alloc, conf, &contents)?)?;
     }
     Ok(routers)
 }

@@ -12,7 +12,7 @@ ghost use Rattle.isis_flood.specs.Kept.{NotLowered};
 
 use crate::flood::Flood;
 use isis_pdu::LspHead;
-use lsp_store::{Store, is_same_id, purge, received};
+use lsp_store::{Store, is_same_id, purge};
 use wire_base::limits::MOST_ENTRIES;
 use wire_base::{Age, Entry, FloodOut, LspId, M, Memory};
 
@@ -133,7 +133,7 @@ impl Flood {
         ensures done { LspDone result self.old.flood store.old.entries self.new.flood store.new.entries (stores self.old.flood store.old.entries link (kept (head_of head.now) tlvs.now)) }
         ensures spare { self.old.spare ≤ self.new.spare + 1 }
     {
-        let entry = received(store.allocator(), &head.summary(), head.flags, tlvs)?;
+        let entry = store.received(&head.summary(), head.flags, tlvs)?;
         self.put_passed(store, link, entry, guess)?;
         Ok(FloodOut::Kept)
     }

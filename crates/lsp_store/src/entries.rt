@@ -31,13 +31,20 @@ pub fn received(alloc: Global, s: &Summary, flags: u8, tlvs: &[u8]) -> M<Entry>
     if s.life == 0 {
         return Ok(purge(alloc, s.id, s.seq));
     }
-    Ok(Entry {
+    Ok(live(s, flags, Octets::from_slice(alloc, tlvs)?))
+}
+
+/// Returns the entry of a live LSP with this content.
+pub(crate) fn live(s: &Summary, flags: u8, content: Octets) -> Entry
+    ensures { result ≡ record { id = s.now.id; seq = s.now.seq; life = s.now.life; hold = 0; sum = s.now.sum; flags = flags; content = content } }
+{
+    Entry {
         id: s.id,
         seq: s.seq,
         life: s.life,
         hold: 0,
         sum: s.sum,
         flags,
-        content: Octets::from_slice(alloc, tlvs)?,
-    })
+        content,
+    }
 }

@@ -6,12 +6,14 @@
 #![tactic(auto)]
 
 mod ages;
+mod contents;
 mod entries;
 mod keys;
 mod places;
 mod seconds;
 mod store;
 
+pub use contents::Contents;
 pub use entries::{purge, received};
 pub use keys::{is_same_id, is_system_above, system_key};
 pub use places::{Keyed, place_near, place_of, stands_at};

@@ -1,21 +1,26 @@
 ghost use Rattle.std.specs.Prelude.{◌≡◌, ◌≤◌, ◌<◌, ◌+◌, ◌-◌, [], length, map, vec_len, vec_capacity, slice_get, option_map, Some, true, false, OnOk, OnErr, IfOk, IfErr, IfSome};
 ghost use Rattle.wire_base.specs.model.Control.{IsDatabase, ids_of, entry_in, put_entry, age_of, seq_of};
+ghost use Rattle.wire_base.specs.model.Flooding.{kept};
 ghost use Rattle.wire_base.specs.declared.faults.PutFault.TheVariants.{Memory};
 ghost use Rattle.lsp_store.specs.Places.{IsPlace, is_new, place_in, PutAnswers, IsSecondAt};
 
 use crate::ages::age_beside;
+use crate::contents::Contents;
+use crate::entries::{live, purge};
 use crate::places::{place_near, place_of, stands_at};
 use crate::seconds::{is_removed, pass_second};
 use std::alloc::Global;
 use std::marker::Model;
 use wire_base::limits::MOST_ENTRIES;
-use wire_base::{Age, Aged, Entry, LspId, M, PutFault, Summary};
+use wire_base::{Age, Aged, Entry, LspId, M, Octets, PutFault, Summary};
 
 /// An LSDB: at most `MOST_ENTRIES` entries in the order of their LSP IDs, no LSP ID twice. Contracts model it as these entries, and
 /// the number of new entries for which memory is already allocated.
 #[derive(Drop)]
 pub struct Store {
     items: Vec<Entry>,
+    /// Where the contents of received LSPs are stored, if not by this LSDB alone.
+    contents: Option<Contents>,
 }
 
 impl Model for Store {
@@ -60,6 +65,42 @@ impl Store {
     {
         Store {
             items: Vec::new(alloc),
+            contents: None,
+        }
+    }
+
+    /// Has the contents of LSPs that are received from now on stored once for all LSDBs with these `Contents`.
+    pub fn share_contents(&mut self, contents: Contents)
+        ensures { self.new ≡ self.old }
+    {
+        self.contents = Some(contents);
+    }
+
+    /// Replaces the entries by those of another LSDB. Contents are shared as before.
+    pub fn replace_entries(&mut self, by: Store)
+        ensures { self.new ≡ by }
+    {
+        self.items = by.items;
+    }
+
+    /// Returns the entry of a received LSP, as `entries::received` does.
+    pub fn received(&self, s: &Summary, flags: u8, tlvs: &[u8]) -> M<Entry>
+        ensures entry { IfOk result (λ e. e ≡ kept (record { life = s.now.life; id = s.now.id; seq = s.now.seq; sum = s.now.sum; flags = flags }) tlvs.now) }
+        ensures id { IfOk result (λ e. e.id ≡ s.now.id) }
+    {
+        if s.life == 0 {
+            return Ok(purge(self.allocator(), s.id, s.seq));
+        }
+        Ok(live(s, flags, self.content(&s.id, tlvs)?))
+    }
+
+    /// Returns the content of a received LSP.
+    fn content(&self, id: &LspId, tlvs: &[u8]) -> M<Octets>
+        ensures { IfOk result (λ content. content ≡ tlvs.now) }
+    {
+        match &self.contents {
+            None => Octets::from_slice(self.allocator(), tlvs),
+            Some(contents) => contents.content(self.allocator(), id, tlvs),
         }
     }
 
@@ -213,7 +254,7 @@ impl Store {
         let alloc = self.allocator();
         let answer = pass_second(alloc, &mut self.items[i]);
         if is_removed(answer) {
-            self.items.remove(i);
+            drop(self.items.remove(i));
         }
         answer
     }

@@ -3,7 +3,7 @@ ghost use Rattle.wire_base.specs.model.View.{control_view};
 ghost use Rattle.laws_router.specs.State.{IsRouter, IssuesAlone, is_up};
 
 use isis_flood::Flood;
-use lsp_store::Store;
+use lsp_store::{Contents, Store};
 use std::alloc::Global;
 use std::marker::Model;
 use view_graph::view;
@@ -45,6 +45,13 @@ impl Control {
         ensures { result.now.entries ≡ self.now.entries }
     {
         &self.store
+    }
+
+    /// Has the contents of received LSPs stored once for all routers with these `Contents`.
+    pub(crate) fn share_contents(&mut self, contents: Contents)
+        ensures { self.new ≡ self.old }
+    {
+        self.store.share_contents(contents);
     }
 
     pub(crate) fn flood(&self) -> &Flood

@@ -105,7 +105,7 @@ impl Control {
     {
         let up = self.ends_up()?;
         let (store, flood) = started(self.allocator(), &self.conf, up.as_slice())?;
-        self.store = store;
+        self.store.replace_entries(store);
         self.flood = flood;
         self.spent = false;
         Ok(())

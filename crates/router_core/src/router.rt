@@ -16,7 +16,7 @@ use crate::kept::Kept;
 use crate::staleness::note_own;
 use bier_forward::Effects;
 use isis_flood::Flood;
-use lsp_store::Store;
+use lsp_store::{Contents, Store};
 use std::alloc::Global;
 use std::marker::Model;
 use wire_base::limits::{MOST_ENTRIES, MOST_FRAME, MOST_PAYLOAD};
@@ -60,6 +60,14 @@ impl Router {
             kept: None,
             heard: 0,
         })
+    }
+
+    /// Has the contents of LSPs that it receives from now on stored once for all routers with these `Contents`. Its state stays the
+    /// same.
+    pub fn share_contents(&mut self, contents: Contents)
+        ensures { self.new ≡ self.old }
+    {
+        self.control.share_contents(contents);
     }
 
     /// Returns its configuration. The only live entry of its LSDB with its own system ID is its fragment 0, with the

@@ -1,23 +1,58 @@
 ghost use Rattle.std.specs.Prelude.{◌≡◌, ◌<◌, ◌++◌, ◌∷◌, [], length, set, take, OnOk, OnErr, IfOk};
 ghost use Rattle.std.specs.Fmt.{decimal};
+ghost use Rattle.wire_base.specs.Held.{octets_of};
 
 use crate::memory::{M, Memory};
 use itoa::Buffer;
 use std::alloc::Global;
 use std::marker::Model;
+use std::mem::replace;
+use std::rc::Rc;
+
+/// Where the octets of a list are stored.
+#[derive(Drop)]
+enum Held {
+    /// In a vector of the list's own.
+    Own(Vec<u8>),
+    /// In a vector that several lists share; this one has as many octets of its start.
+    Shared(Rc<Vec<u8>>, usize),
+}
 
 /// A list of octets, modeled in contracts as a list of numbers below 256.
+///
+/// Lists that `share` returns are stored once. Each is copied when it changes.
 #[derive(Drop)]
 pub struct Octets {
-    items: Vec<u8>,
+    held: Held,
 }
 
 impl Model for Octets {
     ghost use Rattle.std.specs.Prelude.{List, ℕ};
+    ghost use Rattle.wire_base.specs.Held.{octets_of};
 
     ghost Value = { List ℕ };
 
-    ghost view = { λ o. o.items.items };
+    ghost view = { λ o. octets_of o.held };
+}
+
+/// Returns the first `len` octets, or all of them where there are fewer.
+fn start_of(octets: &[u8], len: usize) -> &[u8]
+    ensures { result.now ≡ take len octets.now }
+{
+    if len < octets.len() {
+        return &octets[..len];
+    }
+    octets
+}
+
+/// Returns a vector of both slices, one after the other.
+fn joined(alloc: Global, first: &[u8], second: &[u8]) -> M<Vec<u8>>
+    ensures { IfOk result (λ both. both.items ≡ first.now ++ second.now) }
+{
+    let mut both = Vec::with_capacity(alloc, first.len().saturating_add(second.len()))?;
+    both.extend_from_slice(first)?;
+    both.extend_from_slice(second)?;
+    Ok(both)
 }
 
 impl Octets {
@@ -25,55 +60,98 @@ impl Octets {
     pub fn new(alloc: Global) -> Self
         ensures { result ≡ [] }
     {
-        Octets {
-            items: Vec::new(alloc),
-        }
+        Octets::from_vec(Vec::new(alloc))
     }
 
     /// Creates an empty list with capacity for `room` octets. Errors if the allocation fails.
     pub fn with_room(alloc: Global, room: usize) -> M<Self>
         ensures { IfOk result (λ octets. octets ≡ []) }
     {
-        Ok(Octets {
-            items: Vec::with_capacity(alloc, room)?,
-        })
+        Ok(Octets::from_vec(Vec::with_capacity(alloc, room)?))
     }
 
     /// Creates a list of those octets. Errors if an allocation fails.
     pub fn from_slice(alloc: Global, octets: &[u8]) -> M<Self>
         ensures { IfOk result (λ copied. copied ≡ octets.now) }
     {
-        Ok(Octets {
-            items: Vec::from_slice(alloc, octets)?,
-        })
+        Ok(Octets::from_vec(Vec::from_slice(alloc, octets)?))
     }
 
     /// Creates a list from a vector of octets.
     pub fn from_vec(octets: Vec<u8>) -> Self
         ensures { result ≡ octets.items }
     {
-        Octets { items: octets }
+        Octets {
+            held: Held::Own(octets),
+        }
     }
 
     /// Returns an equal list. Errors if an allocation fails.
     pub fn copy(&self) -> M<Self>
         ensures { IfOk result (λ copied. copied ≡ self.now) }
     {
-        Octets::from_slice(*self.items.allocator(), self.as_slice())
+        Octets::from_slice(self.allocator(), self.as_slice())
+    }
+
+    /// Returns an equal list that is stored in the same memory as this one, until one of the two changes. Errors if an allocation
+    /// fails.
+    pub fn share(&mut self) -> M<Self>
+        ensures same { self.new ≡ self.old }
+        ensures shared { IfOk result (λ shared. shared ≡ self.old) }
+    {
+        self.make_shared()?;
+        match &self.held {
+            Held::Own(_) => self.copy(),
+            Held::Shared(octets, len) => Ok(Octets {
+                held: Held::Shared(octets.clone()?, *len),
+            }),
+        }
+    }
+
+    /// Stores the octets where other lists can share them.
+    fn make_shared(&mut self) -> M<()>
+        ensures { self.new ≡ self.old }
+    {
+        let Held::Own(octets) = &mut self.held else {
+            return Ok(());
+        };
+        let alloc = *octets.allocator();
+        let octets = replace(octets, Vec::new(alloc));
+        let len = octets.len();
+        match Rc::new(alloc, octets) {
+            Ok(octets) => {
+                self.held = Held::Shared(octets, len);
+                Ok(())
+            }
+            Err(failed) => {
+                self.held = Held::Own(failed.value);
+                Err(Memory)
+            }
+        }
+    }
+
+    fn allocator(&self) -> Global {
+        match &self.held {
+            Held::Own(octets) => *octets.allocator(),
+            Held::Shared(octets, _) => *octets.as_ref().allocator(),
+        }
     }
 
     /// Returns the octets as a slice.
     pub fn as_slice(&self) -> &[u8]
         ensures { result.now ≡ self.now }
     {
-        self.items.as_slice()
+        match &self.held {
+            Held::Own(octets) => octets.as_slice(),
+            Held::Shared(octets, len) => start_of(octets.as_ref().as_slice(), *len),
+        }
     }
 
     /// Returns the number of octets.
     pub fn len(&self) -> usize
         ensures { result ≡ length self.now }
     {
-        self.items.len()
+        self.as_slice().len()
     }
 
     /// Appends one octet. If an allocation fails, the list is unchanged.
@@ -81,8 +159,11 @@ impl Octets {
         ensures ok { OnOk result (self.new ≡ self.old ++ octet ∷ []) }
         ensures err { OnErr result (self.new ≡ self.old) }
     {
-        self.items.push(octet)?;
-        Ok(())
+        if let Held::Own(octets) = &mut self.held {
+            octets.push(octet)?;
+            return Ok(());
+        }
+        self.append(&[octet])
     }
 
     /// Appends a slice of octets. If an allocation fails, the list is unchanged.
@@ -90,7 +171,14 @@ impl Octets {
         ensures ok { OnOk result (self.new ≡ self.old ++ octets.now) }
         ensures err { OnErr result (self.new ≡ self.old) }
     {
-        self.items.extend_from_slice(octets)?;
+        match &mut self.held {
+            Held::Own(own) => own.extend_from_slice(octets)?,
+            Held::Shared(..) => self.held = Held::Own(joined(
+                self.allocator(),
+                self.as_slice(),
+                octets,
+            )?),
+        }
         Ok(())
     }
 
@@ -121,7 +209,10 @@ impl Octets {
     pub fn truncate(&mut self, len: usize)
         ensures { self.new ≡ take len self.old }
     {
-        self.items.truncate(len);
+        match &mut self.held {
+            Held::Own(octets) => octets.truncate(len),
+            Held::Shared(_, kept) => *kept = (*kept).min(len),
+        }
     }
 }
 

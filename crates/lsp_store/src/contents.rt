@@ -1,0 +1,68 @@
+//! Contents of LSPs that several LSDBs share.
+ghost use Rattle.std.specs.Prelude.{◌≡◌, ◌<◌, IfOk};
+
+use crate::keys::system_key;
+use std::alloc::Global;
+use std::cell::RefCell;
+use std::rc::Rc;
+use wire_base::{LspId, M, Octets};
+
+/// For how many LSP IDs the last content is remembered. Where two share a place, the later one takes it.
+const PLACES: usize = 4_096;
+
+/// The contents of LSPs that were stored last.
+///
+/// The routers of a domain mostly store the same LSPs. LSDBs that have the same `Contents` store equal contents of an LSP once.
+#[derive(Drop)]
+pub struct Contents {
+    last: Rc<RefCell<Vec<Octets>>>,
+}
+
+/// Returns the place where the last content of an LSP ID is remembered.
+fn place_of(id: &LspId) -> usize
+    ensures { result < 4096 }
+{
+    let key = system_key(id.system);
+    // Systems that are numbered in order have places of their own.
+    let folded = (key ^ (key >> 12) ^ (key >> 24) ^ u64::from(id.fragment)) as usize;
+    folded % PLACES
+}
+
+/// Returns a list of those octets, which is stored with the last content at that place where the two are equal.
+fn content_at(alloc: Global, last: &mut Vec<Octets>, place: usize, octets: &[u8]) -> M<Octets>
+    ensures { IfOk result (λ content. content ≡ octets.now) }
+{
+    'places: while last.len() <= place {
+        last.push(Octets::new(alloc))?;
+    }
+    if last[place].as_slice() != octets {
+        last[place] = Octets::from_slice(alloc, octets)?;
+    }
+    last[place].share()
+}
+
+impl Contents {
+    /// Creates contents of which none is known.
+    pub fn new(alloc: Global) -> M<Self> {
+        Ok(Contents {
+            last: Rc::new(alloc, RefCell::new(Vec::new(alloc)))?,
+        })
+    }
+
+    /// Returns the same contents, for another LSDB.
+    pub fn share(&self) -> M<Self> {
+        Ok(Contents {
+            last: self.last.clone()?,
+        })
+    }
+
+    /// Returns a list of those octets, the content of an LSP. If the last content of that LSP ID is equal, the two are stored once.
+    pub(crate) fn content(&self, alloc: Global, id: &LspId, octets: &[u8]) -> M<Octets>
+        ensures { IfOk result (λ content. content ≡ octets.now) }
+    {
+        match self.last.try_borrow_mut() {
+            Ok(mut last) => content_at(alloc, &mut *last, place_of(id), octets),
+            Err(_) => Octets::from_slice(alloc, octets),
+        }
+    }
+}
