@@ -1,5 +1,5 @@
 -- What a BIFT-id stands for, both ways: what the search finds has that BIFT-id, and what has it is found.
-use Rattle.std.proofs.Common.{◌≡◌, ℕ, zero, suc, ◌+◌, ◌-◌, ◌≤◌, ◌<◌, ◌&&◌, ◌||◌, length, slice_index_or, true, false, ◌==◌, nat_le, List, [], ◌∷◌, ◌++◌, Option, Some, None, is_some, IfSome, option_map, refl, ap, sym, ◌∙◌, ◌⊎◌, inl, inr, subst, arith, if◌then◌else◌}
+use Rattle.std.proofs.Common.{◌≡◌, ℕ, zero, suc, ◌+◌, ◌-◌, ◌≤◌, ◌<◌, ◌&&◌, ◌||◌, length, slice_index_or, true, false, ◌==◌, nat_le, List, [], ◌∷◌, ◌++◌, Option, Some, None, is_some, IfSome, refl, ap, sym, ◌∙◌, ◌⊎◌, inl, inr, subst, arith, if◌then◌else◌}
 use Rattle.std.specs.List.{AllByRecursion, Contains, flat_map}
 use Rattle.std.proofs.lemmas.List.Elements.{Contains-append_left, Contains-append_right}
 use Rattle.std.proofs.lemmas.Bool.{true≢false, false≢true, leb-true, le-leb, eqb-true, eqb-false, eq-eqb, ne_eqb, and_parts, and_from, or_cases, or_left, or_right, cases_Bool, cond-true, cond-false, cond_both, false_from_ne_true}
@@ -17,7 +17,7 @@ use Rattle.wire_base.specs.declared.conf.TableRow.{TableRow}
 use Rattle.wire_base.specs.declared.conf.RouterConf.{RouterConf}
 use Rattle.wire_base.specs.model.Lists.{AreApart, or_else}
 use Rattle.wire_base.specs.Searches.{sub_labelled}
-use Rattle.wire_base.specs.model.Place.{code_of, bsl_coded, same_triple, kind_of, sub_in, label_in, row_in, bift_by, bift_of, own_bift, known_subs, known_ranges, placed, ranges_of, IsLabel, IsRow, StandsFor, IsMeaning, is_label_of, is_mpls, is_configured, triple_of, labelled, tells, written, means}
+use Rattle.wire_base.specs.model.Place.{code_of, bsl_coded, same_triple, kind_of, sub_in, label_in, row_in, known_subs, known_ranges, placed, ranges_of, IsLabel, IsRow, IsMeaning, is_label_of, is_mpls, is_configured, triple_of, labelled, tells, written, means}
 use Rattle.wire_base.specs.model.Configuration.{share_label, share_range, same_row, same_bift, IsSound}
 
 no_None : {X : Type 0} (x : X) → None ≡ Some x → ⊥
@@ -285,24 +285,3 @@ label_range (x ∷ xs) t b e =
           ]
       | inr h ↦ let r = label_range xs t b (sym (cond-false _ _ _ h) ∙ e) in (r.0, in_cons x xs r.0 r.1, r.2, r.3, r.4)
     ]
-
-bift_stands : (r : RouterConf) (kind : Kind) (t : Triple) (b : ℕ) (s : OwnSub) → sub_in r.subs t.sd ≡ Some s → is_some (sub_in (known_subs r) t.sd) ≡ true → bift_by (Some kind) r.table s.ranges t ≡ Some b → StandsFor r kind b t
-bift_stands r Mpls t b s is some e =
-    let l = label_range s.ranges t b e in
-    record {
-      range = record { sd = t.sd; range = l.0 };
-      known = Contains-append_left (ranges_of r.subs) (ranges_of r.away ++ r.past) _ (ranges_in_all r.subs t.sd s l.0 is l.1);
-      sd = refl;
-      bsl = l.2;
-      si = l.3;
-      is = l.4;
-    }
-bift_stands r Configured t b s is some e = record { sub = some; row = e }
-
--- the BIFT-id of a triple at a router means that triple there
-pub own_meaning : (r : RouterConf) (kind : Kind) (t : Triple) (b : ℕ) → kind_of r.kinds t.sd ≡ Some kind → own_bift r t ≡ Some b → IsMeaning r kind b t
-own_meaning r kind t b k e = record { kind_is = k; bift_is = by (sub_in r.subs t.sd) refl e }
-  where
-    by : (o : Option OwnSub) → sub_in r.subs t.sd ≡ o → bift_of r.kinds r.table (option_map (λ (s : OwnSub). s.ranges) o) t ≡ Some b → StandsFor r kind b t
-    by None is f = absurd (no_None b f)
-    by (Some s) is f = bift_stands r kind t b s is (sub_in_both r.subs r.away t.sd ∙ or_left _ _ (ap is_some is)) (sym (ap (λ q. bift_by q r.table s.ranges t) k) ∙ f)

@@ -37,10 +37,6 @@ pub within_lower : (low a high : ℕ) (xs : List ℕ) → low ≤ a → IsWithin
 within_lower low a high [] le is = tt
 within_lower low a high (x ∷ xs) le is = (omega (arith, is.0), is.1, is.2)
 
-pub within_higher : (low high b : ℕ) (xs : List ℕ) → high ≤ b → IsWithin low high xs → IsWithin low b xs
-within_higher low high b [] le is = tt
-within_higher low high b (x ∷ xs) le is = (is.0, omega (arith, is.1), within_higher x high b xs le is.2)
-
 -- ascending lists with the same members are equal
 pub same_set : (low high a b : ℕ) (xs ys : List ℕ) → IsWithin low high xs → IsWithin a b ys → ((p : ℕ) → has_member p xs ≡ has_member p ys) → xs ≡ ys
 same_set low high a b [] [] in_x in_y same = refl

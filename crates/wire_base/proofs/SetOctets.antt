@@ -6,19 +6,12 @@ use Rattle.std.proofs.Math.Nat.{pow-succ', div-div-eq-div-mul}
 use Rattle.wire_base.specs.model.BitSet.{has_member, IsWithin, has_bit, set_of, number_from, octets_of}
 use Rattle.wire_base.proofs.SetLaws.{filter-is, has-set_of}
 
--- a number made of bits: its bound, and each bit of it
-pub number-bound : (n p : ℕ) (xs : List ℕ) → number_from n p xs < 2 ^ n
-number-bound zero p xs = omega arith
-number-bound (suc n) p xs = elim (cases_Bool (has_member p xs)) [
-  | inl has ↦ rw has (omega (arith, pow-succ' 2 n, number-bound n (p + 1) xs))
-  | inr lacks ↦ rw lacks (omega (arith, pow-succ' 2 n, number-bound n (p + 1) xs))
-]
-
 half_of : (b m j : ℕ) → b < 2 → (b + 2 * m) / 2 ^ suc j ≡ m / 2 ^ j
 half_of b m j small =
     let same : (b + 2 * m) / 2 ≡ m = omega arith in
     rw (pow-succ' 2 j, sym (div-div-eq-div-mul (b + 2 * m) 2 (2 ^ j)), same) refl
 
+-- each bit of a number made of bits
 pub number-bit : (n j p q : ℕ) (xs : List ℕ) → j < n → q ≡ p + j → (number_from n p xs / 2 ^ j % 2 == 1) ≡ has_member q xs
 number-bit zero j p q xs lt e = absurd (omega arith)
 number-bit (suc n) zero p q xs lt e =

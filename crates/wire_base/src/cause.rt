@@ -6,7 +6,7 @@ use crate::faults::{FrameFault, HeadFault, IpFault, PduFault};
 pub enum Cause {
     /// The BIFT has no entry for the bit position (RFC 8279, 6.5).
     NoRow,
-    /// The TTL was 0 or 1 (RFC 8296, 2.1.1.1).
+    /// The TTL was 0 or 1 (RFC 8296, 2.1.1.2).
     Ttl,
     /// The BIFT-id is unknown at this router.
     Label,
