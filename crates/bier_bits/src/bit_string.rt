@@ -161,21 +161,8 @@ impl<const W: usize> BitString<W> {
         BitString { lanes, marks }
     }
 
-    /// Like `cut`, if the mask has no position below `bp` that is set in `self`: those words are skipped.
-    pub fn cut_from(&mut self, mask: &Self, bp: u16) -> Self
-        requires width { IsTrue (is_width W) }
-        requires low { 1 ≤ bp }
-        requires high { bp ≤ 64 * W }
-        requires apart { AreApartBelow bp self.old mask.now }
-        ensures taken { result ≡ intersection self.old mask.now }
-        ensures left { self.new ≡ difference self.old mask.now }
-    {
-        let mut taken = BitString::zero();
-        self.cut_from_into(mask, bp, &mut taken);
-        taken
-    }
-
-    /// Like `cut_from`, but stores the positions that were set in `taken`, instead of its previous positions.
+    /// Like `cut`, if the mask has no position below `bp` that is set in `self`: those words are skipped. The positions that were
+    /// set become those of `taken`, in place of its previous ones.
     #[tactic(auto, using(crate::proofs::Widths::width_le))]
     pub fn cut_from_into(&mut self, mask: &Self, bp: u16, taken: &mut Self)
         requires width { IsTrue (is_width W) }
