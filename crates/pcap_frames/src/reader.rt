@@ -9,7 +9,8 @@ use crate::header::{Form, HEADER, read_header};
 use crate::record::{CapRecord, read_record};
 use std::alloc::Global;
 use std::marker::Model;
-use wire_base::{CaptureFault, M};
+use std::mem;
+use wire_base::{CaptureFault, M, Octets};
 
 /// The state of a reader: before the header, at a record, or at an error, which is permanent.
 #[derive(Clone, Copy, Debug, PartialEq, Eq)]
@@ -20,12 +21,13 @@ enum Step {
 }
 
 /// A reader of a capture file. It is fed the file in chunks of any size, and returns each record as soon as it is complete. It
-/// stores what it was fed and has not yet returned, and at most as many octets more.
+/// stores what it was fed and has not yet returned, at most as many octets more, and one frame that was given back.
 #[derive(Drop)]
 pub struct Reader {
     step: Step,
     bytes: Vec<u8>,
     at: usize,
+    spare: Octets,
 }
 
 impl Model for Reader {
@@ -51,6 +53,7 @@ impl Reader {
             step: Step::Header,
             bytes: Vec::new(alloc),
             at: 0,
+            spare: Octets::new(alloc),
         }
     }
 
@@ -64,6 +67,14 @@ impl Reader {
         }
         self.bytes.extend_from_slice(piece)?;
         Ok(())
+    }
+
+    /// Takes the frame of a record that is no longer needed, and copies the next record's frame into its memory, so that a
+    /// caller who returns each frame needs no allocation for the next one.
+    pub fn give_back(&mut self, frame: Octets)
+        ensures { self.new ≡ self.old }
+    {
+        self.spare = frame;
     }
 
     /// Moves the remaining octets to the front. The returned part is at least as long, so that all moves together take no more
@@ -121,7 +132,8 @@ impl Reader {
     {
         let alloc = *self.bytes.allocator();
         let at = self.at + skip;
-        let read = read_record(alloc, form, &self.bytes.as_slice()[at..]);
+        let memory = mem::replace(&mut self.spare, Octets::new(alloc));
+        let read = read_record(form, &self.bytes.as_slice()[at..], memory);
         match read {
             Ok(Some((record, size))) => {
                 self.step = Step::Records(form);

@@ -4,7 +4,6 @@ ghost use Rattle.wire_base.specs.model.Capture.{record_at, frame_at, most_captur
 ghost use Rattle.pcap_frames.specs.Seen.{form_seen, record_seen, taken, Answers, IsWithin};
 
 use crate::header::Form;
-use std::alloc::Global;
 use wire_base::limits::MOST_CAPTURED;
 use wire_base::{CaptureFault, Octets};
 
@@ -20,12 +19,13 @@ pub struct CapRecord {
     pub octets: Octets,
 }
 
-/// Returns the record at the front and its length in octets; None if it is not complete yet.
+/// Returns the record at the front and its length in octets; None if it is not complete yet. The frame is copied into the
+/// given memory, whose contents are replaced.
 #[tactic(auto, unfolding(wire_base::specs::model::Capture::record_at))]
 pub fn read_record(
-    alloc: Global,
     form: Form,
     bytes: &[u8],
+    memory: Octets,
 ) -> Result<Option<(CapRecord, usize)>, CaptureFault>
     ensures exact { Answers (taken bytes.now) result (record_at (form_seen form) bytes.now) }
     ensures within { IfOk result (IsWithin (length bytes.now)) }
@@ -41,12 +41,15 @@ pub fn read_record(
     if bytes.len() < size {
         return Ok(None);
     }
+    let mut octets = memory;
+    octets.truncate(0);
+    octets.append(&bytes[RECORD..size])?;
     let fraction = form.four_at(bytes, 4);
     let record = CapRecord {
         sec: form.four_at(bytes, 0),
         usec: microseconds_of(form, fraction),
         whole: captured == form.four_at(bytes, 12),
-        octets: Octets::from_slice(alloc, &bytes[RECORD..size])?,
+        octets,
     };
     Ok(Some((record, size)))
 }
