@@ -6,7 +6,7 @@ ghost use Rattle.frame_list.specs.Spans.{Noted, cut_out, moved, noted_anew, note
 use std::alloc::Global;
 use std::collections::VecDeque;
 use std::marker::Model;
-use wire_base::M;
+use wire_base::{M, Memory};
 
 /// The capacity in octets allocated with the first frame: enough for a few LSPs.
 const FIRST_OCTETS: usize = 1024;
@@ -15,6 +15,9 @@ const FIRST_FRAMES: usize = 8;
 
 /// The capacity in octets that an empty list keeps.
 const KEPT: usize = 1024;
+
+/// The capacity in frames that an empty list keeps.
+const KEPT_FRAMES: usize = 32;
 
 /// The maximum number of octets of removed frames that are left in the buffer.
 const LEFT: usize = 4096;
@@ -99,6 +102,18 @@ impl<N: Copy + Drop> FrameList<N> {
         self.append(note, octets)
     }
 
+    /// Appends a frame whose octets are those of three slices, one after the other, so that its parts need not be joined before.
+    /// If an allocation fails, nothing changes.
+    pub fn push_parts(&mut self, note: N, first: &[u8], second: &[u8], third: &[u8]) -> M<()>
+        ensures ok { OnOk result (self.new ≡ self.old ++ record { note = note; octets = first.now ++ (second.now ++ third.now) } ∷ []) }
+        ensures err { OnErr result (self.new ≡ self.old) }
+    {
+        if self.is_mostly_gone() {
+            self.gather()?;
+        }
+        self.append_parts(note, first, second, third)
+    }
+
     /// Appends the frames of another list, all with that note, by one copy of their octets. If an allocation fails, nothing
     /// changes.
     #[tactic(auto, using(crate::proofs::SpanLaws::frames_joined, crate::proofs::SpanLaws::within_joined))]
@@ -162,6 +177,23 @@ impl<N: Copy + Drop> FrameList<N> {
         Ok(())
     }
 
+    /// The same for a frame in three parts. If an allocation fails, octets that belong to no frame may be left.
+    #[tactic(auto, using(crate::proofs::SpanLaws::frames_added, crate::proofs::SpanLaws::within_added, crate::proofs::SpanLaws::frames_kept, crate::proofs::SpanLaws::within_kept))]
+    fn append_parts(&mut self, note: N, first: &[u8], second: &[u8], third: &[u8]) -> M<()>
+        ensures ok { OnOk result (self.new ≡ self.old ++ record { note = note; octets = first.now ++ (second.now ++ third.now) } ∷ []) }
+        ensures err { OnErr result (self.new ≡ self.old) }
+    {
+        self.make_room(FIRST_OCTETS)?;
+        let start = self.octets.len();
+        extend_three(&mut self.octets, first, second, third)?;
+        self.spans.push_back(Span {
+            note,
+            start,
+            end: self.octets.len(),
+        })?;
+        Ok(())
+    }
+
     /// Removes the frame at an index. Returns whether there was one.
     #[tactic(auto, using(crate::proofs::SpanLaws::frames_removed, crate::proofs::SpanLaws::within_removed))]
     pub fn remove(&mut self, i: usize) -> bool
@@ -178,6 +210,15 @@ impl<N: Copy + Drop> FrameList<N> {
         true
     }
 
+    /// Removes all frames. The list keeps its capacity.
+    pub fn clear(&mut self)
+        ensures { self.new ≡ [] }
+    {
+        self.gone = 0;
+        self.spans.clear();
+        self.octets.clear();
+    }
+
     /// If no frame is left, discards the octets, and large capacity.
     fn let_go(&mut self)
         ensures { self.new ≡ self.old }
@@ -186,9 +227,11 @@ impl<N: Copy + Drop> FrameList<N> {
             return;
         }
         self.gone = 0;
+        if self.spans.capacity() > KEPT_FRAMES {
+            self.spans = VecDeque::new(self.allocator());
+        }
         if self.octets.capacity() > KEPT {
             self.octets = Vec::new(self.allocator());
-            self.spans = VecDeque::new(self.allocator());
         } else {
             self.octets.truncate(0);
         }
@@ -211,6 +254,34 @@ impl<N: Copy + Drop> FrameList<N> {
         *self = left;
         Ok(())
     }
+}
+
+/// Appends the octets of both slices, or none if an allocation fails.
+fn extend_two(octets: &mut Vec<u8>, first: &[u8], second: &[u8]) -> M<()>
+    ensures ok { OnOk result (octets.new.items ≡ octets.old.items ++ (first.now ++ second.now)) }
+    ensures err { OnErr result (octets.new.items ≡ octets.old.items) }
+{
+    let before = octets.len();
+    octets.extend_from_slice(first)?;
+    if octets.extend_from_slice(second).is_err() {
+        octets.truncate(before);
+        return Err(Memory);
+    }
+    Ok(())
+}
+
+/// The same for three slices.
+fn extend_three(octets: &mut Vec<u8>, first: &[u8], second: &[u8], third: &[u8]) -> M<()>
+    ensures ok { OnOk result (octets.new.items ≡ octets.old.items ++ (first.now ++ (second.now ++ third.now))) }
+    ensures err { OnErr result (octets.new.items ≡ octets.old.items) }
+{
+    let before = octets.len();
+    octets.extend_from_slice(first)?;
+    let done = extend_two(octets, second, third);
+    if done.is_err() {
+        octets.truncate(before);
+    }
+    done
 }
 
 /// Appends the spans of frames whose octets were appended to others, all with that note.
