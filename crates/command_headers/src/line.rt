@@ -56,36 +56,31 @@ fn put_three(line: &mut Block, first: u32, second: u32, third: u32)
     put_spaced(line, third);
 }
 
-/// Returns the number of a record, its kind, and the fields of its header up to the bit positions.
+/// Writes the number of a record, its kind, and the fields of its header up to the bit positions into an empty block.
 #[tactic(auto, using(crate::proofs::Lines::front_put))]
-fn front_of(number: u64, kind: Kind, header: &Header) -> Block
+fn put_front(line: &mut Block, number: u64, kind: Kind, header: &Header)
+    requires { line.old ≡ [] }
     ensures { let h = header_of header.now in
-        result ≡ decimal number ++ (sight.kind_text kind ++ (sight.three_text h.bift h.ttl (bits_of h.bsl) ++ sight.three_text h.entropy h.proto h.bfir)) }
+        line.new ≡ decimal number ++ (sight.kind_text kind ++ (sight.three_text h.bift h.ttl (bits_of h.bsl) ++ sight.three_text h.entropy h.proto h.bfir)) }
 {
     let bits = header.bits.bsl().bits();
-    let mut line = Block::new();
     line.number(number);
     line.append(kind_text(kind));
+    put_three(line, header.bift, u32::from(header.ttl), u32::from(bits));
     put_three(
-        &mut line,
-        header.bift,
-        u32::from(header.ttl),
-        u32::from(bits),
-    );
-    put_three(
-        &mut line,
+        line,
         header.entropy,
         u32::from(header.proto),
         u32::from(header.bfir),
     );
-    line
 }
 
 /// Appends the line of a record with a header.
 fn push_seen(out: &mut Octets, number: u64, kind: Kind, header: &Header) -> M<()>
     ensures { OnOk result (out.new ≡ out.old ++ (decimal number ++ (sight.kind_text kind ++ sight.header_text (header_of header.now)))) }
 {
-    let mut line = front_of(number, kind, header);
+    let mut line = Block::new();
+    put_front(&mut line, number, kind, header);
     put_positions(out, &mut line, &header.bits)?;
     line.make_room(out)?;
     line.push(b'\n');
@@ -98,14 +93,16 @@ fn push_header(out: &mut Octets, number: u64, kind: Kind, bytes: &[u8]) -> M<u64
     ensures text { OnOk result (out.new ≡ out.old ++ sight.sight_text number (sight.sight_by kind (coded_header_at kind bytes.now))) }
     ensures count { IfOk result (λ count. count ≡ sight.sight_count (sight.sight_by kind (coded_header_at kind bytes.now))) }
 {
-    match read_by_field(kind, bytes) {
+    // The header stays where it was read: a move copies as many octets as the longest BitString has.
+    let read = read_by_field(kind, bytes);
+    match &read {
         Ok(header) => {
-            push_seen(out, number, kind, &header)?;
+            push_seen(out, number, kind, header)?;
             Ok(1)
         }
         Err(fault) => {
             out.append_number(number)?;
-            push_bad(out, fault)?;
+            push_bad(out, *fault)?;
             Ok(0)
         }
     }

@@ -10,6 +10,6 @@ use Rattle.command_headers.proofs.line.push_seen.Goals as goal
 pub returns : goal.returns
 returns c =
     let h = header_of c.args.header.now in
-    line_put c.append.result c.args.out.now c.put_positions.new.out c.front_of-line.result c.put_positions.new.block c.make_room.new.out c.make_room.new.self c.as_slice.result.now c.append.new.self
+    line_put c.append.result c.args.out.now c.put_positions.new.out c.put_front.new.line c.put_positions.new.block c.make_room.new.out c.make_room.new.self c.as_slice.result.now c.append.new.self
     (decimal c.args.number) (sight.kind_text c.args.kind) (sight.three_text h.bift h.ttl (bits_of h.bsl)) (sight.three_text h.entropy h.proto h.bfir) (ids_text h.positions)
-    c.front_of-line.ensures c.in_ok-put_positions.ensures.ok c.in_ok-make_room.ensures.same (c.as_slice.ensures ∙ c.push.ensures.text) c.append.ensures.ok
+    c.put_front.ensures c.in_ok-put_positions.ensures.ok c.in_ok-make_room.ensures.same (c.as_slice.ensures ∙ c.push.ensures.text) c.append.ensures.ok
