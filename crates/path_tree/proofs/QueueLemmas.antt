@@ -1,22 +1,25 @@
 -- What the top of the heap says of the lengths in it.
-use Rattle.std.proofs.Common.{◌≡◌, ℕ, ◌≤◌, false, List, [], ◌∷◌, map, All, refl}
-use Rattle.std.specs.declared.cmp.Ordering.{Ordering}
-use Rattle.std.specs.declared.cmp.Ordering.TheVariants.{Less, Equal, Greater}
+use Rattle.std.proofs.Common.{◌≡◌, ℕ, ◌+◌, ◌*◌, ◌/◌, ◌%◌, ◌<◌, ◌≤◌, List, [], ◌∷◌, map, All, ap, ◌∙◌, arith}
 use Rattle.std.specs.declared.cmp.Reverse.{Reverse}
-use Rattle.std.specs.Ordering.{is_lt, ordering_then, nat_cmp}
 use Rattle.std.specs.BinaryHeap.{IsUpperBound}
 use Rattle.std.proofs.lemmas.List.Elements.{All-nil, All-cons}
 use Rattle.std.proofs.lemmas.Map.Keys.{ge_from_not_lt}
-use Rattle.path_tree.specs.Queue.{entry_cmp}
+use Rattle.std.proofs.lemmas.Nat.{div-mul-add}
+use Rattle.path_tree.specs.Queue.{entry_cmp, entry_of}
 
-first-decides : (a b : Ordering) → is_lt (ordering_then a b) ≡ false → is_lt a ≡ false
-first-decides Less b e = e
-first-decides Equal b e = refl
-first-decides Greater b e = e
+-- the number of a length and a node has both
+pub unpacked : (length node wide : ℕ) → node < 65536 → wide ≡ node → entry_of (record { 0 = length * 65536 + wide }) ≡ (length, node)
+unpacked length node wide low same =
+    let whole : (length * 65536 + node) / 65536 ≡ length = div-mul-add length 65536 node low in
+    let rest : (length * 65536 + node) % 65536 ≡ node = omega (arith, low, whole) in
+    ap (λ (n : ℕ). entry_of (record { 0 = length * 65536 + n })) same ∙ ap (λ (n : ℕ). (n, (length * 65536 + node) % 65536)) whole ∙ ap (λ (n : ℕ). (length, n)) rest
 
-pub least-first : (e : Reverse (ℕ × ℕ)) (rs : List (Reverse (ℕ × ℕ))) → IsUpperBound entry_cmp e rs → All (λ other. e.0.0 ≤ other.0) (map (λ r. r.0) rs)
-least-first e [] h = All-nil (λ (other : ℕ × ℕ). e.0.0 ≤ other.0)
+part-grows : (m n : ℕ) → m ≤ n → m / 65536 ≤ n / 65536
+part-grows m n le = omega (arith, le)
+
+pub least-first : (e : Reverse ℕ) (rs : List (Reverse ℕ)) → IsUpperBound entry_cmp e rs → All (λ (other : ℕ × ℕ). (entry_of e).0 ≤ other.0) (map entry_of rs)
+least-first e [] h = All-nil (λ (other : ℕ × ℕ). (entry_of e).0 ≤ other.0)
 least-first e (r ∷ rs) h =
-    All-cons (λ (other : ℕ × ℕ). e.0.0 ≤ other.0) r.0 (map (λ r. r.0) rs)
-    (ge_from_not_lt r.0.0 e.0.0 (first-decides (nat_cmp r.0.0 e.0.0) (nat_cmp r.0.1 e.0.1) h.0))
+    All-cons (λ (other : ℕ × ℕ). (entry_of e).0 ≤ other.0) (entry_of r) (map entry_of rs)
+    (part-grows e.0 r.0 (ge_from_not_lt r.0 e.0 h.0))
     (least-first e rs h.1)

@@ -1,19 +1,34 @@
 -- What the searches are to find.
-use Rattle.std.proofs.Common.{◌≡◌, ℕ, ◌+◌, ◌-◌, ◌<◌, ◌≤◌, ◌^◌, ◌⊎◌, inl, inr, true, false, not, ◌||◌, ◌==◌, List, length, Contains, Option, Some, IfSome, refl, ap, arith, sym, ◌∙◌, subst}
+use Rattle.std.proofs.Common.{◌≡◌, ℕ, ◌+◌, ◌-◌, ◌*◌, ◌<◌, ◌≤◌, ◌^◌, ◌⊎◌, inl, inr, true, false, not, ◌||◌, ◌==◌, List, [], ◌∷◌, length, Contains, Option, Some, None, IfSome, refl, ap, arith, sym, ◌∙◌, subst}
 use Rattle.std.proofs.lemmas.Option.{same_Some}
+use Rattle.std.proofs.lemmas.List.Elements.{All-contains}
+use Rattle.wire_base.specs.declared.view.ViewEdge.{ViewEdge}
 use Rattle.wire_base.specs.declared.view.ViewNode.{ViewNode}
-use Rattle.wire_base.specs.model.Graph.{edges_of, is_overloaded, IsGraph}
-use Rattle.wire_base.specs.model.Walk.{AreDists, IsDist, dist, may_enter}
-use Rattle.laws_route.proofs.WalkLemmas.{at-most-of, best-IsDist, best-small, edges-node, enter-cases, may-enter-end, may-enter-free}
+use Rattle.wire_base.specs.model.Graph.{edges_of, is_overloaded, IsEdge, IsGraph}
+use Rattle.wire_base.specs.model.Walk.{AreDists, IsDist, Leads, best, cost, dist, may_enter}
+use Rattle.laws_route.proofs.WalkLemmas.{at-most-of, best-IsDist, best-route, edges-good, edges-node, enter-cases, may-enter-end, may-enter-free}
 use Rattle.laws_route.proofs.DescentLemmas.{dist-end, dist-over, dist-edge, edge-within}
 use Rattle.laws_route.proofs.LastLemmas.{dist-last-over, dist-last}
 use Rattle.path_tree.specs.Search.{IsReach, lengths}
 use Rattle.path_tree.specs.Ways.{IsTurned, AreDistsFrom}
 
 module _ (g : List ViewNode) (good : IsGraph g) where
-  dist-small : (u d : ℕ) → IfSome (dist g u d) (λ n. n ≤ 2 ^ 48)
+  cost-small : (u d : ℕ) (es : List ViewEdge) → Leads g u d es → cost es ≤ length es * 2 ^ 32
+  cost-small u d [] leads = omega arith
+  cost-small u d (e ∷ es) leads =
+      let fits = All-contains (IsEdge (length g)) (edges_of g u) e (edges-good g good u) leads.0 in
+      omega (arith, fits.small, cost-small e.to d es leads.2)
+
+  -- so that with one edge more it is below 2 ^ 48
+  dist-small : (u d : ℕ) → IfSome (dist g u d) (λ n. n ≤ 65535 * 2 ^ 32)
   unfolding dist
-  dist-small u d = best-small g good d (length g - 1) u (omega (arith, good.few))
+  dist-small u d = from (best g d (length g - 1) u) refl
+    where
+      from : (o : Option ℕ) → best g d (length g - 1) u ≡ o → IfSome o (λ n. n ≤ 65535 * 2 ^ 32)
+      from None q = tt
+      from (Some n) q =
+          let r = best-route g d (length g - 1) u n q in
+          omega (arith, good.few, r.within, r.sum, cost-small u d r.edges r.leads)
 
   entered : (d x : ℕ) → (x ≡ d) ⊎ (is_overloaded g x ≡ false) → may_enter g d x ≡ true
   entered d x (inl h) = may-enter-end g d x h

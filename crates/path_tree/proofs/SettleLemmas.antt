@@ -1,5 +1,5 @@
 -- The nearest node that waits has its length.
-use Rattle.std.proofs.Common.{◌≡◌, ℕ, zero, suc, ◌+◌, ◌<◌, ◌≤◌, ◌^◌, ◌==◌, ◌⊎◌, inl, inr, Bool, true, false, not, cond, List, length, Contains, slice_set, Option, Some, None, IfSome, refl, ap, arith, sym, ◌∙◌, subst, if◌then◌else◌, replicate, count_by}
+use Rattle.std.proofs.Common.{◌≡◌, ℕ, zero, suc, ◌+◌, ◌*◌, ◌<◌, ◌≤◌, ◌^◌, ◌==◌, ◌⊎◌, inl, inr, Bool, true, false, not, cond, List, length, Contains, slice_set, Option, Some, None, IfSome, refl, ap, arith, sym, ◌∙◌, subst, if◌then◌else◌, replicate, count_by}
 use Rattle.std.proofs.lemmas.Bool.{cases_Bool, eq-eqb}
 use Rattle.std.proofs.lemmas.Bool.Decides.{eqb_tells}
 use Rattle.std.proofs.lemmas.List.{get_or-set_same, get_or-set_other, get_or-replicate, length-replicate}
@@ -91,7 +91,7 @@ module _ (count : ℕ) (ways : ℕ → List ViewEdge) (passes : ℕ → Bool) (s
     pub within : x < count
     pub has : lengths t x ≡ Some m
     pub right : lengths t x ≡ f x
-    pub small : m ≤ 2 ^ 48
+    pub small : m ≤ 65535 * 2 ^ 32
 
   pub taken : (m x : ℕ) (q1 : List (ℕ × ℕ)) → TakesNext settled q (m, x) q1 → IsNearest m x
   taken m x q1 k =
@@ -103,7 +103,7 @@ module _ (count : ℕ) (ways : ℕ → List ViewEdge) (passes : ℕ → Bool) (s
       let right : lengths t x ≡ f x = nearest-right x m e.0 k.waits has (λ z n l h p. k.least (n, z) (i.queued z n l h p) h) in
       record { within = e.0; has = has; right = right; small = bound (f x) (sym right ∙ has) (reach.small x e.0) }
     where
-      bound : (o : Option ℕ) → o ≡ Some m → IfSome o (λ n. n ≤ 2 ^ 48) → m ≤ 2 ^ 48
+      bound : (o : Option ℕ) → o ≡ Some m → IfSome o (λ n. n ≤ 65535 * 2 ^ 32) → m ≤ 65535 * 2 ^ 32
       bound o e h = rw e at h
 
   -- x is settled, and the edges on from it are counted where walks go on from it

@@ -1,5 +1,5 @@
 -- A search for shortest walks from a node over given edges: its result, and the effect of one iteration.
-use Rattle.std.specs.Prelude.{◌≡◌, ℕ, ◌+◌, ◌<◌, ◌≤◌, ◌^◌, ◌⊎◌, Bool, true, false, nat_lt, List, length, Contains, slice_index_or, Option, Some, None, IfSome}
+use Rattle.std.specs.Prelude.{◌≡◌, ℕ, ◌+◌, ◌*◌, ◌<◌, ◌≤◌, ◌^◌, ◌⊎◌, Bool, true, false, nat_lt, List, length, Contains, slice_index_or, Option, Some, None, IfSome}
 use Rattle.wire_base.specs.declared.view.ViewEdge.{ViewEdge}
 use Rattle.laws_route.specs.Bounds.{IsAtMost}
 
@@ -21,7 +21,7 @@ pub record IsReach (count : ℕ) (ways : ℕ → List ViewEdge) (passes : ℕ �
   pub starts : f start ≡ Some 0
   pub over : (x : ℕ) (e : ViewEdge) (r : ℕ) → x < count → passes x ≡ true → Contains (ways x) e → f x ≡ Some r → IsAtMost (f e.to) (r + e.metric)
   pub last : (y n : ℕ) → y < count → (y ≡ start → ⊥) → f y ≡ Some n → LastEdge count ways passes f y n
-  pub small : (x : ℕ) → x < count → IfSome (f x) (λ n. n ≤ 2 ^ 48)
+  pub small : (x : ℕ) → x < count → IfSome (f x) (λ n. n ≤ 65535 * 2 ^ 32)
 
 -- Lists as functions; what is past the end counts as settled.
 abbrev pub marks : List Bool → ℕ → Bool

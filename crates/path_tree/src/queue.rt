@@ -1,5 +1,5 @@
 //! The queue of the nodes that wait in a search.
-ghost use Rattle.std.specs.Prelude.{◌≡◌, ◌≤◌, ◌∷◌, [], All, IfSome, IfNone, OnOk};
+ghost use Rattle.std.specs.Prelude.{◌≡◌, ◌≤◌, ◌<◌, ◌^◌, ◌∷◌, [], All, IfSome, IfNone, OnOk};
 ghost use Rattle.std.specs.List.Sorted.{IsPermutation};
 
 use std::alloc::Global;
@@ -8,20 +8,21 @@ use std::collections::BinaryHeap;
 use std::marker::Model;
 use wire_base::M;
 
-/// A priority queue of entries, each a cost and a node. The entry with the least cost comes first.
+/// A priority queue of entries, each a cost and a node. The entry with the least cost comes first. An entry is stored as one number,
+/// its cost times 2^16 plus its node, so that two entries are compared at once.
 #[derive(Drop)]
 pub(crate) struct Queue {
-    heap: BinaryHeap<Reverse<(u64, u16)>>,
+    heap: BinaryHeap<Reverse<u64>>,
 }
 
 impl Model for Queue {
     ghost use Rattle.std.specs.Prelude.{List, ℕ, map};
     ghost use Rattle.std.specs.BinaryHeap.{heap_items, IsHeap};
-    ghost use Rattle.path_tree.specs.Queue.{entry_cmp};
+    ghost use Rattle.path_tree.specs.Queue.{entry_cmp, entry_of};
 
     ghost Value = { List (ℕ × ℕ) };
 
-    ghost view = { λ q. map (λ r. r.0) (heap_items q.heap) };
+    ghost view = { λ q. map entry_of (heap_items q.heap) };
 
     ghost invariant = { λ q. IsHeap entry_cmp (heap_items q.heap) };
 }
@@ -36,9 +37,10 @@ impl Queue {
     }
 
     pub(crate) fn push(&mut self, length: u64, node: u16) -> M<()>
+        requires { length < 2 ^ 48 }
         ensures { OnOk result (IsPermutation ((length, node) ∷ self.old) self.new) }
     {
-        self.heap.push(Reverse((length, node)))?;
+        self.heap.push(Reverse(length * 65_536 + u64::from(node)))?;
         Ok(())
     }
 
@@ -48,6 +50,7 @@ impl Queue {
         ensures none { IfNone result (self.old ≡ []) }
     {
         let entry = self.heap.pop()?;
-        Some(entry.0)
+        let number = entry.0;
+        Some((number / 65_536, (number % 65_536) as u16))
     }
 }

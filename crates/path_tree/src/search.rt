@@ -1,5 +1,5 @@
 //! Dijkstra's algorithm: the nearest waiting node is settled, and then each edge from it is relaxed.
-ghost use Rattle.std.specs.Prelude.{◌≡◌, ◌≤◌, ◌<◌, ◌∷◌, ◌^◌, ◌==◌, ℕ, [], true, List, Option, Some, None, All, Contains, IfOk, IfSome, IfNone, OnOk, MatchBool, length, slice_index_or, slice_set, if◌then◌else◌};
+ghost use Rattle.std.specs.Prelude.{◌≡◌, ◌≤◌, ◌<◌, ◌∷◌, ◌*◌, ◌^◌, ◌==◌, ℕ, [], true, List, Option, Some, None, All, Contains, IfOk, IfSome, IfNone, OnOk, MatchBool, length, slice_index_or, slice_set, if◌then◌else◌};
 ghost use Rattle.std.specs.List.Sorted.{IsPermutation};
 ghost use Rattle.wire_base.specs.model.Graph.{IsEdge, edges_of, is_overloaded};
 ghost use Rattle.wire_base.specs.model.Walk.{may_enter};
@@ -76,7 +76,7 @@ fn ways_on(nodes: &[ViewNode], start: u16, node: u16) -> &[ViewEdge]
 /// Relaxes each edge from a node of that cost.
 fn relax(edges: &[ViewEdge], reached: u64, found: &mut Vec<Option<u64>>, queue: &mut Queue) -> M<()>
     requires edges { All (λ e. IsEdge (length found.old.items) e) edges.now }
-    requires small { reached ≤ 2 ^ 48 }
+    requires small { reached ≤ 65535 * 2 ^ 32 }
     ensures { OnOk result (Relaxed edges.now reached found.old.items queue.old found.new.items queue.new) }
 {
     for edge in edges {
@@ -88,6 +88,7 @@ fn relax(edges: &[ViewEdge], reached: u64, found: &mut Vec<Option<u64>>, queue: 
 /// Records a cost if the node had none or a greater one.
 fn improve(found: &mut Vec<Option<u64>>, queue: &mut Queue, node: u16, reach: u64) -> M<()>
     requires within { node < length found.old.items }
+    requires small { reach < 2 ^ 48 }
     ensures found { OnOk result (found.new.items ≡ (if is_shorter reach (lengths found.old.items node) then slice_set found.old.items node (Some reach) else found.old.items)) }
     ensures queue { OnOk result (MatchBool (is_shorter reach (lengths found.old.items node)) (IsPermutation ((reach, node) ∷ queue.old) queue.new) (queue.new ≡ queue.old)) }
 {

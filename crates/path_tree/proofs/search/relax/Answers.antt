@@ -11,11 +11,17 @@ none = record { to = 0; metric = 0 }
 pub loop-edge-init : goal.loop-edge-init
 loop-edge-init c = relaxed-none c.args.reached c.args.found.now.items c.args.queue.now
 
-pub improve-requires : goal.improve-requires
+pub improve-requires-clause-within : goal.improve-requires-clause-within
 unfolding none
-improve-requires c =
+improve-requires-clause-within c =
     let good = c.requires.edges c.loop-edge.edge-index none c.loop-edge-test.true in
-    record { within = omega (arith, good.names, c.loop-edge.invariant.rows) }
+    omega (arith, good.names, c.loop-edge.invariant.rows)
+
+pub improve-requires-clause-small : goal.improve-requires-clause-small
+unfolding none
+improve-requires-clause-small c =
+    let good = c.requires.edges c.loop-edge.edge-index none c.loop-edge-test.true in
+    omega (arith, good.small, c.requires.small)
 
 pub loop-edge-preserved : goal.loop-edge-preserved
 unfolding none
