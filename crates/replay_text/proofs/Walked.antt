@@ -1,5 +1,5 @@
 -- A set that is written position by position.
-use Rattle.std.proofs.Common.{◌≡◌, ℕ, ◌++◌, List, [], ◌∷◌, Option, Some, None, Result, Ok, Err, OnOk, sym, ap, ◌∙◌, append_assoc, refl}
+use Rattle.std.proofs.Common.{◌≡◌, ℕ, ◌++◌, List, [], ◌∷◌, Option, Some, None, Result, Ok, Err, OnOk, OnErr, sym, ap, ◌∙◌, append_assoc, append-nil, refl}
 use Rattle.std.specs.List.{flat_map}
 use Rattle.std.specs.Fmt.{decimal}
 use Rattle.std.proofs.lemmas.List.Concat.{flat_map-append}
@@ -7,6 +7,7 @@ use Rattle.wire_base.specs.model.BitSet.{first_member}
 use Rattle.bier_bits.specs.Sets.{from_on}
 use Rattle.bier_bits.proofs.Places.{from-zero}
 use Rattle.replay_text.specs.Ids.{ids_text}
+use Rattle.replay_text.specs.Room.{IsFront}
 
 abbrev pub behind_comma : ℕ → List ℕ
 behind_comma next = 44 ∷ decimal next
@@ -45,3 +46,33 @@ set_written (Ok x) old base out block block' new_out new_block set more p first 
     rest ∙ ap (λ (l : List ℕ). out ++ (l ++ others)) number ∙ ap (λ (l : List ℕ). out ++ l) (append_assoc block (decimal p) others) ∙ sym (append_assoc out block (decimal p ++ others))
     ∙ ap (λ (l : List ℕ). l ++ (decimal p ++ others)) moved ∙ append_assoc old base (decimal p ++ others) ∙ ap (λ (l : List ℕ). old ++ (base ++ l)) (sym (whole_text set more p first))
 set_written (Err e) old base out block block' new_out new_block set more p first moved number rest = tt
+
+-- ---- what stands after out of memory
+
+pub on_err : {T E P : Type 0} (result : Result T E) → P → OnErr result P
+on_err (Ok x) p = tt
+on_err (Err e) p = p
+
+pub front_written : (old base out block out' block' done left all : List ℕ) → out ++ block ≡ old ++ (base ++ flat_map behind_comma done) → (out' ≡ out) × (block' ≡ block) → all ≡ done ++ left → IsFront (old ++ base) (flat_map behind_comma all) (out' ++ block')
+front_written old base out block out' block' done left all so_far same parts =
+    record {
+      done = flat_map behind_comma done;
+      left = flat_map behind_comma left;
+      parts = ap (flat_map behind_comma) parts ∙ flat_map-append behind_comma done left;
+      is = ap (λ (l : List ℕ). l ++ block') same.0 ∙ ap (λ (l : List ℕ). out ++ l) same.1 ∙ so_far ∙ sym (append_assoc old base (flat_map behind_comma done));
+    }
+
+pub front_empty : (old base out block more : List ℕ) → (out ≡ old) × (block ≡ base) → IsFront (old ++ base) more (out ++ block)
+front_empty old base out block more same =
+    record { done = []; left = more; parts = refl; is = ap (λ (l : List ℕ). l ++ block) same.0 ∙ ap (λ (l : List ℕ). old ++ l) same.1 ∙ sym (append-nil (old ++ base)) }
+
+pub front_of_set : {T E : Type 0} (result : Result T E) (old base out block block' new set more : List ℕ) (p : ℕ) → from_on 0 set ≡ p ∷ more → out ++ block ≡ old ++ base → block' ≡ block ++ decimal p
+    → OnErr result (IsFront (out ++ block') (flat_map behind_comma more) new) → OnErr result (IsFront (old ++ base) (ids_text set) new)
+front_of_set (Ok x) old base out block block' new set more p first moved number rest = tt
+front_of_set (Err e) old base out block block' new set more p first moved number rest =
+    record {
+      done = decimal p ++ rest.done;
+      left = rest.left;
+      parts = whole_text set more p first ∙ ap (λ (l : List ℕ). decimal p ++ l) rest.parts ∙ sym (append_assoc (decimal p) rest.done rest.left);
+      is = rest.is ∙ ap (λ (l : List ℕ). l ++ rest.done) (ap (λ (l : List ℕ). out ++ l) number ∙ sym (append_assoc out block (decimal p)) ∙ ap (λ (l : List ℕ). l ++ decimal p) moved) ∙ append_assoc (old ++ base) (decimal p) rest.done;
+    }

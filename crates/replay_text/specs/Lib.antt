@@ -3,6 +3,7 @@ pub mod Fault
 pub mod Pieces
 pub mod Tokens
 pub mod Ids
+pub mod Room
 pub mod Hop
 pub mod Grammar
 pub mod Events

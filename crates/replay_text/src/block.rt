@@ -1,6 +1,7 @@
 //! Text that is collected on the stack, and then appended to a report in one piece.
-ghost use Rattle.std.specs.Prelude.{◌≡◌, ◌<◌, ◌≤◌, ◌+◌, ◌/◌, ◌%◌, ◌++◌, ◌∷◌, [], ℕ, List, OnOk, take, length};
+ghost use Rattle.std.specs.Prelude.{◌≡◌, ◌<◌, ◌≤◌, ◌+◌, ◌/◌, ◌%◌, ◌++◌, ◌∷◌, [], ℕ, List, OnOk, OnErr, take, length};
 ghost use Rattle.std.specs.Fmt.{decimal};
+ghost use Rattle.replay_text.specs.Room.{with_room};
 
 use std::marker::Model;
 use wire_base::{M, Octets};
@@ -8,10 +9,15 @@ use wire_base::{M, Octets};
 /// The room of a block in octets.
 const ROOM: usize = 128;
 
+/// The two digits of each number below 100.
+static PAIRS: [u8; 200] =
+    *b"0001020304050607080910111213141516171819202122232425262728293031323334353637383940414243444546474849\
+       5051525354555657585960616263646566676869707172737475767778798081828384858687888990919293949596979899";
+
 /// At most 128 octets, modeled as their list.
 ///
-/// A method keeps the length in a local variable while it writes, where it would be loaded from memory and stored again
-/// for each octet.
+/// A method that writes several octets counts them in a local variable and stores the length once, at its end. If each octet
+/// changed the field, the length would be loaded and stored once an octet.
 #[derive(Drop)]
 pub struct Block {
     room: [u8; ROOM],
@@ -95,9 +101,12 @@ impl Block {
         self.len = put_few(&mut self.room, at, number);
     }
 
-    /// Appends the block to a text and empties it, unless it has room for a comma and four digits. If an allocation fails,
-    /// the text is unchanged.
+    /// Appends the block to a text and empties it, if it has no room for a comma and four digits. Otherwise nothing changes,
+    /// nor does it if an allocation fails.
     pub fn make_room(&mut self, out: &mut Octets) -> M<()>
+        ensures ok { OnOk result ((out.new, self.new) ≡ with_room out.old self.old) }
+        ensures err { OnErr result ((out.new ≡ out.old) × (self.new ≡ self.old)) }
+        ensures full { OnErr result (123 < length self.old) }
         ensures same { OnOk result (out.new ++ self.new ≡ out.old ++ self.old) }
         ensures front { (text : List ℕ) → take (length text) out.old ≡ text → take (length text) out.new ≡ text }
         ensures room { OnOk result (length self.new ≤ 123) }
@@ -174,8 +183,19 @@ fn put_two(room: &mut [u8; ROOM], at: usize, number: u16) -> usize
     ensures text { take result room.new ≡ take at room.old ++ (48 + number / 10) ∷ (48 + number % 10) ∷ [] }
     ensures at { result ≡ at + 2 }
 {
-    let end = put(room, at, digit(number / 10));
-    put(room, end, digit(number % 10))
+    let (tens, ones) = digits(number);
+    let end = put(room, at, tens);
+    put(room, end, ones)
+}
+
+/// Returns the two digits of a number below 100.
+fn digits(number: u16) -> (u8, u8)
+    requires { number < 100 }
+    ensures tens { result.0 ≡ 48 + number / 10 }
+    ensures ones { result.1 ≡ 48 + number % 10 }
+{
+    let from = usize::from(number) * 2;
+    (PAIRS[from], PAIRS[from + 1])
 }
 
 /// Does the same with the four digits of a number below 10,000.

@@ -5,6 +5,7 @@ ghost use Rattle.std.specs.List.{flat_map};
 ghost use Rattle.bier_bits.specs.Any.{positions_of};
 ghost use Rattle.bier_bits.specs.Sets.{is_width, from_on};
 ghost use Rattle.replay_text.specs.Ids.{ids_text};
+ghost use Rattle.replay_text.specs.Room.{IsFront};
 
 use crate::block::Block;
 use bier_bits::{AnyBits, BitString};
@@ -54,9 +55,11 @@ fn push_members<const W: usize>(out: &mut Octets, set: &BitString<W>) -> M<()>
 }
 
 /// Appends the bit positions of a bit string to the text that a block ends. The block is appended to the text each time
-/// that it is full. If an allocation fails, what was in the text still is.
+/// that it is full. If an allocation fails, the old text and the old block stand in full, and a front part of the
+/// positions' text may follow them.
 pub fn put_positions(out: &mut Octets, block: &mut Block, bits: &AnyBits) -> M<()>
     ensures ok { OnOk result (out.new ++ block.new ≡ out.old ++ (block.old ++ ids_text (positions_of bits.now))) }
+    ensures err { OnErr result (IsFront (out.old ++ block.old) (ids_text (positions_of bits.now)) (out.new ++ block.new)) }
     ensures front { (text : List ℕ) → take (length text) out.old ≡ text → take (length text) out.new ≡ text }
 {
     match bits {
@@ -75,6 +78,7 @@ pub fn put_positions(out: &mut Octets, block: &mut Block, bits: &AnyBits) -> M<(
 fn put_set<const W: usize>(out: &mut Octets, block: &mut Block, set: &BitString<W>) -> M<()>
     requires { IsTrue (is_width W) }
     ensures ok { OnOk result (out.new ++ block.new ≡ out.old ++ (block.old ++ ids_text set.now)) }
+    ensures err { OnErr result (IsFront (out.old ++ block.old) (ids_text set.now) (out.new ++ block.new)) }
     ensures front { (text : List ℕ) → take (length text) out.old ≡ text → take (length text) out.new ≡ text }
 {
     block.make_room(out)?;
@@ -96,6 +100,7 @@ fn put_from<const W: usize>(
 ) -> M<()>
     requires { IsTrue (is_width W) }
     ensures ok { OnOk result (out.new ++ block.new ≡ out.old ++ (block.old ++ flat_map (λ next. 44 ∷ decimal next) (from_on start set.now))) }
+    ensures err { OnErr result (IsFront (out.old ++ block.old) (flat_map (λ next. 44 ∷ decimal next) (from_on start set.now)) (out.new ++ block.new)) }
     ensures front { (text : List ℕ) → take (length text) out.old ≡ text → take (length text) out.new ≡ text }
 {
     let mut low = start;

@@ -1,6 +1,6 @@
 use Rattle.std.proofs.Common.{◌+◌, ◌++◌, ◌∷◌, []}
 use Rattle.bier_bits.specs.Sets.{from_on}
-use Rattle.replay_text.proofs.Walked.{written_more, left_more}
+use Rattle.replay_text.proofs.Walked.{written_more, left_more, front_written, on_err}
 use Rattle.replay_text.proofs.positions.put_from.Goals as goal
 
 pub positions-preserved : goal.positions-preserved
@@ -12,3 +12,9 @@ positions-preserved g c =
       left_more (from_on c.args.start set) done (from_on c.positions.low set) (from_on (c.in-Some.position + 1) set) c.in-Some.position c.positions.invariant.2 c.in-Some.ensures.rest,
       λ text was. c.make_room.ensures.front text (c.positions.invariant.3 text was),
     )
+
+pub returns-in_err-make_room-clause-err : goal.returns-in_err-make_room-clause-err
+returns-in_err-make_room-clause-err g c =
+    let done = c.positions.invariant.0 in
+    let set = c.args.set.now in
+    on_err c.from_residual.result (front_written c.args.out.now c.args.block.now c.positions.out c.positions.block c.make_room.new.out c.make_room.new.self done (from_on c.positions.low set) (from_on c.args.start set) c.positions.invariant.1 c.in_err-make_room.ensures.err c.positions.invariant.2)
