@@ -2,7 +2,6 @@ pub mod DomainFiles
 pub mod Told
 pub mod Named
 pub mod NodeDone
-pub mod NodeIds
 pub mod NodeLaws
 pub mod NodeSteps
 pub mod NodeRecords

@@ -99,20 +99,6 @@ module _ (frames report : List ℕ) where
 
 -- ---- records after records
 
--- once some records were done, more are done from there
-pub reach_on : (n m : Node) (xs ys : List NgRecord) → records_reach n xs ≡ record { node = m; gap = None } → records_reach n (xs ++ ys) ≡ records_reach m ys
-unfolding records_reach
-reach_on n m [] ys is = ap (λ (r : Reached). records_reach r.node ys) is
-reach_on n m (x ∷ xs) ys is = by (gap_at n.clock x.cap.sec) is (reach_on (record_done n x) m xs ys)
-  where
-    apart : {X : Type 0} {x : X} → Some x ≡ None → ⊥
-    apart e = cc
-
-    by : (gap : Option (ℕ × ℕ)) → and_further n gap (records_reach (record_done n x) xs) ≡ record { node = m; gap = None } → (records_reach (record_done n x) xs ≡ record { node = m; gap = None } → records_reach (record_done n x) (xs ++ ys) ≡ records_reach m ys)
-        → and_further n gap (records_reach (record_done n x) (xs ++ ys)) ≡ records_reach m ys
-    by None so rest = rest so
-    by (Some gap) so rest = absurd (apart (ap (λ (r : Reached). r.gap) so))
-
 -- one record more
 pub reach_one : (n : Node) (read : NgRecord) (more : List NgRecord) → gap_at n.clock read.cap.sec ≡ None → records_reach n (read ∷ more) ≡ records_reach (record_done n read) more
 unfolding records_reach

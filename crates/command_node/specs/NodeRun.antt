@@ -1,6 +1,6 @@
 -- One router on the records of a capture: what it sends, with times, and what is reported of it.
 use Rattle.std.specs.Prelude.{ℕ, zero, suc, ◌+◌, ◌≡◌, ◌%◌, ◌==◌, ◌&&◌, nat_le, nat_lt, ◌≤◌, ◌-◌, max, Bool, true, false, List, [], ◌∷◌, ◌++◌, length, map, take, drop, Option, Some, None, option_map, codes, if◌then◌else◌}
-use Rattle.std.specs.List.{fold, flat_map, filter, range_with_len}
+use Rattle.std.specs.List.{fold, flat_map, range_with_len}
 use Rattle.std.specs.Str.{bytes_eq}
 use Rattle.std.specs.Fmt.{decimal}
 use Rattle.wire_base.specs.declared.conf.End.{End}
@@ -18,6 +18,7 @@ use Rattle.wire_base.specs.model.Place.{id_at}
 use Rattle.pcapng_frames.specs.declared.packet.NgRecord.{NgRecord}
 use Rattle.replay_text.specs.Ids.{ids_text}
 use Rattle.replay_text.specs.Payload.{payload_text}
+use Rattle.domain_model.specs.Moves.{listed}
 use Rattle.laws_router.specs.State.{is_up}
 use Rattle.command_drive.specs.Answer.{Verdict}
 use Rattle.command_drive.specs.Captured.{refused_record, refused_by, too_long}
@@ -121,10 +122,6 @@ link_of r read = if may_be_given read then link_from r.ends (take 6 (drop 6 read
 abbrev pub got_text : ℕ → Got → List ℕ
 got_text number g =
     line_of (decimal number ∷ codes "got" ∷ decimal g.sd ∷ decimal g.id ∷ decimal g.bfir ∷ payload_text g.payload ∷ [])
-
--- a number above 65,535 is not a BFR-id, and is not listed
-abbrev pub listed : List ℕ → List ℕ
-listed ks = filter (λ k. nat_le k 65535) ks
 
 -- the BFR-ids of bit positions that were dropped
 abbrev pub dropped_ids : Option Positions → List ℕ

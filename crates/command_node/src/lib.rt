@@ -13,5 +13,7 @@ mod refusals;
 
 pub use by_name::{node_in, place_of};
 pub use domain_file::{NoDomain, domain_in};
-pub use node_command::{Tally, conclude, countable, link_of, node, push_effects, push_frames, sum};
+pub use node_command::{
+    RunningNode, Tally, conclude, countable, link_of, node, push_effects, push_frames, sum,
+};
 pub use refusals::lines_of_refused_files;

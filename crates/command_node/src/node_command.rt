@@ -15,7 +15,7 @@ mod texts;
 use command_drive::{Close, Command, Flow, RecordReader, Texts, drive, refuse_by, refuse_length};
 pub use links::link_of;
 use pcapng_frames::NgRecord;
-use standing::Node;
+pub use standing::RunningNode;
 use std::alloc::Global;
 pub use tally::{Tally, sum};
 pub use texts::{push_effects, push_frames};
@@ -44,7 +44,7 @@ pub fn conclude(out: &mut Octets, close: Close, tally: Tally) -> M<Status>
     }
 }
 
-impl Command<NgRecord> for Node {
+impl Command<NgRecord> for RunningNode {
     ghost use Rattle.std.specs.Prelude.{◌-◌, ◌^◌};
     ghost use Rattle.wire_base.specs.declared.status.Status.TheVariants as status;
     ghost use Rattle.command_node.specs.Owed.{owed, nothing_cut};
@@ -90,11 +90,11 @@ fn conf_at(domain: &Domain, router: u16) -> M<RouterConf>
 }
 
 /// Returns the router at an index of a domain, just started.
-fn start(alloc: Global, domain: &Domain, router: u16) -> M<Node>
+fn start(alloc: Global, domain: &Domain, router: u16) -> M<RunningNode>
     requires { router < length domain.now.routers }
     ensures { IfOk result (λ node. StartsAs (slice_get domain.now.routers router) node) }
 {
-    Node::new(alloc, conf_at(domain, router)?)
+    RunningNode::new(alloc, conf_at(domain, router)?)
 }
 
 /// Runs the command `node CONF ROUTER CAPTURE FRAMES` once the domain file is read and the router is found. The router

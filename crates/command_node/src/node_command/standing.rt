@@ -26,8 +26,8 @@ const MOST_GAP: u64 = 65_535;
 /// A router, the second of its clock, once a record has set it, the number of seconds that have passed, its counts, and
 /// the output that it appends to, which is lent to it for each record.
 #[derive(Drop)]
-pub struct Node {
-    router: Router,
+pub struct RunningNode {
+    pub router: Router,
     clock: Option<u32>,
     ticks: u64,
     pub tally: Tally,
@@ -35,7 +35,7 @@ pub struct Node {
     pub report: Octets,
 }
 
-impl Model for Node {
+impl Model for RunningNode {
     ghost use Rattle.command_node.specs.NodeRun as run;
 
     ghost Value = { run.Node };
@@ -43,7 +43,7 @@ impl Model for Node {
     ghost view = { λ n. record { control = n.router.control; clock = n.clock; ticks = n.ticks; tally = n.tally; frames = n.frames; report = n.report } };
 }
 
-impl Node {
+impl RunningNode {
     /// Returns a node whose router has that configuration and has just started; no record was read.
     pub fn new(alloc: Global, conf: RouterConf) -> M<Self>
         requires { IsSound conf }
@@ -51,7 +51,7 @@ impl Node {
     {
         let mut frames = Octets::new(alloc);
         write_cap_header(&mut frames)?;
-        Ok(Node {
+        Ok(RunningNode {
             router: Router::new(alloc, conf)?,
             clock: None,
             ticks: 0,
@@ -165,15 +165,15 @@ impl Node {
     }
 
     /// Counts a record as ignored.
-    fn pass_over(&mut self) -> M<()>
+    pub fn pass_over(&mut self) -> M<()>
         ensures { OnOk result (self.new ≡ run.passes self.old) }
     {
         self.tally.passed = sum(self.tally.passed, 1)?;
         Ok(())
     }
 
-    /// Reports what the router did with a frame.
-    fn tell(&mut self, alloc: Global, captured: &NgRecord, effects: &Effects) -> M<()>
+    /// Reports what the router did with a frame or an event.
+    pub fn tell(&mut self, alloc: Global, captured: &NgRecord, effects: &Effects) -> M<()>
         requires { FitRecords effects.now.sent }
         ensures { OnOk result (self.new ≡ run.tells captured.now effects.now self.old) }
     {
@@ -198,6 +198,16 @@ impl Node {
         }
     }
 
+    /// Passes the frame of a record to the router, on the link whose peer it came from.
+    pub fn receive(&mut self, alloc: Global, captured: &NgRecord) -> M<()>
+        ensures { OnOk result (self.new ≡ run.given_to captured.now self.old) }
+    {
+        match self.link_of(captured) {
+            None => self.pass_over(),
+            Some(link) => self.give(alloc, captured, link),
+        }
+    }
+
     /// Processes a record: it is counted, the clock advances to its second, and then the router receives its frame.
     #[tactic(auto, unfolding(crate::specs::NodeRun::record_done))]
     pub fn take(&mut self, alloc: Global, captured: &NgRecord) -> M<()>
@@ -206,9 +216,6 @@ impl Node {
     {
         self.tally.records += 1;
         self.move_to(captured.cap.sec)?;
-        match self.link_of(captured) {
-            None => self.pass_over(),
-            Some(link) => self.give(alloc, captured, link),
-        }
+        self.receive(alloc, captured)
     }
 }

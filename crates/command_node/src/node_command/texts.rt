@@ -8,6 +8,7 @@ ghost use Rattle.wire_base.specs.model.Place.{bits_of, id_at};
 ghost use Rattle.router_core.specs.Bounds.{FitRecords};
 ghost use Rattle.command_drive.specs.Answer.{behind};
 ghost use Rattle.command_drive.specs.Captured.{refused_record};
+ghost use Rattle.domain_model.specs.Moves.{listed};
 ghost use Rattle.command_node.specs.NodeRun as run;
 
 use super::tally::Tally;
@@ -54,7 +55,7 @@ fn push_got(out: &mut Octets, number: u64, got: &Got) -> M<()>
 fn push_id(ids: &mut Rows<u16>, triple: Triple, bits: &AnyBits, position: u16) -> M<()>
     requires low { 1 ≤ position }
     requires high { position ≤ bits_of (bsl_of bits.now) }
-    ensures { OnOk result (ids.new ≡ ids.old ++ run.listed (map (id_at triple) (filter (λ p. has_member p (positions_of bits.now)) (position ∷ [])))) }
+    ensures { OnOk result (ids.new ≡ ids.old ++ listed (map (id_at triple) (filter (λ p. has_member p (positions_of bits.now)) (position ∷ [])))) }
 {
     let id = u32::from(triple.si) * u32::from(triple.bsl.bits()) + u32::from(position);
     if bits.has(position) && id <= 65535 {
@@ -67,7 +68,7 @@ fn push_id(ids: &mut Rows<u16>, triple: Triple, bits: &AnyBits, position: u16) -
 /// listed.
 fn ids_listed(alloc: Global, triple: Triple, bits: &AnyBits) -> M<Rows<u16>>
     requires { bsl_of bits.now ≡ triple.bsl }
-    ensures { IfOk result (λ ids. ids ≡ run.listed (map (id_at triple) (positions_of bits.now))) }
+    ensures { IfOk result (λ ids. ids ≡ listed (map (id_at triple) (positions_of bits.now))) }
 {
     let mut ids = Rows::new(alloc);
     for position in 0..bits.bsl().bits() {

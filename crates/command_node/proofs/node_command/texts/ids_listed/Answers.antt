@@ -2,8 +2,8 @@ use Rattle.std.proofs.Common.{◌≡◌, ◌∙◌, ◌+◌, ◌++◌, ◌∷◌
 use Rattle.wire_base.specs.model.BitSet.{has_member}
 use Rattle.wire_base.specs.model.Place.{bits_of, id_at}
 use Rattle.bier_bits.specs.Any.{positions_of}
-use Rattle.command_node.specs.NodeRun.{listed}
-use Rattle.command_node.proofs.NodeIds.{ids_up_to, ids_more, ids_all}
+use Rattle.domain_model.specs.Moves.{listed}
+use Rattle.domain_model.proofs.IdLaws.{ids_up_to, ids_more, ids_all}
 use Rattle.command_node.proofs.node_command.texts.ids_listed.Goals as goal
 
 pub loop-position-preserved : goal.loop-position-preserved

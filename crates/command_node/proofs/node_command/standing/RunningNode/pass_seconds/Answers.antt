@@ -1,7 +1,7 @@
 use Rattle.std.proofs.Common.{◌+◌, ◌-◌, ap, sym, ◌∙◌}
 use Rattle.command_node.specs.NodeRun.{Node, seconds_pass}
 use Rattle.command_node.proofs.NodeSteps.{seconds_more, seconds_end}
-use Rattle.command_node.proofs.node_command.standing.Node.pass_seconds.Goals as goal
+use Rattle.command_node.proofs.node_command.standing.RunningNode.pass_seconds.Goals as goal
 
 pub seconds-preserved : goal.seconds-preserved
 seconds-preserved c =

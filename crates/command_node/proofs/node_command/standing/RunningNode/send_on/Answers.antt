@@ -2,7 +2,7 @@ use Rattle.std.proofs.Common.{sym, ap, ◌∙◌}
 use Rattle.wire_base.specs.model.OnFrame.{Effects, Next}
 use Rattle.command_node.specs.NodeRun.{Node, sends_on}
 use Rattle.command_node.proofs.NodeSteps.{sent_on}
-use Rattle.command_node.proofs.node_command.standing.Node.send_on.Goals as goal
+use Rattle.command_node.proofs.node_command.standing.RunningNode.send_on.Goals as goal
 
 pub returns : goal.returns
 returns c =

@@ -3,7 +3,7 @@ use Rattle.command_node.specs.NodeRun.{Node, gap_refused, record_done}
 use Rattle.command_node.specs.Owed.{bare}
 use Rattle.command_node.proofs.NodeLaws.{record_counts}
 use Rattle.command_node.proofs.NodeRecords.{told_record, ends_gap}
-use Rattle.command_node.proofs.node_command.NodeCommandNgRecord.item.Goals as goal
+use Rattle.command_node.proofs.node_command.RunningNodeCommandNgRecord.item.Goals as goal
 
 pub returns-in-Some-clause-did : goal.returns-in-Some-clause-did
 returns-in-Some-clause-did c = (

@@ -6,7 +6,7 @@ use Rattle.command_drive.specs.Reading.{Closed}
 use Rattle.command_node.specs.NodeRun.{Node}
 use Rattle.command_node.specs.Owed.{end_by}
 use Rattle.command_node.proofs.NodeRecords.{concludes_ok}
-use Rattle.command_node.proofs.node_command.NodeCommandNgRecord.close.Goals as goal
+use Rattle.command_node.proofs.node_command.RunningNodeCommandNgRecord.close.Goals as goal
 
 pub returns-clause-concluded : goal.returns-clause-concluded
 returns-clause-concluded c =

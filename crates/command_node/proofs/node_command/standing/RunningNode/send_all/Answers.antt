@@ -3,7 +3,7 @@ use Rattle.std.specs.List.{fold, range_with_len}
 use Rattle.wire_base.specs.declared.conf.RouterConf.{RouterConf}
 use Rattle.command_node.specs.NodeRun.{Node, sends_on, sends_all}
 use Rattle.command_node.proofs.NodeSteps.{links_more}
-use Rattle.command_node.proofs.node_command.standing.Node.send_all.Goals as goal
+use Rattle.command_node.proofs.node_command.standing.RunningNode.send_all.Goals as goal
 
 pub loop-link-preserved : goal.loop-link-preserved
 loop-link-preserved c = c.in_ok-send_on.ensures ∙ links_more c.args.sec c.args.self.now c.loop-link.self c.loop-link.link c.loop-link.invariant
