@@ -35,12 +35,14 @@ use Rattle.domain_model.proofs.LinkLaws.{join_of, end_found}
 use Rattle.domain_model.proofs.QueueLaws.{got_within, set_read}
 use Rattle.domain_replay.specs.Telling.{Telling, Told, told, tells, tells_or, tells_unless, reports_on, tells_all, tells_line}
 use Rattle.domain_replay.proofs.Stays.{happens_domain}
-use Rattle.domain_handshake.specs.Following.{EndsFollow, IsFollowed, history, ups_of, widths, ends_counts, IsWorldOf, IsRunning}
+use Rattle.domain_handshake.specs.Following.{EndsFollow, IsFollowed, history, widths, ends_counts, IsWorldOf, IsRunning}
 use Rattle.domain_replay.specs.Parts.{unsaid, if_allowed, allowed_first}
 use Rattle.domain_handshake.specs.Handshakes.{HandState, Moment, Outcome, writes, joined, goes_on, and_then, one_more, in_turn, nothing, moments_along, world_does, change_does, follows, follows_if, follows_all, moment_after, with_hello, hello_unless, hello_does}
 use Rattle.domain_handshake.specs.Lines.{change_event, changes_text, end_event, fault_of, sent_record}
 use Rattle.domain_handshake.proofs.Keeping.{HandPast, Keeps, IsKeeping}
-use Rattle.domain_handshake.proofs.WorldUps.{row_at, with_up, up_in, toward_is, steady_ups, moved_ups, moved_count, with_widths}
+use Rattle.laws_settle.specs.Ups.{ups_of}
+use Rattle.laws_settle.proofs.WorldUps.{row_at, up_in, toward_is, steady_ups}
+use Rattle.domain_handshake.proofs.WorldUps.{with_up, moved_ups, moved_count, with_widths}
 
 -- ---- a row that is written
 

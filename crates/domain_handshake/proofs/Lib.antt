@@ -2,7 +2,6 @@ pub mod Parts
 pub mod Steps
 pub mod WithinLaws
 pub mod Keeping
-pub mod ControlUps
 pub mod WorldUps
 pub mod FollowLaws
 pub mod StartLaws

@@ -27,10 +27,11 @@ use Rattle.domain_model.proofs.LinkLaws.{join_of, end_found, peer_is}
 use Rattle.domain_model.proofs.QueueLaws.{got_within}
 use Rattle.domain_replay.specs.Replaying.{IsJoining}
 use Rattle.domain_replay.proofs.DirectionLaws.{directions_join}
-use Rattle.domain_handshake.specs.Following.{ups_in, widths, ends_counts, IsWorldOf, IsRunning}
+use Rattle.domain_handshake.specs.Following.{widths, ends_counts, IsWorldOf, IsRunning}
 use Rattle.domain_handshake.specs.Handshakes.{HandState, Outcome, nothing, fresh_state, one_more, in_turn, change_does, end_goes_down, start_does}
-use Rattle.domain_handshake.proofs.ControlUps.{started_ups}
-use Rattle.domain_handshake.proofs.WorldUps.{row_at, up_in, toward_is}
+use Rattle.laws_settle.specs.Ups.{ups_in}
+use Rattle.laws_settle.proofs.ControlUps.{started_ups}
+use Rattle.laws_settle.proofs.WorldUps.{row_at, up_in, toward_is}
 use Rattle.domain_handshake.proofs.FollowLaws.{CameOf, changes_come}
 
 -- ---- the first world

@@ -3,13 +3,13 @@ use Rattle.std.specs.Prelude.{◌≡◌, ℕ, Bool, List, [], ◌∷◌, length,
 use Rattle.std.specs.List.{fold}
 use Rattle.wire_base.specs.declared.conf.RouterConf.{RouterConf}
 use Rattle.wire_base.specs.model.Configuration.{DomainConf}
-use Rattle.wire_base.specs.model.Control.{Control}
 use Rattle.isis_hello.specs.declared.event.HelloEvent.{HelloEvent}
 use Rattle.isis_hello.specs.Changes.{up_between}
 use Rattle.isis_hello.specs.Circuits.{CircuitsState}
 use Rattle.isis_hello.specs.History.{circuits_after}
 use Rattle.domain_model.specs.Faults.{is_up_toward}
 use Rattle.domain_model.specs.World.{WorldState}
+use Rattle.laws_settle.specs.Ups.{ups_of}
 use Rattle.domain_handshake.specs.Handshakes.{HandState, Moment}
 
 -- An interface is up exactly where its adjacency is: that of each router toward each other.
@@ -25,13 +25,6 @@ abbrev pub history : List HelloEvent → List HelloEvent
 history events = fold (λ past e. e ∷ past) [] events
 
 -- ---- the interfaces there are
-
--- for each router and each of its interfaces whether it is up
-unfoldable pub ups_in : List Control → List (List Bool)
-ups_in controls = map (λ c. c.flood.up) controls
-
-abbrev pub ups_of : WorldState → List (List Bool)
-ups_of w = ups_in w.routers
 
 -- how many interfaces each router has
 unfoldable pub widths : List (List Bool) → List ℕ

@@ -114,7 +114,7 @@ module _ (d : DomainConf) (x y link back : ℕ) (joined : IsLink d x y link back
 
   ready_step : (u : WorldState) (e : Event) → IsOfRound e → EventFits (length u.domain.routers) e → event_fault u e ≡ None → Ready u → Ready (happens u e).world
   ready_step u e of fits ok r =
-      let still = still_step u r.calm.run.truth e (round_traffic e of) in
+      let still = still_step u e (round_traffic e of) in
       record { calm = calm_step u r.calm e of fits ok; domain = still.domain ∙ r.domain; near = still.up x link ∙ r.near; far = still.up y back ∙ r.far }
 
   ready_on : (es : List Event) (u : WorldState) → AllByRecursion IsOfRound es → AreAllowed u es → Ready u → Ready (world_after u es)

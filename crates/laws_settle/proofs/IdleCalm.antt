@@ -316,7 +316,7 @@ module _ (w : WorldState) (calm : IsCalm w) where
   calm_step e of fits ok =
       let v = (happens w e).world in
       let traffic = round_traffic e of in
-      let still = still_step w calm.run.truth e traffic in
+      let still = still_step w e traffic in
       record {
         run = run_step w e calm.run fits ok (gentle_of w e traffic);
         whole = whole_after w v still calm.whole;

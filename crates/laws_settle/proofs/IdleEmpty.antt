@@ -94,7 +94,7 @@ module _ (d : DomainConf) (x y link back : ℕ) (joined : IsLink d x y link back
     pub domain : u.domain ≡ d
 
   running_step : (u : WorldState) (a b i : ℕ) → EventFits (length u.domain.routers) (Take a b i) → event_fault u (Take a b i) ≡ None → IsRunning u → IsRunning (happens u (Take a b i)).world
-  running_step u a b i fits ok r = record { run = run_step u (Take a b i) r.run fits ok (gentle_of u (Take a b i) tt); domain = (still_step u r.run.truth (Take a b i) tt).domain ∙ r.domain }
+  running_step u a b i fits ok r = record { run = run_step u (Take a b i) r.run fits ok (gentle_of u (Take a b i) tt); domain = (still_step u (Take a b i) tt).domain ∙ r.domain }
 
   turn_runs : (k a b : ℕ) (u : WorldState) → AreAllowed u (replicate k (Take a b 0)) → IsRunning u → IsRunning (world_after u (replicate k (Take a b 0)))
   turn_runs zero a b u allowed r = r

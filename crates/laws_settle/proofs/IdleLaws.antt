@@ -82,7 +82,7 @@ sends_none d a b link joined (s ∷ ds) u allowed run domain (inl along) =
     due_on (map send_event ds) (happens u (Send s.from s.to)).world (sends_round ds) a link
     (subst (λ (e : Event). due_of (slice_get (happens u e).world.routers a) link ≡ false) (sym same) (sent_none u a b link (ap (λ (c : DomainConf). link_between c.routers a b) domain ∙ joined)))
 sends_none d a b link joined (s ∷ ds) u allowed run domain (inr later) =
-    sends_none d a b link joined ds (happens u (Send s.from s.to)).world allowed.2 (run_step u (Send s.from s.to) run allowed.0 allowed.1 tt) ((still_step u run.truth (Send s.from s.to) tt).domain ∙ domain) later
+    sends_none d a b link joined ds (happens u (Send s.from s.to)).world allowed.2 (run_step u (Send s.from s.to) run allowed.0 allowed.1 tt) ((still_step u (Send s.from s.to) tt).domain ∙ domain) later
 
 -- ---- interfaces that are down
 

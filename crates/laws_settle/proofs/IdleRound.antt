@@ -42,10 +42,6 @@ no_packet id (PacketItem x) h lsp = lsp
 abbrev pub send_event : Direction → Event
 send_event s = Send s.from s.to
 
-pub calm_on : (es : List Event) (w : WorldState) → AllByRecursion IsOfRound es → AreAllowed w es → IsCalm w → IsCalm (world_after w es)
-calm_on [] w of allowed calm = calm
-calm_on (e ∷ es) w of allowed calm = calm_on es (happens w e).world of.1 allowed.2 (calm_step w calm e of.0 allowed.0 allowed.1)
-
 pub sends_round : (ds : List Direction) → AllByRecursion IsOfRound (map send_event ds)
 sends_round [] = tt
 sends_round (s ∷ ds) = (tt, sends_round ds)
@@ -120,7 +116,7 @@ module _ (d : DomainConf) (x y link back : ℕ) (joined : IsLink d x y link back
   unfolding Given
   said_step u e of fits ok s = record {
     calm = calm_step u s.calm e of fits ok;
-    domain = (still_step u s.calm.run.truth e (round_traffic e of)).domain ∙ s.domain;
+    domain = (still_step u e (round_traffic e of)).domain ∙ s.domain;
     marked = λ set. s.marked (srm_falls u s.calm e of x id link set);
     sent = each_weaker (λ item. Given x link item) (λ item. IsLspItem id item → A) (λ item h. h refl refl) (queue_at (happens u e).world.flights x link) (given_next u s e of x link);
   }

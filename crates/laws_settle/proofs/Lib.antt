@@ -15,6 +15,9 @@ pub mod OwedSteps
 pub mod FirstLaws
 pub mod RunLaws
 pub mod RestLaws
+pub mod PdusKeep
+pub mod ControlUps
+pub mod WorldUps
 pub mod RoundUps
 pub mod LspReach
 pub mod RoundQueues

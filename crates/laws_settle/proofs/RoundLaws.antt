@@ -25,14 +25,11 @@ use Rattle.laws_settle.proofs.RoundReach.{events_of_round, round_reaches}
 use Rattle.laws_settle.proofs.RoundTurns.{allowed_parts, world_joined}
 use Rattle.laws_settle.proofs.RoundStable.{brings_step}
 use Rattle.laws_settle.proofs.RoundStays.{gentle_of}
+use Rattle.laws_settle.proofs.WorldUps.{over_none}
 use Rattle.laws_settle.proofs.RoundUps.{IsStill, still_step}
 use Rattle.laws_settle.proofs.RunLaws.{IsRun, run_step}
 
 -- ---- interfaces
-
-over_none : (q : Option Control) → up_over q None ≡ false
-over_none None = refl
-over_none (Some c) = refl
 
 pub toward_same : (w v : WorldState) → IsStill w v → (a b : ℕ) → is_up_toward v a b ≡ is_up_toward w a b
 toward_same w v still a b = ap (λ (d : DomainConf). up_over (slice_get v.routers a) (link_between d.routers a b)) still.domain ∙ by (link_between w.domain.routers a b)
@@ -54,7 +51,7 @@ onward [] w of allowed run = record { run = run; still = record { domain = refl;
 onward (e ∷ es) w of allowed run =
     let next = run_step w e run allowed.0 allowed.1 (gentle_of w e of.0) in
     let rest = onward es (happens w e).world of.1 allowed.2 next in
-    let still = still_step w run.truth e of.0 in
+    let still = still_step w e of.0 in
     let settling = settling_step w run.truth run.fresh e (gentle_of w e of.0) in
     record {
       run = rest.run;
@@ -69,7 +66,7 @@ IsClosed id n w = (a b : ℕ) → is_up_toward w b a ≡ true → n ≤ number_a
 module _ (id : LspId) (n : ℕ) where
   closed_step : (w : WorldState) (e : Event) → IsTraffic e → IsRun w → IsClosed id n w → IsClosed id n (happens w e).world
   closed_step w e of run closed a b up h =
-      let still = still_step w run.truth e of in
+      let still = still_step w e of in
       let rise = (settling_step w run.truth run.fresh e (gentle_of w e of)).rise b id in
       let had : n ≤ number_at w a id = elim (brings_step id n w run.truth run.fresh e of a h) [
         | inl same ↦ same

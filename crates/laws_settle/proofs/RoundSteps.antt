@@ -54,7 +54,7 @@ module _ (d : DomainConf) (x y link back : ℕ) (joined : IsLink d x y link back
 
   pub round_step : (w : WorldState) (e : Event) → IsTraffic e → EventFits (length w.domain.routers) e → event_fault w e ≡ None → InRound w → InRound (happens w e).world
   round_step w e of fits ok r =
-      let still = still_step w r.run.truth e of in
+      let still = still_step w e of in
       let rise = (settling_step w r.run.truth r.run.fresh e (gentle_of w e of)).rise x id in
       let some = r.some in
       record {

@@ -58,7 +58,7 @@ module _ (id : LspId) (n : ℕ) where
   origin_on : (es : List Event) (w u : WorldState) → AllByRecursion IsTraffic es → AreAllowed u es → IsRun u → IsStill w u → HasWholeLinks w → ((a : ℕ) → n ≤ number_at u a id → ComesFrom w a) → (a : ℕ) → n ≤ number_at (world_after u es) a id → ComesFrom w a
   origin_on [] w u of allowed run still whole before = before
   origin_on (e ∷ es) w u of allowed run still whole before =
-      let one = still_step u run.truth e of.0 in
+      let one = still_step u e of.0 in
       origin_on es w (happens u e).world of.1 allowed.2 (run_step u e run allowed.0 allowed.1 (gentle_of u e of.0))
       (record { domain = one.domain ∙ still.domain; up = λ a link. one.up a link ∙ still.up a link }) whole (origin_step w u e of.0 run still whole before)
 

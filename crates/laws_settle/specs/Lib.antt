@@ -3,3 +3,4 @@ pub mod Gentle
 pub mod Idle
 pub mod Settled
 pub mod Width
+pub mod Ups
