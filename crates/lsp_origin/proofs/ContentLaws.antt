@@ -91,13 +91,6 @@ picked_same (true ∷ us) (x ∷ xs) zero lt le is = absurd (true≢false is)
 picked_same (false ∷ us) (x ∷ xs) zero lt le is = refl
 picked_same (u ∷ us) (x ∷ xs) (suc i) lt le is = picked_same us xs i (omega (arith, lt)) (omega (arith, le)) is
 
-pub picked_none : (up : List Bool) (ends : List End) (i : ℕ) → length ends ≤ i → picked (drop i up) (drop i ends) ≡ []
-picked_none up ends i le = ap (λ (es : List End). picked (drop i up) es) (drop_all i ends le) ∙ none (drop i up)
-  where
-    none : (us : List Bool) → picked {X = End} us [] ≡ []
-    none [] = refl
-    none (u ∷ us) = refl
-
 -- one end more
 pub up_step : (rows new all : List End) (up : List Bool) (ends : List End) (i j : ℕ) (e : End) → rows ++ picked (drop i up) (drop i ends) ≡ all → j ≡ suc i → i < length up → i < length ends → get_or up i false ≡ true → new ≡ rows ++ e ∷ [] → e ≡ get_or ends i e → new ++ picked (drop j up) (drop j ends) ≡ all
 up_step rows new all up ends i j e so next lt le is pushed at =
