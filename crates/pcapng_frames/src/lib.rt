@@ -6,6 +6,7 @@
 
 mod block;
 mod content;
+pub mod examples;
 mod faults;
 mod interface;
 mod moment;

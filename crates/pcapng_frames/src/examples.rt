@@ -1,3 +1,4 @@
+//! Worked examples of the definitions of captures. The bodies are empty: the contracts are proved by computation.
 ghost use Rattle.std.specs.Prelude.{◌≡◌, ◌++◌, ℕ, List, [], ◌∷◌, true, false, Ok, Err, None, Some};
 ghost use Rattle.pcapng_frames.specs.declared.faults.NgFault.TheVariants as faults;
 ghost use Rattle.pcapng_frames.specs.declared.order.Order.TheVariants.{Big, Little};
@@ -6,7 +7,7 @@ ghost use Rattle.pcapng_frames.specs.Times.{units, moment_of, moment_in, padded,
 ghost use Rattle.pcapng_frames.specs.Written.{written_head, written_packet, written_interfaces};
 
 /// The head of a capture with two interfaces.
-#[tactic(auto, unfolding(pcapng_frames::specs::Written::written_interfaces))]
+#[tactic(auto, unfolding(crate::specs::Written::written_interfaces))]
 pub fn head_of_two()
     ensures { written_head 2 ≡ 10 ∷ 13 ∷ 13 ∷ 10 ∷ 28 ∷ 0 ∷ 0 ∷ 0 ∷ 77 ∷ 60 ∷ 43 ∷ 26 ∷ 1 ∷ 0 ∷ 0 ∷ 0 ∷ 255 ∷ 255 ∷ 255 ∷ 255 ∷ 255 ∷ 255 ∷ 255 ∷ 255 ∷ 28 ∷ 0 ∷ 0 ∷ 0 ∷ 1 ∷ 0 ∷ 0 ∷ 0 ∷ 20 ∷ 0 ∷ 0 ∷ 0 ∷ 1 ∷ 0 ∷ 0 ∷ 0 ∷ 255 ∷ 255 ∷ 0 ∷ 0 ∷ 20 ∷ 0 ∷ 0 ∷ 0 ∷ 1 ∷ 0 ∷ 0 ∷ 0 ∷ 20 ∷ 0 ∷ 0 ∷ 0 ∷ 1 ∷ 0 ∷ 0 ∷ 0 ∷ 255 ∷ 255 ∷ 0 ∷ 0 ∷ 20 ∷ 0 ∷ 0 ∷ 0 ∷ [] }
 {}
@@ -31,7 +32,7 @@ pub fn times()
 {}
 
 /// The resolution is the octet of the first option 9 of length 1, here after a comment; it isn't read after the end of the options.
-#[tactic(auto, unfolding(pcapng_frames::specs::Times::resolution_of, pcapng_frames::specs::Times::resolution_by))]
+#[tactic(auto, unfolding(crate::specs::Times::resolution_of, crate::specs::Times::resolution_by))]
 pub fn resolutions()
     ensures found { resolution_of Big (0 ∷ 1 ∷ 0 ∷ 2 ∷ 104 ∷ 105 ∷ 0 ∷ 0 ∷ 0 ∷ 9 ∷ 0 ∷ 1 ∷ 9 ∷ 0 ∷ 0 ∷ 0 ∷ 0 ∷ 9 ∷ 0 ∷ 1 ∷ 3 ∷ 0 ∷ 0 ∷ 0 ∷ []) ≡ 9 }
     ensures ended { resolution_of Little (0 ∷ 0 ∷ 0 ∷ 0 ∷ 9 ∷ 0 ∷ 1 ∷ 0 ∷ 9 ∷ 0 ∷ 0 ∷ 0 ∷ []) ≡ 6 }
@@ -39,7 +40,7 @@ pub fn resolutions()
 {}
 
 /// What is tested when: the type at 4 octets, the byte-order magic at 12, a total length at 8.
-#[tactic(auto, unfolding(pcapng_frames::specs::Blocks::block_at))]
+#[tactic(auto, unfolding(crate::specs::Blocks::block_at))]
 pub fn first_tests()
     ensures magic { block_at None (10 ∷ 13 ∷ 13 ∷ 11 ∷ []) ≡ Err faults.NgMagic }
     ensures not_yet { block_at None (10 ∷ 13 ∷ 13 ∷ 10 ∷ 0 ∷ 0 ∷ 0 ∷ 0 ∷ 1 ∷ 2 ∷ 3 ∷ []) ≡ Ok None }
