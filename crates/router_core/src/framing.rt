@@ -8,8 +8,8 @@ ghost use Rattle.router_core.specs.Sending.{conf_alone, octets_on};
 
 use bier_forward::SentFrames;
 use isis_pdu::{
-    CSNP_FRONT, LSP_FRONT, LspHead, PSNP_FRONT, append_csnp, append_lsp, append_psnp_listing,
-    listed_octets, write_rows,
+    CSNP_FRONT, LSP_FRONT, LspHead, PSNP_FRONT, append_csnp, append_psnp_listing, listed_octets,
+    lsp_front, write_rows,
 };
 use link_frame::write_eth;
 use std::alloc::Global;
@@ -26,8 +26,8 @@ const HEAD: usize = 17;
 /// The least capacity in octets that is reserved for the first frame, which is enough for most LSPs.
 const FIRST_ROOM: usize = 256;
 
-/// Frames to be sent. Each frame is built in one shared buffer before it is appended to the others, so that it needs no
-/// allocation of its own.
+/// Frames to be sent. The frame of a CSNP or PSNP is built in one shared buffer before it is appended to the others, so that it
+/// needs no allocation of its own. The frame of an LSP needs no buffer.
 #[derive(Drop)]
 pub(crate) struct FramesOut {
     sent: SentFrames,
@@ -83,29 +83,37 @@ impl FramesOut {
     }
 }
 
-/// Begins a frame with a PDU of that length: the Ethernet header and the LLC header, FE FE 03.
-fn begin(frame: &mut Octets, own: Mac, size: usize) -> M<()>
+/// Returns the octets of a frame before a PDU of that length: the Ethernet header and the LLC header, FE FE 03.
+fn head_of(own: Mac, size: usize) -> [u8; HEAD]
     requires { size ≤ 1497 }
-    ensures front { OnOk result ((pdu : List ℕ) → length pdu ≡ size → frame.new ++ pdu ≡ item.isis_frame own pdu) }
-    ensures long { OnOk result (length frame.new ≡ HEAD) }
+    ensures { (pdu : List ℕ) → length pdu ≡ size → result ++ pdu ≡ item.isis_frame own pdu }
 {
     let mut head = [0, 0, 0, 0, 0, 0, 0, 0, 0, 0, 0, 0, 0, 0, 0xfe, 0xfe, 3];
     write_eth(&mut head, ALL_ROUTERS, own, 3 + size as u16);
-    frame.truncate(0);
-    frame.append(&head)
+    head
 }
 
-/// Begins a frame on the interface at an index.
+/// The same for a frame on the interface at an index.
+fn head_on(conf: &RouterConf, link: u16, size: usize) -> [u8; HEAD]
+    requires link { link < length conf.now.ends }
+    requires short { size ≤ 1497 }
+    ensures { (pdu : List ℕ) → length pdu ≡ size → result ++ pdu ≡ octets_on (slice_get conf.now.ends link) pdu }
+{
+    head_of(conf.ends.as_slice()[usize::from(link)].own_mac, size)
+}
+
+/// Begins a frame on the interface at an index, with a PDU of that length.
 fn begin_on(frame: &mut Octets, conf: &RouterConf, link: u16, size: usize) -> M<()>
     requires link { link < length conf.now.ends }
     requires short { size ≤ 1497 }
     ensures front { OnOk result ((pdu : List ℕ) → length pdu ≡ size → frame.new ++ pdu ≡ octets_on (slice_get conf.now.ends link) pdu) }
     ensures long { OnOk result (length frame.new ≡ HEAD) }
 {
-    begin(frame, conf.ends.as_slice()[usize::from(link)].own_mac, size)
+    frame.truncate(0);
+    frame.append(&head_on(conf, link, size))
 }
 
-/// Appends the frame of an entry's LSP.
+/// Appends the frame of an entry's LSP, whose parts are copied to the other frames at once: most frames are of this kind.
 pub(crate) fn push_lsp(out: &mut FramesOut, conf: &RouterConf, link: u16, e: &Entry) -> M<()>
     requires link { link < length conf.now.ends }
     requires short { length e.now.content ≤ MOST_CONTENT }
@@ -119,10 +127,10 @@ pub(crate) fn push_lsp(out: &mut FramesOut, conf: &RouterConf, link: u16, e: &En
         flags: e.flags,
     };
     let tlvs = e.content.as_slice();
-    out.make_room(LSP_FRONT + tlvs.len())?;
-    begin_on(&mut out.next, conf, link, LSP_FRONT + tlvs.len())?;
-    append_lsp(&mut out.next, conf.level, &head, tlvs)?;
-    out.sent.push(link, out.next.as_slice())
+    let size = LSP_FRONT + tlvs.len();
+    let front = lsp_front(conf.level, &head, size as u16);
+    out.sent
+        .push_parts(link, &head_on(conf, link, size), &front, tlvs)
 }
 
 /// Appends the frame of a CSNP.
