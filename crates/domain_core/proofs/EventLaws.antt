@@ -1,5 +1,5 @@
 -- What is left to be asked of an event once its own rules allow it.
-use Rattle.std.proofs.Common.{◌≡◌, inl, ℕ, ◌+◌, ◌≤◌, nat_le, Bool, true, false, length, map, slice_get, Option, Some, None, sym, ap, subst, ◌∙◌}
+use Rattle.std.proofs.Common.{◌≡◌, inl, ℕ, ◌+◌, ◌≤◌, nat_le, not, is_none, Bool, true, false, length, map, slice_get, Option, Some, None, sym, ap, subst, ◌∙◌, arith}
 use Rattle.std.proofs.lemmas.List.{length-map}
 use Rattle.wire_base.specs.model.Configuration.{DomainConf}
 use Rattle.wire_base.specs.model.Control.{Control}
@@ -13,12 +13,12 @@ use Rattle.domain_core.specs.declared.network.Network.{Network}
 use Rattle.domain_model.specs.declared.step_out.StepOut.{StepOut}
 use Rattle.domain_core.specs.Answers.{early_fault, early_rule, Refuses}
 use Rattle.frames_in_flight.specs.Told.{told}
-use Rattle.domain_model.specs.Faults.{most_events, most_in_flight, first_fault, entry_fault, rule_fault, event_fault}
+use Rattle.domain_model.specs.Faults.{most_events, most_in_flight, first_fault, unless_room, up_over, entry_fault, rule_fault, event_fault}
 use Rattle.domain_core.specs.Held.{state_of, world_in, IsDone}
 use Rattle.domain_core.specs.Network.{NetworkState, confs_in, world_of, seen_of, AreFramesOver, IsAsBefore, IsTrueNetwork}
 use Rattle.domain_model.specs.Step.{doing, happens}
 use Rattle.domain_model.specs.Truth.{IsTruthful, EventFits, AreWorldDrops}
-use Rattle.domain_model.specs.World.{WorldState, in_flight}
+use Rattle.domain_model.specs.World.{WorldState, in_flight, link_between}
 use Rattle.domain_model.proofs.WorldTruth.{happens_true, first_none}
 
 -- what a router says of an injection; of all else nothing
@@ -114,6 +114,27 @@ counted_done old new e out t fits ok done =
       };
       low = subst (λ (m : ℕ). m ≤ most_events) (sym count) k.truth.events;
     }
+
+-- events that change nothing are counted all at once
+pub counted_more : (n : Network) (m : ℕ) → n.events + m ≤ most_events → IsTrueNetwork (state_of n) → IsTrueNetwork (state_of (record n { events = n.events + m }))
+counted_more n m few t = record {
+  truth = record {
+    valid = t.truth.valid;
+    now = t.truth.now;
+    become = t.truth.become;
+    controls = t.truth.controls;
+    queues = t.truth.queues;
+    items = t.truth.items;
+    injections = omega (arith, t.truth.injections);
+    events = few;
+  };
+  frames = t.frames;
+}
+
+-- a send over an end that leads there breaks no rule if the end is up and there is room
+pub send_allowed : (w : WorldState) (a b link : ℕ) → link_between w.domain.routers a b ≡ Some link → first_fault (not (up_over (slice_get w.routers a) (Some link))) faults.EndState (unless_room w None) ≡ None → rule_fault w (Send a b) ≡ None
+send_allowed w a b link joined none =
+    ap (λ (o : Option ℕ). first_fault (is_none o) faults.NoLink (first_fault (not (up_over (slice_get w.routers a) o)) faults.EndState (unless_room w None))) joined ∙ none
 
 -- each router is one of the domain's
 pub as_many : (n : Network) → IsTrueNetwork (state_of n) → length n.routers.items ≡ length n.domain.routers

@@ -1,8 +1,10 @@
 //! Sends and receives on links whose interfaces are known.
-ghost use Rattle.std.specs.Prelude.{◌≡◌, ◌<◌, length, Some, None, IfOk, OnOk, OnErr, IfErr, MatchResult};
+ghost use Rattle.std.specs.Prelude.{◌≡◌, ◌<◌, ◌≤◌, ◌+◌, ℕ, true, length, Some, None, IfOk, OnOk, OnErr, IfErr, MatchResult};
+ghost use Rattle.wire_base.specs.declared.limits.TheConstants.{MOST_EVENTS};
 ghost use Rattle.replay_text.specs.declared.event.Event.TheVariants as events;
 ghost use Rattle.domain_core.specs.Answers.{outcome, Refuses, Stays};
 ghost use Rattle.domain_core.specs.Held.{state_of, world_in, heard_in};
+ghost use Rattle.domain_core.specs.Idle.{IsIdleSend};
 ghost use Rattle.domain_core.specs.Network.{IsAsBefore, IsTrueNetwork, heard_after, seen_of};
 ghost use Rattle.frames_in_flight.specs.Told.{told};
 ghost use Rattle.domain_model.specs.Faults.{event_fault};
@@ -48,6 +50,29 @@ impl Network {
             return Some(EventFault::Events);
         }
         self.take_fault_over(from, link, i)
+    }
+
+    /// Returns true only if a router may send on the interface `link` and nothing is due there. Such a send changes
+    /// nothing but the number of events.
+    pub(crate) fn is_idle(&self, from: u16, link: u16) -> bool
+        requires truth { IsTrueNetwork (state_of self.now) }
+        requires place { from < length self.now.routers.items }
+        ensures { (to : ℕ) → result ≡ true → link_between self.now.domain.routers from to ≡ Some link → IsIdleSend (world_in self.now) from to }
+    {
+        if let Some(_fault) = self.send_fault_over(from, link) {
+            return false;
+        }
+        self.owes_nothing(from, link)
+    }
+
+    /// Counts that many events that changed nothing else.
+    pub(crate) fn count_events(&mut self, events: u32)
+        requires truth { IsTrueNetwork (state_of self.old) }
+        requires few { self.old.events + events ≤ MOST_EVENTS }
+        ensures state { state_of self.new ≡ record (state_of self.old) { events = self.old.events + events } }
+        ensures kept { IsTrueNetwork (state_of self.new) }
+    {
+        self.events += events;
     }
 
     /// Executes and counts the event in which a router sends on the interface `link` toward another, if it is allowed.

@@ -8,6 +8,7 @@ ghost use Rattle.domain_core.specs.Answers.{outcome, Refuses, Stays};
 ghost use Rattle.frames_in_flight.specs.Told.{IsShortFrame, told};
 ghost use Rattle.domain_model.specs.Faults.{event_fault};
 ghost use Rattle.domain_core.specs.Course.{KeepsCourse};
+ghost use Rattle.domain_core.specs.Idle.{IsIdleSend};
 ghost use Rattle.domain_core.specs.Ledger.{KeepsLedger};
 ghost use Rattle.domain_core.specs.Cover.{IsReceived, Rejects, cover_of};
 ghost use Rattle.domain_core.specs.Quiet.{quiet_of};
@@ -126,6 +127,25 @@ impl World {
         ensures domain { self.new.world.domain ≡ self.old.world.domain }
     {
         self.network.step_send(from, link, to)
+    }
+
+    /// Returns true only if a router may send on the interface `link`, which leads to another, and nothing is due there.
+    /// Such a send changes nothing but the number of events, and there is nothing to report of it.
+    #[tactic(auto, using(crate::proofs::EventLaws::as_many))]
+    pub fn is_idle(&self, from: u16, link: u16) -> bool
+        requires { from < length self.now.world.domain.routers }
+        ensures { (to : ℕ) → result ≡ true → link_between self.now.world.domain.routers from to ≡ Some link → IsIdleSend self.now.world from to }
+    {
+        self.network.is_idle(from, link)
+    }
+
+    /// Counts that many events all at once: sends for which nothing is due, which change nothing else.
+    pub fn count_events(&mut self, events: u32)
+        requires { self.old.world.events + events ≤ MOST_EVENTS }
+        ensures world { self.new.world ≡ record self.old.world { events = self.old.world.events + events } }
+        ensures heard { self.new.heard ≡ self.old.heard }
+    {
+        self.network.count_events(events);
     }
 
     /// Delivers the first frame that was sent on the interface `link` and arrives at the interface `back`: the same
