@@ -13,7 +13,7 @@ use Rattle.replay_text.specs.declared.fault.TextFault.{TextFault}
 use Rattle.domain_model.specs.Truth.{IsTruthful}
 use Rattle.domain_model.specs.World.{WorldState}
 use Rattle.laws_quiet.specs.Quiet.{AreIssuers}
-use Rattle.laws_check.proofs.IssuerLaws.{run_agrees, run_issuing}
+use Rattle.laws_settle.proofs.IssuerLaws.{run_agrees, run_issuing}
 use Rattle.laws_replay.proofs.Ending.{true_after}
 use Rattle.domain_core.specs.Cover.{cover_of}
 use Rattle.domain_core.specs.Quiet.{quiet_of}

@@ -9,7 +9,7 @@ use Rattle.wire_base.specs.declared.view.ViewNode.{ViewNode}
 use Rattle.wire_base.specs.declared.view.ViewSub.{ViewSub}
 use Rattle.wire_base.specs.model.Control.{same_system}
 use Rattle.topo_mt.specs.Topology.{cost_from, topology_of}
-use Rattle.address_texts.specs.Addresses.{prefix_text, system_text}
+use Rattle.run_texts.specs.Addresses.{prefix_text, system_text}
 
 abbrev pub transit_text : Bool → List ℕ
 transit_text true = codes " overload\n"

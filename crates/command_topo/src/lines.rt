@@ -3,7 +3,7 @@ ghost use Rattle.std.specs.Prelude.{◌≡◌, ◌++◌, OnOk};
 ghost use Rattle.std.specs.Fmt.{decimal};
 ghost use Rattle.command_topo.specs.Lines as line;
 
-use address_texts::{push_prefix, push_system};
+use run_texts::{push_prefix, push_system};
 use wire_base::{M, Octets, SystemId, ViewEdge, ViewNode, ViewSub};
 
 /// Appends the line of a node: whether paths may go through it.

@@ -3,7 +3,7 @@ use Rattle.std.proofs.Common.{◌≡◌, inl, ℕ, ◌+◌, ◌≤◌, nat_le, n
 use Rattle.std.proofs.lemmas.List.{length-map}
 use Rattle.wire_base.specs.model.Configuration.{DomainConf}
 use Rattle.wire_base.specs.model.Control.{Control}
-use Rattle.laws_members.proofs.DomainLaws.{same_stripped, length_stripped}
+use Rattle.laws_router.proofs.DomainLaws.{same_stripped, length_stripped}
 use Rattle.laws_router.specs.State.{RouterState}
 use Rattle.replay_text.specs.declared.event.Event.{Event}
 use Rattle.replay_text.specs.declared.event.Event.TheVariants.{Inject, Take, Lose, Again, Down, Up, Send, Tick, Restart, Relabel, Leave, Join}

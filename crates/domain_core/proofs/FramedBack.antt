@@ -7,8 +7,8 @@ use Rattle.wire_base.specs.declared.conf.Level.{Level}
 use Rattle.wire_base.specs.declared.conf.RouterConf.{RouterConf}
 use Rattle.wire_base.specs.model.Item.{Item, frame_of}
 use Rattle.wire_base.specs.model.OnFrame.{Effects}
-use Rattle.laws_members.specs.Becoming.{HaveBecome}
-use Rattle.laws_members.proofs.DomainLaws.{became_from}
+use Rattle.laws_router.specs.Becoming.{HaveBecome}
+use Rattle.laws_router.proofs.DomainLaws.{became_from}
 use Rattle.domain_model.specs.declared.step_out.WireFrame.{WireFrame}
 use Rattle.domain_model.specs.Moves.{Sending, Made}
 use Rattle.frames_in_flight.specs.Framed.{frame_on, frame_from, frame_over, sent_of, wire_of, wire_from, sending_of, got_line, drop_line, ends_of, IsItemFrame, IsFramed}

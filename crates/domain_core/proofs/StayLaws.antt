@@ -21,9 +21,9 @@ use Rattle.wire_base.specs.model.Item.{Item, ControlItem, PacketItem, router_wit
 use Rattle.wire_base.specs.model.OnFrame.{Packet, is_not_last}
 use Rattle.wire_base.specs.model.Place.{means}
 use Rattle.wire_base.specs.model.Tunnel.{TunnelPacket, tunnel_at}
-use Rattle.laws_members.specs.Becoming.{AreOfOne, IsLater, HaveBecome}
-use Rattle.laws_members.proofs.DomainLaws.{each_unmapped}
-use Rattle.laws_members.proofs.MeaningLaws.{means_kept}
+use Rattle.laws_router.specs.Becoming.{AreOfOne, IsLater, HaveBecome}
+use Rattle.laws_router.proofs.DomainLaws.{each_unmapped}
+use Rattle.laws_router.proofs.MeaningLaws.{means_kept}
 use Rattle.bier_forward.specs.Packets.{with_meaning, packet_at}
 use Rattle.domain_model.specs.Truth.{router_at, IsTrueItem, IsTruthful}
 use Rattle.domain_model.specs.World.{peer_place}

@@ -6,7 +6,7 @@ use Rattle.wire_base.specs.declared.conf.RouterConf.{RouterConf}
 use Rattle.wire_base.specs.model.Control.{Control}
 use Rattle.wire_base.specs.model.Flooding.{Reply}
 use Rattle.wire_base.specs.model.Item.{Item}
-use Rattle.laws_members.specs.Becoming.{IsLater}
+use Rattle.laws_router.specs.Becoming.{IsLater}
 use Rattle.laws_router.specs.State.{RouterState, counted}
 use Rattle.domain_model.specs.declared.step_out.StepOut.{StepOut}
 use Rattle.frames_in_flight.specs.Told.{told}

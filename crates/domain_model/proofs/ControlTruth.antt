@@ -22,7 +22,7 @@ use Rattle.wire_base.specs.model.OwnLsp.{own_lsp}
 use Rattle.wire_base.specs.model.Pdu.{Head, head_summary, Pdu, LspPdu, CsnpPdu, PsnpPdu, HelloPdu, OtherPdu}
 use Rattle.wire_base.specs.model.Tlv.{LspIdFits, SummaryFits, rows_of}
 use Rattle.laws_format.proofs.TlvListLaws.{rows_of_tlvs}
-use Rattle.laws_members.specs.Becoming.{IsEarlier}
+use Rattle.laws_router.specs.Becoming.{IsEarlier}
 use Rattle.domain_model.specs.Truth.{IsAmong, IsNamed, IsTrueEntry, IsTrueControl, IsTrueRow, IsTrueList, IsTruePdu}
 use Rattle.domain_model.proofs.EachLaws.{each_weaker, each_got, fold_keeps}
 use Rattle.domain_model.proofs.FlagLaws.{found_each, each_is_found, mapped_off}

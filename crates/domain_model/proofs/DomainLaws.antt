@@ -10,8 +10,8 @@ use Rattle.wire_base.specs.declared.addresses.SystemId.{SystemId}
 use Rattle.wire_base.specs.declared.conf.RouterConf.{RouterConf}
 use Rattle.wire_base.specs.model.Configuration.{DomainConf, IsConsistent, IsSound, IsAlike, AreAlike, KeepsKinds, same_system, same_prefix}
 use Rattle.wire_base.specs.model.Lists.{AreApart}
-use Rattle.laws_members.proofs.MeaningLaws.{earlier_self}
-use Rattle.laws_members.specs.Becoming.{IsEarlier}
+use Rattle.laws_router.proofs.MeaningLaws.{earlier_self}
+use Rattle.laws_router.specs.Becoming.{IsEarlier}
 use Rattle.domain_model.specs.Truth.{IsAmong}
 use Rattle.domain_model.proofs.EachLaws.{each_got}
 use Rattle.laws_router.proofs.EntryLaws.{bytes_self}

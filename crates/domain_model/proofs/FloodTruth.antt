@@ -19,7 +19,7 @@ use Rattle.wire_base.specs.model.Pdu.{Head, head_summary}
 use Rattle.wire_base.specs.model.Tlv.{rows_of}
 use Rattle.laws_format.proofs.PduLaws.{lsp_sum_fits}
 use Rattle.lsp_store.proofs.PlaceLaws.{put_ascends}
-use Rattle.laws_members.specs.Becoming.{IsEarlier}
+use Rattle.laws_router.specs.Becoming.{IsEarlier}
 use Rattle.domain_model.specs.Truth.{IsAmong, IsNamed, IsOwnLsp, IsDeadLsp, IsTrueLsp, IsTrueEntry, IsUnsent, IsTrueRow}
 use Rattle.domain_model.proofs.EachLaws.{fold_keeps}
 use Rattle.domain_model.proofs.FlagLaws.{same_id_is, put_same, put_other, put_each, each_is_found, srm_same, KeepsId, SetsNone, changed_for, changed_off}

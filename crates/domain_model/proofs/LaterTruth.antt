@@ -18,8 +18,8 @@ use Rattle.wire_base.specs.model.Item.{Item, ControlItem, PacketItem, DataItem, 
 use Rattle.wire_base.specs.model.Pdu.{Head, Pdu, LspPdu, CsnpPdu, PsnpPdu, HelloPdu, OtherPdu}
 use Rattle.wire_base.specs.model.Place.{means}
 use Rattle.laws_router.specs.State.{IsRouter}
-use Rattle.laws_members.proofs.MeaningLaws.{means_kept, earlier_kept}
-use Rattle.laws_members.specs.Becoming.{AreOfOne, IsEarlier, IsLater}
+use Rattle.laws_router.proofs.MeaningLaws.{means_kept, earlier_kept}
+use Rattle.laws_router.specs.Becoming.{AreOfOne, IsEarlier, IsLater}
 use Rattle.domain_model.specs.Truth.{IsAmong, IsNamed, IsOwnLsp, IsDeadLsp, IsTrueLsp, head_of, IsTrueEntry, IsUnsent, IsTrueControl, IsTrueRow, IsTrueList, IsSource, IsTruePdu, MeansAt, router_at, IsPrefixOf, OuterFits, IsTrueCopy, IsTrueItem}
 use Rattle.domain_model.proofs.EachLaws.{each_weaker, each_both, each_set}
 use Rattle.domain_model.proofs.FloodTruth.{IsTrueState}

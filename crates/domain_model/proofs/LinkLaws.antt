@@ -12,7 +12,7 @@ use Rattle.wire_base.specs.model.Configuration.{DomainConf, IsConsistent, IsBack
 use Rattle.wire_base.specs.model.Configuration as configuration
 use Rattle.wire_base.specs.model.Item.{router_with}
 use Rattle.wire_base.specs.model.Lists.{AreApart}
-use Rattle.laws_members.specs.Becoming.{HasBecome, HaveBecome}
+use Rattle.laws_router.specs.Becoming.{HasBecome, HaveBecome}
 use Rattle.domain_model.specs.World.{place_of, end_at, far_place, peer_place, end_between, link_between}
 use Rattle.domain_model.proofs.EachLaws.{each_got}
 use Rattle.domain_model.proofs.DomainLaws.{bytes_is, bytes_from, system_place}

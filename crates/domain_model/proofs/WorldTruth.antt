@@ -21,10 +21,10 @@ use Rattle.wire_base.specs.model.Item.{Item, ControlItem, PacketItem}
 use Rattle.wire_base.specs.model.Membership.{own_range, moved, used_label, is_too_high, is_worn, relabelled, left, rejoined, CanRelabel}
 use Rattle.wire_base.specs.model.Pdu.{Pdu}
 use Rattle.wire_base.specs.model.Place.{sub_in, known_subs}
-use Rattle.laws_members.proofs.ChangeLaws.{relabel_later, leave_later, join_later}
-use Rattle.laws_members.proofs.DomainLaws.{consistent_kept, become_self, become_later}
-use Rattle.laws_members.proofs.MeaningLaws.{earlier_self}
-use Rattle.laws_members.specs.Becoming.{IsLater, HaveBecome}
+use Rattle.laws_router.proofs.ChangeLaws.{relabel_later, leave_later, join_later}
+use Rattle.laws_router.proofs.DomainLaws.{consistent_kept, become_self, become_later}
+use Rattle.laws_router.proofs.MeaningLaws.{earlier_self}
+use Rattle.laws_router.specs.Becoming.{IsLater, HaveBecome}
 use Rattle.laws_router.specs.State.{IsRouter}
 use Rattle.replay_text.specs.declared.event.Event.{Event}
 use Rattle.replay_text.specs.declared.event.Event.TheVariants.{Inject, Take, Lose, Again, Down, Up, Send, Tick, Restart, Relabel, Leave, Join}

@@ -25,7 +25,7 @@ use Rattle.wire_base.specs.model.OwnLsp.{own_content, own_flags, full_life}
 use Rattle.wire_base.specs.model.Pdu.{Head, Pdu, LspPdu, CsnpPdu, PsnpPdu, HelloPdu, OtherPdu, lsp_sum, row_tlvs}
 use Rattle.wire_base.specs.model.Place.{bits_of, means}
 use Rattle.wire_base.specs.model.Tlv.{LspIdFits}
-use Rattle.laws_members.specs.Becoming.{IsEarlier, HaveBecome}
+use Rattle.laws_router.specs.Becoming.{IsEarlier, HaveBecome}
 use Rattle.laws_router.specs.State.{IsRouter}
 use Rattle.replay_text.specs.declared.event.Event.{Event}
 use Rattle.replay_text.specs.declared.event.Event.TheVariants.{Inject, Take, Lose, Again, Down, Up, Send, Tick, Restart, Relabel, Leave, Join}

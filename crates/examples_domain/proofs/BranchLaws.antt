@@ -13,9 +13,9 @@ use Rattle.domain_model.specs.Truth.{IsAmong, IsTrueEntry, IsTrueControl, IsTrue
 use Rattle.domain_model.specs.World.{peer_place}
 use Rattle.domain_model.proofs.EachLaws.{each_got}
 use Rattle.domain_model.proofs.FloodTruth.{own_true}
-use Rattle.laws_members.specs.Becoming.{IsEarlier}
-use Rattle.laws_members.proofs.DomainLaws.{become_self}
-use Rattle.laws_members.proofs.MeaningLaws.{earlier_self}
+use Rattle.laws_router.specs.Becoming.{IsEarlier}
+use Rattle.laws_router.proofs.DomainLaws.{become_self}
+use Rattle.laws_router.proofs.MeaningLaws.{earlier_self}
 use Rattle.examples_model.proofs.Validity.{router_sound, two_links, one_link}
 use Rattle.laws_ledger.proofs.RunLaws.{none_queued}
 use Rattle.examples_domain.specs.Branch.{branch_a, branch_b, branch_p, branch_c, branch, lsp_of, lsps, rest, at_rest}

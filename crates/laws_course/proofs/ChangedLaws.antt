@@ -13,7 +13,7 @@ use Rattle.wire_base.specs.model.Tight.{IsTight}
 use Rattle.wire_base.specs.model.Walk.{dist}
 use Rattle.domain_model.specs.World.{peer_place, end_between, link_between}
 use Rattle.domain_model.proofs.EachLaws.{each_weaker}
-use Rattle.laws_members.proofs.DomainLaws.{strip, got_stripped}
+use Rattle.laws_router.proofs.DomainLaws.{strip, got_stripped}
 use Rattle.laws_route.specs.OnWay.{IsOnWay}
 use Rattle.laws_course.specs.Course.{next_for, node_by, node_at, node_of, target_at, HasLinks, IsOnCourse, IfCopyFor}
 

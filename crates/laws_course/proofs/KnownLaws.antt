@@ -33,7 +33,7 @@ use Rattle.domain_model.proofs.NamedLaws.{entries_few}
 use Rattle.domain_model.proofs.EachLaws.{each_got}
 use Rattle.domain_model.proofs.ViewTruth.{places_of, IsRouterNode, claims_read, known_places, known_claims, kept_places, view_true, nodes_true}
 use Rattle.domain_model.proofs.DomainLaws.{bytes_is, bytes_from, own_earlier}
-use Rattle.laws_members.proofs.DomainLaws.{same_stripped, length_stripped}
+use Rattle.laws_router.proofs.DomainLaws.{same_stripped, length_stripped}
 
 -- ---- lists
 

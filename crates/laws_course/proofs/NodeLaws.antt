@@ -22,7 +22,7 @@ use Rattle.wire_base.specs.model.Place.{sub_in, id_of, own_id}
 use Rattle.wire_base.specs.model.View.{sub_of, has_prefix}
 use Rattle.domain_model.specs.World.{peer_place}
 use Rattle.wire_base.proofs.SoundLemmas.{sound_subs}
-use Rattle.laws_members.specs.Becoming.{IsEarlier}
+use Rattle.laws_router.specs.Becoming.{IsEarlier}
 use Rattle.bier_forward.proofs.TableLaws.{place-of-node}
 use Rattle.domain_model.proofs.EachLaws.{each_got}
 use Rattle.domain_model.proofs.DomainLaws.{bytes_from, sound_of, same_by_system, same_by_prefix}

@@ -19,7 +19,7 @@ use Rattle.domain_model.specs.Step.{happens}
 use Rattle.domain_model.specs.Run.{Run, first_run, goes_on, run_of, world_after}
 use Rattle.domain_model.specs.Truth.{IsTruthful, EventFits}
 use Rattle.domain_model.proofs.WorldTruth.{happens_true, first_true}
-use Rattle.laws_members.proofs.DomainLaws.{strip, become_stripped}
+use Rattle.laws_router.proofs.DomainLaws.{strip, become_stripped}
 use Rattle.laws_ledger.specs.Ledger.{Injection, injection_of, names, entered, injected, numbered, injections_in, carries, copies_of, is_drop, deliveries, drops_of, drops, ledger}
 use Rattle.laws_ledger.specs.Runs.{AreAllowed, unlined, IsAccounted}
 use Rattle.laws_ledger.specs.Weights.{is_of, copies_in}

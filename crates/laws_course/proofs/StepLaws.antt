@@ -27,7 +27,7 @@ use Rattle.domain_model.proofs.EachLaws.{each_weaker, each_got, fold_keeps}
 use Rattle.domain_model.proofs.QueueLaws.{AllQueues, item_pushed}
 use Rattle.domain_model.proofs.LinkLaws.{join_of, places_stay}
 use Rattle.domain_model.proofs.ViewTruth.{IsRouterNode}
-use Rattle.laws_members.proofs.DomainLaws.{strip, same_stripped}
+use Rattle.laws_router.proofs.DomainLaws.{strip, same_stripped}
 use Rattle.laws_route.proofs.HopLemmas.{has-filter}
 use Rattle.laws_ledger.specs.Ledger.{is_numbered, is_drop, drops_of}
 use Rattle.laws_ledger.proofs.OutcomeLaws.{others, IsEnded, group_named}

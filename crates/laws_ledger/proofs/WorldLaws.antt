@@ -10,9 +10,9 @@ use Rattle.wire_base.specs.model.Control.{Control}
 use Rattle.wire_base.specs.model.Item.{Item, PacketItem, DataItem}
 use Rattle.wire_base.specs.model.Lists.{or_else}
 use Rattle.wire_base.specs.model.Place.{bits_of, sub_in, known_subs, id_of, own_id}
-use Rattle.laws_members.specs.Becoming.{HasBecome}
-use Rattle.laws_members.proofs.DomainLaws.{same_stripped, length_stripped, became_from}
-use Rattle.laws_members.proofs.SubLaws.{sub_in_both}
+use Rattle.laws_router.specs.Becoming.{HasBecome}
+use Rattle.laws_router.proofs.DomainLaws.{same_stripped, length_stripped, became_from}
+use Rattle.laws_router.proofs.SubLaws.{sub_in_both}
 use Rattle.domain_model.specs.World.{WorldState, peer_place, link_between, queue_at}
 use Rattle.domain_model.specs.Truth.{IsTrueItem, IsTrueCopy, IsTruthful, confs_now}
 use Rattle.domain_model.proofs.EachLaws.{each_got}

@@ -15,7 +15,7 @@ use Rattle.wire_base.specs.model.Control.{Control, same_system}
 use Rattle.wire_base.specs.model.Lists.{AreApart}
 use Rattle.wire_base.specs.model.OwnLsp.{picked}
 use Rattle.wire_base.specs.model.View.{end_link, least_of, metric_to}
-use Rattle.laws_members.proofs.DomainLaws.{same_stripped}
+use Rattle.laws_router.proofs.DomainLaws.{same_stripped}
 use Rattle.domain_model.specs.Faults.{is_up_toward, up_over}
 use Rattle.domain_model.specs.Truth.{IsTruthful, confs_now, domain_now}
 use Rattle.domain_model.specs.World.{WorldState, end_between, link_between}

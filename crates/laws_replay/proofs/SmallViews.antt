@@ -28,7 +28,7 @@ use Rattle.laws_course.proofs.OnceLaws.{truth_on}
 use Rattle.laws_course.proofs.TunnelLaws.{small_covers}
 use Rattle.laws_route.proofs.RouteLemmas.{tunnel_links-some}
 use Rattle.domain_model.specs.World.{WorldState, first_world}
-use Rattle.laws_members.proofs.DomainLaws.{same_stripped, length_stripped}
+use Rattle.laws_router.proofs.DomainLaws.{same_stripped, length_stripped}
 use Rattle.domain_model.specs.Truth.{IsAmong, IsOwnLsp, IsDeadLsp, IsTrueEntry, IsTrueControl, IsTruthful, confs_now, domain_now, head_of}
 use Rattle.domain_model.proofs.DomainLaws.{bytes_from}
 use Rattle.domain_model.proofs.EachLaws.{each_got, each_kept, each_both, each_passing, each_weaker}

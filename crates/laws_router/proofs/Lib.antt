@@ -2,3 +2,8 @@ pub mod EntryLaws
 pub mod FlagLaws
 pub mod KeptLaws
 pub mod StateLaws
+pub mod ChangeLaws
+pub mod DomainLaws
+pub mod ListLaws
+pub mod MeaningLaws
+pub mod SubLaws

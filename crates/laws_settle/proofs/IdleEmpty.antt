@@ -9,7 +9,7 @@ use Rattle.wire_base.specs.model.Configuration.{DomainConf}
 use Rattle.wire_base.specs.model.Control.{Control}
 use Rattle.wire_base.specs.model.Item.{Item, ControlItem, PacketItem}
 use Rattle.wire_base.specs.model.Pdu.{Pdu}
-use Rattle.laws_members.specs.Becoming.{HaveBecome}
+use Rattle.laws_router.specs.Becoming.{HaveBecome}
 use Rattle.replay_text.specs.declared.event.Event.{Event}
 use Rattle.replay_text.specs.declared.event.Event.TheVariants.{Take}
 use Rattle.domain_model.specs.Faults.{event_fault}

@@ -39,3 +39,13 @@ pub mod IdleDue
 pub mod IdleLaws
 pub mod QuietLaws
 pub mod SettleLaws
+pub mod OwnIssued
+pub mod IssuerLaws
+pub mod FlagsAt
+pub mod RowsAt
+pub mod CsnpAt
+pub mod IdOrder
+pub mod PartsAt
+pub mod SameByCsnps
+pub mod Joined
+pub mod Exchange

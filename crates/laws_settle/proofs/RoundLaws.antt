@@ -8,7 +8,7 @@ use Rattle.wire_base.specs.declared.conf.RouterConf.{RouterConf}
 use Rattle.wire_base.specs.model.Configuration.{DomainConf}
 use Rattle.wire_base.specs.model.Control.{Control}
 use Rattle.replay_text.specs.declared.event.Event.{Event}
-use Rattle.laws_members.specs.Becoming.{HaveBecome}
+use Rattle.laws_router.specs.Becoming.{HaveBecome}
 use Rattle.domain_model.specs.Faults.{is_up_toward, up_over}
 use Rattle.domain_model.specs.Run.{round_events, settle_events, world_after}
 use Rattle.domain_model.specs.Step.{happens}

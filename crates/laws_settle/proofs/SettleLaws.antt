@@ -17,7 +17,7 @@ use Rattle.laws_quiet.specs.Quiet.{AreIssuers, IsQuiet}
 use Rattle.laws_quiet.specs.Cover.{deliveries_by}
 use Rattle.laws_quiet.proofs.AgreeLaws.{agreed}
 use Rattle.laws_quiet.proofs.DeliverLaws.{covered_delivers}
-use Rattle.laws_check.proofs.IssuerLaws.{first_issuers, happens_issued}
+use Rattle.laws_settle.proofs.IssuerLaws.{first_issuers, happens_issued}
 use Rattle.laws_settle.specs.Idle.{IsIdle}
 use Rattle.laws_settle.specs.Settled.{IsAtRest, IsGentleRun, IsInjectedAt, IsSettled, IsTrafficRun}
 use Rattle.laws_settle.specs.Width.{HasWidth}

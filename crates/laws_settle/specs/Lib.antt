@@ -4,3 +4,4 @@ pub mod Idle
 pub mod Settled
 pub mod Width
 pub mod Ups
+pub mod Csnps

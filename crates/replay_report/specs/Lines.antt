@@ -1,7 +1,7 @@
 -- The lines of a report on a run.
 use Rattle.std.specs.Prelude.{ℕ, List, [], ◌∷◌, ◌++◌, flat_map, slice_get, option_map, unwrap_or, Option, Some, None, codes}
 use Rattle.std.specs.Fmt.{decimal}
-use Rattle.address_texts.specs.Addresses.{lsp_id_text}
+use Rattle.run_texts.specs.Addresses.{lsp_id_text}
 use Rattle.wire_base.specs.declared.conf.RouterConf.{RouterConf}
 use Rattle.wire_base.specs.declared.faults.EdgeFault.{EdgeFault}
 use Rattle.wire_base.specs.declared.faults.EdgeFault.TheVariants as edge

@@ -6,9 +6,9 @@ ghost use Rattle.replay_text.specs.Report.{line_of};
 ghost use Rattle.replay_report.specs.Lines as spec;
 
 use crate::lines::{name_at, push_front};
-use address_texts::push_lsp_id;
 use quiet_domain::Quiet;
 use replay_text::push_ids;
+use run_texts::push_lsp_id;
 use std::alloc::Global;
 use wire_base::{LspId, M, Octets, RouterConf};
 

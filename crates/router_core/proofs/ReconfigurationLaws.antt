@@ -10,7 +10,7 @@ use Rattle.wire_base.specs.model.Configuration.{IsSound}
 use Rattle.wire_base.specs.model.Control.{Control, Flood, IsDatabase, entry_in, fragment_0, put_entry, same_system, seq_of}
 use Rattle.wire_base.specs.model.Flooding.{mark_all, reissue, reissue_unless_spent, relabel, leave, join}
 use Rattle.wire_base.specs.model.Membership.{relabelled, left, rejoined}
-use Rattle.laws_members.specs.Becoming.{AreOfOne}
+use Rattle.laws_router.specs.Becoming.{AreOfOne}
 use Rattle.laws_router.specs.Kept.{Kept}
 use Rattle.laws_router.specs.State.{AreIssued, IsRouter, control_of}
 use Rattle.router_core.specs.Own.{own_past, spent_past}

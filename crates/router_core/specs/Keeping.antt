@@ -5,7 +5,7 @@ use Rattle.wire_base.specs.declared.entry.Entry.{Entry}
 use Rattle.wire_base.specs.model.Control.{Control, same_system}
 use Rattle.wire_base.specs.model.View.{control_view}
 use Rattle.view_graph.specs.Keep.{IsUnchanged, said_in}
-use Rattle.laws_members.specs.Becoming.{AreOfOne}
+use Rattle.laws_router.specs.Becoming.{AreOfOne}
 use Rattle.bier_forward.specs.Kept.{AreRoutes}
 use Rattle.router_core.specs.declared.kept.Kept.{Kept}
 

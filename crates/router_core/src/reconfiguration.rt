@@ -4,7 +4,7 @@ ghost use Rattle.wire_base.specs.model.Configuration.{IsSound};
 ghost use Rattle.wire_base.specs.model.Flooding.{reissue_unless_spent, relabel, leave, join};
 ghost use Rattle.wire_base.specs.model.Membership.{CanRelabel};
 ghost use Rattle.wire_base.specs.model.Place.{sub_in};
-ghost use Rattle.laws_members.specs.Becoming.{AreOfOne};
+ghost use Rattle.laws_router.specs.Becoming.{AreOfOne};
 
 use crate::control::Control;
 use crate::membership::{left, rejoined, relabelled};
@@ -34,7 +34,7 @@ impl Control {
     }
 
     /// Lets the label range of a BSL in a sub-domain begin at another label. If an allocation fails, nothing has changed.
-    #[tactic(auto, using(laws_members::proofs::ChangeLaws::relabel_sound, crate::proofs::ReconfigurationLaws::relabelled_is_one, crate::proofs::ReconfigurationLaws::relabel_is))]
+    #[tactic(auto, using(laws_router::proofs::ChangeLaws::relabel_sound, crate::proofs::ReconfigurationLaws::relabelled_is_one, crate::proofs::ReconfigurationLaws::relabel_is))]
     pub(crate) fn relabel(&mut self, sd: u8, bsl: Bsl, label: u32) -> M<()>
         requires { CanRelabel self.old.conf sd bsl label }
         ensures ok { OnOk result (self.new ≡ (relabel self.old sd bsl label).control) }
@@ -45,7 +45,7 @@ impl Control {
     }
 
     /// Leaves a sub-domain. If an allocation fails, nothing has changed.
-    #[tactic(auto, using(laws_members::proofs::ChangeLaws::leave_sound, crate::proofs::ReconfigurationLaws::left_is_one, crate::proofs::ReconfigurationLaws::leave_is))]
+    #[tactic(auto, using(laws_router::proofs::ChangeLaws::leave_sound, crate::proofs::ReconfigurationLaws::left_is_one, crate::proofs::ReconfigurationLaws::leave_is))]
     pub(crate) fn leave(&mut self, sd: u8) -> M<()>
         requires { is_some (sub_in self.old.conf.subs sd) ≡ true }
         ensures ok { OnOk result (self.new ≡ (leave self.old sd).control) }
@@ -56,7 +56,7 @@ impl Control {
     }
 
     /// Joins a sub-domain that it left. If an allocation fails, nothing has changed.
-    #[tactic(auto, using(laws_members::proofs::ChangeLaws::join_sound, crate::proofs::ReconfigurationLaws::rejoined_is_one, crate::proofs::ReconfigurationLaws::join_is))]
+    #[tactic(auto, using(laws_router::proofs::ChangeLaws::join_sound, crate::proofs::ReconfigurationLaws::rejoined_is_one, crate::proofs::ReconfigurationLaws::join_is))]
     pub(crate) fn join(&mut self, sd: u8) -> M<()>
         requires { is_some (sub_in self.old.conf.away sd) ≡ true }
         ensures ok { OnOk result (self.new ≡ (join self.old sd).control) }

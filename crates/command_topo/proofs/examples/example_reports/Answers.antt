@@ -8,7 +8,7 @@ use Rattle.topo_mt.specs.MultiTopology.{is_member, is_overloaded_in, listing_in,
 use Rattle.topo_mt.specs.Observer.{mpls_kinds, observer}
 use Rattle.topo_mt.specs.Topology.{cost_from, nodes_without, place_of, topology_of, without_system}
 use Rattle.command_topo.specs.Lines.{graph_text, paths_text, topology_text}
-use Rattle.address_texts.specs.Addresses.{hex_pair, prefix_text, system_text}
+use Rattle.run_texts.specs.Addresses.{hex_pair, prefix_text, system_text}
 use Rattle.command_topo.proofs.examples.example_reports.Goals as goal
 
 pub returns-clause-standard : goal.returns-clause-standard

@@ -1,7 +1,7 @@
 use Rattle.std.specs.Prelude.{codes}
 use Rattle.std.specs.Fmt.{decimal}
 use Rattle.std.proofs.lemmas.Result.{on_ok_weaker}
-use Rattle.address_texts.specs.Addresses.{lsp_id_text}
+use Rattle.run_texts.specs.Addresses.{lsp_id_text}
 use Rattle.replay_report.specs.Lines.{name_at}
 use Rattle.replay_report.proofs.AnswerLines.{word_last}
 use Rattle.replay_report.proofs.answers.push_data.Goals as goal

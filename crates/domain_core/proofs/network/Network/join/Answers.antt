@@ -3,7 +3,7 @@ use Rattle.wire_base.specs.model.Membership.{rejoined}
 use Rattle.wire_base.specs.model.Place.{sub_in}
 use Rattle.wire_base.specs.model.Control.{Control}
 use Rattle.wire_base.specs.model.Flooding.{join}
-use Rattle.laws_members.proofs.ChangeLaws.{join_later}
+use Rattle.laws_router.proofs.ChangeLaws.{join_later}
 use Rattle.domain_core.specs.Held.{state_of, world_in}
 use Rattle.domain_model.specs.Step.{Happened}
 use Rattle.domain_model.proofs.DomainLaws.{keeps_of}

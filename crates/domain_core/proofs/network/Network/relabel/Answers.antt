@@ -2,7 +2,7 @@ use Rattle.std.proofs.Common.{◌≡◌, ◌∙◌, slice_get, Some, ap}
 use Rattle.wire_base.specs.model.Membership.{CanRelabel, relabelled}
 use Rattle.wire_base.specs.model.Control.{Control}
 use Rattle.wire_base.specs.model.Flooding.{relabel}
-use Rattle.laws_members.proofs.ChangeLaws.{relabel_later}
+use Rattle.laws_router.proofs.ChangeLaws.{relabel_later}
 use Rattle.domain_core.specs.Held.{state_of, world_in}
 use Rattle.domain_model.specs.Step.{Happened}
 use Rattle.domain_model.proofs.DomainLaws.{keeps_of}

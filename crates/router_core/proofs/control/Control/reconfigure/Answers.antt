@@ -3,7 +3,7 @@ use Rattle.wire_base.specs.declared.addresses.LspId.{LspId}
 use Rattle.wire_base.specs.declared.conf.RouterConf.{RouterConf}
 use Rattle.wire_base.specs.model.Control.{Control, entry_in, fragment_0, seq_of}
 use Rattle.wire_base.specs.model.Flooding.{reissue_unless_spent}
-use Rattle.laws_members.specs.Becoming.{AreOfOne}
+use Rattle.laws_router.specs.Becoming.{AreOfOne}
 use Rattle.router_core.proofs.OwnLaws.{own_not_refused, made_id}
 use Rattle.router_core.proofs.ReconfigurationLaws.{as_many_ends, now_spent, spent_stays, turned_keeps, changed_keeps, changed_is, changed_issued}
 use Rattle.router_core.proofs.control.Control.reconfigure.Goals as goal

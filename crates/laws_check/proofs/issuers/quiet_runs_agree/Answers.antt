@@ -1,5 +1,0 @@
-use Rattle.laws_check.proofs.IssuerLaws.{run_agrees}
-use Rattle.laws_check.proofs.issuers.quiet_runs_agree.Goals as goal
-
-pub returns : goal.returns
-returns _ d es a c valid allowed quiet at = run_agrees d es valid allowed a c quiet at

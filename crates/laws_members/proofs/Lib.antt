@@ -1,5 +1,0 @@
-pub mod ChangeLaws
-pub mod DomainLaws
-pub mod ListLaws
-pub mod MeaningLaws
-pub mod SubLaws

@@ -1,5 +1,0 @@
-use Rattle.laws_members.proofs.MeaningLaws.{earlier_means, means_kept, earlier_self, earlier_kept}
-use Rattle.laws_members.proofs.meanings.labels_keep_their_meaning.Goals as goal
-
-pub returns : goal.returns
-returns c = record { advertised = earlier_means; kept = means_kept; own = earlier_self; earlier = earlier_kept }
