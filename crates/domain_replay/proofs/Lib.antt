@@ -5,6 +5,7 @@ mod StopLaws
 pub mod DirectionLaws
 pub mod EventTells
 pub mod InTurn
+pub mod IdleLaws
 pub mod SendLaws
 pub mod LineTells
 mod SameDomain

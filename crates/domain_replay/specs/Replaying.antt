@@ -1,12 +1,13 @@
 -- What the calls of a replay do.
-use Rattle.std.specs.Prelude.{ℕ, ◌≡◌, ◌⊎◌, ◌<◌, ◌^◌, List, [], ◌∷◌, ◌++◌, length, map, filter, Some, None, Result, Ok, Err, if◌then◌else◌}
+use Rattle.std.specs.Prelude.{ℕ, ◌≡◌, ◌⊎◌, ◌<◌, ◌+◌, ◌^◌, true, List, [], ◌∷◌, ◌++◌, length, map, filter, Some, None, Result, Ok, Err, if◌then◌else◌}
 use Rattle.std.specs.List.{AllByRecursion}
 use Rattle.wire_base.specs.declared.conf.RouterConf.{RouterConf}
 use Rattle.replay_text.specs.declared.event.Event.{Event}
 use Rattle.domain_model.specs.declared.fault.EventFault.{EventFault}
 use Rattle.domain_model.specs.declared.fault.EventFault.TheVariants as faults
 use Rattle.replay_text.specs.declared.event.Event.TheVariants.{Inject, Take, Lose, Again, Down, Up, Send, Tick, Restart, Relabel, Leave, Join}
-use Rattle.domain_model.specs.World.{WorldState, link_between}
+use Rattle.domain_core.specs.Idle.{IsIdleSend}
+use Rattle.domain_model.specs.World.{WorldState, frames_between, link_between}
 use Rattle.domain_model.specs.Step.{happens}
 use Rattle.domain_model.specs.Faults.{event_fault}
 use Rattle.domain_model.specs.Run.{Direction, directions, may_send}
@@ -99,6 +100,22 @@ sends_of w d = if may_send w d then Send d.from d.to ∷ [] else []
 -- what is sent on the interfaces of those directions that are up
 abbrev pub sends_in : WorldState → List Direction → List Event
 sends_in w ds = map (λ d. Send d.from d.to) (filter (may_send w) ds)
+
+-- ---- rounds in which nothing is due
+
+-- Nothing is due in a direction, and nothing is in flight: if its interface is up, a send there changes nothing.
+pub record IsIdleOver (w : WorldState) (d : Direction) : Type 0 where
+  pub send : may_send w d ≡ true → IsIdleSend w d.from d.to
+  pub frames : frames_between w d.from d.to ≡ []
+
+-- All of these directions are idle, and so many of their interfaces are up.
+pub record AreIdle (w : WorldState) (ds : List Direction) (sends : ℕ) : Type 0 where
+  pub each : AllByRecursion (IsIdleOver w) ds
+  pub count : length (filter (may_send w) ds) ≡ sends
+
+-- the world after so many events more that change nothing else
+abbrev pub counting : WorldState → ℕ → WorldState
+counting w n = record w { events = w.events + n }
 
 -- ---- the invariant of a replay
 

@@ -5,6 +5,7 @@
 #![tactic(auto)]
 
 mod asked;
+mod idle;
 mod laws;
 mod replay;
 mod reported_world;

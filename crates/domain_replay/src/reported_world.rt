@@ -106,7 +106,7 @@ impl ReportedWorld {
     }
 
     /// Returns whether the interface of a direction is up.
-    fn may_send(&self, direction: Direction) -> bool
+    pub(crate) fn may_send(&self, direction: Direction) -> bool
         requires { IsJoining self.now.world.domain.routers direction }
         ensures { result ≡ run.may_send self.now.world direction }
     {
@@ -176,7 +176,7 @@ impl ReportedWorld {
     }
 
     /// Returns how many frames are in flight in a direction.
-    fn waiting(&self, direction: Direction) -> usize
+    pub(crate) fn waiting(&self, direction: Direction) -> usize
         requires { IsJoining self.now.world.domain.routers direction }
         ensures { result ≡ length (frames_between self.now.world direction.from direction.to) }
     {
@@ -264,7 +264,7 @@ impl ReportedWorld {
     }
 
     /// Executes a round: all routers send what is due, and then all receive.
-    fn do_round(
+    pub(crate) fn do_round(
         &mut self,
         alloc: Global,
         texts: &mut Texts,
@@ -281,7 +281,7 @@ impl ReportedWorld {
         self.do_takes(alloc, texts, line, all)
     }
 
-    /// Executes that many rounds.
+    /// Executes that many rounds. Once nothing is due and nothing in flight, the events of each further round are only counted.
     fn do_rounds(
         &mut self,
         alloc: Global,
@@ -295,8 +295,9 @@ impl ReportedWorld {
         ensures told { Tells (tells_all line (told (with_texts self.old texts.old)) (run.settle_events self.old.world rounds)) (with_texts self.new texts.new) result }
         ensures stops { OnErr result (StopsIn line (with_texts self.old texts.old) (run.settle_events self.old.world rounds) (with_texts self.new texts.new)) }
     {
+        let mut idle: Option<usize> = None;
         for _round in 0..rounds {
-            self.do_round(alloc, texts, line, all)?;
+            self.next_round(alloc, texts, line, all, &mut idle)?;
         }
         Ok(())
     }
