@@ -1,17 +1,14 @@
 -- Runs in progress, as they are reported.
-use Rattle.std.proofs.Common.{◌≡◌, ℕ, List, [], ◌∷◌, ◌++◌, length, Option, Some, None, refl, sym, ap, subst, ◌∙◌, append_assoc}
+use Rattle.std.proofs.Common.{◌≡◌, ℕ, List, [], ◌∷◌, ◌++◌, length, Option, Some, None, refl, sym, ap, ◌∙◌, append_assoc}
 use Rattle.std.specs.List.{fold}
 use Rattle.replay_text.specs.declared.event.Event.{Event}
-use Rattle.replay_text.specs.declared.event.Event.TheVariants as event
 use Rattle.replay_text.specs.declared.event.Line.{Line}
-use Rattle.replay_text.specs.declared.event.Line.TheVariants as line
-use Rattle.replay_text.specs.Events.{EventFits, LineFits}
 use Rattle.domain_model.specs.declared.fault.EventFault.{EventFault}
 use Rattle.domain_model.specs.Faults.{event_fault}
 use Rattle.domain_model.specs.Step.{happens}
 use Rattle.domain_model.specs.Run.{Progress, line_done, line_events}
 use Rattle.domain_replay.specs.Courses.{Course, past, IsAt}
-use Rattle.domain_replay.specs.Telling.{Telling, Told, told, sent_records, tells, tells_or, tells_unless, reports_on, tells_all, tells_line, telling_of, at_line, IsEntered, LineEnters, IsToldSo}
+use Rattle.domain_replay.specs.Telling.{Telling, Told, told, sent_records, tells, tells_or, tells_unless, reports_on, tells_all, tells_line, telling_of, at_line, LineEnters, IsToldSo}
 use Rattle.domain_replay.specs.Texts.{made_text}
 use Rattle.domain_replay.proofs.TellingLaws.{line_told}
 

@@ -1,5 +1,5 @@
 -- Rounds in which nothing is due and nothing is in flight.
-use Rattle.std.proofs.Common.{◌≡◌, ℕ, zero, suc, ◌+◌, ◌<◌, ◌≤◌, nat_le, Bool, true, false, List, [], ◌∷◌, ◌++◌, length, map, filter, take, replicate, slice_get, slice_index_or, Option, Some, None, refl, sym, ap, subst, ◌∙◌, arith, if◌then◌else◌}
+use Rattle.std.proofs.Common.{◌≡◌, ℕ, suc, ◌+◌, ◌<◌, ◌≤◌, Bool, true, false, List, [], ◌∷◌, ◌++◌, length, map, filter, take, replicate, slice_get, slice_index_or, Option, Some, None, refl, sym, ap, subst, ◌∙◌, arith, if◌then◌else◌}
 use Rattle.std.specs.Prelude.{IfSome}
 use Rattle.std.specs.List.{AllByRecursion}
 use Rattle.std.proofs.lemmas.Bool.{lt-leb}
@@ -9,7 +9,6 @@ use Rattle.replay_text.specs.declared.event.Event.{Event}
 use Rattle.replay_text.specs.declared.event.Event.TheVariants.{Send, Take}
 use Rattle.domain_model.specs.declared.fault.EventFault.TheVariants as faults
 use Rattle.domain_model.specs.Faults.{most_events, first_fault, rule_fault, event_fault}
-use Rattle.domain_model.specs.Moves.{Made}
 use Rattle.domain_model.specs.Step.{Happened, sends, doing, happens}
 use Rattle.domain_model.specs.Run.{Direction, directions, may_send, taken_now, round_sends, round_takes, round_events, world_after}
 use Rattle.domain_model.specs.World.{WorldState, frames_between, link_between}
@@ -19,7 +18,7 @@ use Rattle.domain_core.specs.Idle.{IsIdleSend}
 use Rattle.run_texts.specs.declared.texts.Texts.{Texts}
 use Rattle.domain_replay.specs.Telling.{Telling, Told, told, reports_on, tells_all, ReplayState, with_texts}
 use Rattle.domain_replay.specs.Replaying.{AreIdle, IsIdleOver, counting, sends_in}
-use Rattle.domain_replay.proofs.TellsLaws.{all_first, round_left}
+use Rattle.domain_replay.proofs.TellsLaws.{round_left}
 use Rattle.domain_replay.proofs.EventTells.{send_untold}
 
 -- ---- a send does the same whatever the number of events

@@ -1,6 +1,6 @@
 -- A line of a schedule as a part of a run between whose events more is reported and recorded.
-use Rattle.std.proofs.Common.{◌≡◌, ℕ, ◌+◌, List, [], ◌∷◌, ◌++◌, length, fold, Option, Some, None, refl, sym, ap, ap₂, subst, ◌∙◌, append-nil, append_assoc}
-use Rattle.std.specs.List.{AllByRecursion, flat_map}
+use Rattle.std.proofs.Common.{◌≡◌, ℕ, List, [], ◌∷◌, ◌++◌, length, fold, Option, Some, None, refl, sym, ap, ap₂, subst, ◌∙◌, append-nil, append_assoc}
+use Rattle.std.specs.List.{flat_map}
 use Rattle.std.proofs.lemmas.List.Concat.{flat_map-append}
 use Rattle.std.proofs.lemmas.List.Sums.{fold-append}
 use Rattle.wire_base.specs.model.Configuration.{DomainConf}
@@ -10,14 +10,14 @@ use Rattle.domain_model.specs.declared.fault.EventFault.{EventFault}
 use Rattle.domain_model.specs.Faults.{event_fault}
 use Rattle.domain_model.specs.Step.{happens}
 use Rattle.domain_model.specs.World.{WorldState, first_world}
-use Rattle.domain_model.specs.Run.{Run, Progress, first_run, goes_on, run_of, on_line, does, tries, line_done, line_events}
+use Rattle.domain_model.specs.Run.{Run, first_run, goes_on, run_of, on_line, does, tries, line_done, line_events}
 use Rattle.domain_model.proofs.EachLaws.{each_joined}
 use Rattle.replay_report.specs.declared.recording.Recording.{Recording}
 use Rattle.replay_report.specs.Captures.{capture_front}
 use Rattle.replay_report.specs.Counting.{counts_of}
 use Rattle.domain_replay.specs.Courses.{Course, IsAt}
 use Rattle.domain_replay.specs.Parts.{unsaid, state_of, if_allowed, allowed_first, Past, past_and, line_part, events_records, parts_report, parts_records, IsWoven}
-use Rattle.domain_replay.specs.Telling.{Telling, Told, ReplayState, first_state, told, sent_records, tells, tells_or, tells_unless, reports_on, tells_all, tells_line, IsRunOf, LineEnters}
+use Rattle.domain_replay.specs.Telling.{Telling, Told, ReplayState, first_state, told, sent_records, tells, tells_or, reports_on, tells_all, tells_line, IsRunOf, LineEnters}
 use Rattle.domain_replay.specs.Texts.{world_after_all, made_text, events_text, capture_text, run_text}
 use Rattle.domain_replay.proofs.CourseLaws.{at_run}
 use Rattle.domain_replay.proofs.TellingLaws.{start_runs, start_told}

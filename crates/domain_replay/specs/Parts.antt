@@ -9,10 +9,9 @@ use Rattle.domain_model.specs.World.{WorldState, first_world}
 use Rattle.domain_model.specs.Step.{happens}
 use Rattle.domain_model.specs.Faults.{event_fault}
 use Rattle.domain_model.specs.Run.{line_events, on_line}
-use Rattle.run_texts.specs.declared.texts.Texts.{Texts}
 use Rattle.replay_report.specs.declared.recording.Recording.{Recording}
 use Rattle.replay_report.specs.Captures.{capture_front}
-use Rattle.domain_replay.specs.Telling.{Telling, Told, ReplayState, with_texts, sent_records, tells_line}
+use Rattle.domain_replay.specs.Telling.{Telling, Told, ReplayState, with_texts, sent_records}
 use Rattle.domain_replay.specs.Texts.{world_after_all, events_text}
 
 -- ---- a line as a part

@@ -1,4 +1,4 @@
-use Rattle.std.proofs.Common.{◌∙◌, arith, sym, ap}
+use Rattle.std.proofs.Common.{arith, sym}
 use Rattle.domain_replay.proofs.IdleLaws.{down_idle, up_idle}
 use Rattle.domain_replay.proofs.reported_world.ReportedWorld.idle_sends_of.Goals as goal
 
