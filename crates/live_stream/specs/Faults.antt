@@ -1,27 +1,9 @@
 -- The reasons for which an event of the stream is not done, as the report has them.
 use Rattle.std.specs.Prelude.{ℕ, List, codes}
-use Rattle.wire_base.specs.declared.faults.EdgeFault.{EdgeFault}
-use Rattle.wire_base.specs.declared.faults.EdgeFault.TheVariants as edge
+use Rattle.wire_base.specs.model.Faults.{edge_name, edge_number}
 use Rattle.replay_text.specs.Fault as text
 use Rattle.live_stream.specs.declared.fault.LiveFault.{LiveFault}
 use Rattle.live_stream.specs.declared.fault.LiveFault.TheVariants.{Version, Line, Kind, Router, NoLink, EndState, Edge}
-
--- out of memory is no reason
-abbrev pub edge_number : EdgeFault → ℕ
-edge_number edge.NoEgress = 1
-edge_number edge.IdZero = 2
-edge_number (edge.SiLarge k) = 3
-edge_number edge.NotBfr = 4
-edge_number edge.BslUnknown = 5
-edge_number edge.Memory = 0
-
-abbrev pub edge_name : EdgeFault → List ℕ
-edge_name edge.NoEgress = codes "NoEgress"
-edge_name edge.IdZero = codes "IdZero"
-edge_name (edge.SiLarge k) = codes "SiLarge"
-edge_name edge.NotBfr = codes "NotBfr"
-edge_name edge.BslUnknown = codes "BslUnknown"
-edge_name edge.Memory = codes "Memory"
 
 -- what rejects the event: the frame, its line, the router's state, or the ingress
 abbrev pub subject_of : LiveFault → List ℕ
@@ -33,7 +15,7 @@ subject_of NoLink = codes "event"
 subject_of EndState = codes "event"
 subject_of (Edge why) = codes "edge"
 
--- the rules of each subject are numbered from 1
+-- the rules of each subject are numbered from 1; out of memory is no reason
 abbrev pub number_of : LiveFault → ℕ
 number_of Version = 1
 number_of (Line why) = text.number_of why

@@ -50,7 +50,7 @@ impl LiveFault {
             LiveFault::Router => 2,
             LiveFault::NoLink => 3,
             LiveFault::EndState => 4,
-            LiveFault::Edge(why) => edge_number(why),
+            LiveFault::Edge(why) => why.number(),
         }
     }
 
@@ -65,33 +65,7 @@ impl LiveFault {
             LiveFault::Router => b"Router",
             LiveFault::NoLink => b"NoLink",
             LiveFault::EndState => b"EndState",
-            LiveFault::Edge(why) => edge_name(why),
+            LiveFault::Edge(why) => why.name(),
         }
-    }
-}
-
-fn edge_number(why: EdgeFault) -> u8
-    ensures { result ≡ faults.edge_number why }
-{
-    match why {
-        EdgeFault::NoEgress => 1,
-        EdgeFault::IdZero => 2,
-        EdgeFault::SiLarge(_) => 3,
-        EdgeFault::NotBfr => 4,
-        EdgeFault::BslUnknown => 5,
-        EdgeFault::Memory => 0,
-    }
-}
-
-fn edge_name(why: EdgeFault) -> &'static [u8]
-    ensures { result.now ≡ faults.edge_name why }
-{
-    match why {
-        EdgeFault::NoEgress => b"NoEgress",
-        EdgeFault::IdZero => b"IdZero",
-        EdgeFault::SiLarge(_) => b"SiLarge",
-        EdgeFault::NotBfr => b"NotBfr",
-        EdgeFault::BslUnknown => b"BslUnknown",
-        EdgeFault::Memory => b"Memory",
     }
 }

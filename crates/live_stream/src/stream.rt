@@ -6,9 +6,10 @@ ghost use Rattle.command_drive.specs.Driving.{MayRise, Drives};
 ghost use Rattle.live_stream.specs.LiveRun.{live_means};
 ghost use Rattle.live_stream.specs.Owed.{StartsAs};
 
-use crate::node::LiveNode;
+use crate::node::{end, take};
 use crate::seat::Seat;
 use command_drive::{Close, Command, Flow, RecordReader, Texts, drive};
+use command_node::RunningNode;
 use pcapng_frames::NgRecord;
 use std::alloc::Global;
 use wire_base::{Domain, M, RouterConf, Sink, Source, Status};
@@ -17,7 +18,7 @@ use wire_base::{Domain, M, RouterConf, Sink, Source, Status};
 #[derive(Drop)]
 struct LiveRouter {
     seat: Seat,
-    node: LiveNode,
+    node: RunningNode,
 }
 
 impl Command<NgRecord> for LiveRouter {
@@ -35,7 +36,7 @@ impl Command<NgRecord> for LiveRouter {
 
     fn item(&mut self, alloc: Global, item: &NgRecord, texts: &mut Texts) -> M<Flow> {
         self.node.trade(texts);
-        self.node.take(alloc, &self.seat, item)?;
+        take(&mut self.node, alloc, &self.seat, item)?;
         self.node.trade(texts);
         Ok(Flow::On)
     }
@@ -45,7 +46,7 @@ impl Command<NgRecord> for LiveRouter {
     }
 
     fn close(&mut self, _alloc: Global, close: Close, texts: &mut Texts) -> M<Status> {
-        self.node.close(&mut texts.report, close)
+        end(&self.node, &mut texts.report, close)
     }
 
     ghost cut = { λ s none. nothing_cut s.seat s.node };
@@ -67,7 +68,7 @@ fn start(alloc: Global, domain: Domain, router: u16) -> M<LiveRouter>
 {
     let conf = conf_at(&domain, router)?;
     let seat = Seat::new(alloc, domain, router)?;
-    let node = LiveNode::new(alloc, conf)?;
+    let node = RunningNode::new(alloc, conf)?;
     Ok(LiveRouter { seat, node })
 }
 

@@ -5,4 +5,4 @@ use Rattle.live_stream.proofs.stream.LiveRouterCommandNgRecord.close.Goals as go
 
 pub returns-clause-concluded : goal.returns-clause-concluded
 returns-clause-concluded c =
-    concludes_ok c.close.result c.args.self.now.seat c.args.self.now.node (Closed c.args.close) c.args.texts.now (record c.args.texts.now { report = c.close.new.out }) c.close.ensures refl
+    concludes_ok c.end.result c.args.self.now.seat c.args.self.now.node (Closed c.args.close) c.args.texts.now (record c.args.texts.now { report = c.end.new.out }) c.end.ensures refl

@@ -8,7 +8,7 @@ use Rattle.live_stream.proofs.stream.LiveRouterCommandNgRecord.item.Goals as goa
 
 pub returns-clause-did : goal.returns-clause-did
 returns-clause-did c =
-    told_record c.args.self.now.seat c.args.self.now.node c.trade-2.new.self c.args.item.now c.args.texts.now c.trade-2.new.texts c.take.new.self
+    told_record c.args.self.now.seat c.args.self.now.node c.trade-2.new.self c.args.item.now c.args.texts.now c.trade-2.new.texts c.take.new.node
     (c.in_ok-take.ensures ∙ ap (λ (n : Node). live_done c.args.self.now.seat n c.args.item.now) c.trade.ensures.node) c.trade-2.ensures.frames c.trade-2.ensures.report (ap bare c.trade-2.ensures.node)
 
 pub returns-clause-room : goal.returns-clause-room
