@@ -1,6 +1,6 @@
 -- Two routers, A of system 1 and B of system 2, in area 490001 at level 2, connected by one link: their handshake, and the
 -- octets of A's first hello.
-use Rattle.std.specs.Prelude.{ℕ, ◌+◌, false, List, [], ◌∷◌, codes, Option, None}
+use Rattle.std.specs.Prelude.{ℕ, ◌+◌, false, List, [], ◌∷◌, codes, None}
 use Rattle.wire_base.specs.declared.addresses.Mac.{Mac}
 use Rattle.wire_base.specs.declared.addresses.SystemId.{SystemId}
 use Rattle.wire_base.specs.declared.conf.End.{End}
@@ -58,11 +58,6 @@ a_frame =
 -- A hello of each router arrives, and then A's second: A is up once B has answered, and B once A has confirmed.
 abbrev pub three_hellos : List HelloEvent
 three_hellos = events.Hello 0 1 ∷ events.Greet 0 1 0 ∷ events.Hello 1 0 ∷ events.Greet 1 0 0 ∷ events.Hello 0 1 ∷ events.Greet 0 1 0 ∷ []
-
--- the frames that events send, and the changes that they report, the oldest first
-abbrev pub frames_from : CircuitsState → List HelloEvent → List (Option (List ℕ))
-frames_from s [] = []
-frames_from s (e ∷ es) = (happens s e).out.sent ∷ frames_from (happens s e).state es
 
 abbrev pub changes_from : CircuitsState → List HelloEvent → List (List EndChange)
 changes_from s [] = []

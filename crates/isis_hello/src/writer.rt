@@ -55,8 +55,9 @@ fn way_octets(h: &Hello) -> ArrayVec<u8, 15>
     octets
 }
 
-/// Returns the octets before the TLVs of a hello of that length.
-fn front(level: Level, h: &Hello, size: u16) -> ArrayVec<u8, 20>
+/// Returns the octets before the TLVs of a hello of that length (ISO/IEC 10589, 9.7). Its local circuit ID is the low octet of the
+/// circuit.
+pub fn hello_front(level: Level, h: &Hello, size: u16) -> ArrayVec<u8, 20>
     ensures spelled { result.items ≡ common HELLO_FRONT HELLO_TYPE ++ (circuit_type level ∷ (h.now.source.0 ++ (big_bytes 2 h.now.hold ++ (big_bytes 2 size ++ (h.now.circuit % 256 ∷ []))))) }
     ensures long { length result.items ≡ 20 }
     ensures source { length h.now.source.0 ≡ 6 }
@@ -85,8 +86,9 @@ fn front(level: Level, h: &Hello, size: u16) -> ArrayVec<u8, 20>
     front
 }
 
-/// Returns the TLVs of a hello: the area, the protocols and the state of the adjacency.
-fn tlvs(area: &[u8], h: &Hello) -> ArrayVec<u8, 36>
+/// Returns the TLVs of a hello: the area, the protocols and the state of the adjacency (ISO/IEC 10589, 9.7; RFC 5303, 3).
+/// Precondition: an area address of at most 13 octets.
+pub fn hello_tlvs(area: &[u8], h: &Hello) -> ArrayVec<u8, 36>
     requires { length area.now ≤ 13 }
     ensures spelled { result.items ≡ tlv (area_tlv area.now) ++ (tlv protocols_tlv ++ tlv (way_tlv (way_of h.now))) }
     ensures short { length result.items ≤ 36 }
@@ -110,9 +112,12 @@ fn append_hello(out: &mut Octets, level: Level, area: &[u8], h: &Hello) -> M<()>
     ensures err { OnErr result (out.new ≡ out.old) }
     ensures fits { HelloFits h.now }
 {
-    let tlvs = tlvs(area, h);
+    let tlvs = hello_tlvs(area, h);
     let size = usize::from(HELLO_FRONT) + tlvs.len();
-    out.append_two(front(level, h, size as u16).as_slice(), tlvs.as_slice())
+    out.append_two(
+        hello_front(level, h, size as u16).as_slice(),
+        tlvs.as_slice(),
+    )
 }
 
 /// Returns the hello of a router of that level and area (ISO/IEC 10589, 9.7; RFC 5303, 3). Its local circuit ID is the low
@@ -135,11 +140,12 @@ pub fn write_hello(alloc: Global, level: Level, area: &Octets, h: &Hello) -> M<O
 const ALL_ROUTERS: Mac = Mac([0x09, 0x00, 0x2b, 0x00, 0x00, 0x05]);
 
 /// The number of octets before the hello: the Ethernet header and the LLC header, FE FE 03.
-const HEAD: usize = 17;
+pub const HELLO_HEAD: usize = 17;
 
-/// Returns the octets before a hello of that length.
-fn frame_head(own: Mac, size: u16) -> [u8; HEAD]
-    requires { size ≤ MOST_HELLO_OCTETS }
+/// Returns the octets before a hello of that length in its frame (IEEE 802.3, 3.1.1; ISO/IEC 10589, 8.4). Precondition: at most
+/// 1,497 octets.
+pub fn hello_head(own: Mac, size: u16) -> [u8; HELLO_HEAD]
+    requires { size ≤ 1497 }
     ensures spelled { (pdu : List ℕ) → length pdu ≡ size → result ++ pdu ≡ isis_frame own pdu }
     ensures own { length own.0 ≡ 6 }
 {
@@ -152,11 +158,11 @@ fn frame_octets(alloc: Global, conf: &RouterConf, end: &End, h: &Hello) -> M<Oct
     requires { length conf.now.area ≤ 13 }
     ensures spelled { IfOk result (λ frame. frame ≡ hello_frame conf.now end.now h.now) }
     ensures fits { OnOk result (HelloFits h.now × (length end.now.own_mac.0 ≡ 6)) }
-    ensures short { IfOk result (λ frame. length frame ≤ HEAD + MOST_HELLO_OCTETS) }
+    ensures short { IfOk result (λ frame. length frame ≤ HELLO_HEAD + MOST_HELLO_OCTETS) }
 {
     let pdu = write_hello(alloc, conf.level, &conf.area, h)?;
-    let mut frame = Octets::with_room(alloc, HEAD + pdu.len())?;
-    frame.append_two(&frame_head(end.own_mac, pdu.len() as u16), pdu.as_slice())?;
+    let mut frame = Octets::with_room(alloc, HELLO_HEAD + pdu.len())?;
+    frame.append_two(&hello_head(end.own_mac, pdu.len() as u16), pdu.as_slice())?;
     Ok(frame)
 }
 
@@ -166,7 +172,7 @@ pub(crate) fn hello_frame(alloc: Global, conf: &RouterConf, end: &End, h: &Hello
     ensures spelled { IfOk result (λ frame. frame ≡ hello_frame conf.now end.now h.now) }
     // What a receiver parses from it is the hello.
     ensures parsed { IfOk result (λ frame. hello_in frame ≡ Some h.now) }
-    ensures short { IfOk result (λ frame. length frame ≤ HEAD + MOST_HELLO_OCTETS) }
+    ensures short { IfOk result (λ frame. length frame ≤ HELLO_HEAD + MOST_HELLO_OCTETS) }
 {
     frame_octets(alloc, conf, end, h)
 }
