@@ -1,5 +1,5 @@
 -- Text that is split into lines, words and the items of a list.
-use Rattle.std.specs.Prelude.{ℕ, Bool, List, [], ◌∷◌, ◌==◌, length, Option, Some, None, if◌then◌else◌}
+use Rattle.std.specs.Prelude.{ℕ, ◌≡◌, Bool, List, [], ◌∷◌, ◌==◌, length, Option, Some, None, if◌then◌else◌}
 use Rattle.std.specs.List.{slice_split}
 use Rattle.std.specs.Str.Lines.{lines, strip_carriage_return}
 
@@ -11,6 +11,19 @@ pieces stop text = slice_split (λ b. b == stop) text
 abbrev pub more_pieces : ℕ → Option (List ℕ) → List (List ℕ)
 more_pieces stop None = []
 more_pieces stop (Some text) = pieces stop text
+
+-- the first part has a property
+pub record FirstIs (stop : ℕ) (text : List ℕ) (P : List ℕ → Type 0) : Type 0 where
+  pub piece : List ℕ
+  pub more : List (List ℕ)
+  pub split : pieces stop text ≡ piece ∷ more
+  pub is : P piece
+
+-- the first part, before the rest of the text if there is one, has a property
+pub record FirstBefore (stop : ℕ) (text : List ℕ) (rest : Option (List ℕ)) (P : List ℕ → Type 0) : Type 0 where
+  pub piece : List ℕ
+  pub split : pieces stop text ≡ piece ∷ more_pieces stop rest
+  pub is : P piece
 
 -- The lines of a complete text. Each ends with LF, before which one CR is dropped. The last may lack its LF.
 unfoldable pub lines_of : List ℕ → List (List ℕ)

@@ -1,14 +1,14 @@
 //! Lists of ids, and how they are read and written.
-ghost use Rattle.std.specs.Prelude.{◌≡◌, ◌≤◌, ◌++◌, ◌∷◌, [], length, take, option_map, IfSome, OnOk, OnErr};
+ghost use Rattle.std.specs.Prelude.{◌≡◌, ◌≤◌, ◌<◌, ◌++◌, ◌∷◌, [], Some, None, length, take, option_map, MatchOption, IfSome, OnOk, OnErr};
 ghost use Rattle.std.specs.Fmt.{decimal};
 ghost use Rattle.std.specs.List.{flat_map};
 ghost use Rattle.wire_base.specs.model.Place.{bits_of};
 ghost use Rattle.bier_bits.specs.Any.{any_of};
 ghost use Rattle.replay_text.specs.Ids.{ids_text, id_of, ids_of, ids_after, AreReadAgain};
-ghost use Rattle.replay_text.specs.Pieces.{pieces};
+ghost use Rattle.replay_text.specs.Pieces.{pieces, FirstIs, FirstBefore};
+ghost use Rattle.replay_text.specs.Tokens.{number_of, IsShortNumber};
 
-use crate::pieces::cut;
-use crate::tokens::number;
+use crate::tokens::{front_number, number};
 use bier_bits::AnyBits;
 use wire_base::{Bsl, M, Octets};
 
@@ -41,16 +41,50 @@ pub fn read_ids(text: &[u8], bsl: Bsl) -> Option<AnyBits>
 fn read_pieces(text: &[u8], bsl: Bsl) -> Option<AnyBits>
     ensures { result ≡ option_map (any_of bsl) (ids_after (bits_of bsl) [] (pieces 44 text.now)) }
 {
+    let bound = bsl.bits();
     let mut ids = AnyBits::zero(bsl);
     let mut rest = text;
     'pieces: loop {
-        let (piece, after) = cut(rest, b',');
-        ids.set(id(piece, bsl.bits())?);
+        let (id, after) = first_id(rest, bound)?;
+        ids.set(id);
         match after {
             None => return Some(ids),
             Some(next) => rest = next,
         }
     }
+}
+
+/// Parses the id at the front of a list, a number from 1 to the bound. Returns it, and the list after its comma if it has one.
+fn first_id(text: &[u8], bound: u16) -> Option<(u16, Option<&[u8]>)>
+    ensures value { MatchOption result (FirstIs 44 text.now (λ piece. id_of bound piece ≡ None))
+        (λ found. FirstBefore 44 text.now (option_map (λ after. after.now) found.1) (λ piece. id_of bound piece ≡ Some found.0)) }
+    ensures low { IfSome result (λ found. 1 ≤ found.0) }
+    ensures high { IfSome result (λ found. found.0 ≤ bound) }
+    ensures shorter { IfSome result (λ found. IfSome found.1 (λ after. length after.now < length text.now)) }
+{
+    let (number, after) = first_number(text)?;
+    if number == 0 || number > u64::from(bound) {
+        return None;
+    }
+    Some((number as u16, after))
+}
+
+/// Parses the digits before the first comma of a text: at most ten, and 0 for none. Returns their number, and the text after the
+/// comma if there is one.
+#[tactic(auto, using(crate::proofs::FirstIds::first_fails, crate::proofs::FirstIds::first_whole))]
+fn first_number(text: &[u8]) -> Option<(u64, Option<&[u8]>)>
+    ensures value { MatchOption result (FirstIs 44 text.now (λ piece. number_of piece ≡ None))
+        (λ found. FirstBefore 44 text.now (option_map (λ after. after.now) found.1) (IsShortNumber found.0)) }
+    ensures shorter { IfSome result (λ found. IfSome found.1 (λ after. length after.now < length text.now)) }
+{
+    let (number, count) = front_number(text);
+    if count == text.len() {
+        return Some((number, None));
+    }
+    if text[count] != b',' {
+        return None;
+    }
+    Some((number, Some(&text[count + 1..])))
 }
 
 /// Appends the ids separated by commas, or `-` for none. Parsing the text returns the same ids, if they ascend from 1

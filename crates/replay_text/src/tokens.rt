@@ -1,8 +1,9 @@
 //! Single words: numbers and names.
-ghost use Rattle.std.specs.Prelude.{◌≡◌, ◌≤◌, IfSome};
+ghost use Rattle.std.specs.Prelude.{◌≡◌, ◌≤◌, ◌<◌, Some, false, length, take, slice_index, IfSome};
+ghost use Rattle.std.specs.Char.{is_ascii_digit};
 ghost use Rattle.std.specs.List.{list_all};
 ghost use Rattle.wire_base.specs.model.Configuration as configuration;
-ghost use Rattle.replay_text.specs.Tokens.{number_of};
+ghost use Rattle.replay_text.specs.Tokens.{number_of, number_after};
 ghost use Rattle.replay_text.specs.Arguments as arguments;
 
 /// Parses a number of 1 to 10 decimal digits. Returns `None` for any other text.
@@ -21,6 +22,23 @@ pub fn number(text: &[u8]) -> Option<u64>
         value = value * 10 + u64::from(*octet - b'0');
     }
     Some(value)
+}
+
+/// Reads the digits at the front of a text, at most ten. Returns their number and how many they are.
+pub fn front_number(text: &[u8]) -> (u64, usize)
+    ensures value { number_after 0 (take result.1 text.now) ≡ Some result.0 }
+    ensures few { result.1 ≤ 10 }
+    ensures within { result.1 ≤ length text.now }
+    ensures whole { result.1 < length text.now → result.1 < 10 → is_ascii_digit (slice_index text.now result.1) ≡ false }
+{
+    let most = text.len().min(10);
+    let mut value = 0u64;
+    let mut count = 0;
+    'digits: while count < most && text[count].is_ascii_digit() {
+        value = value * 10 + u64::from(text[count] - b'0');
+        count += 1;
+    }
+    (value, count)
 }
 
 /// Parses a number up to the bound.

@@ -6,7 +6,7 @@ use Rattle.replay_text.specs.Ids.{ids_after}
 use Rattle.replay_text.proofs.ids.read_pieces.Given as goal
 
 abbrev pub invariant-pieces : goal.invariant-pieces
-invariant-pieces l = (bsl_of l.ids ≡ l.bsl) × (ids_after (bits_of l.bsl) (positions_of l.ids) (pieces 44 l.rest) ≡ ids_after (bits_of l.bsl) [] (pieces 44 l.text))
+invariant-pieces l = (bsl_of l.ids ≡ l.fn.bsl) × (ids_after (bits_of l.fn.bsl) (positions_of l.ids) (pieces 44 l.rest) ≡ ids_after (bits_of l.fn.bsl) [] (pieces 44 l.text))
 
 abbrev pub decreases-pieces : goal.decreases-pieces
 decreases-pieces l = length l.rest
