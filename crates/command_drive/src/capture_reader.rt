@@ -70,6 +70,17 @@ impl CaptureReader {
         }
     }
 
+    /// Takes the frame of a record that is no longer needed. A reader of a pcap capture reuses its memory if the next call finds
+    /// a record.
+    pub fn give_back(&mut self, frame: Octets)
+        ensures { self.new ≡ self.old }
+    {
+        match self {
+            CaptureReader::Pcap(reader) => reader.give_back(frame),
+            CaptureReader::Unknown(_) | CaptureReader::Pcapng(_) => {}
+        }
+    }
+
     /// Returns the next record, None if it is not complete yet, or why the capture is rejected, which is permanent.
     #[tactic(auto, unfolding(crate::specs::CaptureReading::any_next))]
     pub fn next(&mut self, alloc: Global) -> M<Result<Option<NgRecord>, RecordFault>>

@@ -113,6 +113,8 @@ impl<S: Source> Items<NgRecord, S> for RecordReader {
             let read = self.reader.next(alloc)?;
             match read {
                 Ok(Some(record)) => {
+                    let frame = mem::replace(&mut self.given.cap.octets, Octets::new(alloc));
+                    self.reader.give_back(frame);
                     self.given = record;
                     return Ok(Found::Item);
                 }

@@ -23,12 +23,12 @@ pub returns-in-Ok-Some-clause-found : goal.returns-in-Ok-Some-clause-found
 returns-in-Ok-Some-clause-found g c =
     let seeks = c.chunks.invariant.seeks in
     let is = sym c.in_ok-read.ensures.exact ∙ c.in-Ok-Some.is ∙ ap Ok c.in-Ok-Some.field-0-is in
-    (seeks.octets, seeks.consumed, λ end more. seeks.is end more ∙ record_first c.chunks.self.reader c.next.new.self c.in-Ok-Some.record c.in_ok-read.ensures.after is c.chunks.self.room c.chunks.self.over end more)
+    (seeks.octets, seeks.consumed, λ end more. seeks.is end more ∙ record_first c.chunks.self.reader c.give_back.new.self c.in-Ok-Some.record (c.give_back.ensures ∙ c.in_ok-read.ensures.after) is c.chunks.self.room c.chunks.self.over end more)
 
 pub returns-in-Ok-Some-clause-fewer : goal.returns-in-Ok-Some-clause-fewer
 returns-in-Ok-Some-clause-fewer g c goes =
     let is = sym c.in_ok-read.ensures.exact ∙ c.in-Ok-Some.is ∙ ap Ok c.in-Ok-Some.field-0-is in
-    omega (arith, ap any_size c.in_ok-read.ensures.after, record_less c.chunks.self.reader c.in-Ok-Some.record is, c.chunks.invariant.fewer)
+    omega (arith, ap any_size (c.give_back.ensures ∙ c.in_ok-read.ensures.after), record_less c.chunks.self.reader c.in-Ok-Some.record is, c.chunks.invariant.fewer)
 
 pub returns-in-Err-clause-found : goal.returns-in-Err-clause-found
 returns-in-Err-clause-found g c =
