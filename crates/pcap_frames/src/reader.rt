@@ -69,8 +69,8 @@ impl Reader {
         Ok(())
     }
 
-    /// Takes the frame of a record that is no longer needed, and copies the next record's frame into its memory, so that a
-    /// caller who returns each frame needs no allocation for the next one.
+    /// Takes the frame of a record that is no longer needed. If the next call finds a record, its frame is copied into that memory,
+    /// so that no allocation is needed where it is large enough.
     pub fn give_back(&mut self, frame: Octets)
         ensures { self.new ≡ self.old }
     {

@@ -59,7 +59,7 @@ abbrev pub MayAllocate : (names words : List (List ℕ)) → Type 0
 MayAllocate names [] = ⊥
 MayAllocate names (word ∷ args) = ((bytes_eq word (codes "cover") ≡ true) × IsOk (cover_front names args)) ⊎ TakesMemory names (word ∷ args)
 
--- the router is in the domain, and the TTL and the entropy are within their ranges (RFC 8296, 2.1.1.1 and 2.1.2)
+-- the router is in the domain, and the TTL and the entropy are within their ranges (RFC 8296, 2.1.1.2 and 2.1.2)
 pub record CoverFits (count router ttl entropy : ℕ) : Type 0 where
   pub within : router < count
   pub ttl_left : 0 < ttl

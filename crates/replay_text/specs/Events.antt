@@ -11,7 +11,7 @@ pub record LinkFits (count from to : ℕ) : Type 0 where
   pub from_within : from < count
   pub to_within : to < count
 
--- the router is in the domain, and the header and the payload are within their ranges (RFC 8296, 2.1.1.1 and 2.1.2)
+-- the router is in the domain, and the header and the payload are within their ranges (RFC 8296, 2.1.1.2 and 2.1.2)
 pub record InjectFits (count router ttl entropy : ℕ) (payload : List ℕ) : Type 0 where
   pub within : router < count
   pub ttl_left : 0 < ttl
