@@ -1,5 +1,4 @@
-use Rattle.std.proofs.Common.{◌≡◌, ◌+◌, ◌/◌, ◌%◌, ◌<◌, ◌≤◌, ◌++◌, length, take, arith}
-use Rattle.std.specs.Fmt.{decimal}
+use Rattle.std.proofs.Common.{take, arith}
 use Rattle.replay_text.proofs.Digits.{length_more, more_digits}
 use Rattle.replay_text.proofs.block.+put_number.Goals as goal
 

@@ -1,4 +1,4 @@
-use Rattle.std.proofs.Common.{◌≡◌, ◌+◌, ◌*◌, ◌/◌, ◌%◌, ◌∙◌, ℕ, get_or, ap}
+use Rattle.std.proofs.Common.{◌+◌, ◌*◌, ◌∙◌, ℕ, get_or, ap}
 use Rattle.replay_text.specs.declared.block.TheConstants.{PAIRS}
 use Rattle.replay_text.proofs.Pairs.{PAIRS_at}
 use Rattle.replay_text.proofs.block.digits.Goals as goal

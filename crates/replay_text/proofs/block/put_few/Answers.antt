@@ -1,4 +1,4 @@
-use Rattle.std.proofs.Common.{◌≡◌, ◌+◌, ◌≤◌, ◌<◌, arith}
+use Rattle.std.proofs.Common.{arith}
 use Rattle.itoa.proofs.Decimal.{length_one, length_two}
 use Rattle.replay_text.proofs.Digits.{length_three, length_four}
 use Rattle.replay_text.proofs.block.put_few.Goals as goal

@@ -1,4 +1,4 @@
-use Rattle.std.proofs.Common.{◌≡◌, ◌⊎◌, ◌<◌, ◌≤◌, inl, inr, arith}
+use Rattle.std.proofs.Common.{inl, inr, arith}
 use Rattle.replay_text.proofs.FirstIds.{id_fails, id_out, id_in}
 use Rattle.replay_text.proofs.ids.first_id.Goals.{then-number-eq0-via-then-number-eq0, then-number-eq0-via-else-number-eq0+then-number-from}
 use Rattle.replay_text.proofs.ids.first_id.Goals as goal

@@ -1,8 +1,7 @@
-use Rattle.std.proofs.Common.{◌+◌, ◌++◌, List, ℕ}
-use Rattle.std.specs.Fmt.{decimal}
+use Rattle.std.proofs.Common.{◌+◌, ◌++◌}
 use Rattle.bier_bits.specs.Sets.{from_on}
 use Rattle.replay_text.specs.Ids.{ids_text}
-use Rattle.replay_text.proofs.Walked.{none_written, set_written, front_empty, front_of_set, on_err}
+use Rattle.replay_text.proofs.Walked.{set_written, front_empty, front_of_set, on_err}
 use Rattle.replay_text.proofs.positions.put_set.Goals as goal
 
 pub returns-clause-ok : goal.returns-clause-ok

@@ -1,4 +1,4 @@
-use Rattle.std.proofs.Common.{◌≤◌, ◌+◌, ◌<◌, length, take, arith}
+use Rattle.std.proofs.Common.{arith}
 use Rattle.std.proofs.lemmas.List.{length-take}
 use Rattle.replay_text.proofs.Digits.{length_few}
 use Rattle.replay_text.proofs.block.Block.few.Goals as goal

@@ -1,6 +1,5 @@
-use Rattle.std.proofs.Common.{◌≡◌, ◌+◌, length, take, arith}
+use Rattle.std.proofs.Common.{arith}
 use Rattle.std.proofs.lemmas.List.{length-take-le}
-use Rattle.std.specs.Fmt.{decimal}
 use Rattle.replay_text.proofs.block.Block.number.Goals as goal
 
 pub returns-clause-len : goal.returns-clause-len
