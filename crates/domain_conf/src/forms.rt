@@ -122,7 +122,10 @@ pub fn hex_octets(alloc: Global, text: &[u8]) -> M<Option<Octets>>
         octets.push(octet)?;
         rest = more;
     }
-    Ok(if rest.is_empty() { Some(octets) } else { None })
+    if rest.is_empty() {
+        return Ok(Some(octets));
+    }
+    Ok(None)
 }
 
 /// Parses an area address of 1 to 13 octets (ISO/IEC 10589, 7.1).
