@@ -1,5 +1,5 @@
 -- The observer's configuration is sound.
-use Rattle.std.proofs.Common.{◌≡◌, ℕ, zero, suc, ◌+◌, ◌<◌, ◌≤◌, false, [], ◌∷◌, ◌++◌, map, refl, sym, ap, subst, arith}
+use Rattle.std.proofs.Common.{◌≡◌, ℕ, zero, suc, ◌+◌, ◌<◌, ◌≤◌, false, [], ◌∷◌, ◌++◌, map, Result, Ok, Err, IfOk, refl, sym, ap, subst, arith}
 use Rattle.std.specs.List.{AllByRecursion, range_with_len}
 use Rattle.std.proofs.lemmas.Bool.{ne_eqb}
 use Rattle.std.proofs.lemmas.List.FromFn.{map-range_with_len_more}
@@ -61,6 +61,10 @@ pub kinds_more : (n : ℕ) → mpls_kinds (n + 1) ≡ mpls_kinds n ++ mpls_kind 
 unfolding mpls_kinds
 kinds_more n = map-range_with_len_more mpls_kind 0 n n (omega arith)
 
-pub no_ends : (c : RouterConf) → c ≡ observer → c.ends ≡ []
+no_ends : (c : RouterConf) → c ≡ observer → c.ends ≡ []
 unfolding observer
 no_ends c same = ap (λ (r : RouterConf). r.ends) same
+
+pub made_no_ends : {E : Type 0} (made : Result RouterConf E) → IfOk made (λ c. c ≡ observer) → IfOk made (λ c. c.ends ≡ [])
+made_no_ends (Ok c) same = no_ends c same
+made_no_ends (Err e) same = tt

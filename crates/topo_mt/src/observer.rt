@@ -46,7 +46,7 @@ fn built(alloc: Global) -> M<RouterConf>
 
 /// Returns the configuration of the observer: no interfaces, a member of no sub-domain, and every sub-domain known, with the MPLS
 /// encapsulation.
-#[tactic(auto, using(crate::proofs::ObserverLaws::observer_sound, crate::proofs::ObserverLaws::no_ends))]
+#[tactic(auto, using(crate::proofs::ObserverLaws::observer_sound))]
 pub(crate) fn observer(alloc: Global) -> M<RouterConf>
     ensures sound { IfOk result (λ c. IsSound c) }
     ensures conf { IfOk result (λ c. c ≡ observer) }
