@@ -3,7 +3,7 @@
 use isis_pdu::{LspHead, Pdu, read_pdu};
 use link_frame::{Class, classify};
 use lsp_store::{Store, received};
-use pcap_frames::Reader;
+use pcap_frames::{CapRecord, Reader};
 use std::alloc::Global;
 use wire_base::{Age, CaptureFault, Level, M, Memory, PutFault, Status};
 
@@ -22,7 +22,7 @@ pub fn database(alloc: Global, level: Level, capture: &[u8]) -> Result<Store, St
     reader.feed(capture)?; // in any pieces, each with the loop below
     'records: loop {
         match reader.next() {
-            Ok(Some(record)) => put_frame(alloc, &mut store, level, record.octets.as_slice())?,
+            Ok(Some(record)) => put_record(alloc, &mut store, level, record)?,
             Ok(None) => break,
             Err(why) => return Err(status_of(why)),
         }
@@ -31,6 +31,11 @@ pub fn database(alloc: Global, level: Level, capture: &[u8]) -> Result<Store, St
         Ok(()) => Ok(store),
         Err(why) => Err(status_of(why)),
     }
+}
+
+/// Adds the LSP in the frame of a record.
+fn put_record(alloc: Global, store: &mut Store, level: Level, record: CapRecord) -> M<()> {
+    put_frame(alloc, store, level, record.octets.as_slice())
 }
 
 /// Adds the LSP in a frame. Other frames, and malformed ones, are ignored.
