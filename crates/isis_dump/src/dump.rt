@@ -48,6 +48,13 @@ impl Progress {
         Ok(())
     }
 
+    /// Appends the lines of a record that is not needed afterwards.
+    fn show_next(&mut self, record: CapRecord) -> M<()>
+        ensures reader { self.new.reader ≡ self.old.reader }
+    {
+        self.show(&record)
+    }
+
     /// Appends the lines of all records that are complete in what the reader was fed. Afterwards the reader has no further one.
     fn show_records(&mut self) -> Result<(), CaptureFault>
         ensures open { OnOk result ((next_of self.new.reader).0 ≡ Ok None) }
@@ -56,7 +63,7 @@ impl Progress {
             let Some(record) = self.reader.next()? else {
                 return Ok(());
             };
-            self.show(&record)?;
+            self.show_next(record)?;
         }
     }
 }
