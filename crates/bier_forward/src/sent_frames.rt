@@ -34,13 +34,6 @@ impl SentFrames {
         }
     }
 
-    /// Creates a list of frames, each with its link as a note.
-    pub fn from_frames(list: FrameList<u16>) -> Self
-        ensures { result ≡ sent_in list }
-    {
-        SentFrames { list }
-    }
-
     /// Returns the allocator of the list.
     pub fn allocator(&self) -> Global {
         self.list.allocator()
@@ -92,12 +85,6 @@ impl SentFrames {
         ensures err { OnErr result (self.new ≡ self.old) }
     {
         self.list.push(link, octets)
-    }
-    /// Removes all frames. The list keeps its capacity.
-    pub fn clear(&mut self)
-        ensures { self.new ≡ [] }
-    {
-        self.list.clear();
     }
 
     /// Appends a frame whose octets are those of three slices, one after the other. If an allocation fails, nothing changes.

@@ -210,15 +210,6 @@ impl<N: Copy + Drop> FrameList<N> {
         true
     }
 
-    /// Removes all frames. The list keeps its capacity.
-    pub fn clear(&mut self)
-        ensures { self.new ≡ [] }
-    {
-        self.gone = 0;
-        self.spans.clear();
-        self.octets.clear();
-    }
-
     /// If no frame is left, discards the octets, and large capacity.
     fn let_go(&mut self)
         ensures { self.new ≡ self.old }

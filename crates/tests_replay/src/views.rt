@@ -71,10 +71,17 @@ fn confs(domain: &Domain) -> &[RouterConf]
     domain.routers.as_slice()
 }
 
+/// Returns a router that has just started.
+fn started(alloc: Global, conf: &RouterConf) -> M<Router>
+    requires { IsSound conf.now }
+{
+    Router::new(alloc, conf.copy()?)
+}
+
 /// Returns the second router of a domain that has two.
 pub fn second(alloc: Global, domain: &Domain) -> Option<Router> {
     match confs(domain) {
-        [_, conf] => Router::new(alloc, conf.copy().ok()?).ok(),
+        [_, conf] => started(alloc, conf).ok(),
         _ => None,
     }
 }
@@ -124,7 +131,7 @@ fn seen_in_turn(alloc: Global, router: &mut Router) -> [Option<usize>; 4] {
 /// Returns the first router of a domain.
 fn first(alloc: Global, domain: &Domain) -> Option<Router> {
     match confs(domain) {
-        [conf, ..] => Router::new(alloc, conf.copy().ok()?).ok(),
+        [conf, ..] => started(alloc, conf).ok(),
         [] => None,
     }
 }

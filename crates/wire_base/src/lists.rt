@@ -10,12 +10,21 @@ use std::mem::replace;
 use std::rc::Rc;
 
 /// Where the octets of a list are stored.
-#[derive(Drop)]
 enum Held {
     /// In a vector of the list's own.
     Own(Vec<u8>),
     /// In a vector that several lists share; this one has as many octets of its start.
     Shared(Rc<Vec<u8>>, usize),
+}
+
+// Written out, so that a proof about a value that holds octets doesn't see where they are stored.
+impl Drop for Held {
+    fn drop(self) {
+        match self {
+            Held::Own(octets) => drop(octets),
+            Held::Shared(octets, _) => drop(octets),
+        }
+    }
 }
 
 /// A list of octets, modeled in contracts as a list of numbers below 256.
@@ -155,6 +164,7 @@ impl Octets {
     }
 
     /// Appends one octet. If an allocation fails, the list is unchanged.
+    #[inline(always)]
     pub fn push(&mut self, octet: u8) -> M<()>
         ensures ok { OnOk result (self.new ≡ self.old ++ octet ∷ []) }
         ensures err { OnErr result (self.new ≡ self.old) }
@@ -163,22 +173,30 @@ impl Octets {
             octets.push(octet)?;
             return Ok(());
         }
-        self.append(&[octet])
+        self.copy_and_append(&[octet])
     }
 
     /// Appends a slice of octets. If an allocation fails, the list is unchanged.
+    #[inline(always)]
     pub fn append(&mut self, octets: &[u8]) -> M<()>
         ensures ok { OnOk result (self.new ≡ self.old ++ octets.now) }
         ensures err { OnErr result (self.new ≡ self.old) }
     {
-        match &mut self.held {
-            Held::Own(own) => own.extend_from_slice(octets)?,
-            Held::Shared(..) => self.held = Held::Own(joined(
-                self.allocator(),
-                self.as_slice(),
-                octets,
-            )?),
+        if let Held::Own(own) = &mut self.held {
+            own.extend_from_slice(octets)?;
+            return Ok(());
         }
+        self.copy_and_append(octets)
+    }
+
+    /// Copies the list to a vector of its own, and appends a slice of octets there.
+    #[inline(never)]
+    fn copy_and_append(&mut self, octets: &[u8]) -> M<()>
+        ensures ok { OnOk result (self.new ≡ self.old ++ octets.now) }
+        ensures err { OnErr result (self.new ≡ self.old) }
+    {
+        let both = joined(self.allocator(), self.as_slice(), octets)?;
+        self.held = Held::Own(both);
         Ok(())
     }
 
