@@ -1,9 +1,9 @@
 -- A text whose end is collected in a block.
-use Rattle.std.specs.Prelude.{ℕ, ◌≡◌, List, [], ◌++◌, length, nat_lt, if◌then◌else◌}
+use Rattle.std.specs.Prelude.{ℕ, ◌≡◌, ◌+◌, List, [], ◌++◌, length, nat_lt, if◌then◌else◌}
 
--- the text and the block, after the block was moved to the text if it has no room for five octets more
-abbrev pub with_room : List ℕ → List ℕ → List ℕ × List ℕ
-with_room text block = if nat_lt 123 (length block) then (text ++ block, []) else (text, block)
+-- the text and the block, after the block was moved to the text if it has less room than for that many octets
+abbrev pub with_room : ℕ → List ℕ → List ℕ → List ℕ × List ℕ
+with_room size text block = if nat_lt 128 (length block + size) then (text ++ block, []) else (text, block)
 
 -- what is written is the old text and a front part of what was to follow it
 pub record IsFront (old more written : List ℕ) : Type 0 where

@@ -103,18 +103,60 @@ impl Block {
 
     /// Appends the block to a text and empties it, if it has no room for a comma and four digits. Otherwise nothing changes,
     /// nor does it if an allocation fails.
+    #[inline(always)]
     pub fn make_room(&mut self, out: &mut Octets) -> M<()>
-        ensures ok { OnOk result ((out.new, self.new) ≡ with_room out.old self.old) }
+        ensures ok { OnOk result ((out.new, self.new) ≡ with_room 5 out.old self.old) }
         ensures err { OnErr result ((out.new ≡ out.old) × (self.new ≡ self.old)) }
-        ensures full { OnErr result (123 < length self.old) }
+        ensures full { OnErr result (128 < length self.old + 5) }
         ensures same { OnOk result (out.new ++ self.new ≡ out.old ++ self.old) }
         ensures front { (text : List ℕ) → take (length text) out.old ≡ text → take (length text) out.new ≡ text }
         ensures room { OnOk result (length self.new ≤ 123) }
     {
-        if self.len > ROOM - 5 {
-            out.append(self.as_slice())?;
-            self.len = 0;
+        self.make_room_for(out, 5)
+    }
+
+    /// Does the same for that many octets.
+    #[inline(always)]
+    pub fn make_room_for(&mut self, out: &mut Octets, size: usize) -> M<()>
+        requires { size ≤ 128 }
+        ensures ok { OnOk result ((out.new, self.new) ≡ with_room size out.old self.old) }
+        ensures err { OnErr result ((out.new ≡ out.old) × (self.new ≡ self.old)) }
+        ensures full { OnErr result (128 < length self.old + size) }
+        ensures same { OnOk result (out.new ++ self.new ≡ out.old ++ self.old) }
+        ensures front { (text : List ℕ) → take (length text) out.old ≡ text → take (length text) out.new ≡ text }
+        ensures room { OnOk result (length self.new + size ≤ 128) }
+    {
+        if self.len + size > ROOM {
+            self.flush(out)?;
         }
+        Ok(())
+    }
+
+    /// Appends the block to a text and empties it. If an allocation fails, nothing changes.
+    #[inline(never)]
+    fn flush(&mut self, out: &mut Octets) -> M<()>
+        ensures ok { OnOk result ((out.new ≡ out.old ++ self.old) × (self.new ≡ [])) }
+        ensures err { OnErr result ((out.new ≡ out.old) × (self.new ≡ self.old)) }
+    {
+        out.append(self.as_slice())?;
+        self.len = 0;
+        Ok(())
+    }
+
+    /// Appends octets to the text that the block ends: to the block, after it was appended to the text if it has too little
+    /// room, or to the text if the block never has room for them. If an allocation fails, both are unchanged.
+    #[tactic(auto, using(crate::proofs::Appended::behind_moved, crate::proofs::Appended::behind_text))]
+    pub fn put(&mut self, out: &mut Octets, text: &[u8]) -> M<()>
+        ensures ok { OnOk result (out.new ++ self.new ≡ out.old ++ (self.old ++ text.now)) }
+        ensures err { OnErr result ((out.new ≡ out.old) × (self.new ≡ self.old)) }
+    {
+        if text.len() > ROOM {
+            out.append_two(self.as_slice(), text)?;
+            self.len = 0;
+            return Ok(());
+        }
+        self.make_room_for(out, text.len())?;
+        self.append(text);
         Ok(())
     }
 }

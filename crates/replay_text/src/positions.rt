@@ -75,7 +75,7 @@ pub fn put_positions(out: &mut Octets, block: &mut Block, bits: &AnyBits) -> M<(
 
 /// Does the same for a bit string of one width.
 #[tactic(auto, using(bier_bits::proofs::Widths::width_le))]
-fn put_set<const W: usize>(out: &mut Octets, block: &mut Block, set: &BitString<W>) -> M<()>
+pub fn put_set<const W: usize>(out: &mut Octets, block: &mut Block, set: &BitString<W>) -> M<()>
     requires { IsTrue (is_width W) }
     ensures ok { OnOk result (out.new ++ block.new ≡ out.old ++ (block.old ++ ids_text set.now)) }
     ensures err { OnErr result (IsFront (out.old ++ block.old) (ids_text set.now) (out.new ++ block.new)) }
