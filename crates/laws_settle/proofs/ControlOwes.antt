@@ -7,7 +7,7 @@ use Rattle.wire_base.specs.declared.addresses.SystemId.{SystemId}
 use Rattle.wire_base.specs.declared.bsl.Bsl.{Bsl}
 use Rattle.wire_base.specs.declared.conf.RouterConf.{RouterConf}
 use Rattle.wire_base.specs.declared.entry.Age.{Age}
-use Rattle.wire_base.specs.declared.entry.Age.TheVariants.{Unknown, Newer, Equal, Older, Confused}
+use Rattle.wire_base.specs.declared.entry.Age.TheVariants.{Unknown}
 use Rattle.wire_base.specs.declared.entry.Aged.{Aged}
 use Rattle.wire_base.specs.declared.entry.Aged.TheVariants.{Live, Expired, Held, Removed}
 use Rattle.wire_base.specs.declared.entry.Entry.{Entry}
@@ -18,7 +18,7 @@ use Rattle.wire_base.specs.model.Control.{Control, Flood, IsFlagRow, after_secon
 use Rattle.wire_base.specs.model.Flooding.{LspAnswer, SnpAnswer, aged_all, answer_lsp, clear_both, clear_ssn, end_down, end_up, flags_aged, flood_aged, forget, is_own_ahead, is_stale, is_unheld_own, issue, join, kept, last_sequence, leave, link_down, link_up, lsp_aged, lsp_done, lsp_in, mark_all, no_links, on_csnp, on_lsp, on_pdu, on_psnp, only_says, puts_marked, reissue, reissue_if, reissue_unless_spent, relabel, send, send_known, sent_on, set_srm, snp_done, stores, tick, with_row}
 use Rattle.wire_base.specs.model.Membership.{left, rejoined, relabelled}
 use Rattle.wire_base.specs.model.OwnLsp.{own_lsp}
-use Rattle.wire_base.specs.model.Pdu.{Head, head_summary, Pdu, LspPdu, CsnpPdu, PsnpPdu, HelloPdu, OtherPdu}
+use Rattle.wire_base.specs.model.Pdu.{Head, head_summary, Pdu, LspPdu, CsnpPdu, PsnpPdu}
 use Rattle.wire_base.specs.model.Tlv.{rows_of}
 use Rattle.isis_flood.specs.Kept.{Stays}
 use Rattle.isis_flood.proofs.KeptLaws.{lsp_keeps}
@@ -27,6 +27,7 @@ use Rattle.laws_router.specs.State.{IsRouter}
 use Rattle.laws_router.proofs.EntryLaws.{same_is}
 use Rattle.laws_router.proofs.FlagLaws.{keeps_srm, link_opened}
 use Rattle.laws_router.proofs.StateLaws.{all_aged, down_kept, up_kept}
+use Rattle.router_core.proofs.OwnLaws.{kept_of}
 use Rattle.domain_model.proofs.AgedTruth.{entry_aged}
 use Rattle.domain_model.proofs.EachLaws.{each_both, each_weaker}
 use Rattle.domain_model.proofs.FlagLaws.{each_is_found, found_each, gone_for, srm_same}
@@ -53,9 +54,6 @@ stays_number (Some x) (Some y) (inr h) = let same = h.0 in omega (arith, same)
 
 tidy_of : (own : SystemId) (up : List Bool) (spent : Bool) (f : Flood) (es : List Entry) → Kept own up spent f es → IsTidy up f
 tidy_of own up spent f es k = record { up_is = k.up_is; rows = k.flood.rows; in_order = k.flood.in_order }
-
-router_kept : (c : Control) → IsRouter c → Kept c.conf.system c.flood.up c.spent c.flood c.entries
-router_kept c r = record { own_is = r.control.own; up_is = refl; flood = r.control.flood; flagged = r.control.flagged; short = r.short; stands = r.own }
 
 module _ (id : LspId) (k least : ℕ) (before : List Entry) where
   -- ---- an own LSP
@@ -192,10 +190,9 @@ lives_on e lives more some = by (nat_lt 0 e.life) refl (e.life == 1) refl
 
 aged_other : (f : Flood) (x id : LspId) (k : ℕ) (a : Aged) → same_id x id ≡ false → srm (flags_aged f x a) id k ≡ srm f id k
 unfolding mark_all forget
-aged_other f x id k Live other = refl
 aged_other f x id k Expired other = srm_other f x id (λ row. record row { srm = f.up; ssn = no_links f }) k (λ row. refl) other
-aged_other f x id k Held other = refl
 aged_other f x id k Removed other = srm_same (without_row x f.rows) f.rows id k (gone_for x f.rows id other)
+aged_other f x id k rest other = refl
 
 -- an LSP ID whose entry lives on keeps SRM
 aged_stays : (id : LspId) (k : ℕ) (es : List Entry) (f : Flood) → AllByRecursion (λ e. same_id e.id id ≡ true → aged e ≡ Live) es → srm f id k ≡ true → srm (fold flood_aged f es) id k ≡ true
@@ -218,10 +215,7 @@ lsp_silent f es link h tlvs spent lives s = by (age_of (entry_in es h.id) (head_
         cond_both (h.life == 0) (only_says f es (out.Ack (head_summary h))) (if is_full es then only_says f es out.Full else stores f es link (kept h tlvs)) (λ a. a.answer ≡ out.Ack s → ⊥)
         (λ dead e. (let none = eqb-true h.life 0 dead in let live = lives some in absurd (omega (arith, none, live))))
         (λ live. cond_both (is_full es) (only_says f es out.Full) (stores f es link (kept h tlvs)) (λ a. a.answer ≡ out.Ack s → ⊥) (λ full e. cc) (λ room e. cc))
-    aged_never some Newer = λ e. cc
-    aged_never some Equal = λ e. cc
-    aged_never some Older = λ e. cc
-    aged_never some Confused = λ e. cc
+    aged_never some other = λ e. cc
 
     by : (age : Age) → (lsp_in f es link h tlvs spent age).answer ≡ out.Ack s → ⊥
     by age =
@@ -245,10 +239,7 @@ pdu_silent c link (LspPdu h tlvs) journal says = by (on_lsp c.flood c.entries li
     by (out.Ack s) never = absurd (never s refl)
     by out.Full never = refl
     by out.Zero never = refl
-pdu_silent c link (CsnpPdu source start last tlvs) journal says = refl
-pdu_silent c link (PsnpPdu source tlvs) journal says = refl
-pdu_silent c link HelloPdu journal says = refl
-pdu_silent c link (OtherPdu number) journal says = refl
+pdu_silent c link other journal says = refl
 
 -- ---- PDUs
 
@@ -257,7 +248,7 @@ module _ (id : LspId) (k least : ℕ) (c : Control) (r : IsRouter c) (o : OwesIn
   same_next = record { numbers = λ i. omega arith; owes = o }
 
   pub tidy : IsTidy c.flood.up c.flood
-  tidy = tidy_of c.conf.system c.flood.up c.spent c.flood c.entries (router_kept c r)
+  tidy = tidy_of c.conf.system c.flood.up c.spent c.flood c.entries (kept_of c r)
 
   module _ (link : ℕ) (up : is_up c link ≡ true) where
     lsp_next : (h : Head) (tlvs : List ℕ) → (link ≡ k → h.id ≡ id → h.seq ≤ least) → IsNext id k least c.entries (lsp_done c (on_lsp c.flood c.entries link h tlvs c.spent)).control
@@ -315,8 +306,7 @@ module _ (id : LspId) (k least : ℕ) (c : Control) (r : IsRouter c) (o : OwesIn
         listed_next (on_psnp c.flood c.entries link tlvs c.spent)
         (psnp_owes id k least c.conf.system c.flood.up c.entries link up c.spent c.flood tlvs
         (each_weaker (λ (s : Summary). s.seq ≤ most s.id) (λ (s : Summary). link ≡ k → s.id ≡ id → s.seq ≤ least) (λ s. behind_of most low s.id s.seq) (rows_of tlvs) within) tidy r.control.own o)
-    pdu_next HelloPdu most within low = same_next
-    pdu_next (OtherPdu number) most within low = same_next
+    pdu_next other most within low = same_next
 
   -- ---- an interface
 
@@ -325,7 +315,7 @@ module _ (id : LspId) (k least : ℕ) (c : Control) (r : IsRouter c) (o : OwesIn
   down_next link =
       let f = link_down c.flood link in
       unless_next id k least c.entries (slice_set c.flood.up link false) (record c { flood = f })
-      (tidy_of c.conf.system (slice_set c.flood.up link false) c.spent f c.entries (down_kept c.conf.system c.flood.up c.spent c.flood c.entries link (router_kept c r)))
+      (tidy_of c.conf.system (slice_set c.flood.up link false) c.spent f c.entries (down_kept c.conf.system c.flood.up c.spent c.flood c.entries link (kept_of c r)))
       (record { numbers = λ i. omega arith; owes = λ open_ more. by (link == k) refl open_ more })
     where
       by : (b : Bool) → (link == k) ≡ b → slice_index_or (slice_set c.flood.up link false) k false ≡ true → least < number_in c.entries id → srm_in (map (clear_both link) c.flood.rows) id k ≡ true
@@ -338,13 +328,13 @@ module _ (id : LspId) (k least : ℕ) (c : Control) (r : IsRouter c) (o : OwesIn
   unfolding end_up
   up_next link within =
       let f = link_up c.flood c.entries link in
-      let kept = up_kept c.conf.system c.flood.up c.spent c.flood c.entries link (router_kept c r) within in
+      let kept = up_kept c.conf.system c.flood.up c.spent c.flood c.entries link (kept_of c r) within in
       unless_next id k least c.entries (slice_set c.flood.up link true) (record c { flood = f })
       (tidy_of c.conf.system (slice_set c.flood.up link true) c.spent f c.entries kept)
       (record { numbers = λ i. omega arith; owes = opened_owes })
     where
       opened_owes : OwesIn id k least (link_up c.flood c.entries link) c.entries
-      opened_owes = up_owes id k least c.conf.system c.spent c.flood c.entries link within (router_kept c r) o
+      opened_owes = up_owes id k least c.conf.system c.spent c.flood c.entries link within (kept_of c r) o
 
   pub sent_next : (link : ℕ) → IsNext id k least c.entries (send c link).control
   unfolding send sent_on
@@ -366,7 +356,7 @@ module _ (id : LspId) (k least : ℕ) (c : Control) (r : IsRouter c) (o : OwesIn
     aged_next = record { numbers = λ i. (let n = numbers_aged i in omega (arith, n)); owes = λ open_ more. marked open_ (let n = numbers_aged id in omega (arith, n, more)) }
       where
         kept : Kept c.conf.system c.flood.up true (fold flood_aged c.flood c.entries) (filter_map after_second c.entries)
-        kept = all_aged c.conf.system c.flood.up c.spent c.flood c.entries (router_kept c r)
+        kept = all_aged c.conf.system c.flood.up c.spent c.flood c.entries (kept_of c r)
 
         marked : slice_index_or (fold flood_aged c.flood c.entries).up k false ≡ true → least < number_in c.entries id → srm (fold flood_aged c.flood c.entries) id k ≡ true
         marked open_ more =
@@ -382,7 +372,7 @@ module _ (id : LspId) (k least : ℕ) (c : Control) (r : IsRouter c) (o : OwesIn
 
     aged_tidy : IsTidy c.flood.up (aged_all c).flood
     unfolding aged_all
-    aged_tidy = tidy_of c.conf.system c.flood.up true (fold flood_aged c.flood c.entries) (filter_map after_second c.entries) (all_aged c.conf.system c.flood.up c.spent c.flood c.entries (router_kept c r))
+    aged_tidy = tidy_of c.conf.system c.flood.up true (fold flood_aged c.flood c.entries) (filter_map after_second c.entries) (all_aged c.conf.system c.flood.up c.spent c.flood c.entries (kept_of c r))
 
     pub tick_next : IsNext id k least c.entries (tick c).control
     unfolding tick

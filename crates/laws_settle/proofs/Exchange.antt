@@ -1,7 +1,6 @@
 -- A router sends all that is due to another, which receives the CSNPs among it.
 use Rattle.std.proofs.Common.{◌≡◌, ◌⊎◌, inl, inr, ℕ, zero, suc, ◌<◌, Bool, true, false, if◌then◌else◌, List, [], ◌∷◌, ◌++◌, length, map, filter, replicate, slice_get, slice_set, slice_index_or, Option, Some, refl, sym, ap, subst, ◌∙◌, append-nil, append_assoc, arith}
 use Rattle.std.specs.List.{AllByRecursion, remove}
-use Rattle.std.proofs.lemmas.Bool.{false≢true}
 use Rattle.wire_base.specs.declared.addresses.LspId.{LspId}
 use Rattle.wire_base.specs.declared.cause.Cause.{Cause}
 use Rattle.wire_base.specs.declared.cause.Cause.TheVariants as cause
@@ -14,7 +13,7 @@ use Rattle.wire_base.specs.model.Control.{Control, IsWithinLinks, summary_of}
 use Rattle.wire_base.specs.model.Flooding.{Reply, csnps, due_csnps, due_lsps, due_psnps, id_after, is_known, last_listed, most_listed, on_csnp, on_pdu, send, send_of, zero_id}
 use Rattle.wire_base.specs.model.Item.{Item, ControlItem}
 use Rattle.wire_base.specs.model.Lists.{blocks}
-use Rattle.wire_base.specs.model.Pdu.{Pdu, LspPdu, CsnpPdu, PsnpPdu, HelloPdu, OtherPdu, lsp_covered}
+use Rattle.wire_base.specs.model.Pdu.{Pdu, CsnpPdu, lsp_covered}
 use Rattle.laws_router.proofs.KeptLaws.{csnp_kept}
 use Rattle.laws_router.specs.State.{IsRouter}
 use Rattle.lsp_store.specs.Keys.{IsOctets}
@@ -32,12 +31,15 @@ use Rattle.domain_model.proofs.FloodTruth.{row_true}
 use Rattle.domain_model.proofs.QueueLaws.{shape_kept}
 use Rattle.domain_model.proofs.WorldTruth.{happens_true}
 use Rattle.laws_ledger.specs.Runs.{AreAllowed}
+use Rattle.laws_ledger.proofs.FlightLaws.{shape}
 use Rattle.laws_ledger.proofs.WorldLaws.{room_at}
 use Rattle.laws_quiet.specs.Quiet.{lsdb_at, lsdb_of}
 use Rattle.laws_settle.specs.Csnps.{AreToldBySums, IsAnswered, IsExchange, IsSoundEntry, NoneDropped, after_pdus}
 use Rattle.laws_settle.proofs.CsnpAt.{IsReceiving, if_receives}
 use Rattle.laws_settle.proofs.Joined.{joined_differ}
 use Rattle.laws_settle.proofs.SameByCsnps.{same_live}
+use Rattle.laws_settle.proofs.RoundQueues.{set_within}
+use Rattle.router_core.proofs.CountLaws.{up_within}
 use Rattle.router_core.proofs.KeepLaws.{sent_entries}
 
 -- ---- lists
@@ -54,11 +56,6 @@ set_there (z ∷ zs) zero (suc j) x h = refl
 set_there (z ∷ zs) (suc i) zero x h = refl
 set_there (z ∷ zs) (suc i) (suc j) x h = set_there zs i j x (λ e. h (ap suc e))
 
-read_here : {X : Type 0} (xs : List X) (i : ℕ) (x d : X) → i < length xs → slice_index_or (slice_set xs i x) i d ≡ x
-read_here [] i x d h = absurd (omega (arith, h))
-read_here (y ∷ ys) zero x d h = refl
-read_here (y ∷ ys) (suc i) x d h = read_here ys i x d (omega (arith, h))
-
 -- one after others is there, and goes
 got_after : {X : Type 0} (old : List X) (x : X) (rest : List X) → slice_get (old ++ x ∷ rest) (length old) ≡ Some x
 got_after [] x rest = refl
@@ -69,10 +66,6 @@ gone_after [] x rest = refl
 gone_after {X} (y ∷ old) x rest = ap (λ (l : List X). y ∷ l) (gone_after old x rest)
 
 -- ---- queues
-
--- how many queues each router has
-abbrev shape : List (List (List Item)) → List ℕ
-shape flights = map (λ qs. length qs) flights
 
 row_read : (flights : List (List (List Item))) (a : ℕ) → slice_index_or (shape flights) a 0 ≡ length (slice_index_or flights a [])
 row_read [] a = refl
@@ -88,8 +81,8 @@ queue_read : (flights : List (List (List Item))) (a link : ℕ) (queue : List It
 queue_read flights a link queue h =
     let row = slice_index_or flights a [] in
     let long = row_read flights a in
-    ap (λ (r : List (List Item)). slice_index_or r link []) (read_here flights a (slice_set row link queue) [] (row_within flights a link h))
-    ∙ read_here row link queue [] (omega (arith, h, long))
+    ap (λ (r : List (List Item)). slice_index_or r link []) (set_within flights a (slice_set row link queue) [] (row_within flights a link h))
+    ∙ set_within row link queue [] (omega (arith, h, long))
 
 -- what is sent is queued in order
 sent_queue : (confs : List RouterConf) (a link : ℕ) (ps : List Pdu) (flights : List (List (List Item))) → link < slice_index_or (shape flights) a 0
@@ -140,16 +133,12 @@ router_is w t a c at = (each_got (IsTrueControl (confs_now w)) w.routers a c t.c
 -- ---- a CSNP that is received
 
 abbrev IsCsnp : Pdu → Type 0
-IsCsnp (LspPdu h tlvs) = ⊥
 IsCsnp (CsnpPdu source start last tlvs) = Unit {0}
-IsCsnp (PsnpPdu source tlvs) = ⊥
-IsCsnp HelloPdu = ⊥
-IsCsnp (OtherPdu number) = ⊥
+IsCsnp other = ⊥
 
 csnps_are : (c : Control) (start : LspId) (bs : List (List Summary)) → AllByRecursion IsCsnp (csnps c start bs)
-csnps_are c start [] = (tt, tt)
-csnps_are c start (block ∷ []) = (tt, tt)
 csnps_are c start (block ∷ next ∷ more) = (tt, csnps_are c (id_after (last_listed start block)) (next ∷ more))
+csnps_are c start other = (tt, tt)
 
 due_are : (c : Control) → AllByRecursion IsCsnp (due_csnps c true)
 due_are c = csnps_are c zero_id (blocks most_listed (map summary_of (filter is_known c.entries)))
@@ -163,21 +152,15 @@ pub record IsQuietReply (r : Reply) : Type 0 where
 module _ (up : List Bool) (back : ℕ) (open_ : slice_index_or up back false ≡ true) where
   csnp_reply : (e : Control) (p : Pdu) → IsCsnp p → IsQuietReply (on_pdu e back p)
   unfolding on_pdu
-  csnp_reply e (LspPdu h tlvs) is = absurd is
   csnp_reply e (CsnpPdu source start last tlvs) is = record { sent = refl; full = (on_csnp e.flood e.entries back start last tlvs e.spent).answer.full; drops = refl }
-  csnp_reply e (PsnpPdu source tlvs) is = absurd is
-  csnp_reply e HelloPdu is = absurd is
-  csnp_reply e (OtherPdu number) is = absurd is
+  csnp_reply e other is = absurd is
 
   csnp_next : (e : Control) (p : Pdu) → IsCsnp p → IsReceiving up e → IsReceiving up (on_pdu e back p).control
   unfolding on_pdu
-  csnp_next e (LspPdu h tlvs) is r = absurd is
   csnp_next e (CsnpPdu source start last tlvs) is r =
       let a = on_csnp e.flood e.entries back start last tlvs e.spent in
       if_receives up (record e { flood = a.flood; entries = a.entries }) a.answer.reissue (record { sound = r.sound; kept = (csnp_kept e.conf.system up e.spent back open_ e.flood e.entries start last tlvs r.kept).kept })
-  csnp_next e (PsnpPdu source tlvs) is r = absurd is
-  csnp_next e HelloPdu is r = absurd is
-  csnp_next e (OtherPdu number) is r = absurd is
+  csnp_next e other is r = absurd is
 
 no_full : (b n : ℕ) → AreWorldDrops (map (control_lost b) (replicate n cause.Full)) → replicate n cause.Full ≡ []
 no_full b zero all = refl
@@ -276,11 +259,6 @@ within_long (x ∷ xs) [] w = absurd w
 within_long (false ∷ xs) (y ∷ ys) w = ap suc (within_long xs ys w)
 within_long (true ∷ xs) (y ∷ ys) w = ap suc (within_long xs ys w.1)
 
-true_within : (xs : List Bool) (k : ℕ) → slice_index_or xs k false ≡ true → k < length xs
-true_within [] k h = absurd (false≢true h)
-true_within (x ∷ xs) zero h = omega arith
-true_within (x ∷ xs) (suc k) h = let low = true_within xs k h in omega (arith, low)
-
 send_sent : (c : Control) (link : ℕ) → slice_index_or c.flood.due link false ≡ true → (send c link).sent ≡ due_csnps c true ++ (due_lsps c link ++ due_psnps c link)
 unfolding send send_of
 send_sent c link due = ap (λ (b : Bool). due_csnps c b ++ (due_lsps c link ++ due_psnps c link)) due
@@ -308,7 +286,7 @@ module _ (w : WorldState) (a b : ℕ) (c d : Control) (link back : ℕ) (v : Wor
   room : link < slice_index_or (shape w.flights) a 0
   room =
       let k = router_is w h.truth a c h.sender in
-      let low = true_within c.flood.due link h.due in
+      let low = up_within c.flood.due link h.due in
       let long = within_long c.flood.due c.flood.up k.control.flood.due_up in
       let ends = k.control.links in
       let rows = room_at w h.truth a c h.sender in

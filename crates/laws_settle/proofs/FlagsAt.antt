@@ -1,19 +1,20 @@
 -- Whether an LSP ID has a flag on an interface, after its row or another one was changed.
-use Rattle.std.proofs.Common.{◌≡◌, ℕ, zero, suc, ◌||◌, Bool, true, false, List, [], ◌∷◌, length, slice_index_or, slice_set, refl, sym, ap, ◌∙◌}
+use Rattle.std.proofs.Common.{◌≡◌, ℕ, ◌||◌, Bool, true, false, List, [], ◌∷◌, length, slice_index_or, refl, sym, ap, ◌∙◌}
 use Rattle.std.specs.List.{AllByRecursion}
 use Rattle.std.specs.Ordering.{is_gt, match_ordering}
 use Rattle.std.specs.declared.cmp.Ordering.{Ordering}
 use Rattle.std.specs.declared.cmp.Ordering.TheVariants.{Less, Equal, Greater}
-use Rattle.std.proofs.lemmas.Bool.{false≢true, true≢false, or_left, or_right}
+use Rattle.std.proofs.lemmas.Bool.{true≢false, or_left, or_right}
 use Rattle.wire_base.specs.declared.addresses.LspId.{LspId}
 use Rattle.wire_base.specs.declared.entry.Entry.{Entry}
-use Rattle.wire_base.specs.model.Control.{Flood, FlagRow, IsFlagRow, IsWithinLinks, at_row, entry_in, id_order, no_flags, put_entry, same_id, srm, srm_in, ssn, ssn_in}
+use Rattle.wire_base.specs.model.Control.{Flood, FlagRow, IsFlagRow, at_row, entry_in, id_order, no_flags, put_entry, same_id, srm, srm_in, ssn, ssn_in}
 use Rattle.wire_base.specs.model.Flooding.{ask_on, mark_all, no_links, send_on, set_srm, with_row}
 use Rattle.lsp_store.proofs.OrderLaws.{above_differs, same_turned}
 use Rattle.isis_flood.proofs.FloodLaws.{same_from_tie}
 use Rattle.laws_router.proofs.FlagLaws.{KeepsRow, all_rows, none_flagged}
 use Rattle.laws_router.proofs.EntryLaws.{id_self, put_other}
 use Rattle.domain_model.proofs.FlagLaws.{KeepsId, changed_for, rows_for}
+use Rattle.laws_settle.proofs.RowSrm.{set_here}
 
 -- whether an LSP ID has SRM or SSN on an interface
 abbrev pub is_flagged : Flood → LspId → ℕ → Bool
@@ -60,15 +61,6 @@ changed_flagged P n x change link keeps sets (row ∷ rows) none all = by (id_or
     by Equal o more = front_flagged (change row) rows x link (ap (λ (i : LspId). same_id i x) (keeps row ∙ sym (same_from_tie x row.id o)) ∙ id_self x) (sets row all.0)
     by Greater o more = rw (same_turned row.id x ∙ above_differs x row.id (ap is_gt o)) more
 
-set_reads : (xs up : List Bool) (k : ℕ) → slice_index_or up k false ≡ true → IsWithinLinks xs up → slice_index_or (slice_set xs k true) k false ≡ true
-set_reads [] [] k h w = absurd (false≢true h)
-set_reads [] (y ∷ ys) k h w = absurd w
-set_reads (x ∷ xs) [] k h w = absurd w
-set_reads (false ∷ xs) (y ∷ ys) zero h w = refl
-set_reads (true ∷ xs) (y ∷ ys) zero h w = refl
-set_reads (false ∷ xs) (y ∷ ys) (suc k) h w = set_reads xs ys k h w
-set_reads (true ∷ xs) (y ∷ ys) (suc k) h w = set_reads xs ys k h w.1
-
 -- an interface that is up, and rows that have a flag for each interface
 pub record CanFlag (link : ℕ) (f : Flood) : Type 0 where
   pub up : slice_index_or f.up link false ≡ true
@@ -81,23 +73,23 @@ can_row link f id change can keeps = record {
 }
 
 module _ (link : ℕ) (f : Flood) (can : CanFlag link f) (id : LspId) where
-  set_here : (change : FlagRow → FlagRow) → KeepsId change → ((row : FlagRow) → IsFlagRow f.up row → row_flagged (change row) link ≡ true) → is_flagged (with_row f id change) id link ≡ true
-  set_here change keeps sets =
+  row_set : (change : FlagRow → FlagRow) → KeepsId change → ((row : FlagRow) → IsFlagRow f.up row → row_flagged (change row) link ≡ true) → is_flagged (with_row f id change) id link ≡ true
+  row_set change keeps sets =
       flagged_is (at_row (length f.up) id change f.rows) id link
       ∙ changed_flagged (IsFlagRow f.up) (length f.up) id change link keeps sets f.rows (none_flagged f.up id) can.rows
 
   pub asked_flagged : is_flagged (with_row f id (ask_on link)) id link ≡ true
-  asked_flagged = set_here (ask_on link) (λ row. refl) (λ row w. or_right _ _ (set_reads row.ssn f.up link can.up w.ssn_up))
+  asked_flagged = row_set (ask_on link) (λ row. refl) (λ row w. or_right _ _ (set_here row.ssn f.up link can.up w.ssn_up))
 
   pub sending_flagged : is_flagged (with_row f id (send_on link)) id link ≡ true
-  sending_flagged = set_here (send_on link) (λ row. refl) (λ row w. or_left _ _ (set_reads row.srm f.up link can.up w.srm_up))
+  sending_flagged = row_set (send_on link) (λ row. refl) (λ row w. or_left _ _ (set_here row.srm f.up link can.up w.srm_up))
 
   pub due_flagged : is_flagged (with_row f id (set_srm link true)) id link ≡ true
-  due_flagged = set_here (set_srm link true) (λ row. refl) (λ row w. or_left _ _ (set_reads row.srm f.up link can.up w.srm_up))
+  due_flagged = row_set (set_srm link true) (λ row. refl) (λ row w. or_left _ _ (set_here row.srm f.up link can.up w.srm_up))
 
   pub marked_flagged : is_flagged (mark_all f id) id link ≡ true
   unfolding mark_all
-  marked_flagged = set_here (λ row. record row { srm = f.up; ssn = no_links f }) (λ row. refl) (λ row w. or_left _ _ can.up)
+  marked_flagged = row_set (λ row. record row { srm = f.up; ssn = no_links f }) (λ row. refl) (λ row w. or_left _ _ can.up)
 
 pub marked_other : (f : Flood) (x id : LspId) (link : ℕ) → same_id x id ≡ false → is_flagged (mark_all f x) id link ≡ is_flagged f id link
 unfolding mark_all

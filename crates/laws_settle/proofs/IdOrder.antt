@@ -1,13 +1,13 @@
 -- The LSP ID after another: no LSP ID lies between the two.
-use Rattle.std.proofs.Common.{◌≡◌, ℕ, zero, suc, ◌+◌, ◌*◌, ◌^◌, ◌/◌, ◌<◌, Bool, true, false, List, [], ◌∷◌, ◌++◌, length, length-append, slice_index, refl, sym, ap, subst, ◌∙◌, arith}
+use Rattle.std.proofs.Common.{◌≡◌, ℕ, zero, suc, ◌+◌, ◌*◌, ◌^◌, ◌/◌, ◌<◌, true, false, List, [], ◌∷◌, ◌++◌, length, length-append, slice_index, refl, sym, ap, subst, ◌∙◌, arith}
 use Rattle.std.specs.List.{AllByRecursion}
 use Rattle.std.specs.Ordering.{MatchOrdering, is_lt, nat_cmp}
 use Rattle.std.specs.declared.cmp.Ordering.{Ordering}
-use Rattle.std.specs.declared.cmp.Ordering.TheVariants.{Less, Equal, Greater}
+use Rattle.std.specs.declared.cmp.Ordering.TheVariants.{Less}
 use Rattle.std.specs.Cmp.{ranks}
 use Rattle.std.specs.Int.{byte_at, bytes_high_first}
 use Rattle.std.proofs.Math.Nat.{add-mul, add_assoc, mod-eq_of_lt, mod-lt, mul_assoc, pow-succ'}
-use Rattle.std.proofs.lemmas.Bool.{false≢true}
+use Rattle.std.proofs.lemmas.Bool.{false_from_ne_true, false≢true}
 use Rattle.byteorder.specs.Endian.{big_bytes, big_from, big_number}
 use Rattle.byteorder.specs.Numbers.{big_from-bytes, big_from-cons, big_from-lt}
 use Rattle.wire_base.specs.declared.addresses.LspId.{LspId}
@@ -21,8 +21,7 @@ use Rattle.lsp_store.proofs.KeyLaws.{key_order}
 
 is_less : (x y : ℕ) (o : Ordering) → MatchOrdering o (x < y) (x ≡ y) (y < x) → is_lt o ≡ true → x < y
 is_less x y Less h q = h
-is_less x y Equal h q = absurd (false≢true q)
-is_less x y Greater h q = absurd (false≢true q)
+is_less x y other h q = absurd (false≢true q)
 
 below_less : (a b : LspId) → IsOctets a → IsOctets b → is_below a b ≡ true → id_key a < id_key b
 below_less a b h k below = is_less (id_key a) (id_key b) (nat_cmp (id_key a) (id_key b)) (ranks (id_key a) (id_key b)) (ap is_lt (sym (key_order a b h k)) ∙ below)
@@ -100,22 +99,18 @@ last_octets = record { system = record { six = refl; each = (omega arith, (omega
 
 -- ---- what no LSP ID is
 
-refused : (b : Bool) → (b ≡ true → ⊥) → b ≡ false
-refused true h = absurd (h refl)
-refused false h = refl
-
 -- none is below the least
 pub none_below : (id : LspId) → IsOctets id → is_below id zero_id ≡ false
-none_below id h = refused (is_below id zero_id) (λ below. let less : id_key id < 0 = below_less id zero_id h zero_octets below in absurd (omega (arith, less)))
+none_below id h = false_from_ne_true (is_below id zero_id) (λ below. let less : id_key id < 0 = below_less id zero_id h zero_octets below in absurd (omega (arith, less)))
 
 -- none is above the greatest
 pub none_above : (id : LspId) → IsOctets id → is_below last_id id ≡ false
-none_above id h = refused (is_below last_id id) (λ below. let less : 18446744073709551615 < id_key id = below_less last_id id last_octets h below in let low : id_key id < 18446744073709551616 = key_low id h in absurd (omega (arith, less, low)))
+none_above id h = false_from_ne_true (is_below last_id id) (λ below. let less : 18446744073709551615 < id_key id = below_less last_id id last_octets h below in let low : id_key id < 18446744073709551616 = key_low id h in absurd (omega (arith, less, low)))
 
 -- and none is between one and the next
 pub none_between : (a id : LspId) → IsOctets a → IsOctets id → is_below a id ≡ true → is_below id (id_after a) ≡ false
 none_between a id h k above =
-    refused (is_below id (id_after a))
+    false_from_ne_true (is_below id (id_after a))
     (λ below.
     let low : id_key id < 18446744073709551616 = key_low id k in
     let more : id_key a < id_key id = below_less a id h k above in

@@ -15,10 +15,10 @@ use Rattle.wire_base.specs.model.Pdu.{Pdu}
 use Rattle.wire_base.specs.model.Tlv.{SummaryFits}
 use Rattle.laws_format.proofs.TlvListLaws.{rows_of_tlvs}
 use Rattle.replay_text.specs.declared.event.Event.{Event}
-use Rattle.replay_text.specs.declared.event.Event.TheVariants.{Inject, Take, Lose, Again, Down, Up, Send, Tick, Restart, Relabel, Leave, Join}
+use Rattle.replay_text.specs.declared.event.Event.TheVariants.{Take, Again, Send}
 use Rattle.domain_model.specs.Faults.{event_fault, up_over}
 use Rattle.domain_model.specs.Moves.{item_lost}
-use Rattle.domain_model.specs.Run.{Direction, directions, may_send, round_events, round_sends, round_takes, world_after}
+use Rattle.domain_model.specs.Run.{Direction, directions, may_send, round_events, round_sends, world_after}
 use Rattle.domain_model.specs.Step.{Happened, arrives, doing, happens, makes, taken_off}
 use Rattle.domain_model.specs.Truth.{EventFits, IsTrueControl, IsTrueEntry, confs_now, head_of}
 use Rattle.domain_model.specs.World.{WorldState, link_between, peer_place, queue_at}
@@ -30,14 +30,14 @@ use Rattle.domain_model.proofs.LaterTruth.{set_there}
 use Rattle.domain_model.proofs.LinkLaws.{peer_is}
 use Rattle.laws_ledger.specs.Runs.{AreAllowed}
 use Rattle.laws_settle.specs.Fresh.{number_at, number_in}
-use Rattle.laws_settle.proofs.IdleCalm.{IsCalm, IsOfRound, calm_step, changed, leaves, number_of, numbers_same, round_traffic, sent_srm, sent_ssn_elsewhere, srm_falls, srm_of, ssn_of, ssn_stays}
+use Rattle.laws_settle.proofs.IdleCalm.{IsCalm, IsOfRound, calm_step, changed, leaves, number_of, numbers_same, round_keeps, round_traffic, sent_srm, sent_ssn_elsewhere, srm_falls, srm_of, ssn_of, ssn_stays}
 use Rattle.laws_settle.proofs.IdlePdus.{IsAckFor, IsLspFor}
-use Rattle.laws_settle.proofs.IdleRound.{IsLspItem, send_event, sends_round}
+use Rattle.laws_settle.proofs.IdleRound.{IsLspItem}
 use Rattle.laws_settle.proofs.IdleSteps.{IsArrival, IsSending}
 use Rattle.laws_settle.proofs.RoundQueues.{HasOne, one_right}
 use Rattle.laws_settle.proofs.RoundReach.{entry_there, is_due, one_found, one_kept, one_mapped, put_out}
 use Rattle.laws_settle.proofs.RoundSteps.{up_here}
-use Rattle.laws_settle.proofs.RoundTurns.{IsAlong, IsHere, IsLink, IsOnWay, allowed_parts, sends_leave, taking_is, takes_reach, world_joined}
+use Rattle.laws_settle.proofs.RoundTurns.{IsAlong, IsHere, IsLink, IsOnWay, in_round, send_event, sends_are, sends_leave, taking_is, takes_reach}
 use Rattle.laws_settle.proofs.RoundUps.{still_step}
 
 abbrev pub IsAckItem : LspId → Item → Type 0
@@ -45,32 +45,12 @@ IsAckItem id (ControlItem p) = IsAckFor id p
 IsAckItem id (PacketItem x) = ⊥
 
 abbrev sender : Event → ℕ
-sender (Inject a sd bsl ks ttl entropy payload) = 0
-sender (Take a b i) = 0
-sender (Lose a b i) = 0
-sender (Again a b i) = 0
-sender (Down a b) = 0
-sender (Up a b) = 0
 sender (Send a b) = a
-sender (Tick a) = 0
-sender (Restart a) = 0
-sender (Relabel a sd bsl label) = 0
-sender (Leave a sd) = 0
-sender (Join a sd) = 0
+sender other = 0
 
 abbrev receiver : Event → ℕ
-receiver (Inject a sd bsl ks ttl entropy payload) = 0
-receiver (Take a b i) = 0
-receiver (Lose a b i) = 0
-receiver (Again a b i) = 0
-receiver (Down a b) = 0
-receiver (Up a b) = 0
 receiver (Send a b) = b
-receiver (Tick a) = 0
-receiver (Restart a) = 0
-receiver (Relabel a sd bsl label) = 0
-receiver (Leave a sd) = 0
-receiver (Join a sd) = 0
+receiver other = 0
 
 -- a row is in one of the blocks
 one_cut : {X : Type 0} (P : X → Type 0) (n : ℕ) (xs : List X) → HasOne P xs → HasOne P (take n xs) ⊎ HasOne P (drop n xs)
@@ -116,10 +96,6 @@ module _ (d : DomainConf) (x y link back : ℕ) (joined : IsLink d x y link back
   ready_step u e of fits ok r =
       let still = still_step u e (round_traffic e of) in
       record { calm = calm_step u r.calm e of fits ok; domain = still.domain ∙ r.domain; near = still.up x link ∙ r.near; far = still.up y back ∙ r.far }
-
-  ready_on : (es : List Event) (u : WorldState) → AllByRecursion IsOfRound es → AreAllowed u es → Ready u → Ready (world_after u es)
-  ready_on [] u of allowed r = r
-  ready_on (e ∷ es) u of allowed r = ready_on es (happens u e).world of.1 allowed.2 (ready_step u e of.0 allowed.0 allowed.1 r)
 
   toward_here : (u : WorldState) → Ready u → link_between u.domain.routers x y ≡ Some link
   toward_here u r = ap (λ (c : DomainConf). link_between c.routers x y) r.domain ∙ joined.toward
@@ -176,22 +152,17 @@ module _ (d : DomainConf) (x y link back : ℕ) (joined : IsLink d x y link back
       here u r = let h = up_here (slice_get u.routers y) back r.far in record { truth = r.calm.run.truth; domain = r.domain; router = h.router; there = h.is }
 
       round_gets : (w : WorldState) → AreAllowed w (round_events w) → Ready w → Before w → HasOne (IsAlong x y link) (directions w.domain.routers) → HasOne (IsAlong x y link) (filter (may_send w) (directions w.domain.routers)) → Got (world_after w (round_events w))
-      unfolding round_events
       round_gets w allowed r before along sending =
+          in_round Got w allowed
+          (λ sends takes.
           let ds = directions w.domain.routers in
-          let after = world_after w (round_sends w) in
-          let parts = allowed_parts (round_sends w) (round_takes after ds) w allowed in
-          let o = sends_put (filter (may_send w) ds) w parts.0 r before sending in
-          let next = ready_on (round_sends w) w (sends_round (filter (may_send w) ds)) parts.0 r in
-          subst Got (sym (world_joined (round_sends w) (round_takes after ds) w))
-          (takes_reach d x y link back joined Z Ready Got (λ u a b i fits ok k. ready_step u (Take a b i) tt fits ok k) here stays makes_ ds o.0 after parts.1 next (inr o.1) along)
+          let o = sends_put (filter (may_send w) ds) w sends r before sending in
+          let next = round_keeps Ready ready_step (round_sends w) w (sends_are IsOfRound (λ a b. tt) (filter (may_send w) ds)) sends r in
+          takes_reach d x y link back joined Z Ready Got (λ u a b i fits ok k. ready_step u (Take a b i) tt fits ok k) here stays makes_ ds o.0 (world_after w (round_sends w)) takes next (inr o.1) along)
 
 -- ---- an LSP is acknowledged
 
 module _ (d : DomainConf) (x y link back : ℕ) (joined : IsLink d x y link back) (id : LspId) where
-  pub toward_at : (u : WorldState) → IsReady d x y link back u → link_between u.domain.routers x y ≡ Some link
-  toward_at u r = ap (λ (c : DomainConf). link_between c.routers x y) r.domain ∙ joined.toward
-
   -- what x has of flags toward y stays where it sends elsewhere, or others send
   srm_sent : (u : WorldState) (a b : ℕ) → IsCalm u → srm_of (slice_get u.routers x) id link ≡ true → srm_of (slice_get (happens u (Send a b)).world.routers x) id link ≡ true
   srm_sent u a b calm = changed u (Send a b) tt (λ z o p. srm_of o id link ≡ true → srm_of p id link ≡ true) (λ z o h. h) (λ a b i is rs arr h. cc) (λ a b is rs s h. sent_srm s.router s.link id link ∙ h) x
@@ -210,7 +181,7 @@ module _ (d : DomainConf) (x y link back : ℕ) (joined : IsLink d x y link back
       to : (f t : ℕ) (rs : List Control) (s : IsSending u f t rs) → f ≡ x → s.link ≡ link → t ≡ y
       to f t rs s from over =
           let systems = r.calm.run.truth.valid.consistent.systems in
-          sym (peer_is u.domain.routers systems f t s.link s.toward) ∙ ap (λ (n : ℕ). peer_place u.domain.routers n s.link) from ∙ ap (peer_place u.domain.routers x) over ∙ peer_is u.domain.routers systems x y link (toward_at u r)
+          sym (peer_is u.domain.routers systems f t s.link s.toward) ∙ ap (λ (n : ℕ). peer_place u.domain.routers n s.link) from ∙ ap (peer_place u.domain.routers x) over ∙ peer_is u.domain.routers systems x y link (toward_here d x y link back joined u r)
 
   -- an LSP with SRM is there
   pub marked_entry : (u : WorldState) → IsCalm u → (c : Control) → slice_get u.routers x ≡ Some c → srm c.flood id link ≡ true → (e : Entry) × (entry_in c.entries id ≡ Some e)
@@ -228,7 +199,7 @@ module _ (d : DomainConf) (x y link back : ℕ) (joined : IsLink d x y link back
       let c = h.router in
       let marked : srm c.flood id link ≡ true = ap (λ (o : Option Control). srm_of o id link) (sym h.is) ∙ set in
       let e = marked_entry u r.calm c h.is marked in
-      put_out u x y link c (λ (p : Pdu). p ≡ lsp_of e.0) (IsLspItem id) r.calm.run.truth (toward_at u r) h.is (λ p same. subst (IsLspFor id) (sym same) (same_id_is e.0.id id (found_id c.entries id e.0 e.1))) (is_due id c link e.0 e.1 marked)
+      put_out u x y link c (λ (p : Pdu). p ≡ lsp_of e.0) (IsLspItem id) r.calm.run.truth (toward_here d x y link back joined u r) h.is (λ p same. subst (IsLspFor id) (sym same) (same_id_is e.0.id id (found_id c.entries id e.0 e.1))) (is_due id c link e.0 e.1 marked)
 
   lsp_makes : (u : WorldState) (z : Item) → IsReady d x y link back u → IsLspItem id z → slice_get (queue_at u.flights x link) 0 ≡ Some z → ssn_of (slice_get (happens u (Take x y 0)).world.routers y) id back ≡ true
   unfolding arrival
@@ -272,7 +243,7 @@ module _ (d : DomainConf) (x y link back : ℕ) (joined : IsLink d x y link back
       let c = h.router in
       let set : ssn c.flood id link ≡ true = ap (λ (o : Option Control). ssn_of o id link) (sym h.is) ∙ asking.set in
       let some : 0 < number_in c.entries id = (let n = number_of u x c h.is id in let m = asking.some in omega (arith, n, m)) in
-      put_out u x y link c (IsAckFor id) (IsAckItem id) r.calm.run.truth (toward_at u r) h.is (λ p is. is) (ack_due u r.calm c h.is set some)
+      put_out u x y link c (IsAckFor id) (IsAckItem id) r.calm.run.truth (toward_here d x y link back joined u r) h.is (λ p is. is) (ack_due u r.calm c h.is set some)
 
   ack_makes : (u : WorldState) (z : Item) → IsReady d x y link back u → IsAckItem id z → slice_get (queue_at u.flights x link) 0 ≡ Some z → srm_of (slice_get (happens u (Take x y 0)).world.routers y) id back ≡ false
   unfolding arrival

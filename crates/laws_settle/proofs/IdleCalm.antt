@@ -10,12 +10,12 @@ use Rattle.wire_base.specs.model.Control.{Control, entry_in, seq_of, srm, ssn, s
 use Rattle.wire_base.specs.model.Flooding.{clear_ssn, due_csnps, due_lsps, due_psnps, lsp_of, most_listed, on_pdu, psnp_of, send, send_of, sent_on}
 use Rattle.wire_base.specs.model.Item.{Item, ControlItem, PacketItem}
 use Rattle.wire_base.specs.model.Lists.{blocks}
-use Rattle.wire_base.specs.model.Pdu.{Head, Pdu, LspPdu, CsnpPdu, PsnpPdu, HelloPdu, OtherPdu}
+use Rattle.wire_base.specs.model.Pdu.{Head, Pdu, LspPdu, PsnpPdu}
 use Rattle.wire_base.specs.model.Tlv.{rows_of}
-use Rattle.laws_router.specs.State.{IsRouter}
 use Rattle.replay_text.specs.declared.event.Event.{Event}
-use Rattle.replay_text.specs.declared.event.Event.TheVariants.{Inject, Take, Lose, Again, Down, Up, Send, Tick, Restart, Relabel, Leave, Join}
+use Rattle.replay_text.specs.declared.event.Event.TheVariants.{Take, Send}
 use Rattle.domain_model.specs.Faults.{event_fault, is_up_toward, up_over}
+use Rattle.domain_model.specs.Run.{world_after}
 use Rattle.domain_model.specs.Step.{happens}
 use Rattle.domain_model.specs.Truth.{EventFits, IsTrueControl, IsTrueEntry, IsTrueItem, confs_now, head_of}
 use Rattle.domain_model.specs.World.{WorldState, link_between, peer_place, queue_at}
@@ -24,12 +24,14 @@ use Rattle.domain_model.proofs.EachLaws.{each_both, each_from, each_got, each_jo
 use Rattle.domain_model.proofs.FlagLaws.{each_is_found}
 use Rattle.domain_model.proofs.FloodTruth.{row_true}
 use Rattle.domain_model.proofs.QueueLaws.{AllQueues, set_read}
+use Rattle.laws_ledger.specs.Runs.{AreAllowed}
 use Rattle.laws_quiet.specs.Quiet.{lsdb_of}
 use Rattle.laws_settle.specs.Idle.{IsPacket}
 use Rattle.laws_settle.specs.Fresh.{AreOfJournal, HasWholeLinks, IsItemOfJournal, number_at, number_in}
 use Rattle.laws_settle.specs.Gentle.{IsTraffic}
+use Rattle.laws_settle.proofs.Exchange.{router_is}
 use Rattle.laws_settle.proofs.IdlePdus.{IdleLeaves, IsEvenPdu, IsLspFor, pdu_leaves}
-use Rattle.laws_settle.proofs.IdleSteps.{IsArrival, IsSending, send_flights, send_is, take_flights, take_is}
+use Rattle.laws_settle.proofs.IdleSteps.{IsArrival, IsSending, each_given, send_flights, send_is, take_flights, take_is}
 use Rattle.laws_settle.proofs.JournalSteps.{lsp_some}
 use Rattle.laws_settle.proofs.OwedSteps.{got_set, settling_step}
 use Rattle.laws_settle.proofs.RestLaws.{IsLevel}
@@ -43,32 +45,14 @@ use Rattle.laws_settle.proofs.SentPdus.{EntrySays, PduSays, lsps_say, psnps_say}
 
 -- a frame is sent or received
 abbrev pub IsOfRound : Event → Type 0
-IsOfRound (Inject a sd bsl ks ttl entropy payload) = ⊥
 IsOfRound (Take a b i) = Unit {0}
-IsOfRound (Lose a b i) = ⊥
-IsOfRound (Again a b i) = ⊥
-IsOfRound (Down a b) = ⊥
-IsOfRound (Up a b) = ⊥
 IsOfRound (Send a b) = Unit {0}
-IsOfRound (Tick a) = ⊥
-IsOfRound (Restart a) = ⊥
-IsOfRound (Relabel a sd bsl label) = ⊥
-IsOfRound (Leave a sd) = ⊥
-IsOfRound (Join a sd) = ⊥
+IsOfRound other = ⊥
 
 pub round_traffic : (e : Event) → IsOfRound e → IsTraffic e
-round_traffic (Inject a sd bsl ks ttl entropy payload) of = tt
 round_traffic (Take a b i) of = tt
-round_traffic (Lose a b i) of = tt
-round_traffic (Again a b i) of = tt
-round_traffic (Down a b) of = absurd of
-round_traffic (Up a b) of = absurd of
 round_traffic (Send a b) of = tt
-round_traffic (Tick a) of = absurd of
-round_traffic (Restart a) of = absurd of
-round_traffic (Relabel a sd bsl label) of = absurd of
-round_traffic (Leave a sd) of = absurd of
-round_traffic (Join a sd) of = absurd of
+round_traffic other of = absurd of
 
 abbrev pub IsEvenItem : (LspId → ℕ) → Item → Type 0
 IsEvenItem most (ControlItem p) = IsEvenPdu most p
@@ -90,10 +74,8 @@ pub record IsCalm (w : WorldState) : Type 0 where
 
 even_pdu : (most more : LspId → ℕ) → ((id : LspId) → most id ≡ more id) → (p : Pdu) → IsEvenPdu most p → IsEvenPdu more p
 even_pdu most more same (LspPdu h tlvs) even = even ∙ same h.id
-even_pdu most more same (CsnpPdu source start last tlvs) even = even
 even_pdu most more same (PsnpPdu source tlvs) even = each_weaker (λ (s : Summary). s.seq ≡ most s.id) (λ (s : Summary). s.seq ≡ more s.id) (λ s h. h ∙ same s.id) (rows_of tlvs) even
-even_pdu most more same HelloPdu even = even
-even_pdu most more same (OtherPdu number) even = even
+even_pdu most more same other even = even
 
 even_item : (most more : LspId → ℕ) → ((id : LspId) → most id ≡ more id) → (x : Item) → IsEvenItem most x → IsEvenItem more x
 even_item most more same (ControlItem p) even = even_pdu most more same p even
@@ -110,22 +92,15 @@ number_of w a c at id = ap (λ (o : Option Control). number_in (lsdb_of o) id) a
 
 abbrev IsPlain : Pdu → Type 0
 IsPlain (LspPdu h tlvs) = Unit {0}
-IsPlain (CsnpPdu source start last tlvs) = ⊥
 IsPlain (PsnpPdu source tlvs) = Unit {0}
-IsPlain HelloPdu = ⊥
-IsPlain (OtherPdu number) = ⊥
+IsPlain other = ⊥
 
 even_said : (most : LspId → ℕ) (p : Pdu) → PduSays (λ h tlvs. h.seq ≡ most h.id) (λ s. s.seq ≡ most s.id) p × IsPlain p → IsEvenPdu most p
 even_said most (LspPdu h tlvs) said = said.0
-even_said most (CsnpPdu source start last tlvs) said = said.1
 even_said most (PsnpPdu source tlvs) said = said.0
-even_said most HelloPdu said = said.1
-even_said most (OtherPdu number) said = said.1
+even_said most other said = said.1
 
 module _ (w : WorldState) (calm : IsCalm w) where
-  router_at : (a : ℕ) (c : Control) → slice_get w.routers a ≡ Some c → IsRouter c
-  router_at a c at = (each_got (IsTrueControl (confs_now w)) w.routers a c calm.run.truth.controls at).kept
-
   entry_says : (a : ℕ) (c : Control) → slice_get w.routers a ≡ Some c → AllByRecursion (EntrySays (λ h tlvs. h.seq ≡ number_at w a h.id) (λ s. s.seq ≡ number_at w a s.id)) c.entries
   entry_says a c at =
       let k = each_got (IsTrueControl (confs_now w)) w.routers a c calm.run.truth.controls at in
@@ -164,7 +139,7 @@ module _ (w : WorldState) (calm : IsCalm w) where
       let says = each_got (IsTrueItem (confs_now w) w.injections (peer_place w.domain.routers a arr.link)) (queue_at w.flights a arr.link) i (ControlItem arr.pdu) (calm.run.truth.items a arr.link) arr.there in
       let told = each_got (IsItemOfJournal fresh.journal) (queue_at w.flights a arr.link) i (ControlItem arr.pdu) (fresh.journaled.items a arr.link) arr.there in
       let even = each_got (IsEvenItem (number_at w a)) (queue_at w.flights a arr.link) i (ControlItem arr.pdu) (calm.even a b arr.link arr.toward) arr.there in
-      pdu_leaves fresh.journal c (router_at b c arr.at) (each_got (λ x. AreOfJournal fresh.journal x.entries) w.routers b c fresh.journaled.entries arr.at) arr.back arr.up arr.pdu told (lsp_some (confs_now w) arr.pdu says)
+      pdu_leaves fresh.journal c (router_is w calm.run.truth b c arr.at) (each_got (λ x. AreOfJournal fresh.journal x.entries) w.routers b c fresh.journaled.entries arr.at) arr.back arr.up arr.pdu told (lsp_some (confs_now w) arr.pdu says)
       (even_pdu (number_at w a) (number_in c.entries) (λ id. (let n = number_of w b c arr.at id in let l = calm.level a b id far near in let m = calm.level b a id near far in omega (arith, n, l, m))) arr.pdu even)
 
   pub numbers_same : (e : Event) → IsTraffic e → (a : ℕ) (id : LspId) → number_at (happens w e).world a id ≡ number_at w a id
@@ -227,10 +202,11 @@ at_set rs a c d qs at is Q here same z = elim (got_set rs a z d c at) [
       subst (λ (o : Option Control). Q z o (slice_get qs z)) (sym (ap (slice_get rs) (sym there.0) ∙ at)) (subst (Q z (Some c)) (sym (ap (λ (l : List Control). slice_get l z) is ∙ there.1)) moved)
 ]
 
--- what holds of each under a premise
-each_given : {X : Type 0} (G : ℕ → Type 0) (P : X → Type 0) (xs : List X) → ((b : ℕ) → G b → AllByRecursion P xs) → AllByRecursion (λ x. (b : ℕ) → G b → P x) xs
-each_given G P [] all = tt
-each_given G P (x ∷ xs) all = (λ b g. (all b g).0, each_given G P xs (λ b g. (all b g).1))
+-- what each event of a round preserves holds after all of them
+pub round_keeps : (P : WorldState → Type 0) → ((w : WorldState) (e : Event) → IsOfRound e → EventFits (length w.domain.routers) e → event_fault w e ≡ None → P w → P (happens w e).world)
+    → (es : List Event) (w : WorldState) → AllByRecursion IsOfRound es → AreAllowed w es → P w → P (world_after w es)
+round_keeps P step [] w of allowed p = p
+round_keeps P step (e ∷ es) w of allowed p = round_keeps P step es (happens w e).world of.1 allowed.2 (step w e of.0 allowed.0 allowed.1 p)
 
 module _ (w : WorldState) where
   -- what holds between routers before and after: where nothing changes, where a PDU arrives, and where one sends
@@ -238,24 +214,15 @@ module _ (w : WorldState) where
       → ((a b i : ℕ) → e ≡ Take a b i → (rs : List Control) (arr : IsArrival w a b i rs) → Q b (Some arr.router) (Some (on_pdu arr.router arr.back arr.pdu).control))
       → ((a b : ℕ) → e ≡ Send a b → (rs : List Control) (s : IsSending w a b rs) → Q a (Some s.router) (Some (send s.router s.link).control))
       → (z : ℕ) → Q z (slice_get w.routers z) (slice_get (happens w e).world.routers z)
-  changed (Inject a sd bsl ks ttl entropy payload) of Q same arrived sent z = absurd of
   changed (Take a b i) of Q same arrived sent z = elim (take_is w a b i) [
     | inl rs ↦ subst (λ (l : List Control). Q z (slice_get w.routers z) (slice_get l z)) (sym rs) (same z (slice_get w.routers z))
     | inr arr ↦ at_set w.routers b arr.router (on_pdu arr.router arr.back arr.pdu).control (happens w (Take a b i)).world.routers arr.at arr.routers Q (arrived a b i refl (happens w (Take a b i)).world.routers arr) same z
   ]
-  changed (Lose a b i) of Q same arrived sent z = absurd of
-  changed (Again a b i) of Q same arrived sent z = absurd of
-  changed (Down a b) of Q same arrived sent z = absurd of
-  changed (Up a b) of Q same arrived sent z = absurd of
   changed (Send a b) of Q same arrived sent z = elim (send_is w a b) [
     | inl rs ↦ subst (λ (l : List Control). Q z (slice_get w.routers z) (slice_get l z)) (sym rs) (same z (slice_get w.routers z))
     | inr s ↦ at_set w.routers a s.router (send s.router s.link).control (happens w (Send a b)).world.routers s.at s.routers Q (sent a b refl (happens w (Send a b)).world.routers s) same z
   ]
-  changed (Tick a) of Q same arrived sent z = absurd of
-  changed (Restart a) of Q same arrived sent z = absurd of
-  changed (Relabel a sd bsl label) of Q same arrived sent z = absurd of
-  changed (Leave a sd) of Q same arrived sent z = absurd of
-  changed (Join a sd) of Q same arrived sent z = absurd of
+  changed other of Q same arrived sent z = absurd of
 
 module _ (w : WorldState) (calm : IsCalm w) where
   -- SRM falls
@@ -298,18 +265,9 @@ module _ (w : WorldState) (calm : IsCalm w) where
 
   even_next : (e : Event) → IsOfRound e → AllQueues EvenAt (happens w e).world.flights
   unfolding EvenAt
-  even_next (Inject a sd bsl ks ttl entropy payload) of = absurd of
   even_next (Take a b i) of = take_flights EvenAt (λ a l x h b joined. even_packet (number_at w a) x h) w calm.run.fresh even_there a b i
-  even_next (Lose a b i) of = absurd of
-  even_next (Again a b i) of = absurd of
-  even_next (Down a b) of = absurd of
-  even_next (Up a b) of = absurd of
   even_next (Send a b) of = send_flights EvenAt w even_there a b (λ c link at joined. each_weaker (IsEvenPdu (number_at w a)) (λ p. EvenAt a link (ControlItem p)) (λ p h y toward. h) (send_of c link) (sent_even w calm a b c link at joined))
-  even_next (Tick a) of = absurd of
-  even_next (Restart a) of = absurd of
-  even_next (Relabel a sd bsl label) of = absurd of
-  even_next (Leave a sd) of = absurd of
-  even_next (Join a sd) of = absurd of
+  even_next other of = absurd of
 
   pub calm_step : (e : Event) → IsOfRound e → EventFits (length w.domain.routers) e → event_fault w e ≡ None → IsCalm (happens w e).world
   unfolding EvenAt

@@ -1,5 +1,5 @@
 -- After a round no PDU is in flight.
-use Rattle.std.proofs.Common.{◌≡◌, inl, inr, ℕ, zero, suc, Bool, true, false, if◌then◌else◌, List, [], ◌∷◌, ◌++◌, drop, length, map, replicate, slice_get, Option, Some, None, refl, sym, ap, subst, ◌∙◌}
+use Rattle.std.proofs.Common.{◌≡◌, inl, inr, ℕ, zero, suc, List, [], ◌∷◌, ◌++◌, drop, length, map, replicate, slice_get, Option, Some, None, refl, sym, ap, subst, ◌∙◌}
 use Rattle.std.specs.List.{AllByRecursion, remove}
 use Rattle.wire_base.specs.declared.cause.Cause.TheVariants as cause
 use Rattle.wire_base.specs.declared.conf.RouterConf.{RouterConf}
@@ -15,16 +15,17 @@ use Rattle.replay_text.specs.declared.event.Event.TheVariants.{Take}
 use Rattle.domain_model.specs.Faults.{event_fault}
 use Rattle.domain_model.specs.Moves.{Sending, item_lost, over_end, packet_taken}
 use Rattle.domain_model.specs.Run.{Direction, round_takes, taken_now, world_after}
-use Rattle.domain_model.specs.Step.{Happened, arrives, comes, doing, happens, makes, push_all, push_sending, same_world, taken_off, takes, takes_over}
+use Rattle.domain_model.specs.Step.{Happened, comes, doing, happens, makes, push_all, push_sending, same_world, taken_off, takes, takes_over}
 use Rattle.domain_model.specs.Truth.{EventFits}
-use Rattle.domain_model.specs.World.{WorldState, frames_between, is_up, link_between, queue_at, queue_over}
-use Rattle.domain_model.proofs.EachLaws.{each_got, each_joined}
+use Rattle.domain_model.specs.World.{WorldState, frames_between, link_between, queue_at, queue_over}
+use Rattle.domain_model.proofs.EachLaws.{each_got, each_joined, each_weaker}
 use Rattle.domain_model.proofs.LinkLaws.{join_of}
 use Rattle.laws_ledger.specs.Runs.{AreAllowed}
 use Rattle.laws_settle.specs.Idle.{IsPacket}
 use Rattle.laws_settle.specs.Fresh.{IsItemOfJournal}
 use Rattle.laws_settle.proofs.ControlOwes.{pdu_silent}
-use Rattle.laws_settle.proofs.IdleSteps.{take_flights}
+use Rattle.laws_settle.proofs.EventCases.{after_coming}
+use Rattle.laws_settle.proofs.IdleSteps.{each_given, take_flights}
 use Rattle.laws_settle.proofs.PacketSends.{taken_packets}
 use Rattle.laws_settle.proofs.RoundQueues.{HasOne, queue_here, queue_read}
 use Rattle.laws_settle.proofs.RoundStays.{gentle_of}
@@ -40,31 +41,28 @@ record PushesPackets (before after : List (List (List Item))) : Type 0 where
   packets : AllByRecursion (λ (s : Sending). IsPacket s.item) sendings
 
 came_pushes : (v : WorldState) (b back : ℕ) (c : Control) (x : Item) (journal : LspId → ℕ → Entry) → IsItemOfJournal journal x → PushesPackets v.flights (comes v b back c x).world.flights
-came_pushes v b back c x journal told = by (is_up c back)
+came_pushes v b back c x journal told =
+    after_coming v (λ n. PushesPackets v.flights n.world.flights) b back c x
+    (λ p is up.
+    let silent = pdu_silent c back p journal (subst (IsItemOfJournal journal) is told) in
+    record { sendings = []; is = ap (λ (ps : List Pdu). push_all v.flights (map (λ q. over_end v.domain.routers b back (ControlItem q)) ps)) silent; packets = tt })
+    (λ y. record { sendings = (packet_taken v.domain.routers b c y y.outer).sent; is = refl; packets = taken_packets IsPacket (λ z. tt) v.domain.routers b c y }) (lost x)
   where
     lost : (y : Item) → PushesPackets v.flights (makes v (item_lost b cause.Link y)).world.flights
     lost (ControlItem p) = record { sendings = []; is = refl; packets = tt }
     lost (PacketItem y) = record { sendings = []; is = refl; packets = tt }
 
-    arrived : (y : Item) → IsItemOfJournal journal y → PushesPackets v.flights (arrives v b back c y).world.flights
-    arrived (ControlItem p) told = record { sendings = []; is = ap (λ (ps : List Pdu). push_all v.flights (map (λ q. over_end v.domain.routers b back (ControlItem q)) ps)) (pdu_silent c back p journal told); packets = tt }
-    arrived (PacketItem y) told = record { sendings = (packet_taken v.domain.routers b c y y.outer).sent; is = refl; packets = taken_packets IsPacket (λ z. tt) v.domain.routers b c y }
-
-    by : (u : Bool) → PushesPackets v.flights (if u then arrives v b back c x else makes v (item_lost b cause.Link x)).world.flights
-    by true = arrived x told
-    by false = lost x
-
 -- behind the first m frames there are packets alone
 abbrev pub Tail : ℕ → List Item → Type 0
 Tail m queue = AllByRecursion IsPacket (drop m queue)
 
+none_behind : (m : ℕ) → Tail m []
+none_behind zero = tt
+none_behind (suc m) = tt
+
 tail_joined : (m : ℕ) (queue : List Item) (z : Item) → Tail m queue → IsPacket z → Tail m (queue ++ z ∷ [])
 tail_joined zero queue z all h = each_joined IsPacket queue (z ∷ []) all (h, tt)
-tail_joined (suc m) [] z all h = none m
-  where
-    none : (m : ℕ) → Tail m []
-    none zero = tt
-    none (suc m) = tt
+tail_joined (suc m) [] z all h = none_behind m
 tail_joined (suc m) (y ∷ ys) z all h = tail_joined m ys z all h
 
 tail_pushed : (m x link : ℕ) (sendings : List Sending) (flights : List (List (List Item))) → AllByRecursion (λ (s : Sending). IsPacket s.item) sendings → Tail m (queue_at flights x link) → Tail m (queue_at (push_all flights sendings) x link)
@@ -117,17 +115,13 @@ module _ (d : DomainConf) (x y link back : ℕ) (joined : IsLink d x y link back
       router : (c : Control) × (slice_get u.routers y ≡ Some c)
       router = let j = join_of u.domain.routers y x back backward in become_get u.domain.routers u.routers y j.near r.run.truth.become j.near_at
 
-      none : (m : ℕ) → Tail m []
-      none zero = tt
-      none (suc m) = tt
-
       by : (queue : List Item) → queue_at u.flights x link ≡ queue → Tail (suc m) queue → Tail m (queue_at (doing u (Take x y 0)).world.flights x link)
       by [] q tail =
           let done : doing u (Take x y 0) ≡ same_world u =
           ap (λ (o : Option ℕ). takes_over u x y 0 o (link_between u.domain.routers y x)) toward
           ∙ ap (takes_over u x y 0 (Some link)) backward
           ∙ ap (λ (l : List Item). takes u x link y back 0 (slice_get l 0) (slice_get u.routers y)) q in
-          subst (λ (h : Happened). Tail m (queue_at h.world.flights x link)) (sym done) (subst (Tail m) (sym q) (none m))
+          subst (λ (h : Happened). Tail m (queue_at h.world.flights x link)) (sym done) (subst (Tail m) (sym q) (none_behind m))
       by (z ∷ zs) q tail =
           let there : slice_get (queue_at u.flights x link) 0 ≡ Some z = ap (λ (l : List Item). slice_get l 0) q in
           let done = taking_is x y link back u toward backward z router.0 there router.1 in
@@ -144,18 +138,12 @@ module _ (d : DomainConf) (x y link back : ℕ) (joined : IsLink d x y link back
 
   -- frames of any direction bring no PDU there
   stays_left : (u : WorldState) (a b i : ℕ) → IsRunning u → Left 0 u → Left 0 (happens u (Take a b i)).world
-  stays_left u a b i r left = here (queue_at (happens u (Take a b i)).world.flights x link) (take_flights (λ p l z. p ≡ x → l ≡ link → IsPacket z) (λ p l z h from over. h) u r.run.fresh (λ p l. there p l) a b i x link)
+  stays_left u a b i r left =
+      each_weaker (λ z. x ≡ x → link ≡ link → IsPacket z) IsPacket (λ z h. h refl refl) (queue_at (happens u (Take a b i)).world.flights x link)
+      (take_flights (λ p l z. p ≡ x → l ≡ link → IsPacket z) (λ p l z h from over. h) u r.run.fresh there a b i x link)
     where
       there : (p l : ℕ) → AllByRecursion (λ z. p ≡ x → l ≡ link → IsPacket z) (queue_at u.flights p l)
-      there p l = given (queue_at u.flights p l) (λ from over. subst (λ (n : ℕ). AllByRecursion IsPacket (queue_at u.flights n l)) (sym from) (subst (λ (n : ℕ). AllByRecursion IsPacket (queue_at u.flights x n)) (sym over) left))
-        where
-          given : (queue : List Item) → (p ≡ x → l ≡ link → AllByRecursion IsPacket queue) → AllByRecursion (λ z. p ≡ x → l ≡ link → IsPacket z) queue
-          given [] all = tt
-          given (z ∷ zs) all = (λ from over. (all from over).0, given zs (λ from over. (all from over).1))
-
-      here : (queue : List Item) → AllByRecursion (λ z. x ≡ x → link ≡ link → IsPacket z) queue → AllByRecursion IsPacket queue
-      here [] all = tt
-      here (z ∷ zs) all = (all.0 refl refl, here zs all.1)
+      there p l = each_given (λ (from : p ≡ x). l ≡ link) IsPacket (queue_at u.flights p l) (λ from over. subst (λ (n : ℕ). AllByRecursion IsPacket (queue_at u.flights n l)) (sym from) (subst (λ (n : ℕ). AllByRecursion IsPacket (queue_at u.flights x n)) (sym over) left))
 
   turn_left : (k a b : ℕ) (u : WorldState) → AreAllowed u (replicate k (Take a b 0)) → IsRunning u → Left 0 u → Left 0 (world_after u (replicate k (Take a b 0)))
   turn_left zero a b u allowed r left = left

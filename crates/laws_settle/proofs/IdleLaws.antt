@@ -1,14 +1,13 @@
 -- Four rounds bring a domain whose neighbors have the same sequence numbers to rest.
 use Rattle.std.proofs.Common.{◌≡◌, inl, inr, ℕ, zero, suc, ◌<◌, Bool, true, false, if◌then◌else◌, List, [], ◌∷◌, map, filter, slice_get, slice_index_or, Option, Some, None, refl, sym, ap, subst, ◌∙◌, arith}
 use Rattle.std.specs.List.{AllByRecursion}
-use Rattle.std.proofs.lemmas.Bool.{false≢true}
+use Rattle.std.proofs.lemmas.Bool.{false_from_ne_true, false≢true}
 use Rattle.wire_base.specs.declared.addresses.LspId.{LspId}
 use Rattle.wire_base.specs.model.Configuration.{DomainConf}
 use Rattle.wire_base.specs.model.Control.{Control, FlagRow, IsFlagRow, entry_in, same_id, seq_of, srm_in, ssn_in}
 use Rattle.wire_base.specs.model.Flooding.{send, zero_id}
 use Rattle.replay_text.specs.declared.event.Event.{Event}
 use Rattle.replay_text.specs.declared.event.Event.TheVariants.{Send}
-use Rattle.laws_router.specs.State.{IsRouter}
 use Rattle.domain_model.specs.Faults.{is_up_toward, up_over}
 use Rattle.domain_model.specs.Run.{Direction, directions, may_send, round_events, round_sends, round_takes, settle_events, world_after}
 use Rattle.domain_model.specs.Step.{happens, sends}
@@ -26,12 +25,13 @@ use Rattle.laws_settle.proofs.IdleArrive.{IsReady, round_acknowledges, round_end
 use Rattle.laws_settle.proofs.IdleCalm.{IsCalm, IsEvenItem, IsOfRound, calm_step, changed, due_of, due_off, even_packet, number_of, sent_due, srm_falls, srm_of, ssn_of}
 use Rattle.laws_settle.proofs.IdleDue.{pdu_due, within_off}
 use Rattle.laws_settle.proofs.IdleEmpty.{takes_empty}
-use Rattle.laws_settle.proofs.IdleRound.{IsLspItem, no_packet, round_asks, send_event, sends_round, takes_round}
+use Rattle.laws_settle.proofs.Exchange.{router_is}
+use Rattle.laws_settle.proofs.IdleRound.{IsLspItem, no_packet, round_asks}
 use Rattle.laws_settle.proofs.RestLaws.{IsLevel}
 use Rattle.laws_settle.proofs.RoundLaws.{IsOnward, level_on, onward, whole_after}
 use Rattle.laws_settle.proofs.RoundQueues.{HasOne}
 use Rattle.laws_settle.proofs.RoundReach.{along_all, events_of_round, one_kept}
-use Rattle.laws_settle.proofs.RoundTurns.{IsAlong, IsLink, allowed_parts, world_joined}
+use Rattle.laws_settle.proofs.RoundTurns.{IsAlong, IsLink, allowed_parts, in_round, send_event, sends_are, takes_are, world_joined}
 use Rattle.laws_settle.proofs.RoundUps.{IsStill, still_step}
 use Rattle.laws_settle.proofs.RowSrm.{set_off}
 use Rattle.laws_settle.proofs.RunLaws.{IsRun, run_step}
@@ -50,7 +50,7 @@ module _ (w : WorldState) (t : IsTruthful w) (a b link : ℕ) (joined : link_bet
 
 round_of : (w : WorldState) → AllByRecursion IsOfRound (round_events w)
 unfolding round_events
-round_of w = each_joined IsOfRound (round_sends w) (round_takes (world_after w (round_sends w)) (directions w.domain.routers)) (sends_round (filter (may_send w) (directions w.domain.routers))) (takes_round (directions w.domain.routers) (world_after w (round_sends w)))
+round_of w = each_joined IsOfRound (round_sends w) (round_takes (world_after w (round_sends w)) (directions w.domain.routers)) (sends_are IsOfRound (λ a b. tt) (filter (may_send w) (directions w.domain.routers))) (takes_are IsOfRound (λ a b i. tt) (directions w.domain.routers) (world_after w (round_sends w)))
 
 -- ---- CSNPs that are due
 
@@ -79,7 +79,7 @@ sends_none : (d : DomainConf) (a b link : ℕ) → link_between d.routers a b �
 sends_none d a b link joined [] u allowed run domain h = absurd h
 sends_none d a b link joined (s ∷ ds) u allowed run domain (inl along) =
     let same : Send s.from s.to ≡ Send a b = ap (λ (k : ℕ). Send k s.to) along.from ∙ ap (λ (k : ℕ). Send a k) along.to in
-    due_on (map send_event ds) (happens u (Send s.from s.to)).world (sends_round ds) a link
+    due_on (map send_event ds) (happens u (Send s.from s.to)).world (sends_are IsOfRound (λ a b. tt) ds) a link
     (subst (λ (e : Event). due_of (slice_get (happens u e).world.routers a) link ≡ false) (sym same) (sent_none u a b link (ap (λ (c : DomainConf). link_between c.routers a b) domain ∙ joined)))
 sends_none d a b link joined (s ∷ ds) u allowed run domain (inr later) =
     sends_none d a b link joined ds (happens u (Send s.from s.to)).world allowed.2 (run_step u (Send s.from s.to) run allowed.0 allowed.1 tt) ((still_step u (Send s.from s.to) tt).domain ∙ domain) later
@@ -94,16 +94,13 @@ rows_off up (row ∷ rows) id link all off = by (same_id row.id id) (rows_off up
     by true more = (within_off row.srm up link all.0.srm_up off, within_off row.ssn up link all.0.ssn_up off)
     by false more = more
 
-router_of : (w : WorldState) → IsTruthful w → (a : ℕ) (c : Control) → slice_get w.routers a ≡ Some c → IsRouter c
-router_of w t a c at = (each_got (IsTrueControl (confs_now w)) w.routers a c t.controls at).kept
-
 down_off : (w : WorldState) → IsTruthful w → (a link : ℕ) (id : LspId) → up_over (slice_get w.routers a) (Some link) ≡ false → (srm_of (slice_get w.routers a) id link ≡ false) × (ssn_of (slice_get w.routers a) id link ≡ false) × (due_of (slice_get w.routers a) link ≡ false)
 down_off w t a link id off = by (slice_get w.routers a) refl off
   where
     by : (o : Option Control) → slice_get w.routers a ≡ o → up_over o (Some link) ≡ false → (srm_of o id link ≡ false) × (ssn_of o id link ≡ false) × (due_of o link ≡ false)
     by None at h = (refl, refl, refl)
     by (Some c) at h =
-        let r = router_of w t a c at in
+        let r = router_is w t a c at in
         let both = rows_off c.flood.up c.flood.rows id link r.control.flood.rows h in
         (both.0, both.1, within_off c.flood.due c.flood.up link r.control.flood.due_up h)
 
@@ -118,28 +115,21 @@ module _ (w : WorldState) (run : IsRun w) (whole : HasWholeLinks w) (level : IsL
   on_here = onward (round_events w) w (events_of_round w) allowed run
 
   empty_after : (a b link : ℕ) → link_between w.domain.routers a b ≡ Some link → AllByRecursion IsPacket (queue_at (world_after w (round_events w)).flights a link)
-  unfolding round_events
   empty_after a b link joined =
+      in_round (λ v. AllByRecursion IsPacket (queue_at v.flights a link)) w allowed
+      (λ sends takes.
       let ds = directions w.domain.routers in
-      let after = world_after w (round_sends w) in
-      let parts = allowed_parts (round_sends w) (round_takes after ds) w allowed in
-      let on = onward (round_sends w) w (sends_traffic (filter (may_send w) ds)) parts.0 run in
+      let on = onward (round_sends w) w (sends_are IsTraffic (λ p q. tt) (filter (may_send w) ds)) sends run in
       let back = links_back w.domain run.truth.valid.consistent a b link joined in
-      subst (λ (v : WorldState). AllByRecursion IsPacket (queue_at v.flights a link)) (sym (world_joined (round_sends w) (round_takes after ds) w))
-      (takes_empty w.domain a b link back.0 (record { toward = joined; backward = back.1 }) ds after parts.1 (record { run = on.run; domain = on.still.domain }) (along_at w run.truth a b link joined))
-    where
-      sends_traffic : (ds : List Direction) → AllByRecursion IsTraffic (map send_event ds)
-      sends_traffic [] = tt
-      sends_traffic (s ∷ ds) = (tt, sends_traffic ds)
+      takes_empty w.domain a b link back.0 (record { toward = joined; backward = back.1 }) ds (world_after w (round_sends w)) takes (record { run = on.run; domain = on.still.domain }) (along_at w run.truth a b link joined))
 
   due_sent : (a b link : ℕ) → link_between w.domain.routers a b ≡ Some link → up_over (slice_get w.routers a) (Some link) ≡ true → due_of (slice_get (world_after w (round_events w)).routers a) link ≡ false
-  unfolding round_events
   due_sent a b link joined up =
+      in_round (λ v. due_of (slice_get v.routers a) link ≡ false) w allowed
+      (λ sends takes.
       let ds = directions w.domain.routers in
       let after = world_after w (round_sends w) in
-      let parts = allowed_parts (round_sends w) (round_takes after ds) w allowed in
-      subst (λ (v : WorldState). due_of (slice_get v.routers a) link ≡ false) (sym (world_joined (round_sends w) (round_takes after ds) w))
-      (due_on (round_takes after ds) after (takes_round ds after) a link (sends_none w.domain a b link joined (filter (may_send w) ds) w parts.0 run refl (sending_at w run.truth a b link joined up)))
+      due_on (round_takes after ds) after (takes_are IsOfRound (λ p q i. tt) ds after) a link (sends_none w.domain a b link joined (filter (may_send w) ds) w sends run refl (sending_at w run.truth a b link joined up)))
 
   due_after : (a b link : ℕ) → link_between w.domain.routers a b ≡ Some link → due_of (slice_get (world_after w (round_events w)).routers a) link ≡ false
   due_after a b link joined = by (up_over (slice_get w.routers a) (Some link)) refl
@@ -231,10 +221,6 @@ marked_some w calm a k id set = by (slice_get w.routers a) refl set
 up_is : (w : WorldState) (a b link : ℕ) → link_between w.domain.routers a b ≡ Some link → up_over (slice_get w.routers a) (Some link) ≡ true → is_up_toward w a b ≡ true
 up_is w a b link joined up = ap (up_over (slice_get w.routers a)) joined ∙ up
 
-off_of : (b : Bool) → (b ≡ true → ⊥) → b ≡ false
-off_of true h = absurd (h refl)
-off_of false h = refl
-
 module _ (w : WorldState) (s : IsStill_ w) (first : AreAllowed w (round_events w)) (second : AreAllowed (world_after w (round_events w)) (round_events (world_after w (round_events w))))
     (third : AreAllowed (world_after (world_after w (round_events w)) (round_events (world_after w (round_events w)))) (round_events (world_after (world_after w (round_events w)) (round_events (world_after w (round_events w)))))) where
   abbrev w1 : WorldState
@@ -291,7 +277,7 @@ module _ (w : WorldState) (s : IsStill_ w) (first : AreAllowed w (round_events w
       by false down = (down_off w3 s3.calm.run.truth a link id down).0
       by true up =
           let p = pair_at a b link joined up in
-          off_of (srm_of (slice_get w3.routers a) id link) (λ set. none_marked b a p.0 link (turned w a b link p.0 p.1) id (srm_on (round_events w2) w2 (round_of w2) third s2.calm a id link set))
+          false_from_ne_true (srm_of (slice_get w3.routers a) id link) (λ set. none_marked b a p.0 link (turned w a b link p.0 p.1) id (srm_on (round_events w2) w2 (round_of w2) third s2.calm a id link set))
 
   ssn_ends : (a b link : ℕ) → link_between w3.domain.routers a b ≡ Some link → (id : LspId) → ssn_of (slice_get w3.routers a) id link ≡ false
   ssn_ends a b link joined id = by (up_over (slice_get w3.routers a) (Some link)) refl
@@ -301,7 +287,7 @@ module _ (w : WorldState) (s : IsStill_ w) (first : AreAllowed w (round_events w
       by true up =
           let p = pair_at a b link joined up in
           let p2 = pair_after w1 w2 a b link p.0 still2 (pair_after w w1 a b link p.0 still1 p.1) in
-          off_of (ssn_of (slice_get w3.routers a) id link) (λ set. none_marked a b link p.0 p.1 id (asked w2 s2 third b a p.0 link (turned w2 a b link p.0 p2) id set))
+          false_from_ne_true (ssn_of (slice_get w3.routers a) id link) (λ set. none_marked a b link p.0 p.1 id (asked w2 s2 third b a p.0 link (turned w2 a b link p.0 p2) id set))
 
   three_idle : IsIdle w3
   three_idle = record {

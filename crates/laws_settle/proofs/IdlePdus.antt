@@ -1,5 +1,5 @@
 -- What an LSP or a PSNP leaves of flags where both routers have the same sequence numbers.
-use Rattle.std.proofs.Common.{◌≡◌, ◌⊎◌, inl, inr, ℕ, zero, suc, ◌<◌, ◌==◌, ◌&&◌, not, nat_lt, Bool, true, false, if◌then◌else◌, List, [], ◌∷◌, Option, Some, None, refl, sym, ap, subst, ◌∙◌, arith}
+use Rattle.std.proofs.Common.{◌≡◌, ◌⊎◌, inl, inr, ℕ, zero, suc, ◌<◌, ◌==◌, ◌&&◌, not, nat_lt, Bool, true, false, if◌then◌else◌, List, [], ◌∷◌, Option, None, refl, sym, ap, subst, ◌∙◌, arith}
 use Rattle.std.specs.List.{AllByRecursion, fold}
 use Rattle.std.proofs.lemmas.Bool.{eq-eqb, eqb-false, eqb-true, false≢true, ltb-true, ne_eqb}
 use Rattle.wire_base.specs.declared.addresses.LspId.{LspId}
@@ -11,7 +11,7 @@ use Rattle.wire_base.specs.declared.flood_out.FloodOut.TheVariants as out
 use Rattle.wire_base.specs.declared.triple.Summary.{Summary}
 use Rattle.wire_base.specs.model.Control.{Control, Flood, age_of, entry_in, fragment_0, is_full, is_unknown, purge, same_id, same_system, seq_of, srm, ssn}
 use Rattle.wire_base.specs.model.Flooding.{LspAnswer, SnpAnswer, ask_on, flags_alone, is_own_ahead, is_unheld_own, listed_aged, lsp_aged, lsp_done, lsp_in, nothing_asked, on_list, on_listed, on_lsp, on_pdu, on_psnp, only_says, puts_marked, reissue_if, send_on, set_srm, with_flags, with_row}
-use Rattle.wire_base.specs.model.Pdu.{Head, Pdu, LspPdu, CsnpPdu, PsnpPdu, HelloPdu, OtherPdu, head_summary}
+use Rattle.wire_base.specs.model.Pdu.{Head, Pdu, LspPdu, PsnpPdu, head_summary}
 use Rattle.wire_base.specs.model.Tlv.{rows_of}
 use Rattle.laws_router.specs.State.{IsRouter}
 use Rattle.laws_router.proofs.EntryLaws.{same_is}
@@ -21,11 +21,8 @@ use Rattle.laws_settle.specs.Fresh.{AreOfJournal, IsOfJournal, IsPduOfJournal, I
 use Rattle.laws_settle.proofs.JournalAge.{found_age}
 use Rattle.laws_settle.proofs.JournalPdu.{IfLsp}
 use Rattle.laws_settle.proofs.RoundQueues.{HasOne}
+use Rattle.laws_settle.proofs.RoundReach.{entry_there}
 use Rattle.laws_settle.proofs.RowSrm.{IsTidy, set_off, srm_cleared, srm_left, srm_other, ssn_left, ssn_other, ssn_set, set_elsewhere, set_here, tidy_row}
-
-entry_some : (o : Option Entry) → 0 < seq_of o → (e : Entry) × (o ≡ Some e)
-entry_some None some = absurd (omega (arith, some))
-entry_some (Some e) some = (e, refl)
 
 and_none : (a b : Bool) → (a && (b && false)) ≡ false
 and_none true true = refl
@@ -35,7 +32,7 @@ and_none false b = refl
 -- what has the entry's sequence number is equal
 even_age : (journal : LspId → ℕ → Entry) (es : List Entry) (s : Summary) → AreOfJournal journal es → IsRowOfJournal journal s → 0 < s.seq → s.seq ≡ number_in es s.id → age_of (entry_in es s.id) s ≡ Equal
 even_age journal es s told row some even =
-    let f = entry_some (entry_in es s.id) (omega (arith, some, even)) in
+    let f = entry_there (entry_in es s.id) (omega (arith, some, even)) in
     let e = f.0 in
     let seq : e.seq ≡ s.seq = sym (ap seq_of f.1) ∙ sym even in
     ap (λ (o : Option Entry). age_of o s) f.1 ∙ found_age journal es s e told row f.1 ∙ ap (λ (b : Bool). if b then Equal else (if nat_lt e.seq s.seq then Newer else Older)) (eq-eqb e.seq s.seq seq)
@@ -153,25 +150,17 @@ module _ (journal : LspId → ℕ → Entry) (up : List Bool) (f : Flood) (es : 
 
 abbrev pub IsLspFor : LspId → Pdu → Type 0
 IsLspFor id (LspPdu h tlvs) = h.id ≡ id
-IsLspFor id (CsnpPdu source start last tlvs) = ⊥
-IsLspFor id (PsnpPdu source tlvs) = ⊥
-IsLspFor id HelloPdu = ⊥
-IsLspFor id (OtherPdu number) = ⊥
+IsLspFor id other = ⊥
 
 abbrev pub IsAckFor : LspId → Pdu → Type 0
-IsAckFor id (LspPdu h tlvs) = ⊥
-IsAckFor id (CsnpPdu source start last tlvs) = ⊥
 IsAckFor id (PsnpPdu source tlvs) = HasOne (λ s. (s.id ≡ id) × (0 < s.seq)) (rows_of tlvs)
-IsAckFor id HelloPdu = ⊥
-IsAckFor id (OtherPdu number) = ⊥
+IsAckFor id other = ⊥
 
 -- an LSP or a PSNP with the given sequence numbers
 abbrev pub IsEvenPdu : (LspId → ℕ) → Pdu → Type 0
 IsEvenPdu most (LspPdu h tlvs) = h.seq ≡ most h.id
-IsEvenPdu most (CsnpPdu source start last tlvs) = ⊥
 IsEvenPdu most (PsnpPdu source tlvs) = AllByRecursion (λ s. s.seq ≡ most s.id) (rows_of tlvs)
-IsEvenPdu most HelloPdu = ⊥
-IsEvenPdu most (OtherPdu number) = ⊥
+IsEvenPdu most other = ⊥
 
 pub record IdleLeaves (c d : Control) (link : ℕ) (p : Pdu) : Type 0 where
   pub entries : d.entries ≡ c.entries
@@ -251,7 +240,5 @@ module _ (journal : LspId → ℕ → Entry) (c : Control) (r : IsRouter c) (tol
 
   pub pdu_leaves : (p : Pdu) → IsPduOfJournal journal p → IfLsp (λ h. 0 < h.seq) p → IsEvenPdu (number_in c.entries) p → IdleLeaves c (on_pdu c link p).control link p
   pdu_leaves (LspPdu h tlvs) of some even = lsp_leaves h tlvs of some even
-  pdu_leaves (CsnpPdu source start last tlvs) of some even = absurd even
   pdu_leaves (PsnpPdu source tlvs) of some even = psnp_leaves source tlvs of even
-  pdu_leaves HelloPdu of some even = absurd even
-  pdu_leaves (OtherPdu number) of some even = absurd even
+  pdu_leaves other of some even = absurd even

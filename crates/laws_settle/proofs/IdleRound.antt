@@ -10,23 +10,23 @@ use Rattle.wire_base.specs.model.Flooding.{due_csnps, due_lsps, due_psnps, lsp_o
 use Rattle.wire_base.specs.model.Item.{Item, ControlItem, PacketItem}
 use Rattle.wire_base.specs.model.Lists.{blocks}
 use Rattle.replay_text.specs.declared.event.Event.{Event}
-use Rattle.replay_text.specs.declared.event.Event.TheVariants.{Inject, Take, Lose, Again, Down, Up, Send, Tick, Restart, Relabel, Leave, Join}
+use Rattle.replay_text.specs.declared.event.Event.TheVariants.{Take, Send}
 use Rattle.domain_model.specs.Faults.{event_fault}
-use Rattle.domain_model.specs.Run.{Direction, directions, may_send, round_events, round_sends, round_takes, taken_now, world_after}
+use Rattle.domain_model.specs.Run.{Direction, directions, may_send, round_events, round_sends, round_takes, world_after}
 use Rattle.domain_model.specs.Step.{happens, sends}
 use Rattle.domain_model.specs.Truth.{EventFits}
-use Rattle.domain_model.specs.World.{WorldState, frames_between, link_between, peer_place, queue_at}
-use Rattle.domain_model.proofs.EachLaws.{each_from, each_got, each_joined, each_mapped, each_passing, each_repeated, each_weaker}
+use Rattle.domain_model.specs.World.{WorldState, link_between, peer_place, queue_at}
+use Rattle.domain_model.proofs.EachLaws.{each_from, each_got, each_joined, each_mapped, each_passing, each_weaker}
 use Rattle.domain_model.proofs.LaterTruth.{set_there}
 use Rattle.domain_model.proofs.LinkLaws.{peer_is}
 use Rattle.domain_model.proofs.QueueLaws.{AllQueues}
 use Rattle.laws_ledger.specs.Runs.{AreAllowed}
 use Rattle.laws_settle.specs.Idle.{IsPacket}
-use Rattle.laws_settle.proofs.IdleCalm.{Acknowledges, IsCalm, IsOfRound, calm_step, none_due, round_traffic, sent_ssn_off, srm_falls, srm_of, ssn_from, ssn_of}
+use Rattle.laws_settle.proofs.IdleCalm.{Acknowledges, IsCalm, IsOfRound, calm_step, none_due, round_keeps, round_traffic, sent_ssn_off, srm_falls, srm_of, ssn_from, ssn_of}
 use Rattle.laws_settle.proofs.IdlePdus.{IsLspFor}
-use Rattle.laws_settle.proofs.IdleSteps.{send_flights, take_flights}
+use Rattle.laws_settle.proofs.IdleSteps.{each_given, send_flights, take_flights}
 use Rattle.laws_settle.proofs.RoundQueues.{HasOne}
-use Rattle.laws_settle.proofs.RoundTurns.{IsAlong, IsLink, allowed_parts, world_joined}
+use Rattle.laws_settle.proofs.RoundTurns.{IsAlong, IsLink, in_round, send_event, sends_are, takes_are}
 use Rattle.laws_settle.proofs.RoundUps.{still_step}
 
 abbrev pub IsLspItem : LspId → Item → Type 0
@@ -36,19 +36,6 @@ IsLspItem id (PacketItem x) = ⊥
 pub no_packet : (id : LspId) (x : Item) → IsPacket x → IsLspItem id x → ⊥
 no_packet id (ControlItem p) h lsp = h
 no_packet id (PacketItem x) h lsp = lsp
-
--- ---- lists of events of a round
-
-abbrev pub send_event : Direction → Event
-send_event s = Send s.from s.to
-
-pub sends_round : (ds : List Direction) → AllByRecursion IsOfRound (map send_event ds)
-sends_round [] = tt
-sends_round (s ∷ ds) = (tt, sends_round ds)
-
-pub takes_round : (ds : List Direction) (w : WorldState) → AllByRecursion IsOfRound (round_takes w ds)
-takes_round [] w = tt
-takes_round (s ∷ ds) w = each_joined IsOfRound (taken_now w s) (round_takes (world_after w (taken_now w s)) ds) (each_repeated IsOfRound (length (frames_between w s.from s.to)) (Take s.from s.to 0) tt) (takes_round ds (world_after w (taken_now w s)))
 
 -- a router that sends has no SSN there afterwards
 sent_off : (u : WorldState) (y x back : ℕ) (id : LspId) → link_between u.domain.routers y x ≡ Some back → ssn_of (slice_get (happens u (Send y x)).world.routers y) id back ≡ false
@@ -88,29 +75,17 @@ module _ (d : DomainConf) (x y link back : ℕ) (joined : IsLink d x y link back
 
   given_all : (u : WorldState) → IsSaid u → AllQueues Given u.flights
   unfolding Given
-  given_all u s a l = here a l (queue_at u.flights a l) (λ p q. subst (λ (n : ℕ). AllByRecursion (λ item. IsLspItem id item → A) (queue_at u.flights n l)) (sym p) (subst (λ (n : ℕ). AllByRecursion (λ item. IsLspItem id item → A) (queue_at u.flights x n)) (sym q) s.sent))
-    where
-      here : (a l : ℕ) (queue : List Item) → (a ≡ x → l ≡ link → AllByRecursion (λ item. IsLspItem id item → A) queue) → AllByRecursion (λ item. a ≡ x → l ≡ link → IsLspItem id item → A) queue
-      here a l [] all = tt
-      here a l (z ∷ zs) all = (λ p q. (all p q).0, here a l zs (λ p q. (all p q).1))
+  given_all u s a l = each_given (λ (from : a ≡ x). l ≡ link) (λ item. IsLspItem id item → A) (queue_at u.flights a l)
+      (λ p q. subst (λ (n : ℕ). AllByRecursion (λ item. IsLspItem id item → A) (queue_at u.flights n l)) (sym p) (subst (λ (n : ℕ). AllByRecursion (λ item. IsLspItem id item → A) (queue_at u.flights x n)) (sym q) s.sent))
 
   given_next : (u : WorldState) → IsSaid u → (e : Event) → IsOfRound e → AllQueues Given (happens u e).world.flights
   unfolding Given
-  given_next u s (Inject a sd bsl ks ttl entropy payload) of = absurd of
   given_next u s (Take a b i) of = take_flights Given (λ a l z h p q lsp. absurd (no_packet id z h lsp)) u s.calm.run.fresh (given_all u s) a b i
-  given_next u s (Lose a b i) of = absurd of
-  given_next u s (Again a b i) of = absurd of
-  given_next u s (Down a b) of = absurd of
-  given_next u s (Up a b) of = absurd of
   given_next u s (Send a b) of =
       send_flights Given u (given_all u s) a b
       (λ c l at between. each_weaker (λ p. IsLspFor id p → (a ≡ x → l ≡ link → A)) (λ p. Given a l (ControlItem p)) (λ p h from over lsp. h lsp from over) (send_of c l)
       (sent_lsps c l id (a ≡ x → l ≡ link → A) (none_due u s.calm a b c l at between) (λ set from over. s.marked (ap (λ (n : ℕ). srm_of (slice_get u.routers n) id link) (sym from) ∙ ap (λ (o : Option Control). srm_of o id link) at ∙ ap (srm c.flood id) (sym over) ∙ set))))
-  given_next u s (Tick a) of = absurd of
-  given_next u s (Restart a) of = absurd of
-  given_next u s (Relabel a sd bsl label) of = absurd of
-  given_next u s (Leave a sd) of = absurd of
-  given_next u s (Join a sd) of = absurd of
+  given_next u s other of = absurd of
 
   said_step : (u : WorldState) (e : Event) → IsOfRound e → EventFits (length u.domain.routers) e → event_fault u e ≡ None → IsSaid u → IsSaid (happens u e).world
   unfolding Given
@@ -141,31 +116,25 @@ module _ (d : DomainConf) (x y link back : ℕ) (joined : IsLink d x y link back
           let there : slice_get (queue_at u.flights x link) i ≡ Some (ControlItem arr.pdu) = ap (λ (n : ℕ). slice_get (queue_at u.flights n link) i) (sym from) ∙ ap (λ (n : ℕ). slice_get (queue_at u.flights a n) i) (sym over) ∙ arr.there in
           each_got (λ item. IsLspItem id item → A) (queue_at u.flights x link) i (ControlItem arr.pdu) s.sent there lsp
 
-  asked_on : (es : List Event) (u : WorldState) → AllByRecursion IsOfRound es → AreAllowed u es → IsSaid u → Asked u → Asked (world_after u es)
-  asked_on [] u of allowed s asked = asked
-  asked_on (e ∷ es) u of allowed s asked = asked_on es (happens u e).world of.1 allowed.2 (said_step u e of.0 allowed.0 allowed.1 s) (asked_step u e of.0 s asked)
-
-  said_on : (es : List Event) (u : WorldState) → AllByRecursion IsOfRound es → AreAllowed u es → IsSaid u → IsSaid (world_after u es)
-  said_on [] u of allowed s = s
-  said_on (e ∷ es) u of allowed s = said_on es (happens u e).world of.1 allowed.2 (said_step u e of.0 allowed.0 allowed.1 s)
+  asked_on : (es : List Event) (u : WorldState) → AllByRecursion IsOfRound es → AreAllowed u es → IsSaid u → Asked u → IsSaid (world_after u es) × Asked (world_after u es)
+  asked_on es u of allowed s asked = round_keeps (λ v. IsSaid v × Asked v) (λ v e of fits ok h. (said_step v e of fits ok h.0, asked_step v e of h.0 h.1)) es u of allowed (s, asked)
 
   -- once y has sent, it has not
   sends_ask : (ds : List Direction) (u : WorldState) → AreAllowed u (map send_event ds) → IsSaid u → HasOne (IsAlong y x back) ds → Asked (world_after u (map send_event ds))
   sends_ask [] u allowed s h = absurd h
   sends_ask (t ∷ ds) u allowed s (inl along) =
       let same : Send t.from t.to ≡ Send y x = ap (λ (k : ℕ). Send k t.to) along.from ∙ ap (λ (k : ℕ). Send y k) along.to in
-      asked_on (map send_event ds) (happens u (Send t.from t.to)).world (sends_round ds) allowed.2 (said_step u (Send t.from t.to) tt allowed.0 allowed.1 s)
-      (subst (λ (e : Event). Asked (happens u e).world) (sym same) (λ set. absurd (false≢true (sym (off u s) ∙ set))))
+      (asked_on (map send_event ds) (happens u (Send t.from t.to)).world (sends_are IsOfRound (λ a b. tt) ds) allowed.2 (said_step u (Send t.from t.to) tt allowed.0 allowed.1 s)
+      (subst (λ (e : Event). Asked (happens u e).world) (sym same) (λ set. absurd (false≢true (sym (off u s) ∙ set))))).1
     where
       off : (u : WorldState) → IsSaid u → ssn_of (slice_get (happens u (Send y x)).world.routers y) id back ≡ false
       off u s = sent_off u y x back id (ap (λ (c : DomainConf). link_between c.routers y x) s.domain ∙ joined.backward)
   sends_ask (t ∷ ds) u allowed s (inr later) = sends_ask ds (happens u (Send t.from t.to)).world allowed.2 (said_step u (Send t.from t.to) tt allowed.0 allowed.1 s) later
 
   pub round_asks : (w : WorldState) → AreAllowed w (round_events w) → IsSaid w → HasOne (IsAlong y x back) (filter (may_send w) (directions w.domain.routers)) → Asked (world_after w (round_events w))
-  unfolding round_events
   round_asks w allowed s along =
+      in_round Asked w allowed
+      (λ sends takes.
       let ds = directions w.domain.routers in
-      let after = world_after w (round_sends w) in
-      let parts = allowed_parts (round_sends w) (round_takes after ds) w allowed in
-      subst Asked (sym (world_joined (round_sends w) (round_takes after ds) w))
-      (asked_on (round_takes after ds) after (takes_round ds after) parts.1 (said_on (round_sends w) w (sends_round (filter (may_send w) ds)) parts.0 s) (sends_ask (filter (may_send w) ds) w parts.0 s along))
+      let said = round_keeps IsSaid said_step (round_sends w) w (sends_are IsOfRound (λ a b. tt) (filter (may_send w) ds)) sends s in
+      (asked_on (round_takes (world_after w (round_sends w)) ds) (world_after w (round_sends w)) (takes_are IsOfRound (λ a b i. tt) ds (world_after w (round_sends w))) takes said (sends_ask (filter (may_send w) ds) w sends s along)).1)

@@ -10,7 +10,7 @@ use Rattle.wire_base.specs.model.Control.{Control, fragment_0, own_entry_in, pur
 use Rattle.wire_base.specs.model.Flooding.{issue, last_sequence, reissue, reissue_unless_spent}
 use Rattle.wire_base.specs.model.Item.{Item, ControlItem, PacketItem}
 use Rattle.wire_base.specs.model.OwnLsp.{own_lsp}
-use Rattle.wire_base.specs.model.Pdu.{Head, Pdu, LspPdu, CsnpPdu, PsnpPdu, HelloPdu, OtherPdu}
+use Rattle.wire_base.specs.model.Pdu.{Head, Pdu, LspPdu, CsnpPdu, PsnpPdu}
 use Rattle.wire_base.specs.model.Tlv.{rows_of}
 use Rattle.domain_model.specs.Truth.{head_of}
 use Rattle.domain_model.proofs.FlagLaws.{same_id_is, same_id_self}
@@ -70,8 +70,7 @@ module _ (journal : Journal) (x : Entry) where
     pdu_grown (LspPdu h tlvs) low of = lsp_grown h tlvs (below h.id h.seq low) of
     pdu_grown (CsnpPdu source start last tlvs) low of = rows_grown (rows_of tlvs) low of
     pdu_grown (PsnpPdu source tlvs) low of = rows_grown (rows_of tlvs) low of
-    pdu_grown HelloPdu low of = tt
-    pdu_grown (OtherPdu number) low of = tt
+    pdu_grown other low of = tt
 
     pub items_grown : (items : List Item) → AllByRecursion (IsItemWithin most) items → AllByRecursion (IsItemOfJournal journal) items → AllByRecursion (IsItemOfJournal (with_issued journal x)) items
     items_grown [] low of = tt

@@ -6,14 +6,14 @@ use Rattle.wire_base.specs.declared.addresses.LspId.{LspId}
 use Rattle.wire_base.specs.declared.addresses.SystemId.{SystemId}
 use Rattle.wire_base.specs.declared.cause.Cause.TheVariants as cause
 use Rattle.wire_base.specs.declared.entry.Age.{Age}
-use Rattle.wire_base.specs.declared.entry.Age.TheVariants.{Unknown, Newer, Equal, Older, Confused}
+use Rattle.wire_base.specs.declared.entry.Age.TheVariants.{Unknown, Newer, Confused}
 use Rattle.wire_base.specs.declared.entry.Entry.{Entry}
 use Rattle.wire_base.specs.declared.flood_out.FloodOut.{FloodOut}
 use Rattle.wire_base.specs.declared.flood_out.FloodOut.TheVariants as out
 use Rattle.wire_base.specs.declared.triple.Summary.{Summary}
 use Rattle.wire_base.specs.model.Control.{Control, Flood, age_of, entry_in, fragment_0, is_full, is_newer_or_confused, is_unknown, own_entry_in, put_entry, purge, same_id, same_system, seq_of}
 use Rattle.wire_base.specs.model.Flooding.{LspAnswer, SnpAnswer, answer_lsp, ask_on, asks, is_live_summary, is_own_ahead, is_unheld_own, kept, listed_aged, lsp_aged, lsp_done, lsp_in, nothing_asked, on_csnp, on_list, on_listed, on_lsp, on_pdu, on_psnp, only_says, puts_marked, send_on, reissue_if, snp_done, stores, wanted, with_flags, with_row, Reply}
-use Rattle.wire_base.specs.model.Pdu.{Head, Pdu, LspPdu, CsnpPdu, PsnpPdu, HelloPdu, OtherPdu, head_summary}
+use Rattle.wire_base.specs.model.Pdu.{Head, Pdu, LspPdu, CsnpPdu, PsnpPdu, head_summary}
 use Rattle.wire_base.specs.model.Tlv.{rows_of}
 use Rattle.domain_model.specs.Truth.{head_of}
 use Rattle.domain_model.proofs.EachLaws.{fold_keeps}
@@ -83,8 +83,7 @@ module _ (P : Entry → Type 0) (f : Flood) (es : List Entry) (link : ℕ) (h : 
       by false e false = stored (λ is. true≢false (s.low is))
   aged_takes Newer s = stored (λ is. true≢false (s.low is))
   aged_takes Confused s = absurd (s.told refl)
-  aged_takes Equal s = record { takes = stays own P es; still = tt }
-  aged_takes Older s = record { takes = stays own P es; still = tt }
+  aged_takes other s = record { takes = stays own P es; still = tt }
 
   -- the own LSP is never ahead of itself
   none_ahead : (spent : Bool) (age : Age) → IsSettled age → is_own_ahead f h.id spent age ≡ true → ⊥
@@ -152,10 +151,8 @@ module _ (journal : LspId → ℕ → Entry) where
 
     aged_listed : (a : SnpAnswer) (s : Summary) (age : Age) → P (wanted s) → (age ≡ Unknown → entry_in a.entries s.id ≡ None) → (age ≡ Confused → ⊥) → ListTakes a → ListTakes (listed_aged a link s spent age)
     aged_listed a s Unknown new none told t = cond_both (is_live_summary s) (asks a link s) a ListTakes (λ live. asks_takes a s new (none refl) t) (λ dead. t)
-    aged_listed a s Newer new none told t = record { told = t.told; takes = t.takes; still = t.still }
-    aged_listed a s Equal new none told t = record { told = t.told; takes = t.takes; still = t.still }
-    aged_listed a s Older new none told t = record { told = t.told; takes = t.takes; still = t.still }
     aged_listed a s Confused new none told t = absurd (told refl)
+    aged_listed a s other new none told t = record { told = t.told; takes = t.takes; still = t.still }
 
     listed_takes : (a : SnpAnswer) (s : Summary) → IsNew P s → ListTakes a → ListTakes (on_listed link spent a s)
     unfolding on_listed
@@ -177,8 +174,7 @@ abbrev pub PduBrings : (Entry → Type 0) → Pdu → Type 0
 PduBrings P (LspPdu h tlvs) = P (kept h tlvs)
 PduBrings P (CsnpPdu source start last tlvs) = AllByRecursion (λ s. P (wanted s)) (rows_of tlvs)
 PduBrings P (PsnpPdu source tlvs) = AllByRecursion (λ s. P (wanted s)) (rows_of tlvs)
-PduBrings P HelloPdu = Unit {0}
-PduBrings P (OtherPdu number) = Unit {0}
+PduBrings P other = Unit {0}
 
 pub record PduTakes (c : Control) (P : Entry → Type 0) (r : Reply) : Type 0 where
   pub takes : Takes (fragment_0 c.conf.system) P c.entries r.control.entries
@@ -195,10 +191,7 @@ pub record IsAnothers (own : LspId) (n : ℕ) (h : Head) : Type 0 where
 
 abbrev pub IfLsp : (Head → Type 0) → Pdu → Type 0
 IfLsp L (LspPdu h tlvs) = L h
-IfLsp L (CsnpPdu source start last tlvs) = Unit {0}
-IfLsp L (PsnpPdu source tlvs) = Unit {0}
-IfLsp L HelloPdu = Unit {0}
-IfLsp L (OtherPdu number) = Unit {0}
+IfLsp L other = Unit {0}
 
 fragment_is : (id : LspId) (s t : SystemId) → id ≡ fragment_0 s → same_system id.system t ≡ true → id ≡ fragment_0 t
 fragment_is id s t is same =
@@ -252,5 +245,4 @@ module _ (journal : LspId → ℕ → Entry) (c : Control) (told : AreOfJournal 
   pdu_takes link (LspPdu h tlvs) of l new = lsp_done_takes link h tlvs of l new
   pdu_takes link (CsnpPdu source start last tlvs) of l new = csnp_takes link start last tlvs of new
   pdu_takes link (PsnpPdu source tlvs) of l new = psnp_takes link tlvs of new
-  pdu_takes link HelloPdu of l new = record { takes = stays here P c.entries; conf = refl; spent = refl; none = refl }
-  pdu_takes link (OtherPdu number) of l new = record { takes = stays here P c.entries; conf = refl; spent = refl; none = refl }
+  pdu_takes link other of l new = record { takes = stays here P c.entries; conf = refl; spent = refl; none = refl }

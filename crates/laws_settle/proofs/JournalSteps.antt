@@ -1,5 +1,5 @@
 -- Gentle events keep the journal, and each router's own LSP the newest.
-use Rattle.std.proofs.Common.{◌≡◌, ℕ, ◌+◌, ◌<◌, ◌≤◌, ◌==◌, Bool, true, false, if◌then◌else◌, List, [], ◌∷◌, length, map, slice_get, Option, Some, None, refl, sym, ap, subst, arith}
+use Rattle.std.proofs.Common.{◌≡◌, ℕ, ◌+◌, ◌<◌, ◌≤◌, ◌==◌, Bool, true, false, if◌then◌else◌, List, [], ◌∷◌, length, map, slice_get, Some, None, refl, sym, ap, subst, arith}
 use Rattle.std.specs.List.{AllByRecursion}
 use Rattle.std.proofs.lemmas.Bool.{cond_both, eqb-true}
 use Rattle.wire_base.specs.declared.addresses.LspId.{LspId}
@@ -18,9 +18,9 @@ use Rattle.replay_text.specs.declared.event.Event.{Event}
 use Rattle.replay_text.specs.declared.event.Event.TheVariants.{Inject, Take, Lose, Again, Down, Up, Send, Tick, Restart, Relabel, Leave, Join}
 use Rattle.domain_model.specs.Faults.{event_fault}
 use Rattle.domain_model.specs.Moves.{Made, Sending, inject_made, item_lost, over_end, packet_taken, replied}
-use Rattle.domain_model.specs.Step.{Happened, arrives, changes, changes_end, comes, counted, doing, happens, injects, loses, loses_over, makes, push_all, push_sending, repeats, repeats_over, replies, same_world, sends, taken_off, takes, takes_over, turns}
+use Rattle.domain_model.specs.Step.{Happened, counted, doing, happens, makes, push_all, push_sending, replies, same_world, taken_off, takes, turns}
 use Rattle.domain_model.specs.Truth.{EventFits, IsTrueEntry, IsTrueItem, IsTruePdu, IsTruthful, confs_now, head_of}
-use Rattle.domain_model.specs.World.{WorldState, is_up, link_between, peer_place, queue_at, without_item}
+use Rattle.domain_model.specs.World.{WorldState, peer_place, push_item, queue_at, without_item}
 use Rattle.domain_model.proofs.ControlTruth.{row_fits}
 use Rattle.domain_model.proofs.EachLaws.{each_from, each_got, each_mapped, each_weaker, fold_keeps}
 use Rattle.domain_model.proofs.FloodTruth.{row_true}
@@ -28,6 +28,7 @@ use Rattle.domain_model.proofs.QueueLaws.{AllQueues, item_gone, item_pushed}
 use Rattle.laws_quiet.specs.Quiet.{lsdb_of}
 use Rattle.laws_settle.specs.Fresh.{IsFresh, IsItemOfJournal, IsItemWithin, IsOfJournal, IsOwnNewest, IsPduOfJournal, IsRowOfJournal, IsWithin, number_at}
 use Rattle.laws_settle.specs.Gentle.{IsGentle}
+use Rattle.laws_settle.proofs.EventCases.{after_again, after_change, after_end, after_inject, after_lose, after_send, after_take}
 use Rattle.laws_settle.proofs.JournalIssue.{Journal, Reissues, UpTo, reissue_next, unless_next}
 use Rattle.laws_settle.proofs.JournalPdu.{IfLsp, IsAnothers, PduBrings, PduTakes, of_wanted, pdu_takes}
 use Rattle.laws_settle.proofs.JournalSecond.{second_low, second_number, second_of}
@@ -60,18 +61,12 @@ brings_low id n most bound (OtherPdu number) low = tt
 
 pub lsp_some : (confs : List RouterConf) (p : Pdu) → IsTruePdu confs p → IfLsp (λ h. 0 < h.seq) p
 lsp_some confs (LspPdu h tlvs) says = says.some
-lsp_some confs (CsnpPdu source start last tlvs) says = tt
-lsp_some confs (PsnpPdu source tlvs) says = tt
-lsp_some confs HelloPdu says = tt
-lsp_some confs (OtherPdu number) says = tt
+lsp_some confs other says = tt
 
 pub lsp_anothers : (confs : List RouterConf) (own : LspId) (n : ℕ) (most : LspId → ℕ) → most own ≤ n → (p : Pdu) → IsTruePdu confs p → IsWithin most p → IfLsp (IsAnothers own n) p
 lsp_anothers confs own n most bound (LspPdu h tlvs) says low =
     record { some = says.some; system = says.says.named.router.system; is = says.says.named.is; low = λ is. (let same = ap most is in omega (arith, same, low, bound)) }
-lsp_anothers confs own n most bound (CsnpPdu source start last tlvs) says low = tt
-lsp_anothers confs own n most bound (PsnpPdu source tlvs) says low = tt
-lsp_anothers confs own n most bound HelloPdu says low = tt
-lsp_anothers confs own n most bound (OtherPdu number) says low = tt
+lsp_anothers confs own n most bound other says low = tt
 
 -- ---- what a router does by itself
 
@@ -189,52 +184,6 @@ module _ (w : WorldState) (t : IsTruthful w) (f : IsFresh w) where
           carried_step w t f b c at r.control (pdu_carried back) (counted (replies (taken_off w a link i) b back r)).world refl refl
           (pushed (replied w.domain.routers b back r).sent (without_item w.flights a link i) none (gone a link i))
 
-    arrived : (back : ℕ) (x : Item) → slice_get (queue_at w.flights a link) i ≡ Some x → Kept (arrives (taken_off w a link i) b back c x)
-    arrived back (ControlItem p) there = pdu_arrived p there back
-    arrived back (PacketItem x) there = made (taken_off w a link i) (packet_taken w.domain.routers b c x x.outer) refl refl (gone a link i) (taken_packets (IsItemOfJournal f.journal) (λ y. tt) w.domain.routers b c x)
-
-    came : (back : ℕ) (x : Item) → slice_get (queue_at w.flights a link) i ≡ Some x → Kept (comes (taken_off w a link i) b back c x)
-    came back x there = by (is_up c back)
-      where
-        by : (up : Bool) → Kept (if up then arrives (taken_off w a link i) b back c x else makes (taken_off w a link i) (item_lost b cause.Link x))
-        by true = arrived back x there
-        by false = made (taken_off w a link i) (item_lost b cause.Link x) refl refl (gone a link i) (lost_none b cause.Link x)
-
-  taken : (a link b back i : ℕ) (o : Option Item) (q : Option Control) → slice_get (queue_at w.flights a link) i ≡ o → slice_get w.routers b ≡ q → Kept (takes w a link b back i o q)
-  taken a link b back i None q there at = same
-  taken a link b back i (Some x) None there at = same
-  taken a link b back i (Some x) (Some c) there at = came a link i b c at back x there
-
-  taken_over : (a b i : ℕ) (l m : Option ℕ) → Kept (takes_over w a b i l m)
-  taken_over a b i None m = same
-  taken_over a b i (Some link) None = same
-  taken_over a b i (Some link) (Some back) = taken a link b back i (slice_get (queue_at w.flights a link) i) (slice_get w.routers b) refl refl
-
-  lost : (a link b i : ℕ) (o : Option Item) → Kept (loses w a link b i o)
-  lost a link b i None = same
-  lost a link b i (Some x) = made (taken_off w a link i) (item_lost b cause.Lost x) refl refl (gone a link i) (lost_none b cause.Lost x)
-
-  lost_over : (a b i : ℕ) (l : Option ℕ) → Kept (loses_over w a b i l)
-  lost_over a b i None = same
-  lost_over a b i (Some link) = lost a link b i (slice_get (queue_at w.flights a link) i)
-
-  repeated : (a link i : ℕ) (o : Option Item) → slice_get (queue_at w.flights a link) i ≡ o → Kept (repeats w a link o)
-  repeated a link i None there = same
-  repeated a link i (Some (PacketItem x)) there = same
-  repeated a link i (Some (ControlItem p)) there =
-      same_step w t f (counted (repeats w a link (Some (ControlItem p)))).world refl refl
-      (item_pushed Of w.flights a link (ControlItem p) (each_got (IsItemOfJournal f.journal) (queue_at w.flights a link) i (ControlItem p) (items a link) there) items)
-
-  repeated_over : (a i : ℕ) (l : Option ℕ) → Kept (repeats_over w a i l)
-  repeated_over a i None = same
-  repeated_over a i (Some link) = repeated a link i (slice_get (queue_at w.flights a link) i) refl
-
-  injected : (a sd : ℕ) (bsl : Bsl) (ks : List ℕ) (ttl entropy : ℕ) (payload : List ℕ) (q : Option Control) → Kept (injects w a (λ c. inject_made w.domain.routers a c (w.injections + 1) sd bsl ks ttl entropy payload) q)
-  injected a sd bsl ks ttl entropy payload None = same
-  injected a sd bsl ks ttl entropy payload (Some c) =
-      made (record w { injections = w.injections + 1 }) (inject_made w.domain.routers a c (w.injections + 1) sd bsl ks ttl entropy payload) refl refl items
-      (inject_packets (IsItemOfJournal f.journal) (λ y. tt) w.domain.routers a c (w.injections + 1) sd bsl ks ttl entropy payload)
-
   -- ---- what a router does by itself
 
   module _ (a : ℕ) (c : Control) (at : slice_get w.routers a ≡ Some c) where
@@ -252,11 +201,9 @@ module _ (w : WorldState) (t : IsTruthful w) (f : IsFresh w) where
     entries_say (e ∷ es) true_es of_es = (entry_says e true_es.0 of_es.0, entries_say es true_es.1 of_es.1)
 
     pdu_of : (p : Pdu) → PduSays (IsOfJournal f.journal) (IsRowOfJournal f.journal) p → IsPduOfJournal f.journal p
-    pdu_of (LspPdu h tlvs) h_says = h_says
-    pdu_of (CsnpPdu source start last tlvs) h_says = h_says
-    pdu_of (PsnpPdu source tlvs) h_says = h_says
     pdu_of HelloPdu h_says = tt
     pdu_of (OtherPdu number) h_says = tt
+    pdu_of other h_says = h_says
 
     sent : (link : ℕ) → Kept (replies w a link (send c link))
     sent link =
@@ -297,51 +244,28 @@ module _ (w : WorldState) (t : IsTruthful w) (f : IsFresh w) where
       unfolding tick
       ticked = refreshed_turn (is_stale (own_entry_in (aged_all c)))
 
-  module _ (a : ℕ) where
-    down : (q : Option Control) (l : Option ℕ) → slice_get w.routers a ≡ q → Kept (changes_end w a end_down q l)
-    down None l at = same
-    down (Some c) None at = same
-    down (Some c) (Some link) at = anew a c at (record c { flood = link_down c.flood link }) refl refl refl (end_down c link) (down_is c link)
-
-    up : (q : Option Control) (l : Option ℕ) → slice_get w.routers a ≡ q → Kept (changes_end w a end_up q l)
-    up None l at = same
-    up (Some c) None at = same
-    up (Some c) (Some link) at = anew a c at (record c { flood = link_up c.flood c.entries link }) refl refl refl (end_up c link) (up_is c link)
-
-    sent_over : (q : Option Control) (l : Option ℕ) → slice_get w.routers a ≡ q → Kept (sends w a q l)
-    sent_over None l at = same
-    sent_over (Some c) None at = same
-    sent_over (Some c) (Some link) at = sent a c at link
-
-    second : (q : Option Control) → slice_get w.routers a ≡ q → AllByRecursion (λ e. e.life ≡ 1 → ⊥) (lsdb_of q) → Kept (changes w a tick q)
-    second None at lasts = same
-    second (Some c) at lasts = ticked a c at lasts
-
-    relabels : (sd : ℕ) (bsl : Bsl) (label : ℕ) (q : Option Control) → slice_get w.routers a ≡ q → Kept (changes w a (λ c. relabel c sd bsl label) q)
-    relabels sd bsl label None at = same
-    relabels sd bsl label (Some c) at = anew a c at (record c { conf = relabelled c.conf sd bsl label }) (relabelled_system c.conf sd bsl label) refl refl (relabel c sd bsl label) (relabel_is c sd bsl label)
-
-    leaves : (sd : ℕ) (q : Option Control) → slice_get w.routers a ≡ q → Kept (changes w a (λ c. leave c sd) q)
-    leaves sd None at = same
-    leaves sd (Some c) at = anew a c at (record c { conf = left c.conf sd }) (left_system c.conf sd) refl refl (leave c sd) (leave_is c sd)
-
-    joins : (sd : ℕ) (q : Option Control) → slice_get w.routers a ≡ q → Kept (changes w a (λ c. join c sd) q)
-    joins sd None at = same
-    joins sd (Some c) at = anew a c at (record c { conf = rejoined c.conf sd }) (rejoined_system c.conf sd) refl refl (join c sd) (join_is c sd)
-
   done : (e : Event) → IsGentle w e → Kept (doing w e)
-  done (Inject a sd bsl ks ttl entropy payload) gentle = injected a sd bsl ks ttl entropy payload (slice_get w.routers a)
-  done (Take a b i) gentle = taken_over a b i (link_between w.domain.routers a b) (link_between w.domain.routers b a)
-  done (Lose a b i) gentle = lost_over a b i (link_between w.domain.routers a b)
-  done (Again a b i) gentle = repeated_over a i (link_between w.domain.routers a b)
-  done (Down a b) gentle = down a (slice_get w.routers a) (link_between w.domain.routers a b) refl
-  done (Up a b) gentle = up a (slice_get w.routers a) (link_between w.domain.routers a b) refl
-  done (Send a b) gentle = sent_over a (slice_get w.routers a) (link_between w.domain.routers a b) refl
-  done (Tick a) gentle = second a (slice_get w.routers a) refl gentle
+  done (Inject a sd bsl ks ttl entropy payload) gentle =
+      after_inject w Kept same a (λ c. inject_made w.domain.routers a c (w.injections + 1) sd bsl ks ttl entropy payload)
+      (λ c. made (record w { injections = w.injections + 1 }) (inject_made w.domain.routers a c (w.injections + 1) sd bsl ks ttl entropy payload) refl refl items
+      (inject_packets (IsItemOfJournal f.journal) (λ y. tt) w.domain.routers a c (w.injections + 1) sd bsl ks ttl entropy payload))
+  done (Take a b i) gentle =
+      after_take w Kept same a b i (λ link back c p toward backward there at up. pdu_arrived a link i b c at p there back)
+      (λ link c y. made (taken_off w a link i) (packet_taken w.domain.routers b c y y.outer) refl refl (gone a link i) (taken_packets (IsItemOfJournal f.journal) (λ z. tt) w.domain.routers b c y))
+      (λ link x. made (taken_off w a link i) (item_lost b cause.Link x) refl refl (gone a link i) (lost_none b cause.Link x))
+  done (Lose a b i) gentle = after_lose w Kept same a b i (λ link x. made (taken_off w a link i) (item_lost b cause.Lost x) refl refl (gone a link i) (lost_none b cause.Lost x))
+  done (Again a b i) gentle =
+      after_again w Kept same a b i
+      (λ link p there. same_step w t f (counted (same_world (record w { flights = push_item w.flights a link (ControlItem p) }))).world refl refl
+      (item_pushed Of w.flights a link (ControlItem p) (each_got (IsItemOfJournal f.journal) (queue_at w.flights a link) i (ControlItem p) (items a link) there) items))
+  done (Down a b) gentle = after_end w Kept same a b end_down (λ c link at toward. anew a c at (record c { flood = link_down c.flood link }) refl refl refl (end_down c link) (down_is c link))
+  done (Up a b) gentle = after_end w Kept same a b end_up (λ c link at toward. anew a c at (record c { flood = link_up c.flood c.entries link }) refl refl refl (end_up c link) (up_is c link))
+  done (Send a b) gentle = after_send w Kept same a b (λ c link at toward. sent a c at link)
+  done (Tick a) gentle = after_change w Kept same a tick (λ c at. ticked a c at (subst (AllByRecursion (λ (e : Entry). e.life ≡ 1 → ⊥)) (ap lsdb_of at) gentle))
   done (Restart a) gentle = absurd gentle
-  done (Relabel a sd bsl label) gentle = relabels a sd bsl label (slice_get w.routers a) refl
-  done (Leave a sd) gentle = leaves a sd (slice_get w.routers a) refl
-  done (Join a sd) gentle = joins a sd (slice_get w.routers a) refl
+  done (Relabel a sd bsl label) gentle = after_change w Kept same a (λ c. relabel c sd bsl label) (λ c at. anew a c at (record c { conf = relabelled c.conf sd bsl label }) (relabelled_system c.conf sd bsl label) refl refl (relabel c sd bsl label) (relabel_is c sd bsl label))
+  done (Leave a sd) gentle = after_change w Kept same a (λ c. leave c sd) (λ c at. anew a c at (record c { conf = left c.conf sd }) (left_system c.conf sd) refl refl (leave c sd) (leave_is c sd))
+  done (Join a sd) gentle = after_change w Kept same a (λ c. join c sd) (λ c at. anew a c at (record c { conf = rejoined c.conf sd }) (rejoined_system c.conf sd) refl refl (join c sd) (join_is c sd))
 
 pub kept_step : (w : WorldState) (e : Event) → IsTruthful w → IsFresh w → EventFits (length w.domain.routers) e → event_fault w e ≡ None → IsGentle w e → IsKeptBy (happens w e).world
 unfolding happens

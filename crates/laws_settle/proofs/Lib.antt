@@ -1,5 +1,6 @@
 pub mod JournalAge
 pub mod SentPdus
+pub mod EventCases
 pub mod PacketSends
 pub mod JournalPdu
 pub mod JournalIssue

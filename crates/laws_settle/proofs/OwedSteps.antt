@@ -1,9 +1,8 @@
 -- Every gentle event keeps what is in flight from being ahead of its sender, and what is owed marked.
-use Rattle.std.proofs.Common.{◌≡◌, ◌⊎◌, inl, inr, ℕ, zero, suc, ◌+◌, ◌<◌, ◌≤◌, Bool, true, false, if◌then◌else◌, List, [], ◌∷◌, length, slice_get, slice_set, Option, Some, None, refl, sym, ap, subst, ◌∙◌, arith}
+use Rattle.std.proofs.Common.{◌≡◌, ◌⊎◌, inl, inr, ℕ, zero, suc, ◌+◌, ◌<◌, ◌≤◌, true, List, [], ◌∷◌, length, slice_get, slice_set, Option, Some, refl, sym, ap, subst, ◌∙◌, arith}
 use Rattle.std.specs.List.{AllByRecursion}
 use Rattle.std.proofs.lemmas.Option.{same_Some}
 use Rattle.wire_base.specs.declared.addresses.LspId.{LspId}
-use Rattle.wire_base.specs.declared.bsl.Bsl.{Bsl}
 use Rattle.wire_base.specs.declared.cause.Cause.{Cause}
 use Rattle.wire_base.specs.declared.cause.Cause.TheVariants as cause
 use Rattle.wire_base.specs.declared.conf.End.{End}
@@ -17,9 +16,8 @@ use Rattle.wire_base.specs.model.Pdu.{Pdu, LspPdu, CsnpPdu, PsnpPdu, HelloPdu, O
 use Rattle.wire_base.specs.model.Tlv.{rows_of}
 use Rattle.replay_text.specs.declared.event.Event.{Event}
 use Rattle.replay_text.specs.declared.event.Event.TheVariants.{Inject, Take, Lose, Again, Down, Up, Send, Tick, Restart, Relabel, Leave, Join}
-use Rattle.laws_router.specs.State.{IsRouter}
 use Rattle.domain_model.specs.Moves.{Made, Sending, inject_made, item_lost, over_end, packet_taken, replied}
-use Rattle.domain_model.specs.Step.{arrives, changes, changes_end, comes, doing, happens, injects, loses, loses_over, makes, push_sending, repeats, repeats_over, replies, sends, taken_off, takes, takes_over, turns, with_router}
+use Rattle.domain_model.specs.Step.{Happened, doing, happens, makes, push_sending, replies, taken_off, turns, with_router}
 use Rattle.domain_model.specs.Truth.{IsTrueControl, IsTrueEntry, IsTruthful, confs_now, head_of}
 use Rattle.domain_model.specs.World.{WorldState, is_up, link_between, peer_place, queue_at}
 use Rattle.domain_model.proofs.ControlTruth.{row_fits}
@@ -33,6 +31,8 @@ use Rattle.laws_quiet.specs.Quiet.{lsdb_at, lsdb_of}
 use Rattle.laws_settle.specs.Fresh.{AreOfJournal, IsFresh, IsItemOfJournal, IsItemWithin, IsNotAhead, IsOfJournal, IsOwed, IsWithin, Owes, number_at, number_in}
 use Rattle.laws_settle.specs.Gentle.{IsGentle}
 use Rattle.laws_settle.proofs.ControlOwes.{IsNext, down_next, join_next, leave_next, pdu_next, pdu_silent, relabel_next, sent_next, tick_next, up_next}
+use Rattle.laws_settle.proofs.EventCases.{after_again, after_change, after_end, after_inject, after_lose, after_send, after_take}
+use Rattle.laws_settle.proofs.Exchange.{router_is}
 use Rattle.laws_settle.proofs.PacketSends.{inject_packets, taken_packets}
 use Rattle.laws_settle.proofs.SentPdus.{EntrySays, PduSays, sends_say}
 
@@ -55,8 +55,7 @@ within_more : (most more : LspId → ℕ) → ((id : LspId) → most id ≤ more
 within_more most more rise (LspPdu h tlvs) w = let r = rise h.id in omega (arith, r, w)
 within_more most more rise (CsnpPdu source start last tlvs) w = each_weaker (λ (s : Summary). s.seq ≤ most s.id) (λ (s : Summary). s.seq ≤ more s.id) (λ s h. (let r = rise s.id in omega (arith, r, h))) (rows_of tlvs) w
 within_more most more rise (PsnpPdu source tlvs) w = each_weaker (λ (s : Summary). s.seq ≤ most s.id) (λ (s : Summary). s.seq ≤ more s.id) (λ s h. (let r = rise s.id in omega (arith, r, h))) (rows_of tlvs) w
-within_more most more rise HelloPdu w = tt
-within_more most more rise (OtherPdu number) w = tt
+within_more most more rise other w = tt
 
 item_more : (most more : LspId → ℕ) → ((id : LspId) → most id ≤ more id) → (x : Item) → IsItemWithin most x → IsItemWithin more x
 item_more most more rise (ControlItem p) w = within_more most more rise p w
@@ -147,79 +146,27 @@ module _ (w : WorldState) (t : IsTruthful w) (fresh : IsFresh w) where
   start : IsSettling w w
   start = record { behind = fresh.behind; owed = fresh.owed; rise = λ a id. omega arith }
 
-  router_at : (a : ℕ) (c : Control) → slice_get w.routers a ≡ Some c → IsRouter c
-  router_at a c at = (each_got (IsTrueControl (confs_now w)) w.routers a c t.controls at).kept
-
   turned : (a : ℕ) (c : Control) (r : Reply) → slice_get w.routers a ≡ Some c → NextOf w a c r.control → IsSettling w (turns w a r).world
   turned a c r at next = router_settling w w start a c r.control at next
 
   -- ---- what arrives
 
-  module _ (a link b back i : ℕ) (toward : link_between w.domain.routers b a ≡ Some back) where
-    arrived : (c : Control) (x : Item) → slice_get w.routers b ≡ Some c → is_up c back ≡ true → IsItemWithin (number_at w a) x → IsItemOfJournal fresh.journal x → IsSettling w (arrives (taken_off w a link i) b back c x).world
-    arrived c (ControlItem p) at up within says =
-        replies_settling w (taken_off w a link i) (gone_settling w w start a link i) b back c (on_pdu c back p) at
-        (λ id k o. pdu_next id k (number_at w (peer_place w.domain.routers b k) id) c (router_at b c at) o back up p (number_at w a) within (low id k))
-        (subst (AllByRecursion (IsWithin (number_in (on_pdu c back p).control.entries))) (sym (pdu_silent c back p fresh.journal says)) tt)
-      where
-        low : (id : LspId) (k : ℕ) → back ≡ k → number_at w a id ≤ number_at w (peer_place w.domain.routers b k) id
-        low id k same =
-            let far : peer_place w.domain.routers b k ≡ a = ap (peer_place w.domain.routers b) (sym same) ∙ peer_is w.domain.routers t.valid.consistent.systems b a back toward in
-            let n : number_at w (peer_place w.domain.routers b k) id ≡ number_at w a id = ap (λ (m : ℕ). number_at w m id) far in
-            omega (arith, n)
-    arrived c (PacketItem x) at up within says =
-        packets_settling w (taken_off w a link i) (gone_settling w w start a link i) (packet_taken w.domain.routers b c x x.outer)
-        (taken_packets (λ (y : Item). (most : LspId → ℕ) → IsItemWithin most y) (λ y most. tt) w.domain.routers b c x)
-
-    came : (c : Control) (x : Item) → slice_get w.routers b ≡ Some c → IsItemWithin (number_at w a) x → IsItemOfJournal fresh.journal x → IsSettling w (comes (taken_off w a link i) b back c x).world
-    came c x at within says = by (is_up c back) refl
-      where
-        by : (u : Bool) → is_up c back ≡ u → IsSettling w (if u then arrives (taken_off w a link i) b back c x else makes (taken_off w a link i) (item_lost b cause.Link x)).world
-        by true up = arrived c x at up within says
-        by false down = lost_settling w (taken_off w a link i) (gone_settling w w start a link i) b cause.Link x
-
-    taken : (o : Option Item) (q : Option Control) → slice_get (queue_at w.flights a link) i ≡ o → slice_get w.routers b ≡ q → IsSettling w (takes w a link b back i o q).world
-    taken None q there at = start
-    taken (Some x) None there at = start
-    taken (Some x) (Some c) there at = came c x at (each_got (IsItemWithin (number_at w a)) (queue_at w.flights a link) i x (fresh.behind a link) there) (each_got (IsItemOfJournal fresh.journal) (queue_at w.flights a link) i x (fresh.journaled.items a link) there)
-
-  taken_over : (a b i : ℕ) (l m : Option ℕ) → link_between w.domain.routers b a ≡ m → IsSettling w (takes_over w a b i l m).world
-  taken_over a b i None m joined = start
-  taken_over a b i (Some link) None joined = start
-  taken_over a b i (Some link) (Some back) joined = taken a link b back i joined (slice_get (queue_at w.flights a link) i) (slice_get w.routers b) refl refl
-
-  -- ---- what is lost or repeated
-
-  lost : (a link b i : ℕ) (o : Option Item) → IsSettling w (loses w a link b i o).world
-  lost a link b i None = start
-  lost a link b i (Some x) = lost_settling w (taken_off w a link i) (gone_settling w w start a link i) b cause.Lost x
-
-  lost_over : (a b i : ℕ) (l : Option ℕ) → IsSettling w (loses_over w a b i l).world
-  lost_over a b i None = start
-  lost_over a b i (Some link) = lost a link b i (slice_get (queue_at w.flights a link) i)
-
-  repeated : (a link i : ℕ) (o : Option Item) → slice_get (queue_at w.flights a link) i ≡ o → IsSettling w (repeats w a link o).world
-  repeated a link i None there = start
-  repeated a link i (Some (PacketItem x)) there = start
-  repeated a link i (Some (ControlItem p)) there = record {
-    behind = item_pushed (λ b l. IsItemWithin (number_at w b)) w.flights a link (ControlItem p) (each_got (IsItemWithin (number_at w a)) (queue_at w.flights a link) i (ControlItem p) (fresh.behind a link) there) fresh.behind;
-    owed = fresh.owed;
-    rise = λ a id. omega arith;
-  }
-
-  repeated_over : (a i : ℕ) (l : Option ℕ) → IsSettling w (repeats_over w a i l).world
-  repeated_over a i None = start
-  repeated_over a i (Some link) = repeated a link i (slice_get (queue_at w.flights a link) i) refl
+  arrived : (a b i link back : ℕ) (c : Control) (p : Pdu) → link_between w.domain.routers b a ≡ Some back → slice_get (queue_at w.flights a link) i ≡ Some (ControlItem p) → slice_get w.routers b ≡ Some c → is_up c back ≡ true
+      → IsSettling w (replies (taken_off w a link i) b back (on_pdu c back p)).world
+  arrived a b i link back c p toward there at up =
+      replies_settling w (taken_off w a link i) (gone_settling w w start a link i) b back c (on_pdu c back p) at
+      (λ id k o. pdu_next id k (number_at w (peer_place w.domain.routers b k) id) c (router_is w t b c at) o back up p (number_at w a) (each_got (IsItemWithin (number_at w a)) (queue_at w.flights a link) i (ControlItem p) (fresh.behind a link) there) (low id k))
+      (subst (AllByRecursion (IsWithin (number_in (on_pdu c back p).control.entries))) (sym (pdu_silent c back p fresh.journal (each_got (IsItemOfJournal fresh.journal) (queue_at w.flights a link) i (ControlItem p) (fresh.journaled.items a link) there))) tt)
+    where
+      low : (id : LspId) (k : ℕ) → back ≡ k → number_at w a id ≤ number_at w (peer_place w.domain.routers b k) id
+      low id k same =
+          let far : peer_place w.domain.routers b k ≡ a = ap (peer_place w.domain.routers b) (sym same) ∙ peer_is w.domain.routers t.valid.consistent.systems b a back toward in
+          let n : number_at w (peer_place w.domain.routers b k) id ≡ number_at w a id = ap (λ (m : ℕ). number_at w m id) far in
+          omega (arith, n)
 
   -- ---- what a router does by itself
 
   module _ (a : ℕ) where
-    injected : (sd : ℕ) (bsl : Bsl) (ks : List ℕ) (ttl entropy : ℕ) (payload : List ℕ) (q : Option Control) → IsSettling w (injects w a (λ c. inject_made w.domain.routers a c (w.injections + 1) sd bsl ks ttl entropy payload) q).world
-    injected sd bsl ks ttl entropy payload None = start
-    injected sd bsl ks ttl entropy payload (Some c) =
-        packets_settling w (record w { injections = w.injections + 1 }) (record { behind = fresh.behind; owed = fresh.owed; rise = λ b id. omega arith }) (inject_made w.domain.routers a c (w.injections + 1) sd bsl ks ttl entropy payload)
-        (inject_packets (λ (y : Item). (most : LspId → ℕ) → IsItemWithin most y) (λ y most. tt) w.domain.routers a c (w.injections + 1) sd bsl ks ttl entropy payload)
-
     -- each entry is what the LSDB has of its LSP ID
     entry_says : (c : Control) → slice_get w.routers a ≡ Some c → AllByRecursion (EntrySays (λ h tlvs. h.seq ≤ number_in c.entries h.id) (λ s. s.seq ≤ number_in c.entries s.id)) c.entries
     entry_says c at =
@@ -237,25 +184,13 @@ module _ (w : WorldState) (t : IsTruthful w) (fresh : IsFresh w) where
         (sends_say (λ h tlvs. h.seq ≤ number_in c.entries h.id) (λ s. s.seq ≤ number_in c.entries s.id) c (entry_says c at) link)
       where
         says : (p : Pdu) → PduSays (λ h tlvs. h.seq ≤ number_in c.entries h.id) (λ s. s.seq ≤ number_in c.entries s.id) p → IsWithin (number_in c.entries) p
-        says (LspPdu h tlvs) k = k
-        says (CsnpPdu source first last tlvs) k = k
-        says (PsnpPdu source tlvs) k = k
         says HelloPdu k = tt
         says (OtherPdu number) k = tt
+        says other k = k
 
     sent_all : (c : Control) → slice_get w.routers a ≡ Some c → (link : ℕ) → AllByRecursion (IsWithin (number_in (send c link).control.entries)) (send c link).sent
     unfolding send
     sent_all c at link = sent_within c at link
-
-    sent : (q : Option Control) (l : Option ℕ) → slice_get w.routers a ≡ q → IsSettling w (sends w a q l).world
-    sent None l at = start
-    sent (Some c) None at = start
-    sent (Some c) (Some link) at = replies_settling w w start a link c (send c link) at (λ id k o. sent_next id k (number_at w (peer_place w.domain.routers a k) id) c (router_at a c at) o link) (sent_all c at link)
-
-    down : (q : Option Control) (l : Option ℕ) → slice_get w.routers a ≡ q → IsSettling w (changes_end w a end_down q l).world
-    down None l at = start
-    down (Some c) None at = start
-    down (Some c) (Some link) at = turned a c (end_down c link) at (λ id k o. down_next id k (number_at w (peer_place w.domain.routers a k) id) c (router_at a c at) o link)
 
     -- the interface that comes up is one of the router's
     end_within : (c : Control) (b link : ℕ) → slice_get w.routers a ≡ Some c → link_between w.domain.routers a b ≡ Some link → link < length c.flood.up
@@ -264,47 +199,45 @@ module _ (w : WorldState) (t : IsTruthful w) (fresh : IsFresh w) where
         let become = become_at w.domain.routers (confs_now w) a j.near c.conf t.become j.near_at (get_mapped (λ (x : Control). x.conf) w.routers a c at) in
         let there = end_found j.near.ends j.far.system link j.toward in
         let within : link < length c.conf.ends = subst (λ (es : List End). link < length es) (sym (ap (λ (r : RouterConf). r.ends) become.one)) (got_within j.near.ends link there.at there.there) in
-        let long = (router_at a c at).control.links in
+        let long = (router_is w t a c at).control.links in
         omega (arith, within, long)
 
-    up : (b : ℕ) (q : Option Control) (l : Option ℕ) → slice_get w.routers a ≡ q → link_between w.domain.routers a b ≡ l → IsSettling w (changes_end w a end_up q l).world
-    up b None l at joined = start
-    up b (Some c) None at joined = start
-    up b (Some c) (Some link) at joined = turned a c (end_up c link) at (λ id k o. up_next id k (number_at w (peer_place w.domain.routers a k) id) c (router_at a c at) o link (end_within c b link at joined))
+  abbrev Settles : Happened → Type 0
+  Settles n = IsSettling w n.world
 
-    ticked : (q : Option Control) → slice_get w.routers a ≡ q → IsGentle w (Tick a) → IsSettling w (changes w a tick q).world
-    ticked None at gentle = start
-    ticked (Some c) at gentle =
-        turned a c (tick c) at
-        (λ id k o. tick_next id k (number_at w (peer_place w.domain.routers a k) id) c (router_at a c at) o
-        (each_weaker (λ e. IsOfJournal fresh.journal (head_of e) e.content) (λ e. 0 < e.seq → 0 < e.life) (λ e h. h.live) c.entries (each_got (λ x. AreOfJournal fresh.journal x.entries) w.routers a c fresh.journaled.entries at))
-        (subst (λ (es : List Entry). AllByRecursion (λ e. e.life ≡ 1 → ⊥) es) (ap lsdb_of at) gentle))
-
-    relabelled : (sd : ℕ) (bsl : Bsl) (label : ℕ) (q : Option Control) → slice_get w.routers a ≡ q → IsSettling w (changes w a (λ c. relabel c sd bsl label) q).world
-    relabelled sd bsl label None at = start
-    relabelled sd bsl label (Some c) at = turned a c (relabel c sd bsl label) at (λ id k o. relabel_next id k (number_at w (peer_place w.domain.routers a k) id) c (router_at a c at) o sd bsl label)
-
-    left : (sd : ℕ) (q : Option Control) → slice_get w.routers a ≡ q → IsSettling w (changes w a (λ c. leave c sd) q).world
-    left sd None at = start
-    left sd (Some c) at = turned a c (leave c sd) at (λ id k o. leave_next id k (number_at w (peer_place w.domain.routers a k) id) c (router_at a c at) o sd)
-
-    joined : (sd : ℕ) (q : Option Control) → slice_get w.routers a ≡ q → IsSettling w (changes w a (λ c. join c sd) q).world
-    joined sd None at = start
-    joined sd (Some c) at = turned a c (join c sd) at (λ id k o. join_next id k (number_at w (peer_place w.domain.routers a k) id) c (router_at a c at) o sd)
-
-  done : (e : Event) → IsGentle w e → IsSettling w (doing w e).world
-  done (Inject a sd bsl ks ttl entropy payload) gentle = injected a sd bsl ks ttl entropy payload (slice_get w.routers a)
-  done (Take a b i) gentle = taken_over a b i (link_between w.domain.routers a b) (link_between w.domain.routers b a) refl
-  done (Lose a b i) gentle = lost_over a b i (link_between w.domain.routers a b)
-  done (Again a b i) gentle = repeated_over a i (link_between w.domain.routers a b)
-  done (Down a b) gentle = down a (slice_get w.routers a) (link_between w.domain.routers a b) refl
-  done (Up a b) gentle = up a b (slice_get w.routers a) (link_between w.domain.routers a b) refl refl
-  done (Send a b) gentle = sent a (slice_get w.routers a) (link_between w.domain.routers a b) refl
-  done (Tick a) gentle = ticked a (slice_get w.routers a) refl gentle
+  done : (e : Event) → IsGentle w e → Settles (doing w e)
+  done (Inject a sd bsl ks ttl entropy payload) gentle =
+      after_inject w Settles start a (λ c. inject_made w.domain.routers a c (w.injections + 1) sd bsl ks ttl entropy payload)
+      (λ c. packets_settling w (record w { injections = w.injections + 1 }) (record { behind = fresh.behind; owed = fresh.owed; rise = λ b id. omega arith }) (inject_made w.domain.routers a c (w.injections + 1) sd bsl ks ttl entropy payload)
+      (inject_packets (λ (y : Item). (most : LspId → ℕ) → IsItemWithin most y) (λ y most. tt) w.domain.routers a c (w.injections + 1) sd bsl ks ttl entropy payload))
+  done (Take a b i) gentle =
+      after_take w Settles start a b i
+      (λ link back c p toward backward there at up. arrived a b i link back c p backward there at up)
+      (λ link c y. packets_settling w (taken_off w a link i) (gone_settling w w start a link i) (packet_taken w.domain.routers b c y y.outer) (taken_packets (λ (z : Item). (most : LspId → ℕ) → IsItemWithin most z) (λ z most. tt) w.domain.routers b c y))
+      (λ link x. lost_settling w (taken_off w a link i) (gone_settling w w start a link i) b cause.Link x)
+  done (Lose a b i) gentle = after_lose w Settles start a b i (λ link x. lost_settling w (taken_off w a link i) (gone_settling w w start a link i) b cause.Lost x)
+  done (Again a b i) gentle =
+      after_again w Settles start a b i
+      (λ link p there. record {
+        behind = item_pushed (λ b l. IsItemWithin (number_at w b)) w.flights a link (ControlItem p) (each_got (IsItemWithin (number_at w a)) (queue_at w.flights a link) i (ControlItem p) (fresh.behind a link) there) fresh.behind;
+        owed = fresh.owed;
+        rise = λ x id. omega arith;
+      })
+  done (Down a b) gentle = after_end w Settles start a b end_down (λ c link at toward. turned a c (end_down c link) at (λ id k o. down_next id k (number_at w (peer_place w.domain.routers a k) id) c (router_is w t a c at) o link))
+  done (Up a b) gentle = after_end w Settles start a b end_up (λ c link at toward. turned a c (end_up c link) at (λ id k o. up_next id k (number_at w (peer_place w.domain.routers a k) id) c (router_is w t a c at) o link (end_within a c b link at toward)))
+  done (Send a b) gentle =
+      after_send w Settles start a b
+      (λ c link at toward. replies_settling w w start a link c (send c link) at (λ id k o. sent_next id k (number_at w (peer_place w.domain.routers a k) id) c (router_is w t a c at) o link) (sent_all a c at link))
+  done (Tick a) gentle =
+      after_change w Settles start a tick
+      (λ c at. turned a c (tick c) at
+      (λ id k o. tick_next id k (number_at w (peer_place w.domain.routers a k) id) c (router_is w t a c at) o
+      (each_weaker (λ e. IsOfJournal fresh.journal (head_of e) e.content) (λ e. 0 < e.seq → 0 < e.life) (λ e h. h.live) c.entries (each_got (λ x. AreOfJournal fresh.journal x.entries) w.routers a c fresh.journaled.entries at))
+      (subst (λ (es : List Entry). AllByRecursion (λ e. e.life ≡ 1 → ⊥) es) (ap lsdb_of at) gentle)))
   done (Restart a) gentle = absurd gentle
-  done (Relabel a sd bsl label) gentle = relabelled a sd bsl label (slice_get w.routers a) refl
-  done (Leave a sd) gentle = left a sd (slice_get w.routers a) refl
-  done (Join a sd) gentle = joined a sd (slice_get w.routers a) refl
+  done (Relabel a sd bsl label) gentle = after_change w Settles start a (λ c. relabel c sd bsl label) (λ c at. turned a c (relabel c sd bsl label) at (λ id k o. relabel_next id k (number_at w (peer_place w.domain.routers a k) id) c (router_is w t a c at) o sd bsl label))
+  done (Leave a sd) gentle = after_change w Settles start a (λ c. leave c sd) (λ c at. turned a c (leave c sd) at (λ id k o. leave_next id k (number_at w (peer_place w.domain.routers a k) id) c (router_is w t a c at) o sd))
+  done (Join a sd) gentle = after_change w Settles start a (λ c. join c sd) (λ c at. turned a c (join c sd) at (λ id k o. join_next id k (number_at w (peer_place w.domain.routers a k) id) c (router_is w t a c at) o sd))
 
   pub settling_step : (e : Event) → IsGentle w e → IsSettling w (happens w e).world
   unfolding happens

@@ -12,7 +12,7 @@ use Rattle.wire_base.specs.declared.addresses.LspId.{LspId}
 use Rattle.wire_base.specs.model.Control.{Control, Flood, after_second, entry_in, fragment_0, own_entry_in, put_entry, same_system, seq_of}
 use Rattle.wire_base.specs.model.Flooding.{aged_all, answer_lsp, end_down, end_up, first_control, is_stale, join, leave, link_down, link_up, lsp_done, mark_all, on_csnp, on_lsp, on_pdu, on_psnp, refreshed, reissue, reissue_if, reissue_unless_spent, relabel, restart, send, sent_on, snp_done, started, tick}
 use Rattle.wire_base.specs.model.Membership.{left, rejoined, relabelled}
-use Rattle.wire_base.specs.model.Pdu.{Head, Pdu, LspPdu, CsnpPdu, PsnpPdu, HelloPdu, OtherPdu}
+use Rattle.wire_base.specs.model.Pdu.{Head, Pdu, LspPdu, CsnpPdu, PsnpPdu}
 use Rattle.wire_base.specs.model.Tlv.{rows_of}
 use Rattle.laws_router.specs.State.{AreIssued, IsRouter, IssuesAlone}
 use Rattle.laws_router.proofs.EntryLaws.{bytes_self}
@@ -172,5 +172,4 @@ module _ (c : Control) (k : IsRouter c) (all : IssuesAlone c) where
     pdu_issued confs (LspPdu h tlvs) says = lsp_pdu_issued h tlvs (short_content confs h tlvs says.says.says)
     pdu_issued confs (CsnpPdu source start last tlvs) says = csnp_issued start last tlvs
     pdu_issued confs (PsnpPdu source tlvs) says = psnp_issued tlvs
-    pdu_issued confs HelloPdu says = all
-    pdu_issued confs (OtherPdu number) says = all
+    pdu_issued confs other says = all

@@ -41,9 +41,8 @@ parts start (block ∷ []) = part start last_id block ∷ []
 parts start (block ∷ next ∷ more) = part start (last_listed start block) block ∷ parts (id_after (last_listed start block)) (next ∷ more)
 
 pub csnps_parts : (c : Control) (start : LspId) (bs : List (List Summary)) → csnps c start bs ≡ map (part_pdu c) (parts start bs)
-csnps_parts c start [] = refl
-csnps_parts c start (block ∷ []) = refl
 csnps_parts c start (block ∷ next ∷ more) = ap (λ (ps : List Pdu). csnp_of c start (last_listed start block) block ∷ ps) (csnps_parts c (id_after (last_listed start block)) (next ∷ more))
+csnps_parts c start other = refl
 
 -- all rows
 abbrev pub rows_in : List Part → List Summary
@@ -55,9 +54,8 @@ joined [] = []
 joined (b ∷ bs) = b ++ joined bs
 
 parts_rows : (start : LspId) (bs : List (List Summary)) → rows_in (parts start bs) ≡ joined bs
-parts_rows start [] = refl
-parts_rows start (block ∷ []) = refl
 parts_rows start (block ∷ next ∷ more) = ap (λ (rows : List Summary). block ++ rows) (parts_rows (id_after (last_listed start block)) (next ∷ more))
+parts_rows start other = refl
 
 blocks_joined : (m n : ℕ) (xs : List Summary) → 0 < n → length xs ≤ m → joined (blocks_within m n xs) ≡ xs
 blocks_joined zero n [] some long = refl

@@ -6,7 +6,7 @@ use Rattle.wire_base.specs.declared.addresses.LspId.{LspId}
 use Rattle.wire_base.specs.declared.entry.Age.{Age}
 use Rattle.wire_base.specs.declared.entry.Age.TheVariants.{Unknown, Newer, Equal, Older, Confused}
 use Rattle.wire_base.specs.declared.entry.Aged.{Aged}
-use Rattle.wire_base.specs.declared.entry.Aged.TheVariants.{Live, Expired, Held, Removed}
+use Rattle.wire_base.specs.declared.entry.Aged.TheVariants.{Expired, Removed}
 use Rattle.wire_base.specs.declared.entry.Entry.{Entry}
 use Rattle.wire_base.specs.declared.flood_out.FloodOut.{FloodOut}
 use Rattle.wire_base.specs.declared.flood_out.FloodOut.TheVariants as out
@@ -14,7 +14,7 @@ use Rattle.wire_base.specs.declared.triple.Summary.{Summary}
 use Rattle.wire_base.specs.model.Control.{Control, Flood, FlagRow, age_of, aged, entry_in, fragment_0, is_full, is_unknown, own_entry_in, purge, put_entry, same_id, seq_of}
 use Rattle.wire_base.specs.model.Flooding.{LspAnswer, SnpAnswer, aged_all, answer_lsp, ask_on, asks, flags_aged, flood_aged, forget, is_live_summary, is_own_ahead, is_stale, is_unheld_own, issue, kept, lacks, last_sequence, listed_aged, lsp_aged, lsp_in, mark_all, nothing_asked, on_csnp, on_list, on_listed, on_lsp, on_pdu, on_psnp, only_says, puts_marked, reissue, reissue_if, reissue_unless_spent, send_known, send_lacking, send_on, set_srm, snp_done, stores, tick, wanted, with_flags, with_row}
 use Rattle.wire_base.specs.model.OwnLsp.{own_lsp}
-use Rattle.wire_base.specs.model.Pdu.{Head, Pdu, LspPdu, CsnpPdu, PsnpPdu, HelloPdu, OtherPdu, head_summary}
+use Rattle.wire_base.specs.model.Pdu.{Head, Pdu, LspPdu, CsnpPdu, PsnpPdu, head_summary}
 use Rattle.wire_base.specs.model.Tlv.{rows_of}
 
 folded : {A X : Type 0} (Q : A → Type 0) (f : A → X → A) → ((a : A) (x : X) → Q a → Q (f a x)) → (xs : List X) (a : A) → Q a → Q (fold f a xs)
@@ -124,17 +124,15 @@ module _ (P : Flood → Type 0) (rowless : (f : Flood) (rows : List FlagRow) →
       by out.Zero = same
   pdu_keeps c link (CsnpPdu source start last tlvs) k = snp_answered c (on_csnp c.flood c.entries link start last tlvs c.spent) (csnp link c.spent c.flood c.entries start last tlvs k)
   pdu_keeps c link (PsnpPdu source tlvs) k = snp_answered c (on_list c.flood c.entries link (rows_of tlvs) c.spent) (each_listed link c.spent c.flood c.entries (rows_of tlvs) k)
-  pdu_keeps c link HelloPdu k = k
-  pdu_keeps c link (OtherPdu number) k = k
+  pdu_keeps c link other k = k
 
   -- ---- a second, and an interface that comes up
 
   flags_by_age : (f : Flood) (id : LspId) (a : Aged) → P f → P (flags_aged f id a)
   unfolding forget
-  flags_by_age f id Live h = h
   flags_by_age f id Expired h = marked f id h
-  flags_by_age f id Held h = h
   flags_by_age f id Removed h = rowless f _ h
+  flags_by_age f id other h = h
 
   pub tick_keeps : (c : Control) → P c.flood → P (tick c).control.flood
   unfolding tick aged_all

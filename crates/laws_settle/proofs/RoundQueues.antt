@@ -54,7 +54,7 @@ read_within [] i d some = absurd (some refl)
 read_within (x ∷ xs) zero d some = omega arith
 read_within (x ∷ xs) (suc i) d some = let h = read_within xs i d some in omega (arith, h)
 
-set_within : {X : Type 0} (xs : List X) (i : ℕ) (x d : X) → i < length xs → slice_index_or (slice_set xs i x) i d ≡ x
+pub set_within : {X : Type 0} (xs : List X) (i : ℕ) (x d : X) → i < length xs → slice_index_or (slice_set xs i x) i d ≡ x
 set_within [] i x d within = absurd (omega (arith, within))
 set_within (y ∷ ys) zero x d within = refl
 set_within (y ∷ ys) (suc i) x d within = set_within ys i x d (omega (arith, within))

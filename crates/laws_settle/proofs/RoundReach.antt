@@ -29,7 +29,7 @@ use Rattle.laws_settle.specs.Fresh.{number_at, number_in}
 use Rattle.laws_settle.specs.Gentle.{IsTraffic}
 use Rattle.laws_settle.proofs.RoundQueues.{HasOne, IsSentOn, one_left, one_right, shape_place, stands_sent}
 use Rattle.laws_settle.proofs.RoundSteps.{IsInRound, comes_in, has_step, round_step, up_here}
-use Rattle.laws_settle.proofs.RoundTurns.{IsAlong, IsHere, IsLink, IsOnWay, allowed_parts, sends_leave, takes_of_round, takes_reach, world_joined}
+use Rattle.laws_settle.proofs.RoundTurns.{IsAlong, IsHere, IsLink, IsOnWay, in_round, send_event, sends_are, sends_leave, takes_are, takes_reach}
 
 -- ---- lists
 
@@ -55,16 +55,9 @@ one_mapped P Q f to (x ∷ xs) (inr h) = inr (one_mapped P Q f to xs h)
 
 -- ---- the events of a round
 
-abbrev send_event : Direction → Event
-send_event s = Send s.from s.to
-
-sends_of_round : (ds : List Direction) → AllByRecursion IsTraffic (map send_event ds)
-sends_of_round [] = tt
-sends_of_round (s ∷ ds) = (tt, sends_of_round ds)
-
 pub events_of_round : (w : WorldState) → AllByRecursion IsTraffic (round_events w)
 unfolding round_events
-events_of_round w = each_joined IsTraffic (round_sends w) (round_takes (world_after w (round_sends w)) (directions w.domain.routers)) (sends_of_round (filter (may_send w) (directions w.domain.routers))) (takes_of_round (directions w.domain.routers) (world_after w (round_sends w)))
+events_of_round w = each_joined IsTraffic (round_sends w) (round_takes (world_after w (round_sends w)) (directions w.domain.routers)) (sends_are IsTraffic (λ a b. tt) (filter (may_send w) (directions w.domain.routers))) (takes_are IsTraffic (λ a b i. tt) (directions w.domain.routers) (world_after w (round_sends w)))
 
 -- ---- the directions
 
@@ -203,11 +196,8 @@ module _ (d : DomainConf) (x y link back : ℕ) (joined : IsLink d x y link back
 
   -- whatever the routers send after that
   sends_keep : (ds : List Direction) (w : WorldState) → AreAllowed w (map send_event ds) → Round w → Comes w → Comes (world_after w (map send_event ds))
-  sends_keep ds w allowed r (m, inl has) = (m, inl (has_keeps (map send_event ds) w (sends_of_round ds) allowed r has))
-  sends_keep ds w allowed r (m, inr o) = (m, inr (leave ds w o))
-    where
-      leave : (ds : List Direction) (w : WorldState) → IsOnWay x link (IsLspOf id n) m w → IsOnWay x link (IsLspOf id n) m (world_after w (map send_event ds))
-      leave ds w o = sends_leave x link (IsLspOf id n) ds w m o
+  sends_keep ds w allowed r (m, inl has) = (m, inl (has_keeps (map send_event ds) w (sends_are IsTraffic (λ a b. tt) ds) allowed r has))
+  sends_keep ds w allowed r (m, inr o) = (m, inr (sends_leave x link (IsLspOf id n) ds w m o))
 
   sends_reach : (ds : List Direction) (w : WorldState) → AreAllowed w (map send_event ds) → Round w → HasOne (IsAlong x y link) ds → Comes (world_after w (map send_event ds))
   sends_reach [] w allowed r h = absurd h
@@ -228,15 +218,14 @@ module _ (d : DomainConf) (x y link back : ℕ) (joined : IsLink d x y link back
   -- ---- the round
 
   pub round_reaches : (w : WorldState) → AreAllowed w (round_events w) → Round w → Has (world_after w (round_events w))
-  unfolding round_events
   round_reaches w allowed r =
       let ds = directions w.domain.routers in
-      let after = world_after w (round_sends w) in
-      let parts = allowed_parts (round_sends w) (round_takes after ds) w allowed in
       let j = join_of w.domain.routers x y link (joined_here w r) in
       let f = end_found j.near.ends j.far.system link j.toward in
       let along = along_all w.domain.routers x y link j.near (peer_here w r) j.near_at (got_within j.near.ends link f.at f.there) in
       let sending = one_kept (IsAlong x y link) (may_send w) ds (λ s h. ap (λ (k : ℕ). up_over (slice_get w.routers k) (Some s.link)) h.from ∙ ap (λ (k : ℕ). up_over (slice_get w.routers x) (Some k)) h.over ∙ r.near) along in
-      let comes = sends_reach (filter (may_send w) ds) w parts.0 r sending in
-      let next = rounds_keep (round_sends w) w (sends_of_round (filter (may_send w) ds)) parts.0 r in
-      subst Has (sym (world_joined (round_sends w) (round_takes after ds) w)) (takes_reach d x y link back joined (IsLspOf id n) Round Has (λ u a b i fits ok k. round_step d x y link back joined id n u (Take a b i) tt fits ok k) here (λ u a b i k has. has_step d x y link back joined id n u (Take a b i) tt k.run has) arrives_here ds comes.0 after parts.1 next comes.1 along)
+      in_round Has w allowed
+      (λ sends takes.
+      let comes = sends_reach (filter (may_send w) ds) w sends r sending in
+      let next = rounds_keep (round_sends w) w (sends_are IsTraffic (λ a b. tt) (filter (may_send w) ds)) sends r in
+      takes_reach d x y link back joined (IsLspOf id n) Round Has (λ u a b i fits ok k. round_step d x y link back joined id n u (Take a b i) tt fits ok k) here (λ u a b i k has. has_step d x y link back joined id n u (Take a b i) tt k.run has) arrives_here ds comes.0 (world_after w (round_sends w)) takes next comes.1 along)

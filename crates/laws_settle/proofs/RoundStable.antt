@@ -1,20 +1,20 @@
 -- Traffic brings a router no higher sequence number of an LSP than it or a neighbor had.
-use Rattle.std.proofs.Common.{◌≡◌, ◌⊎◌, inl, inr, ℕ, ◌+◌, ◌<◌, ◌≤◌, ◌==◌, Bool, true, false, if◌then◌else◌, List, slice_get, slice_set, Option, Some, None, refl, sym, ap, subst, ◌∙◌, arith}
+use Rattle.std.proofs.Common.{◌≡◌, ◌⊎◌, inl, inr, ℕ, ◌+◌, ◌<◌, ◌≤◌, ◌==◌, true, List, slice_get, slice_set, Option, Some, None, refl, sym, ap, subst, ◌∙◌, arith}
 use Rattle.std.specs.List.{AllByRecursion}
 use Rattle.std.proofs.lemmas.Bool.{cases_lt, cond_both}
 use Rattle.wire_base.specs.declared.addresses.LspId.{LspId}
-use Rattle.wire_base.specs.declared.cause.Cause.TheVariants as cause
 use Rattle.wire_base.specs.declared.entry.Entry.{Entry}
 use Rattle.wire_base.specs.model.Control.{Control, entry_in, fragment_0, purge, seq_of}
 use Rattle.wire_base.specs.model.Flooding.{on_pdu, send, wanted}
-use Rattle.wire_base.specs.model.Item.{Item, ControlItem, PacketItem}
+use Rattle.wire_base.specs.model.Item.{ControlItem}
 use Rattle.wire_base.specs.model.Pdu.{Pdu, LspPdu, CsnpPdu, PsnpPdu, HelloPdu, OtherPdu}
 use Rattle.wire_base.specs.model.Tlv.{rows_of}
+use Rattle.router_core.proofs.KeepLaws.{sent_entries}
 use Rattle.replay_text.specs.declared.event.Event.{Event}
-use Rattle.replay_text.specs.declared.event.Event.TheVariants.{Inject, Take, Lose, Again, Down, Up, Send, Tick, Restart, Relabel, Leave, Join}
+use Rattle.replay_text.specs.declared.event.Event.TheVariants.{Inject, Take, Lose, Again, Send}
 use Rattle.domain_model.specs.Faults.{is_up_toward, up_over}
-use Rattle.domain_model.specs.Moves.{Made, inject_made, item_lost}
-use Rattle.domain_model.specs.Step.{arrives, comes, happens, injects, loses, loses_over, makes, repeats, repeats_over, sends, taken_off, takes, takes_over}
+use Rattle.domain_model.specs.Moves.{inject_made}
+use Rattle.domain_model.specs.Step.{Happened, happens, replies, taken_off}
 use Rattle.domain_model.specs.Truth.{IsTrueControl, IsTrueItem, IsTruePdu, IsTruthful, confs_now}
 use Rattle.domain_model.specs.World.{WorldState, is_up, link_between, peer_place, queue_at}
 use Rattle.domain_model.proofs.EachLaws.{each_from, each_got, each_weaker}
@@ -22,6 +22,7 @@ use Rattle.domain_model.proofs.FlagLaws.{each_is_found, found_each, found_id, sa
 use Rattle.laws_quiet.specs.Quiet.{lsdb_of}
 use Rattle.laws_settle.specs.Fresh.{AreOfJournal, IsFresh, IsItemOfJournal, IsItemWithin, IsOwnNewest, IsPduOfJournal, IsWithin, number_at, number_in}
 use Rattle.laws_settle.specs.Gentle.{IsTraffic}
+use Rattle.laws_settle.proofs.EventCases.{after_again, after_inject, after_lose, after_send, after_take}
 use Rattle.laws_settle.proofs.JournalPdu.{PduBrings, pdu_takes}
 use Rattle.laws_settle.proofs.JournalSteps.{lsp_anothers}
 use Rattle.laws_settle.proofs.OwedSteps.{got_set}
@@ -91,84 +92,35 @@ module _ (id : LspId) (n : ℕ) (w : WorldState) (t : IsTruthful w) (fresh : IsF
       number : v.routers ≡ slice_set w.routers b d → (o : Option Control) → slice_get (slice_set w.routers b d) a ≡ o → number_at v a id ≡ number_in (lsdb_of o) id
       number is o there = ap (λ (rs : List Control). number_in (lsdb_of (slice_get rs a)) id) is ∙ ap (λ (o : Option Control). number_in (lsdb_of o) id) there
 
-  module _ (a link b back i : ℕ) (toward : link_between w.domain.routers b a ≡ Some back) where
-    came : (c : Control) (x : Item) → slice_get w.routers b ≡ Some c → IsTrueItem (confs_now w) w.injections (peer_place w.domain.routers a link) x → IsItemOfJournal fresh.journal x → IsItemWithin (number_at w a) x → Brings id n w (comes (taken_off w a link i) b back c x).world
-    came c x at says told within = by (is_up c back) refl
-      where
-        near : is_up c back ≡ true → is_up_toward w b a ≡ true
-        near up = ap (λ (o : Option Control). up_over o (link_between w.domain.routers b a)) at ∙ ap (up_over (Some c)) toward ∙ up
-
-        above : is_up c back ≡ true → (p : Pdu) → IsTruePdu (confs_now w) p → IsPduOfJournal fresh.journal p → IsWithin (number_at w a) p → n ≤ number_in (on_pdu c back p).control.entries id → (n ≤ number_in c.entries id) ⊎ HasNear id n w b
-        above up p says told within h = elim (cases_lt (number_in c.entries id) n) [
-          | inl low ↦
-              elim (cases_lt (number_at w a id) n) [
-                | inl far ↦ (let l = pdu_stable id n w t fresh a b back c p at says told within low far in absurd (omega (arith, l, h)))
-                | inr far ↦ inr (a, near up, far)
-              ]
-          | inr more ↦ inl more
+  -- a PDU that arrives
+  above : (a link b back : ℕ) (c : Control) (p : Pdu) (i : ℕ) → link_between w.domain.routers b a ≡ Some back → slice_get (queue_at w.flights a link) i ≡ Some (ControlItem p) → slice_get w.routers b ≡ Some c → is_up c back ≡ true
+      → n ≤ number_in (on_pdu c back p).control.entries id → (n ≤ number_in c.entries id) ⊎ HasNear id n w b
+  above a link b back c p i toward there at up h = elim (cases_lt (number_in c.entries id) n) [
+    | inl low ↦
+        elim (cases_lt (number_at w a id) n) [
+          | inl far ↦
+              let says = each_got (IsTrueItem (confs_now w) w.injections (peer_place w.domain.routers a link)) (queue_at w.flights a link) i (ControlItem p) (t.items a link) there in
+              let told = each_got (IsItemOfJournal fresh.journal) (queue_at w.flights a link) i (ControlItem p) (fresh.journaled.items a link) there in
+              let within = each_got (IsItemWithin (number_at w a)) (queue_at w.flights a link) i (ControlItem p) (fresh.behind a link) there in
+              let l = pdu_stable id n w t fresh a b back c p at says told within low far in
+              absurd (omega (arith, l, h))
+          | inr far ↦ inr (a, ap (λ (o : Option Control). up_over o (link_between w.domain.routers b a)) at ∙ ap (up_over (Some c)) toward ∙ up, far)
         ]
+    | inr more ↦ inl more
+  ]
 
-        arrived : is_up c back ≡ true → (y : Item) → IsTrueItem (confs_now w) w.injections (peer_place w.domain.routers a link) y → IsItemOfJournal fresh.journal y → IsItemWithin (number_at w a) y → Brings id n w (arrives (taken_off w a link i) b back c y).world
-        arrived up (ControlItem p) says told within = set_brings b c (on_pdu c back p).control (arrives (taken_off w a link i) b back c (ControlItem p)).world at refl (above up p says told within)
-        arrived up (PacketItem y) says told within = λ z h. inl h
-
-        by : (u : Bool) → is_up c back ≡ u → Brings id n w (if u then arrives (taken_off w a link i) b back c x else makes (taken_off w a link i) (item_lost b cause.Link x)).world
-        by true up = arrived up x says told within
-        by false down = λ z h. inl h
-
-    taken : (o : Option Item) (q : Option Control) → slice_get (queue_at w.flights a link) i ≡ o → slice_get w.routers b ≡ q → Brings id n w (takes w a link b back i o q).world
-    taken None q there at = λ z h. inl h
-    taken (Some x) None there at = λ z h. inl h
-    taken (Some x) (Some c) there at =
-        came c x at (each_got (IsTrueItem (confs_now w) w.injections (peer_place w.domain.routers a link)) (queue_at w.flights a link) i x (t.items a link) there)
-        (each_got (IsItemOfJournal fresh.journal) (queue_at w.flights a link) i x (fresh.journaled.items a link) there) (each_got (IsItemWithin (number_at w a)) (queue_at w.flights a link) i x (fresh.behind a link) there)
-
-  taken_over : (a b i : ℕ) (l m : Option ℕ) → link_between w.domain.routers b a ≡ m → Brings id n w (takes_over w a b i l m).world
-  taken_over a b i None m toward = λ z h. inl h
-  taken_over a b i (Some link) None toward = λ z h. inl h
-  taken_over a b i (Some link) (Some back) toward = taken a link b back i toward (slice_get (queue_at w.flights a link) i) (slice_get w.routers b) refl refl
-
-  sent_entries : (c : Control) (link : ℕ) → (send c link).control.entries ≡ c.entries
-  unfolding send
-  sent_entries c link = refl
-
-  sent : (a : ℕ) (q : Option Control) (l : Option ℕ) → slice_get w.routers a ≡ q → Brings id n w (sends w a q l).world
-  sent a None l at = λ z h. inl h
-  sent a (Some c) None at = λ z h. inl h
-  sent a (Some c) (Some link) at = set_brings a c (send c link).control (sends w a (Some c) (Some link)).world at refl (λ h. (let m = ap (λ (es : List Entry). number_in es id) (sent_entries c link) in inl (omega (arith, m, h))))
-
-  lost_over : (a b i : ℕ) (l : Option ℕ) → Brings id n w (loses_over w a b i l).world
-  lost_over a b i None = λ z h. inl h
-  lost_over a b i (Some link) = by (slice_get (queue_at w.flights a link) i)
-    where
-      by : (o : Option Item) → Brings id n w (loses w a link b i o).world
-      by None = λ z h. inl h
-      by (Some x) = λ z h. inl h
-
-  repeated_over : (a i : ℕ) (l : Option ℕ) → Brings id n w (repeats_over w a i l).world
-  repeated_over a i None = λ z h. inl h
-  repeated_over a i (Some link) = by (slice_get (queue_at w.flights a link) i)
-    where
-      by : (o : Option Item) → Brings id n w (repeats w a link o).world
-      by None = λ z h. inl h
-      by (Some (PacketItem x)) = λ z h. inl h
-      by (Some (ControlItem p)) = λ z h. inl h
-
-  injected : (a : ℕ) (enter : Control → Made) (q : Option Control) → Brings id n w (injects w a enter q).world
-  injected a enter None = λ z h. inl h
-  injected a enter (Some c) = λ z h. inl h
+  abbrev Bringing : Happened → Type 0
+  Bringing m = Brings id n w m.world
 
   pub brings_step : (e : Event) → IsTraffic e → Brings id n w (happens w e).world
   unfolding happens
-  brings_step (Inject a sd bsl ks ttl entropy payload) of = injected a (λ c. inject_made w.domain.routers a c (w.injections + 1) sd bsl ks ttl entropy payload) (slice_get w.routers a)
-  brings_step (Take a b i) of = taken_over a b i (link_between w.domain.routers a b) (link_between w.domain.routers b a) refl
-  brings_step (Lose a b i) of = lost_over a b i (link_between w.domain.routers a b)
-  brings_step (Again a b i) of = repeated_over a i (link_between w.domain.routers a b)
-  brings_step (Down a b) of = absurd of
-  brings_step (Up a b) of = absurd of
-  brings_step (Send a b) of = sent a (slice_get w.routers a) (link_between w.domain.routers a b) refl
-  brings_step (Tick a) of = absurd of
-  brings_step (Restart a) of = absurd of
-  brings_step (Relabel a sd bsl label) of = absurd of
-  brings_step (Leave a sd) of = absurd of
-  brings_step (Join a sd) of = absurd of
+  brings_step (Inject a sd bsl ks ttl entropy payload) of = after_inject w Bringing (λ z h. inl h) a (λ c. inject_made w.domain.routers a c (w.injections + 1) sd bsl ks ttl entropy payload) (λ c z h. inl h)
+  brings_step (Take a b i) of =
+      after_take w Bringing (λ z h. inl h) a b i
+      (λ link back c p toward backward there at up. set_brings b c (on_pdu c back p).control (replies (taken_off w a link i) b back (on_pdu c back p)).world at refl (above a link b back c p i backward there at up)) (λ link c y z h. inl h) (λ link x z h. inl h)
+  brings_step (Lose a b i) of = after_lose w Bringing (λ z h. inl h) a b i (λ link x z h. inl h)
+  brings_step (Again a b i) of = after_again w Bringing (λ z h. inl h) a b i (λ link p there z h. inl h)
+  brings_step (Send a b) of =
+      after_send w Bringing (λ z h. inl h) a b
+      (λ c link at toward. set_brings a c (send c link).control (replies w a link (send c link)).world at refl (λ h. (let m = ap (λ (es : List Entry). number_in es id) (sent_entries c link) in inl (omega (arith, m, h)))))
+  brings_step other of = absurd of

@@ -8,7 +8,7 @@ use Rattle.wire_base.specs.model.Item.{Item}
 use Rattle.replay_text.specs.declared.event.Event.{Event}
 use Rattle.replay_text.specs.declared.event.Event.TheVariants.{Take, Send}
 use Rattle.domain_model.specs.Faults.{event_fault}
-use Rattle.domain_model.specs.Run.{Direction, round_takes, taken_now, world_after}
+use Rattle.domain_model.specs.Run.{Direction, directions, round_events, round_sends, round_takes, taken_now, world_after}
 use Rattle.domain_model.specs.Step.{Happened, comes, doing, happens, taken_off, takes, takes_over}
 use Rattle.domain_model.specs.Truth.{EventFits, IsTruthful}
 use Rattle.domain_model.specs.World.{WorldState, frames_between, link_between, peer_place, queue_at, queue_over}
@@ -16,7 +16,6 @@ use Rattle.domain_model.proofs.EachLaws.{each_joined, each_repeated}
 use Rattle.domain_model.proofs.LinkLaws.{peer_is}
 use Rattle.domain_model.proofs.QueueLaws.{got_within}
 use Rattle.laws_ledger.specs.Runs.{AreAllowed}
-use Rattle.laws_settle.specs.Gentle.{IsTraffic}
 use Rattle.laws_settle.proofs.RoundQueues.{HasOne, StandsAt, steps_forward}
 use Rattle.laws_settle.proofs.RoundStays.{came_stays, send_stays, take_stays}
 
@@ -30,9 +29,27 @@ pub allowed_parts : (es fs : List Event) (w : WorldState) → AreAllowed w (es +
 allowed_parts [] fs w all = (tt, all)
 allowed_parts (e ∷ es) fs w all = let rest = allowed_parts es fs (happens w e).world all.2 in ((all.0, all.1, rest.0), rest.1)
 
-pub takes_of_round : (ds : List Direction) (w : WorldState) → AllByRecursion IsTraffic (round_takes w ds)
-takes_of_round [] w = tt
-takes_of_round (s ∷ ds) w = each_joined IsTraffic (taken_now w s) (round_takes (world_after w (taken_now w s)) ds) (each_repeated IsTraffic (length (frames_between w s.from s.to)) (Take s.from s.to 0) tt) (takes_of_round ds (world_after w (taken_now w s)))
+abbrev pub send_event : Direction → Event
+send_event s = Send s.from s.to
+
+-- what holds of each frame that is sent, or received
+pub sends_are : (P : Event → Type 0) → ((a b : ℕ) → P (Send a b)) → (ds : List Direction) → AllByRecursion P (map send_event ds)
+sends_are P each [] = tt
+sends_are P each (s ∷ ds) = (each s.from s.to, sends_are P each ds)
+
+pub takes_are : (P : Event → Type 0) → ((a b i : ℕ) → P (Take a b i)) → (ds : List Direction) (w : WorldState) → AllByRecursion P (round_takes w ds)
+takes_are P each [] w = tt
+takes_are P each (s ∷ ds) w = each_joined P (taken_now w s) (round_takes (world_after w (taken_now w s)) ds) (each_repeated P (length (frames_between w s.from s.to)) (Take s.from s.to 0) (each s.from s.to 0)) (takes_are P each ds (world_after w (taken_now w s)))
+
+-- a round: all send, and then all receive
+pub in_round : (P : WorldState → Type 0) (w : WorldState) → AreAllowed w (round_events w)
+    → (AreAllowed w (round_sends w) → AreAllowed (world_after w (round_sends w)) (round_takes (world_after w (round_sends w)) (directions w.domain.routers)) → P (world_after (world_after w (round_sends w)) (round_takes (world_after w (round_sends w)) (directions w.domain.routers))))
+    → P (world_after w (round_events w))
+unfolding round_events
+in_round P w allowed holds =
+    let takes = round_takes (world_after w (round_sends w)) (directions w.domain.routers) in
+    let parts = allowed_parts (round_sends w) takes w allowed in
+    subst P (sym (world_joined (round_sends w) takes w)) (holds parts.0 parts.1)
 
 -- ---- one link
 
@@ -56,7 +73,7 @@ pub record IsOnWay (x link : ℕ) (Z : Item → Type 0) (m : ℕ) (w : WorldStat
   pub is : Z item
 
 -- what the routers send leaves it there
-pub sends_leave : (x link : ℕ) (Z : Item → Type 0) (ds : List Direction) (w : WorldState) (m : ℕ) → IsOnWay x link Z m w → IsOnWay x link Z m (world_after w (map (λ s. Send s.from s.to) ds))
+pub sends_leave : (x link : ℕ) (Z : Item → Type 0) (ds : List Direction) (w : WorldState) (m : ℕ) → IsOnWay x link Z m w → IsOnWay x link Z m (world_after w (map send_event ds))
 sends_leave x link Z [] w m o = o
 sends_leave x link Z (s ∷ ds) w m o =
     sends_leave x link Z ds (happens w (Send s.from s.to)).world m (record { at = o.at; before = o.before; item = o.item; there = send_stays w s.from s.to x link o.at o.item o.there; is = o.is })

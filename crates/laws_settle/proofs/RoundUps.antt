@@ -1,7 +1,7 @@
 -- Traffic leaves interfaces as they are.
 use Rattle.std.proofs.Common.{◌≡◌, ℕ, Bool, false, List, slice_get, slice_index_or, Some, refl, sym, ap, ◌∙◌}
 use Rattle.replay_text.specs.declared.event.Event.{Event}
-use Rattle.replay_text.specs.declared.event.Event.TheVariants.{Inject, Take, Lose, Again, Down, Up, Send, Tick, Restart, Relabel, Leave, Join}
+use Rattle.replay_text.specs.declared.event.Event.TheVariants.{Down, Up}
 use Rattle.replay_text.specs.Hand.{is_move}
 use Rattle.domain_model.specs.Faults.{up_over}
 use Rattle.domain_model.specs.Step.{happens}
@@ -16,18 +16,9 @@ pub record IsStill (w v : WorldState) : Type 0 where
   pub up : (a link : ℕ) → up_over (slice_get v.routers a) (Some link) ≡ up_over (slice_get w.routers a) (Some link)
 
 moves_none : (e : Event) → IsTraffic e → is_move e ≡ false
-moves_none (Inject a sd bsl ks ttl entropy payload) of = refl
-moves_none (Take a b i) of = refl
-moves_none (Lose a b i) of = refl
-moves_none (Again a b i) of = refl
 moves_none (Down a b) of = absurd of
 moves_none (Up a b) of = absurd of
-moves_none (Send a b) of = refl
-moves_none (Tick a) of = refl
-moves_none (Restart a) of = refl
-moves_none (Relabel a sd bsl label) of = refl
-moves_none (Leave a sd) of = refl
-moves_none (Join a sd) of = refl
+moves_none other of = refl
 
 pub still_step : (w : WorldState) (e : Event) → IsTraffic e → IsStill w (happens w e).world
 still_step w e of = record {

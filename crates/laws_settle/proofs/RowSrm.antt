@@ -7,7 +7,8 @@ use Rattle.std.specs.declared.cmp.Ordering.TheVariants.{Less, Equal, Greater}
 use Rattle.wire_base.specs.declared.addresses.LspId.{LspId}
 use Rattle.wire_base.specs.model.Control.{AreAscending, Flood, FlagRow, IsFlagRow, IsWithinLinks, at_row, id_order, is_below, no_flags, same_id, srm, srm_in, ssn, ssn_in}
 use Rattle.wire_base.specs.model.Flooding.{with_row}
-use Rattle.lsp_store.proofs.OrderLaws.{above_differs, below_differs, below_trans, same_turned}
+use Rattle.lsp_store.proofs.OrderLaws.{above_differs, below_differs, same_turned}
+use Rattle.lsp_store.proofs.PlaceLaws.{below_all}
 use Rattle.isis_flood.proofs.FloodLaws.{same_from_tie}
 use Rattle.laws_router.proofs.EntryLaws.{id_self}
 use Rattle.laws_router.proofs.FlagLaws.{KeepsRow, all_rows, none_flagged, row_ids, rows_ascend}
@@ -47,10 +48,6 @@ row_absent : (n : ℕ) (id : LspId) (rows : List FlagRow) → AllByRecursion (λ
 row_absent n id [] all = refl
 row_absent n id (row ∷ rows) all =
     ap (λ (b : Bool). if b then row else row_of n id rows) (same_turned row.id id ∙ below_differs id row.id all.0) ∙ row_absent n id rows all.1
-
-below_all : (ids : List LspId) (x y : LspId) → is_below x y ≡ true → AllByRecursion (λ z. is_below y z ≡ true) ids → AllByRecursion (λ z. is_below x z ≡ true) ids
-below_all [] x y h all = tt
-below_all (z ∷ ids) x y h all = (below_trans x y z h all.0, below_all ids x y h all.1)
 
 changed_row : (n : ℕ) (id : LspId) (change : FlagRow → FlagRow) → KeepsId change → (rows : List FlagRow) → AreAscending (row_ids rows) → row_of n id (at_row n id change rows) ≡ change (row_of n id rows)
 changed_row n id change keeps [] asc = ap (λ (b : Bool). if b then change (no_flags n id) else no_flags n id) (ap (λ (i : LspId). same_id i id) (keeps (no_flags n id)) ∙ id_self id)

@@ -8,7 +8,7 @@ use Rattle.wire_base.specs.declared.triple.Summary.{Summary}
 use Rattle.wire_base.specs.model.Lists.{blocks, blocks_within}
 use Rattle.wire_base.specs.model.Control.{summary_of, srm, ssn, Control}
 use Rattle.wire_base.specs.model.Flooding.{zero_id, id_after, last_listed, csnps, most_listed, is_known, due_csnps, lsp_of, due_lsps, due_psnps, psnp_of, send_of}
-use Rattle.wire_base.specs.model.Pdu.{Head, Pdu, LspPdu, CsnpPdu, PsnpPdu, HelloPdu, OtherPdu, row_tlvs}
+use Rattle.wire_base.specs.model.Pdu.{Head, Pdu, LspPdu, CsnpPdu, PsnpPdu, row_tlvs}
 use Rattle.wire_base.specs.model.Tlv.{SummaryFits, rows_of}
 use Rattle.laws_format.proofs.TlvListLaws.{rows_of_tlvs}
 use Rattle.domain_model.specs.Truth.{head_of}
@@ -19,8 +19,7 @@ abbrev pub PduSays : (Head → List ℕ → Type 0) → (Summary → Type 0) →
 PduSays L R (LspPdu h tlvs) = L h tlvs
 PduSays L R (CsnpPdu source start last tlvs) = AllByRecursion R (rows_of tlvs)
 PduSays L R (PsnpPdu source tlvs) = AllByRecursion R (rows_of tlvs)
-PduSays L R HelloPdu = Unit {0}
-PduSays L R (OtherPdu number) = Unit {0}
+PduSays L R other = Unit {0}
 
 module _ (L : Head → List ℕ → Type 0) (R : Summary → Type 0) where
   -- an entry of which both hold, and whose summary fits its fields

@@ -1,18 +1,17 @@
 -- Which interfaces of a domain are up, and that no event changes it but those that bring an interface up or down.
-use Rattle.std.proofs.Common.{◌≡◌, ℕ, zero, suc, ◌+◌, Bool, true, false, if◌then◌else◌, List, [], ◌∷◌, slice_get, slice_set, slice_index_or, Option, Some, None, refl, sym, ap, ◌∙◌}
+use Rattle.std.proofs.Common.{◌≡◌, ℕ, zero, suc, ◌+◌, Bool, false, List, [], ◌∷◌, slice_get, slice_set, slice_index_or, Option, Some, None, refl, sym, ap, ◌∙◌}
 use Rattle.std.proofs.lemmas.Option.{same_Some}
-use Rattle.wire_base.specs.declared.cause.Cause.TheVariants as cause
 use Rattle.wire_base.specs.model.Control.{Control}
 use Rattle.wire_base.specs.model.Flooding.{Reply, tick, restart, relabel, leave, join}
-use Rattle.wire_base.specs.model.Item.{Item, ControlItem, PacketItem}
 use Rattle.replay_text.specs.declared.event.Event.{Event}
-use Rattle.replay_text.specs.declared.event.Event.TheVariants.{Inject, Take, Lose, Again, Down, Up, Send, Tick, Restart, Relabel, Leave, Join}
+use Rattle.replay_text.specs.declared.event.Event.TheVariants.{Inject, Take, Lose, Again, Send, Tick, Restart, Relabel, Leave, Join}
 use Rattle.replay_text.specs.Hand.{is_move}
 use Rattle.domain_model.specs.Faults.{up_over, is_up_toward}
-use Rattle.domain_model.specs.Moves.{Made, item_lost, inject_made}
-use Rattle.domain_model.specs.Step.{makes, arrives, comes, takes, takes_over, loses, loses_over, repeats, repeats_over, injects, sends, changes, taken_off, happens}
-use Rattle.domain_model.specs.World.{WorldState, is_up, link_between, queue_at}
+use Rattle.domain_model.specs.Moves.{inject_made}
+use Rattle.domain_model.specs.Step.{Happened, changes, happens}
+use Rattle.domain_model.specs.World.{WorldState, link_between}
 use Rattle.laws_settle.specs.Ups.{ups_in, ups_of}
+use Rattle.laws_settle.proofs.EventCases.{after_again, after_change, after_inject, after_lose, after_send, after_take}
 use Rattle.laws_settle.proofs.ControlUps.{pdu_ups, tick_ups, restart_ups, send_ups, relabel_ups, leave_ups, join_ups}
 
 -- ---- rows
@@ -52,68 +51,23 @@ toward_is w a b = over_is w.routers a (link_between w.domain.routers a b)
 
 -- ---- events that move no interface
 
-arrives_ups : (w : WorldState) (b back : ℕ) (c : Control) (x : Item) → slice_get w.routers b ≡ Some c → ups_of (arrives w b back c x).world ≡ ups_of w
-arrives_ups w b back c (ControlItem p) at = set_same w.routers b c _ at (pdu_ups c back p)
-arrives_ups w b back c (PacketItem x) at = refl
+module _ (w : WorldState) where
+  abbrev IsSteady : Happened → Type 0
+  IsSteady n = ups_of n.world ≡ ups_of w
 
-comes_ups : (w : WorldState) (b back : ℕ) (c : Control) (x : Item) → slice_get w.routers b ≡ Some c → ups_of (comes w b back c x).world ≡ ups_of w
-comes_ups w b back c x at = by (is_up c back)
-  where
-    by : (up : Bool) → ups_of (if up then arrives w b back c x else makes w (item_lost b cause.Link x)).world ≡ ups_of w
-    by true = arrives_ups w b back c x at
-    by false = refl
+  changed_ups : (a : ℕ) (change : Control → Reply) → ((c : Control) → (change c).control.flood.up ≡ c.flood.up) → IsSteady (changes w a change (slice_get w.routers a))
+  changed_ups a change same = after_change w IsSteady refl a change (λ c at. set_same w.routers a c _ at (same c))
 
-takes_ups : (w : WorldState) (a link b back i : ℕ) (o : Option Item) (q : Option Control) → slice_get w.routers b ≡ q → ups_of (takes w a link b back i o q).world ≡ ups_of w
-takes_ups w a link b back i None q at = refl
-takes_ups w a link b back i (Some x) None at = refl
-takes_ups w a link b back i (Some x) (Some c) at = comes_ups (taken_off w a link i) b back c x at
-
-takes_over_ups : (w : WorldState) (a b i : ℕ) (l m : Option ℕ) → ups_of (takes_over w a b i l m).world ≡ ups_of w
-takes_over_ups w a b i None m = refl
-takes_over_ups w a b i (Some link) None = refl
-takes_over_ups w a b i (Some link) (Some back) = takes_ups w a link b back i (slice_get (queue_at w.flights a link) i) (slice_get w.routers b) refl
-
-loses_ups : (w : WorldState) (a link b i : ℕ) (o : Option Item) → ups_of (loses w a link b i o).world ≡ ups_of w
-loses_ups w a link b i None = refl
-loses_ups w a link b i (Some x) = refl
-
-loses_over_ups : (w : WorldState) (a b i : ℕ) (l : Option ℕ) → ups_of (loses_over w a b i l).world ≡ ups_of w
-loses_over_ups w a b i None = refl
-loses_over_ups w a b i (Some link) = loses_ups w a link b i (slice_get (queue_at w.flights a link) i)
-
-repeats_ups : (w : WorldState) (a link : ℕ) (o : Option Item) → ups_of (repeats w a link o).world ≡ ups_of w
-repeats_ups w a link None = refl
-repeats_ups w a link (Some (PacketItem x)) = refl
-repeats_ups w a link (Some (ControlItem p)) = refl
-
-repeats_over_ups : (w : WorldState) (a i : ℕ) (l : Option ℕ) → ups_of (repeats_over w a i l).world ≡ ups_of w
-repeats_over_ups w a i None = refl
-repeats_over_ups w a i (Some link) = repeats_ups w a link (slice_get (queue_at w.flights a link) i)
-
-sends_ups : (w : WorldState) (a : ℕ) (q : Option Control) (l : Option ℕ) → slice_get w.routers a ≡ q → ups_of (sends w a q l).world ≡ ups_of w
-sends_ups w a None l at = refl
-sends_ups w a (Some c) None at = refl
-sends_ups w a (Some c) (Some link) at = set_same w.routers a c _ at (send_ups c link)
-
-changes_ups : (w : WorldState) (a : ℕ) (change : Control → Reply) → ((c : Control) → (change c).control.flood.up ≡ c.flood.up) → (q : Option Control) → slice_get w.routers a ≡ q → ups_of (changes w a change q).world ≡ ups_of w
-changes_ups w a change same None at = refl
-changes_ups w a change same (Some c) at = set_same w.routers a c _ at (same c)
-
-injects_ups : (w : WorldState) (a : ℕ) (enter : Control → Made) (q : Option Control) → ups_of (injects w a enter q).world ≡ ups_of w
-injects_ups w a enter None = refl
-injects_ups w a enter (Some c) = refl
-
-pub steady_ups : (w : WorldState) (e : Event) → is_move e ≡ false → ups_of (happens w e).world ≡ ups_of w
-unfolding happens
-steady_ups w (Inject a sd bsl ks ttl entropy payload) steady = injects_ups w a (λ c. inject_made w.domain.routers a c (w.injections + 1) sd bsl ks ttl entropy payload) (slice_get w.routers a)
-steady_ups w (Take a b i) steady = takes_over_ups w a b i (link_between w.domain.routers a b) (link_between w.domain.routers b a)
-steady_ups w (Lose a b i) steady = loses_over_ups w a b i (link_between w.domain.routers a b)
-steady_ups w (Again a b i) steady = repeats_over_ups w a i (link_between w.domain.routers a b)
-steady_ups w (Down a b) steady = absurd cc
-steady_ups w (Up a b) steady = absurd cc
-steady_ups w (Send a b) steady = sends_ups w a (slice_get w.routers a) (link_between w.domain.routers a b) refl
-steady_ups w (Tick a) steady = changes_ups w a tick tick_ups (slice_get w.routers a) refl
-steady_ups w (Restart a) steady = changes_ups w a restart restart_ups (slice_get w.routers a) refl
-steady_ups w (Relabel a sd bsl label) steady = changes_ups w a (λ c. relabel c sd bsl label) (λ c. relabel_ups c sd bsl label) (slice_get w.routers a) refl
-steady_ups w (Leave a sd) steady = changes_ups w a (λ c. leave c sd) (λ c. leave_ups c sd) (slice_get w.routers a) refl
-steady_ups w (Join a sd) steady = changes_ups w a (λ c. join c sd) (λ c. join_ups c sd) (slice_get w.routers a) refl
+  pub steady_ups : (e : Event) → is_move e ≡ false → ups_of (happens w e).world ≡ ups_of w
+  unfolding happens
+  steady_ups (Inject a sd bsl ks ttl entropy payload) steady = after_inject w IsSteady refl a (λ c. inject_made w.domain.routers a c (w.injections + 1) sd bsl ks ttl entropy payload) (λ c. refl)
+  steady_ups (Take a b i) steady = after_take w IsSteady refl a b i (λ link back c p toward backward there at up. set_same w.routers b c _ at (pdu_ups c back p)) (λ link c y. refl) (λ link x. refl)
+  steady_ups (Lose a b i) steady = after_lose w IsSteady refl a b i (λ link x. refl)
+  steady_ups (Again a b i) steady = after_again w IsSteady refl a b i (λ link p there. refl)
+  steady_ups (Send a b) steady = after_send w IsSteady refl a b (λ c link at toward. set_same w.routers a c _ at (send_ups c link))
+  steady_ups (Tick a) steady = changed_ups a tick tick_ups
+  steady_ups (Restart a) steady = changed_ups a restart restart_ups
+  steady_ups (Relabel a sd bsl label) steady = changed_ups a (λ c. relabel c sd bsl label) (λ c. relabel_ups c sd bsl label)
+  steady_ups (Leave a sd) steady = changed_ups a (λ c. leave c sd) (λ c. leave_ups c sd)
+  steady_ups (Join a sd) steady = changed_ups a (λ c. join c sd) (λ c. join_ups c sd)
+  steady_ups other steady = absurd cc
