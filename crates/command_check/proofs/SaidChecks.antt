@@ -23,8 +23,7 @@ use Rattle.command_check.specs.Turning.{CheckEnters, CheckNamesOnce}
 -- what is executed is a line of a schedule
 abbrev IsBase : (names : List (List ℕ)) → (text : List ℕ) → CheckLine → Type 0
 IsBase names text (Base said) = schedule_line text names ≡ Ok said
-IsBase names text Quiet = Unit {0}
-IsBase names text (Cover router sd bsl ids ttl entropy) = Unit {0}
+IsBase names text other = Unit {0}
 
 bind_good : {X Y E : Type 0} (P : Y → Type 0) (r : Result X E) (f : X → Result Y E) → ((x : X) → IfOk (f x) P) → IfOk (r >>= f) P
 bind_good P (Ok x) f each = each x
@@ -73,8 +72,7 @@ module _ (names : List (List ℕ)) (text : List ℕ) where
 
   pub check_doable : (said : CheckLine) → check_line text names ≡ Ok said → CheckEnters (length names) said × CheckNamesOnce said
   check_doable (Base said) reads = line_doable names text said (check_base said reads)
-  check_doable Quiet reads = (tt, tt)
-  check_doable (Cover router sd bsl ids ttl entropy) reads = (tt, tt)
+  check_doable other reads = (tt, tt)
 
 -- a prefix of a line that is too long is read as the line is
 pub shown_check : (names : List (List ℕ)) (text : List ℕ) → check_line (shown text) names ≡ check_line text names

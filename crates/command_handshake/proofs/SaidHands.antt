@@ -47,23 +47,13 @@ differs words word args key more are other is = true≢false (sym ((bytes_eq-Dec
 
 module _ (names words : List (List ℕ)) (word : List ℕ) (args : List (List ℕ)) (are : words ≡ word ∷ args) (no_up : bytes_eq word (codes "up") ≡ false) (no_down : bytes_eq word (codes "down") ≡ false) where
   steady_event : (e : Event) → IsEvent names words e → is_move e ≡ false
-  steady_event (event.Inject router sd bsl ids ttl entropy payload) is = refl
-  steady_event (event.Take from to i) is = refl
-  steady_event (event.Lose from to i) is = refl
-  steady_event (event.Again from to i) is = refl
   steady_event (event.Down from to) is = absurd (differs words word args (codes "down") is.args are no_down is.words_are)
   steady_event (event.Up from to) is = absurd (differs words word args (codes "up") is.args are no_up is.words_are)
-  steady_event (event.Send from to) is = refl
-  steady_event (event.Tick router) is = refl
-  steady_event (event.Restart router) is = refl
-  steady_event (event.Relabel router sd bsl label) is = refl
-  steady_event (event.Leave router sd) is = refl
-  steady_event (event.Join router sd) is = refl
+  steady_event other is = refl
 
   steady_said : (said : Line) → IsSaid names words said → moves said ≡ false
-  steady_said Empty is = refl
   steady_said (One e) is = steady_event e is
-  steady_said (Settle rounds) is = refl
+  steady_said other is = refl
 
 steady_line : (names : List (List ℕ)) (text word : List ℕ) (args : List (List ℕ)) → words_of text ≡ word ∷ args → bytes_eq word (codes "up") ≡ false → bytes_eq word (codes "down") ≡ false
     → (said : Line) → schedule_line text names ≡ Ok said → moves said ≡ false

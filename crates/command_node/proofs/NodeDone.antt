@@ -11,7 +11,7 @@ use Rattle.command_drive.specs.CaptureReading.{any_unread, any_fed, any_drained,
 use Rattle.command_drive.specs.Captures.{within_limit}
 use Rattle.command_drive.specs.declared.capture_reader.RecordFault.{RecordFault}
 use Rattle.command_drive.proofs.CaptureLaws.{ended_well, records_are}
-use Rattle.command_node.specs.NodeRun.{first_node, records_reach, node_at_end, node_end, ending, node_answer_of, node_answer, HasNoGap, IsReplayable}
+use Rattle.command_node.specs.NodeRun.{first_node, records_reach, node_end, ending, node_answer_of, node_answer, HasNoGap, IsReplayable}
 use Rattle.command_node.proofs.NodeLaws.{all_done}
 
 ends_done : (t : Tally) (met ended : Option RecordFault) → met ≡ None → ended ≡ None → (node_end true t met ended).0 ≡ Done

@@ -53,7 +53,7 @@ module _ (frames report : List ℕ) where
   moved_past None sec n = refl
   moved_past (Some clock) sec n = seconds_past (sec - clock) clock n
 
-  tells_past : (read : NgRecord) (e : Effects) (n : Node) → tells read e (past frames report n) ≡ past frames report (tells read e n)
+  pub tells_past : (read : NgRecord) (e : Effects) (n : Node) → tells read e (past frames report n) ≡ past frames report (tells read e n)
   tells_past read e n =
       ap (λ (l : List ℕ). goes_out read.cap.sec read.cap.usec e.sent (record n {
         tally = record n.tally { used = n.tally.used + 1; got = n.tally.got + length e.got; dropped = n.tally.dropped + length e.drops };
@@ -73,7 +73,7 @@ module _ (frames report : List ℕ) where
       by true = refl
       by false = tells_past read next.effects (record n { control = next.control })
 
-  given_past : (read : NgRecord) (n : Node) (link : Option ℕ) → given_on read (past frames report n) link ≡ past frames report (given_on read n link)
+  pub given_past : (read : NgRecord) (n : Node) (link : Option ℕ) → given_on read (past frames report n) link ≡ past frames report (given_on read n link)
   given_past read n None = refl
   given_past read n (Some link) = taken_past read n (on_frame n.control link read.cap.octets)
 

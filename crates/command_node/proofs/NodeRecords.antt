@@ -33,7 +33,7 @@ verdict_past frames report how reached =
     ap (λ (l : List ℕ). record { status = end.0; report = l; frames = frames ++ reached.node.frames }) (append_assoc report reached.node.report end.1)
 
 -- a node is one without texts behind its texts
-of_bare : (n : Node) → n ≡ past n.frames n.report (bare n)
+pub of_bare : (n : Node) → n ≡ past n.frames n.report (bare n)
 of_bare n = ap₂ (λ (f r : List ℕ). record n { frames = f; report = r }) (sym (append-nil n.frames)) (sym (append-nil n.report))
 
 owes_past : (n : Node) (records : List NgRecord) (how : Behind) → verdict_by how (records_reach n records) ≡ told n.report n.frames (verdict_by how (records_reach (bare n) records))
@@ -196,7 +196,7 @@ any_conf (Some conf) P holds = holds conf
 pub starts_as : (o : Option RouterConf) (conf : RouterConf) (P : RouterConf → Type 0) → o ≡ Some conf → P conf → IfSome o P
 starts_as o conf P is holds = subst (λ (x : Option RouterConf). IfSome x P) (sym is) holds
 
-first_conf : (r : RouterConf) → (first_node r).control.conf ≡ r
+pub first_conf : (r : RouterConf) → (first_node r).control.conf ≡ r
 unfolding first_control started
 first_conf r = refl
 

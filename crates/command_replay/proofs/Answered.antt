@@ -96,9 +96,8 @@ rounds_told line (suc rounds) s rest =
     ∙ rounds_then line rounds s rest first refl
 
 pub said_told : (line : ℕ) (said : Line) (s : ReplayState) (rest : Rest) → said_owes line said s rest ≡ told_then line (tells_line line (unsaid s) said) rest
-said_told line Empty s rest = refl
-said_told line (One e) s rest = refl
 said_told line (Settle rounds) s rest = rounds_told line rounds s rest
+said_told line other s rest = refl
 
 -- ---- the end
 

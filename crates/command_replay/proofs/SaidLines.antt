@@ -83,17 +83,7 @@ IsDoable count said = LineEnters count said × LineNamesOnce said
 
 event_doable : (names words : List (List ℕ)) (e : Event) → IsEvent names words e → IsEntered (length names) e × NamesOnce e
 event_doable names words (event.Inject router sd bsl ids ttl entropy payload) is = let a = is.are in (place_within names a.name router a.named, listed_once a.list ids a.listed)
-event_doable names words (event.Take from to i) is = (tt, refl)
-event_doable names words (event.Lose from to i) is = (tt, refl)
-event_doable names words (event.Again from to i) is = (tt, refl)
-event_doable names words (event.Down from to) is = (tt, refl)
-event_doable names words (event.Up from to) is = (tt, refl)
-event_doable names words (event.Send from to) is = (tt, refl)
-event_doable names words (event.Tick router) is = (tt, refl)
-event_doable names words (event.Restart router) is = (tt, refl)
-event_doable names words (event.Relabel router sd bsl label) is = (tt, refl)
-event_doable names words (event.Leave router sd) is = (tt, refl)
-event_doable names words (event.Join router sd) is = (tt, refl)
+event_doable names words other is = (tt, refl)
 
 said_doable : (names words : List (List ℕ)) (said : Line) → IsSaid names words said → IsDoable (length names) said
 said_doable names words line.Empty is = (tt, tt)

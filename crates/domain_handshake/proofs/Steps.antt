@@ -177,18 +177,9 @@ restart_stops line s now router texts texts_now why first = then_stops (hello_do
 
 pub other_event : (line : ℕ) (s : HandState) (e : Event) → ((a : ℕ) → e ≡ Tick a → ⊥) → ((a : ℕ) → e ≡ Restart a → ⊥) → world_does line s (One e) ≡ event_does line s e
 unfolding event_does
-other_event line s (Inject router sd bsl ids ttl entropy payload) tick restart = refl
-other_event line s (Take from to i) tick restart = refl
-other_event line s (Lose from to i) tick restart = refl
-other_event line s (Again from to i) tick restart = refl
-other_event line s (Down from to) tick restart = refl
-other_event line s (Up from to) tick restart = refl
-other_event line s (Send from to) tick restart = refl
 other_event line s (Tick a) tick restart = absurd (tick a refl)
 other_event line s (Restart a) tick restart = absurd (restart a refl)
-other_event line s (Relabel router sd bsl label) tick restart = refl
-other_event line s (Leave router sd) tick restart = refl
-other_event line s (Join router sd) tick restart = refl
+other_event line s other tick restart = refl
 
 -- ---- calls on the circuits
 

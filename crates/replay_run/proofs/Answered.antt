@@ -6,8 +6,7 @@ use Rattle.wire_base.specs.declared.outside.Source as source
 use Rattle.wire_base.specs.declared.outside.Sink as sink
 use Rattle.wire_base.specs.declared.status.Status.{Status}
 use Rattle.wire_base.specs.declared.status.Status.TheVariants.{Done, WriteFault, Memory}
-use Rattle.command_line.specs.Form.{Form}
-use Rattle.command_line.specs.Form.{Node}
+use Rattle.command_line.specs.Form.{Form, Node}
 use Rattle.command_line.specs.Words.{IsGrow, IsReplay}
 use Rattle.command_drive.specs.Answer.{IsDecided}
 use Rattle.command_drive.specs.Outside.{Meets}

@@ -7,8 +7,7 @@ use Rattle.wire_base.specs.declared.status.Status.{Status}
 use Rattle.wire_base.specs.declared.status.Status.TheVariants.{ConfRefused, WriteFault, Memory}
 use Rattle.wire_base.specs.model.Configuration.{DomainConf}
 use Rattle.domain_conf.specs.declared.fault.ConfFault.{ConfFault}
-use Rattle.command_line.specs.Form.{Form}
-use Rattle.command_line.specs.Form.{Node}
+use Rattle.command_line.specs.Form.{Form, Node}
 use Rattle.replay_run.specs.Endings.{DoneOrMemory}
 use Rattle.command_node.specs.DomainFile.{Says, IsRefused}
 use Rattle.replay_run.specs.Judged.{OnHeld}

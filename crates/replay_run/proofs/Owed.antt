@@ -9,8 +9,7 @@ use Rattle.wire_base.specs.model.Configuration.{DomainConf}
 use Rattle.domain_conf.specs.Domain.{domain_of}
 use Rattle.domain_conf.specs.declared.fault.ConfFault.{ConfFault}
 use Rattle.command_line.specs.declared.arguments.ScheduleKind.{ScheduleKind}
-use Rattle.command_line.specs.Form.{Form}
-use Rattle.command_line.specs.Form.{Replay, Node, Hop, Headers, Grow, Topo, Unknown}
+use Rattle.command_line.specs.Form.{Form, Replay, Node, Hop, Headers, Grow, Topo, Unknown}
 use Rattle.wire_base.specs.declared.addresses.SystemId.{SystemId}
 use Rattle.wire_base.specs.declared.conf.Level.{Level}
 use Rattle.command_line.specs.Words.{usage_text}
@@ -19,11 +18,10 @@ use Rattle.command_grow.specs.Grow.{grow_answer, GoesThrough, ends_by, grown_run
 use Rattle.domain_model.specs.declared.fault.EventFault.{EventFault}
 use Rattle.command_hop.specs.HopText.{hop_answer, packets_of}
 use Rattle.command_hop.specs.Partition.{Reports}
-use Rattle.command_drive.specs.Answer.{Verdict}
+use Rattle.command_drive.specs.Answer.{Verdict, IsDecided}
 use Rattle.replay_run.specs.Verdict.{verdict, query_of, replay_on, node_on}
 use Rattle.command_topo.specs.TopoText.{topo_answer}
 use Rattle.command_node.specs.Named.{reported, node_by}
-use Rattle.command_drive.specs.Answer.{IsDecided}
 use Rattle.replay_run.specs.Judged.{OnHeld}
 use Rattle.command_drive.specs.Outside.{Held, Gave, Meets, AppendsFront}
 use Rattle.command_hop.proofs.Packets.{all_parted}
@@ -78,17 +76,13 @@ in_form form known router conf left Holds is holds = subst (λ (f : Form). OnHel
 no_fault : (result : Status) (reads reads_now writes writes_now takes takes_now : ℕ)
     → (result ≡ ReadFault → reads < reads_now) → (result ≡ WriteFault → (writes < writes_now) ⊎ (takes < takes_now))
     → reads_now ≡ reads → writes_now ≡ writes → takes_now ≡ takes → IsDecided result ⊎ (result ≡ Memory)
-no_fault Done reads reads_now writes writes_now takes takes_now read write r w t = inl tt
-no_fault Usage reads reads_now writes writes_now takes takes_now read write r w t = inl tt
-no_fault ConfRefused reads reads_now writes writes_now takes takes_now read write r w t = inl tt
-no_fault InputRefused reads reads_now writes writes_now takes takes_now read write r w t = inl tt
-no_fault CaptureRefused reads reads_now writes writes_now takes takes_now read write r w t = inl tt
 no_fault Memory reads reads_now writes writes_now takes takes_now read write r w t = inr refl
 no_fault ReadFault reads reads_now writes writes_now takes takes_now read write r w t = absurd (omega (arith, read refl, r))
 no_fault WriteFault reads reads_now writes writes_now takes takes_now read write r w t = elim (write refl) [
   | inl rose ↦ absurd (omega (arith, rose, w))
   | inr rose ↦ absurd (omega (arith, rose, t))
 ]
+no_fault other reads reads_now writes writes_now takes takes_now read write r w t = inl tt
 
 -- ---- commands that read an input and write a report
 

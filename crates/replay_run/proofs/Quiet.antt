@@ -12,11 +12,6 @@ module _ {D S C R : Type 0} (gd : source.Ghosts D) (gs : source.Ghosts S) (gc : 
     (conf conf_now : D) (input input_now : S) (frames frames_now : C) (report report_now : R) where
   pub no_fault_of_four : (result : Status) → CountsFaults gd gs gc gr result conf conf_now input input_now frames frames_now report report_now
       → NoneRose gd gs gc gr conf conf_now input input_now frames frames_now report report_now → IsDecided result ⊎ (result ≡ Memory)
-  no_fault_of_four Done faults quiet = inl tt
-  no_fault_of_four Usage faults quiet = inl tt
-  no_fault_of_four ConfRefused faults quiet = inl tt
-  no_fault_of_four InputRefused faults quiet = inl tt
-  no_fault_of_four CaptureRefused faults quiet = inl tt
   no_fault_of_four Memory faults quiet = inr refl
   no_fault_of_four ReadFault faults quiet = elim (faults.read refl) [
     | inl rose ↦ absurd (omega (arith, rose, quiet.conf))
@@ -32,6 +27,7 @@ module _ {D S C R : Type 0} (gd : source.Ghosts D) (gs : source.Ghosts S) (gc : 
       ]
     ]
   ]
+  no_fault_of_four other faults quiet = inl tt
 
 -- the counts of a sink as one fact
 pub quiet_sink : {C : Type 0} (gc : sink.Ghosts C) (old new : C) (left : Option (List ℕ)) (Asked : List ℕ → Type 0) (Reads Ends : Type 0)

@@ -19,9 +19,8 @@ use Rattle.domain_conf.specs.declared.fault.ConfFault.{ConfFault}
 use Rattle.domain_replay.specs.Texts.{Refusal, names_of, lines_reach, schedule_reaches}
 use Rattle.command_line.specs.declared.arguments.ScheduleKind.{ScheduleKind}
 use Rattle.command_line.specs.declared.arguments.ScheduleKind.TheVariants as kinds
-use Rattle.command_line.specs.Form.{Form}
-use Rattle.command_line.specs.Form.{Replay}
-use Rattle.command_drive.specs.Answer.{Verdict}
+use Rattle.command_line.specs.Form.{Form, Replay}
+use Rattle.command_drive.specs.Answer.{Verdict, IsDecided}
 use Rattle.command_node.specs.DomainFile.{Says, IsRefused}
 use Rattle.replay_run.specs.Endings.{DoneOrMemory}
 use Rattle.replay_run.specs.Judged.{OnHeld}
@@ -33,7 +32,6 @@ use Rattle.command_replay.specs.Course.{Played, answer_of, plays_mean}
 use Rattle.command_replay.specs.ScheduleText.{ending}
 use Rattle.command_drive.specs.Texts.{Ended, close_of, is_short, within_limit, lines_within}
 use Rattle.replay_run.specs.Verdict.{verdict, plays, replay_on, replayed}
-use Rattle.command_drive.specs.Answer.{IsDecided}
 use Rattle.command_drive.specs.Outside.{Held, Meets, AppendsFront}
 use Rattle.replay_run.proofs.Owed.{told, in_form}
 use Rattle.command_node.proofs.Told.{nothing_more, no_front, held_some, ended_so}

@@ -91,8 +91,4 @@ module _ {D S C R : Type 0} (gd : source.Ghosts D) (gs : source.Ghosts S) (gc : 
     | inl failed ↦ let rose = failed.0 in absurd (omega (arith, rose, quiet))
     | inr cut ↦ of_cut cut.1.0 cut.1.1 cut.1.2.0 cut.1.2.1 cut.1.2.2
   ]
-  run_done Usage answer leaves has quiet = absurd has
-  run_done ConfRefused answer leaves has quiet = absurd has
-  run_done CaptureRefused answer leaves has quiet = absurd has
-  run_done WriteFault answer leaves has quiet = absurd has
-  run_done Memory answer leaves has quiet = absurd has
+  run_done other answer leaves has quiet = absurd has

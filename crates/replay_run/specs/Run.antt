@@ -7,8 +7,7 @@ use Rattle.wire_base.specs.declared.outside.Sink as sink
 use Rattle.wire_base.specs.declared.status.Status.{Status}
 use Rattle.wire_base.specs.declared.status.Status.TheVariants.{Done, ConfRefused, WriteFault, Memory}
 use Rattle.command_line.specs.declared.arguments.ScheduleKind.{ScheduleKind}
-use Rattle.command_line.specs.Form.{Form}
-use Rattle.command_line.specs.Form.{Replay, Node, Hop, Headers, Grow, Topo}
+use Rattle.command_line.specs.Form.{Form, Replay, Node, Hop, Headers, Grow, Topo}
 use Rattle.command_line.specs.Words.{IsGrow, IsReplay, IsTopo}
 use Rattle.command_drive.specs.Answer.{IsDecided}
 use Rattle.command_drive.specs.Outside.{Meets, AppendsFronts}

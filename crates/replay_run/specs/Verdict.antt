@@ -8,8 +8,7 @@ use Rattle.command_node.specs.DomainFile.{conf_refused_text}
 use Rattle.command_drive.specs.Answer.{Verdict}
 use Rattle.command_line.specs.declared.arguments.ScheduleKind.{ScheduleKind}
 use Rattle.command_line.specs.declared.arguments.ScheduleKind.TheVariants as kinds
-use Rattle.command_line.specs.Form.{Form}
-use Rattle.command_line.specs.Form.{Replay, Node, Hop, Headers, Grow, Topo, Unknown}
+use Rattle.command_line.specs.Form.{Form, Replay, Node, Hop, Headers, Grow, Topo, Unknown}
 use Rattle.command_line.specs.Words.{usage_text}
 use Rattle.command_node.specs.Routers.{router_named}
 use Rattle.command_hop.specs.HopText.{hop_answer}

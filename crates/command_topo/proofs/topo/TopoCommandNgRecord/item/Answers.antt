@@ -1,6 +1,5 @@
-use Rattle.std.proofs.Common.{◌≡◌, ◌+◌, Bool, List, Some, None, refl, ap, subst}
+use Rattle.std.proofs.Common.{◌≡◌, ◌+◌, Bool, List, Some, None, refl, ap, subst, ℕ}
 use Rattle.wire_base.specs.declared.status.Status.{Status}
-use Rattle.std.proofs.Common.{ℕ}
 use Rattle.command_topo.specs.Frames.{HasAdded, after_record}
 use Rattle.command_topo.proofs.Steps.{concludes_full, told_record}
 use Rattle.command_topo.proofs.topo.TopoCommandNgRecord.item.Goals as goal
