@@ -82,7 +82,9 @@ means_whole q octets =
 
 closed_cut : (q : Query) (n : ℕ) (entries : List Entry) (how : Behind) → (end_by q n entries how).0 ≡ ReadFault → how ≡ Cut
 closed_cut q n entries Cut is = refl
-closed_cut q n entries other is = absurd cc
+closed_cut q n entries (Closed close.Ended) is = absurd cc
+closed_cut q n entries (Closed close.TooLong) is = absurd cc
+closed_cut q n entries (Closed (close.Broken why)) is = absurd cc
 
 -- a run that ends by a read error had room for all
 read_cut : (q : Query) (n : ℕ) (entries : List Entry) (records : List NgRecord) (how : Behind) → (report_from q n entries records how).0 ≡ ReadFault → how ≡ Cut
@@ -111,7 +113,9 @@ nothing_said q n entries [] how is = by how is
   where
     by : (how : Behind) → (end_by q n entries how).0 ≡ ReadFault → (end_by q n entries how).1 ≡ []
     by Cut is = refl
-    by other is = absurd cc
+    by (Closed close.Ended) is = absurd cc
+    by (Closed close.TooLong) is = absurd cc
+    by (Closed (close.Broken why)) is = absurd cc
 nothing_said q n entries (read ∷ more) how is = by (after_record q.level entries read) (λ now. nothing_said q (n + 1) now more how) is
   where
     by : (o : Option (List Entry)) → ((now : List Entry) → (report_from q (n + 1) now more how).0 ≡ ReadFault → (report_from q (n + 1) now more how).1 ≡ []) → (if_room n o (λ es. report_from q (n + 1) es more how)).0 ≡ ReadFault

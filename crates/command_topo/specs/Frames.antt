@@ -4,8 +4,8 @@ use Rattle.wire_base.specs.declared.conf.Level.{Level}
 use Rattle.wire_base.specs.declared.entry.Entry.{Entry}
 use Rattle.wire_base.specs.declared.faults.FrameFault.{FrameFault}
 use Rattle.wire_base.specs.declared.faults.PduFault.{PduFault}
-use Rattle.wire_base.specs.model.Ethernet.{Carried, IsisPdu, MplsPacket, BierPacket, IpPacket, OtherFrame, frame_at}
-use Rattle.wire_base.specs.model.Pdu.{Head, Pdu, LspPdu, CsnpPdu, PsnpPdu, HelloPdu, OtherPdu, pdu_at}
+use Rattle.wire_base.specs.model.Ethernet.{Carried, IsisPdu, frame_at}
+use Rattle.wire_base.specs.model.Pdu.{Head, Pdu, LspPdu, pdu_at}
 use Rattle.lsp_store.specs.Places.{is_refused}
 use Rattle.pcapng_frames.specs.declared.packet.NgRecord.{NgRecord}
 use Rattle.topo_mt.specs.Gather.{gathered, is_taken}
@@ -16,10 +16,7 @@ after_lsp entries h tlvs = if is_taken entries h && is_refused entries h.id then
 
 abbrev pub after_pdu : List Entry → Pdu → Option (List Entry)
 after_pdu entries (LspPdu head tlvs) = after_lsp entries head tlvs
-after_pdu entries (CsnpPdu source start last tlvs) = Some entries
-after_pdu entries (PsnpPdu source tlvs) = Some entries
-after_pdu entries HelloPdu = Some entries
-after_pdu entries (OtherPdu number) = Some entries
+after_pdu entries other = Some entries
 
 -- only LSPs without an error count
 abbrev pub after_read : List Entry → Result Pdu PduFault → Option (List Entry)
@@ -28,10 +25,7 @@ after_read entries (Err fault) = Some entries
 
 abbrev pub after_carried : Level → List Entry → Carried → Option (List Entry)
 after_carried level entries (IsisPdu octets) = after_read entries (pdu_at level octets)
-after_carried level entries (MplsPacket octets) = Some entries
-after_carried level entries (BierPacket octets) = Some entries
-after_carried level entries (IpPacket octets) = Some entries
-after_carried level entries OtherFrame = Some entries
+after_carried level entries other = Some entries
 
 abbrev pub after_content : Level → List Entry → Result Carried FrameFault → Option (List Entry)
 after_content level entries (Ok carried) = after_carried level entries carried

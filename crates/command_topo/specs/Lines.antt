@@ -1,5 +1,5 @@
 -- The lines of a topology.
-use Rattle.std.specs.Prelude.{ℕ, Bool, true, false, List, [], ◌∷◌, ◌++◌, length, slice_get, flat_map, Option, Some, None, codes, if◌then◌else◌}
+use Rattle.std.specs.Prelude.{ℕ, List, [], ◌∷◌, ◌++◌, length, slice_get, flat_map, Option, Some, None, codes, if◌then◌else◌}
 use Rattle.std.specs.Fmt.{decimal}
 use Rattle.std.specs.List.{range_with_len}
 use Rattle.wire_base.specs.declared.addresses.SystemId.{SystemId}
@@ -11,13 +11,9 @@ use Rattle.wire_base.specs.model.Control.{same_system}
 use Rattle.topo_mt.specs.Topology.{cost_from, topology_of}
 use Rattle.run_texts.specs.Addresses.{prefix_text, system_text}
 
-abbrev pub transit_text : Bool → List ℕ
-transit_text true = codes " overload\n"
-transit_text false = codes " transit\n"
-
 -- a node: whether its overload bit is set
 abbrev pub node_text : ViewNode → List ℕ
-node_text n = codes "node " ++ system_text n.system ++ transit_text n.overload
+node_text n = codes "node " ++ system_text n.system ++ (if n.overload then codes " overload\n" else codes " transit\n")
 
 abbrev pub system_of : Option ViewNode → List ℕ
 system_of None = []
