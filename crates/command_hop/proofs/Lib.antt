@@ -4,3 +4,4 @@ pub mod HopWays
 pub mod Partition
 pub mod Packets
 pub mod Inputs
+pub mod BlockLines

@@ -1,5 +1,5 @@
 //! The forwarding of a packet by one router with configured rows.
-ghost use Rattle.std.specs.Prelude.{◌≡◌, ◌<◌, ◌*◌, ◌++◌, ◌∷◌, [], List, IfOk, OnOk, IsTrue, codes};
+ghost use Rattle.std.specs.Prelude.{◌≡◌, ◌≤◌, ◌<◌, ◌*◌, ◌++◌, ◌∷◌, [], List, length, IfOk, OnOk, IsTrue, codes};
 ghost use Rattle.std.specs.Fmt.{decimal};
 ghost use Rattle.wire_base.specs.model.Hop.{hop};
 ghost use Rattle.wire_base.specs.model.Place.{bits_of};
@@ -16,7 +16,7 @@ use crate::ways::Ways;
 use bier_bits::{AnyBits, BitString};
 use bier_hop::{Action, Hop};
 use bift_table::{AnyTable, Table};
-use replay_text::{Block, push_set};
+use replay_text::{Block, put_set};
 use std::alloc::Global;
 use std::marker::Brand;
 use std::sync::ledger::{Blank, Ledger};
@@ -25,23 +25,33 @@ use wire_base::{First, M, Name, Octets, Steps};
 /// A TTL with which every copy is sent.
 const TTL: u16 = 255;
 
-/// Returns the front of a copy's line, which is written once for all copies of a packet: the number of the packet's line, and the
-/// keyword.
-fn copy_front(line: u64) -> Block
-    ensures { result ≡ decimal line ++ codes " copy " }
+/// Appends an octet to the text that a block ends.
+fn put_octet(out: &mut Octets, block: &mut Block, octet: u8) -> M<()>
+    ensures { OnOk result (out.new ++ block.new ≡ out.old ++ (block.old ++ octet ∷ [])) }
 {
-    let mut front = Block::new();
-    front.number(line);
-    front.append(b" copy ");
-    front
+    block.make_room(out)?;
+    block.push(octet);
+    Ok(())
+}
+
+/// Appends the decimal digits of a number.
+fn put_number(out: &mut Octets, block: &mut Block, number: u64) -> M<()>
+    ensures { OnOk result (out.new ++ block.new ≡ out.old ++ (block.old ++ decimal number)) }
+{
+    block.make_room_for(out, 20)?;
+    block.number(number);
+    Ok(())
 }
 
 /// Appends the number of a packet's line, and the keyword after it.
-fn begin_line(out: &mut Octets, line: u64, what: &[u8]) -> M<()>
-    ensures { OnOk result (out.new ≡ out.old ++ (decimal line ++ what.now)) }
+fn begin_line(out: &mut Octets, block: &mut Block, line: u64, what: &[u8]) -> M<()>
+    requires { length what.now ≤ 12 }
+    ensures { OnOk result (out.new ++ block.new ≡ out.old ++ (block.old ++ (decimal line ++ what.now))) }
 {
-    out.append_number(line)?;
-    out.append(what)
+    block.make_room_for(out, 32)?;
+    block.number(line);
+    block.append(what);
+    Ok(())
 }
 
 /// Returns the name of a neighbor.
@@ -56,80 +66,109 @@ fn name_of<'n>(names: &'n [Name], to: &First) -> &'n [u8]
 }
 
 /// Appends the line for the delivery of the router's own id.
-fn push_local(out: &mut Octets, line: u64, own: u16) -> M<()>
-    ensures { OnOk result (out.new ≡ out.old ++ forward.outcome_text line (forward.Local own)) }
+fn put_local(out: &mut Octets, block: &mut Block, line: u64, own: u16) -> M<()>
+    ensures { OnOk result (out.new ++ block.new ≡ out.old ++ (block.old ++ forward.outcome_text line (forward.Local own))) }
 {
-    begin_line(out, line, b" local ")?;
-    out.append_number(u64::from(own))?;
-    out.push(b'\n')
+    begin_line(out, block, line, b" local ")?;
+    put_number(out, block, u64::from(own))?;
+    put_octet(out, block, b'\n')
+}
+
+/// Appends a set and the end of a line.
+fn put_rest<const W: usize>(out: &mut Octets, block: &mut Block, set: &BitString<W>) -> M<()>
+    requires { IsTrue (is_width W) }
+    ensures { OnOk result (out.new ++ block.new ≡ out.old ++ (block.old ++ (ids_text set.now ++ 10 ∷ []))) }
+{
+    put_set(out, block, set)?;
+    put_octet(out, block, b'\n')
 }
 
 /// Appends the line of one copy.
-fn push_copy<const W: usize>(
+fn put_copy<const W: usize>(
     out: &mut Octets,
-    front: &[u8],
+    block: &mut Block,
+    line: u64,
     name: &[u8],
     set: &BitString<W>,
 ) -> M<()>
     requires { IsTrue (is_width W) }
-    ensures { OnOk result (out.new ≡ out.old ++ (front.now ++ (name.now ++ (32 ∷ (ids_text set.now ++ 10 ∷ []))))) }
+    ensures { OnOk result (out.new ++ block.new ≡ out.old ++ (block.old ++ forward.outcome_text line (forward.Copy name.now set.now))) }
 {
-    out.append(front)?;
-    out.append(name)?;
-    out.push(b' ')?;
-    push_set(out, set)?;
-    out.push(b'\n')
+    begin_line(out, block, line, b" copy ")?;
+    block.put(out, name)?;
+    put_octet(out, block, b' ')?;
+    put_rest(out, block, set)
 }
 
 /// Appends the line for the drop of the ids without a row.
-fn push_drop<const W: usize>(out: &mut Octets, line: u64, set: &BitString<W>) -> M<()>
+fn put_drop<const W: usize>(
+    out: &mut Octets,
+    block: &mut Block,
+    line: u64,
+    set: &BitString<W>,
+) -> M<()>
     requires { IsTrue (is_width W) }
-    ensures { OnOk result (out.new ≡ out.old ++ forward.outcome_text line (forward.Dropped set.now)) }
+    ensures { OnOk result (out.new ++ block.new ≡ out.old ++ (block.old ++ forward.outcome_text line (forward.Dropped set.now))) }
 {
-    begin_line(out, line, b" drop none ")?;
-    push_set(out, set)?;
-    out.push(b'\n')
+    begin_line(out, block, line, b" drop none ")?;
+    put_rest(out, block, set)
 }
 
-/// Appends the line of an outcome, given the front of a copy's line.
-fn push_outcome<const W: usize>(
+/// Appends the line of an outcome.
+fn put_outcome<const W: usize>(
     out: &mut Octets,
+    block: &mut Block,
     line: u64,
-    front: &[u8],
     names: &[Name],
     action: &Action<'_>,
     set: &BitString<W>,
 ) -> M<()>
-    requires width { IsTrue (is_width W) }
-    requires front { front.now ≡ decimal line ++ codes " copy " }
-    ensures { OnOk result (out.new ≡ out.old ++ forward.outcome_text line (seen names.now (outcome number_of (out_of {w = W} set.now action.now)))) }
+    requires { IsTrue (is_width W) }
+    ensures { OnOk result (out.new ++ block.new ≡ out.old ++ (block.old ++ forward.outcome_text line (seen names.now (outcome number_of (out_of {w = W} set.now action.now))))) }
 {
     match action {
-        Action::Local(own) => push_local(out, line, *own),
-        Action::Copy { to, .. } => push_copy(out, front, name_of(names, to), set),
-        Action::Dropped(_) => push_drop(out, line, set),
+        Action::Local(own) => put_local(out, block, line, *own),
+        Action::Copy { to, .. } => put_copy(out, block, line, name_of(names, to), set),
+        Action::Dropped(_) => put_drop(out, block, line, set),
     }
 }
 
-/// Appends the lines of the remaining outcomes of a packet, given the front of a copy's line.
-fn push_left<const W: usize, L: Ledger>(
+/// Appends the lines of the remaining outcomes of a packet to the text that a block ends.
+fn put_left<const W: usize, L: Ledger>(
     out: &mut Octets,
+    block: &mut Block,
     line: u64,
-    front: &[u8],
     names: &[Name],
-    mut hop: Hop<'_, W>,
+    hop: &mut Hop<'_, W>,
     steps: &mut Steps<L>,
 ) -> M<()>
     requires width { IsTrue (is_width W) }
-    requires front { front.now ≡ decimal line ++ codes " copy " }
-    requires numbered { IsNumbering hop.table number_of (chosen hop.table) }
-    ensures { OnOk result (out.new ≡ out.old ++ texts line names.now (left (chosen hop.entry.table) hop.entry)) }
+    requires numbered { IsNumbering hop.old.table number_of (chosen hop.old.table) }
+    ensures { OnOk result (out.new ++ block.new ≡ out.old ++ (block.old ++ texts line names.now (left (chosen hop.old.table) hop.old))) }
 {
     let mut set = BitString::zero();
     'outcomes: while let Some(action) = hop.next_into(&mut set, steps) {
-        push_outcome(out, line, front, names, &action, &set)?;
+        put_outcome(out, block, line, names, &action, &set)?;
     }
     Ok(())
+}
+
+/// Appends the lines of the remaining outcomes of a packet. They are collected in a block, which is appended each time that
+/// it is full.
+fn push_left<const W: usize, L: Ledger>(
+    out: &mut Octets,
+    line: u64,
+    names: &[Name],
+    hop: &mut Hop<'_, W>,
+    steps: &mut Steps<L>,
+) -> M<()>
+    requires width { IsTrue (is_width W) }
+    requires numbered { IsNumbering hop.old.table number_of (chosen hop.old.table) }
+    ensures { OnOk result (out.new ≡ out.old ++ texts line names.now (left (chosen hop.old.table) hop.old)) }
+{
+    let mut block = Block::new();
+    put_left(out, &mut block, line, names, hop, steps)?;
+    out.append(block.as_slice())
 }
 
 /// Returns the own id as a bit position, if it is one.
@@ -158,8 +197,8 @@ fn push_hop<const W: usize, L: Ledger>(
     ensures { OnOk result (out.new ≡ out.old ++ texts line names.now (hop (in_range (64 * W) own) (chosen table.now) set.now 255)) }
 {
     let own = own_position(own, set.width());
-    let hop = Hop::begin(table, own, set.copy(), TTL);
-    push_left(out, line, copy_front(line).as_slice(), names, hop, steps)
+    let mut hop = Hop::begin(table, own, set.copy(), TTL);
+    push_left(out, line, names, &mut hop, steps)
 }
 
 /// Appends the lines of a packet that a table of its length forwards, with a ledger of the steps that is not read.
