@@ -2,14 +2,23 @@
 ghost use Rattle.std.specs.Prelude.{◌≡◌, length};
 ghost use Rattle.wire_base.specs.model.Configuration.{IsSound};
 
-use crate::views::{B_SAYS, put, put_ring, system};
 use birt_rows::rows;
 use examples_model::ring_router_a;
 use lsp_store::Store;
 use std::alloc::Global;
 use std::test::Fail;
 use view_graph::view;
-use wire_base::{Bsl, First, M, RouterConf, Triple, View};
+use wire_base::{Bsl, Entry, First, LspId, M, Memory, Octets, RouterConf, SystemId, Triple, View};
+
+/// The own LSPs of B, C and D of the ring: two links of metric 10, the prefix and one label.
+const B_SAYS: &[u8] =
+    b"\x01\x04\x03\x49\0\x01\x81\x01\xcc\x89\x01B\x16\x16\0\0\0\0\0\x01\0\0\0\x0a\0\0\0\0\0\0\x03\0\0\0\x0a\0\x87\x17\0\0\0\0\x60\x0a\0\0\x02\x0d\x20\x0b\0\0\0\0\x02\x01\x04\0\x10\0\xc8";
+
+const C_SAYS: &[u8] =
+    b"\x01\x04\x03\x49\0\x01\x81\x01\xcc\x89\x01C\x16\x16\0\0\0\0\0\x02\0\0\0\x0a\0\0\0\0\0\0\x04\0\0\0\x0a\0\x87\x17\0\0\0\0\x60\x0a\0\0\x03\x0d\x20\x0b\0\0\0\0\x03\x01\x04\0\x10\x01\x2c";
+
+const D_SAYS: &[u8] =
+    b"\x01\x04\x03\x49\0\x01\x81\x01\xcc\x89\x01D\x16\x16\0\0\0\0\0\x03\0\0\0\x0a\0\0\0\0\0\0\x01\0\0\0\x0a\0\x87\x17\0\0\0\0\x60\x0a\0\0\x04\x0d\x20\x0b\0\0\0\0\x04\x01\x04\0\x10\x01\x90";
 
 /// The links of the system 2, which is no BFR, to 1, 3 and 4.
 const FORK_SAYS: &[u8] =
@@ -91,7 +100,9 @@ fn store_has(
 fn ring_has(alloc: Global, position: u8, firsts: &[First]) -> M<bool> {
     let conf = ring_router_a(alloc)?;
     let mut store = Store::new(alloc);
-    put_ring(&mut store, 1, Some(B_SAYS))?;
+    put(&mut store, 2, B_SAYS)?;
+    put(&mut store, 3, C_SAYS)?;
+    put(&mut store, 4, D_SAYS)?;
     store_has(&store, &conf, &[true, true], position, firsts)
 }
 
@@ -99,8 +110,30 @@ fn ring_has(alloc: Global, position: u8, firsts: &[First]) -> M<bool> {
 fn fork_has(alloc: Global, position: u8, firsts: &[First]) -> M<bool> {
     let conf = ring_router_a(alloc)?;
     let mut store = Store::new(alloc);
-    put(&mut store, 2, 1, FORK_SAYS)?;
-    put(&mut store, 3, 1, THREE_SAYS)?;
-    put(&mut store, 4, 1, FOUR_SAYS)?;
+    put(&mut store, 2, FORK_SAYS)?;
+    put(&mut store, 3, THREE_SAYS)?;
+    put(&mut store, 4, FOUR_SAYS)?;
     store_has(&store, &conf, &[true, false], position, firsts)
+}
+
+fn system(n: u8) -> SystemId {
+    SystemId([0, 0, 0, 0, 0, n])
+}
+
+/// Stores a live fragment 0.
+fn put(store: &mut Store, n: u8, content: &[u8]) -> M<()> {
+    let content = Octets::from_slice(store.allocator(), content)?;
+    let answer = store.put(Entry {
+        id: LspId::fragment_0(system(n)),
+        seq: 1,
+        life: 1200,
+        hold: 0,
+        sum: 1,
+        flags: 3,
+        content,
+    });
+    match answer {
+        Ok(()) => Ok(()),
+        Err(_) => Err(Memory),
+    }
 }

@@ -1,13 +1,13 @@
-//! The rules of flooding, case by case, at a router with two links that are up and one that is down. It has its own
-//! LSP and one of another system, which is to be sent on link 1 and acknowledged on link 0.
-ghost use Rattle.std.specs.Prelude.{◌≡◌, ◌≤◌, length, IfOk};
+//! Flooding at a full LSDB and on links that come up and go down, at a router with two links that are up and one that is
+//! down. It has its own LSP and one of another system, which is to be sent on link 1 and acknowledged on link 0.
+ghost use Rattle.std.specs.Prelude.{◌≡◌, length, IfOk};
 
 use isis_flood::{Flood, FloodOut, SnpOut};
 use isis_pdu::LspHead;
 use lsp_store::{Store, purge};
 use std::alloc::Global;
 use wire_base::limits::MOST_ENTRIES;
-use wire_base::{Entry, LspId, M, Memory, Octets, Summary, SystemId};
+use wire_base::{Entry, LspId, M, Memory, Octets, SystemId};
 
 /// System, fragment, sequence number, lifetime and checksum of what arrives.
 type Said = (u8, u8, u32, u16, u16);
@@ -15,195 +15,7 @@ type Said = (u8, u8, u32, u16, u16);
 /// To be sent on link 0 and on link 1, to be acknowledged or requested on link 0 and on link 1.
 type Flags = [bool; 4];
 
-/// Sequence number, lifetime and hold time of the remaining entry.
-type Left = Option<(u32, u16, u16)>;
-
 const NONE: Flags = [false; 4];
-
-const AT_START: Flags = [false, true, true, false];
-
-/// To be sent on each link that is up, and acknowledged on none.
-const MARKED: Flags = [true, true, false, false];
-
-/// To be sent on all links but link 1, and acknowledged there.
-const PASSED: Flags = [true, false, false, true];
-
-const OURS: Left = Some((3, 900, 0));
-
-const OTHERS: Left = Some((5, 900, 0));
-
-const DEAD: Summary = Summary {
-    life: 0,
-    id: LspId {
-        system: SystemId([0, 0, 0, 0, 0, 3]),
-        pseudonode: 0,
-        fragment: 0,
-    },
-    seq: 5,
-    sum: 0,
-};
-
-/// What arrives on link 1, whether the sequence number space is exhausted, and the reply and the state after it.
-static LSPS: [(Said, bool, FloodOut, Flags, Left); 15] = [
-    ((2, 0, 0, 900, 7), false, FloodOut::Zero, AT_START, OTHERS),
-    ((1, 0, 4, 900, 9), false, FloodOut::Reissue(4), NONE, OURS),
-    ((1, 0, 4, 0, 0), false, FloodOut::Reissue(4), NONE, OURS),
-    ((1, 0, 3, 900, 8), false, FloodOut::Reissue(3), NONE, OURS),
-    // what the router never originated, or what it cannot supersede
-    (
-        (1, 0, 4, 900, 9),
-        true,
-        FloodOut::Kept,
-        MARKED,
-        Some((4, 0, 60)),
-    ),
-    (
-        (1, 0, 3, 900, 8),
-        true,
-        FloodOut::Kept,
-        MARKED,
-        Some((3, 0, 60)),
-    ),
-    (
-        (1, 1, 1, 900, 5),
-        false,
-        FloodOut::Kept,
-        MARKED,
-        Some((1, 0, 60)),
-    ),
-    // unknown: expired, live
-    ((3, 0, 5, 0, 0), false, FloodOut::Ack(DEAD), NONE, None),
-    ((3, 0, 5, 900, 7), false, FloodOut::Kept, PASSED, OTHERS),
-    // newer: live, expired
-    (
-        (2, 0, 6, 900, 7),
-        false,
-        FloodOut::Kept,
-        PASSED,
-        Some((6, 900, 0)),
-    ),
-    (
-        (2, 0, 5, 0, 0),
-        false,
-        FloodOut::Kept,
-        PASSED,
-        Some((5, 0, 60)),
-    ),
-    // LSP confusion; equal, also with another lifetime; older
-    (
-        (2, 0, 5, 900, 8),
-        false,
-        FloodOut::Kept,
-        MARKED,
-        Some((5, 0, 60)),
-    ),
-    (
-        (2, 0, 5, 900, 7),
-        false,
-        FloodOut::Kept,
-        [false, false, true, true],
-        OTHERS,
-    ),
-    (
-        (2, 0, 5, 100, 7),
-        false,
-        FloodOut::Kept,
-        [false, false, true, true],
-        OTHERS,
-    ),
-    ((2, 0, 4, 900, 7), false, FloodOut::Kept, AT_START, OTHERS),
-];
-
-/// What is listed on a link, whether the sequence number space is exhausted, the sequence number after which the own
-/// LSP must be originated, and the state after it.
-static LISTED: [(u16, Said, bool, Option<u32>, Flags, Left); 13] = [
-    // of sequence number 0: what is requested, what is unknown
-    (0, (2, 0, 0, 900, 0), false, None, MARKED, OTHERS),
-    (0, (3, 0, 0, 900, 7), false, None, NONE, None),
-    // equal, older, newer
-    (
-        1,
-        (2, 0, 5, 10, 7),
-        false,
-        None,
-        [false, false, true, false],
-        OTHERS,
-    ),
-    (0, (2, 0, 4, 900, 7), false, None, MARKED, OTHERS),
-    (1, (2, 0, 4, 900, 7), false, None, AT_START, OTHERS),
-    (
-        1,
-        (2, 0, 6, 900, 7),
-        false,
-        None,
-        [false, false, true, true],
-        OTHERS,
-    ),
-    // LSP confusion: with another's, with the own one, with the own one of a router whose sequence number space is
-    // exhausted
-    (0, (2, 0, 5, 900, 8), false, None, MARKED, Some((5, 0, 60))),
-    (0, (1, 0, 3, 900, 8), false, Some(3), NONE, OURS),
-    (0, (1, 0, 3, 900, 8), true, None, MARKED, Some((3, 0, 60))),
-    // unknown: live, expired, without a checksum, without a sequence number
-    (
-        1,
-        (3, 0, 5, 900, 7),
-        false,
-        None,
-        [false, false, false, true],
-        Some((0, 0, 60)),
-    ),
-    (1, (3, 0, 5, 0, 7), false, None, NONE, None),
-    (1, (3, 0, 5, 900, 0), false, None, NONE, None),
-    (1, (3, 0, 0, 900, 7), false, None, NONE, None),
-];
-
-/// Returns the first row for which the router's result differs.
-fn wrong_lsp(alloc: Global) -> M<Option<Said>> {
-    for place in 0..LSPS.len() {
-        let (said, spent, answer, flags, left) = LSPS[place];
-        if after_lsp(alloc, said, spent)? != (answer, flags, left) {
-            return Ok(Some(said));
-        }
-    }
-    Ok(None)
-}
-
-#[test]
-fn link_state_pdus(rt: HostRuntime) {
-    assert_eq!(rt; wrong_lsp(rt.alloc()), Ok(None));
-}
-
-/// Returns the first row of the listed entries for which it differs.
-fn wrong_listed(alloc: Global) -> M<Option<Said>> {
-    for place in 0..LISTED.len() {
-        let (link, said, spent, reissue, flags, left) = LISTED[place];
-        let wanted = (SnpOut { reissue, full: 0 }, flags, left);
-        if after_listed(alloc, link, said, spent)? != wanted {
-            return Ok(Some(said));
-        }
-    }
-    Ok(None)
-}
-
-#[test]
-fn listed_entries(rt: HostRuntime) {
-    assert_eq!(rt; wrong_listed(rt.alloc()), Ok(None));
-}
-
-/// What a CSNP that starts at the other system's LSP ID does not list is to be sent, and nothing below that LSP ID.
-#[test]
-fn what_a_list_lacks(rt: HostRuntime) {
-    let listed = entries_tlv((2, 0, 5, 900, 7));
-    assert_eq!(rt;
-        after_csnp(rt.alloc(), &[]),
-        Ok([[true, true, true, false], NONE])
-    );
-    assert_eq!(rt;
-        after_csnp(rt.alloc(), &listed),
-        Ok([[false, true, true, false], NONE])
-    );
-}
 
 /// If the LSDB is full, a new entry is dropped, and no flag is set for it.
 #[test]
@@ -223,73 +35,6 @@ fn a_full_database(rt: HostRuntime) {
 #[test]
 fn links(rt: HostRuntime) {
     assert_eq!(rt; on_links(rt.alloc()), Ok(LINKS));
-}
-
-/// Returns the reply to an LSP that arrives on link 1, and the state after it.
-fn after_lsp(alloc: Global, said: Said, spent: bool) -> M<(FloodOut, Flags, Left)> {
-    let mut flood = no_flags(alloc)?;
-    let mut store = Store::new(alloc);
-    lsp_told(&mut flood, &mut store, said, spent)
-}
-
-fn lsp_told(
-    flood: &mut Flood,
-    store: &mut Store,
-    said: Said,
-    spent: bool,
-) -> M<(FloodOut, Flags, Left)>
-    requires { length flood.old.flood.up ≡ 3 }
-{
-    start(flood, store)?;
-    let head = head(said);
-    let answer = flood.on_lsp(store, 1, &head, &[], spent)?;
-    Ok((answer, flags_of(flood, head.id), left_of(store, head.id)))
-}
-
-/// Returns the reply to a PSNP that lists an entry, and the state after it.
-fn after_listed(alloc: Global, link: u16, said: Said, spent: bool) -> M<(SnpOut, Flags, Left)> {
-    let mut flood = no_flags(alloc)?;
-    let mut store = Store::new(alloc);
-    listed_told(&mut flood, &mut store, link, said, spent)
-}
-
-fn listed_told(
-    flood: &mut Flood,
-    store: &mut Store,
-    link: u16,
-    said: Said,
-    spent: bool,
-) -> M<(SnpOut, Flags, Left)>
-    requires { length flood.old.flood.up ≡ 3 }
-{
-    start(flood, store)?;
-    let tlvs = entries_tlv(said);
-    let answer = flood.on_psnp(store, link % 2, &tlvs, spent)?;
-    let id = head(said).id;
-    Ok((answer, flags_of(flood, id), left_of(store, id)))
-}
-
-/// Returns the flags of the other system and of the own one after a CSNP on link 0.
-fn after_csnp(alloc: Global, tlvs: &[u8]) -> M<[Flags; 2]>
-    requires { length tlvs.now ≤ 18 }
-{
-    let mut flood = no_flags(alloc)?;
-    let mut store = Store::new(alloc);
-    csnp_told(&mut flood, &mut store, tlvs)
-}
-
-fn csnp_told(flood: &mut Flood, store: &mut Store, tlvs: &[u8]) -> M<[Flags; 2]>
-    requires links { length flood.old.flood.up ≡ 3 }
-    requires tlvs { length tlvs.now ≤ 18 }
-{
-    start(flood, store)?;
-    let last = LspId {
-        system: SystemId([255; 6]),
-        pseudonode: 255,
-        fragment: 255,
-    };
-    flood.on_csnp(store, 0, id(2, 0), last, tlvs, false)?;
-    Ok([flags_of(flood, id(2, 0)), flags_of(flood, id(1, 0))])
 }
 
 /// How many entries there are; the replies to two that are new, one of them of the own system, and to a list of a new
@@ -462,8 +207,4 @@ fn flags_of(flood: &Flood, id: LspId) -> Flags {
         flood.ssn(id, 0),
         flood.ssn(id, 1),
     ]
-}
-
-fn left_of(store: &Store, id: LspId) -> Left {
-    store.get(&id).map(|e| (e.seq, e.life, e.hold))
 }
