@@ -6,8 +6,7 @@ ghost use Rattle.bier_forward.specs.Packets.{LeadsToEnds};
 use crate::cells::{Cell, Column, Row, Table};
 use crate::copies::{Copied, copies_of, push_way};
 use crate::hops::hop;
-use crate::planes::{Ground, Plane, ids_in, planes};
-use crate::sets::{ids_of_set, sets_of};
+use crate::planes::{Ground, sets_at};
 use crate::systems::Names;
 use bier_forward::own_place;
 use router_core::Router;
@@ -16,42 +15,15 @@ use view_graph::supports;
 use wire_base::{M, Triple};
 
 static COLUMNS: [Column; 9] = [
-    Column {
-        title: "SD",
-        key: "sd",
-    },
-    Column {
-        title: "BSL",
-        key: "bsl",
-    },
-    Column {
-        title: "SI",
-        key: "si",
-    },
-    Column {
-        title: "Classes",
-        key: "classes",
-    },
-    Column {
-        title: "F-BM",
-        key: "f_bm",
-    },
-    Column {
-        title: "BFR-NBR",
-        key: "nbr",
-    },
-    Column {
-        title: "Way",
-        key: "way",
-    },
-    Column {
-        title: "Interface",
-        key: "interface",
-    },
-    Column {
-        title: "BIFT-id",
-        key: "bift_id",
-    },
+    Column("SD", "sd"),
+    Column("BSL", "bsl"),
+    Column("SI", "si"),
+    Column("Classes", "classes"),
+    Column("F-BM", "f_bm"),
+    Column("BFR-NBR", "nbr"),
+    Column("Way", "way"),
+    Column("Interface", "interface"),
+    Column("BIFT-id", "bift_id"),
 ];
 
 /// The number of entropy classes: an entropy is in the class that is its remainder by this number.
@@ -69,9 +41,7 @@ struct Group {
 /// the set. Classes with equal tables share their rows. A set that the router does not support, by `supports`, has no table.
 pub fn bift_tables(alloc: Global, router: &Router, names: Names<'_>) -> M<Table> {
     let conf = router.conf();
-    let mut heading = String::from_str(alloc, "BIFTs of ")?;
-    heading.push_str(names.of(alloc, conf.system)?.as_str())?;
-    let mut table = Table::new(alloc, heading, &COLUMNS);
+    let mut table = Table::new(alloc, "BIFTs of", conf.system, names, &COLUMNS)?;
     let view = router.current_view()?;
     let Some(own) = own_place(view.as_slice(), conf.system) else {
         return Ok(table);
@@ -83,9 +53,11 @@ pub fn bift_tables(alloc: Global, router: &Router, names: Names<'_>) -> M<Table>
         own,
         names,
     };
-    let planes = planes(alloc, conf)?;
-    for plane in planes.as_slice() {
-        push_plane(&mut table, ground, *plane)?;
+    let sets = sets_at(ground)?;
+    for set in sets.as_slice() {
+        if is_supported(ground, set.triple) {
+            push_set(&mut table, ground, set.triple, set.ids.as_slice())?;
+        }
     }
     Ok(table)
 }
@@ -96,27 +68,6 @@ pub(crate) fn is_supported(ground: Ground<'_>, triple: Triple) -> bool {
         Some(node) => supports(ground.conf, node, triple),
         None => false,
     }
-}
-
-fn push_plane(table: &mut Table, ground: Ground<'_>, plane: Plane) -> M<()>
-    requires sound { IsSound ground.conf.now }
-    requires leads { LeadsToEnds ground.conf.now ground.view.now.nodes }
-{
-    let alloc = ground.alloc;
-    let ids = ids_in(alloc, ground.view.as_slice(), plane.sd)?;
-    let sets = sets_of(alloc, ids.as_slice(), plane.bsl)?;
-    for si in sets.as_slice() {
-        let triple = Triple {
-            sd: plane.sd,
-            bsl: plane.bsl,
-            si: *si,
-        };
-        if is_supported(ground, triple) {
-            let own = ids_of_set(alloc, ids.as_slice(), triple)?;
-            push_set(table, ground, triple, own.as_slice())?;
-        }
-    }
-    Ok(())
 }
 
 /// Appends the rows of a set, whose BFR-ids are given.

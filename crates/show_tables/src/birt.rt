@@ -2,46 +2,24 @@
 ghost use Rattle.std.specs.Prelude.{◌<◌, ◌≤◌, length};
 
 use crate::cells::{Cell, Column, Row, Table};
-use crate::planes::{Ground, Plane, ids_in, planes};
+use crate::planes::{Ground, sets_at};
 use crate::reasons::{Owner, owner_of, reason_for};
-use crate::sets::{ids_of_set, sets_of};
+use crate::sets::IdSet;
 use crate::systems::Names;
 use bier_forward::own_place;
 use birt_rows::rows;
 use router_core::Router;
 use std::alloc::Global;
-use std::fmt::Write;
 use wire_base::{First, M, RowSet, Triple, ViewSub};
 
 static COLUMNS: [Column; 7] = [
-    Column {
-        title: "SD",
-        key: "sd",
-    },
-    Column {
-        title: "BSL",
-        key: "bsl",
-    },
-    Column {
-        title: "BFR-id",
-        key: "id",
-    },
-    Column {
-        title: "BFR-prefix",
-        key: "prefix",
-    },
-    Column {
-        title: "Router",
-        key: "router",
-    },
-    Column {
-        title: "BFR-NBR",
-        key: "nbr",
-    },
-    Column {
-        title: "Way",
-        key: "way",
-    },
+    Column("SD", "sd"),
+    Column("BSL", "bsl"),
+    Column("BFR-id", "id"),
+    Column("BFR-prefix", "prefix"),
+    Column("Router", "router"),
+    Column("BFR-NBR", "nbr"),
+    Column("Way", "way"),
 ];
 
 /// Returns the rows of a router's BIRT, by sub-domain, length and BFR-id: for each BFR-id of the topology its BFR-prefix and its
@@ -49,9 +27,7 @@ static COLUMNS: [Column; 7] = [
 /// a tunnel. The BFR-id of the router itself is `local`; of an id without a BFR-NBR the way is the reason.
 pub fn birt_table(alloc: Global, router: &Router, names: Names<'_>) -> M<Table> {
     let conf = router.conf();
-    let mut heading = String::from_str(alloc, "BIRT of ")?;
-    heading.push_str(names.of(alloc, conf.system)?.as_str())?;
-    let mut table = Table::new(alloc, heading, &COLUMNS);
+    let mut table = Table::new(alloc, "BIRT of", conf.system, names, &COLUMNS)?;
     let view = router.current_view()?;
     let Some(own) = own_place(view.as_slice(), conf.system) else {
         return Ok(table);
@@ -63,31 +39,22 @@ pub fn birt_table(alloc: Global, router: &Router, names: Names<'_>) -> M<Table> 
         own,
         names,
     };
-    let planes = planes(alloc, conf)?;
-    for plane in planes.as_slice() {
-        push_plane(&mut table, ground, *plane)?;
+    let sets = sets_at(ground)?;
+    for set in sets.as_slice() {
+        push_set(&mut table, ground, set)?;
     }
     Ok(table)
 }
 
-fn push_plane(table: &mut Table, ground: Ground<'_>, plane: Plane) -> M<()>
+/// Appends the rows of a set.
+fn push_set(table: &mut Table, ground: Ground<'_>, set: &IdSet) -> M<()>
     requires own { ground.own < length ground.view.now.nodes }
     requires ends { length ground.conf.now.ends ≤ 65536 }
 {
-    let alloc = ground.alloc;
-    let ids = ids_in(alloc, ground.view.as_slice(), plane.sd)?;
-    let sets = sets_of(alloc, ids.as_slice(), plane.bsl)?;
-    for si in sets.as_slice() {
-        let triple = Triple {
-            sd: plane.sd,
-            bsl: plane.bsl,
-            si: *si,
-        };
-        let found = rows(alloc, ground.view, ground.conf, ground.own, triple)?;
-        let own = ids_of_set(alloc, ids.as_slice(), triple)?;
-        for id in own.as_slice() {
-            push_id(table, ground, &found, triple, *id)?;
-        }
+    let view = ground.view;
+    let found = rows(ground.alloc, view, ground.conf, ground.own, set.triple)?;
+    for id in set.ids.as_slice() {
+        push_id(table, ground, &found, set.triple, *id)?;
     }
     Ok(())
 }
@@ -112,15 +79,12 @@ fn push_id(
 
 /// Returns the BFR-NBRs of a BFR-id of the triple's set.
 fn routers_at(found: &RowSet, triple: Triple, id: u16) -> &[First] {
-    match triple.place(id) {
-        Some(place) => match found
-            .bits
-            .as_slice()
-            .get(usize::from(place.saturating_sub(1)))
-        {
-            Some(list) => list.as_slice(),
-            None => &[],
-        },
+    let Some(place) = triple.place(id) else {
+        return &[];
+    };
+    let before = usize::from(place.saturating_sub(1));
+    match found.bits.as_slice().get(before) {
+        Some(list) => list.as_slice(),
         None => &[],
     }
 }
@@ -139,7 +103,7 @@ fn row_toward(ground: Ground<'_>, triple: Triple, id: u16, first: First) -> M<Ro
 /// Returns the row of a BFR-id without a BFR-NBR.
 fn row_without(ground: Ground<'_>, triple: Triple, id: u16) -> M<Row> {
     let mut row = head_of(ground, triple, id)?;
-    row.put(Cell::Nothing)?;
+    row.nothing(1)?;
     row.put(Cell::Word(match owner_of(ground.view.as_slice(), triple.sd, id) {
         Owner::One(place) if place == ground.own => "local",
         _ => reason_for(ground, triple, id).words(),
@@ -164,10 +128,7 @@ fn head_of(ground: Ground<'_>, triple: Triple, id: u16) -> M<Row> {
             row.put(prefix_cell(ground, node.place_in(triple.sd))?)?;
             row.text(ground.names.of(ground.alloc, node.system)?)?;
         }
-        None => {
-            row.put(Cell::Nothing)?;
-            row.put(Cell::Nothing)?;
-        }
+        None => row.nothing(2)?,
     }
     Ok(row)
 }
@@ -178,7 +139,5 @@ fn prefix_cell(ground: Ground<'_>, sub: Option<&ViewSub>) -> M<Cell> {
         return Ok(Cell::Nothing);
     };
     let prefix = sub.prefix;
-    let mut text = String::new(ground.alloc);
-    write!(text, "{prefix}")?;
-    Ok(Cell::Text(text))
+    Ok(Cell::Text(format!(in ground.alloc; "{prefix}")?))
 }

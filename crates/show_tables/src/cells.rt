@@ -1,12 +1,10 @@
 //! A table: columns, and rows of cells.
+use crate::systems::Names;
 use std::alloc::Global;
-use wire_base::M;
+use wire_base::{M, SystemId};
 
 /// A column: its title in text, and its key in JSON.
-pub struct Column {
-    pub title: &'static str,
-    pub key: &'static str,
-}
+pub struct Column(pub &'static str, pub &'static str);
 
 /// A value of a row.
 #[derive(Drop)]
@@ -64,6 +62,14 @@ impl Row {
     pub fn text(&mut self, text: String) -> M<()> {
         self.put(Cell::Text(text))
     }
+
+    /// Appends that many cells without a value.
+    pub fn nothing(&mut self, count: u8) -> M<()> {
+        for _ in 0..count {
+            self.put(Cell::Nothing)?;
+        }
+        Ok(())
+    }
 }
 
 /// A table: a heading, which JSON omits, its columns, and its rows.
@@ -75,13 +81,20 @@ pub struct Table {
 }
 
 impl Table {
-    /// Returns a table without rows.
-    pub(crate) fn new(alloc: Global, heading: String, columns: &'static [Column]) -> Table {
-        Table {
-            heading,
+    /// Returns a table without rows, whose heading ends with the name of a system.
+    pub(crate) fn new(
+        alloc: Global,
+        what: &str,
+        system: SystemId,
+        names: Names<'_>,
+        columns: &'static [Column],
+    ) -> M<Table> {
+        let name = names.of(alloc, system)?;
+        Ok(Table {
+            heading: format!(in alloc; "{what} {name}")?,
             columns,
             rows: Vec::new(alloc),
-        }
+        })
     }
 
     /// Appends a row.

@@ -25,7 +25,7 @@ pub fn show_columns(alloc: Global, text: &mut String, table: &Table) -> M<()> {
 fn show_titles(alloc: Global, text: &mut String, columns: &[Column], widths: &[usize]) -> M<()> {
     let mut line = String::new(alloc);
     for (column, width) in columns.iter().zip(widths) {
-        push_cell(&mut line, column.title, *width, false)?;
+        push_cell(&mut line, column.0, *width, false)?;
     }
     push_line(text, &line)
 }
@@ -33,20 +33,12 @@ fn show_titles(alloc: Global, text: &mut String, columns: &[Column], widths: &[u
 fn show_row(text: &mut String, row: &Row, texts: &[String], widths: &[usize]) -> M<()> {
     let mut line = String::new(*row.cells.allocator());
     for (place, cell) in texts.iter().enumerate() {
-        let width = width_at(widths, place);
+        let width = widths.get(place).copied().unwrap_or(0);
         push_cell(&mut line, cell.as_str(), width, is_number(row, place))?;
     }
     push_line(text, &line)?;
     text.push_str(row.below.as_str())?;
     Ok(())
-}
-
-/// Returns the width of a column; 0 where there is no such column.
-fn width_at(widths: &[usize], place: usize) -> usize {
-    match widths.get(place) {
-        Some(width) => *width,
-        None => 0,
-    }
 }
 
 fn is_number(row: &Row, place: usize) -> bool {
@@ -85,7 +77,7 @@ fn push_spaces(line: &mut String, count: usize) -> M<()> {
 fn widths(alloc: Global, columns: &[Column], rows: &[Vec<String>]) -> M<Vec<usize>> {
     let mut widths = Vec::new(alloc);
     for (place, column) in columns.iter().enumerate() {
-        widths.push(column_width(column.title.len(), rows, place))?;
+        widths.push(column_width(column.0.len(), rows, place))?;
     }
     Ok(widths)
 }

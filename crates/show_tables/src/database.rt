@@ -6,50 +6,19 @@ use isis_flood::Flood;
 use isis_text::show_tlvs;
 use router_core::Router;
 use std::alloc::Global;
-use std::fmt::Write;
 use wire_base::{Entry, LspId, M, RouterConf};
 
 static COLUMNS: [Column; 10] = [
-    Column {
-        title: "LSP ID",
-        key: "lsp",
-    },
-    Column {
-        title: "",
-        key: "own",
-    },
-    Column {
-        title: "Router",
-        key: "router",
-    },
-    Column {
-        title: "PduLen",
-        key: "pdu_length",
-    },
-    Column {
-        title: "SeqNumber",
-        key: "sequence",
-    },
-    Column {
-        title: "Chksum",
-        key: "checksum",
-    },
-    Column {
-        title: "Holdtime",
-        key: "lifetime",
-    },
-    Column {
-        title: "ATT/P/OL",
-        key: "flags",
-    },
-    Column {
-        title: "SRM",
-        key: "srm",
-    },
-    Column {
-        title: "SSN",
-        key: "ssn",
-    },
+    Column("LSP ID", "lsp"),
+    Column("", "own"),
+    Column("Router", "router"),
+    Column("PduLen", "pdu_length"),
+    Column("SeqNumber", "sequence"),
+    Column("Chksum", "checksum"),
+    Column("Holdtime", "lifetime"),
+    Column("ATT/P/OL", "flags"),
+    Column("SRM", "srm"),
+    Column("SSN", "ssn"),
 ];
 
 /// The length of an LSP without its TLVs (ISO/IEC 10589, 9.8).
@@ -73,9 +42,13 @@ pub fn database_table(
     detail: Detail,
 ) -> M<Table> {
     let conf = router.conf();
-    let mut heading = String::from_str(alloc, "IS-IS link-state database of ")?;
-    heading.push_str(names.of(alloc, conf.system)?.as_str())?;
-    let mut table = Table::new(alloc, heading, &COLUMNS);
+    let mut table = Table::new(
+        alloc,
+        "IS-IS link-state database of",
+        conf.system,
+        names,
+        &COLUMNS,
+    )?;
     for entry in router.store().as_slice() {
         let mut row = entry_row(alloc, conf, router.flood(), names, entry)?;
         if let Detail::Tlvs = detail {
@@ -107,9 +80,7 @@ fn entry_row(
 
 /// Appends the LSP ID, whether it is of the router itself, and the name of its system.
 fn push_id(alloc: Global, row: &mut Row, conf: &RouterConf, names: Names<'_>, id: LspId) -> M<()> {
-    let mut text = String::new(alloc);
-    write!(text, "{id}")?;
-    row.text(text)?;
+    row.text(format!(in alloc; "{id}")?)?;
     row.put(Cell::Mark(id.system == conf.system))?;
     row.text(names.of(alloc, id.system)?)
 }
@@ -141,9 +112,7 @@ fn push_flood(
 /// Returns the attached bits, the partition bit and the overload bit of an LSP (ISO/IEC 10589, 9.8), as in `0/0/1`.
 fn flags_text(alloc: Global, flags: u8) -> M<String> {
     let (attached, partition, overload) = (flags / 8 % 16, flags / 128, flags / 4 % 2);
-    let mut text = String::new(alloc);
-    write!(text, "{attached}/{partition}/{overload}")?;
-    Ok(text)
+    Ok(format!(in alloc; "{attached}/{partition}/{overload}")?)
 }
 
 /// Appends a row for each LSP that has flags and no entry: it is to be requested.
@@ -161,9 +130,7 @@ fn push_requests(alloc: Global, table: &mut Table, router: &Router, names: Names
 fn request_row(alloc: Global, router: &Router, names: Names<'_>, id: LspId) -> M<Row> {
     let mut row = Row::new(alloc);
     push_id(alloc, &mut row, router.conf(), names, id)?;
-    for _ in 0..5 {
-        row.put(Cell::Nothing)?;
-    }
+    row.nothing(5)?;
     push_flood(alloc, &mut row, router.conf(), router.flood(), names, id)?;
     Ok(row)
 }

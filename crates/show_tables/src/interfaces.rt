@@ -7,38 +7,14 @@ use std::alloc::Global;
 use wire_base::{End, M};
 
 static COLUMNS: [Column; 8] = [
-    Column {
-        title: "Interface",
-        key: "interface",
-    },
-    Column {
-        title: "Peer",
-        key: "peer",
-    },
-    Column {
-        title: "State",
-        key: "state",
-    },
-    Column {
-        title: "Metric",
-        key: "metric",
-    },
-    Column {
-        title: "Out",
-        key: "out",
-    },
-    Column {
-        title: "In",
-        key: "in",
-    },
-    Column {
-        title: "CSNP",
-        key: "csnp_due",
-    },
-    Column {
-        title: "Owed",
-        key: "owed",
-    },
+    Column("Interface", "interface"),
+    Column("Peer", "peer"),
+    Column("State", "state"),
+    Column("Metric", "metric"),
+    Column("Out", "out"),
+    Column("In", "in"),
+    Column("CSNP", "csnp_due"),
+    Column("Owed", "owed"),
 ];
 
 /// How many frames are in flight over an interface, in each direction.
@@ -60,9 +36,7 @@ pub fn interface_table(
     flights: &[Flight],
 ) -> M<Table> {
     let conf = router.conf();
-    let mut heading = String::from_str(alloc, "IS-IS interfaces of ")?;
-    heading.push_str(names.of(alloc, conf.system)?.as_str())?;
-    let mut table = Table::new(alloc, heading, &COLUMNS);
+    let mut table = Table::new(alloc, "IS-IS interfaces of", conf.system, names, &COLUMNS)?;
     for (place, end) in conf.ends.as_slice().iter().enumerate() {
         let flight = flights.get(place).copied();
         let link = link_at(place);
@@ -97,10 +71,7 @@ fn push_flight(row: &mut Row, flight: Option<Flight>) -> M<()> {
             row.number(out as u64)?;
             row.number(back as u64)
         }
-        None => {
-            row.put(Cell::Nothing)?;
-            row.put(Cell::Nothing)
-        }
+        None => row.nothing(2),
     }
 }
 

@@ -18,7 +18,7 @@ fn push_object(text: &mut String, columns: &[Column], row: &Row) -> M<()> {
         if place > 0 {
             text.push(',')?;
         }
-        push_string(text, column.key)?;
+        push_string(text, column.1)?;
         text.push(':')?;
         push_value(text, cell)?;
     }
@@ -52,12 +52,10 @@ fn push_truth(text: &mut String, is: bool) -> M<()> {
 /// Appends the member `details`: a list of the lines, without the two spaces that each begins with in text.
 fn push_details(text: &mut String, below: &str) -> M<()> {
     text.push_str(",\"details\":[")?;
-    let mut is_first = true;
-    for line in below.lines() {
-        if !is_first {
+    for (place, line) in below.lines().enumerate() {
+        if place > 0 {
             text.push(',')?;
         }
-        is_first = false;
         push_string(text, line.strip_prefix("  ").unwrap_or(line))?;
     }
     text.push(']')?;

@@ -9,7 +9,7 @@ use crate::copies::{Copied, copies_of, push_way};
 use crate::hops::hop;
 use crate::planes::{Ground, distinct};
 use crate::reasons::{Reason, reason_for};
-use crate::sets::{ids_of_bits, ids_of_set, sets_of};
+use crate::sets::{IdSet, ids_of_bits, push_sets};
 use crate::systems::Names;
 use bier_forward::{DropNote, Effects, own_place};
 use router_core::Router;
@@ -17,42 +17,15 @@ use std::alloc::Global;
 use wire_base::{Bsl, Cause, M, Triple};
 
 static COLUMNS: [Column; 9] = [
-    Column {
-        title: "SI",
-        key: "si",
-    },
-    Column {
-        title: "Outcome",
-        key: "outcome",
-    },
-    Column {
-        title: "BFR-ids",
-        key: "ids",
-    },
-    Column {
-        title: "BFR-NBR",
-        key: "nbr",
-    },
-    Column {
-        title: "Way",
-        key: "way",
-    },
-    Column {
-        title: "Interface",
-        key: "interface",
-    },
-    Column {
-        title: "BIFT-id",
-        key: "bift_id",
-    },
-    Column {
-        title: "TTL",
-        key: "ttl",
-    },
-    Column {
-        title: "Reason",
-        key: "reason",
-    },
+    Column("SI", "si"),
+    Column("Outcome", "outcome"),
+    Column("BFR-ids", "ids"),
+    Column("BFR-NBR", "nbr"),
+    Column("Way", "way"),
+    Column("Interface", "interface"),
+    Column("BIFT-id", "bift_id"),
+    Column("TTL", "ttl"),
+    Column("Reason", "reason"),
 ];
 
 /// The reasons for which a BFR-id has no BIFT entry.
@@ -80,9 +53,7 @@ pub fn packet_table(alloc: Global, router: &Router, names: Names<'_>, query: Que
     requires { query.entropy < 2 ^ 20 }
 {
     let conf = router.conf();
-    let mut heading = String::from_str(alloc, "A packet at ")?;
-    heading.push_str(names.of(alloc, conf.system)?.as_str())?;
-    let mut table = Table::new(alloc, heading, &COLUMNS);
+    let mut table = Table::new(alloc, "A packet at", conf.system, names, &COLUMNS)?;
     let view = router.current_view()?;
     let Some(own) = own_place(view.as_slice(), conf.system) else {
         return Ok(table);
@@ -94,46 +65,36 @@ pub fn packet_table(alloc: Global, router: &Router, names: Names<'_>, query: Que
         own,
         names,
     };
-    push_sets(&mut table, ground, query)?;
+    push_packet(&mut table, ground, query)?;
     Ok(table)
 }
 
 /// Appends the rows of all sets of a packet's BFR-ids.
-fn push_sets(table: &mut Table, ground: Ground<'_>, query: Query<'_>) -> M<()>
+fn push_packet(table: &mut Table, ground: Ground<'_>, query: Query<'_>) -> M<()>
     requires sound { IsSound ground.conf.now }
     requires leads { LeadsToEnds ground.conf.now ground.view.now.nodes }
     requires entropy { query.entropy < 2 ^ 20 }
 {
     let alloc = ground.alloc;
     let ids = distinct(alloc, query.ids.to_vec(alloc)?)?;
-    let sets = sets_of(alloc, ids.as_slice(), query.bsl)?;
-    for si in sets.as_slice() {
-        let triple = Triple {
-            sd: query.sd,
-            bsl: query.bsl,
-            si: *si,
-        };
-        let own = ids_of_set(alloc, ids.as_slice(), triple)?;
-        push_set(table, ground, triple, own, query)?;
+    let mut sets = Vec::new(alloc);
+    push_sets(alloc, &mut sets, query.sd, query.bsl, ids.as_slice())?;
+    for set in sets.as_slice() {
+        push_set(table, ground, set, query)?;
     }
     Ok(())
 }
 
-fn push_set(
-    table: &mut Table,
-    ground: Ground<'_>,
-    triple: Triple,
-    ids: Vec<u16>,
-    query: Query<'_>,
-) -> M<()>
+fn push_set(table: &mut Table, ground: Ground<'_>, set: &IdSet, query: Query<'_>) -> M<()>
     requires sound { IsSound ground.conf.now }
     requires leads { LeadsToEnds ground.conf.now ground.view.now.nodes }
     requires entropy { query.entropy < 2 ^ 20 }
 {
+    let (triple, ids) = (set.triple, set.ids.as_slice());
     if !is_supported(ground, triple) {
-        return table.push(drop_row(ground, triple, ids, Reason::Unknown)?);
+        return table.push(drop_row(ground, triple, set.ids.clone()?, Reason::Unknown)?);
     }
-    let effects = hop(ground, triple, ids.as_slice(), query.ttl, query.entropy)?;
+    let effects = hop(ground, triple, ids, query.ttl, query.entropy)?;
     push_effects(table, ground, triple, &effects)
 }
 
@@ -160,18 +121,11 @@ fn head_of(ground: Ground<'_>, triple: Triple, outcome: &'static str, ids: Vec<u
     Ok(row)
 }
 
-fn push_nothing(row: &mut Row, count: usize) -> M<()> {
-    for _ in 0..count {
-        row.put(Cell::Nothing)?;
-    }
-    Ok(())
-}
-
 fn deliver_row(ground: Ground<'_>, triple: Triple, id: u16) -> M<Row> {
     let mut ids = Vec::new(ground.alloc);
     ids.push(id)?;
     let mut row = head_of(ground, triple, "deliver", ids)?;
-    push_nothing(&mut row, 6)?;
+    row.nothing(6)?;
     Ok(row)
 }
 
@@ -185,7 +139,7 @@ fn copy_row(ground: Ground<'_>, triple: Triple, copy: &Copied) -> M<Row> {
 
 fn drop_row(ground: Ground<'_>, triple: Triple, ids: Vec<u16>, reason: Reason) -> M<Row> {
     let mut row = head_of(ground, triple, "drop", ids)?;
-    push_nothing(&mut row, 5)?;
+    row.nothing(5)?;
     row.put(Cell::Word(reason.words()))?;
     Ok(row)
 }

@@ -1,5 +1,6 @@
 //! Where a router stands in its topology, the sub-domains and BitStringLengths of its tables, and the sets of BFR-ids in them.
 
+use crate::sets::{IdSet, push_sets};
 use crate::systems::Names;
 use std::alloc::Global;
 use wire_base::{Bsl, Kind, M, OwnSub, RouterConf, TableRow, View, ViewNode, kind_of};
@@ -15,10 +16,10 @@ pub(crate) struct Ground<'a> {
 }
 
 /// A sub-domain, and a BitStringLength in it.
-#[derive(Clone, Copy)]
-pub(crate) struct Plane {
-    pub sd: u8,
-    pub bsl: Bsl,
+#[derive(Clone, Copy, PartialEq)]
+struct Plane {
+    sd: u8,
+    bsl: Bsl,
 }
 
 /// Returns an index of an interface as routers have it; a router has at most 64.
@@ -26,8 +27,18 @@ pub(crate) fn link_at(place: usize) -> u16 {
     u16::try_from(place).unwrap_or(u16::MAX)
 }
 
+/// Returns the sets of a router's tables, by sub-domain and length: the BFR-ids in its topology.
+pub(crate) fn sets_at(ground: Ground<'_>) -> M<Vec<IdSet>> {
+    let mut sets = Vec::new(ground.alloc);
+    for plane in planes(ground.alloc, ground.conf)?.as_slice() {
+        let ids = ids_in(ground.alloc, ground.view.as_slice(), plane.sd)?;
+        push_sets(ground.alloc, &mut sets, plane.sd, plane.bsl, ids.as_slice())?;
+    }
+    Ok(sets)
+}
+
 /// Returns the sub-domains of a router with their lengths: those of its label ranges, or of the configured table.
-pub(crate) fn planes(alloc: Global, conf: &RouterConf) -> M<Vec<Plane>> {
+fn planes(alloc: Global, conf: &RouterConf) -> M<Vec<Plane>> {
     let mut planes = Vec::new(alloc);
     for sub in conf.subs.as_slice() {
         match kind_of(conf.kinds.as_slice(), sub.sd) {
@@ -64,16 +75,11 @@ fn push_rows(planes: &mut Vec<Plane>, sd: u8, table: &[TableRow]) -> M<()> {
 }
 
 fn has_plane(planes: &[Plane], other: Plane) -> bool {
-    for plane in planes {
-        if plane.sd == other.sd && plane.bsl.bits() == other.bsl.bits() {
-            return true;
-        }
-    }
-    false
+    planes.iter().any(|plane| *plane == other)
 }
 
 /// Returns the BFR-ids that the nodes of a topology have in a sub-domain, ascending and each once.
-pub(crate) fn ids_in(alloc: Global, nodes: &[ViewNode], sd: u8) -> M<Vec<u16>> {
+fn ids_in(alloc: Global, nodes: &[ViewNode], sd: u8) -> M<Vec<u16>> {
     let mut ids = Vec::new(alloc);
     for node in nodes {
         if let Some(sub) = node.place_in(sd) {

@@ -62,10 +62,7 @@ pub(crate) fn owner_of(nodes: &[ViewNode], sd: u8, id: u16) -> Owner
 }
 
 fn has_id(node: &ViewNode, sd: u8, id: u16) -> bool {
-    match node.place_in(sd) {
-        Some(sub) => sub.id == id,
-        None => false,
-    }
+    matches!(node.place_in(sd), Some(sub) if sub.id == id)
 }
 
 /// Returns why the router has no BFR-NBR for a BFR-id of another router: nobody has the id, or several have it, by the memberships

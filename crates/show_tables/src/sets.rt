@@ -9,8 +9,33 @@ use bier_bits::AnyBits;
 use std::alloc::Global;
 use wire_base::{Bsl, M, Triple};
 
-/// Returns the set identifiers of ascending BFR-ids, each once. An id whose set identifier is above 255 is in no set.
-pub(crate) fn sets_of(alloc: Global, ids: &[u16], bsl: Bsl) -> M<Vec<u8>> {
+/// A set of BFR-ids: its triple, and those that are in it.
+#[derive(Drop)]
+pub(crate) struct IdSet {
+    pub triple: Triple,
+    pub ids: Vec<u16>,
+}
+
+/// Appends the sets of ascending BFR-ids, in order. An id whose set identifier is above 255 is in no set.
+pub(crate) fn push_sets(
+    alloc: Global,
+    sets: &mut Vec<IdSet>,
+    sd: u8,
+    bsl: Bsl,
+    ids: &[u16],
+) -> M<()> {
+    for si in sets_of(alloc, ids, bsl)?.as_slice() {
+        let triple = Triple { sd, bsl, si: *si };
+        sets.push(IdSet {
+            triple,
+            ids: ids_of_set(alloc, ids, triple)?,
+        })?;
+    }
+    Ok(())
+}
+
+/// Returns the set identifiers of ascending BFR-ids, each once.
+fn sets_of(alloc: Global, ids: &[u16], bsl: Bsl) -> M<Vec<u8>> {
     let mut sets: Vec<u8> = Vec::new(alloc);
     for id in ids {
         if let Some(si) = set_of(*id, bsl) {
@@ -28,7 +53,7 @@ fn set_of(id: u16, bsl: Bsl) -> Option<u8> {
 }
 
 /// Returns those of the BFR-ids that are in a triple's set.
-pub(crate) fn ids_of_set(alloc: Global, ids: &[u16], triple: Triple) -> M<Vec<u16>> {
+fn ids_of_set(alloc: Global, ids: &[u16], triple: Triple) -> M<Vec<u16>> {
     let mut own = Vec::new(alloc);
     for id in ids {
         if triple.place(*id).is_some() {

@@ -11,30 +11,12 @@ use std::fmt::Write;
 use wire_base::{M, Rows, View, ViewNode};
 
 static COLUMNS: [Column; 6] = [
-    Column {
-        title: "Vertex",
-        key: "vertex",
-    },
-    Column {
-        title: "System",
-        key: "system",
-    },
-    Column {
-        title: "Overload",
-        key: "overload",
-    },
-    Column {
-        title: "Links",
-        key: "links",
-    },
-    Column {
-        title: "Metric",
-        key: "cost",
-    },
-    Column {
-        title: "Next-Hop",
-        key: "next_hops",
-    },
+    Column("Vertex", "vertex"),
+    Column("System", "system"),
+    Column("Overload", "overload"),
+    Column("Links", "links"),
+    Column("Metric", "cost"),
+    Column("Next-Hop", "next_hops"),
 ];
 
 /// Returns a row for each node of a router's topology, in the order of the system IDs: those of `Router::current_view`, with their
@@ -42,9 +24,7 @@ static COLUMNS: [Column; 6] = [
 /// such paths begin, by `tight_steps`.
 pub fn topology_table(alloc: Global, router: &Router, names: Names<'_>) -> M<Table> {
     let conf = router.conf();
-    let mut heading = String::from_str(alloc, "IS-IS paths from ")?;
-    heading.push_str(names.of(alloc, conf.system)?.as_str())?;
-    let mut table = Table::new(alloc, heading, &COLUMNS);
+    let mut table = Table::new(alloc, "IS-IS paths from", conf.system, names, &COLUMNS)?;
     let view = router.current_view()?;
     if let Some(own) = own_place(view.as_slice(), conf.system) {
         push_nodes(alloc, &mut table, &view, names, own)?;
@@ -93,9 +73,7 @@ fn node_row(
     let system = node.system;
     let mut row = Row::new(alloc);
     row.text(names.of(alloc, system)?)?;
-    let mut text = String::new(alloc);
-    write!(text, "{system}")?;
-    row.text(text)?;
+    row.text(format!(in alloc; "{system}")?)?;
     row.put(Cell::Answer(node.overload))?;
     row.put(Cell::Texts(link_texts(alloc, nodes, names, node)?))?;
     row.put(cost_cell(cost))?;
