@@ -15,7 +15,6 @@ use Rattle.laws_ledger.specs.Runs.{AreAllowed}
 use Rattle.laws_settle.specs.Gentle.{AreGentle, IsGentle}
 
 unfoldable pub fits : ℕ → Event → Bool
-fits n (Inject a sd bsl ks ttl entropy octets) = false
 fits n (Take a b i) = nat_lt a n && nat_lt b n
 fits n (Lose a b i) = nat_lt a n && nat_lt b n
 fits n (Again a b i) = nat_lt a n && nat_lt b n
@@ -24,16 +23,13 @@ fits n (Up a b) = nat_lt a n && nat_lt b n
 fits n (Send a b) = nat_lt a n && nat_lt b n
 fits n (Tick a) = nat_lt a n
 fits n (Restart a) = nat_lt a n
-fits n (Relabel a sd bsl label) = false
-fits n (Leave a sd) = false
-fits n (Join a sd) = false
+fits n other = false
 
 both : (n a b : ℕ) → (nat_lt a n && nat_lt b n) ≡ true → (a < n) × (b < n)
 both n a b h = let p = and_parts (nat_lt a n) (nat_lt b n) h in (ltb-true a n p.0, ltb-true b n p.1)
 
 fits_is : (n : ℕ) (e : Event) → fits n e ≡ true → EventFits n e
 unfolding fits
-fits_is n (Inject a sd bsl ks ttl entropy octets) h = absurd (false≢true h)
 fits_is n (Take a b i) h = both n a b h
 fits_is n (Lose a b i) h = both n a b h
 fits_is n (Again a b i) h = both n a b h
@@ -42,9 +38,7 @@ fits_is n (Up a b) h = both n a b h
 fits_is n (Send a b) h = both n a b h
 fits_is n (Tick a) h = ltb-true a n h
 fits_is n (Restart a) h = ltb-true a n h
-fits_is n (Relabel a sd bsl label) h = absurd (false≢true h)
-fits_is n (Leave a sd) h = absurd (false≢true h)
-fits_is n (Join a sd) h = absurd (false≢true h)
+fits_is n other h = absurd (false≢true h)
 
 none_is : (o : Option EventFault) → is_none o ≡ true → o ≡ None
 none_is None h = refl
@@ -66,33 +60,15 @@ allowed_is (e ∷ es) w h =
 
 -- what is sent and received changes no Remaining Lifetime
 unfoldable pub is_calm : Event → Bool
-is_calm (Inject a sd bsl ks ttl entropy octets) = true
-is_calm (Take a b i) = true
-is_calm (Lose a b i) = true
-is_calm (Again a b i) = true
-is_calm (Down a b) = true
-is_calm (Up a b) = true
-is_calm (Send a b) = true
 is_calm (Tick a) = false
 is_calm (Restart a) = false
-is_calm (Relabel a sd bsl label) = true
-is_calm (Leave a sd) = true
-is_calm (Join a sd) = true
+is_calm other = true
 
 calm_gentle : (w : WorldState) (e : Event) → is_calm e ≡ true → IsGentle w e
 unfolding is_calm
-calm_gentle w (Inject a sd bsl ks ttl entropy octets) h = tt
-calm_gentle w (Take a b i) h = tt
-calm_gentle w (Lose a b i) h = tt
-calm_gentle w (Again a b i) h = tt
-calm_gentle w (Down a b) h = tt
-calm_gentle w (Up a b) h = tt
-calm_gentle w (Send a b) h = tt
 calm_gentle w (Tick a) h = absurd (false≢true h)
 calm_gentle w (Restart a) h = absurd (false≢true h)
-calm_gentle w (Relabel a sd bsl label) h = tt
-calm_gentle w (Leave a sd) h = tt
-calm_gentle w (Join a sd) h = tt
+calm_gentle w other h = tt
 
 abbrev pub all_calm : List Event → Bool
 all_calm [] = true

@@ -1,25 +1,25 @@
 -- A domain at rest is quiet, and packets reach three BFR-ids.
-use Rattle.std.proofs.Common.{◌≡◌, ℕ, ◌<◌, ◌==◌, ◌&&◌, Bool, true, false, List, [], ◌∷◌, map, Option, Some, None, refl, sym, ap, subst, ◌∙◌}
+use Rattle.std.proofs.Common.{◌≡◌, ℕ, ◌<◌, Bool, true, false, List, map, Option, Some, None, refl, ap, subst, ◌∙◌}
 use mathlib.Core.Bool.{false≢true}
 use Rattle.std.specs.List.{AllByRecursion}
 use Rattle.std.proofs.lemmas.Bool.{and_from, eq-eqb}
 use Rattle.wire_base.specs.declared.addresses.LspId.{LspId}
 use Rattle.wire_base.specs.declared.conf.RouterConf.{RouterConf}
 use Rattle.wire_base.specs.declared.entry.Entry.{Entry}
-use Rattle.wire_base.specs.model.Control.{Control, entry_in, fragment_0, same_system}
+use Rattle.wire_base.specs.model.Control.{entry_in, same_system}
 use Rattle.wire_base.specs.model.Hop.{has}
 use Rattle.domain_model.specs.Step.{happens}
 use Rattle.laws_router.proofs.EntryLaws.{bytes_self}
 use Rattle.domain_model.proofs.FlagLaws.{found_each, found_id, same_id_is}
 use Rattle.laws_ledger.specs.Runs.{unlined}
 use Rattle.laws_router.specs.State.{IsIssued, IssuesAlone}
-use Rattle.quiet_domain.specs.Live.{AreSameLive, alike_by, are_alike, has_same, is_live, is_same, is_same_at}
+use Rattle.quiet_domain.specs.Live.{AreSameLive, alike_by, are_alike, has_same, is_live, is_same}
 use Rattle.quiet_domain.specs.Way.{links_over, way_to}
 use Rattle.laws_quiet.specs.Cover.{AreTakes, IsCoveredAt, covers_id}
-use Rattle.laws_quiet.specs.Quiet.{AreIssuers, IsQuiet, IsQuietLink}
-use Rattle.examples_domain.specs.Branch.{at_rest, branch, branch_a, branch_b, branch_c, branch_p, enters, lsp_of, lsps, rest, taken, the_injection}
+use Rattle.laws_quiet.specs.Quiet.{AreIssuers, IsQuiet}
+use Rattle.examples_domain.specs.Branch.{at_rest, branch, branch_a, branch_b, branch_c, branch_p, enters, lsps, rest, taken, the_injection}
 use Rattle.examples_domain.proofs.BranchLaws.{rest_true}
-use Rattle.examples_domain.proofs.CarriedLaws.{carried_b, carried_own}
+use Rattle.examples_domain.proofs.CarriedLaws.{carried_own}
 use Rattle.examples_domain.proofs.OnLiterals.{hops_on_literals, runs_on_literals, views_on_literals}
 
 -- ---- each router's own LSP is what it originates
@@ -90,18 +90,6 @@ takes : AreTakes 1 (happens at_rest enters.1).world (unlined taken)
 unfolding views_on_literals hops_on_literals runs_on_literals
 takes = (refl, (refl, (refl, tt)))
 
-covers_own : covers_id (rest branch_a) 0 the_injection.bsl 8 0 1 ≡ true
-unfolding views_on_literals hops_on_literals runs_on_literals way_to links_over
-covers_own = refl
-
-covers_neighbor : covers_id (rest branch_a) 0 the_injection.bsl 8 0 2 ≡ true
-unfolding views_on_literals hops_on_literals runs_on_literals way_to links_over
-covers_neighbor = refl
-
-covers_tunnel : covers_id (rest branch_a) 0 the_injection.bsl 8 0 4 ≡ true
-unfolding views_on_literals hops_on_literals runs_on_literals way_to links_over
-covers_tunnel = refl
-
 covered : (k : ℕ) → has the_injection.ids k ≡ true → covers_id (rest branch_a) 0 the_injection.bsl 8 0 k ≡ true → IsCoveredAt at_rest enters.1 (unlined taken) (rest branch_a) 1 k the_injection
 covered k named reached = record {
   truth = rest_true;
@@ -116,10 +104,13 @@ covered k named reached = record {
 }
 
 pub covered_own : IsCoveredAt at_rest enters.1 (unlined taken) (rest branch_a) 1 1 the_injection
-covered_own = covered 1 refl covers_own
+unfolding views_on_literals hops_on_literals runs_on_literals way_to links_over
+covered_own = covered 1 refl refl
 
 pub covered_neighbor : IsCoveredAt at_rest enters.1 (unlined taken) (rest branch_a) 1 2 the_injection
-covered_neighbor = covered 2 refl covers_neighbor
+unfolding views_on_literals hops_on_literals runs_on_literals way_to links_over
+covered_neighbor = covered 2 refl refl
 
 pub covered_tunnel : IsCoveredAt at_rest enters.1 (unlined taken) (rest branch_a) 1 4 the_injection
-covered_tunnel = covered 4 refl covers_tunnel
+unfolding views_on_literals hops_on_literals runs_on_literals way_to links_over
+covered_tunnel = covered 4 refl refl

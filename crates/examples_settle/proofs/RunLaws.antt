@@ -1,9 +1,10 @@
 -- The runs of the pair, by computation.
-use Rattle.std.proofs.Common.{◌≡◌, ◌∙◌, inl, inr, ℕ, zero, suc, Bool, true, false, List, [], ◌∷◌, length, slice_get, slice_index_or, Some, None, refl, sym, subst, arith}
-use Rattle.std.proofs.lemmas.Bool.{false≢true}
+use Rattle.std.proofs.Common.{◌≡◌, ◌∙◌, ◌⊎◌, ◌+◌, ◌≤◌, inl, inr, ℕ, zero, suc, Bool, true, false, List, [], ◌∷◌, length, slice_get, slice_index_or, Some, None, refl, sym, subst, arith}
+use Rattle.wire_base.specs.declared.addresses.LspId.{LspId}
 use Rattle.wire_base.specs.declared.bsl.Bsl.TheVariants.{B64}
 use Rattle.wire_base.specs.model.Configuration.{IsValid}
 use Rattle.wire_base.specs.model.Control.{Control}
+use Rattle.replay_text.specs.declared.event.Event.{Event}
 use Rattle.domain_model.specs.Faults.{event_fault, is_up_toward}
 use Rattle.domain_model.specs.Step.{happens}
 use Rattle.domain_model.specs.Truth.{EventFits}
@@ -41,27 +42,17 @@ joins a b = false
 
 disturbed_up : (a b : ℕ) → is_up_toward (after disturbed) a b ≡ joins a b
 unfolding floods_on_literals runs_on_literals joins
-disturbed_up zero zero = refl
 disturbed_up zero (suc zero) = refl
-disturbed_up zero (suc (suc b)) = refl
-disturbed_up (suc zero) zero = refl
 disturbed_up (suc zero) (suc zero) = refl
-disturbed_up (suc zero) (suc (suc b)) = refl
-disturbed_up (suc (suc a)) zero = refl
 disturbed_up (suc (suc a)) (suc zero) = refl
-disturbed_up (suc (suc a)) (suc (suc b)) = refl
+disturbed_up a b = refl
 
 joins_back : (a b : ℕ) → joins a b ≡ joins b a
 unfolding joins
-joins_back zero zero = refl
 joins_back zero (suc zero) = refl
-joins_back zero (suc (suc b)) = refl
-joins_back (suc zero) zero = refl
 joins_back (suc zero) (suc zero) = refl
-joins_back (suc zero) (suc (suc b)) = refl
-joins_back (suc (suc a)) zero = refl
 joins_back (suc (suc a)) (suc zero) = refl
-joins_back (suc (suc a)) (suc (suc b)) = refl
+joins_back a b = refl
 
 disturbed_whole : HasWholeLinks (after disturbed)
 disturbed_whole a b = disturbed_up a b ∙ joins_back a b ∙ sym (disturbed_up b a)
@@ -69,18 +60,9 @@ disturbed_whole a b = disturbed_up a b ∙ joins_back a b ∙ sym (disturbed_up 
 -- a step and another lead back
 joins_twice : (a b c : ℕ) → joins a b ≡ true → joins b c ≡ true → a ≡ c
 unfolding joins
-joins_twice zero zero c one two = absurd (false≢true one)
 joins_twice zero (suc zero) zero one two = refl
-joins_twice zero (suc zero) (suc zero) one two = absurd (false≢true two)
-joins_twice zero (suc zero) (suc (suc c)) one two = absurd (false≢true two)
-joins_twice zero (suc (suc b)) c one two = absurd (false≢true one)
-joins_twice (suc zero) zero zero one two = absurd (false≢true two)
 joins_twice (suc zero) zero (suc zero) one two = refl
-joins_twice (suc zero) zero (suc (suc c)) one two = absurd (false≢true two)
-joins_twice (suc zero) (suc b) c one two = absurd (false≢true one)
-joins_twice (suc (suc a)) zero c one two = absurd (false≢true one)
-joins_twice (suc (suc a)) (suc zero) c one two = absurd (false≢true one)
-joins_twice (suc (suc a)) (suc (suc b)) c one two = absurd (false≢true one)
+joins_twice a b c one two = absurd cc
 
 -- one link leads from each router to each other
 disturbed_wide : HasWidth (after disturbed) 1
@@ -92,22 +74,20 @@ disturbed_wide (suc links) a b (inr (c, up, more)) = by (disturbed_wide links c 
     by (inl same) = inr (c, up, same)
     by (inr (e, over, same)) = inl (joins_twice a c e (sym (disturbed_up a c) ∙ up) (sym (disturbed_up c e) ∙ over) ∙ same)
 
-rounds_allowed : all_allowed (after disturbed) (settle_events (after disturbed) 2) ≡ true
-unfolding floods_on_literals runs_on_literals fits
-rounds_allowed = refl
-
 run : IsValid pair → IsGentleRun pair disturbed (after disturbed)
 run valid = record { valid = valid; allowed = allowed_is disturbed (first_world pair) disturbed_allowed; gentle = disturbed_gentle; is = refl; whole = disturbed_whole }
 
-pub settles : IsValid pair → IsSettled pair disturbed (after disturbed) 2 (with_rounds (after disturbed) 2)
-settles valid = record { run = run valid; enough = inl (omega arith); allowed = allowed_is (settle_events (after disturbed) 2) (after disturbed) rounds_allowed; is = refl }
+module _ (valid : IsValid pair) where
+  settled_in : (rounds : ℕ) → (length pair.routers ≤ rounds + 1) ⊎ HasWidth (after disturbed) rounds → all_allowed (after disturbed) (settle_events (after disturbed) rounds) ≡ true → IsSettled pair disturbed (after disturbed) rounds (with_rounds (after disturbed) rounds)
+  settled_in rounds enough allowed = record { run = run valid; enough = enough; allowed = allowed_is (settle_events (after disturbed) rounds) (after disturbed) allowed; is = refl }
 
-round_allowed : all_allowed (after disturbed) (settle_events (after disturbed) 1) ≡ true
-unfolding floods_on_literals runs_on_literals fits
-round_allowed = refl
+  pub settles : IsSettled pair disturbed (after disturbed) 2 (with_rounds (after disturbed) 2)
+  unfolding floods_on_literals runs_on_literals fits
+  settles = settled_in 2 (inl (omega arith)) refl
 
-pub settles_by_width : IsValid pair → IsSettled pair disturbed (after disturbed) 1 (with_rounds (after disturbed) 1)
-settles_by_width valid = record { run = run valid; enough = inr disturbed_wide; allowed = allowed_is (settle_events (after disturbed) 1) (after disturbed) round_allowed; is = refl }
+  pub settles_by_width : IsSettled pair disturbed (after disturbed) 1 (with_rounds (after disturbed) 1)
+  unfolding floods_on_literals runs_on_literals fits
+  settles_by_width = settled_in 1 (inr disturbed_wide) refl
 
 -- no traffic
 pub none_yet : (w : WorldState) → IsTrafficRun w [] w
@@ -169,106 +149,53 @@ all_received = refl
 
 -- ---- at rest
 
-four_allowed : all_allowed (first_world pair) four_rounds ≡ true
-unfolding floods_on_literals runs_on_literals fits
-four_allowed = refl
-
-four_calm : all_calm four_rounds ≡ true
-unfolding floods_on_literals runs_on_literals is_calm
-four_calm = refl
-
-four_idle : all_idle (after four_rounds).routers ≡ true
-unfolding floods_on_literals runs_on_literals
-four_idle = refl
-
 four_whole : HasWholeLinks (after four_rounds)
 unfolding floods_on_literals runs_on_literals
-four_whole zero zero = refl
 four_whole zero (suc zero) = refl
-four_whole zero (suc (suc b)) = refl
-four_whole (suc zero) zero = refl
 four_whole (suc zero) (suc zero) = refl
-four_whole (suc zero) (suc (suc b)) = refl
-four_whole (suc (suc a)) zero = refl
 four_whole (suc (suc a)) (suc zero) = refl
-four_whole (suc (suc a)) (suc (suc b)) = refl
+four_whole a b = refl
+
+rests_if : IsValid pair → all_allowed (first_world pair) four_rounds ≡ true → all_calm four_rounds ≡ true → all_idle (after four_rounds).routers ≡ true → IsAtRest pair four_rounds (after four_rounds)
+rests_if valid allowed calm idle = record {
+  run = record { valid = valid; allowed = allowed_is four_rounds (first_world pair) allowed; gentle = calm_is four_rounds (first_world pair) calm; is = refl; whole = four_whole };
+  idle = λ a link c id at up. idle_is (after four_rounds).routers idle a c at id link;
+}
 
 pub rests : IsValid pair → IsAtRest pair four_rounds (after four_rounds)
-rests valid = record {
-  run = record { valid = valid; allowed = allowed_is four_rounds (first_world pair) four_allowed; gentle = calm_is four_rounds (first_world pair) four_calm; is = refl; whole = four_whole };
-  idle = λ a link c id at up. idle_is (after four_rounds).routers four_idle a c at id link;
-}
+unfolding floods_on_literals runs_on_literals fits is_calm
+rests valid = rests_if valid refl refl refl
 
 -- ---- without a premise
 
-half_allowed : all_allowed (first_world pair) half ≡ true
-unfolding floods_on_literals runs_on_literals fits
-half_allowed = refl
-
-half_rounds : all_allowed (after half) (settle_events (after half) 3) ≡ true
-unfolding floods_on_literals runs_on_literals fits
-half_rounds = refl
-
-half_differs : is_same_at (lsdb_at (with_rounds (after half) 3) 0) (lsdb_at (with_rounds (after half) 3) 1) (lsp 1) ≡ false
-unfolding floods_on_literals runs_on_literals
-half_differs = refl
+stuck : (es : List Event) (id : LspId) → all_allowed (first_world pair) es ≡ true → all_allowed (after es) (settle_events (after es) 3) ≡ true → is_same_at (lsdb_at (with_rounds (after es) 3) 0) (lsdb_at (with_rounds (after es) 3) 1) id ≡ false → IsStuck es id
+stuck es id allowed rounds differs = record { allowed = allowed_is es (first_world pair) allowed; rounds = allowed_is (settle_events (after es) 3) (after es) rounds; differs = differs }
 
 pub half_stuck : IsStuck half (lsp 1)
-half_stuck = record { allowed = allowed_is half (first_world pair) half_allowed; rounds = allowed_is (settle_events (after half) 3) (after half) half_rounds; differs = half_differs }
+unfolding floods_on_literals runs_on_literals fits
+half_stuck = stuck half (lsp 1) refl refl refl
 
 pub restarted_whole : HasWholeLinks (after restarted)
 unfolding floods_on_literals runs_on_literals
-restarted_whole zero zero = refl
 restarted_whole zero (suc zero) = refl
-restarted_whole zero (suc (suc b)) = refl
-restarted_whole (suc zero) zero = refl
 restarted_whole (suc zero) (suc zero) = refl
-restarted_whole (suc zero) (suc (suc b)) = refl
-restarted_whole (suc (suc a)) zero = refl
 restarted_whole (suc (suc a)) (suc zero) = refl
-restarted_whole (suc (suc a)) (suc (suc b)) = refl
-
-restarted_allowed : all_allowed (first_world pair) restarted ≡ true
-unfolding floods_on_literals runs_on_literals fits
-restarted_allowed = refl
-
-restarted_rounds : all_allowed (after restarted) (settle_events (after restarted) 3) ≡ true
-unfolding floods_on_literals runs_on_literals fits
-restarted_rounds = refl
-
-restarted_differs : is_same_at (lsdb_at (with_rounds (after restarted) 3) 0) (lsdb_at (with_rounds (after restarted) 3) 1) (lsp 1) ≡ false
-unfolding floods_on_literals runs_on_literals
-restarted_differs = refl
+restarted_whole a b = refl
 
 pub restarted_stuck : IsStuck restarted (lsp 1)
-restarted_stuck = record { allowed = allowed_is restarted (first_world pair) restarted_allowed; rounds = allowed_is (settle_events (after restarted) 3) (after restarted) restarted_rounds; differs = restarted_differs }
+unfolding floods_on_literals runs_on_literals fits
+restarted_stuck = stuck restarted (lsp 1) refl refl refl
 
 pub ended_whole : HasWholeLinks (after ended)
 unfolding floods_on_literals runs_on_literals
-ended_whole zero zero = refl
 ended_whole zero (suc zero) = refl
-ended_whole zero (suc (suc b)) = refl
-ended_whole (suc zero) zero = refl
 ended_whole (suc zero) (suc zero) = refl
-ended_whole (suc zero) (suc (suc b)) = refl
-ended_whole (suc (suc a)) zero = refl
 ended_whole (suc (suc a)) (suc zero) = refl
-ended_whole (suc (suc a)) (suc (suc b)) = refl
-
-ended_allowed : all_allowed (first_world pair) ended ≡ true
-unfolding floods_on_literals runs_on_literals fits
-ended_allowed = refl
-
-ended_rounds : all_allowed (after ended) (settle_events (after ended) 3) ≡ true
-unfolding floods_on_literals runs_on_literals fits
-ended_rounds = refl
-
-ended_differs : is_same_at (lsdb_at (with_rounds (after ended) 3) 0) (lsdb_at (with_rounds (after ended) 3) 1) (lsp 2) ≡ false
-unfolding floods_on_literals runs_on_literals
-ended_differs = refl
+ended_whole a b = refl
 
 pub ended_stuck : IsStuck ended (lsp 2)
-ended_stuck = record { allowed = allowed_is ended (first_world pair) ended_allowed; rounds = allowed_is (settle_events (after ended) 3) (after ended) ended_rounds; differs = ended_differs }
+unfolding floods_on_literals runs_on_literals fits
+ended_stuck = stuck ended (lsp 2) refl refl refl
 
 pub first_differs : is_same_at (lsdb_at (first_world pair) 0) (lsdb_at (first_world pair) 1) (lsp 1) ≡ false
 unfolding floods_on_literals runs_on_literals
