@@ -126,17 +126,7 @@ drops_from (e ∷ es) r =
 
 named_same : (e : Event) → named_in (injection_of e) ≡ named_by e
 named_same (event.Inject router sd bsl ids ttl entropy payload) = refl
-named_same (event.Take from to i) = refl
-named_same (event.Lose from to i) = refl
-named_same (event.Again from to i) = refl
-named_same (event.Down from to) = refl
-named_same (event.Up from to) = refl
-named_same (event.Send from to) = refl
-named_same (event.Tick router) = refl
-named_same (event.Restart router) = refl
-named_same (event.Relabel router sd bsl label) = refl
-named_same (event.Leave router sd) = refl
-named_same (event.Join router sd) = refl
+named_same other = refl
 
 named_all : (es : List (ℕ × Event)) → sum_by (λ (e : ℕ × Event). named_in (injection_of e.1)) es ≡ sum_by (λ (e : ℕ × Event). named_by e.1) es
 named_all [] = refl

@@ -3,7 +3,7 @@ use Rattle.std.specs.Prelude.{◌≡◌, ℕ, ◌≤◌, List, [], ◌∷◌, �
 use Rattle.wire_base.specs.model.Configuration.{DomainConf, IsValid}
 use Rattle.replay_text.specs.declared.event.Event.{Event}
 use Rattle.replay_text.specs.declared.event.Line.{Line}
-use Rattle.replay_text.specs.declared.event.Line.TheVariants.{Empty, One, Settle}
+use Rattle.replay_text.specs.declared.event.Line.TheVariants.{One}
 use Rattle.domain_model.specs.Run.{Run, run_of}
 use Rattle.domain_model.specs.Truth.{IsTruthful, EventFits}
 use Rattle.laws_ledger.specs.Ledger.{Injection, entered}
@@ -15,9 +15,8 @@ use Rattle.laws_replay.specs.Once.{ArriveOnce}
 
 -- a line whose event names routers of the domain by their index, and whose numbers fit
 abbrev pub LineFits : ℕ → Line → Type 0
-LineFits count Empty = Unit {0}
 LineFits count (One e) = EventFits count e
-LineFits count (Settle rounds) = Unit {0}
+LineFits count other = Unit {0}
 
 -- Once there were as many `take` events of an injection's copies as its BFR-ids times (256 times its TTL plus 255),
 -- none of its copies is in flight: e is injection n, and `after` the events after it up to the moment.
