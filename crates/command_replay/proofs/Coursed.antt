@@ -1,5 +1,5 @@
 -- What lines owe, for any way to execute a line, is what they come to.
-use Rattle.std.proofs.Common.{◌≡◌, ℕ, ◌+◌, ◌<◌, ◌≤◌, suc, Bool, true, false, List, [], ◌∷◌, ◌++◌, length, map, take, Option, Some, None, refl, sym, ap, ap₂, subst, ◌∙◌, arith, append-nil, append_assoc, inl, inr}
+use Rattle.std.proofs.Common.{◌≡◌, ℕ, ◌+◌, suc, Bool, true, false, List, [], ◌∷◌, ◌++◌, length, map, take, Option, Some, None, refl, sym, ap, subst, ◌∙◌, arith, append-nil, append_assoc, inl, inr}
 use Rattle.std.proofs.lemmas.Bool.{cases_lt}
 use Rattle.wire_base.specs.declared.limits.TheConstants.{TEXT_LIMIT}
 use Rattle.wire_base.specs.declared.outside.Source as source
@@ -7,27 +7,25 @@ use Rattle.wire_base.specs.declared.outside.Sink as sink
 use Rattle.wire_base.specs.declared.status.Status.{Status}
 use Rattle.wire_base.specs.declared.status.Status.TheVariants.{Done, InputRefused, ReadFault}
 use Rattle.wire_base.specs.model.Configuration.{DomainConf}
-use Rattle.run_texts.specs.declared.texts.Texts.{Texts}
 use Rattle.replay_text.specs.Pieces.{lines_in}
 use Rattle.replay_text.specs.declared.event.Event.{Event}
 use Rattle.domain_model.specs.World.{ids_in_flight}
-use Rattle.domain_model.specs.Run.{Run, run_of}
+use Rattle.domain_model.specs.Run.{run_of}
 use Rattle.domain_replay.specs.Lines.{done_text}
 use Rattle.domain_replay.specs.Parts.{Past, past_and}
 use Rattle.domain_replay.specs.Telling.{ReplayState}
-use Rattle.domain_replay.specs.Texts.{Refusal, TooLong, refusal_text, run_done_text}
+use Rattle.domain_replay.specs.Texts.{Refusal, TooLong, refusal_text}
 use Rattle.command_drive.specs.Answer.{Verdict}
-use Rattle.command_drive.specs.Doing.{Owed, told}
-use Rattle.command_drive.specs.Driving.{Meaning, meaning, Drives}
-use Rattle.command_drive.specs.Reading.{End, Ends, Fails, Behind, Closed, Reads}
-use Rattle.command_drive.specs.Lines.{shown, lines_read}
+use Rattle.command_drive.specs.Doing.{told}
+use Rattle.command_drive.specs.Driving.{Meaning, Drives}
+use Rattle.command_drive.specs.Reading.{End, Ends, Fails, Behind, Closed}
+use Rattle.command_drive.specs.Lines.{shown}
 use Rattle.command_drive.specs.Texts.{Close, Ended, Longer, Cut, close_of, is_short, lines_within}
 use Rattle.command_drive.proofs.Inputs.{closes, lines_of_whole, lines_of_front, lines_past_limit}
 use Rattle.command_drive.proofs.Meanings.{drives_as}
-use Rattle.command_replay.specs.Owed.{ends, rejected}
 use Rattle.command_replay.specs.ScheduleText.{ending}
-use Rattle.command_replay.specs.Course.{Turned, Turns, turn_part, Course, course_part, no_lines, line_before, ends_with, course_by, lines_course, unless_rejected, turn_owes, turns_owe, Played, played, answer_for, answer_of, plays_mean, ShowsFronts, IsCounted, AreCounted, owed_on, lines_mean, Agree}
-use Rattle.command_replay.proofs.Answered.{behind_of, told_told}
+use Rattle.command_replay.specs.Course.{Turned, Turns, turn_part, Course, course_part, no_lines, line_before, course_by, lines_course, unless_rejected, turn_owes, turns_owe, Played, played, answer_for, answer_of, plays_mean, ShowsFronts, IsCounted, AreCounted, owed_on, lines_mean, Agree}
+use Rattle.command_replay.proofs.Answered.{behind_of}
 
 -- ---- the end of a report, by the last state
 
@@ -197,18 +195,3 @@ module _ {S : Type 0} (view : S → ReplayState) (turns : Turns S) where
         (λ octets. same Ends octets ∙ whole_met octets)
         (λ octets failed. same Fails octets ∙ cut_met octets (sym (ap (λ (v : Verdict). v.status) (same Fails octets)) ∙ failed))
         drives
-
-    -- a run over the lines of a reader that has read nothing
-    pub drives_played : {I C R : Type 0} (i : source.Ghosts I) (c : sink.Ghosts C) (r : sink.Ghosts R) (refusal : Status) (reads : End → List ℕ → Reads (List ℕ)) (owes : Owed (List ℕ)) (texts : Texts) (ended : Status)
-        (i0 i1 : I) (f0 f1 : C) (r0 r1 : R) → texts.report ≡ opening.report → texts.frames ≡ opening.frames
-        → ((items : List (List ℕ)) (behind : Behind) → owes items behind ≡ turns_owe view turns 0 items behind start)
-        → ((end : End) (octets : List ℕ) → reads end octets ≡ lines_read [] TEXT_LIMIT false end octets)
-        → Drives i c r refusal (meaning reads owes texts) ended i0 i1 f0 f1 r0 r1 → Drives i c r refusal (plays_mean plays) ended i0 i1 f0 f1 r0 r1
-    drives_played i c r refusal reads owes texts ended i0 i1 f0 f1 r0 r1 report frames owed fresh drives =
-        drives_lines i c r refusal (meaning reads owes texts) ended i0 i1 f0 f1 r0 r1 same drives
-      where
-        same : (end : End) (octets : List ℕ) → meaning reads owes texts end octets ≡ lines_mean view turns opening start end octets
-        same end octets =
-            ap₂ (λ (a b : List ℕ). told a b (owes (reads end octets).items (reads end octets).behind)) report frames
-            ∙ ap (told opening.report opening.frames) (owed (reads end octets).items (reads end octets).behind)
-            ∙ ap (owed_on view turns opening start) (fresh end octets)

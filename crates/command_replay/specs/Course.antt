@@ -4,7 +4,6 @@ use Rattle.std.specs.Prelude.{ℕ, ◌≡◌, ◌+◌, false, List, [], ◌∷�
 use Rattle.replay_text.specs.Pieces.{lines_in}
 use Rattle.replay_text.specs.declared.event.Event.{Event}
 use Rattle.wire_base.specs.declared.limits.TheConstants.{TEXT_LIMIT}
-use Rattle.wire_base.specs.declared.status.Status.{Status}
 use Rattle.wire_base.specs.declared.status.Status.TheVariants.{ReadFault}
 use Rattle.wire_base.specs.model.Configuration.{DomainConf}
 use Rattle.domain_model.specs.Run.{Run, run_of}
@@ -118,12 +117,9 @@ played_past p = record { report = p.report; frames = p.frames; events = p.run.ev
 abbrev pub reach_of : (plays : List (List ℕ) → Played) → List (List ℕ) → Reached
 reach_of plays lines = let p = plays lines in record { run = p.run; refused = p.refused }
 
-abbrev pub ends_played : Played → Status × List ℕ → Verdict
-ends_played p end = record { status = end.0; report = p.report ++ end.1; frames = p.frames }
-
 -- the status and the texts of a schedule of that many lines that closes in that way
 abbrev pub answer_for : Close → (lines : ℕ) → Played → Verdict
-answer_for close lines p = ends_played p (ending close lines p.run p.refused)
+answer_for close lines p = let end = ending close lines p.run p.refused in record { status = end.0; report = p.report ++ end.1; frames = p.frames }
 
 -- those of lines
 abbrev pub answer_of : (plays : List (List ℕ) → Played) → Close → List (List ℕ) → Verdict

@@ -4,7 +4,7 @@ use Rattle.std.specs.Prelude.{ℕ, ◌+◌, zero, suc, List, [], ◌∷◌, Opti
 use Rattle.run_texts.specs.declared.texts.Texts.{Texts}
 use Rattle.wire_base.specs.declared.status.Status.TheVariants.{Done, InputRefused}
 use Rattle.replay_text.specs.declared.event.Line.{Line}
-use Rattle.replay_text.specs.declared.event.Line.TheVariants.{Empty, One, Settle}
+use Rattle.replay_text.specs.declared.event.Line.TheVariants.{Settle}
 use Rattle.replay_text.specs.declared.fault.TextFault.{TextFault}
 use Rattle.replay_text.specs.Fault.{fault_text}
 use Rattle.replay_text.specs.Schedule.{schedule_line}
@@ -43,9 +43,8 @@ rounds_owe line zero s rest = rest s
 rounds_owe line (suc rounds) s rest = told_then line (tells_line line (unsaid s) (Settle 1)) (λ next. rounds_owe line rounds next rest)
 
 abbrev pub said_owes : ℕ → Line → ReplayState → Rest → Verdict
-said_owes line Empty s rest = told_then line (tells_line line (unsaid s) Empty) rest
-said_owes line (One e) s rest = told_then line (tells_line line (unsaid s) (One e)) rest
 said_owes line (Settle rounds) s rest = rounds_owe line rounds s rest
+said_owes line said s rest = told_then line (tells_line line (unsaid s) said) rest
 
 abbrev pub read_owes : ℕ → Result Line TextFault → ReplayState → Rest → Verdict
 read_owes line (Err why) s rest = rejected (text_refused_text line (fault_text why))

@@ -1,5 +1,5 @@
 -- The interfaces of a domain follow the adjacencies of its circuits.
-use Rattle.std.proofs.Common.{◌≡◌, ℕ, zero, suc, ◌+◌, ◌<◌, ◌≤◌, ◌⊎◌, inl, inr, not, ◌&&◌, cond, eqb, nat_lt, nat_le, Bool, true, false, List, [], ◌∷◌, ◌++◌, length, map, filter, replicate, slice_get, slice_set, slice_index_or, is_none, Option, Some, None, option_map, refl, sym, ap, subst, ◌∙◌, arith, append-nil}
+use Rattle.std.proofs.Common.{◌≡◌, ℕ, zero, suc, ◌+◌, ◌<◌, ◌≤◌, ◌⊎◌, inl, inr, not, cond, eqb, nat_lt, nat_le, Bool, true, false, List, [], ◌∷◌, ◌++◌, length, filter, slice_get, slice_set, slice_index_or, is_none, Option, Some, None, option_map, refl, sym, ap, subst, ◌∙◌, arith, append-nil}
 use mathlib.Core.Bool.{true≢false}
 use Rattle.std.specs.List.{AllByRecursion, fold}
 use Rattle.std.proofs.lemmas.Bool.{and_parts, eqb-true, ltb-false, lt-leb}
@@ -20,27 +20,27 @@ use Rattle.isis_hello.proofs.ChangeLaws.{changes_after}
 use Rattle.isis_hello.proofs.LinkLaws.{only_link}
 use Rattle.isis_hello.proofs.QueueLaws.{domain_after, pair_is}
 use Rattle.replay_text.specs.declared.event.Event.{Event}
-use Rattle.replay_text.specs.declared.event.Event.TheVariants.{Take, Send}
 use Rattle.replay_text.specs.declared.event.Line.{Line}
 use Rattle.replay_text.specs.declared.event.Line.TheVariants.{Empty, One, Settle}
 use Rattle.replay_text.specs.Hand.{is_move, moves}
 use Rattle.domain_model.specs.declared.fault.EventFault.{EventFault}
 use Rattle.domain_model.specs.declared.fault.EventFault.TheVariants as faults
 use Rattle.domain_model.specs.Faults.{first_fault, event_fault, is_up_toward, most_events}
-use Rattle.domain_model.specs.Run.{Direction, directions, may_send, round_sends, taken_now, round_takes, round_events, settle_events, line_events, world_after}
+use Rattle.domain_model.specs.Run.{directions, may_send, round_sends, round_takes, round_events, settle_events, line_events, world_after}
 use Rattle.domain_model.specs.Step.{happens}
-use Rattle.domain_model.specs.World.{WorldState, link_between, frames_between}
-use Rattle.domain_model.proofs.EachLaws.{each_joined, each_repeated}
+use Rattle.domain_model.specs.World.{WorldState, link_between}
+use Rattle.domain_model.proofs.EachLaws.{each_joined}
 use Rattle.domain_model.proofs.LinkLaws.{join_of, end_found}
 use Rattle.domain_model.proofs.QueueLaws.{got_within, set_read}
-use Rattle.domain_replay.specs.Telling.{Telling, Told, told, tells, tells_or, tells_unless, reports_on, tells_all, tells_line}
+use Rattle.domain_replay.specs.Telling.{Told, told, tells, tells_or, tells_unless, reports_on, tells_all, tells_line}
 use Rattle.domain_replay.proofs.Stays.{happens_domain}
 use Rattle.domain_handshake.specs.Following.{EndsFollow, IsFollowed, history, widths, ends_counts, IsWorldOf, IsRunning}
 use Rattle.domain_replay.specs.Parts.{unsaid, if_allowed, allowed_first}
-use Rattle.domain_handshake.specs.Handshakes.{HandState, Moment, Outcome, writes, joined, goes_on, and_then, one_more, in_turn, nothing, moments_along, world_does, change_does, follows, follows_if, follows_all, moment_after, with_hello, hello_unless, hello_does}
+use Rattle.domain_handshake.specs.Handshakes.{HandState, Outcome, writes, joined, goes_on, and_then, one_more, in_turn, nothing, moments_along, world_does, change_does, follows, follows_if, follows_all, moment_after, hello_unless, hello_does}
 use Rattle.domain_handshake.specs.Lines.{change_event, changes_text, end_event, fault_of, sent_record}
 use Rattle.domain_handshake.proofs.Keeping.{HandPast, Keeps, IsKeeping}
 use Rattle.laws_settle.specs.Ups.{ups_of}
+use Rattle.laws_settle.proofs.RoundTurns.{sends_are, takes_are}
 use Rattle.laws_settle.proofs.WorldUps.{row_at, up_in, toward_is, steady_ups}
 use Rattle.domain_handshake.proofs.WorldUps.{with_up, moved_ups, moved_count, with_widths}
 
@@ -193,21 +193,12 @@ module _ (d : DomainConf) (valid : IsValid d) (line : ℕ) where
 abbrev IsSteady : Event → Type 0
 IsSteady e = is_move e ≡ false
 
-takes_steady : (w : WorldState) (ds : List Direction) → AllByRecursion IsSteady (round_takes w ds)
-takes_steady w [] = tt
-takes_steady w (x ∷ ds) =
-    each_joined IsSteady (taken_now w x) (round_takes (world_after w (taken_now w x)) ds) (each_repeated IsSteady (length (frames_between w x.from x.to)) (Take x.from x.to 0) refl) (takes_steady (world_after w (taken_now w x)) ds)
-
-sends_steady : (ds : List Direction) → AllByRecursion IsSteady (map (λ (x : Direction). Send x.from x.to) ds)
-sends_steady [] = tt
-sends_steady (x ∷ ds) = (refl, sends_steady ds)
-
 settle_steady : (rounds : ℕ) (w : WorldState) → AllByRecursion IsSteady (settle_events w rounds)
 unfolding settle_events round_events
 settle_steady zero w = tt
 settle_steady (suc rounds) w =
     each_joined IsSteady (round_events w) (settle_events (world_after w (round_events w)) rounds)
-    (each_joined IsSteady (round_sends w) (round_takes (world_after w (round_sends w)) (directions w.domain.routers)) (sends_steady (filter (may_send w) (directions w.domain.routers))) (takes_steady (world_after w (round_sends w)) (directions w.domain.routers)))
+    (each_joined IsSteady (round_sends w) (round_takes (world_after w (round_sends w)) (directions w.domain.routers)) (sends_are IsSteady (λ a b. refl) (filter (may_send w) (directions w.domain.routers))) (takes_are IsSteady (λ a b i. refl) (directions w.domain.routers) (world_after w (round_sends w))))
     (settle_steady rounds (world_after w (round_events w)))
 
 line_steady : (w : WorldState) (said : Line) → moves said ≡ false → AllByRecursion IsSteady (line_events w said)

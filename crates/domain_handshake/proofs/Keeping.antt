@@ -1,27 +1,24 @@
 -- What the parts of a schedule keep: where it holds of all that happened and of the state before a part, it holds after the part.
-use Rattle.std.proofs.Common.{◌≡◌, ℕ, zero, suc, ◌+◌, nat_lt, Bool, true, false, List, [], ◌∷◌, ◌++◌, length, replicate, Option, Some, None, refl, sym, ap, subst, append-nil, append_assoc}
+use Rattle.std.proofs.Common.{◌≡◌, ℕ, zero, suc, ◌+◌, nat_lt, Bool, true, false, List, [], ◌∷◌, ◌++◌, length, replicate, Option, Some, None, refl, sym, subst, append-nil, append_assoc}
 use Rattle.std.specs.List.{AllByRecursion, fold}
 use Rattle.isis_hello.specs.declared.event.EndChange.{EndChange}
 use Rattle.isis_hello.specs.declared.event.HelloEvent.{HelloEvent}
 use Rattle.isis_hello.specs.declared.event.HelloEvent.TheVariants as hellos
 use Rattle.isis_hello.specs.declared.fault.CircuitFault.{CircuitFault}
-use Rattle.isis_hello.specs.Circuits.{CircuitsState, circuit_between, hellos_between}
-use Rattle.isis_hello.specs.Events.{Happened, circuit_fault, happens}
+use Rattle.isis_hello.specs.Circuits.{circuit_between, hellos_between}
+use Rattle.isis_hello.specs.Events.{circuit_fault, happens}
 use Rattle.replay_text.specs.declared.event.Event.{Event}
-use Rattle.replay_text.specs.declared.event.Event.TheVariants.{Inject, Take, Lose, Again, Down, Up, Send, Tick, Restart, Relabel, Leave, Join}
+use Rattle.replay_text.specs.declared.event.Event.TheVariants.{Tick, Restart}
 use Rattle.replay_text.specs.declared.event.Line.{Line}
 use Rattle.replay_text.specs.declared.event.Line.TheVariants.{Empty, One, Settle}
 use Rattle.domain_model.specs.declared.fault.EventFault.{EventFault}
 use Rattle.domain_model.specs.declared.fault.EventFault.TheVariants as faults
 use Rattle.domain_model.specs.Faults.{most_events}
 use Rattle.domain_model.specs.Run.{Direction, directions}
+use Rattle.domain_model.proofs.EachLaws.{each_from}
 use Rattle.domain_replay.specs.Parts.{Past, past_and}
-use Rattle.domain_handshake.specs.Handshakes.{HandState, Moment, Outcome, joined, nothing, refuses, writes, goes_on, and_then, one_more, in_turn, world_does, change_does, follows, follows_if, follows_all, with_hello, moment_after, hello_happens, hello_unless, hello_does, hello_if, hello_on, greet_on, greets_on, round_does, rounds_do, event_does, base_does}
+use Rattle.domain_handshake.specs.Handshakes.{HandState, Moment, Outcome, joined, nothing, refuses, writes, goes_on, and_then, one_more, in_turn, world_does, change_does, follows, follows_if, follows_all, moment_after, hello_happens, hello_unless, hello_does, hello_if, hello_on, greet_on, greets_on, round_does, rounds_do, event_does, base_does}
 use Rattle.domain_handshake.specs.Lines.{changes_text, fault_of, sent_record}
-
-pub each_of : {X : Type 0} (P : X → Type 0) → ((x : X) → P x) → (xs : List X) → AllByRecursion P xs
-each_of P every [] = tt
-each_of P every (x ∷ xs) = (every x, each_of P every xs)
 
 -- What happened so far: the events of the domain and all texts, the events of the circuits, and the moment after each event.
 pub record HandPast : Type 0 where
@@ -103,7 +100,7 @@ module _ (Q : Holding) where
     turns_keep xs all past s is = folded_keeps xs all (nothing s) past (nothing_keeps past s is)
 
     pub all_keep : ((x : X) → IsKeeping (λ s. part s x)) → (xs : List X) → IsKeeping (λ s. in_turn part s xs)
-    all_keep every xs = turns_keep xs (each_of (λ x. IsKeeping (λ s. part s x)) every xs)
+    all_keep every xs = turns_keep xs (each_from (λ x. IsKeeping (λ s. part s x)) every xs)
 
   -- ---- an event of the circuits
 
@@ -179,18 +176,9 @@ module _ (Q : Holding) where
 
     event_keeps : (e : Event) → IsFit (One e) → IsKeeping (λ s. event_does line s e)
     unfolding event_does
-    event_keeps (Inject router sd bsl ids ttl entropy payload) fit = world (One (Inject router sd bsl ids ttl entropy payload)) fit
-    event_keeps (Take from to i) fit = world (One (Take from to i)) fit
-    event_keeps (Lose from to i) fit = world (One (Lose from to i)) fit
-    event_keeps (Again from to i) fit = world (One (Again from to i)) fit
-    event_keeps (Down from to) fit = world (One (Down from to)) fit
-    event_keeps (Up from to) fit = world (One (Up from to)) fit
-    event_keeps (Send from to) fit = world (One (Send from to)) fit
     event_keeps (Tick a) fit = both_keep (λ (s : HandState). world_does line s (One (Tick a))) (λ (next : HandState). hello_does line next (hellos.Tick a)) (world (One (Tick a)) fit) (hello (hellos.Tick a))
     event_keeps (Restart a) fit = both_keep (λ (s : HandState). hello_does line s (hellos.Restart a)) (λ (next : HandState). world_does line next (One (Restart a))) (hello (hellos.Restart a)) (world (One (Restart a)) fit)
-    event_keeps (Relabel router sd bsl label) fit = world (One (Relabel router sd bsl label)) fit
-    event_keeps (Leave router sd) fit = world (One (Leave router sd)) fit
-    event_keeps (Join router sd) fit = world (One (Join router sd)) fit
+    event_keeps other fit = world (One other) fit
 
     pub base_keeps : (said : Line) → IsFit said → IsKeeping (λ s. base_does line s said)
     unfolding base_does

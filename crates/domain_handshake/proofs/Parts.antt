@@ -1,10 +1,8 @@
 -- Parts of a schedule, one after the other.
-use Rattle.std.proofs.Common.{◌≡◌, ℕ, zero, suc, ◌+◌, ◌-◌, ◌<◌, ◌≤◌, List, [], ◌∷◌, ◌++◌, length, take, drop, replicate, slice_index_or, Option, Some, None, Result, Ok, Err, refl, sym, ap, subst, ◌∙◌, arith, append-nil, append_assoc}
+use Rattle.std.proofs.Common.{◌≡◌, ℕ, zero, suc, ◌+◌, ◌-◌, ◌<◌, List, [], ◌∷◌, ◌++◌, length, take, drop, replicate, slice_index_or, Option, Some, None, Result, Ok, Err, refl, sym, ap, subst, ◌∙◌, arith, append-nil, append_assoc}
 use Rattle.std.specs.List.{fold}
-use Rattle.std.proofs.lemmas.List.{take_all}
 use Rattle.run_texts.specs.declared.texts.Texts.{Texts}
 use Rattle.domain_model.specs.declared.fault.EventFault.{EventFault}
-use Rattle.domain_model.specs.declared.fault.EventFault.TheVariants as faults
 use Rattle.domain_handshake.specs.Doing.{Did, Does}
 use Rattle.domain_handshake.specs.Handshakes.{HandState, Outcome, nothing, refuses, goes_on, joined, and_then, one_more, in_turn}
 
@@ -112,6 +110,3 @@ module _ {X : Type 0} (part : HandState → X → Outcome) where
           let o = fold (one_more part) (nothing s) (replicate i x) in
           let did = turned_more o x (Some why) before (more known) in
           subst (λ (p : Outcome). Did p now (Some why) texts texts_now) (sym (fold_times_split (one_more part) (nothing s) x n i within ∙ rest_refused (one_more part o x) why did.refused (replicate (n - suc i) x))) did
-
-    pub turn_over : (cur : HandState) (between : Texts) (xs : List X) (i : ℕ) → length xs ≤ i → Did (in_turn part s (take i xs)) cur None texts between → Did (in_turn part s xs) cur None texts between
-    turn_over cur between xs i past before = subst (λ (l : List X). Did (in_turn part s l) cur None texts between) (take_all i xs past) before

@@ -1,6 +1,5 @@
 -- The start of a domain with hellos: each interface goes down, and none of these events is rejected.
-use Rattle.std.proofs.Common.{◌≡◌, ℕ, zero, suc, ◌+◌, ◌*◌, ◌<◌, ◌≤◌, ◌⊎◌, inl, inr, ◌&&◌, cond, eqb, eq-eqb, nat_lt, Bool, true, false, List, [], ◌∷◌, ◌++◌, filter, length, map, replicate, slice_get, slice_index_or, is_some, length-append, append-nil, Option, Some, None, refl, sym, ap, subst, ◌∙◌, arith}
-use mathlib.Core.Bool.{true≢false}
+use Rattle.std.proofs.Common.{◌≡◌, ℕ, zero, suc, ◌+◌, ◌*◌, ◌<◌, ◌≤◌, inl, inr, ◌&&◌, cond, eqb, Bool, true, false, List, [], ◌∷◌, ◌++◌, filter, length, map, replicate, slice_get, slice_index_or, is_some, length-append, append-nil, Option, Some, None, refl, sym, ap, subst, ◌∙◌, arith}
 use Rattle.std.specs.List.{AllByRecursion, fold, range_with_len}
 use Rattle.std.proofs.lemmas.Bool.{and_parts, eqb-true, cases_eq, ne_eqb}
 use Rattle.std.proofs.lemmas.List.{get_or-replicate, length-map, length-replicate, map-append}
@@ -9,26 +8,26 @@ use Rattle.std.proofs.lemmas.List.FromFn.{length-map-range_with_len}
 use Rattle.std.proofs.lemmas.Option.{none-some, same_Some}
 use Rattle.wire_base.specs.declared.conf.RouterConf.{RouterConf}
 use Rattle.wire_base.specs.declared.limits.TheConstants.{MOST_EVENTS}
+use Rattle.wire_base.proofs.SoundLemmas.{all_left, all_right}
 use Rattle.wire_base.specs.model.Configuration.{DomainConf, IsValid, IsSound}
-use Rattle.wire_base.specs.model.Control.{Control}
 use Rattle.wire_base.specs.model.Flooding.{first_control}
 use Rattle.isis_hello.specs.declared.event.EndChange.{EndChange}
-use Rattle.isis_hello.specs.Changes.{is_at, up_between, LeadTo, IsJoined}
+use Rattle.isis_hello.specs.Changes.{is_at, up_between, IsJoined}
 use Rattle.isis_hello.specs.Circuits.{CircuitsState, first_circuits}
 use Rattle.isis_hello.specs.Events.{changed_to}
-use Rattle.isis_hello.specs.History.{circuits_after, is_pair}
+use Rattle.isis_hello.specs.History.{circuits_after}
 use Rattle.isis_hello.proofs.ChangeLaws.{leads, none_up}
 use Rattle.isis_hello.proofs.QueueLaws.{pair_is}
 use Rattle.replay_report.specs.declared.recording.Recording.{Recording}
-use Rattle.domain_model.specs.Faults.{is_up_toward, most_events}
+use Rattle.domain_model.specs.Faults.{is_up_toward}
 use Rattle.domain_model.specs.Run.{Direction, direction_over, directions_from, directions}
-use Rattle.domain_model.specs.World.{WorldState, first_world, end_between, link_between, peer_place}
+use Rattle.domain_model.specs.World.{first_world, end_between, link_between, peer_place}
 use Rattle.domain_model.proofs.LinkLaws.{join_of, end_found, peer_is}
 use Rattle.domain_model.proofs.QueueLaws.{got_within}
 use Rattle.domain_replay.specs.Replaying.{IsJoining}
 use Rattle.domain_replay.proofs.DirectionLaws.{directions_join}
 use Rattle.domain_handshake.specs.Following.{widths, ends_counts, IsWorldOf, IsRunning}
-use Rattle.domain_handshake.specs.Handshakes.{HandState, Outcome, nothing, fresh_state, one_more, in_turn, change_does, end_goes_down, start_does}
+use Rattle.domain_handshake.specs.Handshakes.{Outcome, nothing, fresh_state, one_more, in_turn, change_does, end_goes_down, start_does}
 use Rattle.laws_settle.specs.Ups.{ups_in}
 use Rattle.laws_settle.proofs.ControlUps.{started_ups}
 use Rattle.laws_settle.proofs.WorldUps.{row_at, up_in, toward_is}
@@ -141,14 +140,6 @@ module _ (d : DomainConf) (valid : IsValid d) where
       ∙ ap (λ (l : List EndChange). l ++ filter (is_at a b) (map goes_down (directions_from confs (i + 1) rs))) (off_row a b i (length r.ends) (λ same. off 0 (omega arith) (omega (arith, same))))
       ∙ rows_picked a b (i + 1) rs (λ j less same. off (suc j) (omega (arith, less)) (omega (arith, same)))
 
-  left_all : {X : Type 0} (P : X → Type 0) (xs ys : List X) → AllByRecursion P (xs ++ ys) → AllByRecursion P xs
-  left_all P [] ys all = tt
-  left_all P (x ∷ xs) ys all = (all.0, left_all P xs ys all.1)
-
-  right_all : {X : Type 0} (P : X → Type 0) (xs ys : List X) → AllByRecursion P (xs ++ ys) → AllByRecursion P ys
-  right_all P [] ys all = all
-  right_all P (x ∷ xs) ys all = right_all P xs ys all.1
-
   range_joins : (a n k : ℕ) → AllByRecursion (IsJoining confs) (map (direction_over confs a) (range_with_len k n)) → (i : ℕ) → k ≤ i → i < k + n → link_between confs a (peer_place confs a i) ≡ Some i
   range_joins a zero k all i low high = absurd (omega (arith, low, high))
   range_joins a (suc n) k all i low high = elim (cases_eq k i) [
@@ -170,7 +161,7 @@ module _ (d : DomainConf) (valid : IsValid d) where
       let first = map (direction_over confs i) (range_with_len 0 (length x.ends)) in
       let rest = directions_from confs (i + 1) rs in
       let here : i ≡ a = omega (arith, is) in
-      let joins : AllByRecursion (IsJoining confs) (map (direction_over confs a) (range_with_len 0 (length x.ends))) = subst (λ (n : ℕ). AllByRecursion (IsJoining confs) (map (direction_over confs n) (range_with_len 0 (length x.ends)))) here (left_all (IsJoining confs) first rest all) in
+      let joins : AllByRecursion (IsJoining confs) (map (direction_over confs a) (range_with_len 0 (length x.ends))) = subst (λ (n : ℕ). AllByRecursion (IsJoining confs) (map (direction_over confs n) (range_with_len 0 (length x.ends)))) here (all_left (IsJoining confs) first rest all) in
       let same : x ≡ r = same_Some x r at in
       ap (filter (is_at a b)) (map-append goes_down first rest)
       ∙ filter-append (is_at a b) (map goes_down first) (map goes_down rest)
@@ -187,7 +178,7 @@ module _ (d : DomainConf) (valid : IsValid d) where
       ∙ filter-append (is_at a b) (map goes_down first) (map goes_down rest)
       ∙ ap (λ (l : List EndChange). filter (is_at a b) l ++ filter (is_at a b) (map goes_down rest)) (map_map i (length x.ends) 0)
       ∙ ap (λ (l : List EndChange). l ++ filter (is_at a b) (map goes_down rest)) (off_row a b i (length x.ends) (λ same. omega (arith, same, is)))
-      ∙ row_picked a b (i + 1) j rs r (omega (arith, is)) at near (right_all (IsJoining confs) first rest all)
+      ∙ row_picked a b (i + 1) j rs r (omega (arith, is)) at near (all_right (IsJoining confs) first rest all)
 
   got : {X : Type 0} (xs : List X) (i : ℕ) → i < length xs → (x : X) × (slice_get xs i ≡ Some x)
   got [] i within = absurd (omega (arith, within))
@@ -267,9 +258,6 @@ module _ (d : DomainConf) (valid : IsValid d) where
 
   pub start_down : (recording : Recording) (a b : ℕ) → is_up_toward (start_does recording d).next.replay.world a b ≡ false
   start_down recording = (start_came recording).ends
-
-  pub start_hellos : (recording : Recording) → (start_does recording d).hellos ≡ []
-  start_hellos recording = (start_came recording).hellos_is
 
   pub start_stands : (recording : Recording) → IsRunning d [] (start_does recording d).next
   unfolding circuits_after

@@ -1,5 +1,5 @@
 -- What the calls below do, in the words of outcomes.
-use Rattle.std.proofs.Common.{◌≡◌, ◌≢◌, ℕ, ◌+◌, not, nat_lt, Bool, true, false, List, [], ◌++◌, length, replicate, Option, Some, None, Result, Ok, Err, IfErr, OnOk, refl, sym, ap, ap₂, subst, ◌∙◌, append-nil}
+use Rattle.std.proofs.Common.{◌≡◌, ◌≢◌, ℕ, ◌+◌, not, nat_lt, Bool, true, false, List, ◌++◌, length, replicate, Option, Some, None, Result, Ok, Err, IfErr, OnOk, refl, sym, ap, ap₂, subst, ◌∙◌, append-nil}
 use Rattle.run_texts.specs.declared.texts.Texts.{Texts}
 use Rattle.isis_hello.specs.declared.event.EndChange.{EndChange}
 use Rattle.isis_hello.specs.declared.event.HelloEvent.{HelloEvent}
@@ -10,11 +10,11 @@ use Rattle.isis_hello.specs.declared.fault.CircuitFault.TheVariants as circuits
 use Rattle.std.specs.List.{AllByRecursion}
 use Rattle.wire_base.specs.model.Configuration.{DomainConf, IsValid}
 use Rattle.isis_hello.specs.Circuits.{CircuitsState, first_circuits, hellos_between}
-use Rattle.isis_hello.specs.Events.{Happened, Refuses, circuit_fault, happens}
+use Rattle.isis_hello.specs.Events.{Refuses, circuit_fault, happens}
 use Rattle.domain_handshake.specs.Within.{IsWithin}
 use Rattle.domain_handshake.proofs.WithinLaws.{changes_within}
 use Rattle.replay_text.specs.declared.event.Event.{Event}
-use Rattle.replay_text.specs.declared.event.Event.TheVariants.{Inject, Take, Lose, Again, Down, Up, Send, Tick, Restart, Relabel, Leave, Join}
+use Rattle.replay_text.specs.declared.event.Event.TheVariants.{Tick, Restart}
 use Rattle.replay_text.specs.declared.event.Line.{Line}
 use Rattle.replay_text.specs.declared.event.Line.TheVariants.{One}
 use Rattle.domain_model.specs.declared.fault.EventFault.{EventFault}
@@ -90,12 +90,8 @@ hello_refused_so line s e why texts = by why
     refused why is = subst (λ (o : Outcome). Did o s (Some (fault_of why)) texts texts) (sym (ap (hello_unless line s e) is)) (refuses_did (fault_of why) s texts)
 
     by : (why : CircuitFault) → Refuses (circuit_fault s.circuits e) why → Does (hello_does line s e) s texts texts (Err (fault_of why))
-    by circuits.Events is known = refused circuits.Events is
-    by circuits.NoLink is known = refused circuits.NoLink is
-    by circuits.EndState is known = refused circuits.EndState is
-    by circuits.InFlight is known = refused circuits.InFlight is
-    by (circuits.NoFrame i n) is known = refused (circuits.NoFrame i n) is
     by circuits.Memory is known = absurd (known refl)
+    by other is known = refused other is
 
 -- ---- the start
 

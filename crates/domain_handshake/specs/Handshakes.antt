@@ -13,7 +13,7 @@ use Rattle.isis_hello.specs.Circuits.{CircuitsState, first_circuits, circuit_bet
 use Rattle.isis_hello.specs.Events as circuits
 use Rattle.isis_hello.specs.Events.{circuit_fault}
 use Rattle.replay_text.specs.declared.event.Event.{Event}
-use Rattle.replay_text.specs.declared.event.Event.TheVariants.{Inject, Take, Lose, Again, Down, Up, Send, Tick, Restart, Relabel, Leave, Join}
+use Rattle.replay_text.specs.declared.event.Event.TheVariants.{Down, Tick, Restart}
 use Rattle.replay_text.specs.declared.event.Line.{Line}
 use Rattle.replay_text.specs.declared.event.Line.TheVariants.{Empty, One, Settle}
 use Rattle.domain_model.specs.declared.fault.EventFault.{EventFault}
@@ -186,16 +186,7 @@ rounds_do line s (suc rounds) = and_then (round_does line s) (λ next. rounds_do
 unfoldable pub event_does : ℕ → HandState → Event → Outcome
 event_does line s (Tick a) = and_then (world_does line s (One (Tick a))) (λ next. hello_does line next (hellos.Tick a))
 event_does line s (Restart a) = and_then (hello_does line s (hellos.Restart a)) (λ next. world_does line next (One (Restart a)))
-event_does line s (Inject router sd bsl ids ttl entropy payload) = world_does line s (One (Inject router sd bsl ids ttl entropy payload))
-event_does line s (Take from to i) = world_does line s (One (Take from to i))
-event_does line s (Lose from to i) = world_does line s (One (Lose from to i))
-event_does line s (Again from to i) = world_does line s (One (Again from to i))
-event_does line s (Down from to) = world_does line s (One (Down from to))
-event_does line s (Up from to) = world_does line s (One (Up from to))
-event_does line s (Send from to) = world_does line s (One (Send from to))
-event_does line s (Relabel router sd bsl label) = world_does line s (One (Relabel router sd bsl label))
-event_does line s (Leave router sd) = world_does line s (One (Leave router sd))
-event_does line s (Join router sd) = world_does line s (One (Join router sd))
+event_does line s other = world_does line s (One other)
 
 unfoldable pub base_does : ℕ → HandState → Line → Outcome
 base_does line s Empty = nothing s

@@ -1,6 +1,6 @@
 -- What is reported of hellos: the lines of adjacencies that change, the record of a hello that is sent, and why a hello event is
 -- not allowed.
-use Rattle.std.specs.Prelude.{ℕ, List, [], ◌∷◌, Bool, true, false, Option, Some, None, flat_map, codes}
+use Rattle.std.specs.Prelude.{ℕ, List, [], ◌∷◌, Bool, true, false, Option, Some, None, flat_map, codes, if◌then◌else◌}
 use Rattle.std.specs.Fmt.{decimal}
 use Rattle.wire_base.specs.declared.conf.RouterConf.{RouterConf}
 use Rattle.isis_hello.specs.declared.event.EndChange.{EndChange}
@@ -19,13 +19,9 @@ use Rattle.replay_report.specs.declared.recording.Recording.{Recording}
 
 -- ---- a change of an adjacency
 
-abbrev pub change_word : Bool → List ℕ
-change_word true = codes "up"
-change_word false = codes "down"
-
 -- `LINE up ROUTER PEER` or `LINE down ROUTER PEER`
 abbrev pub change_text : List RouterConf → ℕ → EndChange → List ℕ
-change_text routers line c = line_of (decimal line ∷ change_word c.up ∷ name_at routers c.router ∷ name_at routers c.peer ∷ [])
+change_text routers line c = line_of (decimal line ∷ (if c.up then codes "up" else codes "down") ∷ name_at routers c.router ∷ name_at routers c.peer ∷ [])
 
 -- the lines of some changes, in order
 abbrev pub changes_text : List RouterConf → ℕ → List EndChange → List ℕ
@@ -49,12 +45,7 @@ hello_record recording routers line from to (Some frame) = frame_record recordin
 -- what an event adds to the capture: only a hello that is sent has a frame
 abbrev pub sent_record : Recording → List RouterConf → ℕ → HelloEvent → Option (List ℕ) → List ℕ
 sent_record recording routers line (hellos.Hello a b) sent = hello_record recording routers line a b sent
-sent_record recording routers line (hellos.Greet a b i) sent = []
-sent_record recording routers line (hellos.Forget a b i) sent = []
-sent_record recording routers line (hellos.Break a b) sent = []
-sent_record recording routers line (hellos.Mend a b) sent = []
-sent_record recording routers line (hellos.Tick a) sent = []
-sent_record recording routers line (hellos.Restart a) sent = []
+sent_record recording routers line other sent = []
 
 -- ---- a hello event that is not allowed
 
