@@ -1,13 +1,13 @@
 //! What is reported of a line.
-ghost use Rattle.std.specs.Prelude.{◌≡◌, ◌+◌, ◌<◌, ◌≤◌, ◌^◌, ◌≢◌, ◌++◌, ◌∷◌, [], ℕ, List, IfOk, IfSome, OnOk, OnErr, Some, None, length, unwrap_or};
+ghost use Rattle.std.specs.Prelude.{◌≡◌, ◌+◌, ◌<◌, ◌≤◌, ◌^◌, ◌≢◌, ◌++◌, ◌∷◌, [], ℕ, List, IfOk, IfSome, OnOk, OnErr, Some, None, length, unwrap_or, IsTrue};
 ghost use Rattle.std.specs.List.{flat_map};
 ghost use Rattle.replay_text.specs.declared.fault.TextFault.TheVariants as fault;
 ghost use Rattle.bier_bits.specs.Any.{positions_of};
-ghost use Rattle.bift_table.specs.Any.{bsl_of};
 ghost use Rattle.wire_base.specs.declared.status.Status.TheVariants as status;
 ghost use Rattle.replay_text.specs.Fault.{rule_text, fault_text};
 ghost use Rattle.command_hop.specs.HopText as text;
 ghost use Rattle.command_hop.specs.Forward as forward;
+ghost use Rattle.command_hop.specs.Ready.{IsBuilt};
 ghost use Rattle.command_hop.specs.Ways.{AreWays};
 
 use crate::forward::push_outcomes;
@@ -39,17 +39,26 @@ pub fn push_done(out: &mut Octets, lines: u64, packets: u64) -> M<()>
     out.push(b'\n')
 }
 
-/// Returns the table of the rows for packets of a length: the one that was built for the packet before, or a new one.
-fn ready(alloc: Global, ways: &mut Option<Ways>, rows: &[HopRow], bsl: Bsl) -> M<Ways>
-    requires { IfSome ways.old (λ built. AreWays rows.now built) }
-    ensures ways { IfOk result (λ built. AreWays rows.now built) }
-    ensures taken { ways.new ≡ None }
-    ensures bsl { IfOk result (λ built. bsl_of built.table ≡ bsl) }
+/// Returns whether a table of the rows was built for packets of a length.
+fn are_for(ways: &Option<Ways>, bsl: Bsl) -> bool
+    ensures { IsTrue result → IsBuilt bsl ways.now }
 {
-    match ways.take() {
-        Some(built) if built.table.bsl() == bsl => Ok(built),
-        _ => ways_of(alloc, rows, bsl),
+    match ways {
+        None => false,
+        Some(built) => built.table.bsl() == bsl,
     }
+}
+
+/// Builds the table of the rows for packets of a length, unless it was built for the packet before.
+fn make_ready(alloc: Global, ways: &mut Option<Ways>, rows: &[HopRow], bsl: Bsl) -> M<()>
+    requires { IfSome ways.old (λ built. AreWays rows.now built) }
+    ensures ways { IfSome ways.new (λ built. AreWays rows.now built) }
+    ensures built { OnOk result (IsBuilt bsl ways.new) }
+{
+    if !are_for(ways, bsl) {
+        *ways = Some(ways_of(alloc, rows, bsl)?);
+    }
+    Ok(())
 }
 
 /// Appends the lines of a packet.
@@ -66,11 +75,12 @@ fn push_packet(
         (forward.outcomes (unwrap_or state.now.own 0) state.now.rows (positions_of bits.now))) }
     ensures ways { IfSome ways.new (λ built. AreWays state.now.rows built) }
 {
-    let built = ready(alloc, ways, state.rows.as_slice(), bits.bsl())?;
+    make_ready(alloc, ways, state.rows.as_slice(), bits.bsl())?;
     let own = state.own.unwrap_or(0);
-    push_outcomes(alloc, out, line, own, &built, bits)?;
-    *ways = Some(built);
-    Ok(())
+    match ways {
+        None => unreachable!(),
+        Some(built) => push_outcomes(alloc, out, line, own, built, bits),
+    }
 }
 
 /// Applies what a line contains, and returns how many packets it has: none or one.
