@@ -34,20 +34,14 @@ module _ (frames report : List ℕ) where
       by true = if_past s read g (greeting_at (names_of s.domain) (drop 14 read.cap.octets))
       by false = turned_past g (receives s read g.conf g.circuits (link_of g.conf read))
 
-  done_past : (s : Seat) (g : Greeter) (read : NgRecord) → hello_done s (past frames report g) read ≡ past frames report (hello_done s g read)
+  pub record_past : (s : Seat) (g : Greeter) (read : NgRecord) → hello_done s (past frames report g) read ≡ past frames report (hello_done s g read)
   unfolding hello_done
-  done_past s g read = streamed_past s read (counts g)
+  record_past s g read = streamed_past s read (counts g)
 
-  reach_past : (s : Seat) (g : Greeter) (reads : List NgRecord) → hello_reach s (past frames report g) reads ≡ past frames report (hello_reach s g reads)
+  pub records_past : (s : Seat) (g : Greeter) (reads : List NgRecord) → hello_reach s (past frames report g) reads ≡ past frames report (hello_reach s g reads)
   unfolding hello_reach
-  reach_past s g [] = refl
-  reach_past s g (read ∷ more) = ap (λ (m : Greeter). hello_reach s m more) (done_past s g read) ∙ reach_past s (hello_done s g read) more
-
-pub record_past : (frames report : List ℕ) (s : Seat) (g : Greeter) (read : NgRecord) → hello_done s (past frames report g) read ≡ past frames report (hello_done s g read)
-record_past frames report s g read = done_past frames report s g read
-
-pub records_past : (frames report : List ℕ) (s : Seat) (g : Greeter) (reads : List NgRecord) → hello_reach s (past frames report g) reads ≡ past frames report (hello_reach s g reads)
-records_past frames report s g reads = reach_past frames report s g reads
+  records_past s g [] = refl
+  records_past s g (read ∷ more) = ap (λ (m : Greeter). hello_reach s m more) (record_past s g read) ∙ records_past s (hello_done s g read) more
 
 -- one record, and then the others
 pub reach_one : (s : Seat) (g : Greeter) (read : NgRecord) (more : List NgRecord) → hello_reach s g (read ∷ more) ≡ hello_reach s (hello_done s g read) more

@@ -1,11 +1,10 @@
 -- A live router on the records of a stream.
-use Rattle.std.proofs.Common.{◌≡◌, ℕ, false, List, [], ◌∷◌, ◌++◌, Option, Some, None, Result, Ok, Err, refl, sym, ap, ap₂, subst, ◌∙◌, append_assoc, append-nil}
-use Rattle.std.specs.Prelude.{IfOk, IfSome, slice_get}
+use Rattle.std.proofs.Common.{◌≡◌, ℕ, false, List, [], ◌∷◌, ◌++◌, Some, None, Result, Ok, Err, sym, ap, ap₂, ◌∙◌, append_assoc, append-nil}
+use Rattle.std.specs.Prelude.{IfOk, slice_get}
 use Rattle.wire_base.specs.declared.conf.RouterConf.{RouterConf}
 use Rattle.wire_base.specs.declared.limits.TheConstants.{CAPTURE_LIMIT}
 use Rattle.wire_base.specs.declared.status.Status.{Status}
 use Rattle.wire_base.specs.model.Configuration.{DomainConf}
-use Rattle.wire_base.specs.model.Flooding.{first_control, started}
 use Rattle.pcapng_frames.specs.declared.packet.NgRecord.{NgRecord}
 use Rattle.run_texts.specs.declared.texts.Texts.{Texts}
 use Rattle.command_drive.specs.Answer.{behind}
@@ -16,6 +15,7 @@ use Rattle.command_drive.specs.Reading.{End, Behind, Reads}
 use Rattle.command_drive.specs.Records.{records_read}
 use Rattle.command_node.specs.NodeRun.{Node, first_node}
 use Rattle.command_node.specs.Owed.{past, bare, end_by}
+use Rattle.command_node.proofs.NodeRecords.{first_conf, of_bare}
 use Rattle.live_stream.specs.Events.{Seat}
 use Rattle.live_stream.specs.LiveRun.{live_done, live_reach, live_ends, live_means}
 use Rattle.live_stream.specs.Owed.{StartsAs, live_owed}
@@ -27,10 +27,6 @@ ends_past : (frames report : List ℕ) (how : Behind) (n : Node) → live_ends h
 ends_past frames report how n =
     let end = end_by how n.tally None in
     ap (λ (l : List ℕ). record { status = end.0; report = l; frames = frames ++ n.frames }) (append_assoc report n.report end.1)
-
--- one without texts behind its texts
-of_bare : (n : Node) → n ≡ past n.frames n.report (bare n)
-of_bare n = ap₂ (λ (f r : List ℕ). record n { frames = f; report = r }) (sym (append-nil n.frames)) (sym (append-nil n.report))
 
 owes_past : (s : Seat) (n : Node) (reads : List NgRecord) (how : Behind) → live_ends how (live_reach s n reads) ≡ told n.report n.frames (live_owed s n reads how)
 owes_past s n reads how =
@@ -93,17 +89,6 @@ means_so s r node node_now texts_now texts reads fresh first traded frames repor
   where
     so : node_now ≡ record (first_node r) { frames = []; report = [] }
     so = traded ∙ ap₂ (λ (f t : List ℕ). record node { frames = f; report = t }) no_frames no_report ∙ ap bare first
-
-pub any_conf : (o : Option RouterConf) (P : RouterConf → Type 0) → ((conf : RouterConf) → P conf) → IfSome o P
-any_conf None P holds = tt
-any_conf (Some conf) P holds = holds conf
-
-pub starts_as : (o : Option RouterConf) (conf : RouterConf) (P : RouterConf → Type 0) → o ≡ Some conf → P conf → IfSome o P
-starts_as o conf P is holds = subst (λ (x : Option RouterConf). IfSome x P) (sym is) holds
-
-first_conf : (r : RouterConf) → (first_node r).control.conf ≡ r
-unfolding first_control started
-first_conf r = refl
 
 pub starts_so : (d : DomainConf) (place : ℕ) (r : RouterConf) (s : Seat) (n : Node) → s ≡ record { domain = d; place = place } → slice_get d.routers place ≡ Some r → n ≡ first_node r → StartsAs d place s n
 starts_so d place r s n seat at fresh =

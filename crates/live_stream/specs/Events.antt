@@ -51,9 +51,8 @@ is_event read = read.ethernet && (read.cap.whole && (nat_le 14 (length read.cap.
 
 -- a line with one event; out of memory is no reason, and is excluded by the code
 abbrev pub one_event : Result Line TextFault → Result Event LiveFault
-one_event (Ok line.Empty) = Err fault.Kind
 one_event (Ok (line.One e)) = Ok e
-one_event (Ok (line.Settle rounds)) = Err fault.Kind
+one_event (Ok other) = Err fault.Kind
 one_event (Err why) = Err (fault.Line why)
 
 -- After the Ethernet header: the version, 1, and to the end of the frame a line of a schedule, without a line ending.
@@ -104,12 +103,7 @@ done_at s c (event.Up from to) = over (link_to s c to) (comes_up c)
 done_at s c (event.Send from to) = over (link_to s c to) (sends c)
 done_at s c (event.Tick router) = Ok (still (flooding.tick c).control)
 done_at s c (event.Restart router) = Ok (still (flooding.restart c).control)
-done_at s c (event.Take from to i) = Err fault.Kind
-done_at s c (event.Lose from to i) = Err fault.Kind
-done_at s c (event.Again from to i) = Err fault.Kind
-done_at s c (event.Relabel router sd bsl label) = Err fault.Kind
-done_at s c (event.Leave router sd) = Err fault.Kind
-done_at s c (event.Join router sd) = Err fault.Kind
+done_at s c other = Err fault.Kind
 
 -- the router at which an event happens; none if it is not an event of one running router
 abbrev pub router_of : Event → Option ℕ
@@ -119,12 +113,7 @@ router_of (event.Up from to) = Some from
 router_of (event.Send from to) = Some from
 router_of (event.Tick router) = Some router
 router_of (event.Restart router) = Some router
-router_of (event.Take from to i) = None
-router_of (event.Lose from to i) = None
-router_of (event.Again from to i) = None
-router_of (event.Relabel router sd bsl label) = None
-router_of (event.Leave router sd) = None
-router_of (event.Join router sd) = None
+router_of other = None
 
 abbrev pub where_own : Seat → Option ℕ → Result Next LiveFault → Result Next LiveFault
 where_own s None next = Err fault.Kind
@@ -144,9 +133,5 @@ Happened (Err why) next old new = (next ≡ Err why) × (new ≡ old)
 -- The outcome of an injection is its result; out of memory has none.
 abbrev pub Entered : Result Effects EdgeFault → Result Effects LiveFault → Type 0
 Entered (Ok e) outcome = outcome ≡ Ok e
-Entered (Err edge.NoEgress) outcome = outcome ≡ Err (fault.Edge edge.NoEgress)
-Entered (Err edge.IdZero) outcome = outcome ≡ Err (fault.Edge edge.IdZero)
-Entered (Err (edge.SiLarge k)) outcome = outcome ≡ Err (fault.Edge (edge.SiLarge k))
-Entered (Err edge.NotBfr) outcome = outcome ≡ Err (fault.Edge edge.NotBfr)
-Entered (Err edge.BslUnknown) outcome = outcome ≡ Err (fault.Edge edge.BslUnknown)
 Entered (Err edge.Memory) outcome = ⊥
+Entered (Err why) outcome = outcome ≡ Err (fault.Edge why)

@@ -9,11 +9,8 @@ use Rattle.live_stream.specs.declared.fault.LiveFault.TheVariants.{Version, Line
 abbrev pub subject_of : LiveFault → List ℕ
 subject_of Version = codes "frame"
 subject_of (Line why) = codes "line"
-subject_of Kind = codes "event"
-subject_of Router = codes "event"
-subject_of NoLink = codes "event"
-subject_of EndState = codes "event"
 subject_of (Edge why) = codes "edge"
+subject_of other = codes "event"
 
 -- the rules of each subject are numbered from 1; out of memory is no reason
 abbrev pub number_of : LiveFault → ℕ

@@ -41,7 +41,7 @@ use Rattle.command_drive.specs.Answer.{Verdict}
 use Rattle.command_drive.specs.Captured.{refused_by, too_long}
 use Rattle.command_drive.specs.CaptureReading.{any_unread}
 use Rattle.command_drive.specs.Driving.{Meaning}
-use Rattle.command_drive.specs.Reading.{Behind, Closed, Cut, Reads}
+use Rattle.command_drive.specs.Reading.{Behind, Closed, Cut}
 use Rattle.command_drive.specs.Records.{records_read}
 use Rattle.command_drive.specs.declared.items.Close.TheVariants as close
 use Rattle.command_node.specs.NodeRun.{link_of}
@@ -93,20 +93,15 @@ abbrev pub name_in : List RouterConf → SystemId → List ℕ
 name_in [] system = []
 name_in (r ∷ rs) system = if same_system r.system system then r.name else name_in rs system
 
-abbrev pub up_word : Bool → List ℕ
-up_word true = codes "up "
-up_word false = codes "down "
-
 -- `up A B` or `down A B`, for router A and the neighbor B of an interface
 abbrev pub change_line : Seat → RouterConf → End → Bool → List ℕ
-change_line s r e up = up_word up ++ (r.name ++ 32 ∷ name_in s.domain.routers e.peer)
+change_line s r e up = (if up then codes "up " else codes "down ") ++ (r.name ++ 32 ∷ name_in s.domain.routers e.peer)
 
 -- what an adjacency that moved lets the router know: that the interface came up, or went down
 abbrev pub changed_to : Seat → NgRecord → RouterConf → End → Bool → Bool → List ℕ
 changed_to s read r e true true = []
 changed_to s read r e false false = []
-changed_to s read r e true false = written read (event_frame (change_line s r e false))
-changed_to s read r e false true = written read (event_frame (change_line s r e true))
+changed_to s read r e old new = written read (event_frame (change_line s r e new))
 
 abbrev pub changed : Seat → NgRecord → RouterConf → End → Adjacency → Adjacency → List ℕ
 changed s read r e old new = changed_to s read r e (is_up old) (is_up new)
@@ -114,11 +109,8 @@ changed s read r e old new = changed_to s read r e (is_up old) (is_up new)
 -- ---- a hello that is sent
 
 -- The address of the interface that the event of a hello has: the last four octets of its source address, unless they are 0.
-abbrev pub no_address : List ℕ
-no_address = 0 ∷ 0 ∷ 0 ∷ 0 ∷ []
-
 abbrev pub address_in : List ℕ → Option (List ℕ)
-address_in octets = if bytes_eq (take 4 (drop 8 octets)) no_address then None else Some (take 4 (drop 8 octets))
+address_in octets = if bytes_eq (take 4 (drop 8 octets)) (0 ∷ 0 ∷ 0 ∷ 0 ∷ []) then None else Some (take 4 (drop 8 octets))
 
 -- it is listed in a TLV of its own (RFC 1195, 5.3.2)
 abbrev pub address_tlvs : Option (List ℕ) → List Tlv
@@ -185,30 +177,16 @@ abbrev pub greeting_of : HelloEvent → Result Greeting LiveFault
 greeting_of (hellos.Hello from to) = Ok (greeting.Hello from to)
 greeting_of (hellos.Break from to) = Ok (greeting.Break from to)
 greeting_of (hellos.Mend from to) = Ok (greeting.Mend from to)
-greeting_of (hellos.Greet from to i) = Err fault.Kind
-greeting_of (hellos.Forget from to i) = Err fault.Kind
-greeting_of (hellos.Tick router) = Err fault.Kind
-greeting_of (hellos.Restart router) = Err fault.Kind
+greeting_of other = Err fault.Kind
 
 abbrev pub second_of : Event → Result Greeting LiveFault
 second_of (events.Tick router) = Ok (greeting.Second router)
-second_of (events.Inject router sd bsl ids ttl entropy payload) = Err fault.Kind
-second_of (events.Take from to i) = Err fault.Kind
-second_of (events.Lose from to i) = Err fault.Kind
-second_of (events.Again from to i) = Err fault.Kind
-second_of (events.Down from to) = Err fault.Kind
-second_of (events.Up from to) = Err fault.Kind
-second_of (events.Send from to) = Err fault.Kind
-second_of (events.Restart router) = Err fault.Kind
-second_of (events.Relabel router sd bsl label) = Err fault.Kind
-second_of (events.Leave router sd) = Err fault.Kind
-second_of (events.Join router sd) = Err fault.Kind
+second_of other = Err fault.Kind
 
 abbrev pub said : HandLine → Result Greeting LiveFault
 said (hand.Hello e) = greeting_of e
 said (hand.Base (line.One e)) = second_of e
-said (hand.Base line.Empty) = Err fault.Kind
-said (hand.Base (line.Settle rounds)) = Err fault.Kind
+said (hand.Base other) = Err fault.Kind
 
 abbrev pub one_greeting : Result HandLine TextFault → Result Greeting LiveFault
 one_greeting (Ok said_line) = said said_line
@@ -232,8 +210,7 @@ link_toward s r to = toward r.ends (slice_get s.domain.routers to)
 abbrev pub unless_works : Bool → Bool → Option LiveFault
 unless_works true true = None
 unless_works false false = None
-unless_works true false = Some fault.EndState
-unless_works false true = Some fault.EndState
+unless_works wanted works = Some fault.EndState
 
 abbrev pub fault_on : List Circuit → Bool → Option ℕ → Option LiveFault
 fault_on cs works None = Some fault.NoLink
@@ -304,12 +281,9 @@ hello_done s g read = streamed s read (counts g)
 unfoldable pub hello_reach : Seat → Greeter → List NgRecord → Greeter
 hello_reach s g reads = fold (hello_done s) g reads
 
--- `done records R`
-abbrev pub hello_end : ℕ → Status × List ℕ
-hello_end records = (Done, line_of (codes "done" ∷ codes "records" ∷ decimal records ∷ []))
-
+-- a stream that ends as it should: `done records R`
 abbrev pub end_by : Behind → ℕ → Status × List ℕ
-end_by (Closed close.Ended) records = hello_end records
+end_by (Closed close.Ended) records = (Done, line_of (codes "done" ∷ codes "records" ∷ decimal records ∷ []))
 end_by (Closed close.TooLong) records = too_long records
 end_by (Closed (close.Broken why)) records = refused_by records why
 end_by Cut records = (ReadFault, [])
@@ -317,10 +291,7 @@ end_by Cut records = (ReadFault, [])
 abbrev pub hello_ends : Behind → Greeter → Verdict
 hello_ends how g = record { status = (end_by how g.records).0; report = g.report ++ (end_by how g.records).1; frames = g.frames }
 
-abbrev pub hello_over : Seat → RouterConf → Reads NgRecord → Verdict
-hello_over s r reads = hello_ends reads.behind (hello_reach s (first_greeter r) reads.items)
-
 -- The status and both texts on the octets of a stream after which its source ends, or fails. A stream has at most 268,435,456
 -- octets.
 unfoldable pub hello_means : Seat → RouterConf → Meaning
-hello_means s r end octets = hello_over s r (records_read any_unread CAPTURE_LIMIT false end octets)
+hello_means s r end octets = let given = records_read any_unread CAPTURE_LIMIT false end octets in hello_ends given.behind (hello_reach s (first_greeter r) given.items)

@@ -13,7 +13,7 @@ use Rattle.replay_text.specs.Report.{line_of}
 use Rattle.command_drive.specs.Answer.{Verdict}
 use Rattle.command_drive.specs.CaptureReading.{any_unread}
 use Rattle.command_drive.specs.Driving.{Meaning}
-use Rattle.command_drive.specs.Reading.{Behind, Reads}
+use Rattle.command_drive.specs.Reading.{Behind}
 use Rattle.command_drive.specs.Records.{records_read}
 use Rattle.command_node.specs.NodeRun.{Node, first_node, counts_record, passes, tells, given_to, node_ends}
 use Rattle.command_node.specs.Owed.{end_by}
@@ -63,10 +63,7 @@ live_reach s n reads = fold (live_done s) n reads
 abbrev pub live_ends : Behind → Node → Verdict
 live_ends how n = node_ends n (end_by how n.tally None)
 
-abbrev pub live_over : Seat → RouterConf → Reads NgRecord → Verdict
-live_over s r reads = live_ends reads.behind (live_reach s (first_node r) reads.items)
-
 -- The status and both texts on the octets of a stream after which its source ends, or fails: those of the records that are
 -- complete in them, done one after the other at a router that has just started. A stream has at most 268,435,456 octets.
 unfoldable pub live_means : Seat → RouterConf → Meaning
-live_means s r end octets = live_over s r (records_read any_unread CAPTURE_LIMIT false end octets)
+live_means s r end octets = let given = records_read any_unread CAPTURE_LIMIT false end octets in live_ends given.behind (live_reach s (first_node r) given.items)

@@ -6,7 +6,7 @@ use Rattle.command_drive.proofs.Untouched.{drives_none}
 use Rattle.live_stream.specs.Events.{Seat}
 use Rattle.live_stream.specs.HelloRun.{hello_means}
 use Rattle.live_stream.proofs.HelloRecords.{means_so}
-use Rattle.live_stream.proofs.LiveRecords.{any_conf, starts_as}
+use Rattle.command_node.proofs.NodeRecords.{any_conf, starts_as}
 use Rattle.live_stream.proofs.hello_stream.run_hellos.Goals as goal
 
 pub returns-in_default : goal.returns-in_default

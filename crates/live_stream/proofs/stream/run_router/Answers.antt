@@ -5,7 +5,8 @@ use Rattle.command_drive.proofs.Meanings.{drives_as}
 use Rattle.command_drive.proofs.Untouched.{drives_none}
 use Rattle.live_stream.specs.Events.{Seat}
 use Rattle.live_stream.specs.LiveRun.{live_means}
-use Rattle.live_stream.proofs.LiveRecords.{any_conf, starts_as, means_so}
+use Rattle.command_node.proofs.NodeRecords.{any_conf, starts_as}
+use Rattle.live_stream.proofs.LiveRecords.{means_so}
 use Rattle.live_stream.proofs.stream.run_router.Goals as goal
 
 pub returns-in_default : goal.returns-in_default
