@@ -1,6 +1,4 @@
 //! Small domains.
-use crate::twelve::TWELVE;
-
 // Two routers and a link.
 pub const PAIR: &str =
     "subdomain=[{sd=0,kind='mpls'}]\nrouter=[{name='A',system='0000.0000.0001',prefix='10.0.0.1'},{name='B',system='0000.0000.0002',prefix='10.0.0.2'}]\nbier=[{router='A',sd=0,id=1},{router='B',sd=0,id=2}]\nlabels=[{router='A',sd=0,bsl=64,max_si=0,label=100},{router='B',sd=0,bsl=64,max_si=0,label=200}]\nlink=[{a='A',b='B',metric_ab=10,metric_ba=10}]";
@@ -39,7 +37,6 @@ pub fn domain_of(name: &str) -> &'static str {
         "line" => LINE,
         "same" => SAME,
         "sets" => SETS,
-        "twelve" => TWELVE,
         _ => "[[",
     }
 }

@@ -16,6 +16,8 @@ mod grown;
 #[cfg(test)]
 mod inputs;
 #[cfg(test)]
+mod made;
+#[cfg(test)]
 mod received;
 #[cfg(test)]
 mod reports;

@@ -1,15 +1,13 @@
 //! The topology of a router after others have advertised themselves.
-ghost use Rattle.std.specs.Prelude.{◌<◌};
 ghost use Rattle.std.specs.List.{AllByRecursion};
 ghost use Rattle.wire_base.specs.model.Configuration.{IsSound};
 
-use crate::domains::{PAIR, RING};
-use crate::inputs::{LSP_OF_A, octets_of};
+use crate::domains::RING;
+use crate::inputs::octets_of;
 use domain_conf::read_domain;
-use path_tree::{distances_to, tight_steps};
 use router_core::Router;
 use std::alloc::Global;
-use wire_base::{Domain, M, RouterConf, View, ViewEdge};
+use wire_base::{Domain, M, RouterConf};
 
 // What the second, the third and the fourth router of the ring advertise first, as another implementation writes it.
 const OTHERS_OF_THE_RING: [&str; 3] = [
@@ -17,33 +15,6 @@ const OTHERS_OF_THE_RING: [&str; 3] = [
     "09002b000005020000020001005bfefe03831b010014010000005804b00000000000030000000000017b3e030104034900018101cc89014316160000000000020000000a000000000000040000000a00871700000000600a0000030d200b000000000301040010012c",
     "09002b000005020000030002005bfefe03831b010014010000005804b0000000000004000000000001ed65030104034900018101cc89014416160000000000030000000a000000000000010000000a00871700000000600a0000040d200b0000000004010400100190",
 ];
-
-/// Returns the first edge of a node.
-fn edge_of(view: &View, place: usize) -> Option<ViewEdge> {
-    let node = view.as_slice().get(place)?;
-    node.edges.as_slice().get(0).copied()
-}
-
-/// Returns whether both routers have an edge to the other, and the path from the second to the first is that edge.
-fn is_pair(alloc: Global, view: &View) -> M<bool> {
-    if view.as_slice().len() < 2 {
-        return Ok(false);
-    }
-    let distances = distances_to(alloc, view, 0)?;
-    let steps = tight_steps(alloc, view, &distances, 1, 0)?;
-    Ok(
-        edge_of(view, 0) == Some(ViewEdge { to: 1, metric: 10 })
-            && edge_of(view, 1) == Some(ViewEdge { to: 0, metric: 10 })
-            && distances.as_slice() == [Some(0), Some(10)].as_slice()
-            && steps.as_slice() == [0].as_slice(),
-    )
-}
-
-/// Returns whether a router's topology is the pair.
-fn sees_pair(alloc: Global, router: &Router) -> M<bool> {
-    let view = router.current_view()?;
-    is_pair(alloc, &view)
-}
 
 /// Returns the number of routers in a router's topology.
 fn nodes_seen(router: &Router) -> Option<usize> {
@@ -84,27 +55,6 @@ pub fn second(alloc: Global, domain: &Domain) -> Option<Router> {
         [_, conf] => started(alloc, conf).ok(),
         _ => None,
     }
-}
-
-/// Returns whether the second router of a domain accepts what the first advertises, and its topology is then the pair.
-fn second_sees_pair(alloc: Global, domain: &Domain) -> bool {
-    match second(alloc, domain) {
-        Some(mut router) => takes_digits(alloc, &mut router, LSP_OF_A)
-            && sees_pair(alloc, &router) == Ok(true),
-        None => false,
-    }
-}
-
-fn pair_sees_itself(alloc: Global) -> bool {
-    match read_domain(alloc, PAIR.as_bytes()) {
-        Ok(domain) => second_sees_pair(alloc, &domain),
-        Err(_) => false,
-    }
-}
-
-#[test]
-fn the_pair_sees_itself(rt: HostRuntime) {
-    assert!(rt; pair_sees_itself(rt.alloc()));
 }
 
 /// Returns the number of routers in a router's topology after it received a frame on its first link.
