@@ -1,5 +1,5 @@
 //! The answer to a question.
-ghost use Rattle.std.specs.Prelude.{◌≡◌, ◌<◌, ◌≤◌, length, IfSome};
+ghost use Rattle.std.specs.Prelude.{◌<◌, ◌≤◌, length};
 ghost use Rattle.wire_base.specs.declared.limits.TheConstants.{MOST_ROUTERS};
 
 use crate::arguments::{Form, Look, Moment, PacketWords, What};
@@ -8,6 +8,7 @@ use crate::files::{domain_of, octets_of};
 use crate::lines::{names_in, world_after};
 use crate::records::router_after;
 use crate::refusal::{ids_refused, no_router, packet_refused};
+use command_node::place_of;
 use domain_core::World;
 use replay_text::{CheckLine, TextFault, read_check_line};
 use router_core::Router;
@@ -18,25 +19,12 @@ use show_tables::{
 use std::alloc::Global;
 use wire_base::{Domain, EdgeFault, M, Memory, Name, Octets, RouterConf, Rows, SystemId};
 
-/// Returns the index of the router with that name.
-fn place_of(names: &[Name], name: &str) -> Option<u16>
-    requires { length names.now ≤ MOST_ROUTERS }
-    ensures { IfSome result (λ place. place < length names.now) }
-{
-    for place in 0..names.len() {
-        if names[place].as_slice() == name.as_bytes() {
-            return Some(place as u16);
-        }
-    }
-    None
-}
-
 /// Returns the table that answers a question, as text.
 pub fn answer(rt: &HostRuntime, look: &Look<'_>) -> Result<String, NoAnswer> {
     let domain = domain_of(rt, look.conf)?;
     let alloc = rt.alloc();
     let names = names_in(alloc, &domain)?;
-    let Some(place) = place_of(names.as_slice(), look.router) else {
+    let Some(place) = place_of(&domain, look.router.as_bytes()) else {
         return Err(no_router(alloc, look.router_word()));
     };
     match look.moment {

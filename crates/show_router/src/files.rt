@@ -1,8 +1,8 @@
 //! The files that the words name.
 use crate::ending::NoAnswer;
-use crate::refusal::conf_refused;
-use domain_conf::read_domain;
+use command_node::{NoDomain, domain_in};
 use std::{fs, io};
+use tool_host::{FileSource, SystemFiles};
 use wire_base::{Domain, Status};
 
 /// Returns the octets of a file.
@@ -16,9 +16,10 @@ pub fn octets_of(rt: &HostRuntime, path: &str) -> Result<Vec<u8>, Status> {
 
 /// Returns the domain that a file describes.
 pub fn domain_of(rt: &HostRuntime, path: &str) -> Result<Domain, NoAnswer> {
-    let octets = octets_of(rt, path)?;
-    match read_domain(rt.alloc(), octets.as_slice()) {
+    let files = SystemFiles::new(rt);
+    match domain_in(rt.alloc(), &mut FileSource::new(&files, path)) {
         Ok(domain) => Ok(domain),
-        Err(why) => Err(conf_refused(rt.alloc(), &why)),
+        Err(NoDomain::Refused(line)) => Err(NoAnswer::Refused(Status::ConfRefused, line)),
+        Err(NoDomain::Stopped(why)) => Err(NoAnswer::Stopped(why)),
     }
 }

@@ -94,7 +94,7 @@ fn do_lines(
     let mut rest = schedule;
     'lines: for done in 0..last {
         let Some((line, after)) = next_line(rest, true) else {
-            return Err(too_few(alloc, b"lines", done));
+            return Err(too_few(alloc, "lines", done));
         };
         do_text(alloc, world, names, all.as_slice(), done + 1, line)?;
         rest = after;

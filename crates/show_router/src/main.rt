@@ -12,7 +12,6 @@ mod events;
 mod files;
 mod follow;
 mod lines;
-mod node;
 mod records;
 mod refusal;
 
@@ -20,10 +19,11 @@ use answer::answer;
 use arguments::{Request, USAGE, parse};
 use ending::NoAnswer;
 use follow::follow;
+use std::alloc::AllocError;
 use std::io::Write;
 use std::process::ExitCode;
 use std::{env, io};
-use tool_host::{is_no_text, words_of};
+use tool_host::{exit_code, is_no_text, words_of};
 use wire_base::Status;
 
 /// Writes a text, and returns the status, or that of a write error.
@@ -49,26 +49,18 @@ fn answer_words(rt: &HostRuntime, words: &[&str]) -> Status {
     }
 }
 
-fn run(rt: &HostRuntime) -> Result<Status, Status> {
+fn run(rt: &HostRuntime) -> Result<Status, AllocError> {
     match env::args(rt) {
         Ok(args) => {
-            let Ok(args) = args.collect::<Vec<String>>(rt.alloc()) else {
-                return Err(Status::Memory);
-            };
-            let Ok(words) = words_of(rt.alloc(), args.as_slice()) else {
-                return Err(Status::Memory);
-            };
-            Ok(answer_words(rt, words.as_slice()))
+            let args: Vec<String> = args.collect(rt.alloc())?;
+            let words = words_of(rt.alloc(), &args)?;
+            Ok(answer_words(rt, &words))
         }
         Err(error) if is_no_text(&error) => Ok(answer_words(rt, &[])),
-        Err(_) => Err(Status::Memory),
+        Err(_) => Err(AllocError),
     }
 }
 
 fn main(rt: HostRuntime) -> ExitCode {
-    let status = match run(&rt) {
-        Ok(status) => status,
-        Err(status) => status,
-    };
-    ExitCode::from(status.number())
+    exit_code(run(&rt))
 }

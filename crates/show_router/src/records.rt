@@ -3,9 +3,9 @@ ghost use Rattle.std.specs.Prelude.{◌≡◌, ◌<◌, length, IfOk};
 ghost use Rattle.wire_base.specs.model.Configuration.{IsSound};
 
 use crate::ending::NoAnswer;
-use crate::node::Node;
 use crate::refusal::{capture_refused, gap_refused, too_few};
 use command_drive::CaptureReader;
+use command_node::{RunningNode, countable};
 use pcapng_frames::NgRecord;
 use router_core::Router;
 use std::alloc::Global;
@@ -19,29 +19,37 @@ fn conf_at(domain: &Domain, router: u16) -> M<RouterConf>
     domain.routers.as_slice()[usize::from(router)].copy()
 }
 
-/// Processes a record, which has that number, from 1.
+/// Processes a record, which has that number, from 1, as the command `node` does. What it sends and reports is not needed.
 fn take_record(
     alloc: Global,
-    node: &mut Node,
+    node: &mut RunningNode,
     number: u32,
     captured: &NgRecord,
 ) -> Result<(), NoAnswer> {
     if let Some((from, to)) = node.gap_at(captured.cap.sec) {
         return Err(gap_refused(alloc, number, from, to));
     }
-    node.take(captured)?;
+    countable(node.tally.records)?;
+    node.take(alloc, captured)?;
+    node.frames.truncate(0);
+    node.report.truncate(0);
     Ok(())
 }
 
 /// Processes the first records of a capture, up to that one.
-fn take_records(alloc: Global, node: &mut Node, capture: &[u8], last: u32) -> Result<(), NoAnswer> {
+fn take_records(
+    alloc: Global,
+    node: &mut RunningNode,
+    capture: &[u8],
+    last: u32,
+) -> Result<(), NoAnswer> {
     let mut reader = CaptureReader::new(alloc);
     reader.feed(capture)?;
     'records: for done in 0..last {
         let found = reader.next(alloc)?;
         match found {
             Ok(Some(captured)) => take_record(alloc, node, done + 1, &captured)?,
-            Ok(None) => return Err(too_few(alloc, b"records", done)),
+            Ok(None) => return Err(too_few(alloc, "records", done)),
             Err(why) => return Err(capture_refused(alloc, done, why)),
         }
     }
@@ -58,8 +66,8 @@ pub fn router_after(
 ) -> Result<Router, NoAnswer>
     requires { router < length domain.now.routers }
 {
-    let mut node = Node::new(alloc, conf_at(domain, router)?)?;
+    let mut node = RunningNode::new(alloc, conf_at(domain, router)?)?;
     take_records(alloc, &mut node, capture, last)?;
-    let Node { router, .. } = node;
+    let RunningNode { router, .. } = node;
     Ok(router)
 }

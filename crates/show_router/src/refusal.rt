@@ -3,12 +3,11 @@ ghost use Rattle.wire_base.specs.declared.status.Status.TheVariants as status;
 ghost use Rattle.show_router.specs.Endings.{Ends};
 
 use crate::ending::NoAnswer;
-use command_drive::{RecordFault, push_refused, refuse_by};
-use domain_conf::ConfFault;
+use command_drive::{RecordFault, refuse_by};
 use domain_model::EventFault;
 use replay_report::{push_event_refused, push_text_refused};
-use replay_text::{TextFault, push_rule};
-use std::alloc::Global;
+use replay_text::TextFault;
+use std::alloc::{AllocError, Global};
 use wire_base::{EdgeFault, M, Memory, Octets, Status};
 
 /// Returns the refusal with a line that was made, or that memory ran out.
@@ -21,39 +20,27 @@ fn refused(status: Status, line: M<Octets>) -> NoAnswer
     }
 }
 
-/// The refusal of a domain file: `refused conf N NAME PATH`.
-pub fn conf_refused(alloc: Global, why: &ConfFault) -> NoAnswer
-    ensures { Ends status.ConfRefused result }
+/// Returns the same of a line as text.
+fn refused_by(status: Status, line: Result<String, AllocError>) -> NoAnswer
+    ensures { Ends status result }
 {
-    refused(Status::ConfRefused, conf_line(alloc, why))
+    match line {
+        Ok(line) => NoAnswer::Refused(status, Octets::from_vec(line.into_bytes())),
+        Err(_) => NoAnswer::Stopped(Status::Memory),
+    }
 }
 
-fn conf_line(alloc: Global, why: &ConfFault) -> M<Octets> {
-    if let ConfFault::Memory = why {
-        return Err(Memory);
-    }
-    let mut line = Octets::new(alloc);
-    line.append(b"refused conf ")?;
-    push_rule(&mut line, why.number(), why.name())?;
-    line.push(b' ')?;
-    line.append(why.path())?;
-    line.push(b'\n')?;
-    Ok(line)
+/// Returns the name of a rule as text.
+fn text(name: &[u8]) -> &str {
+    std::str::from_utf8(name).unwrap_or("?")
 }
 
 /// The refusal of a name that no router has, by the number of its word: `refused conf 6 Reference words[N]`.
 pub fn no_router(alloc: Global, word: u8) -> NoAnswer
     ensures { Ends status.ConfRefused result }
 {
-    refused(Status::ConfRefused, no_router_line(alloc, word))
-}
-
-fn no_router_line(alloc: Global, word: u8) -> M<Octets> {
-    let mut line = Octets::new(alloc);
-    line.append(b"refused conf 6 Reference words[")?;
-    line.append_number(u64::from(word))?;
-    line.append(b"]\n")?;
-    Ok(line)
+    let line = format!(in alloc; "refused conf 6 Reference words[{word}]\n");
+    refused_by(Status::ConfRefused, line)
 }
 
 /// The refusal of a line that is not in the grammar: `refused LINE text N NAME`.
@@ -75,20 +62,13 @@ pub fn event_refused(alloc: Global, number: u32, why: EventFault) -> NoAnswer
 }
 
 /// The refusal of a LINE or RECORD that does not exist: how many there are.
-pub fn too_few(alloc: Global, what: &[u8], count: u32) -> NoAnswer
+pub fn too_few(alloc: Global, what: &str, count: u32) -> NoAnswer
     ensures { Ends status.Usage result }
 {
-    refused(Status::Usage, too_few_line(alloc, what, count))
-}
-
-fn too_few_line(alloc: Global, what: &[u8], count: u32) -> M<Octets> {
-    let mut line = Octets::new(alloc);
-    line.append(b"refused words ")?;
-    line.append(what)?;
-    line.push(b' ')?;
-    line.append_number(u64::from(count))?;
-    line.push(b'\n')?;
-    Ok(line)
+    refused_by(
+        Status::Usage,
+        format!(in alloc; "refused words {what} {count}\n"),
+    )
 }
 
 /// The refusal of a capture at its next record, after that many: `refused record RECORD N NAME`.
@@ -104,18 +84,8 @@ pub fn capture_refused(alloc: Global, records: u32, why: RecordFault) -> NoAnswe
 pub fn gap_refused(alloc: Global, record: u32, from: u32, to: u32) -> NoAnswer
     ensures { Ends status.CaptureRefused result }
 {
-    refused(Status::CaptureRefused, gap_line(alloc, record, from, to))
-}
-
-fn gap_line(alloc: Global, record: u32, from: u32, to: u32) -> M<Octets> {
-    let mut line = Octets::new(alloc);
-    push_refused(&mut line, u64::from(record), 7, b"Gap")?;
-    line.push(b' ')?;
-    line.append_number(u64::from(from))?;
-    line.push(b' ')?;
-    line.append_number(u64::from(to))?;
-    line.push(b'\n')?;
-    Ok(line)
+    let line = format!(in alloc; "refused record {record} 7 Gap {from} {to}\n");
+    refused_by(Status::CaptureRefused, line)
 }
 
 /// The refusal of the words of a packet: `refused packet N NAME`.
@@ -125,28 +95,20 @@ pub fn packet_refused(alloc: Global, why: TextFault) -> NoAnswer
     if why == TextFault::Memory {
         return NoAnswer::Stopped(Status::Memory);
     }
-    refused(Status::Usage, packet_line(alloc, why.number(), why.name()))
+    let (number, name) = (why.number(), text(why.name()));
+    refused_by(
+        Status::Usage,
+        format!(in alloc; "refused packet {number} {name}\n"),
+    )
 }
 
 /// The refusal of the BFR-ids of a packet: `refused packet edge N NAME`.
 pub fn ids_refused(alloc: Global, why: EdgeFault) -> NoAnswer
     ensures { Ends status.Usage result }
 {
-    refused(Status::Usage, edge_line(alloc, why))
-}
-
-fn packet_line(alloc: Global, rule: u8, name: &[u8]) -> M<Octets> {
-    let mut line = Octets::new(alloc);
-    line.append(b"refused packet ")?;
-    push_rule(&mut line, rule, name)?;
-    line.push(b'\n')?;
-    Ok(line)
-}
-
-fn edge_line(alloc: Global, why: EdgeFault) -> M<Octets> {
-    let mut line = Octets::new(alloc);
-    line.append(b"refused packet edge ")?;
-    push_rule(&mut line, why.number(), why.name())?;
-    line.push(b'\n')?;
-    Ok(line)
+    let (number, name) = (why.number(), text(why.name()));
+    refused_by(
+        Status::Usage,
+        format!(in alloc; "refused packet edge {number} {name}\n"),
+    )
 }
