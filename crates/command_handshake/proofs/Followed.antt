@@ -8,25 +8,23 @@ use Rattle.isis_hello.specs.Changes.{up_between}
 use Rattle.isis_hello.specs.History.{circuits_after}
 use Rattle.isis_hello.proofs.HeldLaws.{all_held}
 use Rattle.replay_text.specs.Hand.{hand_line, moves}
-use Rattle.replay_text.specs.declared.event.Event.{Event}
 use Rattle.replay_text.specs.declared.event.Line.{Line}
 use Rattle.replay_text.specs.declared.fault.TextFault.{TextFault}
 use Rattle.replay_text.specs.declared.hand.HandLine.{HandLine}
 use Rattle.replay_text.specs.declared.hand.HandLine.TheVariants.{Base, Hello}
 use Rattle.domain_model.specs.declared.fault.EventFault.{EventFault}
 use Rattle.domain_model.specs.Faults.{is_up_toward}
-use Rattle.domain_model.specs.Run.{run_of}
 use Rattle.domain_model.specs.World.{WorldState}
 use Rattle.replay_report.specs.declared.recording.Recording.TheVariants.{Pcap}
 use Rattle.domain_replay.specs.Texts.{Refusal, names_of}
 use Rattle.domain_handshake.specs.Following.{EndsFollow, IsFollowed, IsRunning, history}
-use Rattle.domain_handshake.specs.Handshakes.{HandState, Moment, moment_of, Outcome, start_does}
+use Rattle.domain_handshake.specs.Handshakes.{HandState, Moment, moment_of, Outcome}
 use Rattle.domain_handshake.proofs.FollowLaws.{KnownBy, StandsBy, world_stands, hello_stands}
-use Rattle.domain_handshake.proofs.Keeping.{Keeps, IsKeeping, base_keeps}
+use Rattle.domain_handshake.proofs.Keeping.{IsKeeping, base_keeps}
 use Rattle.domain_handshake.proofs.StartLaws.{start_allowed, start_down, start_stands}
-use Rattle.command_replay.specs.Course.{Course, course_by, lines_course}
+use Rattle.command_replay.specs.Course.{course_by, lines_course}
 use Rattle.command_handshake.specs.Followed.{KeepsHandshakes}
-use Rattle.command_handshake.specs.Shaken.{said_does, refused_by, turned_by, read_turns, hand_turns, start_turned, opening, shaken_course, shaken, read_adds, line_adds, unless_ended, lines_add, shaken_hellos, shaken_moments}
+use Rattle.command_handshake.specs.Shaken.{said_does, refused_by, read_turns, hand_turns, start_turned, shaken_course, read_adds, line_adds, unless_ended, lines_add, shaken_hellos, shaken_moments}
 use Rattle.command_handshake.proofs.HandCourse.{start_course, course_is, hand_woven}
 use Rattle.command_handshake.proofs.SaidHands.{hand_steady}
 

@@ -1,7 +1,6 @@
 -- What the calls of a schedule with hellos do, in the words of the driver.
-use Rattle.std.proofs.Common.{◌≡◌, ◌≢◌, ℕ, ◌+◌, ◌-◌, ◌<◌, zero, suc, List, [], ◌∷◌, ◌++◌, Option, Some, None, Result, Ok, Err, IfOk, refl, sym, ap, ap₂, subst, ◌∙◌, arith, append-nil, append_assoc}
+use Rattle.std.proofs.Common.{◌≡◌, ◌≢◌, ℕ, ◌+◌, ◌-◌, ◌<◌, zero, suc, List, [], ◌∷◌, ◌++◌, Option, Some, None, Result, Ok, Err, refl, sym, ap, subst, ◌∙◌, arith, append-nil, append_assoc}
 use Rattle.run_texts.specs.declared.texts.Texts.{Texts}
-use Rattle.wire_base.specs.declared.status.Status.{Status}
 use Rattle.wire_base.specs.declared.status.Status.TheVariants.{InputRefused}
 use Rattle.replay_text.specs.Fault.{fault_text}
 use Rattle.replay_text.specs.Hand.{hand_line}
@@ -15,21 +14,19 @@ use Rattle.replay_text.specs.Reading.{Fails}
 use Rattle.replay_text.specs.declared.hand.HandLine.{HandLine}
 use Rattle.replay_text.specs.declared.hand.HandLine.TheVariants.{Hello}
 use Rattle.domain_model.specs.declared.fault.EventFault.{EventFault}
-use Rattle.domain_model.specs.declared.fault.EventFault.TheVariants as faults
-use Rattle.domain_replay.specs.Lines.{event_refused_text, text_refused_text}
-use Rattle.domain_replay.specs.Texts.{Refusal, BadText, BadEvent, refusal_text, names_of}
+use Rattle.domain_replay.specs.Lines.{text_refused_text}
+use Rattle.domain_replay.specs.Texts.{names_of}
 use Rattle.domain_handshake.specs.Doing as doing
-use Rattle.domain_handshake.specs.Handshakes.{HandState, Outcome, nothing, joined, goes_on, and_then, round_does, rounds_do, event_does, hello_does, base_does}
+use Rattle.domain_handshake.specs.Handshakes.{HandState, Outcome, nothing, goes_on, and_then, round_does, rounds_do, event_does, hello_does, base_does}
 use Rattle.command_drive.specs.Answer.{Verdict}
 use Rattle.command_drive.specs.declared.command.Flow.{Flow}
 use Rattle.command_drive.specs.declared.command.Flow.TheVariants as flow
 use Rattle.command_drive.specs.Reading.{Behind}
-use Rattle.command_drive.specs.Doing.{Owed, Did, Concludes, told}
+use Rattle.command_drive.specs.Doing.{Did, Concludes, told}
 use Rattle.command_replay.proofs.Steps.{did_as}
-use Rattle.command_replay.specs.Course.{Turned, turn_owes, unless_rejected}
-use Rattle.command_replay.specs.Owed.{rejected}
+use Rattle.command_replay.specs.Course.{turn_owes, unless_rejected}
 use Rattle.command_handshake.specs.Owed.{Rest, outcome_owes, rounds_owe, lines_owe, Does, Begins}
-use Rattle.command_handshake.specs.Shaken.{hand_turns, read_turns, said_does, turned_by, refused_by, unread}
+use Rattle.command_handshake.specs.Shaken.{hand_turns, read_turns, said_does, refused_by}
 
 -- ---- no rounds are left
 
@@ -54,19 +51,6 @@ module _ (T : Type 0) (line : ℕ) (o : Outcome) (now : HandState) (texts mid : 
         ap (λ (why : Option EventFault). told o.report o.frames (unless_rejected line (refused_by why) (rest items behind o.next))) did.refused
         ∙ ap (λ (s : HandState). told o.report o.frames (rest items behind s)) did.next;
   }
-
-  pub did_refused : (texts_now : Texts) (why : EventFault) → doing.Did o now (Some why) texts mid → texts_now.frames ≡ mid.frames → texts_now.report ≡ mid.report ++ event_refused_text line why
-      → Does T (flow.Ends InputRefused) line o now texts texts_now
-  did_refused texts_now why did frames report rest = (
-    refl,
-    λ items behind.
-        subst (λ (q : Option EventFault). Concludes InputRefused (told o.report o.frames (unless_rejected line (refused_by q) (rest items behind o.next))) texts texts_now) (sym did.refused)
-        (record {
-          status = refl;
-          report = report ∙ ap (λ (l : List ℕ). l ++ event_refused_text line why) did.report ∙ append_assoc texts.report o.report (event_refused_text line why);
-          frames = frames ∙ did.frames ∙ ap (λ (l : List ℕ). texts.frames ++ l) (sym (append-nil o.frames));
-        }),
-  )
 
 -- ---- a line
 

@@ -47,11 +47,8 @@ abbrev pub start_turned : DomainConf → Turned HandState
 start_turned d = turned_by (start_does Pcap d)
 
 -- Before the first line: the front of the capture, and what comes of the interfaces that go down.
-abbrev pub opens_shaken : (front : List ℕ) → Turned HandState → Past
-opens_shaken front t = record { report = t.report; frames = front ++ t.frames; events = t.events }
-
 abbrev pub opening : DomainConf → Past
-opening d = opens_shaken (capture_front Pcap d.routers) (start_turned d)
+opening d = let t = start_turned d in record { report = t.report; frames = capture_front Pcap d.routers ++ t.frames; events = t.events }
 
 -- what the lines come to after that
 abbrev pub shaken_course : DomainConf → List (List ℕ) → Course HandState
