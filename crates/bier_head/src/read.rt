@@ -82,6 +82,7 @@ fn header_with(kind: Kind, bsl: Bsl, bytes: &[u8]) -> Result<Header, HeadFault>
     Ok(fields(bsl, bytes))
 }
 
+#[inline(always)]
 #[tactic(auto, unfolding(wire_base::specs::model::BierHeader::coded_header_at))]
 fn header_by_field(kind: Kind, bytes: &[u8]) -> Result<Header, HeadFault>
     ensures { Gives header_of result (coded_header_at kind bytes.now) }
@@ -105,7 +106,9 @@ fn header_by_field(kind: Kind, bytes: &[u8]) -> Result<Header, HeadFault>
     Ok(fields(bsl, bytes))
 }
 
-// Returns the header at the front, without tests.
+// Returns the header at the front, without tests. It is inlined, since a header has room for the longest BitString, and is
+// built where the caller wants it then, without being moved.
+#[inline(always)]
 fn fields(bsl: Bsl, bytes: &[u8]) -> Header
     requires { header_length bsl ≤ length bytes.now }
     ensures { header_of result ≡ fields_of bsl bytes.now }

@@ -113,8 +113,8 @@ pub fn accept(
             state.rows.push(row)?;
             Ok(0)
         }
-        HopLine::Packet(bits) => {
-            push_packet(alloc, out, line, state, ways, &bits)?;
+        HopLine::Packet(ref bits) => {
+            push_packet(alloc, out, line, state, ways, bits)?;
             state.packets = true;
             Ok(1)
         }

@@ -27,7 +27,13 @@ pub(crate) fn insert_within<T: Drop>(list: &mut Vec<T>, place: usize, item: T)
     ensures len { vec_len list.new ≡ vec_len list.old + 1 }
     ensures capacity { vec_capacity list.old ≤ vec_capacity list.new }
 {
-    let _done = list.insert(place, item);
+    // An index below 2^16 does not wrap around when it is incremented. The compiler knows this from the type, and moves the
+    // elements from there on by one `memmove`, where it otherwise moves them by a loop.
+    let _done = if place < 65_536 {
+        list.insert((place as u16) as usize, item)
+    } else {
+        list.insert(place, item)
+    };
 }
 
 impl MaskList {

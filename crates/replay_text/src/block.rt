@@ -149,6 +149,7 @@ impl Block {
     pub fn put(&mut self, out: &mut Octets, text: &[u8]) -> M<()>
         ensures ok { OnOk result (out.new ++ self.new ≡ out.old ++ (self.old ++ text.now)) }
         ensures err { OnErr result ((out.new ≡ out.old) × (self.new ≡ self.old)) }
+        ensures full { OnErr result (128 < length self.old + length text.now) }
     {
         if text.len() > ROOM {
             out.append_two(self.as_slice(), text)?;

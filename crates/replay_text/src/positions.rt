@@ -29,7 +29,7 @@ pub fn push_positions(out: &mut Octets, bits: &AnyBits) -> M<()>
 }
 
 /// Does the same for a bit string of one width.
-pub fn push_set<const W: usize>(out: &mut Octets, set: &BitString<W>) -> M<()>
+fn push_set<const W: usize>(out: &mut Octets, set: &BitString<W>) -> M<()>
     requires { IsTrue (is_width W) }
     ensures ok { OnOk result (out.new ≡ out.old ++ ids_text set.now) }
     ensures err { OnErr result (out.new ≡ out.old) }
