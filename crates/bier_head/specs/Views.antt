@@ -1,7 +1,11 @@
 -- A header as stored, modeled as the header of the standard.
+use Rattle.std.specs.Prelude.{ℕ, ◌/◌, List, take, drop}
 use Rattle.wire_base.specs.model.BierHeader.{BierHeader}
+use Rattle.wire_base.specs.model.BitSet.{set_of}
+use Rattle.wire_base.specs.model.Place.{bits_of}
 use Rattle.bier_bits.specs.Any.{bsl_of, positions_of}
 use Rattle.bier_head.specs.declared.header.Header.{Header}
+use Rattle.bier_head.specs.declared.header.HeaderFields.{HeaderFields}
 
 abbrev pub header_of : Header → BierHeader
 header_of h = record {
@@ -19,4 +23,23 @@ header_of h = record {
   bfir = h.bfir;
   bsl = bsl_of h.bits;
   positions = positions_of h.bits;
+}
+
+-- the header at the front of octets, which has those fields
+abbrev pub header_in : List ℕ → HeaderFields → BierHeader
+header_in octets f = record {
+  bift = f.bift;
+  tc = f.tc;
+  s = f.s;
+  ttl = f.ttl;
+  nibble = f.nibble;
+  bsl_code = f.bsl_code;
+  entropy = f.entropy;
+  oam = f.oam;
+  rsv = f.rsv;
+  dscp = f.dscp;
+  proto = f.proto;
+  bfir = f.bfir;
+  bsl = f.bsl;
+  positions = set_of (take (bits_of f.bsl / 8) (drop 12 octets));
 }

@@ -8,7 +8,7 @@ mod header;
 mod read;
 mod write;
 
-pub use header::Header;
-pub use read::{read_by_field, read_header};
+pub use header::{Header, HeaderFields};
+pub use read::{read_by_field, read_fields, read_header};
 pub use wire_base::HeadFault;
 pub use write::{write_copy, write_header};

@@ -4,9 +4,9 @@ ghost use Rattle.wire_base.specs.model.Fields.{Gives};
 ghost use Rattle.wire_base.specs.model.Place.{code_of};
 ghost use Rattle.wire_base.specs.model.BierHeader.{BierHeader, IsHeader, header_length, header_octets, header_at, coded_header_at, fields_of, has_wrong_nibble};
 ghost use Rattle.bier_bits.specs.Any.{bsl_of};
-ghost use Rattle.bier_head.specs.Views.{header_of};
+ghost use Rattle.bier_head.specs.Views.{header_in, header_of};
 
-use crate::header::Header;
+use crate::header::{Header, HeaderFields};
 use bier_bits::AnyBits;
 use wire_base::fields::word_at;
 use wire_base::{Bsl, HeadFault, Kind};
@@ -79,13 +79,19 @@ fn header_with(kind: Kind, bsl: Bsl, bytes: &[u8]) -> Result<Header, HeadFault>
     if second / 0x100_0000 % 16 != 0 {
         return Err(HeadFault::Version);
     }
-    Ok(fields(bsl, bytes))
+    Ok(whole(&fields(bsl, bytes), bytes))
 }
 
-#[inline(always)]
+/// Parses the fields of the header that [`read_by_field`] returns, and leaves its BitString where it is:
+/// [`HeaderFields::bit_string`] returns its octets.
+///
+/// # Errors
+///
+/// Those of [`read_by_field`].
 #[tactic(auto, unfolding(wire_base::specs::model::BierHeader::coded_header_at))]
-fn header_by_field(kind: Kind, bytes: &[u8]) -> Result<Header, HeadFault>
-    ensures { Gives header_of result (coded_header_at kind bytes.now) }
+pub fn read_fields(kind: Kind, bytes: &[u8]) -> Result<HeaderFields, HeadFault>
+    ensures exact { Gives (header_in bytes.now) result (coded_header_at kind bytes.now) }
+    ensures room { IfOk result (λ f. header_length f.bsl ≤ length bytes.now) }
 {
     if bytes.len() < 12 {
         return Err(HeadFault::Short);
@@ -106,17 +112,25 @@ fn header_by_field(kind: Kind, bytes: &[u8]) -> Result<Header, HeadFault>
     Ok(fields(bsl, bytes))
 }
 
-// Returns the header at the front, without tests. It is inlined, since a header has room for the longest BitString, and is
-// built where the caller wants it then, without being moved.
-#[inline(always)]
-fn fields(bsl: Bsl, bytes: &[u8]) -> Header
+fn header_by_field(kind: Kind, bytes: &[u8]) -> Result<Header, HeadFault>
+    ensures { Gives header_of result (coded_header_at kind bytes.now) }
+{
+    match read_fields(kind, bytes) {
+        Ok(fields) => Ok(whole(&fields, bytes)),
+        Err(fault) => Err(fault),
+    }
+}
+
+// Returns the fields of the header at the front, without tests.
+fn fields(bsl: Bsl, bytes: &[u8]) -> HeaderFields
     requires { header_length bsl ≤ length bytes.now }
-    ensures { header_of result ≡ fields_of bsl bytes.now }
+    ensures exact { header_in bytes.now result ≡ fields_of bsl bytes.now }
+    ensures bsl { result.bsl ≡ bsl }
 {
     let first = word_at(bytes, 0);
     let second = word_at(bytes, 4);
     let third = word_at(bytes, 8);
-    Header {
+    HeaderFields {
         bift: first / 0x1000,
         tc: (first / 0x200 % 8) as u8,
         s: first / 0x100 % 2 == 1,
@@ -129,6 +143,28 @@ fn fields(bsl: Bsl, bytes: &[u8]) -> Header
         proto: (third / 0x1_0000 % 64) as u8,
         bfir: (third % 0x1_0000) as u16,
         bsl_code: (second / 0x10_0000 % 16) as u8,
-        bits: AnyBits::read(bsl, &bytes[12..octets_with(bsl)]),
+        bsl,
+    }
+}
+
+// Returns the header with those fields and the BitString that follows them.
+fn whole(fields: &HeaderFields, bytes: &[u8]) -> Header
+    requires { header_length fields.now.bsl ≤ length bytes.now }
+    ensures { header_of result ≡ header_in bytes.now fields.now }
+{
+    Header {
+        bift: fields.bift,
+        tc: fields.tc,
+        s: fields.s,
+        ttl: fields.ttl,
+        nibble: fields.nibble,
+        entropy: fields.entropy,
+        oam: fields.oam,
+        rsv: fields.rsv,
+        dscp: fields.dscp,
+        proto: fields.proto,
+        bfir: fields.bfir,
+        bsl_code: fields.bsl_code,
+        bits: AnyBits::read(fields.bsl, fields.bit_string(bytes)),
     }
 }

@@ -3,15 +3,15 @@ ghost use Rattle.std.specs.Prelude.{◌≡◌, ◌≤◌, ◌+◌, ◌++◌, ◌
 ghost use Rattle.std.specs.Fmt.{decimal};
 ghost use Rattle.wire_base.specs.model.Place.{bits_of};
 ghost use Rattle.wire_base.specs.model.Labels.{stack_at};
-ghost use Rattle.wire_base.specs.model.BierHeader.{coded_header_at};
-ghost use Rattle.bier_head.specs.Views.{header_of};
+ghost use Rattle.wire_base.specs.model.BierHeader.{coded_header_at, header_length};
+ghost use Rattle.bier_head.specs.Views.{header_in};
 ghost use Rattle.command_headers.specs.HeadersText.{sight_in};
 ghost use Rattle.command_headers.specs.Sight as sight;
 
-use bier_head::{Header, read_by_field};
+use bier_head::{HeaderFields, read_fields};
 use link_frame::{Class, classify, read_stack};
 use pcapng_frames::NgRecord;
-use replay_text::{Block, push_rule, put_positions};
+use replay_text::{Block, push_rule, put_bit_string};
 use std::alloc::Global;
 use wire_base::{HeadFault, Kind, M, Octets};
 
@@ -58,12 +58,12 @@ fn put_three(line: &mut Block, first: u32, second: u32, third: u32)
 
 /// Writes the number of a record, its kind, and the fields of its header up to the bit positions into an empty block.
 #[tactic(auto, using(crate::proofs::Lines::front_put))]
-fn put_front(line: &mut Block, number: u64, kind: Kind, header: &Header)
+fn put_front(line: &mut Block, number: u64, kind: Kind, header: &HeaderFields)
     requires { line.old ≡ [] }
-    ensures { let h = header_of header.now in
+    ensures { let h = header.now in
         line.new ≡ decimal number ++ (sight.kind_text kind ++ (sight.three_text h.bift h.ttl (bits_of h.bsl) ++ sight.three_text h.entropy h.proto h.bfir)) }
 {
-    let bits = header.bits.bsl().bits();
+    let bits = header.bsl.bits();
     line.number(number);
     line.append(kind_text(kind));
     put_three(line, header.bift, u32::from(header.ttl), u32::from(bits));
@@ -75,13 +75,20 @@ fn put_front(line: &mut Block, number: u64, kind: Kind, header: &Header)
     );
 }
 
-/// Appends the line of a record with a header.
-fn push_seen(out: &mut Octets, number: u64, kind: Kind, header: &Header) -> M<()>
-    ensures { OnOk result (out.new ≡ out.old ++ (decimal number ++ (sight.kind_text kind ++ sight.header_text (header_of header.now)))) }
+/// Appends the line of a record with a header, which has those fields and is at the front of those octets.
+fn push_seen(
+    out: &mut Octets,
+    number: u64,
+    kind: Kind,
+    header: &HeaderFields,
+    bytes: &[u8],
+) -> M<()>
+    requires { header_length header.now.bsl ≤ length bytes.now }
+    ensures { OnOk result (out.new ≡ out.old ++ (decimal number ++ (sight.kind_text kind ++ sight.header_text (header_in bytes.now header.now)))) }
 {
     let mut line = Block::new();
     put_front(&mut line, number, kind, header);
-    put_positions(out, &mut line, &header.bits)?;
+    put_bit_string(out, &mut line, header.bsl, header.bit_string(bytes))?;
     line.make_room(out)?;
     line.push(b'\n');
     out.append(line.as_slice())
@@ -93,16 +100,14 @@ fn push_header(out: &mut Octets, number: u64, kind: Kind, bytes: &[u8]) -> M<u64
     ensures text { OnOk result (out.new ≡ out.old ++ sight.sight_text number (sight.sight_by kind (coded_header_at kind bytes.now))) }
     ensures count { IfOk result (λ count. count ≡ sight.sight_count (sight.sight_by kind (coded_header_at kind bytes.now))) }
 {
-    // The header stays where it was read: a move copies as many octets as the longest BitString has.
-    let read = read_by_field(kind, bytes);
-    match &read {
+    match read_fields(kind, bytes) {
         Ok(header) => {
-            push_seen(out, number, kind, header)?;
+            push_seen(out, number, kind, &header, bytes)?;
             Ok(1)
         }
         Err(fault) => {
             out.append_number(number)?;
-            push_bad(out, *fault)?;
+            push_bad(out, fault)?;
             Ok(0)
         }
     }

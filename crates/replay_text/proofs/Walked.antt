@@ -13,9 +13,9 @@ abbrev pub behind_comma : ℕ → List ℕ
 behind_comma next = 44 ∷ decimal next
 
 -- a text and the block behind it, with the comma and the number of one position more
-pub written_more : (old base out block out' block' comma number done : List ℕ) (p : ℕ) → out ++ block ≡ old ++ (base ++ flat_map behind_comma done) → out' ++ block' ≡ out ++ block → comma ≡ block' ++ 44 ∷ [] → number ≡ comma ++ decimal p → out' ++ number ≡ old ++ (base ++ flat_map behind_comma (done ++ p ∷ []))
-written_more old base out block out' block' comma number done p so_far moved is_comma is_number =
-    ap (λ (l : List ℕ). out' ++ l) (is_number ∙ ap (λ (l : List ℕ). l ++ decimal p) is_comma ∙ append_assoc block' (44 ∷ []) (decimal p))
+pub written_more : (old base out block out' block' number done : List ℕ) (p : ℕ) → out ++ block ≡ old ++ (base ++ flat_map behind_comma done) → out' ++ block' ≡ out ++ block → number ≡ block' ++ behind_comma p → out' ++ number ≡ old ++ (base ++ flat_map behind_comma (done ++ p ∷ []))
+written_more old base out block out' block' number done p so_far moved is_number =
+    ap (λ (l : List ℕ). out' ++ l) is_number
     ∙ sym (append_assoc out' block' (behind_comma p)) ∙ ap (λ (l : List ℕ). l ++ behind_comma p) (moved ∙ so_far)
     ∙ append_assoc old (base ++ flat_map behind_comma done) (behind_comma p) ∙ ap (λ (l : List ℕ). old ++ l) (append_assoc base (flat_map behind_comma done) (behind_comma p)
     ∙ ap (λ (l : List ℕ). base ++ l) (sym (flat_map-append behind_comma done (p ∷ []) ∙ ap (λ (l : List ℕ). flat_map behind_comma done ++ l) (append_nil (behind_comma p)))))

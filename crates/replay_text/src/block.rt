@@ -101,6 +101,18 @@ impl Block {
         self.len = put_few(&mut self.room, at, number);
     }
 
+    /// Appends a comma and the decimal digits of a number below 10,000.
+    pub fn listed(&mut self, number: u16)
+        requires small { number < 10000 }
+        requires room { length self.old ≤ 123 }
+        ensures text { self.new ≡ self.old ++ 44 ∷ decimal number }
+        ensures len { length self.new ≤ length self.old + 5 }
+    {
+        let at = self.len();
+        let behind = put(&mut self.room, at, b',');
+        self.len = put_few(&mut self.room, behind, number);
+    }
+
     /// Appends the block to a text and empties it, if it has no room for a comma and four digits. Otherwise nothing changes,
     /// nor does it if an allocation fails.
     #[inline(always)]

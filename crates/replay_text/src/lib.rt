@@ -35,6 +35,6 @@ pub use hop_line::read_hop_line;
 pub use ids::push_ids;
 pub use payload::push_payload;
 pub use pieces::next_line;
-pub use positions::{push_positions, put_positions, put_set};
+pub use positions::{push_positions, put_bit_string, put_set};
 pub use report::{push_cause, push_loss, push_number};
 pub use schedule_line::read_line;

@@ -2,6 +2,8 @@
 ghost use Rattle.std.specs.Prelude.{◌≡◌, ◌≤◌, ◌*◌, ◌++◌, ◌∷◌, List, ℕ, length, take, IsTrue, OnOk, OnErr};
 ghost use Rattle.std.specs.Fmt.{decimal};
 ghost use Rattle.std.specs.List.{flat_map};
+ghost use Rattle.wire_base.specs.model.BitSet.{set_of};
+ghost use Rattle.wire_base.specs.model.Place.{bits_of};
 ghost use Rattle.bier_bits.specs.Any.{positions_of};
 ghost use Rattle.bier_bits.specs.Sets.{is_width, from_on};
 ghost use Rattle.replay_text.specs.Ids.{ids_text};
@@ -9,7 +11,7 @@ ghost use Rattle.replay_text.specs.Room.{IsFront};
 
 use crate::block::Block;
 use bier_bits::{AnyBits, BitString};
-use wire_base::{M, Octets};
+use wire_base::{Bsl, M, Octets};
 
 /// Appends the bit positions of a bit string, from 1, separated by commas, or `-` for none. If an allocation fails,
 /// nothing is appended.
@@ -54,22 +56,23 @@ fn push_members<const W: usize>(out: &mut Octets, set: &BitString<W>) -> M<()>
     out.append(block.as_slice())
 }
 
-/// Appends the bit positions of a bit string to the text that a block ends. The block is appended to the text each time
-/// that it is full. If an allocation fails, the old text and the old block stand in full, and a front part of the
-/// positions' text may follow them.
-pub fn put_positions(out: &mut Octets, block: &mut Block, bits: &AnyBits) -> M<()>
-    ensures ok { OnOk result (out.new ++ block.new ≡ out.old ++ (block.old ++ ids_text (positions_of bits.now))) }
-    ensures err { OnErr result (IsFront (out.old ++ block.old) (ids_text (positions_of bits.now)) (out.new ++ block.new)) }
+/// Appends the bit positions of a BitString of that length, which is given by its octets in network order (RFC 8296, 2.1.2), to
+/// the text that a block ends. The block is appended to the text each time that it is full. If an allocation fails, the old text
+/// and the old block stand in full, and a front part of the positions' text may follow them.
+pub fn put_bit_string(out: &mut Octets, block: &mut Block, bsl: Bsl, octets: &[u8]) -> M<()>
+    requires { 8 * length octets.now ≡ bits_of bsl }
+    ensures ok { OnOk result (out.new ++ block.new ≡ out.old ++ (block.old ++ ids_text (set_of octets.now))) }
+    ensures err { OnErr result (IsFront (out.old ++ block.old) (ids_text (set_of octets.now)) (out.new ++ block.new)) }
     ensures front { (text : List ℕ) → take (length text) out.old ≡ text → take (length text) out.new ≡ text }
 {
-    match bits {
-        AnyBits::B64(set) => put_set(out, block, set),
-        AnyBits::B128(set) => put_set(out, block, set),
-        AnyBits::B256(set) => put_set(out, block, set),
-        AnyBits::B512(set) => put_set(out, block, set),
-        AnyBits::B1024(set) => put_set(out, block, set),
-        AnyBits::B2048(set) => put_set(out, block, set),
-        AnyBits::B4096(set) => put_set(out, block, set),
+    match bsl {
+        Bsl::B64 => put_set(out, block, &BitString::<1>::read(octets)),
+        Bsl::B128 => put_set(out, block, &BitString::<2>::read(octets)),
+        Bsl::B256 => put_set(out, block, &BitString::<4>::read(octets)),
+        Bsl::B512 => put_set(out, block, &BitString::<8>::read(octets)),
+        Bsl::B1024 => put_set(out, block, &BitString::<16>::read(octets)),
+        Bsl::B2048 => put_set(out, block, &BitString::<32>::read(octets)),
+        Bsl::B4096 => put_set(out, block, &BitString::<64>::read(octets)),
     }
 }
 
@@ -106,8 +109,7 @@ fn put_from<const W: usize>(
     let mut low = start;
     'positions: while let Some(position) = set.next_from(low) {
         block.make_room(out)?;
-        block.push(b',');
-        block.few(position);
+        block.listed(position);
         low = position + 1;
     }
     Ok(())

@@ -8,7 +8,7 @@ positions-preserved g c =
     let done = c.positions.invariant.0 in
     let set = c.args.set.now in (
       done ++ c.in-Some.position ∷ [],
-      written_more c.args.out.now c.args.block.now c.positions.out c.positions.block c.make_room.new.out c.make_room.new.self c.push.new.self c.few.new.self done c.in-Some.position c.positions.invariant.1 c.in_ok-make_room.ensures.same c.push.ensures.text c.few.ensures.text,
+      written_more c.args.out.now c.args.block.now c.positions.out c.positions.block c.make_room.new.out c.make_room.new.self c.listed.new.self done c.in-Some.position c.positions.invariant.1 c.in_ok-make_room.ensures.same c.listed.ensures.text,
       left_more (from_on c.args.start set) done (from_on c.positions.low set) (from_on (c.in-Some.position + 1) set) c.in-Some.position c.positions.invariant.2 c.in-Some.ensures.rest,
       λ text was. c.make_room.ensures.front text (c.positions.invariant.3 text was),
     )
