@@ -1,5 +1,5 @@
 -- Words that are marked where they are not 0.
-use Rattle.std.proofs.Common.{◌≡◌, ℕ, ◌+◌, ◌-◌, ◌*◌, ◌/◌, ◌%◌, ◌^◌, ◌<◌, ◌≤◌, List, length, get_or, set, bit_and, bit_or, w64, refl, sym, ap, ◌∙◌, arith, inl, inr}
+use Rattle.std.proofs.Common.{◌≡◌, ◌≢◌, ℕ, ◌+◌, ◌-◌, ◌*◌, ◌/◌, ◌%◌, ◌^◌, ◌<◌, ◌≤◌, List, length, get_or, set, bit_and, bit_or, w64, refl, sym, ap, ◌∙◌, arith, inl, inr}
 use Rattle.std.specs.Int.{bit_at, trailing_zeros}
 use Rattle.std.specs.Int.Bits.{and_zero_l, and_zero_r}
 use Rattle.std.proofs.lemmas.Bool.{cases_lt, cases_eq}
@@ -50,6 +50,16 @@ marked_set words marks now n x lt kept marked are k none = elim (cases_eq k n) [
 
 pub marked_bit : (words : List ℕ) (marks n x : ℕ) → n < length words → n < 64 → AreMarked marks words → AreMarked (bit_or marks (1 * 2 ^ n % 2 ^ 64)) (set words n x)
 marked_bit words marks n x lt low are = marked_set words marks (bit_or marks (1 * 2 ^ n % 2 ^ 64)) n x lt (λ j none. mark_kept marks (1 * 2 ^ n % 2 ^ 64) j none) (mark_set marks n x low) are
+
+-- one word, which is still marked unless it is 0
+pub kept_marked : (words : List ℕ) (marks now n x : ℕ) → n < length words → length words ≤ 64 → ((j : ℕ) → j < 64 → j ≢ n → bit_at now j ≡ 0 → bit_at marks j ≡ 0) → (bit_at now n ≡ 0 → 0 < x → bit_at marks n ≡ 0) → (get_or words n 0 ≡ 0 → x ≡ 0) → AreMarked marks words → AreMarked now (set words n x)
+kept_marked words marks now n x lt few others here cut are k none = elim (cases_eq k n) [
+  | inl e ↦ ap (λ (j : ℕ). get_or (set words n x) j 0) e ∙ get_or-set_same words n x 0 lt ∙ (elim (cases_lt 0 x) [
+    | inl some ↦ cut (are n (here (sym (ap (bit_at now) e) ∙ none) some))
+    | inr zero ↦ omega (arith, zero)
+  ])
+  | inr ne ↦ get_or-set_other words n k x 0 ne ∙ inside words k (λ low. are k (others k (omega (arith, low, few)) ne none))
+]
 
 -- ---- words that are joined
 

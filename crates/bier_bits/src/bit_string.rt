@@ -157,8 +157,19 @@ impl<const W: usize> BitString<W> {
     {
         let mut lanes = [0; W];
         let shared = self.marks & mask.marks;
-        let marks = cut(&mut self.lanes, &mask.lanes, &mut lanes, shared, 0);
-        BitString { lanes, marks }
+        let marks = cut(
+            &mut self.lanes,
+            &mask.lanes,
+            &mut lanes,
+            self.marks,
+            shared,
+            0,
+        );
+        self.marks = marks.left;
+        BitString {
+            lanes,
+            marks: marks.taken,
+        }
     }
 
     /// Like `cut`, if the mask has no position below `bp` that is set in `self`: those words are skipped. The positions that were
@@ -175,7 +186,16 @@ impl<const W: usize> BitString<W> {
         let from = usize::from(bp - 1) / 64;
         let shared = self.marks & mask.marks;
         clear(&mut taken.lanes, taken.marks);
-        taken.marks = cut(&mut self.lanes, &mask.lanes, &mut taken.lanes, shared, from);
+        let marks = cut(
+            &mut self.lanes,
+            &mask.lanes,
+            &mut taken.lanes,
+            self.marks,
+            shared,
+            from,
+        );
+        self.marks = marks.left;
+        taken.marks = marks.taken;
     }
 
     /// Returns the union.

@@ -2,7 +2,7 @@
 //! sparse slices are visited by their marks.
 //!
 //! The marks of at most 64 words are one word: bit k is set if word k is not 0, and may be set if it is 0.
-ghost use Rattle.std.specs.Prelude.{◌≡◌, ◌≤◌, ◌<◌, ◌+◌, ◌*◌, ℕ, length, slice_index, bit_and, bit_or, MatchOption};
+ghost use Rattle.std.specs.Prelude.{◌≡◌, ◌≢◌, ◌≤◌, ◌<◌, ◌+◌, ◌*◌, ℕ, length, slice_index, bit_and, bit_or, MatchOption};
 ghost use Rattle.std.specs.Int.{bit_at, bit_not, w64};
 ghost use Rattle.std.specs.Simd.Lanes.{zip2, chunk, put_chunk};
 ghost use Rattle.bier_bits.specs.Sets.{AreWords, AreMarked, AreSharedMarks, IsNextPlace, NoPlace, has_place, has_both, places_in, and_not};
@@ -105,6 +105,18 @@ pub fn with_mark(marks: u64, k: usize, word: u64) -> u64
     marks | 1 << k
 }
 
+/// Returns the marks, without that of word `k` if the word is 0.
+fn kept_mark(marks: u64, k: usize, word: u64) -> u64
+    requires { k < 64 }
+    ensures others { (j : ℕ) → j < 64 → j ≢ k → bit_at result j ≡ 0 → bit_at marks j ≡ 0 }
+    ensures here { bit_at result k ≡ 0 → 0 < word → bit_at marks k ≡ 0 }
+{
+    if word == 0 {
+        return marks & !(1 << k);
+    }
+    marks
+}
+
 /// Returns the least index of a mark from an index on. If there is none, the result is at least 64.
 fn next_mark(marks: u64, from: usize) -> usize
     ensures low { from ≤ result }
@@ -134,30 +146,53 @@ pub fn clear(words: &mut [u64], marks: u64)
     }
 }
 
-/// Clears the bits of a mask in `words` and sets the cleared ones in `taken`, which is empty. Returns the marks of `taken`.
-/// `shared` has the marks of the words that may share a bit with the mask. Below the word `from` they share none.
-pub fn cut(words: &mut [u64], mask: &[u64], taken: &mut [u64], shared: u64, from: usize) -> u64
+/// The marks of the words of a set that was cut, and of the words of what was taken from it.
+#[derive(Clone, Copy)]
+pub struct CutMarks {
+    pub left: u64,
+    pub taken: u64,
+}
+
+/// Clears the bits of a mask in `words` and sets the cleared ones in `taken`, which is empty. Returns the marks of both; a word
+/// that has no bit any more is not marked, so that it isn't visited again. `marks` has those of `words`, and `shared` those of
+/// the words that may share a bit with the mask. Below the word `from` they share none.
+pub fn cut(
+    words: &mut [u64],
+    mask: &[u64],
+    taken: &mut [u64],
+    marks: u64,
+    shared: u64,
+    from: usize,
+) -> CutMarks
     requires mask { length mask.now ≡ length words.old }
     requires taken { length taken.old ≡ length words.old }
     requires few { length words.old ≤ 64 }
+    requires marked { AreMarked marks words.old }
     requires shared { AreSharedMarks shared words.old mask.now }
     requires none { NoPlace (has_both words.old mask.now) 0 (64 * from) }
     requires empty { (k : ℕ) → slice_index taken.old k ≡ 0 }
     ensures fits { AreWords mask.now }
     ensures taken { (k : ℕ) → k < length words.old → slice_index taken.new k ≡ bit_and (slice_index words.old k) (slice_index mask.now k) }
     ensures left { (k : ℕ) → k < length words.old → slice_index words.new k ≡ and_not (slice_index words.old k) (slice_index mask.now k) }
-    ensures marked { AreMarked result taken.new }
+    ensures marked { AreMarked result.taken taken.new }
+    ensures still_marked { AreMarked result.left words.new }
 {
-    let mut marks = 0;
+    let mut left_marks = marks;
+    let mut taken_marks = 0;
     let mut k = next_mark(shared, from);
     'visits: while k < words.len() {
         let both = words[k] & mask[k];
-        words[k] &= !mask[k];
+        let left = words[k] & !mask[k];
+        words[k] = left;
         taken[k] = both;
-        marks = with_mark(marks, k, both);
+        left_marks = kept_mark(left_marks, k, left);
+        taken_marks = with_mark(taken_marks, k, both);
         k = next_mark(shared, k + 1);
     }
-    marks
+    CutMarks {
+        left: left_marks,
+        taken: taken_marks,
+    }
 }
 
 /// Returns the index of the first set bit from an index on. Bits are counted from 0 through all words, the least significant
