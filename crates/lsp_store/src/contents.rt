@@ -1,7 +1,8 @@
-//! Contents of LSPs that several LSDBs share.
+//! Contents of LSPs, and topologies, that several LSDBs share.
 ghost use Rattle.std.specs.Prelude.{◌≡◌, ◌<◌, IfOk};
 
 use crate::keys::system_key;
+use crate::topologies::Topologies;
 use std::alloc::Global;
 use std::cell::RefCell;
 use std::rc::Rc;
@@ -10,12 +11,14 @@ use wire_base::{LspId, M, Octets};
 /// For how many LSP IDs the last content is remembered. Where two share a place, the later one takes it.
 const PLACES: usize = 4_096;
 
-/// The contents of LSPs that were stored last.
+/// The contents of LSPs that were stored last, and the topology that was computed last.
 ///
-/// The routers of a domain mostly store the same LSPs. LSDBs that have the same `Contents` store equal contents of an LSP once.
+/// The routers of a domain mostly store the same LSPs. LSDBs that have the same `Contents` store equal contents of an LSP once, and
+/// routers whose LSDBs advertise the same store their topology once.
 #[derive(Drop)]
 pub struct Contents {
     last: Rc<RefCell<Vec<Octets>>>,
+    topologies: Topologies,
 }
 
 /// Returns the place where the last content of an LSP ID is remembered.
@@ -46,6 +49,7 @@ impl Contents {
     pub fn new(alloc: Global) -> M<Self> {
         Ok(Contents {
             last: Rc::new(alloc, RefCell::new(Vec::new(alloc)))?,
+            topologies: Topologies::new(alloc)?,
         })
     }
 
@@ -53,7 +57,13 @@ impl Contents {
     pub fn share(&self) -> M<Self> {
         Ok(Contents {
             last: self.last.clone()?,
+            topologies: self.topologies.share()?,
         })
+    }
+
+    /// Returns the topologies.
+    pub(crate) fn topologies(&self) -> &Topologies {
+        &self.topologies
     }
 
     /// Returns a list of those octets, the content of an LSP. If the last content of that LSP ID is equal, the two are stored once.

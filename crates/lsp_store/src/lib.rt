@@ -6,16 +6,19 @@
 #![tactic(auto)]
 
 mod ages;
+mod alike;
 mod contents;
 mod entries;
 mod keys;
 mod places;
 mod seconds;
 mod store;
+mod topologies;
 
 pub use contents::Contents;
 pub use entries::{purge, received};
 pub use keys::{is_same_id, is_system_above, system_key};
 pub use places::{Keyed, place_near, place_of, stands_at};
 pub use store::Store;
+pub use topologies::SharedView;
 pub use wire_base::{Age, Aged, Entry, PutFault};

@@ -3,23 +3,25 @@ ghost use Rattle.wire_base.specs.model.Control.{IsDatabase, ids_of, entry_in, pu
 ghost use Rattle.wire_base.specs.model.Flooding.{kept};
 ghost use Rattle.wire_base.specs.declared.faults.PutFault.TheVariants.{Memory};
 ghost use Rattle.lsp_store.specs.Places.{IsPlace, is_new, place_in, PutAnswers, IsSecondAt};
+ghost use Rattle.lsp_store.specs.Topologies.{AreNodesOf, seen_claims};
 
 use crate::ages::age_beside;
 use crate::contents::Contents;
 use crate::entries::{live, purge};
 use crate::places::{place_near, place_of, stands_at};
 use crate::seconds::{is_removed, pass_second};
+use crate::topologies::SharedView;
 use std::alloc::Global;
 use std::marker::Model;
 use wire_base::limits::MOST_ENTRIES;
-use wire_base::{Age, Aged, Entry, LspId, M, Octets, PutFault, Summary};
+use wire_base::{Age, Aged, Entry, LspId, M, Octets, PutFault, Rows, SubKind, Summary};
 
 /// An LSDB: at most `MOST_ENTRIES` entries in the order of their LSP IDs, no LSP ID twice. Contracts model it as these entries, and
 /// the number of new entries for which memory is already allocated.
 #[derive(Drop)]
 pub struct Store {
     items: Vec<Entry>,
-    /// Where the contents of received LSPs are stored, if not by this LSDB alone.
+    /// Where the contents of received LSPs and the topology are stored, if not by this LSDB and its router alone.
     contents: Option<Contents>,
 }
 
@@ -69,7 +71,8 @@ impl Store {
         }
     }
 
-    /// Has the contents of LSPs that are received from now on stored once for all LSDBs with these `Contents`.
+    /// Has the contents of LSPs that are received from now on stored once for all LSDBs with these `Contents`, and topologies that
+    /// are computed from now on once for all routers with these LSDBs.
     pub fn share_contents(&mut self, contents: Contents)
         ensures { self.new ≡ self.old }
     {
@@ -101,6 +104,38 @@ impl Store {
         match &self.contents {
             None => Octets::from_slice(self.allocator(), tlvs),
             Some(contents) => contents.content(self.allocator(), id, tlvs),
+        }
+    }
+
+    /// Returns whether topologies are shared with other LSDBs.
+    pub fn shares_views(&self) -> bool {
+        self.contents.is_some()
+    }
+
+    /// Returns the topology of this LSDB for those kinds of sub-domains, if it was noted last among the LSDBs with the same `Contents`,
+    /// for this LSDB or for one that differs at most in sequence numbers, checksums and lifetimes of live LSPs.
+    pub fn known_view(&self, kinds: &[SubKind]) -> M<Option<SharedView>>
+        ensures { IfOk result (λ found. IfSome found (λ s. AreNodesOf (seen_claims kinds.now self.now.entries) s.view.value.nodes s.is_whole)) }
+    {
+        match &self.contents {
+            None => Ok(None),
+            Some(contents) => contents.topologies().known(kinds, self.items.as_slice()),
+        }
+    }
+
+    /// Notes a topology of this LSDB for those kinds of sub-domains, in place of the one that was noted before. Does nothing if
+    /// topologies are not shared. Errors if an allocation fails.
+    pub fn note_view(&self, kinds: &Rows<SubKind>, shared: &SharedView) -> M<()>
+        requires { AreNodesOf (seen_claims kinds.now self.now.entries) shared.now.view.value.nodes shared.now.is_whole }
+    {
+        match &self.contents {
+            None => Ok(()),
+            Some(contents) => {
+                let entries = self.items.as_slice();
+                contents
+                    .topologies()
+                    .note(self.allocator(), kinds, entries, shared)
+            }
         }
     }
 

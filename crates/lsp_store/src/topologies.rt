@@ -1,0 +1,149 @@
+//! The topology that was computed last, which several LSDBs share.
+ghost use Rattle.std.specs.Prelude.{◌≡◌, ◌++◌, ◌∷◌, [], OnOk, IfOk, IfSome};
+ghost use Rattle.lsp_store.specs.Topologies.{AreNodesOf, seen_claims};
+
+use crate::alike::{are_alike, are_same_kinds};
+use std::alloc::Global;
+use std::cell::RefCell;
+use std::marker::Model;
+use std::rc::Rc;
+use wire_base::{Entry, M, Rows, SubKind, View};
+
+/// A topology that is stored once for all routers that have it.
+#[derive(Drop)]
+pub struct SharedView {
+    pub view: Rc<View>,
+    /// Whether no node lacks a membership because another system has its prefix.
+    pub is_whole: bool,
+}
+
+impl SharedView {
+    /// Returns the same topology, in the same memory.
+    pub fn share(&self) -> M<Self>
+        ensures view { IfOk result (λ shared. shared.view.value ≡ self.now.view.value) }
+        ensures whole { IfOk result (λ shared. shared.is_whole ≡ self.now.is_whole) }
+    {
+        Ok(SharedView {
+            view: self.view.clone()?,
+            is_whole: self.is_whole,
+        })
+    }
+}
+
+/// A topology, and the kinds of sub-domains and the LSDB that it follows from.
+#[derive(Drop)]
+struct Noted {
+    kinds: Rows<SubKind>,
+    entries: Vec<Entry>,
+    shared: SharedView,
+}
+
+impl Model for Noted {
+    ghost use Rattle.lsp_store.specs.Topologies.{AreNodesOf, NotedView, seen_claims};
+
+    ghost Value = { NotedView };
+
+    ghost view = { λ n. record { kinds = n.kinds; entries = n.entries.items; nodes = n.shared.view.value.nodes; is_whole = n.shared.is_whole } };
+
+    ghost invariant = { λ n. AreNodesOf (seen_claims n.kinds n.entries.items) n.shared.view.value.nodes n.shared.is_whole };
+}
+
+fn copy_of(entry: &Entry) -> M<Entry>
+    ensures { IfOk result (λ copied. copied ≡ entry.now) }
+{
+    Ok(Entry {
+        id: entry.id,
+        seq: entry.seq,
+        life: entry.life,
+        hold: entry.hold,
+        sum: entry.sum,
+        flags: entry.flags,
+        content: entry.content.copy()?,
+    })
+}
+
+fn copies_of(alloc: Global, entries: &[Entry]) -> M<Vec<Entry>>
+    ensures { IfOk result (λ copied. copied.items ≡ entries.now) }
+{
+    let mut copied = Vec::with_capacity(alloc, entries.len())?;
+    'entries: for entry in entries {
+        copied.push(copy_of(entry)?)?;
+    }
+    Ok(copied)
+}
+
+impl Noted {
+    /// Returns the topology if it is that of an LSDB and of those kinds.
+    fn known(&self, kinds: &[SubKind], entries: &[Entry]) -> M<Option<SharedView>>
+        ensures { IfOk result (λ found. IfSome found (λ s. AreNodesOf (seen_claims kinds.now entries.now) s.view.value.nodes s.is_whole)) }
+    {
+        if are_same_kinds(self.kinds.as_slice(), kinds)
+            && are_alike(self.entries.as_slice(), entries)
+        {
+            return Ok(Some(self.shared.share()?));
+        }
+        Ok(None)
+    }
+}
+
+/// The topology that was noted last, which several LSDBs share.
+#[derive(Drop)]
+pub(crate) struct Topologies {
+    last: Rc<RefCell<Option<Noted>>>,
+}
+
+impl Topologies {
+    /// Creates a memory of no topology.
+    pub(crate) fn new(alloc: Global) -> M<Self> {
+        Ok(Topologies {
+            last: Rc::new(alloc, RefCell::new(None))?,
+        })
+    }
+
+    /// Returns the same memory, for another LSDB.
+    pub(crate) fn share(&self) -> M<Self> {
+        Ok(Topologies {
+            last: self.last.clone()?,
+        })
+    }
+
+    /// Returns the topology that was noted last, if it is that of an LSDB and of those kinds.
+    pub(crate) fn known(&self, kinds: &[SubKind], entries: &[Entry]) -> M<Option<SharedView>>
+        ensures { IfOk result (λ found. IfSome found (λ s. AreNodesOf (seen_claims kinds.now entries.now) s.view.value.nodes s.is_whole)) }
+    {
+        match self.last.try_borrow() {
+            Ok(last) => known_in(&*last, kinds, entries),
+            Err(_) => Ok(None),
+        }
+    }
+
+    /// Notes the topology of an LSDB, in place of the one before.
+    pub(crate) fn note(
+        &self,
+        alloc: Global,
+        kinds: &Rows<SubKind>,
+        entries: &[Entry],
+        shared: &SharedView,
+    ) -> M<()>
+        requires { AreNodesOf (seen_claims kinds.now entries.now) shared.now.view.value.nodes shared.now.is_whole }
+    {
+        let noted = Noted {
+            kinds: kinds.copy()?,
+            entries: copies_of(alloc, entries)?,
+            shared: shared.share()?,
+        };
+        if let Ok(mut last) = self.last.try_borrow_mut() {
+            *last = Some(noted);
+        }
+        Ok(())
+    }
+}
+
+fn known_in(last: &Option<Noted>, kinds: &[SubKind], entries: &[Entry]) -> M<Option<SharedView>>
+    ensures { IfOk result (λ found. IfSome found (λ s. AreNodesOf (seen_claims kinds.now entries.now) s.view.value.nodes s.is_whole)) }
+{
+    match last {
+        Some(noted) => noted.known(kinds, entries),
+        None => Ok(None),
+    }
+}
