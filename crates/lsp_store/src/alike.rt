@@ -2,6 +2,7 @@
 ghost use Rattle.std.specs.Prelude.{◌≡◌, true, map};
 ghost use Rattle.lsp_store.specs.Topologies.{as_read};
 
+use crate::same::are_same_octets;
 use wire_base::{Entry, SubKind};
 
 fn is_same_kind(a: SubKind, b: SubKind) -> bool
@@ -29,7 +30,7 @@ pub(crate) fn are_same_kinds(a: &[SubKind], b: &[SubKind]) -> bool
 fn is_alike(a: &Entry, b: &Entry) -> bool
     ensures { result ≡ true → as_read a.now ≡ as_read b.now }
 {
-    let are_same_contents = a.content.as_slice() == b.content.as_slice();
+    let are_same_contents = are_same_octets(a.content.as_slice(), b.content.as_slice());
     let is_alive = a.life > 0;
     a.id == b.id && a.flags == b.flags && is_alive == (b.life > 0) && are_same_contents
 }

@@ -2,6 +2,7 @@
 ghost use Rattle.std.specs.Prelude.{◌≡◌, ◌<◌, IfOk};
 
 use crate::keys::system_key;
+use crate::same::are_same_octets;
 use crate::topologies::Topologies;
 use std::alloc::Global;
 use std::cell::RefCell;
@@ -38,7 +39,7 @@ fn content_at(alloc: Global, last: &mut Vec<Octets>, place: usize, octets: &[u8]
     'places: while last.len() <= place {
         last.push(Octets::new(alloc))?;
     }
-    if last[place].as_slice() != octets {
+    if !are_same_octets(last[place].as_slice(), octets) {
         last[place] = Octets::from_slice(alloc, octets)?;
     }
     last[place].share()

@@ -11,6 +11,7 @@ mod contents;
 mod entries;
 mod keys;
 mod places;
+mod same;
 mod seconds;
 mod store;
 mod topologies;
