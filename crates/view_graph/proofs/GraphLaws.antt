@@ -56,7 +56,7 @@ octets_is (x ∷ xs) (y ∷ ys) = by (nat_lt x y) refl (x == y) refl (octets_is 
     by false a false e more = rw (a, e) refl
 
 -- of two fragments 0 the lower is of the lower system
-fragments_below : (a b : LspId) → a.pseudonode ≡ 0 → b.pseudonode ≡ 0 → a.fragment ≡ 0 → b.fragment ≡ 0 → is_below a b ≡ true → is_before a.system b.system ≡ true
+pub fragments_below : (a b : LspId) → a.pseudonode ≡ 0 → b.pseudonode ≡ 0 → a.fragment ≡ 0 → b.fragment ≡ 0 → is_below a b ≡ true → is_before a.system b.system ≡ true
 fragments_below a b pa pb fa fb h = by (system_order a.system b.system) refl (rw (pa, pb, fa, fb) at h)
   where
     by : (o : Ordering) → system_order a.system b.system ≡ o → is_lt (ordering_then (system_order a.system b.system) Equal) ≡ true → is_before a.system b.system ≡ true

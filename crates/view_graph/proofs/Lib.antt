@@ -14,6 +14,7 @@ pub mod OwnerLaws
 pub mod PatchLaws
 pub mod RenewalLaws
 pub mod SameLaws
+pub mod SeenLaws
 pub mod NodeClaimLaws
 pub mod SystemLaws
 pub mod ViewLaws

@@ -1,5 +1,6 @@
 pub mod Edges
 pub mod Places
+pub mod Held
 pub mod Keep
 pub mod Owners
 pub mod Renewal

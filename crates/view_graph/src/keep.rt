@@ -1,24 +1,19 @@
 //! A topology that is kept, and updated when systems change.
-ghost use Rattle.std.specs.Prelude.{◌≡◌, ◌↔◌, ◌≤◌, ◌<◌, length, map, true, false, IfOk, OnOk, OnErr};
-ghost use Rattle.std.specs.List.{AllByRecursion};
+ghost use Rattle.std.specs.Prelude.{◌≡◌, ◌↔◌, length, false, IfOk, OnOk, OnErr};
 ghost use Rattle.wire_base.specs.model.Configuration.{IsSound};
-ghost use Rattle.wire_base.specs.model.Control.{AreAscending, IsDatabase, ids_of};
-ghost use Rattle.wire_base.specs.model.Graph.{IsGraph};
-ghost use Rattle.wire_base.specs.model.View.{claims_of, view_of, with_known};
-ghost use Rattle.view_graph.specs.Edges.{AreInOrder};
-ghost use Rattle.view_graph.specs.Keep.{IsUnchanged, heard, without_system};
-ghost use Rattle.view_graph.specs.Renewal.{put_all};
+ghost use Rattle.wire_base.specs.model.View.{view_of};
+ghost use Rattle.view_graph.specs.Keep.{IsUnchanged, heard};
 
-use crate::claims::{Claim, claims_of};
-use crate::nodes::nodes_of;
+use crate::kept_view::KeptView;
 use crate::others::Others;
-use crate::patch::{NewNode, are_present, put_all};
+use crate::patch::are_present;
 use crate::renewal::patch_of;
 use crate::same::are_same_nodes;
+use crate::shared::kept_view;
 use lsp_store::Store;
 use std::alloc::Global;
 use std::marker::Model;
-use wire_base::{Entry, M, RouterConf, Rows, SubKind, SystemId, View};
+use wire_base::{M, RouterConf, Rows, SubKind, SystemId, View};
 
 /// The topology of a router, which is updated without reading the whole LSDB: an update reads what the changed systems advertise,
 /// and what the systems that they list advertise.
@@ -33,7 +28,7 @@ pub struct ViewKeep {
     others: Others,
     /// Whether no node lacks a membership because another system has its prefix.
     is_whole: bool,
-    view: View,
+    view: KeptView,
 }
 
 impl Model for ViewKeep {
@@ -46,31 +41,12 @@ impl Model for ViewKeep {
     ghost invariant = { λ k. IsKept k.system k.others.claims k.is_whole k.view.nodes };
 }
 
-/// Builds the topology from what all systems advertise.
-#[tactic(auto, using(crate::proofs::GraphLaws::claims_in_order, crate::proofs::GraphLaws::few_claims, crate::proofs::KeepLaws::heard_is))]
-fn all_claims(alloc: Global, conf: &RouterConf, up: &[bool], entries: &[Entry]) -> M<Vec<Claim>>
-    requires one_each { length up.now ≡ length conf.now.ends }
-    requires database { IsDatabase entries.now }
-    ensures claims { IfOk result (λ claims. claims.items ≡ map (with_known conf.now.kinds) (claims_of conf.now up.now entries.now)) }
-    ensures heard { IfOk result (λ claims. without_system conf.now.system claims.items ≡ heard conf.now.system conf.now.kinds entries.now) }
-    ensures order { IfOk result (λ claims. AreInOrder claims.items) }
-    ensures few { IfOk result (λ claims. length claims.items ≤ 65536) }
-{
-    claims_of(alloc, conf, up, entries)
-}
-
-/// Replaces nodes by rebuilt ones. Does not allocate.
-fn turn(view: &mut View, anew: Vec<NewNode>)
-    requires within { AllByRecursion (λ n. n.place < length view.old.nodes) anew.items }
-    requires graph { IsGraph (put_all anew.items view.old.nodes) }
-    ensures { view.new.nodes ≡ put_all anew.items view.old.nodes }
-{
-    put_all(&mut view.nodes, anew);
-}
-
 impl ViewKeep {
     /// Builds the topology from a configuration, a truth value for each interface (whether it is up), and an LSDB.
-    #[tactic(auto, unfolding(wire_base::specs::model::View::view_of), using(crate::proofs::ViewLaws::made_graph))]
+    ///
+    /// Where the LSDB contains of the router itself what the router advertises now, the topology follows from the LSDB alone, and
+    /// routers whose LSDBs have the same `Contents` compute and store it once.
+    #[tactic(auto, unfolding(wire_base::specs::model::View::view_of))]
     pub fn new(alloc: Global, conf: &RouterConf, up: &[bool], store: &Store) -> M<ViewKeep>
         requires one_each { length up.now ≡ length conf.now.ends }
         requires sound { IsSound conf.now }
@@ -79,14 +55,13 @@ impl ViewKeep {
         ensures kinds { IfOk result (λ k. k.kinds ≡ conf.now.kinds) }
         ensures heard { IfOk result (λ k. k.others ≡ heard conf.now.system conf.now.kinds store.now.entries) }
     {
-        let claims = all_claims(alloc, conf, up, store.as_slice())?;
-        let (nodes, is_whole) = nodes_of(alloc, claims)?;
+        let (view, is_whole) = kept_view(alloc, conf, up, store)?;
         Ok(ViewKeep {
             system: conf.system,
             kinds: conf.kinds.copy()?,
             others: Others::heard(conf, store),
             is_whole,
-            view: View { nodes },
+            view,
         })
     }
 
@@ -120,7 +95,9 @@ impl ViewKeep {
             return self.make_anew(conf, up, store);
         };
         let are_same = are_present(self.view.as_slice(), anew.as_slice());
-        turn(&mut self.view, anew);
+        if !self.view.turn(anew, are_same) {
+            return self.make_anew(conf, up, store);
+        }
         self.others = Others::heard(conf, store);
         Ok(!are_same)
     }
@@ -146,6 +123,6 @@ impl ViewKeep {
     pub fn view(&self) -> &View
         ensures { result.now.nodes ≡ self.now.nodes }
     {
-        &self.view
+        self.view.view()
     }
 }

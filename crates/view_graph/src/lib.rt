@@ -9,6 +9,7 @@ mod claims;
 mod edges;
 mod heard;
 mod keep;
+mod kept_view;
 mod known;
 mod links;
 mod node_index;
@@ -20,6 +21,7 @@ mod places;
 mod rebuilt;
 mod renewal;
 mod same;
+mod shared;
 
 pub use keep::ViewKeep;
 pub use nodes::{supports, view};

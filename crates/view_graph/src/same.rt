@@ -1,6 +1,8 @@
-//! Equality of topologies.
-ghost use Rattle.std.specs.Prelude.{◌≡◌, Decides};
+//! Equality of topologies, and of what systems advertise.
+ghost use Rattle.std.specs.Prelude.{◌≡◌, true, Decides};
 
+use crate::claims::Claim;
+use crate::links::Link;
 use wire_base::{LabelRange, ViewEdge, ViewNode, ViewSub};
 
 #[tactic(auto, using(crate::proofs::SameLaws::range_decided))]
@@ -87,4 +89,33 @@ pub(crate) fn are_same_nodes(a: &[ViewNode], b: &[ViewNode]) -> bool
         }
     }
     true
+}
+
+fn is_same_link(a: &Link, b: &Link) -> bool
+    ensures { result ≡ true → a.now ≡ b.now }
+{
+    a.neighbour == b.neighbour && a.metric == b.metric
+}
+
+fn are_same_links(a: &[Link], b: &[Link]) -> bool
+    ensures { result ≡ true → a.now ≡ b.now }
+{
+    if a.len() != b.len() {
+        return false;
+    }
+    'links: for place in 0..a.len() {
+        if !is_same_link(&a[place], &b[place]) {
+            return false;
+        }
+    }
+    true
+}
+
+/// Returns whether two systems advertise the same.
+pub(crate) fn is_same_claim(a: &Claim, b: &Claim) -> bool
+    ensures { result ≡ true → a.now ≡ b.now }
+{
+    let are_same_links = are_same_links(a.links.as_slice(), b.links.as_slice());
+    let are_same_subs = are_same_subs(a.subs.as_slice(), b.subs.as_slice());
+    a.system == b.system && a.overload == b.overload && are_same_links && are_same_subs
 }

@@ -31,19 +31,32 @@ turn-requires-clause-graph c =
     let turned = turned_now c.args.conf.now c.args.up.now c.args.store.now.entries c.as_slice-2.result.now c.self.invariant.claims c.self.inside.view.nodes c.as_slice.result.now (c.args.conf.now.system ∷ c.args.changed.now) c.in-Some.anew.items base c.as_slice-2.ensures.entries c.as_slice.ensures.nodes patch in
     made_graph c.args.conf.now c.args.up.now c.args.store.now.entries (claims_now c.args.conf.now c.args.up.now c.args.store.now.entries) (put_all c.in-Some.anew.items c.self.inside.view.nodes) c.requires.sound (subst IsDatabase c.as_slice-2.ensures.entries c.as_slice-2.ensures.database) refl turned.turned
 
-pub invariant_of-self : goal.invariant_of-self
-invariant_of-self c =
+pub turn-requires-clause-same : goal.turn-requires-clause-same
+turn-requires-clause-same c = λ h.
     let base = base_now c.args.self.now c.args.conf.now c.args.up.now c.args.store.now.entries c.self.inside.system c.self.inside.kinds c.self.inside.others.claims c.self.inside.is_whole c.self.inside.view.nodes c.args.changed.now c.self.view_is c.requires.system c.requires.kinds c.requires.unchanged (subst (λ (l : List Entry). AreAscending (ids_of l)) c.as_slice-2.ensures.entries c.as_slice-2.ensures.database.in_order) c.if-not-self.false c.self.invariant in
     let patch = subst (λ (o : Option (Vec NewNode Global)). IfSome o (λ v. IsPatch (said_now c.args.conf.now c.args.up.now c.as_slice-2.result.now) c.as_slice.result.now (c.args.conf.now.system ∷ c.args.changed.now) v.items)) c.in-Some.is c.in_ok-patch.ensures in
-    kept_now c.args.conf.now c.args.up.now c.args.store.now.entries c.as_slice-2.result.now c.self.inside.system c.heard-self-inside.result.claims c.self.inside.is_whole c.self.invariant.claims c.self.inside.view.nodes c.as_slice.result.now c.turn.new.view.nodes (c.args.conf.now.system ∷ c.args.changed.now) c.in-Some.anew.items base c.as_slice-2.ensures.entries c.as_slice.ensures.nodes patch c.as_slice-2.ensures.database
-    (ap (λ (k : Keep). k.system) c.self.view_is ∙ sym c.requires.system) c.heard-self-inside.ensures c.turn.ensures
+    let turned = turned_now c.args.conf.now c.args.up.now c.args.store.now.entries c.as_slice-2.result.now c.self.invariant.claims c.self.inside.view.nodes c.as_slice.result.now (c.args.conf.now.system ∷ c.args.changed.now) c.in-Some.anew.items base c.as_slice-2.ensures.entries c.as_slice.ensures.nodes patch in
+    let seen = subst (λ (ns : List ViewNode). Decides c.are_present-are_same.result (AllByRecursion (IsAt ns) c.as_slice-4.result.now)) c.as_slice-3.ensures.nodes c.are_present-are_same.ensures in
+    let decided = subst (λ (ns : List NewNode). Decides c.are_present-are_same.result (AllByRecursion (IsAt c.self.inside.view.nodes) ns)) c.as_slice-4.ensures.value seen in
+    let answer = turned_answer c.self.inside.view.nodes (nodes_of (claims_now c.args.conf.now c.args.up.now c.args.store.now.entries)) (put_all c.in-Some.anew.items c.self.inside.view.nodes) c.in-Some.anew.items c.are_present-are_same.result turned decided refl in
+    answer.0 (ap not h)
+
+pub invariant_of-self : goal.invariant_of-self
+invariant_of-self c = rw (c.turn.ensures.shared c.if-not-turn.true) c.self.invariant
+
+pub invariant_of-self-2 : goal.invariant_of-self-2
+invariant_of-self-2 c =
+    let base = base_now c.args.self.now c.args.conf.now c.args.up.now c.args.store.now.entries c.self.inside.system c.self.inside.kinds c.self.inside.others.claims c.self.inside.is_whole c.self.inside.view.nodes c.args.changed.now c.self.view_is c.requires.system c.requires.kinds c.requires.unchanged (subst (λ (l : List Entry). AreAscending (ids_of l)) c.as_slice-2.ensures.entries c.as_slice-2.ensures.database.in_order) c.if-not-self.false c.self.invariant in
+    let patch = subst (λ (o : Option (Vec NewNode Global)). IfSome o (λ v. IsPatch (said_now c.args.conf.now c.args.up.now c.as_slice-2.result.now) c.as_slice.result.now (c.args.conf.now.system ∷ c.args.changed.now) v.items)) c.in-Some.is c.in_ok-patch.ensures in
+    kept_now c.args.conf.now c.args.up.now c.args.store.now.entries c.as_slice-2.result.now c.self.inside.system c.heard-self-inside.result.claims c.self.inside.is_whole c.self.invariant.claims c.self.inside.view.nodes c.as_slice.result.now c.turn.new.self.nodes (c.args.conf.now.system ∷ c.args.changed.now) c.in-Some.anew.items base c.as_slice-2.ensures.entries c.as_slice.ensures.nodes patch c.as_slice-2.ensures.database
+    (ap (λ (k : Keep). k.system) c.self.view_is ∙ sym c.requires.system) c.heard-self-inside.ensures (c.turn.ensures.turned c.if-not-turn.false)
 
 pub returns-clause-exact : goal.returns-clause-exact
 returns-clause-exact c =
     let base = base_now c.args.self.now c.args.conf.now c.args.up.now c.args.store.now.entries c.self.inside.system c.self.inside.kinds c.self.inside.others.claims c.self.inside.is_whole c.self.inside.view.nodes c.args.changed.now c.self.view_is c.requires.system c.requires.kinds c.requires.unchanged (subst (λ (l : List Entry). AreAscending (ids_of l)) c.as_slice-2.ensures.entries c.as_slice-2.ensures.database.in_order) c.if-not-self.false c.self.invariant in
     let patch = subst (λ (o : Option (Vec NewNode Global)). IfSome o (λ v. IsPatch (said_now c.args.conf.now c.args.up.now c.as_slice-2.result.now) c.as_slice.result.now (c.args.conf.now.system ∷ c.args.changed.now) v.items)) c.in-Some.is c.in_ok-patch.ensures in
     let turned = turned_now c.args.conf.now c.args.up.now c.args.store.now.entries c.as_slice-2.result.now c.self.invariant.claims c.self.inside.view.nodes c.as_slice.result.now (c.args.conf.now.system ∷ c.args.changed.now) c.in-Some.anew.items base c.as_slice-2.ensures.entries c.as_slice.ensures.nodes patch in
-    nodes_now c.args.conf.now c.args.up.now c.args.store.now.entries c.turn.new.view.nodes (c.turn.ensures ∙ turned.turned)
+    nodes_now c.args.conf.now c.args.up.now c.args.store.now.entries c.turn.new.self.nodes (c.turn.ensures.turned c.if-not-turn.false ∙ turned.turned)
 
 pub returns-clause-answer : goal.returns-clause-answer
 returns-clause-answer c =
@@ -52,5 +65,5 @@ returns-clause-answer c =
     let turned = turned_now c.args.conf.now c.args.up.now c.args.store.now.entries c.as_slice-2.result.now c.self.invariant.claims c.self.inside.view.nodes c.as_slice.result.now (c.args.conf.now.system ∷ c.args.changed.now) c.in-Some.anew.items base c.as_slice-2.ensures.entries c.as_slice.ensures.nodes patch in
     let seen = subst (λ (ns : List ViewNode). Decides c.are_present-are_same.result (AllByRecursion (IsAt ns) c.as_slice-4.result.now)) c.as_slice-3.ensures.nodes c.are_present-are_same.ensures in
     let decided = subst (λ (ns : List NewNode). Decides c.are_present-are_same.result (AllByRecursion (IsAt c.self.inside.view.nodes) ns)) c.as_slice-4.ensures.value seen in
-    subst (λ (ns : List ViewNode). (not c.are_present-are_same.result ≡ false) ↔ (c.turn.new.view.nodes ≡ ns)) (ap (λ (k : Keep). k.nodes) c.self.view_is)
-    (turned_answer c.self.inside.view.nodes (nodes_of (claims_now c.args.conf.now c.args.up.now c.args.store.now.entries)) c.turn.new.view.nodes c.in-Some.anew.items c.are_present-are_same.result turned decided c.turn.ensures)
+    subst (λ (ns : List ViewNode). (not c.are_present-are_same.result ≡ false) ↔ (c.turn.new.self.nodes ≡ ns)) (ap (λ (k : Keep). k.nodes) c.self.view_is)
+    (turned_answer c.self.inside.view.nodes (nodes_of (claims_now c.args.conf.now c.args.up.now c.args.store.now.entries)) c.turn.new.self.nodes c.in-Some.anew.items c.are_present-are_same.result turned decided (c.turn.ensures.turned c.if-not-turn.false))
