@@ -47,7 +47,7 @@ impl Control {
         &self.store
     }
 
-    /// Has the contents of received LSPs stored once for all routers with these `Contents`.
+    /// Has the contents of received LSPs, and topologies, stored once for all routers with these `Contents`.
     pub(crate) fn share_contents(&mut self, contents: Contents)
         ensures { self.new ≡ self.old }
     {

@@ -62,8 +62,8 @@ impl Router {
         })
     }
 
-    /// Has the contents of LSPs that it receives from now on stored once for all routers with these `Contents`. Its state stays the
-    /// same.
+    /// Has the contents of LSPs that it receives from now on, and topologies that it computes from now on, stored once for all
+    /// routers with these `Contents`. Its state stays the same.
     pub fn share_contents(&mut self, contents: Contents)
         ensures { self.new ≡ self.old }
     {

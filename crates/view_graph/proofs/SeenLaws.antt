@@ -1,5 +1,5 @@
 -- What all systems advertise is what an LSDB contains, where it contains what the router itself advertises.
-use Rattle.std.proofs.Common.{◌≡◌, Bool, true, false, if◌then◌else◌, List, [], ◌∷◌, map, filter, Some, slice_get, refl, sym, ap, subst, ◌∙◌}
+use Rattle.std.proofs.Common.{◌≡◌, Bool, true, false, if◌then◌else◌, List, [], ◌∷◌, map, filter, Some, slice_get, refl, sym, ap, ◌∙◌}
 use Rattle.std.specs.List.{AllByRecursion}
 use Rattle.std.proofs.lemmas.Bool.{eqb-true}
 use Rattle.wire_base.specs.declared.addresses.SystemId.{SystemId}
@@ -8,7 +8,7 @@ use Rattle.wire_base.specs.declared.conf.SubKind.{SubKind}
 use Rattle.wire_base.specs.declared.entry.Entry.{Entry}
 use Rattle.wire_base.specs.declared.view.ViewNode.{ViewNode}
 use Rattle.wire_base.specs.model.Control.{AreAscending, IsDatabase, ids_of, is_below, same_system}
-use Rattle.wire_base.specs.model.View.{Claim, claim_of, claims_of, nodes_of, own_claim, view_of, with_known}
+use Rattle.wire_base.specs.model.View.{Claim, claim_of, claims_of, own_claim, with_known}
 use Rattle.lsp_store.specs.Topologies.{AreNodesOf, is_first, seen_claims}
 use Rattle.view_graph.specs.Edges.{AreInOrder, is_before}
 use Rattle.view_graph.specs.Keep.{IsKept, heard, is_first_of, said_by, said_in}

@@ -1,4 +1,4 @@
-use Rattle.std.proofs.Common.{◌≡◌, List, Option, IfSome, map, sym, ap, subst, ◌∙◌}
+use Rattle.std.proofs.Common.{List, Option, IfSome, map, sym, ap, subst, ◌∙◌}
 use Rattle.wire_base.specs.declared.conf.SubKind.{SubKind}
 use Rattle.wire_base.specs.declared.entry.Entry.{Entry}
 use Rattle.wire_base.specs.model.Control.{AreAscending, ids_of}
