@@ -1,7 +1,8 @@
 -- Texts cut at an octet, and words.
-use Rattle.std.proofs.Common.{◌≡◌, ◌≢◌, ℕ, ◌+◌, ◌<◌, Bool, true, false, eqb, List, [], ◌∷◌, ◌++◌, length, get_or, take, drop, All, refl, sym, ap, ◌∙◌, arith}
-use Rattle.std.proofs.lemmas.Bool.{eq-eqb, ne_eqb, true≢false}
-use Rattle.std.proofs.lemmas.List.{take-append-drop, drop_more}
+use Rattle.std.proofs.Common.{◌≡◌, ◌≢◌, ℕ, ◌+◌, ◌<◌, ◌≤◌, Bool, true, false, eqb, List, [], ◌∷◌, ◌++◌, length, get_or, take, drop, All, refl, sym, ap, ◌∙◌, arith}
+use Rattle.std.proofs.lemmas.Bool.{eq-eqb, ne_eqb, true≢false, false_from_ne_true}
+use Rattle.std.proofs.lemmas.List.{take-append-drop, drop_more, get_or-take, length-take}
+use Rattle.std.proofs.lemmas.List.Elements.{All-from_get_or}
 use Rattle.std.proofs.lemmas.List.Splits.{slice_split_at, slice_split_none, length-slice_split}
 use Rattle.std.specs.Str.Lines.{lines_of_parts, strip_carriage_return}
 use Rattle.replay_text.specs.Pieces.{pieces, words_of, filled, lines_of, ended_lines, before_ends, lines_in}
@@ -10,6 +11,12 @@ pub cut_at : (stop i : ℕ) (text : List ℕ) → i < length text → All (λ x.
 cut_at stop i text lt none is =
     let whole : text ≡ take i text ++ get_or text i 0 ∷ drop (i + 1) text = sym (take-append-drop i text) ∙ ap (λ (l : List ℕ). take i text ++ l) (drop_more text i 0 lt) in
     ap (pieces stop) whole ∙ slice_split_at (λ b. eqb b stop) (take i text) (get_or text i 0) (drop (i + 1) text) none (eq-eqb _ _ is)
+
+-- no octet before an index is the one that is looked for
+pub none_before : (stop i : ℕ) (text : List ℕ) → i ≤ length text → ((k : ℕ) → 0 ≤ k → k < i → (eqb (get_or text k 0) stop ≡ true → ⊥)) → All (λ x. eqb x stop ≡ false) (take i text)
+none_before stop i text le none = All-from_get_or (λ x. eqb x stop ≡ false) (take i text) 0 (λ k lt.
+    let below : k < i = omega (arith, lt, length-take i text) in
+    false_from_ne_true (eqb (get_or (take i text) k 0) stop) (λ is. none k (omega arith) below (sym (ap (λ (x : ℕ). eqb x stop) (get_or-take i text k 0 below)) ∙ is)))
 
 pub cut_none : (stop : ℕ) (text : List ℕ) → All (λ x. eqb x stop ≡ false) text → pieces stop text ≡ text ∷ []
 cut_none stop text none = slice_split_none (λ b. eqb b stop) text none

@@ -3,17 +3,17 @@ ghost use Rattle.std.specs.Prelude.{◌≡◌, ◌<◌, [], ◌∷◌, length, M
 ghost use Rattle.std.specs.Str.Lines.{strip_carriage_return};
 ghost use Rattle.replay_text.specs.Pieces.{pieces, more_pieces, lines_in, words_of, only_word, two_words};
 
+use memchr::memchr;
+
 /// Returns the text before the first octet of that value, and the text after it, or `None` if the octet does not occur.
 pub fn cut(text: &[u8], stop: u8) -> (&[u8], Option<&[u8]>)
     ensures pieces { pieces stop text.now ≡ result.0.now ∷ more_pieces stop (option_map (λ after. after.now) result.1) }
     ensures shorter { IfSome result.1 (λ after. length after.now < length text.now) }
 {
-    for (i, octet) in text.iter().enumerate() {
-        if *octet == stop {
-            return (&text[..i], Some(&text[i + 1..]));
-        }
+    match memchr(stop, text) {
+        Some(at) => (&text[..at], Some(&text[at + 1..])),
+        None => (text, None),
     }
-    (text, None)
 }
 
 /// Returns the line without the CR at its end, if it has one.

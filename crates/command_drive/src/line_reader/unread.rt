@@ -7,6 +7,7 @@ ghost use Rattle.command_drive.specs.Lines.{HasNoEnd, kept, TakesPart};
 
 use crate::line_reader::KEPT;
 use crate::whole::buffer;
+use memchr::memchr;
 use std::alloc::Global;
 use std::marker::Model;
 use wire_base::{Failed, M, Octets, Source};
@@ -78,12 +79,7 @@ impl Unread {
 fn line_end(octets: &[u8]) -> Option<usize>
     ensures { MatchOption result (HasNoEnd octets.now) (λ i. (i < length octets.now) × HasNoEnd (take i octets.now) × (slice_index octets.now i ≡ 10)) }
 {
-    for (i, octet) in octets.iter().enumerate() {
-        if *octet == b'\n' {
-            return Some(i);
-        }
-    }
-    None
+    memchr(b'\n', octets)
 }
 
 /// Appends a part to a line, up to the number of octets that are kept of a line.

@@ -1,17 +1,15 @@
-use Rattle.std.proofs.Common.{◌≡◌, eqb, false, take, List, ℕ, subst, All}
-use Rattle.std.proofs.lemmas.Bool.{ne_eqb}
+use Rattle.std.proofs.Common.{◌≡◌, ◌≤◌, length, take, All, List, ℕ, eqb, false, subst, arith}
+use Rattle.std.proofs.lemmas.Bool.{eqb-true}
 use Rattle.std.proofs.lemmas.List.{take_rest, take_all}
-use Rattle.std.proofs.lemmas.List.Elements.{All-more}
-use Rattle.replay_text.proofs.Cutting.{cut_at, cut_none}
+use Rattle.replay_text.proofs.Cutting.{cut_at, cut_none, none_before}
 use Rattle.replay_text.proofs.pieces.cut.Goals as goal
 
-pub returns-then-octet-stop-clause-pieces : goal.returns-then-octet-stop-clause-pieces
-returns-then-octet-stop-clause-pieces c = rw take_rest (cut_at c.args.stop c.loop-i.i c.args.text.now c.loop-i-test.true c.loop-i.invariant c.if-octet-stop.true)
+pub returns-in-Some-clause-pieces : goal.returns-in-Some-clause-pieces
+returns-in-Some-clause-pieces c =
+    let at = c.in-Some.ensures.0 in
+    rw take_rest (cut_at c.args.stop c.in-Some.at c.args.text.now at.high (none_before c.args.stop c.in-Some.at c.args.text.now (omega (arith, at.high)) at.before) (eqb-true _ _ c.in-Some.ensures.1))
 
-pub loop-i-preserved : goal.loop-i-preserved
-loop-i-preserved c = All-more (λ x. eqb x c.args.stop ≡ false) c.args.text.now c.loop-i.i 0 c.loop-i-test.true c.loop-i.invariant (ne_eqb _ _ c.if-octet-stop.false)
-
-pub returns-clause-pieces : goal.returns-clause-pieces
-returns-clause-pieces c =
-    let whole : take c.loop-i.i c.args.text.now ≡ c.args.text.now = take_all c.loop-i.i c.args.text.now c.loop-i-test.false in
-    cut_none c.args.stop c.args.text.now (subst (λ (l : List ℕ). All (λ x. eqb x c.args.stop ≡ false) l) whole c.loop-i.invariant)
+pub returns-in-None-clause-pieces : goal.returns-in-None-clause-pieces
+returns-in-None-clause-pieces c =
+    let text = c.args.text.now in
+    cut_none c.args.stop text (subst (λ (l : List ℕ). All (λ x. eqb x c.args.stop ≡ false) l) (take_all (length text) text (omega arith)) (none_before c.args.stop (length text) text (omega arith) c.in-None.ensures))
