@@ -87,6 +87,10 @@ impl ViewKeep {
         ensures heard { OnOk result (self.new.others ≡ heard conf.now.system conf.now.kinds store.now.entries) }
         ensures err { OnErr result (self.new ≡ self.old) }
     {
+        // A shared topology isn't changed in place: the new one may be known already.
+        if self.view.is_shared() {
+            return self.make_anew(conf, up, store);
+        }
         if !self.is_whole {
             return self.make_anew(conf, up, store);
         }

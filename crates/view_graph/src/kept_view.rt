@@ -71,6 +71,14 @@ impl KeptView {
         }
     }
 
+    /// Returns whether it may be stored once for several routers.
+    pub(crate) fn is_shared(&self) -> bool {
+        match &self.held {
+            Held::Own(_) => false,
+            Held::Shared(_) => true,
+        }
+    }
+
     /// Returns the topology.
     pub(crate) fn view(&self) -> &View
         ensures { result.now.nodes ≡ self.now.nodes }
