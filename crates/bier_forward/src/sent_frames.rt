@@ -34,6 +34,13 @@ impl SentFrames {
         }
     }
 
+    /// Returns the frames of a list, each of which has its link as a note.
+    pub fn from_frames(list: FrameList<u16>) -> Self
+        ensures { result ≡ sent_in list }
+    {
+        SentFrames { list }
+    }
+
     /// Returns the allocator of the list.
     pub fn allocator(&self) -> Global {
         self.list.allocator()
@@ -76,6 +83,13 @@ impl SentFrames {
         ensures { sent_in result ≡ self }
     {
         self.list
+    }
+
+    /// Removes all frames. Their memory serves for the next ones.
+    pub fn clear(&mut self)
+        ensures { self.new ≡ [] }
+    {
+        self.list.clear();
     }
 
     /// Appends a frame that is sent on a link. If an allocation fails, nothing changes.

@@ -179,7 +179,7 @@ impl Network {
     {
         let confs = confs_of(&self.domain);
         let router = &mut self.routers[usize::from(from)];
-        let effects = router.due(link)?;
+        let effects = router.due_in(link, &mut self.memory)?;
         let known = Some((link, to));
         let out = queue_sent(&mut self.flights, confs, from, None, known, effects)?;
         router.sent(link);

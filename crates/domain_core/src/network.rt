@@ -8,14 +8,17 @@ ghost use Rattle.domain_model.specs.Truth.{router_at};
 ghost use Rattle.frames_in_flight.specs.Flights.{place_seen};
 ghost use Rattle.domain_model.specs.World.{link_between, frames_between, queue_at, first_world, ids_in_flight};
 
+use bier_forward::SentFrames;
+use domain_model::StepOut;
 use frames_in_flight::{FlightSeen, Flights, confs_of, link_between, reader_of};
 use lsp_store::Contents;
-use router_core::Router;
+use router_core::{Router, SendMemory};
 use std::alloc::Global;
 use wire_base::limits::MOST_ROUTERS;
 use wire_base::{Domain, M, RouterConf, Rows};
 
-/// A running domain: its routers by index, the frames in flight, and the numbers of injections and events so far.
+/// A running domain: its routers by index, the frames in flight, the numbers of injections and events so far, and the memory of
+/// the last send, which serves for the next one.
 #[derive(Drop)]
 pub(crate) struct Network {
     pub(crate) domain: Domain,
@@ -23,6 +26,7 @@ pub(crate) struct Network {
     pub(crate) flights: Flights,
     pub(crate) injections: u32,
     pub(crate) events: u32,
+    pub(crate) memory: SendMemory,
 }
 
 /// Returns a router that has just started, which shares the contents of LSPs with others.
@@ -102,7 +106,16 @@ impl Network {
             flights,
             injections: 0,
             events: 0,
+            memory: SendMemory::new(alloc),
         })
+    }
+
+    /// Takes back what an event reported, whose memory serves for the next send.
+    pub(crate) fn reuse(&mut self, made: StepOut)
+        ensures { state_of self.new ≡ state_of self.old }
+    {
+        let (_from, frames) = made.sent.into_parts();
+        self.memory.give_back(SentFrames::from_frames(frames));
     }
 
     /// Returns the allocator of the domain.

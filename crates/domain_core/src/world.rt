@@ -148,6 +148,13 @@ impl World {
         self.network.count_events(events);
     }
 
+    /// Takes back what an event reported, once the caller has read it, so that the next sends need few allocations.
+    pub fn reuse(&mut self, made: StepOut)
+        ensures { self.new ≡ self.old }
+    {
+        self.network.reuse(made);
+    }
+
     /// Delivers the first frame that was sent on the interface `link` and arrives at the interface `back`: the same
     /// event as a delivery in `step`. Returns `None` if there is nothing to report, as for most frames.
     pub fn take_on_link(

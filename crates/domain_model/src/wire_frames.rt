@@ -43,6 +43,13 @@ impl WireFrames {
         WireFrames { from, list }
     }
 
+    /// Returns the router that sends all of them, and the frames, each with the router that it goes to as a note.
+    pub fn into_parts(self) -> (u16, FrameList<u16>)
+        ensures { self ≡ wires_in result.0 result.1 }
+    {
+        (self.from, self.list)
+    }
+
     /// Returns the number of frames.
     pub fn len(&self) -> usize
         ensures { result ≡ length self.now }

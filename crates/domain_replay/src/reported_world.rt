@@ -52,9 +52,30 @@ impl ReportedWorld {
         })
     }
 
-    /// Reports an event of a line, which names no BFR-id twice, and its effects. If an allocation fails, nothing is
-    /// reported.
+    /// Reports an event of a line, which names no BFR-id twice, and its effects, whose memory then serves the next events. If an
+    /// allocation fails, nothing is reported.
     fn tell(
+        &mut self,
+        alloc: Global,
+        texts: &mut Texts,
+        line: u32,
+        event: &Event,
+        made: StepOut,
+    ) -> M<()>
+        requires once { NamesOnce event.now }
+        requires short { AreShort made.sent }
+        ensures state { OnOk result (self.new ≡ record self.old { counts = counted self.old.counts event.now made.got made.drops }) }
+        ensures frames { OnOk result (texts.new.frames ≡ texts.old.frames ++ wire_records self.old.recording self.old.world.domain.routers line made.sent) }
+        ensures report { OnOk result (texts.new.report ≡ texts.old.report ++ event_text self.old.world.domain.routers line made.got made.drops) }
+        ensures err { OnErr result ((self.new ≡ self.old) × (texts.new ≡ texts.old)) }
+    {
+        let told = self.tell_made(alloc, texts, line, event, &made);
+        self.world.reuse(made);
+        told
+    }
+
+    /// Reports an event and its effects.
+    fn tell_made(
         &mut self,
         alloc: Global,
         texts: &mut Texts,
@@ -90,7 +111,7 @@ impl ReportedWorld {
         ensures stops { OnErr result (StopsIn line (with_texts self.old texts.old) (event.now ∷ []) (with_texts self.new texts.new)) }
     {
         let made = self.world.step(event)?;
-        self.tell(alloc, texts, line, event, &made)?;
+        self.tell(alloc, texts, line, event, made)?;
         Ok(())
     }
 
@@ -133,7 +154,7 @@ impl ReportedWorld {
             Err(fault) => return Err(fault),
         };
         let event = Event::Send { from, to };
-        self.tell(alloc, texts, line, &event, &made)?;
+        self.tell(alloc, texts, line, &event, made)?;
         Ok(())
     }
 
@@ -214,7 +235,7 @@ impl ReportedWorld {
             Err(fault) => return Err(fault),
         };
         let event = Event::Take { from, to, i: 0 };
-        self.tell(alloc, texts, line, &event, &made)?;
+        self.tell(alloc, texts, line, &event, made)?;
         Ok(())
     }
 

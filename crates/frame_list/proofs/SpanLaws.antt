@@ -1,10 +1,11 @@
 -- Frames whose octets stand in one list stay what they are when more octets are put behind them.
-use Rattle.std.proofs.Common.{◌≡◌, ◌∙◌, ◌≤◌, ◌-◌, ◌+◌, ℕ, zero, suc, List, [], ◌∷◌, ◌++◌, map, length, take, drop, slice_get, slice_set, slice_index_or, option_map, Some, refl, ap, arith}
+use Rattle.std.proofs.Common.{◌≡◌, ◌∙◌, ◌≤◌, ◌-◌, ◌+◌, ℕ, zero, suc, List, [], ◌∷◌, ◌++◌, map, length, take, drop, slice_get, slice_set, slice_index_or, option_map, Some, refl, sym, ap, arith}
 use Rattle.std.specs.List.{AllByRecursion, remove}
-use Rattle.std.proofs.lemmas.List.{take-append-le, drop-append-le, length-append, length-drop, map-append}
+use Rattle.std.proofs.lemmas.List.{take-append-le, drop-append-le, length-append, length-drop, length-take-le, take-append-drop, map-append, drop-drop, drop-set-add}
+use Rattle.std.proofs.lemmas.List.Edits.{remove-append_right}
 use Rattle.std.proofs.Math.Seq.{take-length, drop-append_seam, drop-append-add}
 use Rattle.std.proofs.lemmas.Option.{none-some, same_Some}
-use Rattle.frame_list.specs.declared.list.Span.{Span}
+use Rattle.frame_list.specs.declared.spans.Span.{Span}
 use Rattle.frame_list.specs.Spans.{Noted, cut_out, moved, noted_anew, noted_as, frames_in, IsWithin, AreWithin}
 
 cut_kept : (a b : ℕ) (o more : List ℕ) → a ≤ b → b ≤ length o → take (b - a) (drop a (o ++ more)) ≡ take (b - a) (drop a o)
@@ -114,8 +115,26 @@ within_joined note o p spans others within theirs =
 
 -- ---- a frame of which something else is noted
 
-pub frames_noted : {N : Type 0} (note : N) (o : List ℕ) (spans : List (Span N)) (i : ℕ) (s : Span N) → s ≡ slice_index_or spans i s
+pub frames_noted : {N : Type 0} (note : N) (o : List ℕ) (spans : List (Span N)) (i : ℕ) (s : Span N) → slice_get spans i ≡ Some s
     → frames_in o (slice_set spans i (record { note = note; start = s.start; end = s.end })) ≡ noted_anew (frames_in o spans) i note
 frames_noted note o [] i s is = refl
-frames_noted note o (x ∷ spans) zero s is = ap (λ (y : Span _). noted note (take (y.end - y.start) (drop y.start o)) ∷ frames_in o spans) is
+frames_noted note o (x ∷ spans) zero s is = ap (λ (y : Span _). noted note (take (y.end - y.start) (drop y.start o)) ∷ frames_in o spans) (sym (same_Some x s is))
 frames_noted note o (x ∷ spans) (suc i) s is = ap (λ (l : List (Noted _)). cut_out o x ∷ l) (frames_noted note o spans i s is)
+
+-- ---- spans behind those of removed frames
+
+pub first_gone : {X : Type 0} (k : ℕ) (xs : List X) → drop (k + 1) xs ≡ remove (drop k xs) 0
+first_gone k xs = sym (drop-drop 1 k xs)
+
+pub later_gone : {X : Type 0} (k i : ℕ) (xs : List X) → k ≤ length xs → drop k (remove xs (k + i)) ≡ remove (drop k xs) i
+later_gone k i xs low =
+    let e : length (take k xs) ≡ k = length-take-le k xs low in
+    let n : (k + i) - k ≡ i = omega arith in
+    ap (λ (l : List _). drop k (remove l (k + i))) (sym (take-append-drop k xs))
+    ∙ ap (drop k) (remove-append_right (take k xs) (drop k xs) k (k + i) e (omega arith))
+    ∙ ap (λ (m : ℕ). drop k (take k xs ++ remove (drop k xs) m)) n
+    ∙ ap (λ (m : ℕ). drop m (take k xs ++ remove (drop k xs) i)) (sym e)
+    ∙ drop-append_seam (take k xs) (remove (drop k xs) i)
+
+pub put_there : {X : Type 0} (k i : ℕ) (xs : List X) (x : X) → drop k (slice_set xs (k + i) x) ≡ slice_set (drop k xs) i x
+put_there k i xs x = drop-set-add k xs i x

@@ -1,7 +1,7 @@
 -- Frames whose octets are stored in one list.
 use Rattle.std.specs.Prelude.{ℕ, zero, suc, ◌≤◌, ◌+◌, ◌-◌, List, [], ◌∷◌, length, take, drop, map}
 use Rattle.std.specs.List.{AllByRecursion}
-use Rattle.frame_list.specs.declared.list.Span.{Span}
+use Rattle.frame_list.specs.declared.spans.Span.{Span}
 
 -- a frame and its note
 pub record Noted (N : Type 0) : Type 0 where

@@ -4,5 +4,6 @@
 #![tactic(auto)]
 
 mod list;
+mod spans;
 
 pub use list::FrameList;

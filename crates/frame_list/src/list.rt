@@ -1,10 +1,10 @@
-ghost use Rattle.std.specs.Prelude.{◌≡◌, ◌<◌, ◌≤◌, ◌+◌, ◌^◌, ◌++◌, ◌∷◌, [], nat_lt, length, map, slice_get, slice_index_or, option_map, Some, true, OnOk, OnErr, IfOk, IfSome};
+//! Frames in order.
+ghost use Rattle.std.specs.Prelude.{◌≡◌, ◌<◌, ◌≤◌, ◌++◌, ◌∷◌, [], nat_lt, length, map, slice_get, option_map, Some, OnOk, OnErr};
 ghost use Rattle.std.specs.List.{remove};
-ghost use Rattle.std.specs.VecDeque.{deque_len, deque_capacity};
-ghost use Rattle.frame_list.specs.Spans.{Noted, cut_out, moved, noted_anew, noted_as, IsWithin, AreWithin};
+ghost use Rattle.frame_list.specs.Spans.{noted_anew, noted_as};
 
+use crate::spans::{Span, Spans};
 use std::alloc::Global;
-use std::collections::VecDeque;
 use std::marker::Model;
 use wire_base::{M, Memory};
 
@@ -22,20 +22,12 @@ const KEPT_FRAMES: usize = 32;
 /// The maximum number of octets of removed frames that are left in the buffer.
 const LEFT: usize = 4096;
 
-/// The range of a frame's octets in the buffer, and the frame's note.
-#[derive(Clone, Copy)]
-struct Span<N> {
-    note: N,
-    start: usize,
-    end: usize,
-}
-
 /// Frames in order, each with a note; contracts model it as the list of both. The octets are stored in one buffer, so that a
 /// frame needs no allocation of its own.
 #[derive(Drop)]
 pub struct FrameList<N> {
     octets: Vec<u8>,
-    spans: VecDeque<Span<N>>,
+    spans: Spans<N>,
     gone: usize,
 }
 
@@ -45,9 +37,9 @@ impl<N> Model for FrameList<N> {
 
     ghost Value = { List (Noted N) };
 
-    ghost view = { λ f. frames_in f.octets.items f.spans.items };
+    ghost view = { λ f. frames_in f.octets.items f.spans };
 
-    ghost invariant = { λ f. AreWithin f.octets.items f.spans.items };
+    ghost invariant = { λ f. AreWithin f.octets.items f.spans };
 }
 
 impl<N: Copy + Drop> FrameList<N> {
@@ -57,7 +49,7 @@ impl<N: Copy + Drop> FrameList<N> {
     {
         FrameList {
             octets: Vec::new(alloc),
-            spans: VecDeque::new(alloc),
+            spans: Spans::new(alloc),
             gone: 0,
         }
     }
@@ -79,7 +71,7 @@ impl<N: Copy + Drop> FrameList<N> {
         requires { i < length self.now }
         ensures { option_map (λ f. f.octets) (slice_get self.now i) ≡ Some result.now }
     {
-        let span = &self.spans[i];
+        let span = self.spans.at(i);
         &self.octets[span.start..span.end]
     }
 
@@ -88,7 +80,7 @@ impl<N: Copy + Drop> FrameList<N> {
         requires { i < length self.now }
         ensures { option_map (λ f. f.note) (slice_get self.now i) ≡ Some result }
     {
-        self.spans[i].note
+        self.spans.at(i).note
     }
 
     /// Appends a frame.
@@ -116,7 +108,7 @@ impl<N: Copy + Drop> FrameList<N> {
 
     /// Appends the frames of another list, all with that note, by one copy of their octets. If an allocation fails, nothing
     /// changes.
-    #[tactic(auto, using(crate::proofs::SpanLaws::frames_joined, crate::proofs::SpanLaws::within_joined))]
+    #[tactic(auto, using(crate::proofs::SpanLaws::frames_joined, crate::proofs::SpanLaws::within_joined, crate::proofs::SpanLaws::frames_kept, crate::proofs::SpanLaws::within_kept))]
     pub fn append_all<O: Copy + Drop>(&mut self, note: N, others: &FrameList<O>) -> M<()>
         ensures ok { OnOk result (self.new ≡ self.old ++ map (noted_as note) others.now) }
         ensures err { OnErr result (self.new ≡ self.old) }
@@ -125,17 +117,11 @@ impl<N: Copy + Drop> FrameList<N> {
             self.gather()?;
         }
         self.make_room(others.octets.len())?;
-        self.spans.reserve(others.spans.len())?;
         let start = self.octets.len();
-        self.octets.extend_from_slice(others.octets.as_slice())?;
-        put_behind(
-            &mut self.spans,
-            note,
-            start,
-            others.octets.as_slice(),
-            &others.spans,
-        );
-        Ok(())
+        let octets = others.octets.as_slice();
+        self.octets.extend_from_slice(octets)?;
+        self.spans
+            .push_all(note, start, octets, others.spans.as_slice())
     }
 
     /// Replaces the note of the frame at index `i`.
@@ -143,8 +129,8 @@ impl<N: Copy + Drop> FrameList<N> {
         requires { i < length self.old }
         ensures { self.new ≡ noted_anew self.old i note }
     {
-        let span = &mut self.spans[i];
-        span.note = note;
+        let span = self.spans.at(i);
+        self.spans.put(i, Span { note, ..span });
     }
 
     /// Reserves room for the first frames, one of which has that many octets, so that the list does not grow step by step.
@@ -169,12 +155,11 @@ impl<N: Copy + Drop> FrameList<N> {
         self.make_room(octets.len())?;
         let start = self.octets.len();
         self.octets.extend_from_slice(octets)?;
-        self.spans.push_back(Span {
+        self.spans.push(Span {
             note,
             start,
             end: self.octets.len(),
-        })?;
-        Ok(())
+        })
     }
 
     /// The same for a frame in three parts. If an allocation fails, octets that belong to no frame may be left.
@@ -186,12 +171,11 @@ impl<N: Copy + Drop> FrameList<N> {
         self.make_room(FIRST_OCTETS)?;
         let start = self.octets.len();
         extend_three(&mut self.octets, first, second, third)?;
-        self.spans.push_back(Span {
+        self.spans.push(Span {
             note,
             start,
             end: self.octets.len(),
-        })?;
-        Ok(())
+        })
     }
 
     /// Removes the frame at an index. Returns whether there was one.
@@ -203,24 +187,34 @@ impl<N: Copy + Drop> FrameList<N> {
         if i >= self.spans.len() {
             return false;
         }
-        if let Some(span) = take_span(&mut self.spans, i) {
-            self.gone = self.gone.saturating_add(span.end - span.start);
+        let span = self.spans.remove(i);
+        // A frame without octets counts, too, so that the list of spans does not grow without bound.
+        self.gone = self
+            .gone
+            .saturating_add(span.end - span.start)
+            .saturating_add(1);
+        if self.spans.len() == 0 {
+            self.let_go();
         }
-        self.let_go();
         true
     }
 
-    /// If no frame is left, discards the octets, and large capacity.
-    fn let_go(&mut self)
-        ensures { self.new ≡ self.old }
+    /// Removes all frames. Their memory serves for the next ones.
+    pub fn clear(&mut self)
+        ensures { self.new ≡ [] }
     {
-        if !self.spans.is_empty() {
-            return;
-        }
         self.gone = 0;
-        if self.spans.capacity() > KEPT_FRAMES {
-            self.spans = VecDeque::new(self.allocator());
-        }
+        self.spans.clear(usize::MAX);
+        self.octets.truncate(0);
+    }
+
+    /// Discards the octets of a list that has no frame left, and large capacity.
+    fn let_go(&mut self)
+        requires { self.old ≡ [] }
+        ensures { self.new ≡ [] }
+    {
+        self.gone = 0;
+        self.spans.clear(KEPT_FRAMES);
         if self.octets.capacity() > KEPT {
             self.octets = Vec::new(self.allocator());
         } else {
@@ -273,40 +267,4 @@ fn extend_three(octets: &mut Vec<u8>, first: &[u8], second: &[u8], third: &[u8])
         octets.truncate(before);
     }
     done
-}
-
-/// Appends the spans of frames whose octets were appended to others, all with that note.
-fn put_behind<N: Copy + Drop, O: Copy + Drop>(
-    spans: &mut VecDeque<Span<N>>,
-    note: N,
-    start: usize,
-    octets: &[u8],
-    others: &VecDeque<Span<O>>,
-)
-    requires room { deque_len spans.old + deque_len others.now ≤ deque_capacity spans.old }
-    requires within { AreWithin octets.now others.now.items }
-    requires fits { start + length octets.now < 2 ^ 64 }
-    ensures { spans.new.items ≡ spans.old.items ++ map (moved note start) others.now.items }
-{
-    'spans: for i in 0..others.len() {
-        let span = others[i];
-        spans.push_back_reserved(Span {
-            note,
-            start: start + span.start,
-            end: start + span.end,
-        });
-    }
-}
-
-/// Removes and returns the span of the frame at an index; it is mostly the first.
-fn take_span<N: Copy + Drop>(spans: &mut VecDeque<Span<N>>, i: usize) -> Option<Span<N>>
-    requires { i < deque_len spans.old }
-    ensures rest { spans.new.items ≡ remove spans.old.items i }
-    ensures span { IfSome result (λ s. s ≡ slice_index_or spans.old.items i s) }
-{
-    if i == 0 {
-        spans.pop_front()
-    } else {
-        spans.remove(i)
-    }
 }

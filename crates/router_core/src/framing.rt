@@ -6,6 +6,7 @@ ghost use Rattle.wire_base.specs.model.OnFrame.{frames_of};
 ghost use Rattle.router_core.specs.Bounds.{FitRecords};
 ghost use Rattle.router_core.specs.Sending.{conf_alone, octets_on};
 
+use crate::send_memory::SendMemory;
 use bier_forward::SentFrames;
 use isis_pdu::{
     CSNP_FRONT, LSP_FRONT, LspHead, PSNP_FRONT, append_csnp, append_psnp_listing, listed_octets,
@@ -57,6 +58,16 @@ impl FramesOut {
         }
     }
 
+    /// Returns an empty list of frames, in the memory that earlier sends used.
+    pub(crate) fn in_memory(memory: &mut SendMemory) -> Self
+        ensures { result ≡ [] }
+    {
+        FramesOut {
+            sent: memory.take_frames(),
+            next: memory.take_frame(),
+        }
+    }
+
     /// Returns the allocator of the frames.
     pub(crate) fn allocator(&self) -> Global {
         self.sent.allocator()
@@ -80,6 +91,16 @@ impl FramesOut {
         ensures sizes { FitRecords result }
     {
         self.sent
+    }
+
+    /// Returns the frames. The other memory is given back, with that of the rows.
+    pub(crate) fn into_sent_keeping(self, memory: &mut SendMemory, rows: Vec<Summary>) -> SentFrames
+        ensures sent { result ≡ self }
+        ensures sizes { FitRecords result }
+    {
+        let FramesOut { sent, next } = self;
+        memory.keep(next, rows);
+        sent
     }
 }
 

@@ -13,6 +13,7 @@ ghost use Rattle.laws_router.specs.State.{IsRouter, IssuesAlone, is_up, counted}
 
 use crate::control::Control;
 use crate::kept::Kept;
+use crate::send_memory::SendMemory;
 use crate::staleness::note_own;
 use bier_forward::Effects;
 use isis_flood::Flood;
@@ -199,6 +200,15 @@ impl Router {
         ensures sizes { IfOk result (λ e. FitRecords e.sent) }
     {
         self.control.due(link)
+    }
+
+    /// Returns what [`Router::due`] returns, in memory that serves again: if the caller gives it back, a send needs few allocations.
+    pub fn due_in(&self, link: u16, memory: &mut SendMemory) -> M<Effects>
+        requires { is_up self.now.control link ≡ true }
+        ensures due { IfOk result (λ e. e ≡ (framed link (send self.now.control link)).effects) }
+        ensures sizes { IfOk result (λ e. FitRecords e.sent) }
+    {
+        self.control.due_in(link, memory)
     }
 
     /// Records that the frames that are due on a link that is up, as [`Router::due`] returns them, were sent. Does not

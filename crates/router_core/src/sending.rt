@@ -1,5 +1,5 @@
 //! Sending on a link: the CSNPs that are due, LSPs, and PSNPs (ISO/IEC 10589, 7.3.15.4 and 7.3.17).
-ghost use Rattle.std.specs.Prelude.{◌≡◌, ◌<◌, ◌≤◌, ◌++◌, Bool, true, false, length, map, filter, slice_index_or, option_map, IfOk, IfSome, OnOk, OnErr};
+ghost use Rattle.std.specs.Prelude.{◌≡◌, ◌<◌, ◌≤◌, ◌++◌, [], Bool, true, false, length, map, filter, slice_index_or, option_map, IfOk, IfSome, OnOk, OnErr};
 ghost use Rattle.std.specs.List.{AllByRecursion, flat_map};
 ghost use Rattle.wire_base.specs.model.Control.{AreAscending, HasEntry, entry_in, ssn_in, summary_of};
 ghost use Rattle.wire_base.specs.model.Flooding.{csnps, psnp_of, id_after, zero_id, last_id, is_known, due_csnps, send_of, send};
@@ -12,6 +12,7 @@ ghost use Rattle.laws_router.specs.State.{IsShort, is_up, control_of};
 use crate::control::Control;
 use crate::framing::{FramesOut, push_csnp, push_lsp, push_psnp};
 use crate::pending::is_known;
+use crate::send_memory::SendMemory;
 use bier_forward::{Effects, SentFrames};
 use byteorder::{BigEndian, ByteOrder};
 use isis_flood::Flood;
@@ -78,15 +79,17 @@ fn push_known(rows: &mut Vec<Summary>, entry: Option<&Entry>) -> M<()>
     }
 }
 
-/// Returns the entries to be acknowledged or requested on a link. If there are none, usually no row of flags is read.
-fn asked_rows(store: &Store, flood: &Flood, link: u16) -> M<Vec<Summary>>
+/// Returns the entries to be acknowledged or requested on a link, in an empty list whose memory serves again. If there are none,
+/// usually no row of flags is read.
+fn asked_rows(store: &Store, flood: &Flood, link: u16, memory: Vec<Summary>) -> M<Vec<Summary>>
+    requires empty { memory.items ≡ [] }
     requires link { link < length flood.now.flood.up }
     requires order { AreAscending (row_ids flood.now.flood.rows) }
     requires flagged { AllByRecursion (HasEntry store.now.entries) flood.now.flood.rows }
     ensures { IfOk result (λ rows. rows.items ≡ map summary_of (filter (λ e. ssn_in flood.now.flood.rows e.id link) store.now.entries)) }
 {
     let _order = store.len();
-    let mut rows = Vec::new(store.allocator());
+    let mut rows = memory;
     if !flood.may_ask(link) {
         return Ok(rows);
     }
@@ -224,7 +227,13 @@ fn push_due(
 }
 
 /// Returns the frames to be sent on a link that is up.
-fn due_frames(conf: &RouterConf, store: &Store, flood: &Flood, link: u16) -> M<SentFrames>
+fn due_frames(
+    conf: &RouterConf,
+    store: &Store,
+    flood: &Flood,
+    link: u16,
+    memory: &mut SendMemory,
+) -> M<SentFrames>
     requires end { link < length conf.now.ends }
     requires link { link < length flood.now.flood.up }
     requires short { AllByRecursion IsShort store.now.entries }
@@ -234,24 +243,34 @@ fn due_frames(conf: &RouterConf, store: &Store, flood: &Flood, link: u16) -> M<S
     ensures sizes { IfOk result (λ sent. FitRecords sent) }
 {
     let entries = store.as_slice();
-    let mut out = FramesOut::new(store.allocator());
+    let mut out = FramesOut::in_memory(memory);
     push_due(&mut out, conf, link, flood, entries)?;
     push_lsps(&mut out, conf, link, flood, store)?;
-    let rows = asked_rows(store, flood, link)?;
+    let rows = asked_rows(store, flood, link, memory.take_rows())?;
     push_psnps(&mut out, conf, link, rows.as_slice())?;
-    Ok(out.into_sent())
+    Ok(out.into_sent_keeping(memory, rows))
 }
 
 impl Control {
     /// Returns what is due on a link that is up.
-    #[tactic(auto, unfolding(wire_base::specs::model::Flooding::send, wire_base::specs::model::OnFrame::framed))]
     pub(crate) fn due(&self, link: u16) -> M<Effects>
         requires { is_up self.now link ≡ true }
         ensures due { IfOk result (λ e. e ≡ (framed link (send self.now link)).effects) }
         ensures sizes { IfOk result (λ e. FitRecords e.sent) }
     {
+        let mut memory = SendMemory::new(self.allocator());
+        self.due_in(link, &mut memory)
+    }
+
+    /// Returns the same, in memory that serves again.
+    #[tactic(auto, unfolding(wire_base::specs::model::Flooding::send, wire_base::specs::model::OnFrame::framed))]
+    pub(crate) fn due_in(&self, link: u16, memory: &mut SendMemory) -> M<Effects>
+        requires { is_up self.now link ≡ true }
+        ensures due { IfOk result (λ e. e ≡ (framed link (send self.now link)).effects) }
+        ensures sizes { IfOk result (λ e. FitRecords e.sent) }
+    {
         let alloc = self.allocator();
-        let sent = due_frames(&self.conf, &self.store, &self.flood, link)?;
+        let sent = due_frames(&self.conf, &self.store, &self.flood, link, memory)?;
         Ok(Effects {
             sent,
             got: Rows::new(alloc),

@@ -6,11 +6,11 @@ use Rattle.router_core.proofs.MergeLaws.{landed, to_ask, asked_first, asked_step
 use Rattle.router_core.proofs.sending.asked_rows.Goals as goal
 
 pub returns-then-not-may_ask : goal.returns-then-not-may_ask
-returns-then-not-may_ask c = c.new-rows.ensures.items ∙ sym (ap (λ (es : List Entry). map summary_of es) (idle-asked c.args.flood.now.flood.rows c.args.link c.args.store.now.entries (c.may_ask.ensures c.if-not-may_ask.true)))
+returns-then-not-may_ask c = c.requires.empty ∙ sym (ap (λ (es : List Entry). map summary_of es) (idle-asked c.args.flood.now.flood.rows c.args.link c.args.store.now.entries (c.may_ask.ensures c.if-not-may_ask.true)))
 
 pub rows-init : goal.rows-init
 rows-init c = record {
-  done = asked_first c.args.store.now.entries c.args.flood.now.flood.rows c.args.link c.next_asked-place.result c.new-rows.result.items c.next_asked-place.ensures;
+  done = asked_first c.args.store.now.entries c.args.flood.now.flood.rows c.args.link c.next_asked-place.result c.args.memory.items c.next_asked-place.ensures;
   flagged = landed (to_ask c.args.store.now.entries c.args.flood.now.flood.rows c.args.link) c.args.flood.now.flood.rows 0 c.next_asked-place.result c.next_asked-place.ensures;
 }
 
@@ -22,5 +22,5 @@ rows-preserved c = record {
 
 pub returns : goal.returns
 returns c =
-    asked_end c.args.store.now.entries c.args.flood.now.flood.rows c.args.link c.len-order.ensures.database.in_order c.requires.order c.requires.flagged c.rows.place c.new-rows.result.items c.rows.rows.items c.new-rows.ensures.items
+    asked_end c.args.store.now.entries c.args.flood.now.flood.rows c.args.link c.len-order.ensures.database.in_order c.requires.order c.requires.flagged c.rows.place c.args.memory.items c.rows.rows.items c.requires.empty
     (let le : length c.args.flood.now.flood.rows ≤ c.rows.place = omega (arith, c.rows-test.false, c.rows-count.ensures) in le) c.rows.invariant.done

@@ -14,8 +14,8 @@ use Rattle.domain_core.proofs.TransitLaws.{same_frames}
 use Rattle.domain_core.proofs.TurnLaws.{router_there, control_at, same_heard}
 use Rattle.domain_core.proofs.network.Network.send_on_link.Goals as goal
 
-pub due-requires : goal.due-requires
-due-requires c =
+pub due_in-requires : goal.due_in-requires
+due_in-requires c =
     let n = state_of c.args.self.now in
     let r = c.index_mut-router.result.now in
     let there = router_there n.routers c.from.result c.args.from r c.from.ensures c.requires.place c.index_mut-router.ensures.value in
