@@ -1,3 +1,4 @@
 pub mod ReadLemmas
+pub mod SameLaws
 pub mod SumLemmas
 pub mod WriteLemmas

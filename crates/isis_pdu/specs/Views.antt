@@ -22,6 +22,13 @@ pdu_of (Psnp source tlvs) = PsnpPdu source tlvs.now
 pdu_of Hello = HelloPdu
 pdu_of (Other number) = OtherPdu number
 
+-- what is tested of an LSP, from its LSP ID on, with that Remaining Lifetime: its checksum, and then its TLVs
+abbrev pub verified_at : ℕ → List ℕ → List ℕ → Result (Unit {0}) PduFault
+verified_at life octets tlvs =
+    if nat_lt 0 life && not (is_right octets) then Err faults.Checksum
+    else if tlvs_pass false tlvs then Ok tt
+    else Err faults.Tlv
+
 -- an LSP from its LSP ID on, with that Remaining Lifetime: what lsp_at parses after the lifetime
 abbrev pub covered_at : ℕ → List ℕ → Result PduItem PduFault
 covered_at life octets = do

@@ -6,12 +6,15 @@
 
 mod checksum;
 mod kinds;
+mod known;
 mod reader;
+mod same;
 mod writer;
 
 pub use checksum::{checksum_at, right_sum};
 pub use kinds::{LspHead, Pdu};
-pub use reader::read_pdu;
+pub use known::KnownLsps;
+pub use reader::{read_pdu, read_pdu_with};
 pub use wire_base::PduFault;
 pub use writer::{
     CSNP_FRONT, LSP_FRONT, MOST_LISTED_OCTETS, PSNP_FRONT, append_csnp, append_lsp, append_psnp,

@@ -1,12 +1,14 @@
-ghost use Rattle.std.specs.Prelude.{◌≡◌, ◌<◌, Ok, IfOk, length, slice_index, drop};
+ghost use Rattle.std.specs.Prelude.{◌≡◌, ◌<◌, true, Ok, IfOk, length, slice_index, drop};
 ghost use Rattle.wire_base.specs.model.Fields.{Gives};
 ghost use Rattle.wire_base.specs.model.Pdu.{lsp_type, csnp_type, psnp_type, passes, tlvs_pass, sized_at, lsp_at, csnp_at, psnp_at, body_at, pdu_at, IsPdu};
 ghost use Rattle.wire_base.specs.model.Pdu.{Pdu as PduItem};
 ghost use Rattle.isis_tlv.specs.Views.{item};
-ghost use Rattle.isis_pdu.specs.Views.{covered_at, pdu_of};
+ghost use Rattle.isis_pdu.specs.Known.{IsVerified};
+ghost use Rattle.isis_pdu.specs.Views.{covered_at, verified_at, pdu_of};
 
 use crate::checksum::right_sum;
 use crate::kinds::{LspHead, Pdu};
+use crate::known::KnownLsps;
 use isis_tlv::{Tlv, TlvWalk, lsp_id_of};
 use wire_base::codepoints::TLV_LSP_ENTRIES;
 use wire_base::fields::{read_octets, read_six, read_u8, read_u16, read_u32};
@@ -79,20 +81,71 @@ fn sized(size: u16, bytes: &[u8]) -> Result<(&[u8], &[u8]), PduFault>
     read_octets(PduFault::PduLength, usize::from(n - 10), rest)
 }
 
-/// Parses an LSP from its LSP ID on, the part that its checksum covers.
-fn read_covered(life: u16, covered: &[u8]) -> Result<Pdu<'_>, PduFault>
-    ensures { Gives pdu_of result (covered_at life covered.now) }
+/// Returns whether an LSP, from its LSP ID on, is known to be verified.
+fn is_known(known: Option<&KnownLsps>, covered: &[u8]) -> bool
+    ensures { result ≡ true → IsVerified covered.now }
 {
-    let (id, rest) = lsp_id_of(PduFault::PduLength, covered)?;
-    let (seq, rest) = read_u32(PduFault::PduLength, rest)?;
-    let (sum, rest) = read_u16(PduFault::PduLength, rest)?;
-    let (flags, tlvs) = read_u8(PduFault::PduLength, rest)?;
+    match known {
+        None => false,
+        Some(lsps) => lsps.has(covered),
+    }
+}
+
+/// Remembers an LSP that was verified.
+fn note(known: Option<&KnownLsps>, covered: &[u8])
+    requires { IsVerified covered.now }
+{
+    if let Some(lsps) = known {
+        lsps.note(covered);
+    }
+}
+
+/// Tests the checksum of an LSP, from its LSP ID on, unless its Remaining Lifetime is 0, and then its TLVs.
+fn verify(life: u16, covered: &[u8], tlvs: &[u8], known: Option<&KnownLsps>) -> Result<(), PduFault>
+    requires { tlvs.now ≡ drop 15 covered.now }
+    ensures { Gives (λ done. tt) result (verified_at life covered.now tlvs.now) }
+{
     if life > 0 && !right_sum(covered) {
         return Err(PduFault::Checksum);
     }
     if !tlvs_are_whole(false, tlvs) {
         return Err(PduFault::Tlv);
     }
+    if life > 0 {
+        note(known, covered);
+    }
+    Ok(())
+}
+
+/// The same, at once where the LSP is known to be verified.
+fn test_lsp(
+    life: u16,
+    covered: &[u8],
+    tlvs: &[u8],
+    known: Option<&KnownLsps>,
+) -> Result<(), PduFault>
+    requires { tlvs.now ≡ drop 15 covered.now }
+    ensures { Gives (λ done. tt) result (verified_at life covered.now tlvs.now) }
+{
+    if is_known(known, covered) {
+        return Ok(());
+    }
+    verify(life, covered, tlvs, known)
+}
+
+/// Parses an LSP from its LSP ID on, the part that its checksum covers.
+fn read_covered<'a>(
+    life: u16,
+    covered: &'a [u8],
+    known: Option<&KnownLsps>,
+) -> Result<Pdu<'a>, PduFault>
+    ensures { Gives pdu_of result (covered_at life covered.now) }
+{
+    let (id, rest) = lsp_id_of(PduFault::PduLength, covered)?;
+    let (seq, rest) = read_u32(PduFault::PduLength, rest)?;
+    let (sum, rest) = read_u16(PduFault::PduLength, rest)?;
+    let (flags, tlvs) = read_u8(PduFault::PduLength, rest)?;
+    test_lsp(life, covered, tlvs, known)?;
     Ok(Pdu::Lsp {
         head: LspHead {
             life,
@@ -106,12 +159,12 @@ fn read_covered(life: u16, covered: &[u8]) -> Result<Pdu<'_>, PduFault>
 }
 
 #[tactic(auto, unfolding(wire_base::specs::model::Pdu::lsp_at))]
-fn read_lsp(bytes: &[u8]) -> Result<Pdu<'_>, PduFault>
+fn read_lsp<'a>(bytes: &'a [u8], known: Option<&KnownLsps>) -> Result<Pdu<'a>, PduFault>
     ensures { Gives pdu_of result (lsp_at bytes.now) }
 {
     let (body, _) = sized(27, bytes)?;
     let (life, covered) = read_u16(PduFault::PduLength, body)?;
-    read_covered(life, covered)
+    read_covered(life, covered, known)
 }
 
 #[tactic(auto, unfolding(wire_base::specs::model::Pdu::csnp_at))]
@@ -152,14 +205,20 @@ fn read_psnp(bytes: &[u8]) -> Result<Pdu<'_>, PduFault>
 
 /// Parses the PDU with that header length and that type, from its ninth octet on.
 #[tactic(auto, unfolding(wire_base::specs::model::Pdu::body_at))]
-fn read_body(level: Level, size: u8, number: u8, bytes: &[u8]) -> Result<Pdu<'_>, PduFault>
+fn read_body<'a>(
+    level: Level,
+    size: u8,
+    number: u8,
+    bytes: &'a [u8],
+    known: Option<&KnownLsps>,
+) -> Result<Pdu<'a>, PduFault>
     ensures { Gives pdu_of result (body_at level size number bytes.now) }
 {
     if number == lsp_number(level) {
         if size != 27 {
             return Err(PduFault::HeaderLength);
         }
-        return read_lsp(bytes);
+        return read_lsp(bytes, known);
     }
     if number == csnp_number(level) {
         if size != 33 {
@@ -180,7 +239,11 @@ fn read_body(level: Level, size: u8, number: u8, bytes: &[u8]) -> Result<Pdu<'_>
 }
 
 #[tactic(auto, unfolding(wire_base::specs::model::Pdu::pdu_at))]
-fn read_front(level: Level, bytes: &[u8]) -> Result<Pdu<'_>, PduFault>
+fn read_front<'a>(
+    level: Level,
+    bytes: &'a [u8],
+    known: Option<&KnownLsps>,
+) -> Result<Pdu<'a>, PduFault>
     ensures { Gives pdu_of result (pdu_at level bytes.now) }
 {
     if bytes.len() < 8 {
@@ -195,7 +258,7 @@ fn read_front(level: Level, bytes: &[u8]) -> Result<Pdu<'_>, PduFault>
     if bytes[3] != 0 && bytes[3] != 6 {
         return Err(PduFault::IdLength);
     }
-    read_body(level, bytes[1], bytes[4] % 32, &bytes[8..])
+    read_body(level, bytes[1], bytes[4] % 32, &bytes[8..], known)
 }
 
 /// Parses the PDU at the start of the octets. Returns the first rule that they break, in the order of [`PduFault`]
@@ -211,5 +274,22 @@ pub fn read_pdu(level: Level, bytes: &[u8]) -> Result<Pdu<'_>, PduFault>
     // The exact result.
     ensures exact { Gives pdu_of result (pdu_at level bytes.now) }
 {
-    read_front(level, bytes)
+    read_front(level, bytes, None)
+}
+
+/// Like [`read_pdu`]. Of an LSP that is known to be verified, neither the checksum nor the TLVs are tested again, and one that is verified is
+/// remembered.
+pub fn read_pdu_with<'a>(
+    level: Level,
+    bytes: &'a [u8],
+    known: &KnownLsps,
+) -> Result<Pdu<'a>, PduFault>
+    // The result is a PDU of the grammar.
+    ensures found { IfOk result (λ p. IsPdu level bytes.now (pdu_of p)) }
+    // What is in the grammar is parsed, whatever follows it.
+    ensures only { (p : PduItem) → IsPdu level bytes.now p → Gives pdu_of result (Ok p) }
+    // The exact result.
+    ensures exact { Gives pdu_of result (pdu_at level bytes.now) }
+{
+    read_front(level, bytes, Some(known))
 }
