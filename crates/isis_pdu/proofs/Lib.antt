@@ -1,4 +1,3 @@
 pub mod ReadLemmas
-pub mod SameLaws
 pub mod SumLemmas
 pub mod WriteLemmas

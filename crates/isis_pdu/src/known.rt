@@ -2,8 +2,8 @@
 ghost use Rattle.std.specs.Prelude.{◌≡◌, ◌<◌, true, OnOk};
 ghost use Rattle.isis_pdu.specs.Known.{IsVerified};
 
-use crate::same::are_same_octets;
 use byteorder::{BigEndian, ByteOrder};
+use same_octets::are_same_octets;
 use std::alloc::Global;
 use std::cell::RefCell;
 use std::marker::Model;

@@ -8,7 +8,6 @@ mod checksum;
 mod kinds;
 mod known;
 mod reader;
-mod same;
 mod writer;
 
 pub use checksum::{checksum_at, right_sum};

@@ -2,7 +2,7 @@
 ghost use Rattle.std.specs.Prelude.{◌≡◌, true, map};
 ghost use Rattle.lsp_store.specs.Topologies.{as_read};
 
-use crate::same::are_same_octets;
+use same_octets::are_same_octets;
 use wire_base::{Entry, SubKind};
 
 fn is_same_kind(a: SubKind, b: SubKind) -> bool

@@ -2,8 +2,8 @@
 ghost use Rattle.std.specs.Prelude.{◌≡◌, ◌<◌, IfOk};
 
 use crate::keys::system_key;
-use crate::same::are_same_octets;
 use crate::topologies::Topologies;
+use same_octets::are_same_octets;
 use std::alloc::Global;
 use std::cell::RefCell;
 use std::rc::Rc;

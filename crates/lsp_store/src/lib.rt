@@ -11,7 +11,6 @@ mod contents;
 mod entries;
 mod keys;
 mod places;
-mod same;
 mod seconds;
 mod store;
 mod topologies;

@@ -1,5 +1,5 @@
 //! The topology that was computed last, which several LSDBs share.
-ghost use Rattle.std.specs.Prelude.{◌≡◌, ◌++◌, ◌∷◌, [], OnOk, IfOk, IfSome};
+ghost use Rattle.std.specs.Prelude.{◌≡◌, IfOk, IfSome};
 ghost use Rattle.lsp_store.specs.Topologies.{AreNodesOf, seen_claims};
 
 use crate::alike::{are_alike, are_same_kinds};

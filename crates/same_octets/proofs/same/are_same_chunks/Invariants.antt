@@ -1,5 +1,5 @@
 use Rattle.std.proofs.Common.{◌≡◌, ◌-◌, take}
-use Rattle.isis_pdu.proofs.same.are_same_chunks.Given as goal
+use Rattle.same_octets.proofs.same.are_same_chunks.Given as goal
 
 -- the octets before an index are equal
 abbrev pub invariant-chunks : goal.invariant-chunks

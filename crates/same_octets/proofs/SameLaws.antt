@@ -23,6 +23,14 @@ none_differ (x ∷ xs) (y ∷ ys) same none = elim (eqb_tells x y) [
       absurd (omega (arith, left))
 ]
 
+-- and none differs in equal lists
+all_alike : (xs : List ℕ) → mask_l (zip2 differs xs xs) ≡ 0
+all_alike [] = refl
+all_alike (x ∷ xs) = elim (eqb_tells x x) [
+  | inl e ↦ rw e.0 (let rest = all_alike xs in omega (arith, rest))
+  | inr e ↦ absurd (e.1 refl)
+]
+
 -- the mask of the octets that differ
 pub same_chunk : (a b : List ℕ) (at : ℕ) → at + 32 ≤ length a → at + 32 ≤ length b
     → mask_l (map (top 7) (zip2 (λ x y. cond (differs x y) 255 0) (chunk at 32 a) (chunk at 32 b))) % 2 ^ 64 ≡ 0 → chunk at 32 a ≡ chunk at 32 b
@@ -35,6 +43,19 @@ same_chunk a b at in_a in_b none =
     let wide = length-zip2 differs xs ys even in
     let mask = ap (λ (m : List Bool). mask_l m % 2 ^ 64) (tops_compared w8 differs xs ys) ∙ mask_l-mod (zip2 differs xs ys) 64 (omega (arith, wide, long_a)) in
     none_differ xs ys even (sym mask ∙ none)
+
+pub alike_chunk : (a b : List ℕ) (at : ℕ) → at + 32 ≤ length a → at + 32 ≤ length b → chunk at 32 a ≡ chunk at 32 b
+    → mask_l (map (top 7) (zip2 (λ x y. cond (differs x y) 255 0) (chunk at 32 a) (chunk at 32 b))) % 2 ^ 64 ≡ 0
+alike_chunk a b at in_a in_b same =
+    let xs = chunk at 32 a in
+    let ys = chunk at 32 b in
+    let long_a = length-chunk at 32 a in_a in
+    let even : length xs ≡ length ys = ap (λ (l : List ℕ). length l) same in
+    let wide = length-zip2 differs xs ys even in
+    ap (λ (m : List Bool). mask_l m % 2 ^ 64) (tops_compared w8 differs xs ys)
+    ∙ mask_l-mod (zip2 differs xs ys) 64 (omega (arith, wide, long_a))
+    ∙ ap (λ (l : List ℕ). mask_l (zip2 differs xs l)) (sym same)
+    ∙ all_alike xs
 
 -- more octets at the front
 pub same_more : (a b : List ℕ) (at n : ℕ) → take at a ≡ take at b → chunk at n a ≡ chunk at n b → take (at + n) a ≡ take (at + n) b

@@ -1,13 +1,7 @@
 use Rattle.std.proofs.Common.{◌≡◌, ◌-◌, ◌≤◌, length, take}
-use Rattle.lsp_store.proofs.same.are_same_words.Given as goal
+use Rattle.same_octets.proofs.same.are_same_ones.Given as goal
 
 -- the octets before an index are equal
-abbrev pub invariant-words : goal.invariant-words
-invariant-words l = (l.at ≤ length l.a) × (take l.at l.a ≡ take l.at l.b)
-
-abbrev pub decreases-words : goal.decreases-words
-decreases-words l = length l.a - l.at
-
 abbrev pub invariant-octets : goal.invariant-octets
 invariant-octets l = (l.at ≤ length l.a) × (take l.at l.a ≡ take l.at l.b)
 

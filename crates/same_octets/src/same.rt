@@ -8,7 +8,8 @@ use std::simd::prelude::*;
 fn are_same_at(a: &[u8], b: &[u8], at: usize) -> bool
     requires a { at + 32 ≤ length a.now }
     requires b { at + 32 ≤ length b.now }
-    ensures { result ≡ true → chunk at 32 a.now ≡ chunk at 32 b.now }
+    ensures equal { result ≡ true → chunk at 32 a.now ≡ chunk at 32 b.now }
+    ensures only { chunk at 32 a.now ≡ chunk at 32 b.now → result ≡ true }
 {
     let ours = Simd::<u8, 32>::from_slice(&a[at..]);
     let theirs = Simd::<u8, 32>::from_slice(&b[at..]);
@@ -19,7 +20,8 @@ fn are_same_at(a: &[u8], b: &[u8], at: usize) -> bool
 fn are_same_chunks(a: &[u8], b: &[u8]) -> bool
     requires same { length a.now ≡ length b.now }
     requires long { 32 ≤ length a.now }
-    ensures { result ≡ true → a.now ≡ b.now }
+    ensures equal { result ≡ true → a.now ≡ b.now }
+    ensures only { a.now ≡ b.now → result ≡ true }
 {
     let last = a.len() - 32;
     let mut at = 0;
@@ -35,7 +37,8 @@ fn are_same_chunks(a: &[u8], b: &[u8]) -> bool
 /// The same, octet by octet.
 fn are_same_ones(a: &[u8], b: &[u8]) -> bool
     requires same { length a.now ≡ length b.now }
-    ensures { result ≡ true → a.now ≡ b.now }
+    ensures equal { result ≡ true → a.now ≡ b.now }
+    ensures only { a.now ≡ b.now → result ≡ true }
 {
     let mut at = 0;
     'octets: while at < a.len() {
@@ -48,8 +51,9 @@ fn are_same_ones(a: &[u8], b: &[u8]) -> bool
 }
 
 /// Returns whether two lists of octets are equal.
-pub(crate) fn are_same_octets(a: &[u8], b: &[u8]) -> bool
-    ensures { result ≡ true → a.now ≡ b.now }
+pub fn are_same_octets(a: &[u8], b: &[u8]) -> bool
+    ensures equal { result ≡ true → a.now ≡ b.now }
+    ensures only { a.now ≡ b.now → result ≡ true }
 {
     if a.len() != b.len() {
         return false;

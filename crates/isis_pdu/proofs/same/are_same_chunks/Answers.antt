@@ -1,9 +1,0 @@
-use Rattle.std.proofs.Common.{◌-◌, length, arith}
-use Rattle.isis_pdu.proofs.SameLaws.{same_more, same_whole}
-use Rattle.isis_pdu.proofs.same.are_same_chunks.Goals as goal
-
-pub chunks-preserved : goal.chunks-preserved
-chunks-preserved c = same_more c.args.a.now c.args.b.now c.chunks.at 32 c.chunks.invariant (c.are_same_at.ensures c.if-not-are_same_at.false)
-
-pub returns : goal.returns
-returns c = λ is. same_whole c.args.a.now c.args.b.now c.chunks.at (length c.args.a.now - 32) 32 c.requires.same (omega (arith, c.requires.long)) c.chunks-test.false c.chunks.invariant (c.are_same_at-2.ensures is)
