@@ -1,6 +1,6 @@
 //! Rows of flags stored as three lists of one length: a search reads only the LSP IDs, and a scan of one kind of flags does not
 //! read the other kind.
-ghost use Rattle.std.specs.Prelude.{◌≡◌, ◌<◌, ◌≤◌, ◌+◌, [], map, drop, ℕ, nat_le, length, slice_set, slice_index_or, IsOk, OnOk, OnErr};
+ghost use Rattle.std.specs.Prelude.{◌≡◌, ◌<◌, ◌≤◌, ◌+◌, [], map, drop, ℕ, true, nat_le, length, slice_set, slice_index_or, IsOk, OnOk, OnErr};
 ghost use Rattle.std.specs.List.{insert, list_any, position_or_len, remove};
 ghost use Rattle.isis_flood.specs.Masks.{at_bit, held_row, rows_of, row_ids, clears};
 
@@ -110,8 +110,31 @@ impl Columns {
         self.ssn.remove(place);
     }
 
-    /// Reserves room for that many more rows.
+    /// Returns whether all three lists have room for that many more rows.
+    fn has_room(&self, n: usize) -> bool
+        ensures { result ≡ true → n ≤ self.now.spare }
+    {
+        n <= self.ids.capacity() - self.ids.len() && n <= self.srm.room() && n <= self.ssn.room()
+    }
+
+    /// Reserves room for that many more rows. Mostly there is room already, which is tested first.
+    #[inline(always)]
     pub(crate) fn reserve(&mut self, n: usize) -> M<()>
+        ensures rows { self.new.rows ≡ self.old.rows }
+        ensures ok { OnOk result (n ≤ self.new.spare) }
+        ensures room { n ≤ self.old.spare → IsOk result }
+        ensures spare { self.old.spare ≤ self.new.spare }
+        ensures narrow { self.new.narrow ≡ self.old.narrow }
+    {
+        if self.has_room(n) {
+            return Ok(());
+        }
+        self.grow(n)
+    }
+
+    /// Grows all three lists as needed for that many more rows.
+    #[inline(never)]
+    fn grow(&mut self, n: usize) -> M<()>
         ensures rows { self.new.rows ≡ self.old.rows }
         ensures ok { OnOk result (n ≤ self.new.spare) }
         ensures room { n ≤ self.old.spare → IsOk result }

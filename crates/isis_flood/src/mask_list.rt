@@ -104,6 +104,16 @@ impl MaskList {
         }
     }
 
+    /// Returns for how many more masks there is room.
+    pub(crate) fn room(&self) -> usize
+        ensures { result ≡ room_in self.now }
+    {
+        match self {
+            MaskList::Octets(list) => list.capacity() - list.len(),
+            MaskList::Words(list) => list.capacity() - list.len(),
+        }
+    }
+
     /// Reserves room for that many more masks.
     pub(crate) fn reserve(&mut self, n: usize) -> M<()>
         ensures masks { masks_in self.new ≡ masks_in self.old }

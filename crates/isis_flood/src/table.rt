@@ -162,7 +162,36 @@ impl Table {
         self.row_at(self.find(id), *id)
     }
 
+    /// Replaces the row that is there.
+    fn replace(&mut self, place: usize, row: Bits)
+        requires { IsPlace self.old.rows row.id true place }
+        ensures rows { self.new.rows ≡ put_bits (held_row self.old.narrow row) self.old.rows }
+        ensures spare { self.new.spare ≡ self.old.spare }
+        ensures narrow { self.new.narrow ≡ self.old.narrow }
+    {
+        self.sending = joined(self.sending, row.srm);
+        self.asking = joined(self.asking, row.ssn);
+        self.items.set(place, row);
+    }
+
+    /// Inserts a row at an index. Most rows are there already, and this is not on their way.
+    #[inline(never)]
+    fn insert(&mut self, place: usize, row: Bits) -> M<()>
+        requires { IsPlace self.old.rows row.id false place }
+        ensures ok { OnOk result (self.new.rows ≡ put_bits (held_row self.old.narrow row) self.old.rows) }
+        ensures err { OnErr result (self.new.rows ≡ self.old.rows) }
+        ensures room { 0 < self.old.spare → IsOk result }
+        ensures spare { self.old.spare ≤ self.new.spare + 1 }
+        ensures narrow { self.new.narrow ≡ self.old.narrow }
+    {
+        self.items.insert(place, row)?;
+        self.sending = joined(self.sending, row.srm);
+        self.asking = joined(self.asking, row.ssn);
+        Ok(())
+    }
+
     /// Inserts a row at the index that was found, or replaces the row that is there.
+    #[inline(always)]
     pub(crate) fn put_at(&mut self, found: Found, row: Bits) -> M<()>
         requires { IsPlace self.old.rows row.id found.is_there found.place }
         ensures ok { OnOk result (self.new.rows ≡ put_bits (held_row self.old.narrow row) self.old.rows) }
@@ -172,15 +201,10 @@ impl Table {
         ensures narrow { self.new.narrow ≡ self.old.narrow }
     {
         if found.is_there {
-            self.sending = joined(self.sending, row.srm);
-            self.asking = joined(self.asking, row.ssn);
-            self.items.set(found.place, row);
+            self.replace(found.place, row);
             return Ok(());
         }
-        self.items.insert(found.place, row)?;
-        self.sending = joined(self.sending, row.srm);
-        self.asking = joined(self.asking, row.ssn);
-        Ok(())
+        self.insert(found.place, row)
     }
 
     /// Inserts a row in order, or replaces the one with its LSP ID. `guess` is a guess of the index.
