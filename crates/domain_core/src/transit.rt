@@ -132,6 +132,7 @@ impl Network {
         ensures frames { OnErr result (self.new.flights ≡ self.old.flights) }
         ensures domain { self.new.domain ≡ self.old.domain }
     {
+        let alloc = self.allocator();
         if !self.is_end_up(to, back) {
             return self.drop_frame(from, link, i, to, Cause::Link);
         }
@@ -139,7 +140,8 @@ impl Network {
             return Ok(None);
         };
         let router = &mut self.routers[usize::from(to)];
-        let effects = router.frame(back, flight.octets)?;
+        let mut effects = Effects::nothing(alloc);
+        router.frame_into(back, flight.octets, &mut effects)?;
         if is_silent(&effects) {
             self.flights.remove(from, link, i as usize);
             return Ok(None);

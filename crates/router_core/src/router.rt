@@ -147,13 +147,29 @@ impl Router {
         ensures heard { OnOk result (self.new.heard ≡ counted self.old.heard) }
         ensures err { OnErr result (self.new ≡ self.old) }
     {
-        let _few = self.control.conf();
         let mut effects = Effects::nothing(self.control.allocator());
-        self.control
-            .frame(&mut self.kept, link, bytes, &mut effects)?;
+        self.frame_into(link, bytes, &mut effects)?;
+        Ok(effects)
+    }
+
+    /// Does the same, and writes the effects where there are none yet. So effects are not moved, most of which are empty.
+    pub fn frame_into(&mut self, link: u16, bytes: &[u8], effects: &mut Effects) -> M<()>
+        requires link { link < length self.old.control.conf.ends }
+        requires short { length bytes.now ≤ MOST_FRAME }
+        requires empty { effects.old ≡ nothing }
+        ensures next { OnOk result (record { control = self.new.control; effects = effects.new } ≡ on_frame self.old.control link bytes.now) }
+        ensures untaken { OnOk result (list_any leaves_state effects.new.drops ≡ true → self.new.control ≡ self.old.control) }
+        ensures few { OnOk result (length effects.new.sent ≤ most_sent (packet_hopped self.old.control.conf bytes.now)) }
+        ensures sizes { OnOk result (FitRecords effects.new.sent) }
+        ensures entries { length self.new.control.entries ≤ MOST_ENTRIES }
+        ensures heard { OnOk result (self.new.heard ≡ counted self.old.heard) }
+        ensures err { OnErr result (self.new ≡ self.old) }
+    {
+        let _few = self.control.conf();
+        self.control.frame(&mut self.kept, link, bytes, effects)?;
         let _still_few = self.control.conf();
         self.heard = self.heard.saturating_add(1);
-        Ok(effects)
+        Ok(())
     }
 
     /// Lets one second pass: each entry of the LSDB ages, and the router's own LSP is refreshed when its Remaining

@@ -64,15 +64,15 @@ returns-then-not-is_end_up-clause-err c = err_on c.drop_frame.result _ _ c.drop_
 pub returns-then-not-is_end_up-clause-frames : goal.returns-then-not-is_end_up-clause-frames
 returns-then-not-is_end_up-clause-frames c = err_on c.drop_frame.result _ _ c.drop_frame.ensures.err (λ same. ap (λ (m : NetworkState). m.flights) same)
 
-pub frame-requires-clause-link : goal.frame-requires-clause-link
-frame-requires-clause-link c =
+pub frame_into-requires-clause-link : goal.frame_into-requires-clause-link
+frame_into-requires-clause-link c =
     let n = state_of c.args.self.now in
     let r = c.index_mut-router.result.now in
     let there = router_there n.routers c.from.result c.args.to r c.from.ensures c.requires.place c.index_mut-router.ensures.value in
     link_within (world_in c.args.self.now) c.args.to c.args.from c.args.back r.control (control_at n c.args.to r there) c.requires.facing c.requires.truth.truth
 
-pub frame-requires-clause-short : goal.frame-requires-clause-short
-frame-requires-clause-short c =
+pub frame_into-requires-clause-short : goal.frame_into-requires-clause-short
+frame_into-requires-clause-short c =
     let n = state_of c.args.self.now in
     let r = c.index_mut-router.result.now in
     let f = c.in-Some.flight in
@@ -87,13 +87,13 @@ returns-then-is_silent-clause-done c =
     let f = c.in-Some.flight in
     let there = router_there n.routers c.from.result c.args.to r c.from.ensures c.requires.place c.index_mut-router.ensures.value in
     let up : is_up r.control c.args.back ≡ true = end_is (world_in c.args.self.now) c.args.to c.args.back r.control true (control_at n c.args.to r there) c.if-not-is_end_up.ensures in
-    let done = c.in_ok-effects.ensures.next ∙ ap (λ (octets : List ℕ). on_frame r.control c.args.back octets) (ap (λ (x : Flight). x.octets) c.flight.view_is) in
-    let effects = c.in_ok-effects.effects in
+    let done = c.in_ok-frame_into.ensures.next ∙ ap (λ (octets : List ℕ). on_frame r.control c.args.back octets) (ap (λ (x : Flight). x.octets) c.flight.view_is) in
+    let effects = c.frame_into.new.effects in
     let silent : IsSilent effects = c.is_silent.ensures.0 c.if-is_silent.true in
     let gone : c.remove.new.self ≡ push_all_sent n.domain.routers c.args.to (number_of f) (without_frame n.flights c.args.from c.args.link c.args.i) effects.sent =
     c.remove.ensures ∙ ap (λ (ss : List Sent). push_all_sent n.domain.routers c.args.to (number_of f) (without_frame n.flights c.args.from c.args.link c.args.i) ss) (sym silent.sent) in
     let k = taken_done n c.requires.truth c.args.from c.args.to c.args.link c.args.back c.args.i r there c.requires.joined up f c.in-Some.ensures (without_frame n.flights c.args.from c.args.link c.args.i) refl
-    c.requires.facing c.from.result c.from.ensures c.frame.new.self effects done c.remove.new.self gone (outcome None) (silent_told n.domain.routers c.args.to (number_of f) (ids_seen (confs_in n) f) effects silent) in
+    c.requires.facing c.from.result c.from.ensures c.frame_into.new.self effects done c.remove.new.self gone (outcome None) (silent_told n.domain.routers c.args.to (number_of f) (ids_seen (confs_in n) f) effects silent) in
     record { world = k.world; frames = k.frames; answer = k.answer }
 
 pub returns-then-is_silent-clause-heard : goal.returns-then-is_silent-clause-heard
@@ -103,7 +103,7 @@ returns-then-is_silent-clause-heard c =
     let f = c.in-Some.flight in
     let there = router_there n.routers c.from.result c.args.to r c.from.ensures c.requires.place c.index_mut-router.ensures.value in
     let up : is_up r.control c.args.back ≡ true = end_is (world_in c.args.self.now) c.args.to c.args.back r.control true (control_at n c.args.to r there) c.if-not-is_end_up.ensures in
-    heard_there n c.requires.truth c.args.from c.args.to c.args.link c.args.back c.args.i r there c.requires.joined up f c.in-Some.ensures c.requires.facing c.from.result c.from.ensures c.frame.new.self c.in_ok-effects.ensures.heard
+    heard_there n c.requires.truth c.args.from c.args.to c.args.link c.args.back c.args.i r there c.requires.joined up f c.in-Some.ensures c.requires.facing c.from.result c.from.ensures c.frame_into.new.self c.in_ok-frame_into.ensures.heard
 
 pub queue_taken-requires-clause-known : goal.queue_taken-requires-clause-known
 queue_taken-requires-clause-known c = leads_to (world_in c.args.self.now) c.args.to c.args.from c.args.back c.requires.truth.truth c.requires.facing c.confs_of-confs.result.now c.confs_of-confs.ensures.confs
@@ -115,13 +115,13 @@ returns-clause-err c =
     let f = c.in-Some.flight in
     let there = router_there n.routers c.from.result c.args.to r c.from.ensures c.requires.place c.index_mut-router.ensures.value in
     let up : is_up r.control c.args.back ≡ true = end_is (world_in c.args.self.now) c.args.to c.args.back r.control true (control_at n c.args.to r there) c.if-not-is_end_up.ensures in
-    let done = c.in_ok-effects.ensures.next ∙ ap (λ (octets : List ℕ). on_frame r.control c.args.back octets) (ap (λ (x : Flight). x.octets) c.flight.view_is) in
-    let effects = c.in_ok-effects.effects in
-    let kept = frame_conf n c.requires.truth c.args.from c.args.to c.args.link c.args.back c.args.i r there c.requires.joined up f c.in-Some.ensures c.frame.new.self.control effects done in
+    let done = c.in_ok-frame_into.ensures.next ∙ ap (λ (octets : List ℕ). on_frame r.control c.args.back octets) (ap (λ (x : Flight). x.octets) c.flight.view_is) in
+    let effects = c.frame_into.new.effects in
+    let kept = frame_conf n c.requires.truth c.args.from c.args.to c.args.link c.args.back c.args.i r there c.requires.joined up f c.in-Some.ensures c.frame_into.new.self.control effects done in
     with_err c.queue_taken.result _ _ _ c.queue_taken.ensures.err c.queue_taken.ensures.memory (λ same tells. record {
-      world = ap (λ (fs : List (List (List Flight))). world_of (record n { routers = slice_set n.routers c.from.result c.frame.new.self; flights = fs })) same
-          ∙ still_world n c.args.to r there c.from.result c.from.ensures c.frame.new.self kept (unmoved n c.requires.truth c.args.from c.args.to c.args.link c.args.back c.args.i r there c.requires.joined up f c.in-Some.ensures c.frame.new.self.control effects done tells);
-      heard = inr (heard_there n c.requires.truth c.args.from c.args.to c.args.link c.args.back c.args.i r there c.requires.joined up f c.in-Some.ensures c.requires.facing c.from.result c.from.ensures c.frame.new.self c.in_ok-effects.ensures.heard);
+      world = ap (λ (fs : List (List (List Flight))). world_of (record n { routers = slice_set n.routers c.from.result c.frame_into.new.self; flights = fs })) same
+          ∙ still_world n c.args.to r there c.from.result c.from.ensures c.frame_into.new.self kept (unmoved n c.requires.truth c.args.from c.args.to c.args.link c.args.back c.args.i r there c.requires.joined up f c.in-Some.ensures c.frame_into.new.self.control effects done tells);
+      heard = inr (heard_there n c.requires.truth c.args.from c.args.to c.args.link c.args.back c.args.i r there c.requires.joined up f c.in-Some.ensures c.requires.facing c.from.result c.from.ensures c.frame_into.new.self c.in_ok-frame_into.ensures.heard);
     })
 
 pub returns-clause-done : goal.returns-clause-done
@@ -132,16 +132,16 @@ returns-clause-done c =
     let f = c.in-Some.flight in
     let there = router_there n.routers c.from.result c.args.to r c.from.ensures c.requires.place c.index_mut-router.ensures.value in
     let up : is_up r.control c.args.back ≡ true = end_is (world_in c.args.self.now) c.args.to c.args.back r.control true (control_at n c.args.to r there) c.if-not-is_end_up.ensures in
-    let done = c.in_ok-effects.ensures.next ∙ ap (λ (octets : List ℕ). on_frame r.control c.args.back octets) (ap (λ (x : Flight). x.octets) c.flight.view_is) in
+    let done = c.in_ok-frame_into.ensures.next ∙ ap (λ (octets : List ℕ). on_frame r.control c.args.back octets) (ap (λ (x : Flight). x.octets) c.flight.view_is) in
     let confs = c.confs_of-confs.ensures.confs in
-    let effects = c.in_ok-effects.effects in
+    let effects = c.frame_into.new.effects in
     let flights = c.queue_taken.new.flights in
-    let kept = frame_conf n c.requires.truth c.args.from c.args.to c.args.link c.args.back c.args.i r there c.requires.joined up f c.in-Some.ensures c.frame.new.self.control effects done in
+    let kept = frame_conf n c.requires.truth c.args.from c.args.to c.args.link c.args.back c.args.i r there c.requires.joined up f c.in-Some.ensures c.frame_into.new.self.control effects done in
     let reader = option_map (λ q. q.now) c.reader_if_dropped-reader.result in
     let read : (effects.drops ≡ [] → ⊥) → reader ≡ router_at (confs_in n) (place_seen os f) = λ some.
     c.reader_if_dropped-reader.ensures.reader some
     ∙ ap (λ (rs : List RouterState). router_at (confs_of rs) (place_seen c.confs_of-confs.result.now f)) c.as_slice-routers.ensures.value
-    ∙ ap (λ (cs : List RouterConf). router_at cs (place_seen c.confs_of-confs.result.now f)) (confs_kept n c.args.to r there c.from.result c.frame.new.self c.from.ensures kept)
+    ∙ ap (λ (cs : List RouterConf). router_at cs (place_seen c.confs_of-confs.result.now f)) (confs_kept n c.args.to r there c.from.result c.frame_into.new.self c.from.ensures kept)
     ∙ ap (λ (cs : List RouterConf). router_at (confs_in n) (place_seen cs f)) confs in
     with_ok c.queue_taken.result _ _ _ c.queue_taken.ensures.out c.queue_taken.ensures.ok (λ out tells put.
     let pushed = put
@@ -152,7 +152,7 @@ returns-clause-done c =
     ∙ ap (λ (o : Option Flight). option_map (λ (g : Flight). told_of os c.args.to (number_of g) (ids_read reader g) effects) o) (sym c.in-Some.ensures))
     ∙ told_taken n c.requires.truth c.args.from c.args.to c.args.link c.args.back c.args.i r there c.requires.joined up f c.in-Some.ensures effects reader read in
     let k = taken_done n c.requires.truth c.args.from c.args.to c.args.link c.args.back c.args.i r there c.requires.joined up f c.in-Some.ensures (without_frame n.flights c.args.from c.args.link c.args.i) refl
-    c.requires.facing c.from.result c.from.ensures c.frame.new.self effects done flights pushed (outcome out) answer in
+    c.requires.facing c.from.result c.from.ensures c.frame_into.new.self effects done flights pushed (outcome out) answer in
     record { world = k.world; frames = k.frames; answer = k.answer })
 
 pub returns-clause-heard : goal.returns-clause-heard
@@ -162,4 +162,4 @@ returns-clause-heard c =
     let f = c.in-Some.flight in
     let there = router_there n.routers c.from.result c.args.to r c.from.ensures c.requires.place c.index_mut-router.ensures.value in
     let up : is_up r.control c.args.back ≡ true = end_is (world_in c.args.self.now) c.args.to c.args.back r.control true (control_at n c.args.to r there) c.if-not-is_end_up.ensures in
-    on_ok c.queue_taken.result _ (heard_there n c.requires.truth c.args.from c.args.to c.args.link c.args.back c.args.i r there c.requires.joined up f c.in-Some.ensures c.requires.facing c.from.result c.from.ensures c.frame.new.self c.in_ok-effects.ensures.heard)
+    on_ok c.queue_taken.result _ (heard_there n c.requires.truth c.args.from c.args.to c.args.link c.args.back c.args.i r there c.requires.joined up f c.in-Some.ensures c.requires.facing c.from.result c.from.ensures c.frame_into.new.self c.in_ok-frame_into.ensures.heard)
