@@ -1,6 +1,7 @@
 pub mod Reading
 pub mod Fault
 pub mod Pieces
+pub mod Places
 pub mod Tokens
 pub mod Ids
 pub mod Room

@@ -18,6 +18,7 @@ mod keyword;
 mod listed;
 mod payload;
 mod pieces;
+mod place;
 mod positions;
 mod report;
 mod schedule_line;

@@ -7,9 +7,11 @@ ghost use Rattle.wire_base.specs.model.Place.{bits_of};
 ghost use Rattle.bier_bits.specs.Any.{positions_of};
 ghost use Rattle.bier_bits.specs.Sets.{is_width, from_on};
 ghost use Rattle.replay_text.specs.Ids.{ids_text};
+ghost use Rattle.replay_text.specs.Places.{IsPlace, left};
 ghost use Rattle.replay_text.specs.Room.{IsFront};
 
 use crate::block::Block;
+use crate::place::{Place, next_position};
 use bier_bits::{AnyBits, BitString};
 use wire_base::{Bsl, M, Octets};
 
@@ -65,15 +67,30 @@ pub fn put_bit_string(out: &mut Octets, block: &mut Block, bsl: Bsl, octets: &[u
     ensures err { OnErr result (IsFront (out.old ++ block.old) (ids_text (set_of octets.now)) (out.new ++ block.new)) }
     ensures front { (text : List ℕ) → take (length text) out.old ≡ text → take (length text) out.new ≡ text }
 {
-    match bsl {
-        Bsl::B64 => put_set(out, block, &BitString::<1>::read(octets)),
-        Bsl::B128 => put_set(out, block, &BitString::<2>::read(octets)),
-        Bsl::B256 => put_set(out, block, &BitString::<4>::read(octets)),
-        Bsl::B512 => put_set(out, block, &BitString::<8>::read(octets)),
-        Bsl::B1024 => put_set(out, block, &BitString::<16>::read(octets)),
-        Bsl::B2048 => put_set(out, block, &BitString::<32>::read(octets)),
-        Bsl::B4096 => put_set(out, block, &BitString::<64>::read(octets)),
+    let _bits = bsl.bits();
+    block.make_room(out)?;
+    let mut place = Place::new(octets);
+    let Some(first) = next_position(octets, &mut place) else {
+        block.push(b'-');
+        return Ok(());
+    };
+    block.few(first);
+    put_places(out, block, octets, place)
+}
+
+/// Appends a comma and the number of each bit position from a place on.
+fn put_places(out: &mut Octets, block: &mut Block, octets: &[u8], start: Place) -> M<()>
+    requires { IsPlace octets.now start.at start.from start.above }
+    ensures ok { OnOk result (out.new ++ block.new ≡ out.old ++ (block.old ++ flat_map (λ next. 44 ∷ decimal next) (left octets.now start.from))) }
+    ensures err { OnErr result (IsFront (out.old ++ block.old) (flat_map (λ next. 44 ∷ decimal next) (left octets.now start.from)) (out.new ++ block.new)) }
+    ensures front { (text : List ℕ) → take (length text) out.old ≡ text → take (length text) out.new ≡ text }
+{
+    let mut place = start;
+    'positions: while let Some(position) = next_position(octets, &mut place) {
+        block.make_room(out)?;
+        block.listed(position);
     }
+    Ok(())
 }
 
 /// Does the same for a bit string of one width.
