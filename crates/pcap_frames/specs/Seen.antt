@@ -1,5 +1,5 @@
 -- How contracts model a reader and its records.
-use Rattle.std.specs.Prelude.{◌≡◌, ◌≤◌, ◌-◌, nat_lt, if◌then◌else◌, ℕ, List, length, drop, Result, Ok, Err, Option, Some, None, option_map}
+use Rattle.std.specs.Prelude.{◌≡◌, ◌≤◌, ◌-◌, nat_lt, if◌then◌else◌, ℕ, Bool, true, false, List, [], length, drop, Result, Ok, Err, Option, Some, None, option_map}
 use Rattle.wire_base.specs.declared.faults.CaptureFault.{CaptureFault}
 use Rattle.wire_base.specs.declared.faults.CaptureFault.TheVariants as faults
 use Rattle.wire_base.specs.model.Capture.{CaptureForm, CaptureRecord, Stage, HeaderToCome, HeaderRead, Refused}
@@ -49,9 +49,34 @@ IsLasting fault = (fault ≡ faults.Memory) → ⊥
 abbrev pub opened : List ℕ → Option Form → Option (CaptureForm × List ℕ)
 opened octets = option_map (λ form. (form_seen form, drop 24 octets))
 
--- the record, and the octets after it
-abbrev pub taken : List ℕ → Option (CapRecord × ℕ) → Option (CaptureRecord × List ℕ)
-taken octets = option_map (λ read. (record_seen read.0, drop read.1 octets))
+-- the record that was read, and the octets after it
+abbrev pub taken : CapRecord → List ℕ → Option ℕ → Option (CaptureRecord × List ℕ)
+taken read octets = option_map (λ size. (record_seen read, drop size octets))
+
+-- the record that was read, if one was found
+abbrev pub found : CapRecord → Bool → Option CaptureRecord
+found read true = Some (record_seen read)
+found read false = None
+
+-- What a record that is to be read into holds where none was read: what it held before. After out of memory its frame is empty.
+abbrev pub HoldsElse : CapRecord → CaptureFault → CapRecord → Type 0
+HoldsElse before faults.Memory now = now ≡ record before { octets = [] }
+HoldsElse before faults.Magic now = now ≡ before
+HoldsElse before faults.Version now = now ≡ before
+HoldsElse before faults.LinkType now = now ≡ before
+HoldsElse before faults.CutHeader now = now ≡ before
+HoldsElse before faults.CutRecord now = now ≡ before
+HoldsElse before faults.LongRecord now = now ≡ before
+
+abbrev pub Holds : {A : Type 0} → CapRecord → Result (Option A) CaptureFault → CapRecord → Type 0
+Holds before (Ok (Some x)) now = Unit {0}
+Holds before (Ok None) now = now ≡ before
+Holds before (Err fault) now = HoldsElse before fault now
+
+abbrev pub HoldsFound : CapRecord → Result Bool CaptureFault → CapRecord → Type 0
+HoldsFound before (Ok true) now = Unit {0}
+HoldsFound before (Ok false) now = now ≡ before
+HoldsFound before (Err fault) now = HoldsElse before fault now
 
 -- a parsed header is present
 abbrev pub HasHeader : ℕ → Option Form → Type 0
@@ -59,8 +84,8 @@ HasHeader n (Some form) = 24 ≤ n
 HasHeader n None = Unit {0}
 
 -- a parsed record is within that many octets
-abbrev pub IsWithin : ℕ → Option (CapRecord × ℕ) → Type 0
-IsWithin n (Some (read, size)) = size ≤ n
+abbrev pub IsWithin : ℕ → Option ℕ → Type 0
+IsWithin n (Some size) = size ≤ n
 IsWithin n None = Unit {0}
 
 -- a reader's error is kept

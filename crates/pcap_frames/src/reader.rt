@@ -1,16 +1,15 @@
 //! A reader of a capture file whose octets arrive in chunks.
-ghost use Rattle.std.specs.Prelude.{◌≡◌, ◌≤◌, ◌↔◌, ℕ, List, length, drop, OnOk, OnErr, Ok, None, option_map};
+ghost use Rattle.std.specs.Prelude.{◌≡◌, ◌≤◌, ◌↔◌, ℕ, List, length, drop, OnOk, OnErr, Ok, None, false, option_map};
 ghost use Rattle.std.specs.List.{concat};
 ghost use Rattle.wire_base.specs.model.Capture.{CaptureRecord, IsCapture, Reading, unread, fed, drained, read_pieces, capture_at, next_of, by_header, by_record, header_at, record_at, end_of, HeaderToCome};
 ghost use Rattle.wire_base.specs.model.Fields.{AreOctets};
-ghost use Rattle.pcap_frames.specs.Seen.{form_seen, record_seen, Answers, after_answer, fault_in, opened_end, cut_end};
+ghost use Rattle.pcap_frames.specs.Seen.{form_seen, record_seen, found, Answers, HoldsFound, after_answer, fault_in, opened_end, cut_end};
 
 use crate::header::{Form, HEADER, read_header};
 use crate::record::{CapRecord, read_record};
 use std::alloc::Global;
 use std::marker::Model;
-use std::mem;
-use wire_base::{CaptureFault, M, Octets};
+use wire_base::{CaptureFault, M};
 
 /// The state of a reader: before the header, at a record, or at an error, which is permanent.
 #[derive(Clone, Copy, Debug, PartialEq, Eq)]
@@ -21,13 +20,12 @@ enum Step {
 }
 
 /// A reader of a capture file. It is fed the file in chunks of any size, and returns each record as soon as it is complete. It
-/// stores what it was fed and has not yet returned, at most as many octets more, and one frame that was given back.
+/// stores what it was fed and has not yet returned, and at most as many octets more.
 #[derive(Drop)]
 pub struct Reader {
     step: Step,
     bytes: Vec<u8>,
     at: usize,
-    spare: Octets,
 }
 
 impl Model for Reader {
@@ -53,7 +51,6 @@ impl Reader {
             step: Step::Header,
             bytes: Vec::new(alloc),
             at: 0,
-            spare: Octets::new(alloc),
         }
     }
 
@@ -67,14 +64,6 @@ impl Reader {
         }
         self.bytes.extend_from_slice(piece)?;
         Ok(())
-    }
-
-    /// Takes the frame of a record that is no longer needed. If the next call finds a record, its frame is copied into that memory,
-    /// so that no allocation is needed where it is large enough.
-    pub fn give_back(&mut self, frame: Octets)
-        ensures { self.new ≡ self.old }
-    {
-        self.spare = frame;
     }
 
     /// Moves the remaining octets to the front. The returned part is at least as long, so that all moves together take no more
@@ -94,29 +83,47 @@ impl Reader {
     /// Errors: 1 Magic, the first four octets are not A1B2C3D4 or A1B23C4D in either byte order; 2 Version, it is not 2.4;
     /// 3 LinkType, the low 16 bits are not 1, for Ethernet; 6 LongRecord, a frame of more than 262,144 octets; or
     /// Memory. After Memory the same record is still available; any other error is returned from then on.
-    #[tactic(auto, unfolding(wire_base::specs::model::Capture::next_of))]
     pub fn next(&mut self) -> Result<Option<CapRecord>, CaptureFault>
         ensures exact { Answers (option_map record_seen) result (next_of self.old).0 }
         ensures after { self.new ≡ after_answer result self.old (next_of self.old).1 }
         ensures none { result ≡ Ok None → (next_of self.new).0 ≡ Ok None }
     {
+        let mut cap = CapRecord::empty(*self.bytes.allocator());
+        match self.next_into(&mut cap) {
+            Ok(true) => Ok(Some(cap)),
+            Ok(false) => Ok(None),
+            Err(fault) => Err(fault),
+        }
+    }
+
+    /// Reads the next record into `cap`, whose memory is used again for the frame, and returns whether there was one. False
+    /// exactly where [`Reader::next`] returns None, and the errors are the same. The record is unchanged if none was read; after
+    /// Memory its frame is empty.
+    #[tactic(auto, unfolding(wire_base::specs::model::Capture::next_of))]
+    pub fn next_into(&mut self, cap: &mut CapRecord) -> Result<bool, CaptureFault>
+        ensures exact { Answers (found cap.new) result (next_of self.old).0 }
+        ensures after { self.new ≡ after_answer result self.old (next_of self.old).1 }
+        ensures none { result ≡ Ok false → (next_of self.new).0 ≡ Ok None }
+        ensures holds { HoldsFound cap.old result cap.new }
+    {
         match self.step {
-            Step::Header => self.open(),
-            Step::Records(form) => self.take_record(form, 0),
+            Step::Header => self.open(cap),
+            Step::Records(form) => self.take_record(form, 0, cap),
             Step::Refused(fault) => Err(fault),
         }
     }
 
     /// Reads the header, and then a record.
-    fn open(&mut self) -> Result<Option<CapRecord>, CaptureFault>
+    fn open(&mut self, cap: &mut CapRecord) -> Result<bool, CaptureFault>
         requires { self.old.stage ≡ HeaderToCome }
-        ensures exact { Answers (option_map record_seen) result (by_header self.old.octets (header_at self.old.octets)).0 }
+        ensures exact { Answers (found cap.new) result (by_header self.old.octets (header_at self.old.octets)).0 }
         ensures after { self.new ≡ after_answer result self.old (by_header self.old.octets (header_at self.old.octets)).1 }
+        ensures holds { HoldsFound cap.old result cap.new }
     {
         let read = read_header(&self.bytes.as_slice()[self.at..]);
         match read {
-            Ok(Some(form)) => self.take_record(form, HEADER),
-            Ok(None) => Ok(None),
+            Ok(Some(form)) => self.take_record(form, HEADER, cap),
+            Ok(None) => Ok(false),
             Err(fault) => {
                 self.step = Step::Refused(fault);
                 Err(fault)
@@ -125,25 +132,29 @@ impl Reader {
     }
 
     /// Reads a record, after `skip` octets that are removed first.
-    fn take_record(&mut self, form: Form, skip: usize) -> Result<Option<CapRecord>, CaptureFault>
+    fn take_record(
+        &mut self,
+        form: Form,
+        skip: usize,
+        cap: &mut CapRecord,
+    ) -> Result<bool, CaptureFault>
         requires { skip ≤ length self.old.octets }
-        ensures exact { Answers (option_map record_seen) result (by_record (form_seen form) (drop skip self.old.octets) (record_at (form_seen form) (drop skip self.old.octets))).0 }
+        ensures exact { Answers (found cap.new) result (by_record (form_seen form) (drop skip self.old.octets) (record_at (form_seen form) (drop skip self.old.octets))).0 }
         ensures after { self.new ≡ after_answer result self.old (by_record (form_seen form) (drop skip self.old.octets) (record_at (form_seen form) (drop skip self.old.octets))).1 }
+        ensures holds { HoldsFound cap.old result cap.new }
     {
-        let alloc = *self.bytes.allocator();
         let at = self.at + skip;
-        let memory = mem::replace(&mut self.spare, Octets::new(alloc));
-        let read = read_record(form, &self.bytes.as_slice()[at..], memory);
+        let read = read_record(form, &self.bytes.as_slice()[at..], cap);
         match read {
-            Ok(Some((record, size))) => {
+            Ok(Some(size)) => {
                 self.step = Step::Records(form);
                 self.at = at + size;
-                Ok(Some(record))
+                Ok(true)
             }
             Ok(None) => {
                 self.step = Step::Records(form);
                 self.at = at;
-                Ok(None)
+                Ok(false)
             }
             Err(CaptureFault::Memory) => Err(CaptureFault::Memory),
             Err(fault) => {

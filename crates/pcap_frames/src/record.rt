@@ -1,9 +1,10 @@
 //! A record of a capture file.
-ghost use Rattle.std.specs.Prelude.{◌≡◌, ◌≤◌, ◌+◌, length, drop, take, IfOk};
+ghost use Rattle.std.specs.Prelude.{◌≡◌, ◌≤◌, ◌+◌, [], true, length, drop, take, IfOk};
 ghost use Rattle.wire_base.specs.model.Capture.{record_at, frame_at, most_captured, microseconds};
-ghost use Rattle.pcap_frames.specs.Seen.{form_seen, record_seen, taken, Answers, IsWithin};
+ghost use Rattle.pcap_frames.specs.Seen.{form_seen, taken, Answers, Holds, IsWithin};
 
 use crate::header::Form;
+use std::alloc::Global;
 use wire_base::limits::MOST_CAPTURED;
 use wire_base::{CaptureFault, Octets};
 
@@ -19,16 +20,31 @@ pub struct CapRecord {
     pub octets: Octets,
 }
 
-/// Returns the record at the front and its length in octets; None if it is not complete yet. The frame is copied into the
-/// given memory, whose contents are replaced.
+impl CapRecord {
+    /// Creates a record to read into: an empty frame, which was captured at time 0.
+    pub fn empty(alloc: Global) -> CapRecord
+        ensures { result ≡ record { sec = 0; usec = 0; whole = true; octets = [] } }
+    {
+        CapRecord {
+            sec: 0,
+            usec: 0,
+            whole: true,
+            octets: Octets::new(alloc),
+        }
+    }
+}
+
+/// Reads the record at the front into `cap`, and returns its length in octets; None if it is not complete yet. The frame is
+/// copied into the memory that the record has.
 #[tactic(auto, unfolding(wire_base::specs::model::Capture::record_at))]
 pub fn read_record(
     form: Form,
     bytes: &[u8],
-    memory: Octets,
-) -> Result<Option<(CapRecord, usize)>, CaptureFault>
-    ensures exact { Answers (taken bytes.now) result (record_at (form_seen form) bytes.now) }
+    cap: &mut CapRecord,
+) -> Result<Option<usize>, CaptureFault>
+    ensures exact { Answers (taken cap.new bytes.now) result (record_at (form_seen form) bytes.now) }
     ensures within { IfOk result (IsWithin (length bytes.now)) }
+    ensures holds { Holds cap.old result cap.new }
 {
     if bytes.len() < RECORD {
         return Ok(None);
@@ -41,17 +57,12 @@ pub fn read_record(
     if bytes.len() < size {
         return Ok(None);
     }
-    let mut octets = memory;
-    octets.truncate(0);
-    octets.append(&bytes[RECORD..size])?;
-    let fraction = form.four_at(bytes, 4);
-    let record = CapRecord {
-        sec: form.four_at(bytes, 0),
-        usec: microseconds_of(form, fraction),
-        whole: captured == form.four_at(bytes, 12),
-        octets,
-    };
-    Ok(Some((record, size)))
+    cap.octets.truncate(0);
+    cap.octets.append(&bytes[RECORD..size])?;
+    cap.sec = form.four_at(bytes, 0);
+    cap.usec = microseconds_of(form, form.four_at(bytes, 4));
+    cap.whole = captured == form.four_at(bytes, 12);
+    Ok(Some(size))
 }
 
 /// Converts a fraction of a second to microseconds.
