@@ -1,5 +1,5 @@
 -- The records of a capture of either format: pcapng where the first four octets are those of a section header, pcap otherwise.
-use Rattle.std.specs.Prelude.{ℕ, ◌≡◌, ◌≤◌, true, Bool, List, [], ◌++◌, length, map, Result, Ok, Err, Option, Some, None, option_map, nat_lt, ◌==◌, if◌then◌else◌}
+use Rattle.std.specs.Prelude.{ℕ, ◌≡◌, ◌≤◌, true, false, Bool, List, [], ◌++◌, length, map, Result, Ok, Err, Option, Some, None, option_map, nat_lt, ◌==◌, if◌then◌else◌}
 use Rattle.byteorder.specs.Endian.{big_number}
 use Rattle.wire_base.specs.declared.faults.CaptureFault.{CaptureFault}
 use Rattle.wire_base.specs.declared.faults.CaptureFault.TheVariants as faults
@@ -42,6 +42,12 @@ pcap_record cap = record { interface = 0; ethernet = true; cap = cap }
 
 abbrev pub pcap_given : CaptureRecord → NgRecord
 pcap_given read = pcap_record (record { sec = read.sec; usec = read.usec; whole = read.whole; octets = read.octets })
+
+-- what a call returned that reads into a record
+abbrev pub given : NgRecord → Result Bool RecordFault → Result (Option NgRecord) RecordFault
+given read (Ok true) = Ok (Some read)
+given read (Ok false) = Ok None
+given read (Err fault) = Err fault
 
 -- ---- the format
 

@@ -3,7 +3,7 @@ ghost use Rattle.std.specs.Prelude.{◌≡◌, ◌≤◌, ℕ, [], length, Ok, E
 ghost use Rattle.wire_base.specs.model.Capture.{next_of, end_of};
 ghost use Rattle.pcapng_frames.specs.Reading.{ng_next, ng_end};
 ghost use Rattle.command_drive.specs.declared.capture_reader.CaptureReader.TheVariants as readers;
-ghost use Rattle.command_drive.specs.CaptureReading.{chosen_of, chosen, any_fed, any_next, answer_of, by_pcap, by_pcapng, any_end, fault_of, fault_number, fault_name, pcap_record};
+ghost use Rattle.command_drive.specs.CaptureReading.{chosen_of, chosen, any_fed, any_next, answer_of, by_pcap, by_pcapng, any_end, fault_of, fault_number, fault_name, given};
 
 use byteorder::{BigEndian, ByteOrder};
 use pcap_frames::{CapRecord, Reader};
@@ -70,25 +70,28 @@ impl CaptureReader {
         }
     }
 
-    /// Takes the frame of a record that is no longer needed. A reader of a pcap capture reuses its memory if the next call finds
-    /// a record.
-    pub fn give_back(&mut self, frame: Octets)
-        ensures { self.new ≡ self.old }
-    {
-        match self {
-            CaptureReader::Pcap(reader) => reader.give_back(frame),
-            CaptureReader::Unknown(_) | CaptureReader::Pcapng(_) => {}
-        }
-    }
-
     /// Returns the next record, None if it is not complete yet, or why the capture is rejected, which is permanent.
-    #[tactic(auto, unfolding(crate::specs::CaptureReading::any_next))]
     pub fn next(&mut self, alloc: Global) -> M<Result<Option<NgRecord>, RecordFault>>
         ensures exact { IfOk result (λ found. found ≡ (any_next self.old).0) }
         ensures after { OnOk result (self.new ≡ (any_next self.old).1) }
     {
+        let mut read = no_record(alloc);
+        match self.next_into(alloc, &mut read)? {
+            Ok(true) => Ok(Ok(Some(read))),
+            Ok(false) => Ok(Ok(None)),
+            Err(fault) => Ok(Err(fault)),
+        }
+    }
+
+    /// Reads the next record into `read`, and returns whether there was one. False exactly where [`CaptureReader::next`] returns
+    /// None, and the errors are the same. A reader of a pcap capture uses the memory of the record again.
+    #[tactic(auto, unfolding(crate::specs::CaptureReading::any_next))]
+    pub fn next_into(&mut self, alloc: Global, read: &mut NgRecord) -> M<Result<bool, RecordFault>>
+        ensures exact { IfOk result (λ found. given read.new found ≡ (any_next self.old).0) }
+        ensures after { OnOk result (self.new ≡ (any_next self.old).1) }
+    {
         self.choose(alloc)?;
-        self.answer()
+        self.answer(read)
     }
 
     /// Chooses the format once four octets are there.
@@ -105,15 +108,15 @@ impl CaptureReader {
         Ok(())
     }
 
-    /// Returns the next record in the format that was chosen.
-    fn answer(&mut self) -> M<Result<Option<NgRecord>, RecordFault>>
-        ensures exact { IfOk result (λ found. found ≡ (answer_of self.old).0) }
+    /// Reads the next record in the format that was chosen.
+    fn answer(&mut self, read: &mut NgRecord) -> M<Result<bool, RecordFault>>
+        ensures exact { IfOk result (λ found. given read.new found ≡ (answer_of self.old).0) }
         ensures after { OnOk result (self.new ≡ (answer_of self.old).1) }
     {
         match self {
-            CaptureReader::Unknown(_) => Ok(Ok(None)),
-            CaptureReader::Pcap(reader) => pcap_next(reader),
-            CaptureReader::Pcapng(reader) => pcapng_next(reader),
+            CaptureReader::Unknown(_) => Ok(Ok(false)),
+            CaptureReader::Pcap(reader) => pcap_next(reader, read),
+            CaptureReader::Pcapng(reader) => pcapng_next(reader, read),
         }
     }
 
@@ -147,28 +150,33 @@ fn reader_of(alloc: Global, octets: &[u8]) -> M<Option<CaptureReader>>
     Ok(Some(CaptureReader::Pcap(reader)))
 }
 
-/// Returns the next record of a pcap capture.
-fn pcap_next(reader: &mut Reader) -> M<Result<Option<NgRecord>, RecordFault>>
-    ensures exact { IfOk result (λ found. found ≡ (by_pcap (next_of reader.old)).0) }
+/// Reads the next record of a pcap capture, which has one interface, of Ethernet.
+fn pcap_next(reader: &mut Reader, read: &mut NgRecord) -> M<Result<bool, RecordFault>>
+    ensures exact { IfOk result (λ found. given read.new found ≡ (by_pcap (next_of reader.old)).0) }
     ensures after { OnOk result (readers.Pcap reader.new ≡ (by_pcap (next_of reader.old)).1) }
 {
-    let read = reader.next();
-    match read {
-        Ok(Some(cap)) => Ok(Ok(Some(on_ethernet(cap)))),
-        Ok(None) => Ok(Ok(None)),
+    match reader.next_into(&mut read.cap) {
+        Ok(found) => {
+            read.interface = 0;
+            read.ethernet = true;
+            Ok(Ok(found))
+        }
         Err(CaptureFault::Memory) => Err(Memory),
         Err(fault) => Ok(Err(RecordFault::Pcap(fault))),
     }
 }
 
-/// Returns the next record of a pcapng capture.
-fn pcapng_next(reader: &mut NgReader) -> M<Result<Option<NgRecord>, RecordFault>>
-    ensures exact { IfOk result (λ found. found ≡ (by_pcapng (ng_next reader.old)).0) }
+/// Reads the next record of a pcapng capture.
+fn pcapng_next(reader: &mut NgReader, read: &mut NgRecord) -> M<Result<bool, RecordFault>>
+    ensures exact { IfOk result (λ found. given read.new found ≡ (by_pcapng (ng_next reader.old)).0) }
     ensures after { OnOk result (readers.Pcapng reader.new ≡ (by_pcapng (ng_next reader.old)).1) }
 {
-    let read = reader.next();
-    match read {
-        Ok(found) => Ok(Ok(found)),
+    match reader.next() {
+        Ok(Some(record)) => {
+            *read = record;
+            Ok(Ok(true))
+        }
+        Ok(None) => Ok(Ok(false)),
         Err(NgFault::Memory) => Err(Memory),
         Err(fault) => Ok(Err(RecordFault::Pcapng(fault))),
     }
@@ -196,13 +204,11 @@ fn pcapng_end(reader: NgReader) -> Result<(), RecordFault>
     }
 }
 
-/// Returns a record of a pcap capture, which has one interface, of Ethernet.
-fn on_ethernet(cap: CapRecord) -> NgRecord
-    ensures { result ≡ pcap_record cap }
-{
+/// Returns a record to read into.
+pub fn no_record(alloc: Global) -> NgRecord {
     NgRecord {
         interface: 0,
         ethernet: true,
-        cap,
+        cap: CapRecord::empty(alloc),
     }
 }

@@ -5,29 +5,14 @@ ghost use Rattle.command_drive.specs.CaptureReading.{any_unread, any_fed, any_ne
 ghost use Rattle.command_drive.specs.Reading.{End};
 ghost use Rattle.command_drive.specs.Records.{close_by};
 
-use crate::capture_reader::CaptureReader;
+use crate::capture_reader::{CaptureReader, no_record};
 use crate::items::{Close, Found, Items};
 use crate::whole::{PIECE, buffer};
-use pcap_frames::CapRecord;
 use pcapng_frames::NgRecord;
 use std::alloc::Global;
 use std::mem;
 use wire_base::limits::CAPTURE_LIMIT;
-use wire_base::{M, Octets, Source};
-
-/// Returns a record that stands where none was found yet.
-fn no_record(alloc: Global) -> NgRecord {
-    NgRecord {
-        interface: 0,
-        ethernet: true,
-        cap: CapRecord {
-            sec: 0,
-            usec: 0,
-            whole: true,
-            octets: Octets::new(alloc),
-        },
-    }
-}
+use wire_base::{M, Source};
 
 /// A capture of either format that is read record by record: at most 268,435,456 octets.
 ///
@@ -110,15 +95,10 @@ impl<S: Source> Items<NgRecord, S> for RecordReader {
     fn next(&mut self, alloc: Global, input: &mut S) -> M<Found> {
         self.waits = false;
         'chunks: loop {
-            let read = self.reader.next(alloc)?;
+            let read = self.reader.next_into(alloc, &mut self.given)?;
             match read {
-                Ok(Some(record)) => {
-                    let frame = mem::replace(&mut self.given.cap.octets, Octets::new(alloc));
-                    self.reader.give_back(frame);
-                    self.given = record;
-                    return Ok(Found::Item);
-                }
-                Ok(None) => {}
+                Ok(true) => return Ok(Found::Item),
+                Ok(false) => {}
                 Err(why) => return Ok(Found::Closed(Close::Broken(why))),
             }
             if self.over {
