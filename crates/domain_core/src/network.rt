@@ -11,6 +11,7 @@ ghost use Rattle.domain_model.specs.World.{link_between, frames_between, queue_a
 use bier_forward::SentFrames;
 use domain_model::StepOut;
 use frames_in_flight::{FlightSeen, Flights, confs_of, link_between, reader_of};
+use isis_pdu::KnownLsps;
 use lsp_store::Contents;
 use router_core::{Router, SendMemory};
 use std::alloc::Global;
@@ -29,25 +30,32 @@ pub(crate) struct Network {
     pub(crate) memory: SendMemory,
 }
 
-/// Returns a router that has just started, which shares the contents of LSPs with others.
-fn router_of(alloc: Global, conf: &RouterConf, contents: &Contents) -> M<Router>
+/// Returns a router that has just started, which shares the contents of LSPs, and what is known of them, with others.
+fn router_of(
+    alloc: Global,
+    conf: &RouterConf,
+    contents: &Contents,
+    known: &KnownLsps,
+) -> M<Router>
     requires { IsSound conf.now }
     ensures { IfOk result (λ router. router ≡ started_router conf.now) }
 {
     let mut router = Router::new(alloc, conf.copy()?)?;
     router.share_contents(contents.share()?);
+    router.share_known(known.share()?);
     Ok(router)
 }
 
-/// Returns routers that have just started. They store equal contents of an LSP once.
+/// Returns routers that have just started. They store equal contents of an LSP once, and verify equal LSPs once.
 fn routers_of(alloc: Global, confs: &[RouterConf]) -> M<Vec<Router>>
     requires { AllByRecursion IsSound confs.now }
     ensures { IfOk result (λ routers. routers.items ≡ map started_router confs.now) }
 {
     let contents = Contents::new(alloc)?;
+    let known = KnownLsps::new(alloc)?;
     let mut routers = Vec::new(alloc);
     for conf in confs {
-        routers.push(router_of(alloc, conf, &contents)?)?;
+        routers.push(router_of(alloc, conf, &contents, &known)?)?;
     }
     Ok(routers)
 }

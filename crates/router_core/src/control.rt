@@ -3,6 +3,7 @@ ghost use Rattle.wire_base.specs.model.View.{control_view};
 ghost use Rattle.laws_router.specs.State.{IsRouter, IssuesAlone, is_up};
 
 use isis_flood::Flood;
+use isis_pdu::KnownLsps;
 use lsp_store::{Contents, Store};
 use std::alloc::Global;
 use std::marker::Model;
@@ -19,6 +20,8 @@ pub(crate) struct Control {
     pub(crate) spent: bool,
     /// A buffer for the entries that a PSNP lists, reused from one PSNP to the next.
     pub(crate) room: Vec<Summary>,
+    /// The LSPs that are known to be verified, if the router shares them with others.
+    pub(crate) known: Option<KnownLsps>,
 }
 
 impl Model for Control {
@@ -52,6 +55,13 @@ impl Control {
         ensures { self.new ≡ self.old }
     {
         self.store.share_contents(contents);
+    }
+
+    /// Has received LSPs verified once for all routers with these `KnownLsps`.
+    pub(crate) fn share_known(&mut self, known: KnownLsps)
+        ensures { self.new ≡ self.old }
+    {
+        self.known = Some(known);
     }
 
     pub(crate) fn flood(&self) -> &Flood

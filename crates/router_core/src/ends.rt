@@ -95,6 +95,7 @@ impl Control {
             flood,
             spent: false,
             room: Vec::new(alloc),
+            known: None,
         })
     }
 

@@ -4,6 +4,7 @@ ghost use Rattle.wire_base.specs.declared.addresses.SystemId.{SystemId};
 ghost use Rattle.wire_base.specs.declared.flood_out.FloodOut.TheVariants as out;
 ghost use Rattle.wire_base.specs.model.Flooding.{on_pdu, psnp_of, answer_lsp, snp_done};
 ghost use Rattle.wire_base.specs.model.OnFrame.{nothing, dropped, passed_over, framed, frames_of, pdu_taken, pdu_read};
+ghost use Rattle.wire_base.specs.model.Fields.{Gives};
 ghost use Rattle.wire_base.specs.model.Tlv.{rows_of};
 ghost use Rattle.wire_base.specs.model.Pdu.{LspPdu, CsnpPdu, PsnpPdu, pdu_at};
 ghost use Rattle.isis_pdu.specs.Views.{head_of, pdu_of};
@@ -18,11 +19,11 @@ use crate::kept::Kept;
 use crate::snp_needs::issue_ready;
 use bier_forward::{DropNote, Effects};
 use isis_flood::{Flood, append_listed, listed};
-use isis_pdu::{LspHead, Pdu, read_pdu};
+use isis_pdu::{LspHead, Pdu, read_pdu, read_pdu_with};
 use lsp_store::Store;
 use std::mem::replace;
 use wire_base::limits::MOST_CONTENT;
-use wire_base::{Cause, FloodOut, LspId, M, Rows, SnpOut, Summary};
+use wire_base::{Cause, FloodOut, LspId, M, PduFault, Rows, SnpOut, Summary};
 
 /// Reports that a whole frame was dropped, with no other effect.
 pub(crate) fn drop_frame(effects: &mut Effects, cause: Cause) -> M<()>
@@ -255,6 +256,16 @@ impl Control {
         self.flood_pdu(link, pdu, effects)
     }
 
+    /// Parses the octets of a PDU.
+    fn read<'a>(&self, octets: &'a [u8]) -> Result<Pdu<'a>, PduFault>
+        ensures { Gives pdu_of result (pdu_at self.now.conf.level octets.now) }
+    {
+        match &self.known {
+            None => read_pdu(self.conf.level, octets),
+            Some(known) => read_pdu_with(self.conf.level, octets, known),
+        }
+    }
+
     /// Handles the octets of a PDU, as an IS-IS frame carries them. If an allocation fails, nothing has changed.
     pub(crate) fn on_pdu(
         &mut self,
@@ -271,8 +282,7 @@ impl Control {
         ensures err { OnErr result (self.new ≡ self.old) }
         ensures kept { MayKeep self.new kept.new }
     {
-        let level = self.conf().level;
-        let read = read_pdu(level, octets);
+        let read = self.read(octets);
         match read {
             Err(fault) => drop_frame(effects, Cause::Pdu(fault)),
             Ok(pdu) => self.take_pdu(kept, link, pdu, effects),

@@ -17,6 +17,7 @@ use crate::send_memory::SendMemory;
 use crate::staleness::note_own;
 use bier_forward::Effects;
 use isis_flood::Flood;
+use isis_pdu::KnownLsps;
 use lsp_store::{Contents, Store};
 use std::alloc::Global;
 use std::marker::Model;
@@ -69,6 +70,14 @@ impl Router {
         ensures { self.new ≡ self.old }
     {
         self.control.share_contents(contents);
+    }
+
+    /// Has LSPs that it receives from now on verified once for all routers with these `KnownLsps`. Its state stays the same, and what it
+    /// does with a frame.
+    pub fn share_known(&mut self, known: KnownLsps)
+        ensures { self.new ≡ self.old }
+    {
+        self.control.share_known(known);
     }
 
     /// Returns its configuration. The only live entry of its LSDB with its own system ID is its fragment 0, with the
