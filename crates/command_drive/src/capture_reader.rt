@@ -1,5 +1,5 @@
 //! Captures of either format, pcap and pcapng, whose octets arrive in chunks.
-ghost use Rattle.std.specs.Prelude.{◌≡◌, ◌≤◌, ℕ, [], length, Ok, Err, None, Some, IfOk, OnOk, option_map};
+ghost use Rattle.std.specs.Prelude.{◌≡◌, ◌≤◌, ℕ, [], length, Ok, Err, None, Some, false, IfOk, OnOk, option_map};
 ghost use Rattle.wire_base.specs.model.Capture.{next_of, end_of};
 ghost use Rattle.pcapng_frames.specs.Reading.{ng_next, ng_end};
 ghost use Rattle.command_drive.specs.declared.capture_reader.CaptureReader.TheVariants as readers;
@@ -70,24 +70,12 @@ impl CaptureReader {
         }
     }
 
-    /// Returns the next record, None if it is not complete yet, or why the capture is rejected, which is permanent.
-    pub fn next(&mut self, alloc: Global) -> M<Result<Option<NgRecord>, RecordFault>>
-        ensures exact { IfOk result (λ found. found ≡ (any_next self.old).0) }
-        ensures after { OnOk result (self.new ≡ (any_next self.old).1) }
-    {
-        let mut read = no_record(alloc);
-        match self.next_into(alloc, &mut read)? {
-            Ok(true) => Ok(Ok(Some(read))),
-            Ok(false) => Ok(Ok(None)),
-            Err(fault) => Ok(Err(fault)),
-        }
-    }
-
-    /// Reads the next record into `read`, and returns whether there was one. False exactly where [`CaptureReader::next`] returns
-    /// None, and the errors are the same. A reader of a pcap capture uses the memory of the record again.
+    /// Reads the next record into `read`, and returns whether there is one: false if it is not complete yet, and `read` is unchanged
+    /// then. The error, why the capture is rejected, is permanent. A reader of a pcap capture uses the memory of the record again.
     #[tactic(auto, unfolding(crate::specs::CaptureReading::any_next))]
     pub fn next_into(&mut self, alloc: Global, read: &mut NgRecord) -> M<Result<bool, RecordFault>>
         ensures exact { IfOk result (λ found. given read.new found ≡ (any_next self.old).0) }
+        ensures kept { IfOk result (λ found. found ≡ Ok false → read.new ≡ read.old) }
         ensures after { OnOk result (self.new ≡ (any_next self.old).1) }
     {
         self.choose(alloc)?;
@@ -111,6 +99,7 @@ impl CaptureReader {
     /// Reads the next record in the format that was chosen.
     fn answer(&mut self, read: &mut NgRecord) -> M<Result<bool, RecordFault>>
         ensures exact { IfOk result (λ found. given read.new found ≡ (answer_of self.old).0) }
+        ensures kept { IfOk result (λ found. found ≡ Ok false → read.new ≡ read.old) }
         ensures after { OnOk result (self.new ≡ (answer_of self.old).1) }
     {
         match self {
@@ -153,14 +142,16 @@ fn reader_of(alloc: Global, octets: &[u8]) -> M<Option<CaptureReader>>
 /// Reads the next record of a pcap capture, which has one interface, of Ethernet.
 fn pcap_next(reader: &mut Reader, read: &mut NgRecord) -> M<Result<bool, RecordFault>>
     ensures exact { IfOk result (λ found. given read.new found ≡ (by_pcap (next_of reader.old)).0) }
+    ensures kept { IfOk result (λ found. found ≡ Ok false → read.new ≡ read.old) }
     ensures after { OnOk result (readers.Pcap reader.new ≡ (by_pcap (next_of reader.old)).1) }
 {
     match reader.next_into(&mut read.cap) {
-        Ok(found) => {
+        Ok(true) => {
             read.interface = 0;
             read.ethernet = true;
-            Ok(Ok(found))
+            Ok(Ok(true))
         }
+        Ok(false) => Ok(Ok(false)),
         Err(CaptureFault::Memory) => Err(Memory),
         Err(fault) => Ok(Err(RecordFault::Pcap(fault))),
     }
@@ -169,6 +160,7 @@ fn pcap_next(reader: &mut Reader, read: &mut NgRecord) -> M<Result<bool, RecordF
 /// Reads the next record of a pcapng capture.
 fn pcapng_next(reader: &mut NgReader, read: &mut NgRecord) -> M<Result<bool, RecordFault>>
     ensures exact { IfOk result (λ found. given read.new found ≡ (by_pcapng (ng_next reader.old)).0) }
+    ensures kept { IfOk result (λ found. found ≡ Ok false → read.new ≡ read.old) }
     ensures after { OnOk result (readers.Pcapng reader.new ≡ (by_pcapng (ng_next reader.old)).1) }
 {
     match reader.next() {
