@@ -6,7 +6,7 @@ ghost use Rattle.wire_base.specs.model.Flooding.{on_pdu, psnp_of, answer_lsp, sn
 ghost use Rattle.wire_base.specs.model.OnFrame.{nothing, dropped, passed_over, framed, frames_of, pdu_taken, pdu_read};
 ghost use Rattle.wire_base.specs.model.Fields.{Gives};
 ghost use Rattle.wire_base.specs.model.Tlv.{rows_of};
-ghost use Rattle.wire_base.specs.model.Pdu.{LspPdu, CsnpPdu, PsnpPdu, pdu_at};
+ghost use Rattle.wire_base.specs.model.Pdu.{LspPdu, CsnpPdu, PsnpPdu, pdu_at, IsPdu};
 ghost use Rattle.isis_pdu.specs.Views.{head_of, pdu_of};
 ghost use Rattle.router_core.specs.Keeping.{MayKeep};
 ghost use Rattle.router_core.specs.Received.{HasRoom, is_kept, list_room, list_taken};
@@ -258,7 +258,8 @@ impl Control {
 
     /// Parses the octets of a PDU.
     fn read<'a>(&self, octets: &'a [u8]) -> Result<Pdu<'a>, PduFault>
-        ensures { Gives pdu_of result (pdu_at self.now.conf.level octets.now) }
+        ensures found { IfOk result (λ p. IsPdu self.now.conf.level octets.now (pdu_of p)) }
+        ensures exact { Gives pdu_of result (pdu_at self.now.conf.level octets.now) }
     {
         match &self.known {
             None => read_pdu(self.conf.level, octets),
