@@ -182,7 +182,8 @@ impl Flood {
     }
 
     /// Changes the flags of an LSP ID for a link: SRM (to be sent) and SSN (to be acknowledged or requested). `guess` is a guess
-    /// of the row's index.
+    /// of the row's index. Each caller passes turns of its own, so that it is shorter in place.
+    #[inline(always)]
     fn turn(&mut self, id: LspId, link: u16, guess: usize, srm: Turn, ssn: Turn) -> M<()>
         requires { link < length self.old.flood.up }
         ensures ok { OnOk result (self.new.flood ≡ with_row self.old.flood id (turned link srm ssn)) }
