@@ -1,5 +1,5 @@
 -- The records of a capture of either format don't depend on how its octets come, and a fault is permanent.
-use Rattle.std.proofs.Common.{◌≡◌, ℕ, ◌<◌, ◌≤◌, Bool, true, false, ltb, List, [], ◌∷◌, ◌++◌, length, Result, Ok, Err, Option, Some, None, refl, sym, ap, ap₂, ◌∙◌, subst, append_assoc, append-nil, arith, inl, inr}
+use Rattle.std.proofs.Common.{◌≡◌, ℕ, ◌<◌, ◌≤◌, false, ltb, List, [], ◌++◌, length, Result, Ok, Err, Option, Some, None, refl, sym, ap, ◌∙◌, subst, append_assoc, append-nil, arith, inl, inr}
 use Rattle.std.proofs.lemmas.Bool.{cases_lt, cases_Bool, lt-ltb, le-ltb}
 use Rattle.std.proofs.lemmas.List.{length-append}
 use Rattle.byteorder.specs.Numbers.{big_from-append}
@@ -19,7 +19,7 @@ use Rattle.command_drive.specs.declared.capture_reader.CaptureReader.{CaptureRea
 use Rattle.command_drive.specs.declared.capture_reader.CaptureReader.TheVariants as readers
 use Rattle.command_drive.specs.declared.capture_reader.RecordFault.{RecordFault}
 use Rattle.command_drive.specs.declared.capture_reader.RecordFault.TheVariants as record_faults
-use Rattle.command_drive.specs.CaptureReading.{pcap_given, is_pcapng, chosen_of, or_unknown, chosen, any_unread, any_fed, any_size, by_pcap, by_pcapng, answer_of, any_next, any_drained, stage_fault, step_fault, any_fault}
+use Rattle.command_drive.specs.CaptureReading.{pcap_given, is_pcapng, chosen_of, or_unknown, chosen, any_fed, any_size, by_pcap, by_pcapng, answer_of, any_next, any_drained, stage_fault, step_fault, any_fault}
 
 -- ---- a record makes a reader smaller
 

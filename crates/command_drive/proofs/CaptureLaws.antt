@@ -1,5 +1,5 @@
 -- What a reader that has read nothing gives of a capture.
-use Rattle.std.proofs.Common.{◌≡◌, ℕ, zero, suc, ◌<◌, ◌≤◌, arith, Bool, true, false, not, List, [], ◌∷◌, length, take, map, Option, Some, None, Result, Ok, Err, is_some, refl, sym, ap, ap₂, ◌∙◌, inl, inr}
+use Rattle.std.proofs.Common.{◌≡◌, ℕ, zero, suc, ◌<◌, ◌≤◌, arith, Bool, true, false, not, List, [], ◌∷◌, length, take, map, Option, Some, None, Result, Ok, Err, refl, sym, ap, ap₂, ◌∙◌, inl, inr}
 use Rattle.std.specs.Prelude.{nat_lt, nat_le, option_map}
 use Rattle.std.proofs.lemmas.Bool.{cases_lt, cases_Bool, eqb-true, lt-ltb, le-ltb, le-leb, lt-leb}
 use Rattle.std.proofs.lemmas.List.{take_all}
@@ -24,7 +24,6 @@ use Rattle.command_drive.specs.declared.capture_reader.CaptureReader.{CaptureRea
 use Rattle.command_drive.specs.declared.capture_reader.CaptureReader.TheVariants as readers
 use Rattle.command_drive.specs.declared.capture_reader.RecordFault.{RecordFault}
 use Rattle.command_drive.specs.declared.capture_reader.RecordFault.TheVariants as record_faults
-use Rattle.command_drive.specs.declared.items.Close.{Close}
 use Rattle.command_drive.specs.declared.items.Close.TheVariants as close
 use Rattle.command_drive.specs.CaptureReading.{HasRecords, OfPcap, OfPcapng, pcap_given, is_pcapng, any_unread, any_fed, any_size, by_pcap, by_pcapng, any_next, any_drained, stage_fault, step_fault, any_fault, any_end, any_records}
 use Rattle.command_drive.specs.Reading.{End, Fails, Behind, Closed, Cut, Reads}

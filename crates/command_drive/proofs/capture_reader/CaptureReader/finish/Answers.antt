@@ -1,6 +1,6 @@
-use Rattle.std.proofs.Common.{◌≡◌, Ok, None, sym, ap, ◌∙◌, subst}
+use Rattle.std.proofs.Common.{◌≡◌, Ok, None, subst}
 use Rattle.command_drive.specs.declared.capture_reader.CaptureReader.{CaptureReader}
-use Rattle.command_drive.specs.CaptureReading.{any_next, any_end}
+use Rattle.command_drive.specs.CaptureReading.{any_next}
 use Rattle.command_drive.proofs.AnyLaws.{pcap_open, pcapng_open}
 use Rattle.command_drive.proofs.capture_reader.CaptureReader.finish.Goals as goal
 

@@ -1,12 +1,11 @@
 use Rattle.std.proofs.Common.{◌≡◌, ◌≤◌, ◌+◌, ◌-◌, ◌*◌, ◌∙◌, ◌++◌, ℕ, Bool, min, cond, List, [], length, take, Ok, None, refl, sym, ap, ap₂, subst, arith, append-nil}
-use Rattle.std.proofs.lemmas.List.{length-take-le, length-take, length-append}
-use Rattle.std.specs.Prelude.{Option, nat_lt}
+use Rattle.std.proofs.lemmas.List.{length-take-le, length-take}
+use Rattle.std.specs.Prelude.{nat_lt}
 use Rattle.std.specs.Io.KnownBytes.{Consumes}
 use Rattle.std.proofs.KnownBytes.{Consumes-kept, Consumes-trans}
-use Rattle.pcapng_frames.specs.declared.packet.NgRecord.{NgRecord}
 use Rattle.command_drive.specs.declared.capture_reader.CaptureReader.{CaptureReader}
 use Rattle.command_drive.specs.declared.items.Close.{Close}
-use Rattle.command_drive.specs.CaptureReading.{any_fed, any_size, any_next, given}
+use Rattle.command_drive.specs.CaptureReading.{any_fed, any_size, given}
 use Rattle.command_drive.specs.Reading.{Closed, Ends, Fails}
 use Rattle.command_drive.specs.Records.{records_read}
 use Rattle.command_drive.proofs.AnyLaws.{none_holds, record_less}
@@ -22,12 +21,12 @@ chunks-init g c = record { seeks = seeks_first (g.S.Source.left c.args.input.now
 pub returns-in-Ok-true-clause-found : goal.returns-in-Ok-true-clause-found
 returns-in-Ok-true-clause-found g c =
     let seeks = c.chunks.invariant.seeks in
-    let is = sym c.in_ok-read.ensures.exact ∙ ap (given c.next_into.new.read) (c.in-Ok-true.is ∙ ap Ok c.in-Ok-true.field-0-is) in
+    let is = sym c.in_ok-read.ensures.exact ∙ ap (given c.next_into.new.read) (c.in-Ok-true.is ∙ ap Ok c.in-Ok-true.field-0-test) in
     (seeks.octets, seeks.consumed, λ end more. seeks.is end more ∙ record_first c.chunks.self.reader c.next_into.new.self c.next_into.new.read c.in_ok-read.ensures.after is c.chunks.self.room c.chunks.self.over end more)
 
 pub returns-in-Ok-true-clause-fewer : goal.returns-in-Ok-true-clause-fewer
 returns-in-Ok-true-clause-fewer g c goes =
-    let is = sym c.in_ok-read.ensures.exact ∙ ap (given c.next_into.new.read) (c.in-Ok-true.is ∙ ap Ok c.in-Ok-true.field-0-is) in
+    let is = sym c.in_ok-read.ensures.exact ∙ ap (given c.next_into.new.read) (c.in-Ok-true.is ∙ ap Ok c.in-Ok-true.field-0-test) in
     omega (arith, ap any_size c.in_ok-read.ensures.after, record_less c.chunks.self.reader c.next_into.new.read is, c.chunks.invariant.fewer)
 
 pub returns-in-Err-clause-found : goal.returns-in-Err-clause-found
@@ -38,7 +37,7 @@ returns-in-Err-clause-found g c =
 
 pub returns-then-self-clause-found : goal.returns-then-self-clause-found
 returns-then-self-clause-found g c =
-    let none = sym c.in_ok-read.ensures.exact ∙ ap (given c.next_into.new.read) (c.in-Ok-false.is ∙ ap Ok c.in-Ok-false.field-0-is) in
+    let none = sym c.in_ok-read.ensures.exact ∙ ap (given c.next_into.new.read) (c.in-Ok-false.is ∙ ap Ok c.in-Ok-false.field-0-test) in
     let after = c.in_ok-read.ensures.after in
     let still = none_still c.chunks.self.reader c.next_into.new.self after none in
     let seeks = seeks_as (g.S.Source.left c.args.input.now) (g.S.Source.left c.chunks.input) (records_read c.args.self.now.reader c.args.self.now.room c.args.self.now.over) (records_read c.chunks.self.reader c.chunks.self.room c.chunks.self.over) (records_read c.next_into.new.self c.chunks.self.room c.chunks.self.over)
@@ -47,7 +46,7 @@ returns-then-self-clause-found g c =
 
 pub returns-then-self-2-clause-found : goal.returns-then-self-2-clause-found
 returns-then-self-2-clause-found g c =
-    let none = sym c.in_ok-read.ensures.exact ∙ ap (given c.next_into.new.read) (c.in-Ok-false.is ∙ ap Ok c.in-Ok-false.field-0-is) in
+    let none = sym c.in_ok-read.ensures.exact ∙ ap (given c.next_into.new.read) (c.in-Ok-false.is ∙ ap Ok c.in-Ok-false.field-0-test) in
     let after = c.in_ok-read.ensures.after in
     let still = none_still c.chunks.self.reader c.next_into.new.self after none in
     let seeks = seeks_as (g.S.Source.left c.args.input.now) (g.S.Source.left c.chunks.input) (records_read c.args.self.now.reader c.args.self.now.room c.args.self.now.over) (records_read c.chunks.self.reader c.chunks.self.room c.chunks.self.over) (records_read c.next_into.new.self c.chunks.self.room c.chunks.self.over)
@@ -56,14 +55,14 @@ returns-then-self-2-clause-found g c =
 
 pub returns-then-self-2-clause-fewer : goal.returns-then-self-2-clause-fewer
 returns-then-self-2-clause-fewer g c goes =
-    let none = sym c.in_ok-read.ensures.exact ∙ ap (given c.next_into.new.read) (c.in-Ok-false.is ∙ ap Ok c.in-Ok-false.field-0-is) in
+    let none = sym c.in_ok-read.ensures.exact ∙ ap (given c.next_into.new.read) (c.in-Ok-false.is ∙ ap Ok c.in-Ok-false.field-0-test) in
     let lower = none_holds c.chunks.self.reader c.next_into.new.self (both_are c.chunks.self.reader c.next_into.new.self (Ok None) c.in_ok-read.ensures.after none) in
     let before = subst (λ b. 3 * c.chunks.self.room + (2 * any_size c.chunks.self.reader + cond b 1 0) ≤ 3 * c.args.self.now.room + (2 * any_size c.args.self.now.reader + cond c.args.self.now.short 1 0)) c.if-self-2.true c.chunks.invariant.fewer in
     omega (arith, lower, before)
 
 pub returns-in_default-clause-found : goal.returns-in_default-clause-found
 returns-in_default-clause-found g c =
-    let none = sym c.in_ok-read.ensures.exact ∙ ap (given c.next_into.new.read) (c.in-Ok-false.is ∙ ap Ok c.in-Ok-false.field-0-is) in
+    let none = sym c.in_ok-read.ensures.exact ∙ ap (given c.next_into.new.read) (c.in-Ok-false.is ∙ ap Ok c.in-Ok-false.field-0-test) in
     let after = c.in_ok-read.ensures.after in
     let still = none_still c.chunks.self.reader c.next_into.new.self after none in
     let seeks = seeks_as (g.S.Source.left c.args.input.now) (g.S.Source.left c.chunks.input) (records_read c.args.self.now.reader c.args.self.now.room c.args.self.now.over) (records_read c.chunks.self.reader c.chunks.self.room c.chunks.self.over) (records_read c.next_into.new.self c.chunks.self.room c.chunks.self.over)
@@ -75,7 +74,7 @@ returns-in_default-clause-found g c =
 
 pub returns-then-count-eq0-clause-found : goal.returns-then-count-eq0-clause-found
 returns-then-count-eq0-clause-found g c =
-    let none = sym c.in_ok-read.ensures.exact ∙ ap (given c.next_into.new.read) (c.in-Ok-false.is ∙ ap Ok c.in-Ok-false.field-0-is) in
+    let none = sym c.in_ok-read.ensures.exact ∙ ap (given c.next_into.new.read) (c.in-Ok-false.is ∙ ap Ok c.in-Ok-false.field-0-test) in
     let after = c.in_ok-read.ensures.after in
     let still = none_still c.chunks.self.reader c.next_into.new.self after none in
     let seeks = seeks_as (g.S.Source.left c.args.input.now) (g.S.Source.left c.chunks.input) (records_read c.args.self.now.reader c.args.self.now.room c.args.self.now.over) (records_read c.chunks.self.reader c.chunks.self.room c.chunks.self.over) (records_read c.next_into.new.self c.chunks.self.room c.chunks.self.over)
@@ -94,12 +93,12 @@ returns-then-count-eq0-clause-found g c =
 
 pub chunks-preserved : goal.chunks-preserved
 chunks-preserved g c =
-    let none = sym c.in_ok-read.ensures.exact ∙ ap (given c.next_into.new.read) (c.in-Ok-false.is ∙ ap Ok c.in-Ok-false.field-0-is) in
+    let none = sym c.in_ok-read.ensures.exact ∙ ap (given c.next_into.new.read) (c.in-Ok-false.is ∙ ap Ok c.in-Ok-false.field-0-test) in
     let after = c.in_ok-read.ensures.after in
     let still = none_still c.chunks.self.reader c.next_into.new.self after none in
     let seeks = seeks_as (g.S.Source.left c.args.input.now) (g.S.Source.left c.chunks.input) (records_read c.args.self.now.reader c.args.self.now.room c.args.self.now.over) (records_read c.chunks.self.reader c.chunks.self.room c.chunks.self.over) (records_read c.next_into.new.self c.chunks.self.room c.chunks.self.over)
     c.chunks.invariant.seeks (record_none c.chunks.self.reader c.next_into.new.self after none c.chunks.self.room c.chunks.self.over) in
-    let none = sym c.in_ok-read.ensures.exact ∙ ap (given c.next_into.new.read) (c.in-Ok-false.is ∙ ap Ok c.in-Ok-false.field-0-is) in
+    let none = sym c.in_ok-read.ensures.exact ∙ ap (given c.next_into.new.read) (c.in-Ok-false.is ∙ ap Ok c.in-Ok-false.field-0-test) in
     let lower = none_holds c.chunks.self.reader c.next_into.new.self (both_are c.chunks.self.reader c.next_into.new.self (Ok None) c.in_ok-read.ensures.after none) in
     let before = subst (λ b. 3 * c.chunks.self.room + (2 * any_size c.chunks.self.reader + cond b 1 0) ≤ 3 * c.args.self.now.room + (2 * any_size c.args.self.now.reader + cond c.args.self.now.short 1 0)) c.if-self-2.false c.chunks.invariant.fewer in
     let into = c.read.new.into in
@@ -124,4 +123,4 @@ chunks-preserved g c =
 
 pub end-requires : goal.end-requires
 end-requires g c =
-    none_still c.chunks.self.reader c.next_into.new.self c.in_ok-read.ensures.after (sym c.in_ok-read.ensures.exact ∙ ap (given c.next_into.new.read) (c.in-Ok-false.is ∙ ap Ok c.in-Ok-false.field-0-is))
+    none_still c.chunks.self.reader c.next_into.new.self c.in_ok-read.ensures.after (sym c.in_ok-read.ensures.exact ∙ ap (given c.next_into.new.read) (c.in-Ok-false.is ∙ ap Ok c.in-Ok-false.field-0-test))
