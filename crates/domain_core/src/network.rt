@@ -31,12 +31,7 @@ pub(crate) struct Network {
 }
 
 /// Returns a router that has just started, which shares the contents of LSPs, and what is known of them, with others.
-fn router_of(
-    alloc: Global,
-    conf: &RouterConf,
-    contents: &Contents,
-    known: &KnownLsps,
-) -> M<Router>
+fn router_of(alloc: Global, conf: &RouterConf, contents: &Contents, known: &KnownLsps) -> M<Router>
     requires { IsSound conf.now }
     ensures { IfOk result (λ router. router ≡ started_router conf.now) }
 {
