@@ -1,5 +1,5 @@
 -- What a cover promises of the runs of its injection.
-use Rattle.std.proofs.Common.{◌≡◌, ℕ, ◌+◌, true, List, [], ◌∷◌, slice_get, Option, Some, None, Result, Ok, Err, IfOk, MatchResult, refl, sym, ap, subst, ◌∙◌}
+use Rattle.std.proofs.Common.{◌≡◌, ℕ, ◌+◌, true, List, [], ◌∷◌, slice_get, Option, Some, None, Result, Ok, Err, IfOk, MatchResult, refl, sym, subst, ◌∙◌}
 use mathlib.Core.Bool.{false≢true}
 use Rattle.std.proofs.lemmas.Bool.{eq-eqb}
 use Rattle.wire_base.specs.declared.bsl.Bsl.{Bsl}

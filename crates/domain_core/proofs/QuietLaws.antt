@@ -1,15 +1,14 @@
 -- A world is quiet exactly where there is no reason why not.
-use Rattle.std.proofs.Common.{◌≡◌, ℕ, ◌+◌, Bool, true, false, if◌then◌else◌, List, [], ◌∷◌, slice_get, unwrap_or, Option, Some, None, inl, inr, refl, sym, ap, subst, ◌∙◌}
+use Rattle.std.proofs.Common.{◌≡◌, ℕ, ◌+◌, Bool, true, false, if◌then◌else◌, List, [], ◌∷◌, slice_get, unwrap_or, Option, Some, None, refl, sym, ap, subst, ◌∙◌}
 use mathlib.Core.Bool.{false≢true, true≢false}
 use Rattle.std.specs.Option.{option_or}
 use Rattle.std.specs.List.{AllByRecursion}
 use Rattle.wire_base.specs.declared.addresses.LspId.{LspId}
 use Rattle.wire_base.specs.declared.conf.LinkConf.{LinkConf}
-use Rattle.wire_base.specs.declared.entry.Entry.{Entry}
 use Rattle.wire_base.specs.model.Control.{AreAscending, Control, ids_of}
 use Rattle.quiet_domain.specs.Live.{AreSameLive, IsLeastDifference, first_difference}
 use Rattle.quiet_domain.specs.declared.answer.Quiet.{Quiet}
-use Rattle.quiet_domain.specs.declared.answer.Quiet.TheVariants.{Yes, Spent, Half, Data}
+use Rattle.quiet_domain.specs.declared.answer.Quiet.TheVariants.{Yes, Spent}
 use Rattle.quiet_domain.proofs.DifferLaws.{is_first_difference, least_difference}
 use Rattle.domain_model.specs.Faults.{is_up_toward}
 use Rattle.domain_model.specs.Truth.{IsTrueControl, IsTruthful, confs_now}

@@ -1,5 +1,5 @@
 -- What is known where an event is allowed.
-use Rattle.std.proofs.Common.{◌≡◌, ℕ, ◌+◌, ◌<◌, ◌≤◌, not, nat_le, Bool, true, false, List, length, slice_get, is_none, is_some, Option, Some, None, refl, sym, ap, subst, ◌∙◌}
+use Rattle.std.proofs.Common.{◌≡◌, ℕ, ◌<◌, ◌≤◌, not, nat_le, Bool, true, false, List, length, slice_get, is_none, is_some, Option, Some, None, refl, sym, ap, subst, ◌∙◌}
 use mathlib.Core.Bool.{true≢false}
 use Rattle.std.proofs.lemmas.Option.{same_Some}
 use Rattle.wire_base.specs.declared.bsl.Bsl.{Bsl}

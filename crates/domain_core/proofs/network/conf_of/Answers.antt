@@ -1,4 +1,4 @@
-use Rattle.std.proofs.Common.{◌≡◌, ◌∙◌, Some, sym, ap, arith}
+use Rattle.std.proofs.Common.{◌∙◌, Some, sym, ap, arith}
 use Rattle.wire_base.specs.declared.conf.RouterConf.{RouterConf}
 use Rattle.domain_core.proofs.SeenLaws.{conf_got, no_conf}
 use Rattle.domain_core.proofs.TurnLaws.{router_there}

@@ -1,7 +1,6 @@
-use Rattle.std.proofs.Common.{rules, ◌≡◌, ◌<◌, ◌%◌, ℕ, List, length, map, slice_get, Option, Some, None, Ok, refl, sym, ap, subst, ◌∙◌, arith}
+use Rattle.std.proofs.Common.{◌≡◌, ◌%◌, ℕ, List, length, map, None, Ok, sym, ap, subst, ◌∙◌, arith}
 use Rattle.wire_base.specs.declared.conf.RouterConf.{RouterConf}
 use Rattle.wire_base.specs.declared.view.ViewNode.{ViewNode}
-use Rattle.wire_base.specs.model.Control.{Control}
 use Rattle.wire_base.specs.model.Ingress.{edge_fault}
 use Rattle.wire_base.specs.model.OnFrame.{node_place}
 use Rattle.wire_base.specs.model.View.{control_view}

@@ -1,4 +1,4 @@
-use Rattle.std.proofs.Common.{◌≡◌, ◌∙◌, ℕ, List, slice_get, Option, Some, None, option_map, refl, sym, ap, subst}
+use Rattle.std.proofs.Common.{◌≡◌, ◌∙◌, ℕ, List, Some, option_map, sym, ap}
 use Rattle.wire_base.specs.declared.conf.RouterConf.{RouterConf}
 use Rattle.wire_base.specs.model.Item.{Item}
 use Rattle.laws_router.specs.State.{RouterState}
@@ -6,10 +6,10 @@ use Rattle.domain_model.specs.declared.step_out.StepOut.{StepOut}
 use Rattle.domain_model.specs.Moves.{item_lost}
 use Rattle.domain_model.specs.Truth.{router_at}
 use Rattle.frames_in_flight.specs.declared.flight.Flight.{Flight}
-use Rattle.frames_in_flight.specs.Flights.{item_seen, ids_read, ids_seen, number_of, frames_at, place_seen}
+use Rattle.frames_in_flight.specs.Flights.{ids_read, number_of, place_seen}
 use Rattle.frames_in_flight.specs.Told.{told, told_lost}
 use Rattle.frames_in_flight.proofs.ReadLaws.{lost_is}
-use Rattle.domain_core.specs.Held.{state_of, world_in}
+use Rattle.domain_core.specs.Held.{state_of}
 use Rattle.domain_core.specs.Network.{confs_in, confs_of}
 use Rattle.domain_core.proofs.SeenLaws.{none_seen_at, none_there, some_seen_at}
 use Rattle.domain_core.proofs.StayLaws.{reader_is}

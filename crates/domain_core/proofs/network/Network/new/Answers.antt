@@ -1,16 +1,17 @@
-use Rattle.std.proofs.Common.{◌≡◌, ◌∙◌, sym, ap}
+use Rattle.std.proofs.Common.{◌∙◌, sym, ap}
 use Rattle.frames_in_flight.specs.Flights.{no_frames}
 use Rattle.domain_core.proofs.StartLaws.{start_world, start_heard, start_kept}
 use Rattle.domain_core.proofs.network.Network.new.Goals as goal
 
-same : (c : goal.In_ok-flights) → c.confs_of-2.result.now ≡ c.confs_of.result.now
-same c = c.confs_of-2.ensures.confs ∙ sym c.confs_of.ensures.confs
-
 pub returns-clause-world : goal.returns-clause-world
-returns-clause-world c = start_world c.args.domain c.confs_of.result.now c.confs_of.ensures.confs c.in_ok-routers.routers.items c.in_ok-routers.ensures c.in_ok-flights.flights (c.in_ok-flights.ensures ∙ ap no_frames (same c))
+returns-clause-world c =
+    start_world c.args.domain c.confs_of.result.now c.confs_of.ensures.confs c.in_ok-routers.routers.items c.in_ok-routers.ensures c.in_ok-flights.flights
+    (c.in_ok-flights.ensures ∙ ap no_frames (c.confs_of-2.ensures.confs ∙ sym c.confs_of.ensures.confs))
 
 pub returns-clause-heard : goal.returns-clause-heard
 returns-clause-heard c = start_heard c.args.domain c.confs_of.result.now c.confs_of.ensures.confs c.in_ok-routers.routers.items c.in_ok-routers.ensures
 
 pub returns-clause-kept : goal.returns-clause-kept
-returns-clause-kept c = start_kept c.args.domain c.confs_of.result.now c.confs_of.ensures.confs c.in_ok-routers.routers.items c.in_ok-routers.ensures c.confs_of.ensures.valid c.in_ok-flights.flights (c.in_ok-flights.ensures ∙ ap no_frames (same c))
+returns-clause-kept c =
+    start_kept c.args.domain c.confs_of.result.now c.confs_of.ensures.confs c.in_ok-routers.routers.items c.in_ok-routers.ensures c.confs_of.ensures.valid c.in_ok-flights.flights
+    (c.in_ok-flights.ensures ∙ ap no_frames (c.confs_of-2.ensures.confs ∙ sym c.confs_of.ensures.confs))

@@ -1,8 +1,8 @@
-use Rattle.std.proofs.Common.{◌≡◌, inr, ◌∙◌, ◌≤◌, ℕ, true, false, List, [], length, slice_get, slice_set, Option, Some, None, option_map, refl, sym, ap, subst}
+use Rattle.std.proofs.Common.{◌≡◌, inr, ◌∙◌, ◌≤◌, ℕ, true, false, List, [], length, slice_get, slice_set, Option, None, option_map, refl, sym, ap, subst}
 use Rattle.wire_base.specs.declared.limits.TheConstants.{MOST_FRAME}
 use Rattle.wire_base.specs.declared.conf.RouterConf.{RouterConf}
 use Rattle.wire_base.specs.declared.effects.Sent.{Sent}
-use Rattle.wire_base.specs.model.OnFrame.{Effects, on_frame}
+use Rattle.wire_base.specs.model.OnFrame.{on_frame}
 use Rattle.replay_text.specs.declared.event.Event.TheVariants.{Take}
 use Rattle.laws_router.specs.State.{RouterState}
 use Rattle.frames_in_flight.specs.declared.flight.Flight.{Flight}

@@ -1,4 +1,4 @@
-use Rattle.std.proofs.Common.{◌≡◌, ◌<◌, ℕ, None, Ok, IfOk, MatchResult, length, sym, ap, subst, ◌∙◌}
+use Rattle.std.proofs.Common.{◌≡◌, ◌<◌, ℕ, None, Ok, MatchResult, length, sym, subst, ◌∙◌}
 use Rattle.domain_model.specs.Truth.{IsTruthful}
 use Rattle.laws_quiet.specs.Quiet.{AreIssuers}
 use Rattle.domain_core.specs.Cover.{Rejects, cover_of}
