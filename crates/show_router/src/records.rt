@@ -6,6 +6,7 @@ use crate::ending::NoAnswer;
 use crate::refusal::{capture_refused, gap_refused, too_few};
 use command_drive::CaptureReader;
 use command_node::{RunningNode, countable};
+use pcap_frames::CapRecord;
 use pcapng_frames::NgRecord;
 use router_core::Router;
 use std::alloc::Global;
@@ -36,6 +37,15 @@ fn take_record(
     Ok(())
 }
 
+/// Returns a record to read into.
+fn no_record(alloc: Global) -> NgRecord {
+    NgRecord {
+        interface: 0,
+        ethernet: true,
+        cap: CapRecord::empty(alloc),
+    }
+}
+
 /// Processes the first records of a capture, up to that one.
 fn take_records(
     alloc: Global,
@@ -45,11 +55,12 @@ fn take_records(
 ) -> Result<(), NoAnswer> {
     let mut reader = CaptureReader::new(alloc);
     reader.feed(capture)?;
+    let mut captured = no_record(alloc);
     'records: for done in 0..last {
-        let found = reader.next(alloc)?;
+        let found = reader.next_into(alloc, &mut captured)?;
         match found {
-            Ok(Some(captured)) => take_record(alloc, node, done + 1, &captured)?,
-            Ok(None) => return Err(too_few(alloc, "records", done)),
+            Ok(true) => take_record(alloc, node, done + 1, &captured)?,
+            Ok(false) => return Err(too_few(alloc, "records", done)),
             Err(why) => return Err(capture_refused(alloc, done, why)),
         }
     }
