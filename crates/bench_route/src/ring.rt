@@ -3,7 +3,7 @@ ghost use Rattle.std.specs.Prelude.{◌≤◌, ◌<◌, ◌+◌};
 
 use lsp_store::Store;
 use std::alloc::Global;
-use wire_base::{Entry, LspId, M, Memory, Octets, SystemId};
+use wire_base::{Content, Entry, LspId, M, Memory, Octets, SystemId};
 
 /// Returns the router at an index of a ring. Router 1 is at index 0, between routers 2 and 4.
 fn router_at(nodes: u16, place: u16) -> u16
@@ -105,7 +105,7 @@ fn router_entry(alloc: Global, nodes: u16, place: u16, says: Says) -> M<Entry>
         hold: 0,
         sum: 1,
         flags: 3,
-        content,
+        content: Content::from_octets(alloc, content)?,
     })
 }
 

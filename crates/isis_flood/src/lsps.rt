@@ -114,7 +114,7 @@ impl Flood {
         if is_unknown(age) && is_full(store) {
             return Ok(FloodOut::Full);
         }
-        let gone = purge(store.allocator(), head.id, head.seq);
+        let gone = purge(head.id, head.seq);
         self.put_marked(store, gone)?;
         Ok(FloodOut::Kept)
     }
@@ -179,7 +179,7 @@ impl Flood {
             Age::Unknown => self.on_unknown(store, link, head, tlvs, guess),
             Age::Newer => self.keep(store, link, head, tlvs, guess),
             Age::Confused => {
-                let gone = purge(store.allocator(), head.id, head.seq);
+                let gone = purge(head.id, head.seq);
                 self.put_marked(store, gone)?;
                 Ok(FloodOut::Kept)
             }

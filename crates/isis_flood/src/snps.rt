@@ -12,12 +12,11 @@ use crate::entries::listed;
 use crate::flood::Flood;
 use crate::lsps::is_full;
 use lsp_store::{Store, purge};
-use std::alloc::Global;
 use wire_base::limits::PURGE_HOLD;
-use wire_base::{Age, Entry, LspId, M, Memory, Octets, SnpOut, Summary};
+use wire_base::{Age, Content, Entry, LspId, M, Memory, SnpOut, Summary};
 
 /// Returns the empty entry that requests an unknown LSP until it comes.
-fn wanted(alloc: Global, s: &Summary) -> Entry
+fn wanted(s: &Summary) -> Entry
     ensures { result ≡ wanted s.now }
 {
     Entry {
@@ -27,7 +26,7 @@ fn wanted(alloc: Global, s: &Summary) -> Entry
         hold: PURGE_HOLD,
         sum: 0,
         flags: 0,
-        content: Octets::new(alloc),
+        content: Content::new(),
     }
 }
 
@@ -54,8 +53,7 @@ impl Flood {
             answer.full += 1;
             return Ok(());
         }
-        let alloc = store.allocator();
-        if store.put_near(wanted(alloc, s), guess).is_err() {
+        if store.put_near(wanted(s), guess).is_err() {
             return Err(Memory);
         }
         self.ask(s.id, link, guess)
@@ -84,7 +82,7 @@ impl Flood {
             answer.reissue = Some(s.seq);
             return Ok(());
         }
-        let gone = purge(store.allocator(), s.id, s.seq);
+        let gone = purge(s.id, s.seq);
         if store.put(gone).is_err() {
             return Err(Memory);
         }

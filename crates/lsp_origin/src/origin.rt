@@ -7,7 +7,7 @@ use crate::content::own_content;
 use isis_pdu::checksum_at;
 use std::alloc::Global;
 use wire_base::limits::FULL_LIFE;
-use wire_base::{Entry, Level, LspId, M, Octets, RouterConf};
+use wire_base::{Content, Entry, Level, LspId, M, Octets, RouterConf};
 
 /// The index of the checksum in the octets that it covers.
 const SUM_AT: usize = 12;
@@ -68,6 +68,6 @@ pub fn originate(alloc: Global, conf: &RouterConf, up: &[bool], seq: u32) -> M<E
         hold: 0,
         sum,
         flags: own_flags(conf),
-        content,
+        content: Content::from_octets(alloc, content)?,
     })
 }

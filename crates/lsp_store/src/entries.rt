@@ -4,11 +4,11 @@ ghost use Rattle.wire_base.specs.model.Flooding.{kept};
 
 use std::alloc::Global;
 use wire_base::limits::PURGE_HOLD;
-use wire_base::{Entry, LspId, M, Octets, Summary};
+use wire_base::{Content, Entry, LspId, M, Summary};
 
 /// Returns the purge of an LSP: an expired entry that keeps its sequence number for a minute, without checksum, flags
 /// and content (ISO/IEC 10589, 7.3.16.4).
-pub fn purge(alloc: Global, id: LspId, seq: u32) -> Entry
+pub fn purge(id: LspId, seq: u32) -> Entry
     ensures { result ≡ purge id seq }
 {
     Entry {
@@ -18,7 +18,7 @@ pub fn purge(alloc: Global, id: LspId, seq: u32) -> Entry
         hold: PURGE_HOLD,
         sum: 0,
         flags: 0,
-        content: Octets::new(alloc),
+        content: Content::new(),
     }
 }
 
@@ -29,13 +29,13 @@ pub fn received(alloc: Global, s: &Summary, flags: u8, tlvs: &[u8]) -> M<Entry>
     ensures id { IfOk result (λ e. e.id ≡ s.now.id) }
 {
     if s.life == 0 {
-        return Ok(purge(alloc, s.id, s.seq));
+        return Ok(purge(s.id, s.seq));
     }
-    Ok(live(s, flags, Octets::from_slice(alloc, tlvs)?))
+    Ok(live(s, flags, Content::from_slice(alloc, tlvs)?))
 }
 
 /// Returns the entry of a live LSP with this content.
-pub(crate) fn live(s: &Summary, flags: u8, content: Octets) -> Entry
+pub(crate) fn live(s: &Summary, flags: u8, content: Content) -> Entry
     ensures { result ≡ record { id = s.now.id; seq = s.now.seq; life = s.now.life; hold = 0; sum = s.now.sum; flags = flags; content = content } }
 {
     Entry {

@@ -3,7 +3,6 @@ ghost use Rattle.wire_base.specs.model.Control.{aged, aged_to};
 ghost use Rattle.lsp_store.specs.Places.{is_removed};
 
 use crate::entries::purge;
-use std::alloc::Global;
 use wire_base::{Aged, Entry};
 
 /// Returns the effect of one second on an entry.
@@ -24,7 +23,7 @@ pub(crate) fn aged(entry: &Entry) -> Aged
 }
 
 /// Ages the entry by one second; one that is to be removed is unchanged.
-pub(crate) fn pass_second(alloc: Global, entry: &mut Entry) -> Aged
+pub(crate) fn pass_second(entry: &mut Entry) -> Aged
     ensures answer { result ≡ aged entry.old }
     ensures stays { is_removed result ≡ true → entry.new ≡ entry.old }
     ensures becomes { is_removed result ≡ false → aged_to result entry.old ≡ Some entry.new }
@@ -33,7 +32,7 @@ pub(crate) fn pass_second(alloc: Global, entry: &mut Entry) -> Aged
     let answer = aged(entry);
     match answer {
         Aged::Live => entry.life -= 1,
-        Aged::Expired => *entry = purge(alloc, entry.id, entry.seq),
+        Aged::Expired => *entry = purge(entry.id, entry.seq),
         Aged::Held => entry.hold -= 1,
         Aged::Removed => (),
     }

@@ -24,7 +24,7 @@ pub(crate) fn own_past(alloc: Global, conf: &RouterConf, up: &[bool], seq: u32) 
     ensures { IfOk result (λ e. e ≡ own_past conf.now up.now seq) }
 {
     if seq == LAST_SEQUENCE {
-        return Ok(purge(alloc, LspId::fragment_0(conf.system), seq));
+        return Ok(purge(LspId::fragment_0(conf.system), seq));
     }
     originate(alloc, conf, up, seq + 1)
 }

@@ -8,7 +8,7 @@ use lsp_store::Store;
 use std::alloc::Global;
 use std::test::Fail;
 use view_graph::view;
-use wire_base::{Bsl, Entry, First, LspId, M, Memory, Octets, RouterConf, SystemId, Triple, View};
+use wire_base::{Bsl, Content, Entry, First, LspId, M, Memory, RouterConf, SystemId, Triple, View};
 
 /// The own LSPs of B, C and D of the ring: two links of metric 10, the prefix and one label.
 const B_SAYS: &[u8] =
@@ -122,7 +122,7 @@ fn system(n: u8) -> SystemId {
 
 /// Stores a live fragment 0.
 fn put(store: &mut Store, n: u8, content: &[u8]) -> M<()> {
-    let content = Octets::from_slice(store.allocator(), content)?;
+    let content = Content::from_slice(store.allocator(), content)?;
     let answer = store.put(Entry {
         id: LspId::fragment_0(system(n)),
         seq: 1,

@@ -7,7 +7,7 @@ use isis_pdu::LspHead;
 use lsp_store::{Store, purge};
 use std::alloc::Global;
 use wire_base::limits::MOST_ENTRIES;
-use wire_base::{Entry, LspId, M, Memory, Octets, SystemId};
+use wire_base::{Content, Entry, LspId, M, Memory, SystemId};
 
 /// System, fragment, sequence number, lifetime and checksum of what arrives.
 type Said = (u8, u8, u32, u16, u16);
@@ -68,7 +68,7 @@ fn fill(store: &mut Store) -> M<()> {
             pseudonode: (number / 256) as u8,
             ..id(9, (number % 256) as u8)
         };
-        put(store, purge(store.allocator(), other, 1))?;
+        put(store, purge(other, 1))?;
     }
     Ok(())
 }
@@ -145,8 +145,8 @@ fn start(flood: &mut Flood, store: &mut Store) -> M<()>
     requires { length flood.old.flood.up ≡ 3 }
     ensures { length flood.new.flood.up ≡ 3 }
 {
-    put(store, entry(store.allocator(), id(1, 0), 3, 9))?;
-    put(store, entry(store.allocator(), id(2, 0), 5, 7))?;
+    put(store, entry(id(1, 0), 3, 9))?;
+    put(store, entry(id(2, 0), 5, 7))?;
     flood.mark_all(id(2, 0))?;
     flood.on_lsp(store, 0, &head((2, 0, 5, 900, 7)), &[], false)?;
     Ok(())
@@ -159,7 +159,7 @@ fn put(store: &mut Store, e: Entry) -> M<()> {
     }
 }
 
-fn entry(alloc: Global, id: LspId, seq: u32, sum: u16) -> Entry {
+fn entry(id: LspId, seq: u32, sum: u16) -> Entry {
     Entry {
         id,
         seq,
@@ -167,7 +167,7 @@ fn entry(alloc: Global, id: LspId, seq: u32, sum: u16) -> Entry {
         hold: 0,
         sum,
         flags: 3,
-        content: Octets::new(alloc),
+        content: Content::new(),
     }
 }
 

@@ -8,7 +8,7 @@ use crate::listings::{is_member, listing_in};
 use crate::observer::OBSERVER;
 use lsp_store::Store;
 use std::alloc::Global;
-use wire_base::{Entry, LspId, M, Memory, SystemId};
+use wire_base::{Content, Entry, LspId, M, Memory, SystemId};
 
 /// Returns a flags octet with the overload bit set or cleared (ISO/IEC 10589, 9.8).
 fn with_overload(flags: u8, is_overloaded: bool) -> u8
@@ -41,7 +41,10 @@ fn projected_entry(alloc: Global, store: &Store, entry: &Entry, mt: u16) -> M<En
         hold: entry.hold,
         sum: entry.sum,
         flags: with_overload(entry.flags, is_overloaded),
-        content: projected_content(alloc, entry.content.as_slice(), mt)?,
+        content: Content::from_octets(
+            alloc,
+            projected_content(alloc, entry.content.as_slice(), mt)?,
+        )?,
     })
 }
 

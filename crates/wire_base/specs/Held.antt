@@ -1,9 +1,9 @@
--- Where the octets of a list are stored.
-use Rattle.std.specs.Prelude.{List, ℕ, take}
-use Rattle.wire_base.specs.declared.lists.Held.{Held}
-use Rattle.wire_base.specs.declared.lists.Held.TheVariants.{Own, Shared}
+-- Where the octets of an LSP's content are stored.
+use Rattle.std.specs.Prelude.{List, [], ℕ}
+use Rattle.wire_base.specs.declared.content.Held.{Held}
+use Rattle.wire_base.specs.declared.content.Held.TheVariants.{Empty, Shared}
 
--- the octets of the list
+-- the octets of the content
 abbrev pub octets_of : Held → List ℕ
-octets_of (Own own) = own.items
-octets_of (Shared shared len) = take len shared.value.items
+octets_of Empty = []
+octets_of (Shared shared) = shared.value.items

@@ -1,6 +1,6 @@
 //! An entry of a router's LSDB, and the comparison of a received LSP with it.
 use crate::addresses::LspId;
-use crate::lists::Octets;
+use crate::content::Content;
 
 /// An entry of the LSDB. A live LSP has a Remaining Lifetime of `life` seconds and a `hold` of 0. An expired LSP, a purge,
 /// has a `life` of 0 and no content. It is kept for `hold` more seconds (ISO/IEC 10589, 7.3.16).
@@ -13,7 +13,7 @@ pub struct Entry {
     pub sum: u16,
     pub flags: u8,
     /// The octets of the LSP's TLVs.
-    pub content: Octets,
+    pub content: Content,
 }
 
 /// The result of comparing an LSP with the LSDB entry of the same LSP ID (ISO/IEC 10589, 7.3.16.2).

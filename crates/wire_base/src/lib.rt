@@ -10,6 +10,7 @@ mod bytes;
 mod cause;
 pub mod codepoints;
 mod conf;
+mod content;
 mod domain;
 mod effects;
 mod entry;
@@ -37,6 +38,7 @@ pub use conf::{
     End, Kind, LabelRange, Level, LinkConf, OwnSub, PastRange, RouterConf, SubKind, TableRow,
     end_toward,
 };
+pub use content::Content;
 pub use domain::Domain;
 pub use effects::{Got, Sent};
 pub use entry::{Age, Aged, Entry};

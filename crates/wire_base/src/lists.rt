@@ -1,67 +1,23 @@
 ghost use Rattle.std.specs.Prelude.{◌≡◌, ◌<◌, ◌++◌, ◌∷◌, [], length, set, take, OnOk, OnErr, IfOk};
 ghost use Rattle.std.specs.Fmt.{decimal};
-ghost use Rattle.wire_base.specs.Held.{octets_of};
 
-use crate::memory::{M, Memory};
+use crate::memory::M;
 use itoa::Buffer;
 use std::alloc::Global;
 use std::marker::Model;
-use std::mem::replace;
-use std::rc::Rc;
-
-/// Where the octets of a list are stored.
-enum Held {
-    /// In a vector of the list's own.
-    Own(Vec<u8>),
-    /// In a vector that several lists share; this one has as many octets of its start.
-    Shared(Rc<Vec<u8>>, usize),
-}
-
-// Written out, so that a proof about a value that holds octets doesn't see where they are stored.
-impl Drop for Held {
-    fn drop(self) {
-        match self {
-            Held::Own(octets) => drop(octets),
-            Held::Shared(octets, _) => drop(octets),
-        }
-    }
-}
 
 /// A list of octets, modeled in contracts as a list of numbers below 256.
-///
-/// Lists that `share` returns are stored once. Each is copied when it changes.
 #[derive(Drop)]
 pub struct Octets {
-    held: Held,
+    octets: Vec<u8>,
 }
 
 impl Model for Octets {
     ghost use Rattle.std.specs.Prelude.{List, ℕ};
-    ghost use Rattle.wire_base.specs.Held.{octets_of};
 
     ghost Value = { List ℕ };
 
-    ghost view = { λ o. octets_of o.held };
-}
-
-/// Returns the first `len` octets, or all of them where there are fewer.
-fn start_of(octets: &[u8], len: usize) -> &[u8]
-    ensures { result.now ≡ take len octets.now }
-{
-    if len < octets.len() {
-        return &octets[..len];
-    }
-    octets
-}
-
-/// Returns a vector of both slices, one after the other.
-fn joined(alloc: Global, first: &[u8], second: &[u8]) -> M<Vec<u8>>
-    ensures { IfOk result (λ both. both.items ≡ first.now ++ second.now) }
-{
-    let mut both = Vec::with_capacity(alloc, first.len().saturating_add(second.len()))?;
-    both.extend_from_slice(first)?;
-    both.extend_from_slice(second)?;
-    Ok(both)
+    ghost view = { λ o. o.octets.items };
 }
 
 impl Octets {
@@ -90,77 +46,35 @@ impl Octets {
     pub fn from_vec(octets: Vec<u8>) -> Self
         ensures { result ≡ octets.items }
     {
-        Octets {
-            held: Held::Own(octets),
-        }
+        Octets { octets }
+    }
+
+    /// Converts the list to a vector of the same octets.
+    pub fn into_vec(self) -> Vec<u8>
+        ensures { result.items ≡ self }
+    {
+        self.octets
     }
 
     /// Returns an equal list. Errors if an allocation fails.
     pub fn copy(&self) -> M<Self>
         ensures { IfOk result (λ copied. copied ≡ self.now) }
     {
-        Octets::from_slice(self.allocator(), self.as_slice())
-    }
-
-    /// Returns an equal list that is stored in the same memory as this one, until one of the two changes. Errors if an allocation
-    /// fails.
-    pub fn share(&mut self) -> M<Self>
-        ensures same { self.new ≡ self.old }
-        ensures shared { IfOk result (λ shared. shared ≡ self.old) }
-    {
-        self.make_shared()?;
-        match &self.held {
-            Held::Own(_) => self.copy(),
-            Held::Shared(octets, len) => Ok(Octets {
-                held: Held::Shared(octets.clone()?, *len),
-            }),
-        }
-    }
-
-    /// Stores the octets where other lists can share them.
-    fn make_shared(&mut self) -> M<()>
-        ensures { self.new ≡ self.old }
-    {
-        let Held::Own(octets) = &mut self.held else {
-            return Ok(());
-        };
-        let alloc = *octets.allocator();
-        let octets = replace(octets, Vec::new(alloc));
-        let len = octets.len();
-        match Rc::new(alloc, octets) {
-            Ok(octets) => {
-                self.held = Held::Shared(octets, len);
-                Ok(())
-            }
-            Err(failed) => {
-                self.held = Held::Own(failed.value);
-                Err(Memory)
-            }
-        }
-    }
-
-    fn allocator(&self) -> Global {
-        match &self.held {
-            Held::Own(octets) => *octets.allocator(),
-            Held::Shared(octets, _) => *octets.as_ref().allocator(),
-        }
+        Octets::from_slice(*self.octets.allocator(), self.as_slice())
     }
 
     /// Returns the octets as a slice.
     pub fn as_slice(&self) -> &[u8]
         ensures { result.now ≡ self.now }
     {
-        match &self.held {
-            Held::Own(octets) => octets.as_slice(),
-            Held::Shared(octets, len) => start_of(octets.as_ref().as_slice(), *len),
-        }
+        self.octets.as_slice()
     }
 
     /// Returns the number of octets.
     pub fn len(&self) -> usize
         ensures { result ≡ length self.now }
     {
-        self.as_slice().len()
+        self.octets.len()
     }
 
     /// Appends one octet. If an allocation fails, the list is unchanged.
@@ -169,11 +83,8 @@ impl Octets {
         ensures ok { OnOk result (self.new ≡ self.old ++ octet ∷ []) }
         ensures err { OnErr result (self.new ≡ self.old) }
     {
-        if let Held::Own(octets) = &mut self.held {
-            octets.push(octet)?;
-            return Ok(());
-        }
-        self.copy_and_append(&[octet])
+        self.octets.push(octet)?;
+        Ok(())
     }
 
     /// Appends a slice of octets. If an allocation fails, the list is unchanged.
@@ -182,21 +93,7 @@ impl Octets {
         ensures ok { OnOk result (self.new ≡ self.old ++ octets.now) }
         ensures err { OnErr result (self.new ≡ self.old) }
     {
-        if let Held::Own(own) = &mut self.held {
-            own.extend_from_slice(octets)?;
-            return Ok(());
-        }
-        self.copy_and_append(octets)
-    }
-
-    /// Copies the list to a vector of its own, and appends a slice of octets there.
-    #[inline(never)]
-    fn copy_and_append(&mut self, octets: &[u8]) -> M<()>
-        ensures ok { OnOk result (self.new ≡ self.old ++ octets.now) }
-        ensures err { OnErr result (self.new ≡ self.old) }
-    {
-        let both = joined(self.allocator(), self.as_slice(), octets)?;
-        self.held = Held::Own(both);
+        self.octets.extend_from_slice(octets)?;
         Ok(())
     }
 
@@ -227,10 +124,7 @@ impl Octets {
     pub fn truncate(&mut self, len: usize)
         ensures { self.new ≡ take len self.old }
     {
-        match &mut self.held {
-            Held::Own(octets) => octets.truncate(len),
-            Held::Shared(_, kept) => *kept = (*kept).min(len),
-        }
+        self.octets.truncate(len);
     }
 }
 
