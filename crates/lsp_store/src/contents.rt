@@ -7,7 +7,7 @@ use same_octets::are_same_octets;
 use std::alloc::Global;
 use std::cell::RefCell;
 use std::rc::Rc;
-use wire_base::{LspId, M, Octets};
+use wire_base::{Content, LspId, M};
 
 /// For how many LSP IDs the last content is remembered. Where two share a place, the later one takes it.
 const PLACES: usize = 4_096;
@@ -18,7 +18,7 @@ const PLACES: usize = 4_096;
 /// routers whose LSDBs advertise the same store their topology once.
 #[derive(Drop)]
 pub struct Contents {
-    last: Rc<RefCell<Vec<Octets>>>,
+    last: Rc<RefCell<Vec<Content>>>,
     topologies: Topologies,
 }
 
@@ -32,15 +32,15 @@ fn place_of(id: &LspId) -> usize
     folded % PLACES
 }
 
-/// Returns a list of those octets, which is stored with the last content at that place where the two are equal.
-fn content_at(alloc: Global, last: &mut Vec<Octets>, place: usize, octets: &[u8]) -> M<Octets>
+/// Returns the content with those octets, in the memory of the last content at that place where the two are equal.
+fn content_at(alloc: Global, last: &mut Vec<Content>, place: usize, octets: &[u8]) -> M<Content>
     ensures { IfOk result (λ content. content ≡ octets.now) }
 {
     'places: while last.len() <= place {
-        last.push(Octets::new(alloc))?;
+        last.push(Content::new())?;
     }
     if !are_same_octets(last[place].as_slice(), octets) {
-        last[place] = Octets::from_slice(alloc, octets)?;
+        last[place] = Content::from_slice(alloc, octets)?;
     }
     last[place].share()
 }
@@ -67,13 +67,13 @@ impl Contents {
         &self.topologies
     }
 
-    /// Returns a list of those octets, the content of an LSP. If the last content of that LSP ID is equal, the two are stored once.
-    pub(crate) fn content(&self, alloc: Global, id: &LspId, octets: &[u8]) -> M<Octets>
+    /// Returns the content of an LSP with those octets. If the last content of that LSP ID is equal, the two are stored once.
+    pub(crate) fn content(&self, alloc: Global, id: &LspId, octets: &[u8]) -> M<Content>
         ensures { IfOk result (λ content. content ≡ octets.now) }
     {
         match self.last.try_borrow_mut() {
             Ok(mut last) => content_at(alloc, &mut *last, place_of(id), octets),
-            Err(_) => Octets::from_slice(alloc, octets),
+            Err(_) => Content::from_slice(alloc, octets),
         }
     }
 }

@@ -14,7 +14,7 @@ use crate::topologies::SharedView;
 use std::alloc::Global;
 use std::marker::Model;
 use wire_base::limits::MOST_ENTRIES;
-use wire_base::{Age, Aged, Entry, LspId, M, Octets, PutFault, Rows, SubKind, Summary};
+use wire_base::{Age, Aged, Content, Entry, LspId, M, PutFault, Rows, SubKind, Summary};
 
 /// An LSDB: at most `MOST_ENTRIES` entries in the order of their LSP IDs, no LSP ID twice. Contracts model it as these entries, and
 /// the number of new entries for which memory is already allocated.
@@ -92,17 +92,17 @@ impl Store {
         ensures id { IfOk result (λ e. e.id ≡ s.now.id) }
     {
         if s.life == 0 {
-            return Ok(purge(self.allocator(), s.id, s.seq));
+            return Ok(purge(s.id, s.seq));
         }
         Ok(live(s, flags, self.content(&s.id, tlvs)?))
     }
 
     /// Returns the content of a received LSP.
-    fn content(&self, id: &LspId, tlvs: &[u8]) -> M<Octets>
+    fn content(&self, id: &LspId, tlvs: &[u8]) -> M<Content>
         ensures { IfOk result (λ content. content ≡ tlvs.now) }
     {
         match &self.contents {
-            None => Octets::from_slice(self.allocator(), tlvs),
+            None => Content::from_slice(self.allocator(), tlvs),
             Some(contents) => contents.content(self.allocator(), id, tlvs),
         }
     }
@@ -286,8 +286,7 @@ impl Store {
         ensures spare { self.old.spare ≤ self.new.spare }
         ensures database { IsDatabase self.new.entries }
     {
-        let alloc = self.allocator();
-        let answer = pass_second(alloc, &mut self.items[i]);
+        let answer = pass_second(&mut self.items[i]);
         if is_removed(answer) {
             drop(self.items.remove(i));
         }

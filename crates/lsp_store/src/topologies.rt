@@ -58,7 +58,7 @@ fn copy_of(entry: &Entry) -> M<Entry>
         hold: entry.hold,
         sum: entry.sum,
         flags: entry.flags,
-        content: entry.content.copy()?,
+        content: entry.content.share()?,
     })
 }
 
