@@ -6,6 +6,7 @@ ghost use Rattle.isis_flood.specs.Masks.{at_bit, held_row, rows_of, row_ids, cle
 
 use crate::mask_list::{MaskList, insert_within};
 use crate::table::Bits;
+use lsp_store::LspIds;
 use std::alloc::Global;
 use std::marker::Model;
 use wire_base::{LspId, M};
@@ -30,6 +31,18 @@ impl Model for Columns {
     ghost invariant = { λ c. AreColumns c.ids.items c.srm c.ssn };
 }
 
+impl LspIds for Columns {
+    ghost ids = { λ c. row_ids c.rows };
+
+    fn count(&self) -> usize {
+        self.len()
+    }
+
+    fn id_at(&self, i: usize) -> LspId {
+        self.ids[i]
+    }
+}
+
 impl Columns {
     /// Creates an empty list, for a router with that many links.
     pub(crate) fn new(alloc: Global, links: u16) -> Columns
@@ -41,13 +54,6 @@ impl Columns {
             srm: MaskList::new(alloc, links),
             ssn: MaskList::new(alloc, links),
         }
-    }
-
-    /// Returns the LSP IDs of the rows.
-    pub(crate) fn ids(&self) -> &[LspId]
-        ensures { result.now ≡ row_ids self.now.rows }
-    {
-        self.ids.as_slice()
     }
 
     /// Returns the number of rows.

@@ -6,7 +6,7 @@ ghost use Rattle.isis_flood.specs.Masks.{at_bit, held_row, rows_of, row_ids, bit
 
 use crate::columns::Columns;
 use crate::masks::{has_bit, joined, without_bit};
-use lsp_store::{place_near, place_of, stands_at};
+use lsp_store::{LspIds, place_near, place_of, stands_at};
 use std::alloc::Global;
 use std::marker::Model;
 use wire_base::{LspId, M};
@@ -92,7 +92,7 @@ impl Table {
         requires { place < length self.now.rows }
         ensures { result ≡ slice_index_or (row_ids self.now.rows) place result }
     {
-        self.items.ids()[place]
+        self.items.id_at(place)
     }
 
     /// Returns the index of the first row, from an index on, with its SRM flag set for a link, or the number of rows.
@@ -116,11 +116,10 @@ impl Table {
         ensures place { IsPlace self.now.rows id.now result.is_there result.place }
         ensures ascends { AreAscending (row_ids self.now.rows) }
     {
-        let ids = self.items.ids();
-        let place = place_of(ids, id);
+        let place = place_of(&self.items, id);
         Found {
             place,
-            is_there: stands_at(ids, place, id),
+            is_there: stands_at(&self.items, place, id),
         }
     }
 
@@ -129,17 +128,16 @@ impl Table {
         ensures place { IsPlace self.now.rows id.now result.is_there result.place }
         ensures ascends { AreAscending (row_ids self.now.rows) }
     {
-        let ids = self.items.ids();
-        if stands_at(ids, guess, id) {
+        if stands_at(&self.items, guess, id) {
             return Found {
                 place: guess,
                 is_there: true,
             };
         }
-        let place = place_near(ids, id, guess);
+        let place = place_near(&self.items, id, guess);
         Found {
             place,
-            is_there: stands_at(ids, place, id),
+            is_there: stands_at(&self.items, place, id),
         }
     }
 

@@ -1,6 +1,6 @@
 -- What stands at the place of an identifier, and what a list becomes there.
-use Rattle.std.proofs.Common.{◌≡◌, ℕ, zero, suc, ◌<◌, ◌≤◌, Bool, true, false, if◌then◌else◌, List, [], ◌∷◌, ◌++◌, length, get_or, set, take, drop, map, length-set, Option, Some, None, IfSome, is_none, Result, Ok, Err, IfErr, slice_get, le-leb, refl, sym, ap, subst, ◌∙◌, arith}
-use Rattle.std.specs.Prelude.{option_to_list}
+use Rattle.std.proofs.Common.{◌≡◌, ℕ, zero, suc, ◌<◌, ◌≤◌, Bool, true, false, if◌then◌else◌, List, [], ◌∷◌, ◌++◌, length, get_or, set, take, drop, map, length-set, Option, Some, None, IfSome, is_none, Result, Ok, Err, IfErr, OnOk, OnErr, is_ok, slice_get, le-leb, refl, sym, ap, subst, ◌∙◌, arith}
+use Rattle.std.specs.Prelude.{option_to_list, unwrap_or}
 use Rattle.std.proofs.lemmas.List.{length-map}
 use Rattle.std.proofs.lemmas.List.Edits.{length-insert, length-remove}
 use Rattle.std.proofs.lemmas.Option.{slice_get_read}
@@ -18,47 +18,47 @@ use Rattle.wire_base.specs.declared.entry.Aged.TheVariants.{Live, Expired, Held,
 use Rattle.wire_base.specs.declared.faults.PutFault.{PutFault}
 use Rattle.wire_base.specs.declared.faults.PutFault.TheVariants.{Full, Memory}
 use Rattle.wire_base.specs.model.Control.{same_id, id_order, is_below, AreAscending, IsDatabase, ids_of, entry_in, put_entry, aged, aged_to}
-use Rattle.lsp_store.specs.Places.{place_in, stands_at, IsPlace, is_new, PutAnswers, IsSecondAt, is_removed}
+use Rattle.lsp_store.specs.Places.{place_in, stands_at, IsPlace, is_new, PutAnswers, IsSecondAt, is_removed, passed}
 use Rattle.lsp_store.proofs.OrderLaws.{id_total, tie_is_same, below_from_above, below_trans, above_trans, above_from_below, below_differs, above_differs, same_turned}
 
 -- ---- each element
 
-pub all_read : {X : Type 0} (P : LspId → Type 0) (f : X → LspId) (xs : List X) (i : ℕ) (x : X) → AllByRecursion P (map f xs) → i < length xs → x ≡ get_or xs i x → P (f x)
-all_read P f [] i x h lt at = absurd (omega (arith, lt))
-all_read P f (y ∷ ys) zero x h lt at = subst (λ z. P (f z)) (sym at) h.0
-all_read P f (y ∷ ys) (suc i) x h lt at = all_read P f ys i x h.1 (omega (arith, lt)) at
+pub all_read : (P : LspId → Type 0) (xs : List LspId) (i : ℕ) (x : LspId) → AllByRecursion P xs → i < length xs → x ≡ get_or xs i x → P x
+all_read P [] i x h lt at = absurd (omega (arith, lt))
+all_read P (y ∷ ys) zero x h lt at = subst (λ z. P z) (sym at) h.0
+all_read P (y ∷ ys) (suc i) x h lt at = all_read P ys i x h.1 (omega (arith, lt)) at
 
 -- ---- halving
 
 -- where an identifier is above the one at a place, its own place is higher
-pub above_place : {X : Type 0} (f : X → LspId) (xs : List X) (i : ℕ) (x : X) (id : LspId) → AreAscending (map f xs) → i < length xs → x ≡ get_or xs i x → is_gt (id_order id (f x)) ≡ true → i < place_in (map f xs) id
-above_place f [] i x id asc lt at gt = absurd (omega (arith, lt))
-above_place f (y ∷ ys) zero x id asc lt at gt = first (id_order id (f y)) (subst (λ z. is_gt (id_order id (f z)) ≡ true) at gt)
+pub above_place : (xs : List LspId) (i : ℕ) (x : LspId) (id : LspId) → AreAscending xs → i < length xs → x ≡ get_or xs i x → is_gt (id_order id x) ≡ true → i < place_in xs id
+above_place [] i x id asc lt at gt = absurd (omega (arith, lt))
+above_place (y ∷ ys) zero x id asc lt at gt = first (id_order id y) (subst (λ z. is_gt (id_order id z) ≡ true) at gt)
   where
-    first : (o : Ordering) → is_gt o ≡ true → 0 < match_ordering o 0 0 (suc (place_in (map f ys) id))
+    first : (o : Ordering) → is_gt o ≡ true → 0 < match_ordering o 0 0 (suc (place_in ys id))
     first Less h = absurd (false≢true h)
     first Equal h = absurd (false≢true h)
     first Greater h = omega arith
-above_place f (y ∷ ys) (suc i) x id asc lt at gt =
-    later (id_order id (f y)) (above_trans id (f x) (f y) gt (all_read (λ z. is_below (f y) z ≡ true) f ys i x asc.0 (omega (arith, lt)) at)) (above_place f ys i x id asc.1 (omega (arith, lt)) at gt)
+above_place (y ∷ ys) (suc i) x id asc lt at gt =
+    later (id_order id y) (above_trans id x y gt (all_read (λ z. is_below y z ≡ true) ys i x asc.0 (omega (arith, lt)) at)) (above_place ys i x id asc.1 (omega (arith, lt)) at gt)
   where
-    later : (o : Ordering) → is_gt o ≡ true → i < place_in (map f ys) id → suc i < match_ordering o 0 0 (suc (place_in (map f ys) id))
+    later : (o : Ordering) → is_gt o ≡ true → i < place_in ys id → suc i < match_ordering o 0 0 (suc (place_in ys id))
     later Less h k = absurd (false≢true h)
     later Equal h k = absurd (false≢true h)
     later Greater h k = omega (arith, k)
 
 -- where it isn't, its own place is at most that one
-pub not_above_place : {X : Type 0} (f : X → LspId) (xs : List X) (i : ℕ) (x : X) (id : LspId) → i < length xs → x ≡ get_or xs i x → is_gt (id_order id (f x)) ≡ false → place_in (map f xs) id ≤ i
-not_above_place f [] i x id lt at gt = absurd (omega (arith, lt))
-not_above_place f (y ∷ ys) zero x id lt at gt = first (id_order id (f y)) (subst (λ z. is_gt (id_order id (f z)) ≡ false) at gt)
+pub not_above_place : (xs : List LspId) (i : ℕ) (x : LspId) (id : LspId) → i < length xs → x ≡ get_or xs i x → is_gt (id_order id x) ≡ false → place_in xs id ≤ i
+not_above_place [] i x id lt at gt = absurd (omega (arith, lt))
+not_above_place (y ∷ ys) zero x id lt at gt = first (id_order id y) (subst (λ z. is_gt (id_order id z) ≡ false) at gt)
   where
-    first : (o : Ordering) → is_gt o ≡ false → match_ordering o 0 0 (suc (place_in (map f ys) id)) ≤ 0
+    first : (o : Ordering) → is_gt o ≡ false → match_ordering o 0 0 (suc (place_in ys id)) ≤ 0
     first Less h = omega arith
     first Equal h = omega arith
     first Greater h = absurd (true≢false h)
-not_above_place f (y ∷ ys) (suc i) x id lt at gt = later (id_order id (f y)) (not_above_place f ys i x id (omega (arith, lt)) at gt)
+not_above_place (y ∷ ys) (suc i) x id lt at gt = later (id_order id y) (not_above_place ys i x id (omega (arith, lt)) at gt)
   where
-    later : (o : Ordering) → place_in (map f ys) id ≤ i → match_ordering o 0 0 (suc (place_in (map f ys) id)) ≤ suc i
+    later : (o : Ordering) → place_in ys id ≤ i → match_ordering o 0 0 (suc (place_in ys id)) ≤ suc i
     later Less k = omega arith
     later Equal k = omega arith
     later Greater k = omega (arith, k)
@@ -74,15 +74,15 @@ place_within (x ∷ xs) id = more (id_order id x) (place_within xs id)
 
 -- ---- what stands there
 
-pub stands_read : {X : Type 0} (f : X → LspId) (xs : List X) (i : ℕ) (x : X) (id : LspId) → i < length xs → x ≡ get_or xs i x → stands_at (map f xs) i id ≡ same_id (f x) id
-stands_read f [] i x id lt at = absurd (omega (arith, lt))
-stands_read f (y ∷ ys) zero x id lt at = ap (λ z. same_id (f z) id) (sym at)
-stands_read f (y ∷ ys) (suc i) x id lt at = stands_read f ys i x id (omega (arith, lt)) at
+pub stands_read : (xs : List LspId) (i : ℕ) (x : LspId) (id : LspId) → i < length xs → x ≡ get_or xs i x → stands_at xs i id ≡ same_id x id
+stands_read [] i x id lt at = absurd (omega (arith, lt))
+stands_read (y ∷ ys) zero x id lt at = ap (λ z. same_id z id) (sym at)
+stands_read (y ∷ ys) (suc i) x id lt at = stands_read ys i x id (omega (arith, lt)) at
 
-pub stands_past : {X : Type 0} (f : X → LspId) (xs : List X) (i : ℕ) (id : LspId) → length xs ≤ i → stands_at (map f xs) i id ≡ false
-stands_past f [] i id le = refl
-stands_past f (y ∷ ys) zero id le = absurd (omega (arith, le))
-stands_past f (y ∷ ys) (suc i) id le = stands_past f ys i id (omega (arith, le))
+pub stands_past : (xs : List LspId) (i : ℕ) (id : LspId) → length xs ≤ i → stands_at xs i id ≡ false
+stands_past [] i id le = refl
+stands_past (y ∷ ys) zero id le = absurd (omega (arith, le))
+stands_past (y ∷ ys) (suc i) id le = stands_past ys i id (omega (arith, le))
 
 pub stands_within : (ids : List LspId) (i : ℕ) (id : LspId) → stands_at ids i id ≡ true → i < length ids
 stands_within [] i id h = absurd (false≢true h)
@@ -236,6 +236,10 @@ add_kept es now new p e ok same db at few is = rw is (cases ok)
     }
     cases false = db
 
+pub inserted_or_not : {E : Type 0} (new there gone : List Entry) (answer : Result (Unit {0}) E) → OnOk answer (new ≡ there) → OnErr answer (new ≡ gone) → new ≡ (if is_ok answer then there else gone)
+inserted_or_not new there gone (Ok u) ok err = ok
+inserted_or_not new there gone (Err fault) ok err = err
+
 pub add_puts : (es now new : List Entry) (p : ℕ) (e : Entry) → es ≡ now → IsPlace now e.id false p → new ≡ insert es p e → new ≡ put_entry e now
 add_puts es now new p e same at is = is ∙ ap (λ (xs : List Entry). insert xs p e) same ∙ add_is_put now p e at
 
@@ -324,18 +328,61 @@ goes Expired x h = absurd (false≢true h)
 goes Held x h = absurd (false≢true h)
 goes Removed x h = refl
 
+goes_as_it_is : (answer : Aged) (x : Entry) → is_removed answer ≡ true → passed answer x ≡ x
+goes_as_it_is answer x gone = ap (λ (o : Option Entry). unwrap_or o x) (goes answer x gone)
+
+stays : (answer : Aged) (x : Entry) → is_removed answer ≡ false → aged_to answer x ≡ Some (passed answer x)
+stays Live x h = refl
+stays Expired x h = refl
+stays Held x h = refl
+stays Removed x h = absurd (true≢false h)
+
+passed_id : (answer : Aged) (x : Entry) → (passed answer x).id ≡ x.id
+passed_id Live x = refl
+passed_id Expired x = refl
+passed_id Held x = refl
+passed_id Removed x = refl
+
+-- the entry at a place
+got : (es : List Entry) (i : ℕ) → i < length es → (x : Entry) × (x ≡ get_or es i x)
+got [] i lt = absurd (omega (arith, lt))
+got (y ∷ ys) zero lt = (y, refl)
+got (y ∷ ys) (suc i) lt = got ys i (omega (arith, lt))
+
+-- the effect of a second on the entry at a place, and the entries with that one as it then is
+abbrev Passes : List Entry → ℕ → Aged → List Entry → Type 0
+Passes es i answer mid = IfSome (slice_get es i) (λ x. (answer ≡ aged x) × (mid ≡ set es i (passed answer x)))
+
+pub second_kept : (es mid : List Entry) (i : ℕ) (answer : Aged) → i < length es → IsDatabase es → Passes es i answer mid → IsDatabase mid
+second_kept es mid i answer lt db h =
+    let x = got es i lt in
+    let seen = rw (slice_get_read es (length es) i x.0 refl lt x.1) at h in
+    subst IsDatabase (sym seen.1) (aged_kept es i (passed answer x.0) x.0 db x.1 (passed_id answer x.0))
+
+pub second_long : (es mid : List Entry) (i : ℕ) (answer : Aged) → i < length es → Passes es i answer mid → length mid ≡ length es
+second_long es mid i answer lt h =
+    let x = got es i lt in
+    let seen = rw (slice_get_read es (length es) i x.0 refl lt x.1) at h in
+    ap (λ (xs : List Entry). length xs) seen.1 ∙ length-set es i (passed answer x.0)
+
 -- an entry that goes
-pub second_removes : (es now new : List Entry) (i : ℕ) (x e : Entry) (answer : Aged) → es ≡ now → i < length es → x ≡ get_or es i x → answer ≡ aged x → is_removed answer ≡ true → e ≡ x → new ≡ remove (set es i e) i → IfSome (slice_get now i) (λ y. IsSecondAt now i y answer new)
-second_removes es now new i x e answer same lt at is gone stays becomes =
-    subst (λ (xs : List Entry). IfSome (slice_get xs i) (λ y. IsSecondAt xs i y answer new)) same (rw (slice_get_read es (length es) i x refl lt at) (record {
-      answers = is;
-      becomes = becomes ∙ ap (λ (z : Entry). remove (set es i z) i) stays ∙ ap (λ (xs : List Entry). remove xs i) (set_same es i x at) ∙ ap (λ (o : Option Entry). take i es ++ (option_to_list o ++ drop (suc i) es)) (sym (ap (λ a. aged_to a x) (sym is) ∙ goes answer x gone));
+pub second_removes : (es now mid new : List Entry) (i : ℕ) (answer : Aged) → es ≡ now → i < length es → Passes es i answer mid → is_removed answer ≡ true → new ≡ remove mid i → IfSome (slice_get now i) (λ y. IsSecondAt now i y answer new)
+second_removes es now mid new i answer same lt h gone becomes =
+    let x = got es i lt in
+    let read = slice_get_read es (length es) i x.0 refl lt x.1 in
+    let seen = rw read at h in
+    subst (λ (xs : List Entry). IfSome (slice_get xs i) (λ y. IsSecondAt xs i y answer new)) same (rw read (record {
+      answers = seen.0;
+      becomes = becomes ∙ ap (λ (xs : List Entry). remove xs i) (seen.1 ∙ ap (λ (z : Entry). set es i z) (goes_as_it_is answer x.0 gone) ∙ set_same es i x.0 x.1) ∙ ap (λ (o : Option Entry). take i es ++ (option_to_list o ++ drop (suc i) es)) (sym (ap (λ a. aged_to a x.0) (sym seen.0) ∙ goes answer x.0 gone));
     }))
 
 -- an entry that stays
-pub second_changes : (es now : List Entry) (i : ℕ) (x e : Entry) (answer : Aged) → es ≡ now → i < length es → x ≡ get_or es i x → answer ≡ aged x → aged_to answer x ≡ Some e → IfSome (slice_get now i) (λ y. IsSecondAt now i y answer (set es i e))
-second_changes es now i x e answer same lt at is becomes =
-    subst (λ (xs : List Entry). IfSome (slice_get xs i) (λ y. IsSecondAt xs i y answer (set es i e))) same (rw (slice_get_read es (length es) i x refl lt at) (record {
-      answers = is;
-      becomes = set_splits es i e lt ∙ ap (λ (o : Option Entry). take i es ++ (option_to_list o ++ drop (suc i) es)) (sym (ap (λ a. aged_to a x) (sym is) ∙ becomes));
+pub second_changes : (es now mid : List Entry) (i : ℕ) (answer : Aged) → es ≡ now → i < length es → Passes es i answer mid → is_removed answer ≡ false → IfSome (slice_get now i) (λ y. IsSecondAt now i y answer mid)
+second_changes es now mid i answer same lt h kept =
+    let x = got es i lt in
+    let read = slice_get_read es (length es) i x.0 refl lt x.1 in
+    let seen = rw read at h in
+    subst (λ (xs : List Entry). IfSome (slice_get xs i) (λ y. IsSecondAt xs i y answer mid)) same (rw read (record {
+      answers = seen.0;
+      becomes = seen.1 ∙ set_splits es i (passed answer x.0) lt ∙ ap (λ (o : Option Entry). take i es ++ (option_to_list o ++ drop (suc i) es)) (sym (ap (λ a. aged_to a x.0) (sym seen.0) ∙ stays answer x.0 kept));
     }))

@@ -1,3 +1,4 @@
+pub mod EntryLists
 pub mod Keys
 pub mod Places
 pub mod Topologies

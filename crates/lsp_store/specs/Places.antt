@@ -1,5 +1,5 @@
 -- The index of an LSP ID in a sorted list.
-use Rattle.std.specs.Prelude.{◌≡◌, ℕ, zero, suc, ◌&&◌, Bool, true, false, List, [], ◌∷◌, length, take, drop, ◌++◌, is_none, option_to_list, Result, Err, IfErr}
+use Rattle.std.specs.Prelude.{◌≡◌, ℕ, zero, suc, ◌&&◌, Bool, true, false, List, [], ◌∷◌, length, take, drop, ◌++◌, is_none, option_to_list, unwrap_or, Result, Err, IfErr}
 use Rattle.std.specs.Ordering.{match_ordering}
 use Rattle.wire_base.specs.declared.addresses.LspId.{LspId}
 use Rattle.wire_base.specs.declared.entry.Aged.{Aged}
@@ -7,7 +7,7 @@ use Rattle.wire_base.specs.declared.entry.Aged.TheVariants.{Live, Expired, Held,
 use Rattle.wire_base.specs.declared.entry.Entry.{Entry}
 use Rattle.wire_base.specs.declared.faults.PutFault.{PutFault}
 use Rattle.wire_base.specs.declared.faults.PutFault.TheVariants.{Full, Memory}
-use Rattle.wire_base.specs.model.Control.{id_order, same_id, ids_of, entry_in, is_full, aged, after_second}
+use Rattle.wire_base.specs.model.Control.{id_order, same_id, ids_of, entry_in, is_full, aged, aged_to, after_second}
 
 -- how many are below it: the index of the first that is not
 abbrev pub place_in : List LspId → LspId → ℕ
@@ -46,6 +46,10 @@ PutAnswers entries spare id answer = AnswersWhere (is_refused entries id) entrie
 pub record IsSecondAt (entries : List Entry) (n : ℕ) (e : Entry) (answer : Aged) (new : List Entry) : Type 0 where
   pub answers : answer ≡ aged e
   pub becomes : new ≡ take n entries ++ (option_to_list (after_second e) ++ drop (suc n) entries)
+
+-- an entry after one second with that effect; one that is to be removed is unchanged
+abbrev pub passed : Aged → Entry → Entry
+passed answer e = unwrap_or (aged_to answer e) e
 
 -- whether an entry is removed
 abbrev pub is_removed : Aged → Bool

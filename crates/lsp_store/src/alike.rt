@@ -2,6 +2,7 @@
 ghost use Rattle.std.specs.Prelude.{◌≡◌, true, map};
 ghost use Rattle.lsp_store.specs.Topologies.{as_read};
 
+use crate::entry_list::EntryList;
 use same_octets::are_same_octets;
 use wire_base::{Entry, SubKind};
 
@@ -36,14 +37,14 @@ fn is_alike(a: &Entry, b: &Entry) -> bool
 }
 
 /// Returns whether each two entries of two LSDBs are so alike.
-pub(crate) fn are_alike(a: &[Entry], b: &[Entry]) -> bool
-    ensures { result ≡ true → map as_read a.now ≡ map as_read b.now }
+pub(crate) fn are_alike(a: &[Entry], b: &EntryList) -> bool
+    ensures { result ≡ true → map as_read a.now ≡ map as_read b.now.entries }
 {
     if a.len() != b.len() {
         return false;
     }
     'entries: for place in 0..a.len() {
-        if !is_alike(&a[place], &b[place]) {
+        if !is_alike(&a[place], b.at(place)) {
             return false;
         }
     }

@@ -1,6 +1,6 @@
-ghost use Rattle.std.specs.Prelude.{◌≡◌, true, false, Some};
-ghost use Rattle.wire_base.specs.model.Control.{aged, aged_to};
-ghost use Rattle.lsp_store.specs.Places.{is_removed};
+ghost use Rattle.std.specs.Prelude.{◌≡◌};
+ghost use Rattle.wire_base.specs.model.Control.{aged};
+ghost use Rattle.lsp_store.specs.Places.{is_removed, passed};
 
 use crate::entries::purge;
 use wire_base::{Aged, Entry};
@@ -25,8 +25,7 @@ pub(crate) fn aged(entry: &Entry) -> Aged
 /// Ages the entry by one second; one that is to be removed is unchanged.
 pub(crate) fn pass_second(entry: &mut Entry) -> Aged
     ensures answer { result ≡ aged entry.old }
-    ensures stays { is_removed result ≡ true → entry.new ≡ entry.old }
-    ensures becomes { is_removed result ≡ false → aged_to result entry.old ≡ Some entry.new }
+    ensures becomes { entry.new ≡ passed result entry.old }
     ensures id { entry.new.id ≡ entry.old.id }
 {
     let answer = aged(entry);

@@ -1,4 +1,4 @@
-ghost use Rattle.std.specs.Prelude.{◌≡◌, ◌≤◌, ◌<◌, ◌+◌, ◌-◌, [], length, map, vec_len, vec_capacity, slice_get, option_map, Some, true, false, OnOk, OnErr, IfOk, IfErr, IfSome};
+ghost use Rattle.std.specs.Prelude.{◌≡◌, ◌≤◌, ◌<◌, ◌+◌, ◌-◌, [], length, map, slice_get, option_map, Some, true, false, OnOk, OnErr, IfOk, IfErr, IfSome};
 ghost use Rattle.wire_base.specs.model.Control.{IsDatabase, ids_of, entry_in, put_entry, age_of, seq_of};
 ghost use Rattle.wire_base.specs.model.Flooding.{kept};
 ghost use Rattle.wire_base.specs.declared.faults.PutFault.TheVariants.{Memory};
@@ -8,8 +8,9 @@ ghost use Rattle.lsp_store.specs.Topologies.{AreNodesOf, seen_claims};
 use crate::ages::age_beside;
 use crate::contents::Contents;
 use crate::entries::{live, purge};
+use crate::entry_list::EntryList;
 use crate::places::{place_near, place_of, stands_at};
-use crate::seconds::{is_removed, pass_second};
+use crate::seconds::is_removed;
 use crate::topologies::SharedView;
 use std::alloc::Global;
 use std::marker::Model;
@@ -20,30 +21,29 @@ use wire_base::{Age, Aged, Content, Entry, LspId, M, PutFault, Rows, SubKind, Su
 /// the number of new entries for which memory is already allocated.
 #[derive(Drop)]
 pub struct Store {
-    items: Vec<Entry>,
+    list: EntryList,
     /// Where the contents of received LSPs and the topology are stored, if not by this LSDB and its router alone.
     contents: Option<Contents>,
 }
 
 impl Model for Store {
-    ghost use Rattle.std.specs.Prelude.{◌-◌, vec_len, vec_capacity};
     ghost use Rattle.wire_base.specs.model.Control.{IsDatabase};
     ghost use Rattle.lsp_store.specs.Views.{Stored};
 
     ghost Value = { Stored };
 
-    ghost view = { λ s. record { entries = s.items.items; spare = vec_capacity s.items - vec_len s.items } };
+    ghost view = { λ s. s.list };
 
-    ghost invariant = { λ s. IsDatabase s.items.items };
+    ghost invariant = { λ s. IsDatabase s.list.entries };
 }
 
 /// Returns the index as Ok if the LSP ID has an entry there, and as Err otherwise.
-fn found_at(entries: &[Entry], place: usize, id: &LspId) -> Result<usize, usize>
-    requires { place ≡ place_in (ids_of entries.now) id.now }
-    ensures there { IfOk result (λ place. IsPlace entries.now id.now true place) }
-    ensures gone { IfErr result (λ place. IsPlace entries.now id.now false place) }
+fn found_at(list: &EntryList, place: usize, id: &LspId) -> Result<usize, usize>
+    requires { place ≡ place_in (ids_of list.now.entries) id.now }
+    ensures there { IfOk result (λ place. IsPlace list.now.entries id.now true place) }
+    ensures gone { IfErr result (λ place. IsPlace list.now.entries id.now false place) }
 {
-    if stands_at(entries, place, id) {
+    if stands_at(list, place, id) {
         Ok(place)
     } else {
         Err(place)
@@ -66,7 +66,7 @@ impl Store {
         ensures { result.entries ≡ [] }
     {
         Store {
-            items: Vec::new(alloc),
+            list: EntryList::new(alloc),
             contents: None,
         }
     }
@@ -83,7 +83,7 @@ impl Store {
     pub fn replace_entries(&mut self, by: Store)
         ensures { self.new ≡ by }
     {
-        self.items = by.items;
+        self.list = by.list;
     }
 
     /// Returns the entry of a received LSP, as `entries::received` does.
@@ -119,7 +119,7 @@ impl Store {
     {
         match &self.contents {
             None => Ok(None),
-            Some(contents) => contents.topologies().known(kinds, self.items.as_slice()),
+            Some(contents) => contents.topologies().known(kinds, &self.list),
         }
     }
 
@@ -131,20 +131,10 @@ impl Store {
         match &self.contents {
             None => Ok(()),
             Some(contents) => {
-                let entries = self.items.as_slice();
-                contents
-                    .topologies()
-                    .note(self.allocator(), kinds, entries, shared)
+                let topologies = contents.topologies();
+                topologies.note(self.allocator(), kinds, &self.list, shared)
             }
         }
-    }
-
-    /// Returns the entries, in the order of their LSP IDs.
-    pub fn as_slice(&self) -> &[Entry]
-        ensures entries { result.now ≡ self.now.entries }
-        ensures database { IsDatabase result.now }
-    {
-        self.items.as_slice()
     }
 
     /// Returns the number of entries.
@@ -152,12 +142,12 @@ impl Store {
         ensures len { result ≡ length self.now.entries }
         ensures database { IsDatabase self.now.entries }
     {
-        self.items.len()
+        self.list.len()
     }
 
     /// Returns the allocator of the LSDB.
     pub fn allocator(&self) -> Global {
-        *self.items.allocator()
+        self.list.allocator()
     }
 
     /// Returns the entry at index `i`.
@@ -165,7 +155,7 @@ impl Store {
         requires { i < length self.now.entries }
         ensures { slice_get self.now.entries i ≡ Some result.now }
     {
-        &self.items[i]
+        self.list.at(i)
     }
 
     /// Returns the entry of an LSP ID. None exactly where there is none.
@@ -173,7 +163,7 @@ impl Store {
         ensures { option_map (λ e. e.now) result ≡ entry_in self.now.entries id.now }
     {
         match self.find(id) {
-            Ok(place) => Some(&self.items[place]),
+            Ok(place) => Some(self.list.at(place)),
             Err(_) => None,
         }
     }
@@ -183,7 +173,7 @@ impl Store {
         ensures { option_map (λ e. e.now) result ≡ entry_in self.now.entries id.now }
     {
         match self.find_near(id, guess) {
-            Ok(place) => Some(&self.items[place]),
+            Ok(place) => Some(self.list.at(place)),
             Err(_) => None,
         }
     }
@@ -193,8 +183,7 @@ impl Store {
         ensures there { IfOk result (λ place. IsPlace self.now.entries id.now true place) }
         ensures gone { IfErr result (λ place. IsPlace self.now.entries id.now false place) }
     {
-        let entries = self.items.as_slice();
-        found_at(entries, place_of(entries, id), id)
+        found_at(&self.list, place_of(&self.list, id), id)
     }
 
     /// Like `find`, with a guess of the index. A right guess is tested once, and there is no search.
@@ -203,11 +192,10 @@ impl Store {
         ensures there { IfOk result (λ place. IsPlace self.now.entries id.now true place) }
         ensures gone { IfErr result (λ place. IsPlace self.now.entries id.now false place) }
     {
-        let entries = self.items.as_slice();
-        if stands_at(entries, guess, id) {
+        if stands_at(&self.list, guess, id) {
             return Ok(guess);
         }
-        found_at(entries, place_near(entries, id, guess), id)
+        found_at(&self.list, place_near(&self.list, id, guess), id)
     }
 
     /// Returns the sequence number of an LSP ID's entry; 0 if there is none.
@@ -246,7 +234,7 @@ impl Store {
         ensures database { IsDatabase self.new.entries }
     {
         // An entry that comes in order is appended.
-        let end = self.items.len();
+        let end = self.list.len();
         self.put_near(e, end)
     }
 
@@ -261,7 +249,7 @@ impl Store {
     {
         match self.find_near(&e.id, guess) {
             Ok(place) => {
-                self.items[place] = e;
+                self.list.put(place, e);
                 Ok(())
             }
             Err(place) => self.add(place, e),
@@ -274,8 +262,7 @@ impl Store {
         ensures ok { OnOk result (n ≤ self.new.spare) }
         ensures spare { self.old.spare ≤ self.new.spare }
     {
-        self.items.reserve(n)?;
-        Ok(())
+        self.list.reserve(n)
     }
 
     /// Ages the entry at index `i` by one second. A live one loses a second of its lifetime, and becomes a purge at 0. A purge
@@ -286,9 +273,9 @@ impl Store {
         ensures spare { self.old.spare ≤ self.new.spare }
         ensures database { IsDatabase self.new.entries }
     {
-        let answer = pass_second(&mut self.items[i]);
+        let answer = self.list.pass_second(i);
         if is_removed(answer) {
-            drop(self.items.remove(i));
+            self.list.remove(i);
         }
         answer
     }
@@ -303,12 +290,10 @@ impl Store {
         ensures new { is_new self.old.entries e.id ≡ true }
         ensures database { IsDatabase self.new.entries }
     {
-        if self.items.len() >= MOST_ENTRIES {
-            return Err(PutFault::Full(self.items.len()));
+        if self.list.len() >= MOST_ENTRIES {
+            return Err(PutFault::Full(self.list.len()));
         }
-        // An index below 2^16 does not wrap around when it is incremented. The compiler knows this from the type, and moves the
-        // entries from there on by one `memmove`, where it otherwise moves them by a loop.
-        match self.items.insert((place as u16) as usize, e) {
+        match self.list.insert(place, e) {
             Ok(()) => Ok(()),
             Err(_) => Err(PutFault::Memory),
         }

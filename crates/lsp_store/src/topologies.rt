@@ -3,6 +3,7 @@ ghost use Rattle.std.specs.Prelude.{◌≡◌, IfOk, IfSome};
 ghost use Rattle.lsp_store.specs.Topologies.{AreNodesOf, seen_claims};
 
 use crate::alike::{are_alike, are_same_kinds};
+use crate::entry_list::EntryList;
 use std::alloc::Global;
 use std::cell::RefCell;
 use std::marker::Model;
@@ -62,23 +63,23 @@ fn copy_of(entry: &Entry) -> M<Entry>
     })
 }
 
-fn copies_of(alloc: Global, entries: &[Entry]) -> M<Vec<Entry>>
-    ensures { IfOk result (λ copied. copied.items ≡ entries.now) }
+fn copies_of(alloc: Global, list: &EntryList) -> M<Vec<Entry>>
+    ensures { IfOk result (λ copied. copied.items ≡ list.now.entries) }
 {
-    let mut copied = Vec::with_capacity(alloc, entries.len())?;
-    'entries: for entry in entries {
-        copied.push(copy_of(entry)?)?;
+    let mut copied = Vec::with_capacity(alloc, list.len())?;
+    'entries: for place in 0..list.len() {
+        copied.push(copy_of(list.at(place))?)?;
     }
     Ok(copied)
 }
 
 impl Noted {
     /// Returns the topology if it is that of an LSDB and of those kinds.
-    fn known(&self, kinds: &[SubKind], entries: &[Entry]) -> M<Option<SharedView>>
-        ensures { IfOk result (λ found. IfSome found (λ s. AreNodesOf (seen_claims kinds.now entries.now) s.view.value.nodes s.is_whole)) }
+    fn known(&self, kinds: &[SubKind], list: &EntryList) -> M<Option<SharedView>>
+        ensures { IfOk result (λ found. IfSome found (λ s. AreNodesOf (seen_claims kinds.now list.now.entries) s.view.value.nodes s.is_whole)) }
     {
         if are_same_kinds(self.kinds.as_slice(), kinds)
-            && are_alike(self.entries.as_slice(), entries)
+            && are_alike(self.entries.as_slice(), list)
         {
             return Ok(Some(self.shared.share()?));
         }
@@ -108,11 +109,11 @@ impl Topologies {
     }
 
     /// Returns the topology that was noted last, if it is that of an LSDB and of those kinds.
-    pub(crate) fn known(&self, kinds: &[SubKind], entries: &[Entry]) -> M<Option<SharedView>>
-        ensures { IfOk result (λ found. IfSome found (λ s. AreNodesOf (seen_claims kinds.now entries.now) s.view.value.nodes s.is_whole)) }
+    pub(crate) fn known(&self, kinds: &[SubKind], list: &EntryList) -> M<Option<SharedView>>
+        ensures { IfOk result (λ found. IfSome found (λ s. AreNodesOf (seen_claims kinds.now list.now.entries) s.view.value.nodes s.is_whole)) }
     {
         match self.last.try_borrow() {
-            Ok(last) => known_in(&*last, kinds, entries),
+            Ok(last) => known_in(&*last, kinds, list),
             Err(_) => Ok(None),
         }
     }
@@ -122,14 +123,14 @@ impl Topologies {
         &self,
         alloc: Global,
         kinds: &Rows<SubKind>,
-        entries: &[Entry],
+        list: &EntryList,
         shared: &SharedView,
     ) -> M<()>
-        requires { AreNodesOf (seen_claims kinds.now entries.now) shared.now.view.value.nodes shared.now.is_whole }
+        requires { AreNodesOf (seen_claims kinds.now list.now.entries) shared.now.view.value.nodes shared.now.is_whole }
     {
         let noted = Noted {
             kinds: kinds.copy()?,
-            entries: copies_of(alloc, entries)?,
+            entries: copies_of(alloc, list)?,
             shared: shared.share()?,
         };
         if let Ok(mut last) = self.last.try_borrow_mut() {
@@ -139,11 +140,11 @@ impl Topologies {
     }
 }
 
-fn known_in(last: &Option<Noted>, kinds: &[SubKind], entries: &[Entry]) -> M<Option<SharedView>>
-    ensures { IfOk result (λ found. IfSome found (λ s. AreNodesOf (seen_claims kinds.now entries.now) s.view.value.nodes s.is_whole)) }
+fn known_in(last: &Option<Noted>, kinds: &[SubKind], list: &EntryList) -> M<Option<SharedView>>
+    ensures { IfOk result (λ found. IfSome found (λ s. AreNodesOf (seen_claims kinds.now list.now.entries) s.view.value.nodes s.is_whole)) }
 {
     match last {
-        Some(noted) => noted.known(kinds, entries),
+        Some(noted) => noted.known(kinds, list),
         None => Ok(None),
     }
 }

@@ -4,5 +4,5 @@ use Rattle.lsp_store.proofs.places.is_behind.Goals as goal
 
 pub returns : goal.returns
 returns g c = λ is.
-    let above = above_place g.T.Keyed.key c.args.items.now _ c.index-items-place.result c.args.id.now c.requires.order (omega (arith, c.requires.within, c.if-place-eq0.false)) c.index-items-place.is (sym c.is_above.ensures ∙ is) in
+    let above = above_place (g.T.LspIds.ids c.args.items.now) _ c.id_at.result c.args.id.now c.requires.order (omega (arith, c.requires.within, c.if-place-eq0.false)) c.id_at.ensures (sym c.is_id_above.ensures ∙ is) in
     omega (arith, above, c.if-place-eq0.false)

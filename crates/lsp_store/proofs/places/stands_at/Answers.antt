@@ -1,10 +1,10 @@
-use Rattle.std.proofs.Common.{sym, ◌∙◌}
+use Rattle.std.proofs.Common.{sym, ◌∙◌, arith}
 use Rattle.lsp_store.proofs.PlaceLaws.{stands_read, stands_past}
 use Rattle.lsp_store.proofs.places.stands_at.Goals as goal
 
-pub returns-then-place-items : goal.returns-then-place-items
-returns-then-place-items g c =
-    c.has_id.ensures ∙ sym (stands_read g.T.Keyed.key c.args.items.now c.args.place c.index-items-place.result c.args.id.now c.if-place-items.true c.index-items-place.is)
+pub returns-then-place-count : goal.returns-then-place-count
+returns-then-place-count g c =
+    c.is_same_id.ensures ∙ sym (stands_read (g.T.LspIds.ids c.args.items.now) c.args.place c.id_at.result c.args.id.now (omega (arith, c.count.ensures, c.if-place-count.true)) c.id_at.ensures)
 
 pub returns : goal.returns
-returns g c = sym (stands_past g.T.Keyed.key c.args.items.now c.args.place c.args.id.now c.if-place-items.false)
+returns g c = sym (stands_past (g.T.LspIds.ids c.args.items.now) c.args.place c.args.id.now (omega (arith, c.count.ensures, c.if-place-count.false)))

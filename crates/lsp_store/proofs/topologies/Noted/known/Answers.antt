@@ -8,6 +8,6 @@ pub returns-then-are_alike : goal.returns-then-are_alike
 returns-then-are_alike c =
     let kinds = sym c.as_slice.ensures ∙ c.are_same_kinds.ensures c.if-are_same_kinds.true in
     let entries = rw c.as_slice-then-are_same_kinds.ensures.value at c.are_alike.ensures c.if-are_alike.true in
-    let same = claims_alike c.args.kinds.now c.self.inside.kinds c.args.entries.now c.self.inside.entries.items kinds entries in
+    let same = claims_alike c.args.kinds.now c.self.inside.kinds c.args.list.now.entries c.self.inside.entries.items kinds entries in
     rw (c.in_ok-share.ensures.view, c.in_ok-share.ensures.whole)
     (subst (λ (claims : List Claim). AreNodesOf claims c.self.inside.shared.view.value.nodes c.self.inside.shared.is_whole) same c.self.invariant)
