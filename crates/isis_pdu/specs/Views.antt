@@ -22,12 +22,16 @@ pdu_of (Psnp source tlvs) = PsnpPdu source tlvs.now
 pdu_of Hello = HelloPdu
 pdu_of (Other number) = OtherPdu number
 
--- what is tested of an LSP, from its LSP ID on, with that Remaining Lifetime: its checksum, and then its TLVs
-abbrev pub verified_at : ℕ → List ℕ → List ℕ → Result (Unit {0}) PduFault
-verified_at life octets tlvs =
+-- a value, if an LSP, from its LSP ID on, with that Remaining Lifetime passes its tests: its checksum, and then its TLVs
+abbrev pub if_verified : {A : Type 0} → ℕ → List ℕ → List ℕ → A → Result A PduFault
+if_verified life octets tlvs x =
     if nat_lt 0 life && not (is_right octets) then Err faults.Checksum
-    else if tlvs_pass false tlvs then Ok tt
+    else if tlvs_pass false tlvs then Ok x
     else Err faults.Tlv
+
+-- what is tested of an LSP
+abbrev pub verified_at : ℕ → List ℕ → List ℕ → Result (Unit {0}) PduFault
+verified_at life octets tlvs = if_verified life octets tlvs tt
 
 -- an LSP from its LSP ID on, with that Remaining Lifetime: what lsp_at parses after the lifetime
 abbrev pub covered_at : ℕ → List ℕ → Result PduItem PduFault
@@ -36,6 +40,4 @@ covered_at life octets = do
   seq ← number_at faults.PduLength 4 id.1
   check ← number_at faults.PduLength 2 seq.1
   flags ← octet_at faults.PduLength check.1
-  if nat_lt 0 life && not (is_right octets) then Err faults.Checksum
-      else if tlvs_pass false flags.1 then Ok (LspPdu (record { life = life; id = id.0; seq = seq.0; sum = check.0; flags = flags.0 }) flags.1)
-      else Err faults.Tlv
+  if_verified life octets flags.1 (LspPdu (record { life = life; id = id.0; seq = seq.0; sum = check.0; flags = flags.0 }) flags.1)

@@ -10,7 +10,6 @@ use Rattle.std.proofs.lemmas.List.{length-take-le}
 use Rattle.std.proofs.lemmas.List.{take-append-le, take-take, drop-drop}
 use Rattle.std.proofs.Math.Seq.{take-append-add}
 use Rattle.itoa.proofs.Decimal.{pair, decimal_two, decimal_pair}
-use Rattle.byteorder.specs.Endian.{big_bytes}
 use Rattle.replay_text.specs.declared.block.TheConstants.{LISTED}
 use Rattle.replay_text.proofs.Digits.{length_three}
 

@@ -1,4 +1,4 @@
-use Rattle.std.proofs.Common.{◌+◌, ◌*◌, ◌∙◌, ℕ, List, length, take, drop, ap, sym, arith}
+use Rattle.std.proofs.Common.{◌+◌, ◌*◌, ◌∙◌, ℕ, take, drop, ap, sym, arith}
 use Rattle.byteorder.specs.Numbers.{length-bytes_high_first}
 use Rattle.replay_text.specs.declared.block.TheConstants.{LISTED}
 use Rattle.replay_text.proofs.Commas.{text_put}

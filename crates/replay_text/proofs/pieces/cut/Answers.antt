@@ -1,4 +1,4 @@
-use Rattle.std.proofs.Common.{◌≡◌, ◌≤◌, length, take, All, List, ℕ, eqb, false, subst, arith}
+use Rattle.std.proofs.Common.{◌≡◌, length, All, List, ℕ, eqb, false, subst, arith}
 use Rattle.std.proofs.lemmas.Bool.{eqb-true}
 use Rattle.std.proofs.lemmas.List.{take_rest, take_all}
 use Rattle.replay_text.proofs.Cutting.{cut_at, cut_none, none_before}

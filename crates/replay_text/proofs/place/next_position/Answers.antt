@@ -1,4 +1,4 @@
-use Rattle.std.proofs.Common.{◌+◌, refl, arith}
+use Rattle.std.proofs.Common.{refl, arith}
 use Rattle.replay_text.proofs.PlaceLaws.{word_passed, next_place, none_left, one_left, place_behind, position_low}
 use Rattle.replay_text.proofs.place.next_position.Goals as goal
 
