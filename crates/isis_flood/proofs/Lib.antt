@@ -2,6 +2,7 @@ pub mod AgeLaws
 pub mod BusyLaws
 pub mod ChunkLaws
 pub mod ColumnLaws
+pub mod EntryLaws
 pub mod FloodLaws
 pub mod HeldLaws
 pub mod KeptLaws

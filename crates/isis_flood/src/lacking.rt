@@ -56,20 +56,14 @@ impl Flood {
         ensures ok { IsOk result }
         ensures spare { self.old.spare ≤ self.new.spare + length (filter (lacks start.now last.now rows.now) store.now.entries) }
     {
-        let mut rest = store.as_slice();
-        'entries: loop {
-            match rest {
-                [] => return Ok(()),
-                [e, after @ ..] => {
-                    if lacks(start, last, rows, e) {
-                        // Its row mostly has the same index as the entry.
-                        let guess = store.len().saturating_sub(rest.len());
-                        self.want(e.id, link, guess)?;
-                    }
-                    rest = after;
-                }
+        'entries: for place in 0..store.len() {
+            let e = store.at(place);
+            if lacks(start, last, rows, e) {
+                // Its row mostly has the same index as the entry.
+                self.want(e.id, link, place)?;
             }
         }
+        Ok(())
     }
 
     /// Processes a CSNP from `start` to `last` that was received on a link, given the octets of its TLVs. The result is as for
@@ -153,20 +147,14 @@ impl Flood {
         ensures spare { self.old.spare ≤ self.new.spare + length store.now.entries }
         ensures links { length self.new.flood.up ≡ length self.old.flood.up }
     {
-        let mut rest = store.as_slice();
-        'entries: loop {
-            match rest {
-                [] => return Ok(()),
-                [e, after @ ..] => {
-                    if e.seq > 0 {
-                        // Its row mostly has the same index as the entry.
-                        let guess = store.len().saturating_sub(rest.len());
-                        self.want(e.id, link, guess)?;
-                    }
-                    rest = after;
-                }
+        'entries: for place in 0..store.len() {
+            let e = store.at(place);
+            if e.seq > 0 {
+                // Its row mostly has the same index as the entry.
+                self.want(e.id, link, place)?;
             }
         }
+        Ok(())
     }
 
     /// Handles a link that comes up: a CSNP is due there, and all known LSPs are to be sent (ISO/IEC 10589, 7.3.17). Always Ok if

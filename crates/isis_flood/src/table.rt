@@ -172,7 +172,7 @@ impl Table {
         self.items.set(place, row);
     }
 
-    /// Inserts a row at an index. Most rows are there already, and this is not on their way.
+    /// Inserts a row at an index. It is not inlined: most rows are in the table already and are replaced in place, without this call.
     #[inline(never)]
     fn insert(&mut self, place: usize, row: Bits) -> M<()>
         requires { IsPlace self.old.rows row.id false place }

@@ -50,15 +50,15 @@ up_within [] link h = absurd (false≢true h)
 up_within (b ∷ bs) zero h = omega arith
 up_within (b ∷ bs) (suc link) h = omega (arith, up_within bs link h)
 
-pub counted_so : (c : Control) (link : ℕ) (entries : List Entry) (due : Bool) (csnps lsps asked psnps : ℕ)
-    → entries ≡ c.entries → due ≡ slice_index_or c.flood.due link false
-    → csnps ≡ (if due then max ((length (filter is_known entries) + 89) / 90) 1 else 0)
-    → lsps ≡ length (filter (λ e. srm c.flood e.id link) entries)
-    → asked ≡ length (filter (λ e. ssn c.flood e.id link) entries)
+pub counted_so : (c : Control) (link : ℕ) (due : Bool) (csnps lsps asked psnps : ℕ)
+    → due ≡ slice_index_or c.flood.due link false
+    → csnps ≡ (if due then max ((length (filter is_known c.entries) + 89) / 90) 1 else 0)
+    → lsps ≡ length (filter (λ e. srm c.flood e.id link) c.entries)
+    → asked ≡ length (filter (λ e. ssn c.flood e.id link) c.entries)
     → psnps ≡ (asked + 89) / 90
     → csnps + lsps + psnps ≡ length (send_of c link)
-counted_so c link entries due csnps lsps asked psnps e d p q r s =
-    ap (λ n. n + lsps + psnps) (p ∙ ap (λ (b : Bool). if b then max ((length (filter is_known entries) + 89) / 90) 1 else 0) d ∙ ap (λ (es : List Entry). if slice_index_or c.flood.due link false then max ((length (filter is_known es) + 89) / 90) 1 else 0) e)
-    ∙ ap (λ n. (if slice_index_or c.flood.due link false then max ((length (filter is_known c.entries) + 89) / 90) 1 else 0) + n + psnps) (q ∙ ap (λ (es : List Entry). length (filter (λ e. srm c.flood e.id link) es)) e)
-    ∙ ap (λ n. (if slice_index_or c.flood.due link false then max ((length (filter is_known c.entries) + 89) / 90) 1 else 0) + length (filter (λ e. srm c.flood e.id link) c.entries) + n) (s ∙ ap (λ n. (n + 89) / 90) (r ∙ ap (λ (es : List Entry). length (filter (λ e. ssn c.flood e.id link) es)) e))
+counted_so c link due csnps lsps asked psnps d p q r s =
+    ap (λ n. n + lsps + psnps) (p ∙ ap (λ (b : Bool). if b then max ((length (filter is_known c.entries) + 89) / 90) 1 else 0) d)
+    ∙ ap (λ n. (if slice_index_or c.flood.due link false then max ((length (filter is_known c.entries) + 89) / 90) 1 else 0) + n + psnps) q
+    ∙ ap (λ n. (if slice_index_or c.flood.due link false then max ((length (filter is_known c.entries) + 89) / 90) 1 else 0) + length (filter (λ e. srm c.flood e.id link) c.entries) + n) (s ∙ ap (λ n. (n + 89) / 90) r)
     ∙ sym (how_many c link)

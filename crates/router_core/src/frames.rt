@@ -129,6 +129,7 @@ impl Control {
         requires short { length octets.now ≤ MOST_FRAME }
         requires kept { MayKeep self.now kept.old }
         ensures effects { OnOk result (effects.new ≡ on_packet self.now kind octets.now) }
+        ensures err { OnErr result (effects.new ≡ effects.old) }
         ensures kept { MayKeep self.now kept.new }
     {
         *effects = self.on_packet(kept, kind, octets)?;
@@ -140,6 +141,7 @@ impl Control {
         requires short { length octets.now ≤ MOST_FRAME }
         requires kept { MayKeep self.now kept.old }
         ensures effects { OnOk result (effects.new ≡ on_tunnel self.now octets.now) }
+        ensures err { OnErr result (effects.new ≡ effects.old) }
         ensures kept { MayKeep self.now kept.new }
     {
         *effects = self.on_tunnel(kept, octets)?;
@@ -163,6 +165,7 @@ impl Control {
         requires empty { effects.old ≡ nothing }
         ensures next { OnOk result (record { control = self.new; effects = effects.new } ≡ carried_taken self.old link (carried bytes.now class)) }
         ensures err { OnErr result (self.new ≡ self.old) }
+        ensures none { OnErr result (effects.new ≡ nothing) }
         ensures kept { MayKeep self.new kept.new }
     {
         match class {
@@ -194,6 +197,7 @@ impl Control {
         requires empty { effects.old ≡ nothing }
         ensures next { OnOk result (record { control = self.new; effects = effects.new } ≡ on_frame self.old link bytes.now) }
         ensures err { OnErr result (self.new ≡ self.old) }
+        ensures none { OnErr result (effects.new ≡ nothing) }
         ensures kept { MayKeep self.new kept.new }
     {
         if !self.is_up(link) {

@@ -28,7 +28,8 @@ use wire_base::{Cause, FloodOut, LspId, M, PduFault, Rows, SnpOut, Summary};
 /// Reports that a whole frame was dropped, with no other effect.
 pub(crate) fn drop_frame(effects: &mut Effects, cause: Cause) -> M<()>
     requires { effects.old ≡ nothing }
-    ensures { OnOk result (effects.new ≡ dropped cause) }
+    ensures ok { OnOk result (effects.new ≡ dropped cause) }
+    ensures none { OnErr result (effects.new ≡ nothing) }
 {
     effects.note(DropNote { cause, sets: None })
 }
@@ -85,7 +86,8 @@ impl Control {
     fn acknowledge(&self, link: u16, entry: Summary, effects: &mut Effects) -> M<()>
         requires link { link < length self.now.conf.ends }
         requires empty { effects.old ≡ nothing }
-        ensures { OnOk result (effects.new ≡ record nothing { sent = frames_of self.now.conf link (psnp_of self.now (entry ∷ []) ∷ []) }) }
+        ensures ok { OnOk result (effects.new ≡ record nothing { sent = frames_of self.now.conf link (psnp_of self.now (entry ∷ []) ∷ []) }) }
+        ensures none { OnErr result (effects.new ≡ nothing) }
     {
         let mut out = FramesOut::new(self.allocator());
         push_psnp(&mut out, &self.conf, link, &[entry])?;
@@ -102,6 +104,7 @@ impl Control {
         requires empty { effects.old ≡ nothing }
         ensures next { OnOk result (record { control = self.new; effects = effects.new } ≡ framed link (answer_lsp self.old answer)) }
         ensures err { OnErr result ((is_kept answer ≡ false) × (self.new ≡ self.old)) }
+        ensures none { OnErr result (effects.new ≡ nothing) }
     {
         match answer {
             FloodOut::Kept => Ok(()),
@@ -121,6 +124,7 @@ impl Control {
         requires empty { effects.old ≡ nothing }
         ensures next { OnOk result (record { control = self.new; effects = effects.new } ≡ framed link (on_pdu self.old link (LspPdu (head_of head.now) tlvs.now))) }
         ensures err { OnErr result (self.new ≡ self.old) }
+        ensures none { OnErr result (effects.new ≡ nothing) }
     {
         let answer = self
             .flood
@@ -143,6 +147,7 @@ impl Control {
         requires empty { effects.old ≡ nothing }
         ensures next { OnOk result (record { control = self.new; effects = effects.new } ≡ framed link (snp_done self.old (list_taken self.old.flood self.old.entries link range rows.now self.old.spent))) }
         ensures err { OnErr result (self.new ≡ self.old) }
+        ensures none { OnErr result (effects.new ≡ nothing) }
     {
         let ready = self.ready(rows)?;
         self.flood
@@ -176,6 +181,7 @@ impl Control {
         requires empty { effects.old ≡ nothing }
         ensures next { OnOk result ((source : SystemId) → record { control = self.new; effects = effects.new } ≡ framed link (on_pdu self.old link (CsnpPdu source start last tlvs.now))) }
         ensures err { OnErr result (self.new ≡ self.old) }
+        ensures none { OnErr result (effects.new ≡ nothing) }
     {
         let rows = listed(self.allocator(), tlvs)?;
         self.take_list(link, Some((start, last)), rows.as_slice(), effects)
@@ -203,6 +209,7 @@ impl Control {
         requires empty { effects.old ≡ nothing }
         ensures next { OnOk result ((source : SystemId) → record { control = self.new; effects = effects.new } ≡ framed link (on_pdu self.old link (PsnpPdu source tlvs.now))) }
         ensures err { OnErr result (self.new ≡ self.old) }
+        ensures none { OnErr result (effects.new ≡ nothing) }
     {
         let rows = self.list(tlvs)?;
         let done = self.take_list(link, None, rows.as_slice(), effects);
@@ -218,6 +225,7 @@ impl Control {
         requires empty { effects.old ≡ nothing }
         ensures next { OnOk result (record { control = self.new; effects = effects.new } ≡ pdu_taken self.old link (pdu_of pdu.entry)) }
         ensures err { OnErr result (self.new ≡ self.old) }
+        ensures none { OnErr result (effects.new ≡ nothing) }
     {
         match pdu {
             Pdu::Lsp { head, tlvs } => self.on_lsp(link, &head, tlvs, effects),
@@ -250,6 +258,7 @@ impl Control {
         requires empty { effects.old ≡ nothing }
         ensures next { OnOk result (record { control = self.new; effects = effects.new } ≡ pdu_taken self.old link (pdu_of pdu.entry)) }
         ensures err { OnErr result (self.new ≡ self.old) }
+        ensures none { OnErr result (effects.new ≡ nothing) }
         ensures kept { MayKeep self.new kept.new }
     {
         self.note_pdu(kept, pdu);
@@ -281,6 +290,7 @@ impl Control {
         requires empty { effects.old ≡ nothing }
         ensures next { OnOk result (record { control = self.new; effects = effects.new } ≡ pdu_read self.old link (pdu_at self.old.conf.level octets.now)) }
         ensures err { OnErr result (self.new ≡ self.old) }
+        ensures none { OnErr result (effects.new ≡ nothing) }
         ensures kept { MayKeep self.new kept.new }
     {
         let read = self.read(octets);

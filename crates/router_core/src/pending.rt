@@ -19,35 +19,53 @@ pub(crate) fn is_known(e: &Entry) -> bool
 }
 
 /// Returns how many entries a CSNP lists.
-fn known(entries: &[Entry]) -> usize
-    ensures known { result ≡ length (filter is_known entries.now) }
-    ensures few { result ≤ length entries.now }
+fn known(store: &Store) -> usize
+    ensures known { result ≡ length (filter is_known store.now.entries) }
+    ensures few { result ≤ length store.now.entries }
 {
-    entries.iter().filter(|e| is_known(e)).count()
+    let mut count = 0;
+    'entries: for place in 0..store.len() {
+        if is_known(store.at(place)) {
+            count += 1;
+        }
+    }
+    count
 }
 
 /// Returns how many entries are to be sent on a link.
-fn marked(entries: &[Entry], flood: &Flood, link: u16) -> usize
+fn marked(store: &Store, flood: &Flood, link: u16) -> usize
     requires { link < length flood.now.flood.up }
-    ensures marked { result ≡ length (filter (λ e. srm_in flood.now.flood.rows e.id link) entries.now) }
-    ensures few { result ≤ length entries.now }
+    ensures marked { result ≡ length (filter (λ e. srm_in flood.now.flood.rows e.id link) store.now.entries) }
+    ensures few { result ≤ length store.now.entries }
 {
     if !flood.may_send(link) {
         return 0;
     }
-    entries.iter().filter(|e| flood.srm(e.id, link)).count()
+    let mut count = 0;
+    'entries: for place in 0..store.len() {
+        if flood.srm(store.at(place).id, link) {
+            count += 1;
+        }
+    }
+    count
 }
 
 /// Returns how many entries are to be acknowledged or requested on a link.
-fn asked(entries: &[Entry], flood: &Flood, link: u16) -> usize
+fn asked(store: &Store, flood: &Flood, link: u16) -> usize
     requires { link < length flood.now.flood.up }
-    ensures asked { result ≡ length (filter (λ e. ssn_in flood.now.flood.rows e.id link) entries.now) }
-    ensures few { result ≤ length entries.now }
+    ensures asked { result ≡ length (filter (λ e. ssn_in flood.now.flood.rows e.id link) store.now.entries) }
+    ensures few { result ≤ length store.now.entries }
 {
     if !flood.may_ask(link) {
         return 0;
     }
-    entries.iter().filter(|e| flood.ssn(e.id, link)).count()
+    let mut count = 0;
+    'entries: for place in 0..store.len() {
+        if flood.ssn(store.at(place).id, link) {
+            count += 1;
+        }
+    }
+    count
 }
 
 /// Returns how many sequence numbers PDUs are needed to list that many entries.
@@ -60,13 +78,13 @@ fn lists(entries: usize) -> usize
 }
 
 /// Returns how many CSNPs list those entries, if CSNPs are due.
-fn csnps(entries: &[Entry], due: bool) -> usize
-    requires { length entries.now ≤ MOST_ENTRIES }
-    ensures csnps { result ≡ (if due then max ((length (filter is_known entries.now) + 89) / MOST_LISTED) 1 else 0) }
+fn csnps(store: &Store, due: bool) -> usize
+    requires { length store.now.entries ≤ MOST_ENTRIES }
+    ensures csnps { result ≡ (if due then max ((length (filter is_known store.now.entries) + 89) / MOST_LISTED) 1 else 0) }
     ensures few { result ≤ MOST_ENTRIES }
 {
     if due {
-        return lists(known(entries)).max(1);
+        return lists(known(store)).max(1);
     }
     0
 }
@@ -78,10 +96,9 @@ pub(crate) fn pending(store: &Store, flood: &Flood, link: u16) -> usize
     ensures { (conf : RouterConf) (spent : Bool) → result ≡ length (send_of (control_of conf flood.now.flood store.now.entries spent) link) }
 {
     let _few = store.len();
-    let entries = store.as_slice();
-    csnps(entries, flood.due(link))
-        + marked(entries, flood, link)
-        + lists(asked(entries, flood, link))
+    csnps(store, flood.due(link))
+        + marked(store, flood, link)
+        + lists(asked(store, flood, link))
 }
 
 /// Returns whether anything may be due on a link.

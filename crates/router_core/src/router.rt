@@ -161,7 +161,8 @@ impl Router {
         Ok(effects)
     }
 
-    /// Does the same, and writes the effects where there are none yet. So effects are not moved, most of which are empty.
+    /// Does the same, and writes the effects where there are none yet. So effects are not moved, most of which are empty. If an
+    /// allocation fails, there are none afterwards either.
     pub fn frame_into(&mut self, link: u16, bytes: &[u8], effects: &mut Effects) -> M<()>
         requires link { link < length self.old.control.conf.ends }
         requires short { length bytes.now ≤ MOST_FRAME }
@@ -173,6 +174,7 @@ impl Router {
         ensures entries { length self.new.control.entries ≤ MOST_ENTRIES }
         ensures heard { OnOk result (self.new.heard ≡ counted self.old.heard) }
         ensures err { OnErr result (self.new ≡ self.old) }
+        ensures none { OnErr result (effects.new ≡ nothing) }
     {
         let _few = self.control.conf();
         self.control.frame(&mut self.kept, link, bytes, effects)?;
@@ -218,16 +220,8 @@ impl Router {
 
     /// Returns what [`Router::send`] would send now on a link that is up, without changing the router. A caller that
     /// has queued these frames reports by [`Router::sent`] that they were sent. If there is no memory to queue them,
-    /// nothing needs to be undone.
-    pub fn due(&self, link: u16) -> M<Effects>
-        requires { is_up self.now.control link ≡ true }
-        ensures due { IfOk result (λ e. e ≡ (framed link (send self.now.control link)).effects) }
-        ensures sizes { IfOk result (λ e. FitRecords e.sent) }
-    {
-        self.control.due(link)
-    }
-
-    /// Returns what [`Router::due`] returns, in memory that serves again: if the caller gives it back, a send needs few allocations.
+    /// nothing needs to be undone. The frames are built in the memory of the send before: if the caller gives it back, a
+    /// send needs few allocations.
     pub fn due_in(&self, link: u16, memory: &mut SendMemory) -> M<Effects>
         requires { is_up self.now.control link ≡ true }
         ensures due { IfOk result (λ e. e ≡ (framed link (send self.now.control link)).effects) }
@@ -236,7 +230,7 @@ impl Router {
         self.control.due_in(link, memory)
     }
 
-    /// Records that the frames that are due on a link that is up, as [`Router::due`] returns them, were sent. Does not
+    /// Records that the frames that are due on a link that is up, as [`Router::due_in`] returns them, were sent. Does not
     /// allocate.
     pub fn sent(&mut self, link: u16)
         requires { is_up self.old.control link ≡ true }

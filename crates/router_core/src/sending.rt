@@ -48,16 +48,17 @@ fn summary_of(e: &Entry) -> Summary
 }
 
 /// Returns the entries that a CSNP lists.
-fn known_rows(alloc: Global, entries: &[Entry]) -> M<Vec<Summary>>
-    ensures { IfOk result (λ rows. rows.items ≡ map summary_of (filter is_known entries.now)) }
+fn known_rows(alloc: Global, store: &Store) -> M<Vec<Summary>>
+    ensures { IfOk result (λ rows. rows.items ≡ map summary_of (filter is_known store.now.entries)) }
 {
-    Ok(
-        entries
-            .iter()
-            .filter(|e| is_known(e))
-            .map(summary_of)
-            .collect(alloc)?,
-    )
+    let mut rows = Vec::new(alloc);
+    'entries: for place in 0..store.len() {
+        let e = store.at(place);
+        if is_known(e) {
+            rows.push(summary_of(e))?;
+        }
+    }
+    Ok(rows)
 }
 
 /// Appends what a sequence numbers PDU lists of the entry with an LSP ID, which is usually at the given index.
@@ -79,8 +80,8 @@ fn push_known(rows: &mut Vec<Summary>, entry: Option<&Entry>) -> M<()>
     }
 }
 
-/// Returns the entries to be acknowledged or requested on a link, in an empty list whose memory serves again. If there are none,
-/// usually no row of flags is read.
+/// Returns the entries to be acknowledged or requested on a link. The memory of the list of the send before, which is empty now, is
+/// reused. If there are none, usually no row of flags is read.
 fn asked_rows(store: &Store, flood: &Flood, link: u16, memory: Vec<Summary>) -> M<Vec<Summary>>
     requires empty { memory.items ≡ [] }
     requires link { link < length flood.now.flood.up }
@@ -213,14 +214,14 @@ fn push_due(
     conf: &RouterConf,
     link: u16,
     flood: &Flood,
-    entries: &[Entry],
+    store: &Store,
 ) -> M<()>
     requires end { link < length conf.now.ends }
     requires link { link < length flood.now.flood.up }
-    ensures { OnOk result (out.new ≡ out.old ++ frames_of conf.now link (due_csnps (control_of conf.now flood.now.flood entries.now false) (slice_index_or flood.now.flood.due link false))) }
+    ensures { OnOk result (out.new ≡ out.old ++ frames_of conf.now link (due_csnps (control_of conf.now flood.now.flood store.now.entries false) (slice_index_or flood.now.flood.due link false))) }
 {
     if flood.due(link) {
-        let rows = known_rows(out.allocator(), entries)?;
+        let rows = known_rows(out.allocator(), store)?;
         return push_csnps(out, conf, link, rows.as_slice());
     }
     Ok(())
@@ -242,9 +243,8 @@ fn due_frames(
     ensures due { (spent : Bool) → IfOk result (λ sent. sent ≡ frames_of conf.now link (send_of (control_of conf.now flood.now.flood store.now.entries spent) link)) }
     ensures sizes { IfOk result (λ sent. FitRecords sent) }
 {
-    let entries = store.as_slice();
     let mut out = FramesOut::in_memory(memory);
-    push_due(&mut out, conf, link, flood, entries)?;
+    push_due(&mut out, conf, link, flood, store)?;
     push_lsps(&mut out, conf, link, flood, store)?;
     let rows = asked_rows(store, flood, link, memory.take_rows())?;
     push_psnps(&mut out, conf, link, rows.as_slice())?;
@@ -262,7 +262,7 @@ impl Control {
         self.due_in(link, &mut memory)
     }
 
-    /// Returns the same, in memory that serves again.
+    /// Returns the same. The memory of the send before is reused.
     #[tactic(auto, unfolding(wire_base::specs::model::Flooding::send, wire_base::specs::model::OnFrame::framed))]
     pub(crate) fn due_in(&self, link: u16, memory: &mut SendMemory) -> M<Effects>
         requires { is_up self.now link ≡ true }

@@ -16,7 +16,8 @@ use crate::kept::{Kept, keep_if};
 use crate::snp_needs::any_confusing;
 use isis_flood::listed;
 use isis_pdu::Pdu;
-use wire_base::{Entry, SystemId};
+use lsp_store::Store;
+use wire_base::SystemId;
 
 /// The greatest number of systems that are noted. If more systems change, the topology is computed anew.
 const MOST_CHANGED: usize = 64;
@@ -28,10 +29,15 @@ fn is_named(systems: &[SystemId], system: &SystemId) -> bool
 }
 
 /// Returns whether an entry expires within the second.
-fn any_last(entries: &[Entry]) -> bool
-    ensures { result ≡ list_any is_last entries.now }
+fn any_last(store: &Store) -> bool
+    ensures { result ≡ list_any is_last store.now.entries }
 {
-    entries.iter().any(|e| e.life == 1)
+    'entries: for place in 0..store.len() {
+        if store.at(place).life == 1 {
+            return true;
+        }
+    }
+    false
 }
 
 /// Notes that the router itself may advertise something else.
@@ -128,7 +134,7 @@ impl Control {
         ensures now { MayKeep self.now kept.new }
         ensures next { MayKeep (tick self.now).control kept.new }
     {
-        if any_last(self.store.as_slice()) {
+        if any_last(&self.store) {
             *kept = None;
         } else {
             note_own(kept);

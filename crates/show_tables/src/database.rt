@@ -49,7 +49,9 @@ pub fn database_table(
         names,
         &COLUMNS,
     )?;
-    for entry in router.store().as_slice() {
+    let store = router.store();
+    for place in 0..store.len() {
+        let entry = store.at(place);
         let mut row = entry_row(alloc, conf, router.flood(), names, entry)?;
         if let Detail::Tlvs = detail {
             show_tlvs(&mut row.below, entry.content.as_slice())?;

@@ -1,4 +1,5 @@
 pub mod ContentLaws
+pub mod MemberLaws
 pub mod ObserverLaws
 pub mod ProjectedLaws
 pub mod WithoutLaws

@@ -6,6 +6,7 @@ ghost use Rattle.topo_mt.specs.MultiTopology.{is_member, listing_in, listing_of,
 
 use crate::parts::TLV_MULTI_TOPOLOGY;
 use isis_tlv::{Tlv, TlvWalk};
+use lsp_store::Store;
 use wire_base::{Entry, SystemId};
 
 /// Returns the O bit (overload) of the first whole entry of a topology in the value of a TLV 229. None exactly where it has no
@@ -62,8 +63,13 @@ fn lists_part(entry: &Entry, system: SystemId, mt: u16) -> bool
 
 /// Returns whether a system takes part in a topology: whether one of its live fragments lists it.
 #[tactic(auto, unfolding(crate::specs::MultiTopology::is_member))]
-pub(crate) fn is_member(entries: &[Entry], system: SystemId, mt: u16) -> bool
-    ensures { result ≡ is_member mt entries.now system }
+pub(crate) fn is_member(store: &Store, system: SystemId, mt: u16) -> bool
+    ensures { result ≡ is_member mt store.now.entries system }
 {
-    entries.iter().any(|entry| lists_part(entry, system, mt))
+    'entries: for place in 0..store.len() {
+        if lists_part(store.at(place), system, mt) {
+            return true;
+        }
+    }
+    false
 }

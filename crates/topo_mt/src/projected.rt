@@ -67,7 +67,7 @@ fn known_of(known: Known, store: &Store, system: SystemId, mt: u16) -> Known
     }
     Known {
         system,
-        is_member: is_member(store.as_slice(), system, mt),
+        is_member: is_member(store, system, mt),
     }
 }
 
@@ -101,13 +101,12 @@ pub(crate) fn projected(alloc: Global, store: &Store, mt: u16) -> M<Store>
     ensures { IfOk result (λ made. made.entries ≡ projected_entries mt store.now.entries) }
 {
     let mut made = Store::new(alloc);
-    let entries = store.as_slice();
     let mut known = Known {
         system: OBSERVER,
-        is_member: is_member(entries, OBSERVER, mt),
+        is_member: is_member(store, OBSERVER, mt),
     };
-    'entries: for place in 0..entries.len() {
-        let entry = &entries[place];
+    'entries: for place in 0..store.len() {
+        let entry = store.at(place);
         if is_projected(store, entry, mt, &mut known) {
             put_into(&mut made, projected_entry(alloc, store, entry, mt)?)?;
         }

@@ -1,6 +1,5 @@
 use Rattle.std.proofs.Common.{◌∙◌, ◌++◌, List, ap, slice_index_or, false}
 use Rattle.wire_base.specs.declared.effects.Sent.{Sent}
-use Rattle.wire_base.specs.declared.entry.Entry.{Entry}
 use Rattle.wire_base.specs.model.Flooding.{due_csnps}
 use Rattle.wire_base.specs.model.OnFrame.{frames_of}
 use Rattle.laws_router.specs.State.{control_of}
@@ -11,6 +10,5 @@ pub returns-clause-due : goal.returns-clause-due
 returns-clause-due c =
     λ spent.
     due_is c.args.conf.now c.args.flood.now.flood c.args.store.now.entries spent c.args.link c.push_due.new.out c.push_lsps.new.out c.into_sent_keeping.result _
-    (c.in_ok-push_due.ensures ∙ ap (λ (l : List Sent). l ++ frames_of c.args.conf.now c.args.link (due_csnps (control_of c.args.conf.now c.args.flood.now.flood c.as_slice-entries.result.now false) (slice_index_or c.args.flood.now.flood.due c.args.link false))) c.in_memory-out.ensures
-    ∙ ap (λ (es : List Entry). frames_of c.args.conf.now c.args.link (due_csnps (control_of c.args.conf.now c.args.flood.now.flood es false) (slice_index_or c.args.flood.now.flood.due c.args.link false))) c.as_slice-entries.ensures.entries)
+    (c.in_ok-push_due.ensures ∙ ap (λ (l : List Sent). l ++ frames_of c.args.conf.now c.args.link (due_csnps (control_of c.args.conf.now c.args.flood.now.flood c.args.store.now.entries false) (slice_index_or c.args.flood.now.flood.due c.args.link false))) c.in_memory-out.ensures)
     c.in_ok-push_lsps.ensures (c.as_slice.ensures.value ∙ c.in_ok-rows.ensures) (c.into_sent_keeping.ensures.sent ∙ c.in_ok-push_psnps.ensures)
