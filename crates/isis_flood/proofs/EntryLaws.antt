@@ -1,6 +1,6 @@
 -- A loop over the entries of an LSDB, at the entry with index i.
-use Rattle.std.proofs.Common.{◌≡◌, ℕ, suc, zero, ◌+◌, ◌≤◌, ◌<◌, Bool, true, false, List, [], ◌∷◌, ◌++◌, length, get_or, slice_get, take, map, filter, fold, cond, Option, Some, Result, Err, IsOk, if◌then◌else◌, sym, ap, subst, ◌∙◌, arith, append-nil}
-use mathlib.Core.Bool.{◌||◌}
+use Rattle.std.proofs.Common.{◌≡◌, ℕ, suc, zero, ◌+◌, ◌≤◌, ◌<◌, Bool, true, false, List, [], ◌∷◌, ◌++◌, length, get_or, slice_get, take, map, filter, fold, cond, Some, Result, Err, IsOk, if◌then◌else◌, sym, ap, subst, ◌∙◌, arith, append-nil}
+use mathlib.Core.Bool.{◌||◌, false≢true}
 use Rattle.std.specs.List.{list_any}
 use Rattle.std.proofs.lemmas.Option.{slice_get_within, get_or_from_slice_get}
 use Rattle.std.proofs.lemmas.List.{map-append}
@@ -76,4 +76,4 @@ module _ {X : Type 0} (xs : List X) (i : ℕ) (x : X) (is : slice_get xs i ≡ S
 
 -- what always succeeds returns no error
 pub no_error : {T E : Type 0} (r : Result T E) (e : E) → IsOk r → r ≡ Err e → ⊥
-no_error r e ok is = subst IsOk is ok
+no_error r e ok is = false≢true (subst IsOk is ok)

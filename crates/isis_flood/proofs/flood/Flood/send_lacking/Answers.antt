@@ -10,17 +10,17 @@ use Rattle.isis_flood.proofs.flood.Flood.send_lacking.Goals as goal
 pub returns-in_err-want-clause-next : goal.returns-in_err-want-clause-next
 returns-in_err-want-clause-next c =
     let room = has_room c.args.store.now.entries c.entries.place c.at-e.result.now c.at-e.ensures (lacks c.args.start.now c.args.last.now c.args.rows.now) c.args.self.now.spare c.entries.self.spare (sym c.lacks.ensures ∙ c.if-lacks.true) c.requires.flags c.entries.invariant.spare in
-    absurd (no_error c.want.result c.in_err-want.field-0 (c.want.ensures.room room) c.in_err-want.was)
+    absurd (no_error c.want.result _ (c.want.ensures.room room) c.in_err-want.was)
 
 pub returns-in_err-want-clause-ok : goal.returns-in_err-want-clause-ok
 returns-in_err-want-clause-ok c =
     let room = has_room c.args.store.now.entries c.entries.place c.at-e.result.now c.at-e.ensures (lacks c.args.start.now c.args.last.now c.args.rows.now) c.args.self.now.spare c.entries.self.spare (sym c.lacks.ensures ∙ c.if-lacks.true) c.requires.flags c.entries.invariant.spare in
-    absurd (no_error c.want.result c.in_err-want.field-0 (c.want.ensures.room room) c.in_err-want.was)
+    absurd (no_error c.want.result _ (c.want.ensures.room room) c.in_err-want.was)
 
 pub returns-in_err-want-clause-spare : goal.returns-in_err-want-clause-spare
 returns-in_err-want-clause-spare c =
     let room = has_room c.args.store.now.entries c.entries.place c.at-e.result.now c.at-e.ensures (lacks c.args.start.now c.args.last.now c.args.rows.now) c.args.self.now.spare c.entries.self.spare (sym c.lacks.ensures ∙ c.if-lacks.true) c.requires.flags c.entries.invariant.spare in
-    absurd (no_error c.want.result c.in_err-want.field-0 (c.want.ensures.room room) c.in_err-want.was)
+    absurd (no_error c.want.result _ (c.want.ensures.room room) c.in_err-want.was)
 
 pub entries-preserved : goal.entries-preserved
 entries-preserved c = elim c.if-lacks.branch [
