@@ -8,7 +8,7 @@ use std::alloc::Global;
 use std::marker::Model;
 
 /// Frames that a router sends to others. Contracts see a list of frames. The octets are stored in one list, so that a
-/// frame needs no allocation of its own. The note of each frame is the router that it goes to.
+/// frame needs no allocation of its own. The note of each frame is the router that it goes to. The sender of an empty list is 0.
 #[derive(Drop)]
 pub struct WireFrames {
     from: u16,
@@ -16,13 +16,15 @@ pub struct WireFrames {
 }
 
 impl Model for WireFrames {
-    ghost use Rattle.std.specs.Prelude.{List};
+    ghost use Rattle.std.specs.Prelude.{◌≡◌, List, []};
     ghost use Rattle.domain_model.specs.declared.step_out.WireFrame.{WireFrame};
     ghost use Rattle.domain_model.specs.Wires.{wires_in};
 
     ghost Value = { List WireFrame };
 
     ghost view = { λ f. wires_in f.from f.list };
+
+    ghost invariant = { λ f. f.list ≡ [] → f.from ≡ 0 };
 }
 
 impl WireFrames {
@@ -40,12 +42,15 @@ impl WireFrames {
     pub fn sent_by(from: u16, list: FrameList<u16>) -> Self
         ensures { result ≡ wires_in from list }
     {
+        let from = if list.len() == 0 { 0 } else { from };
         WireFrames { from, list }
     }
 
-    /// Returns the router that sends all of them, and the frames, each with the router that it goes to as a note.
+    /// Returns the router that sends all of them, 0 if there is no frame, and the frames, each with the router that it goes to as
+    /// a note.
     pub fn into_parts(self) -> (u16, FrameList<u16>)
-        ensures { self ≡ wires_in result.0 result.1 }
+        ensures parts { self ≡ wires_in result.0 result.1 }
+        ensures empty { result.1 ≡ [] → result.0 ≡ 0 }
     {
         (self.from, self.list)
     }
