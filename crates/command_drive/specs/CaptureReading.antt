@@ -1,5 +1,5 @@
 -- The records of a capture of either format: pcapng where the first four octets are those of a section header, pcap otherwise.
-use Rattle.std.specs.Prelude.{ℕ, ◌≡◌, ◌≤◌, true, false, Bool, List, [], ◌++◌, length, map, Result, Ok, Err, Option, Some, None, option_map, nat_lt, ◌==◌, if◌then◌else◌}
+use Rattle.std.specs.Prelude.{ℕ, ◌≡◌, ◌≤◌, ◌⊎◌, true, false, Bool, List, [], ◌++◌, length, map, Result, Ok, Err, Option, Some, None, option_map, nat_lt, ◌==◌, if◌then◌else◌}
 use Rattle.byteorder.specs.Endian.{big_number}
 use Rattle.wire_base.specs.declared.faults.CaptureFault.{CaptureFault}
 use Rattle.wire_base.specs.declared.faults.CaptureFault.TheVariants as faults
@@ -48,6 +48,17 @@ abbrev pub given : NgRecord → Result Bool RecordFault → Result (Option NgRec
 given read (Ok true) = Ok (Some read)
 given read (Ok false) = Ok None
 given read (Err fault) = Err fault
+
+-- What a record that is to be read into holds after out of memory: what it held before, but its frame may be empty.
+abbrev pub HoldsRest : NgRecord → NgRecord → Type 0
+HoldsRest before now = (now ≡ before) ⊎ (now ≡ record before { cap = record before.cap { octets = [] } })
+
+-- What a record that is to be read into holds where none was read: what it held before.
+abbrev pub HoldsGiven : {E : Type 0} → NgRecord → Result (Result Bool RecordFault) E → NgRecord → Type 0
+HoldsGiven before (Ok (Ok true)) now = Unit {0}
+HoldsGiven before (Ok (Ok false)) now = now ≡ before
+HoldsGiven before (Ok (Err fault)) now = now ≡ before
+HoldsGiven before (Err e) now = HoldsRest before now
 
 -- ---- the format
 

@@ -3,7 +3,7 @@ ghost use Rattle.std.specs.Prelude.{◌≡◌, ◌≤◌, ℕ, [], length, Ok, E
 ghost use Rattle.wire_base.specs.model.Capture.{next_of, end_of};
 ghost use Rattle.pcapng_frames.specs.Reading.{ng_next, ng_end};
 ghost use Rattle.command_drive.specs.declared.capture_reader.CaptureReader.TheVariants as readers;
-ghost use Rattle.command_drive.specs.CaptureReading.{chosen_of, chosen, any_fed, any_next, answer_of, by_pcap, by_pcapng, any_end, fault_of, fault_number, fault_name, given};
+ghost use Rattle.command_drive.specs.CaptureReading.{chosen_of, chosen, any_fed, any_next, answer_of, by_pcap, by_pcapng, any_end, fault_of, fault_number, fault_name, given, HoldsGiven};
 
 use byteorder::{BigEndian, ByteOrder};
 use pcap_frames::{CapRecord, Reader};
@@ -70,13 +70,15 @@ impl CaptureReader {
         }
     }
 
-    /// Reads the next record into `read`, and returns whether there is one: false if it is not complete yet, and `read` is unchanged
-    /// then. The error, why the capture is rejected, is permanent. A reader of a pcap capture uses the memory of the record again.
+    /// Reads the next record into `read`, and returns whether there is one: false if it is not complete yet. The error, why the
+    /// capture is rejected, is permanent. The record is unchanged if none was read; after Memory its frame may be empty. A reader
+    /// of a pcap capture uses the memory of the record again.
     #[tactic(auto, unfolding(crate::specs::CaptureReading::any_next))]
     pub fn next_into(&mut self, alloc: Global, read: &mut NgRecord) -> M<Result<bool, RecordFault>>
         ensures exact { IfOk result (λ found. given read.new found ≡ (any_next self.old).0) }
         ensures kept { IfOk result (λ found. found ≡ Ok false → read.new ≡ read.old) }
         ensures after { OnOk result (self.new ≡ (any_next self.old).1) }
+        ensures holds { HoldsGiven read.old result read.new }
     {
         self.choose(alloc)?;
         self.answer(read)
@@ -101,6 +103,7 @@ impl CaptureReader {
         ensures exact { IfOk result (λ found. given read.new found ≡ (answer_of self.old).0) }
         ensures kept { IfOk result (λ found. found ≡ Ok false → read.new ≡ read.old) }
         ensures after { OnOk result (self.new ≡ (answer_of self.old).1) }
+        ensures holds { HoldsGiven read.old result read.new }
     {
         match self {
             CaptureReader::Unknown(_) => Ok(Ok(false)),
@@ -144,6 +147,7 @@ fn pcap_next(reader: &mut Reader, read: &mut NgRecord) -> M<Result<bool, RecordF
     ensures exact { IfOk result (λ found. given read.new found ≡ (by_pcap (next_of reader.old)).0) }
     ensures kept { IfOk result (λ found. found ≡ Ok false → read.new ≡ read.old) }
     ensures after { OnOk result (readers.Pcap reader.new ≡ (by_pcap (next_of reader.old)).1) }
+    ensures holds { HoldsGiven read.old result read.new }
 {
     match reader.next_into(&mut read.cap) {
         Ok(true) => {
@@ -162,6 +166,7 @@ fn pcapng_next(reader: &mut NgReader, read: &mut NgRecord) -> M<Result<bool, Rec
     ensures exact { IfOk result (λ found. given read.new found ≡ (by_pcapng (ng_next reader.old)).0) }
     ensures kept { IfOk result (λ found. found ≡ Ok false → read.new ≡ read.old) }
     ensures after { OnOk result (readers.Pcapng reader.new ≡ (by_pcapng (ng_next reader.old)).1) }
+    ensures holds { HoldsGiven read.old result read.new }
 {
     match reader.next() {
         Ok(Some(record)) => {
