@@ -1,6 +1,4 @@
-use Rattle.std.proofs.Common.{◌≡◌, ◌∙◌, sym, ap, subst, map}
-use Rattle.std.proofs.lemmas.List.{map-id}
-use Rattle.wire_base.specs.declared.addresses.LspId.{LspId}
+use Rattle.std.proofs.Common.{◌∙◌, sym, ap, subst}
 use Rattle.wire_base.specs.model.Control.{AreAscending}
 use Rattle.lsp_store.specs.Places.{stands_at}
 use Rattle.lsp_store.proofs.PlaceLaws.{stands_placed}
@@ -10,8 +8,7 @@ use Rattle.isis_flood.proofs.table.Table.find_near.Goals as goal
 pub returns-then-stands_at-clause-place : goal.returns-then-stands_at-clause-place
 returns-then-stands_at-clause-place c =
     let seen = ap (λ (t : Held). row_ids t.rows) c.self.view_is in
-    let ids : map (λ (id : LspId). id) c.ids-ids.result.now ≡ row_ids c.args.self.now.rows = map-id c.ids-ids.result.now ∙ c.ids-ids.ensures ∙ seen in
-    let stands = ap (λ ids. stands_at ids c.args.guess c.args.id.now) (sym ids) ∙ sym c.stands_at.ensures ∙ c.if-stands_at.true in
+    let stands = ap (λ ids. stands_at ids c.args.guess c.args.id.now) (sym seen) ∙ sym c.stands_at.ensures ∙ c.if-stands_at.true in
     record {
       place = stands_placed (row_ids c.args.self.now.rows) c.args.guess c.args.id.now (subst AreAscending seen c.self.invariant.ascends) stands;
       stands = stands;
