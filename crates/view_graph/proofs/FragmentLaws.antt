@@ -1,24 +1,27 @@
 -- The fragments of a system stand together, from its fragment 0 on, since entries ascend.
 use mathlib.Core.Bool.{false≢true}
-use Rattle.std.proofs.Common.{◌≡◌, ℕ, zero, suc, ◌+◌, ◌<◌, ◌==◌, nat_lt, Bool, true, false, if◌then◌else◌, List, [], ◌∷◌, ◌++◌, length, get_or, take, drop, map, filter, refl, sym, ap, subst, ◌∙◌, arith, append-nil}
+use Rattle.std.proofs.Common.{◌≡◌, ℕ, zero, suc, ◌+◌, ◌-◌, ◌<◌, ◌≤◌, ◌==◌, nat_lt, Bool, true, false, if◌then◌else◌, List, [], ◌∷◌, ◌++◌, length, get_or, take, drop, map, filter, Some, slice_get, refl, sym, ap, subst, ◌∙◌, arith, append-nil}
 use Rattle.std.specs.declared.cmp.Ordering.{Ordering}
 use Rattle.std.specs.declared.cmp.Ordering.TheVariants.{Less, Equal, Greater}
 use Rattle.std.specs.Ordering.{nat_cmp, ordering_then, is_eq, is_lt}
-use Rattle.std.specs.List.{AllByRecursion}
+use Rattle.std.specs.List.{AllByRecursion, flat_map}
 use Rattle.std.proofs.Math.Seq.{take-suc}
 use Rattle.std.proofs.lemmas.Bool.{eqb-true, ltb-true}
-use Rattle.std.proofs.lemmas.List.{map-append}
+use Rattle.std.proofs.lemmas.Grind.{flat_map-append}
+use Rattle.std.proofs.lemmas.List.{append_assoc, map-append, drop_more, get_or-drop, length-drop}
 use Rattle.std.proofs.lemmas.List.Elements.{filter-append}
+use Rattle.std.proofs.lemmas.Option.{get_or_from_slice_get, slice_get_within}
 use Rattle.std.proofs.lemmas.Slice.Eq.{bytes_eq-Decides}
 use Rattle.wire_base.specs.declared.addresses.SystemId.{SystemId}
 use Rattle.wire_base.specs.declared.addresses.LspId.{LspId}
 use Rattle.wire_base.specs.declared.conf.SubKind.{SubKind}
 use Rattle.wire_base.specs.declared.entry.Entry.{Entry}
 use Rattle.wire_base.specs.model.Control.{same_system, system_order, is_below, AreAscending, ids_of}
-use Rattle.wire_base.specs.model.View.{Claim, is_part_of, tlvs_of, claim_of, is_other, with_known}
+use Rattle.wire_base.specs.model.Tlv.{Tlv, tlvs_before}
+use Rattle.wire_base.specs.model.View.{Claim, is_part_of, links_in, subs_in, tlvs_of, claim_of, is_other, with_known}
 use Rattle.view_graph.specs.Edges.{is_before}
 use Rattle.view_graph.specs.Keep.{is_first_of}
-use Rattle.view_graph.specs.Places.{Begins, is_live_part}
+use Rattle.view_graph.specs.Places.{Begins, IsAdding, is_live_part}
 use Rattle.view_graph.proofs.SystemLaws.{tie_is_same, before_trans, before_differs, same_turned}
 use Rattle.laws_format.proofs.InfoLaws.{all_weaker}
 use Rattle.view_graph.proofs.GraphLaws.{and_both}
@@ -42,21 +45,6 @@ all_above s a ids h all = all_weaker (λ (y : LspId). is_below a y ≡ true) (λ
 none_above : (s : SystemId) (es : List Entry) → AllByRecursion (λ y. is_before s y.system ≡ true) (ids_of es) → filter (is_part_of s) es ≡ []
 none_above s [] all = refl
 none_above s (e ∷ es) all = rw (same_turned e.id.system s ∙ before_differs s e.id.system all.0) (none_above s es all.1)
-
--- so a walk over the fragments ends at the first higher system
-parts_end : (s : SystemId) (es : List Entry) (i : ℕ) (e : Entry) → AreAscending (ids_of es) → i < length es → e ≡ get_or es i e → is_before s e.id.system ≡ true → filter (is_part_of s) (take i es) ≡ filter (is_part_of s) es
-parts_end s [] i e asc lt at high = absurd (omega (arith, lt))
-parts_end s (x ∷ xs) zero e asc lt at high =
-    let first : is_before s x.id.system ≡ true = subst (λ (y : Entry). is_before s y.id.system ≡ true) at high in
-    sym (none_above s (x ∷ xs) (first, all_above s x.id (ids_of xs) first asc.0))
-parts_end s (x ∷ xs) (suc i) e asc lt at high = by (is_part_of s x) refl (parts_end s xs i e asc.1 (omega (arith, lt)) at high)
-  where
-    by : (b : Bool) → is_part_of s x ≡ b → filter (is_part_of s) (take i xs) ≡ filter (is_part_of s) xs → filter (is_part_of s) (take (suc i) (x ∷ xs)) ≡ filter (is_part_of s) (x ∷ xs)
-    by true e more = rw e (ap (λ (ys : List Entry). x ∷ ys) more)
-    by false e more = rw e more
-
-pub tlvs_end : (s : SystemId) (es : List Entry) (i : ℕ) (e : Entry) → AreAscending (ids_of es) → i < length es → e ≡ get_or es i e → is_before s e.id.system ≡ true → tlvs_of (take i es) s ≡ tlvs_of es s
-tlvs_end s es i e asc lt at high = rw (parts_end s es i e asc lt at high) refl
 
 all_at : {X : Type 0} (P : X → Type 0) (f : Entry → X) (es : List Entry) (i : ℕ) (e : Entry) → AllByRecursion P (map f es) → i < length es → e ≡ get_or es i e → P (f e)
 all_at P f [] i e all lt at = absurd (omega (arith, lt))
@@ -120,20 +108,24 @@ step_of own es i e lt at =
     let one : i + 1 ≡ suc i = omega arith in
     ap (λ k. filter (is_other own) (take k es)) one ∙ ap (filter (is_other own)) (take-suc es i e lt ∙ ap (λ x. take i es ++ x ∷ []) (sym at)) ∙ filter-append (is_other own) (take i es) (e ∷ [])
 
-pub other_more : (kinds : List SubKind) (own : SystemId) (es rest : List Entry) (i : ℕ) (e : Entry) (c k : Claim) (old new : List Claim) → AreAscending (ids_of es) → i < length es → e ≡ get_or es i e → is_other own e ≡ true → rest ≡ drop i es → c ≡ claim_of rest e → k ≡ with_known kinds c
+pub other_more : (kinds : List SubKind) (own : SystemId) (es : List Entry) (i : ℕ) (e : Entry) (k : Claim) (old new : List Claim) → AreAscending (ids_of es) → slice_get es i ≡ Some e → is_other own e ≡ true → k ≡ with_known kinds (claim_of (drop i es) e)
     → old ≡ map (with_known kinds) (map (claim_of es) (filter (is_other own) (take i es))) → new ≡ old ++ k ∷ [] → new ≡ map (with_known kinds) (map (claim_of es) (filter (is_other own) (take (i + 1) es)))
-other_more kinds own es rest i e c k old new asc lt at other r is known before step =
+other_more kinds own es i e k old new asc at other known before step =
+    let lt = slice_get_within es i e at in
+    let read = sym (get_or_from_slice_get es i e e at) in
     let one : filter (is_other own) (e ∷ []) ≡ e ∷ [] = rw other refl in
-    let claim : k ≡ with_known kinds (claim_of es e) = known ∙ ap (with_known kinds) (is ∙ ap (λ (l : List Entry). claim_of l e) r ∙ claim_begins own es i e asc lt at other) in
+    let claim : k ≡ with_known kinds (claim_of es e) = known ∙ ap (with_known kinds) (claim_begins own es i e asc lt read other) in
     step ∙ ap (λ (l : List Claim). l ++ k ∷ []) before ∙ ap (λ (x : Claim). map (with_known kinds) (map (claim_of es) (filter (is_other own) (take i es))) ++ x ∷ []) claim
-    ∙ sym (ap (λ (l : List Entry). map (with_known kinds) (map (claim_of es) l)) (step_of own es i e lt at ∙ ap (λ (l : List Entry). filter (is_other own) (take i es) ++ l) one)
+    ∙ sym (ap (λ (l : List Entry). map (with_known kinds) (map (claim_of es) l)) (step_of own es i e lt read ∙ ap (λ (l : List Entry). filter (is_other own) (take i es) ++ l) one)
     ∙ ap (map (with_known kinds)) (map-append (claim_of es) (filter (is_other own) (take i es)) (e ∷ [])) ∙ map-append (with_known kinds) (map (claim_of es) (filter (is_other own) (take i es))) (claim_of es e ∷ []))
 
-pub other_less : (kinds : List SubKind) (own : SystemId) (es : List Entry) (i : ℕ) (e : Entry) (old : List Claim) → i < length es → e ≡ get_or es i e → is_other own e ≡ false
+pub other_less : (kinds : List SubKind) (own : SystemId) (es : List Entry) (i : ℕ) (e : Entry) (old : List Claim) → slice_get es i ≡ Some e → is_other own e ≡ false
     → old ≡ map (with_known kinds) (map (claim_of es) (filter (is_other own) (take i es))) → old ≡ map (with_known kinds) (map (claim_of es) (filter (is_other own) (take (i + 1) es)))
-other_less kinds own es i e old lt at other before =
+other_less kinds own es i e old at other before =
+    let lt = slice_get_within es i e at in
+    let read = sym (get_or_from_slice_get es i e e at) in
     let none : filter (is_other own) (e ∷ []) ≡ [] = rw other refl in
-    before ∙ sym (ap (λ (l : List Entry). map (with_known kinds) (map (claim_of es) l)) (step_of own es i e lt at ∙ ap (λ (l : List Entry). filter (is_other own) (take i es) ++ l) none ∙ append-nil (filter (is_other own) (take i es))))
+    before ∙ sym (ap (λ (l : List Entry). map (with_known kinds) (map (claim_of es) l)) (step_of own es i e lt read ∙ ap (λ (l : List Entry). filter (is_other own) (take i es) ++ l) none ∙ append-nil (filter (is_other own) (take i es))))
 
 pub ascending_rest : (es : List Entry) (i : ℕ) → AreAscending (ids_of es) → AreAscending (ids_of (drop i es))
 ascending_rest [] zero asc = tt
@@ -161,7 +153,49 @@ differs_above s (x ∷ xs) (suc i) e asc begins lt at differs = subst (λ t. is_
     by Equal o k = absurd (false≢true (sym differs ∙ same_self e.id.system s (sym (same_is x.id.system e.id.system (sym (tie_is_same x.id.system e.id.system) ∙ ap is_eq o)) ∙ begins)))
     by Greater o k = absurd (false≢true (sym (ap (λ o. is_lt (ordering_then o (ordering_then (nat_cmp x.id.pseudonode e.id.pseudonode) (nat_cmp x.id.fragment e.id.fragment)))) o) ∙ k))
 
-pub begins_at : (es : List Entry) (i : ℕ) (e : Entry) → i < length es → e ≡ get_or es i e → Begins e.id.system (drop i es)
-begins_at [] i e lt at = absurd (omega (arith, lt))
-begins_at (x ∷ xs) zero e lt at = sym (ap (λ (y : Entry). y.id.system) at)
-begins_at (x ∷ xs) (suc i) e lt at = begins_at xs i e (omega (arith, lt)) at
+-- an entry and those after it
+pub entry_and_rest : (es : List Entry) (i : ℕ) (e : Entry) → slice_get es i ≡ Some e → drop i es ≡ e ∷ drop (i + 1) es
+entry_and_rest es i e at = drop_more es i e (slice_get_within es i e at) ∙ ap (λ (x : Entry). x ∷ drop (i + 1) es) (get_or_from_slice_get es i e e at)
+
+pub begins_at : (es : List Entry) (i : ℕ) (e : Entry) → slice_get es i ≡ Some e → Begins e.id.system (drop i es)
+begins_at es i e at = subst (λ (l : List Entry). Begins e.id.system l) (sym (entry_and_rest es i e at)) refl
+
+-- so a walk over the fragments, from the first entry of the system on, ends at the first entry of another system
+pub tlvs_over : (s : SystemId) (es : List Entry) (first i : ℕ) (e : Entry) → AreAscending (ids_of es) → Begins s (drop first es) → first ≤ i → slice_get es i ≡ Some e → same_system e.id.system s ≡ false → tlvs_of (drop i es) s ≡ []
+tlvs_over s es first i e asc begins from at differs =
+    let within : i < length es = slice_get_within es i e at in
+    let there : get_or (drop first es) (i - first) e ≡ e = get_or-drop first es (i - first) e ∙ ap (λ n. get_or es n e) (omega (arith, from)) ∙ get_or_from_slice_get es i e e at in
+    let long = length-drop first es in
+    let high : is_before s e.id.system ≡ true = differs_above s (drop first es) (i - first) e (ascending_rest es first asc) begins (omega (arith, within, from, long)) (sym there) differs in
+    let front = entry_and_rest es i e at in
+    let rest : AreAscending (ids_of (e ∷ drop (i + 1) es)) = subst (λ (l : List Entry). AreAscending (ids_of l)) front (ascending_rest es i asc) in
+    rw (front, none_above s (e ∷ drop (i + 1) es) (high, all_above s e.id (ids_of (drop (i + 1) es)) high rest.0)) refl
+
+-- ---- what is left after one more fragment
+
+carried : {X : Type 0} (f : Tlv → List X) (now new : List X) (part rest all : List Tlv) → new ≡ now ++ flat_map f part → all ≡ part ++ rest → new ++ flat_map f rest ≡ now ++ flat_map f all
+carried {X} f now new part rest all step is =
+    ap (λ (l : List X). l ++ flat_map f rest) step ∙ append_assoc now (flat_map f part) (flat_map f rest) ∙ ap (λ (l : List X). now ++ l) (sym (ap (flat_map f) is ∙ flat_map-append f part rest))
+
+abbrev part_of : SystemId → Entry → List Tlv
+part_of s e = if is_part_of s e then tlvs_before e.content else []
+
+first_part : (s : SystemId) (e : Entry) (es : List Entry) → tlvs_of (e ∷ es) s ≡ part_of s e ++ tlvs_of es s
+first_part s e es = by (is_part_of s e) refl
+  where
+    by : (b : Bool) → is_part_of s e ≡ b → tlvs_of (e ∷ es) s ≡ part_of s e ++ tlvs_of es s
+    by true h = rw h refl
+    by false h = rw h refl
+
+pub adding_more : (es : List Entry) (i : ℕ) (e : Entry) (all : List Tlv) (before now new : Claim) → slice_get es i ≡ Some e → IsAdding (tlvs_of (drop i es) before.system) all before now → new.system ≡ now.system → new.overload ≡ now.overload
+    → new.links ≡ now.links ++ flat_map links_in (if is_part_of now.system e then tlvs_before e.content else []) → new.subs ≡ now.subs ++ flat_map subs_in (if is_part_of now.system e then tlvs_before e.content else []) → IsAdding (tlvs_of (drop (i + 1) es) before.system) all before new
+adding_more es i e all before now new at adding system overload links subs =
+    let s = before.system in
+    let rest : tlvs_of (drop i es) s ≡ part_of s e ++ tlvs_of (drop (i + 1) es) s = ap (λ (l : List Entry). tlvs_of l s) (entry_and_rest es i e at) ∙ first_part s e (drop (i + 1) es) in
+    let mine : part_of now.system e ≡ part_of s e = ap (λ (t : SystemId). part_of t e) adding.system in
+    record {
+      system = system ∙ adding.system;
+      overload = overload ∙ adding.overload;
+      links = carried links_in now.links new.links (part_of s e) (tlvs_of (drop (i + 1) es) s) (tlvs_of (drop i es) s) (links ∙ ap (λ (ts : List Tlv). now.links ++ flat_map links_in ts) mine) rest ∙ adding.links;
+      subs = carried subs_in now.subs new.subs (part_of s e) (tlvs_of (drop (i + 1) es) s) (tlvs_of (drop i es) s) (subs ∙ ap (λ (ts : List Tlv). now.subs ++ flat_map subs_in ts) mine) rest ∙ adding.subs;
+    }

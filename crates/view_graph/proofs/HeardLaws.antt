@@ -3,18 +3,20 @@ use mathlib.Core.Bool.{true≢false}
 use Rattle.std.proofs.Common.{◌≡◌, ℕ, zero, suc, ◌+◌, ◌<◌, ◌≤◌, ◌==◌, ◌&&◌, ◌||◌, nat_lt, Bool, true, false, List, [], ◌∷◌, ◌++◌, length, get_or, take, drop, map, filter, Some, None, slice_get, refl, sym, ap, subst, ◌∙◌, arith}
 use Rattle.std.specs.declared.cmp.Ordering.{Ordering}
 use Rattle.std.specs.declared.cmp.Ordering.TheVariants.{Less, Equal, Greater}
-use Rattle.std.specs.Ordering.{is_lt, is_gt, match_ordering}
+use Rattle.std.specs.Ordering.{nat_cmp, ordering_then, is_lt, is_gt, match_ordering}
 use Rattle.std.specs.List.{AllByRecursion}
 use Rattle.std.proofs.Math.Seq.{take-suc}
+use Rattle.std.proofs.lemmas.Bool.{lt-ltb}
 use Rattle.std.proofs.lemmas.List.{take_all}
 use Rattle.std.proofs.lemmas.List.Elements.{filter-append}
+use Rattle.std.proofs.lemmas.Option.{get_or_from_slice_get, slice_get_within}
 use Rattle.std.proofs.lemmas.List.Folds.{list_any-append}
 use Rattle.laws_format.proofs.TlvLaws.{some_is}
 use Rattle.wire_base.specs.declared.addresses.SystemId.{SystemId}
 use Rattle.wire_base.specs.declared.addresses.LspId.{LspId}
 use Rattle.wire_base.specs.declared.conf.SubKind.{SubKind}
 use Rattle.wire_base.specs.declared.entry.Entry.{Entry}
-use Rattle.wire_base.specs.model.Control.{same_id, same_system, id_order, is_below, fragment_0, AreAscending, ids_of}
+use Rattle.wire_base.specs.model.Control.{same_id, same_system, system_order, id_order, is_below, fragment_0, AreAscending, ids_of}
 use Rattle.wire_base.specs.model.View.{Claim, claim_of, is_other, with_known}
 use Rattle.lsp_store.specs.Places.{place_in as id_place}
 use Rattle.lsp_store.proofs.OrderLaws.{id_total, below_trans, below_differs, above_differs as above_differs_id, same_turned as same_turned_id}
@@ -43,12 +45,6 @@ head_map : {X Y : Type 0} (f : X → Y) (xs : List X) (x : X) → slice_get xs 0
 head_map f [] x h = absurd cc
 head_map f (y ∷ ys) x h = ap (λ z. Some (f z)) (some_is y x h)
 
-pub said_found : (kinds : List SubKind) (es rest : List Entry) (s : SystemId) (i : ℕ) (e : Entry) (c k : Claim) → AreAscending (ids_of es) → filter (is_first_of s) (take i es) ≡ [] → i < length es → e ≡ get_or es i e → is_first_of s e ≡ true → rest ≡ drop i es → c ≡ claim_of rest e → k ≡ with_known kinds c → Some k ≡ said_in kinds es s
-unfolding said_in
-said_found kinds es rest s i e c k asc none lt at first r is known =
-    let claim : k ≡ with_known kinds (claim_of es e) = known ∙ ap (with_known kinds) (is ∙ ap (λ (l : List Entry). claim_of l e) r ∙ claim_at s es i e asc lt at first) in
-    ap (λ (x : Claim). Some x) claim ∙ sym (head_map (with_known kinds) (map (claim_of es) (filter (is_first_of s) es)) (claim_of es e) (head_map (claim_of es) (filter (is_first_of s) es) e (first_found (is_first_of s) es i e none lt at first)))
-
 pub said_none : (kinds : List SubKind) (es : List Entry) (s : SystemId) (i : ℕ) → length es ≤ i → filter (is_first_of s) (take i es) ≡ [] → None ≡ said_in kinds es s
 unfolding said_in
 said_none kinds es s i past none =
@@ -56,6 +52,24 @@ said_none kinds es s i past none =
     sym (ap (λ (l : List Entry). slice_get (map (with_known kinds) (map (claim_of es) l)) 0) all)
 
 -- ---- an entry of a system's fragment 0 is at its place, or nowhere
+
+-- no identifier of a system is below that of its fragment 0
+pub first_above : (s : SystemId) (x : LspId) → is_gt (id_order (fragment_0 s) x) ≡ is_gt (system_order s x.system)
+first_above s x = by (system_order s x.system)
+  where
+    first : (n : ℕ) → is_gt (nat_cmp 0 n) ≡ false
+    first zero = refl
+    first (suc n) = rw (lt-ltb 0 (suc n) (omega arith)) refl
+
+    both : (a b : Ordering) → is_gt a ≡ false → is_gt b ≡ false → is_gt (ordering_then a b) ≡ false
+    both Less b h k = refl
+    both Equal b h k = k
+    both Greater b h k = h
+
+    by : (o : Ordering) → is_gt (ordering_then o (ordering_then (nat_cmp 0 x.pseudonode) (nat_cmp 0 x.fragment))) ≡ is_gt o
+    by Less = refl
+    by Equal = both (nat_cmp 0 x.pseudonode) (nat_cmp 0 x.fragment) (first x.pseudonode) (first x.fragment)
+    by Greater = refl
 
 first_differs : (s : SystemId) (e : Entry) → same_id (fragment_0 s) e.id ≡ false → is_first_of s e ≡ false
 first_differs s e h = by (same_system e.id.system s) (e.id.pseudonode == 0) (e.id.fragment == 0) (nat_lt 0 e.life) (same_turned_id e.id (fragment_0 s) ∙ h)
@@ -93,13 +107,24 @@ none_there s (e ∷ es) x asc lt at away = by (id_order (fragment_0 s) e.id) ref
         rw here (none_higher s es (all_weaker (λ (y : LspId). is_below e.id y ≡ true) (λ (y : LspId). is_below (fragment_0 s) y ≡ true) (λ y k. ap is_lt (id_total.congr (fragment_0 s) e.id y o) ∙ k) (ids_of es) asc.0))
     by Greater o l a more = rw (first_differs s e (above_differs_id (fragment_0 s) e.id (ap is_gt o))) (more (omega (arith, l)) a)
 
+pub said_found : (kinds : List SubKind) (es : List Entry) (s : SystemId) (i : ℕ) (e : Entry) (c k : Claim) → AreAscending (ids_of es) → i ≡ id_place (ids_of es) (fragment_0 s) → slice_get es i ≡ Some e → is_first_of s e ≡ true → c ≡ claim_of (drop i es) e → k ≡ with_known kinds c → Some k ≡ said_in kinds es s
+unfolding said_in
+said_found kinds es s i e c k asc place at first is known =
+    let lt = slice_get_within es i e at in
+    let read = sym (get_or_from_slice_get es i e e at) in
+    let none : filter (is_first_of s) (take i es) ≡ [] = ap (λ n. filter (is_first_of s) (take n es)) place ∙ none_lower s es in
+    let claim : k ≡ with_known kinds (claim_of es e) = known ∙ ap (with_known kinds) (is ∙ claim_at s es i e asc lt read first) in
+    ap (λ (x : Claim). Some x) claim ∙ sym (head_map (with_known kinds) (map (claim_of es) (filter (is_first_of s) es)) (claim_of es e) (head_map (claim_of es) (filter (is_first_of s) es) e (first_found (is_first_of s) es i e none lt read first)))
+
 -- where it is away, the system says nothing
 pub said_past : (kinds : List SubKind) (es : List Entry) (s : SystemId) (place : ℕ) → place ≡ id_place (ids_of es) (fragment_0 s) → length es ≤ place → None ≡ said_in kinds es s
 said_past kinds es s place is past = said_none kinds es s place past (ap (λ n. filter (is_first_of s) (take n es)) is ∙ none_lower s es)
 
-pub said_away : (kinds : List SubKind) (es : List Entry) (s : SystemId) (place : ℕ) (x : Entry) → AreAscending (ids_of es) → place ≡ id_place (ids_of es) (fragment_0 s) → place < length es → x ≡ get_or es place x → is_first_of s x ≡ false → None ≡ said_in kinds es s
-said_away kinds es s place x asc is lt at away =
-    let none : filter (is_first_of s) es ≡ [] = none_there s es x asc (subst (λ n. n < length es) is lt) (at ∙ ap (λ n. get_or es n x) is) away in
+pub said_away : (kinds : List SubKind) (es : List Entry) (s : SystemId) (place : ℕ) (x : Entry) → AreAscending (ids_of es) → place ≡ id_place (ids_of es) (fragment_0 s) → slice_get es place ≡ Some x → is_first_of s x ≡ false → None ≡ said_in kinds es s
+said_away kinds es s place x asc is at away =
+    let lt = slice_get_within es place x at in
+    let read = sym (get_or_from_slice_get es place x x at) in
+    let none : filter (is_first_of s) es ≡ [] = none_there s es x asc (subst (λ n. n < length es) is lt) (read ∙ ap (λ n. get_or es n x) is) away in
     said_none kinds es s (length es) (omega arith) (ap (filter (is_first_of s)) (take_all (length es) es (omega arith)) ∙ none)
 
 -- ---- named systems

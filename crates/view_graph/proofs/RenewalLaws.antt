@@ -35,25 +35,24 @@ base_now k r up es system kinds others is_whole nodes changed view own own_kinds
       said_now = now_is r up es;
     }
 
-pub patch_seen : (r : RouterConf) (up : List Bool) (es seen_es : List Entry) (nodes seen : List ViewNode) (systems : List SystemId) (anew : List NewNode) → seen_es ≡ es → seen ≡ nodes → IsPatch (said_now r up seen_es) seen systems anew → IsPatch (said_now r up es) nodes systems anew
-patch_seen r up es seen_es nodes seen systems anew database view patch =
-    subst (λ (l : List Entry). IsPatch (said_now r up l) nodes systems anew) database (subst (λ (ns : List ViewNode). IsPatch (said_now r up seen_es) ns systems anew) view patch)
+pub patch_seen : (r : RouterConf) (up : List Bool) (es : List Entry) (nodes seen : List ViewNode) (systems : List SystemId) (anew : List NewNode) → seen ≡ nodes → IsPatch (said_now r up es) seen systems anew → IsPatch (said_now r up es) nodes systems anew
+patch_seen r up es nodes seen systems anew view patch = subst (λ (ns : List ViewNode). IsPatch (said_now r up es) ns systems anew) view patch
 
 -- what the nodes made anew turn the view into
-pub turned_now : (r : RouterConf) (up : List Bool) (es seen_es : List Entry) (claims : List Claim) (nodes seen : List ViewNode) (systems : List SystemId) (anew : List NewNode)
-    → IsBase claims (claims_now r up es) nodes (said_now r up es) systems → seen_es ≡ es → seen ≡ nodes → IsPatch (said_now r up seen_es) seen systems anew → AreTurning nodes (nodes_of (claims_now r up es)) anew
-turned_now r up es seen_es claims nodes seen systems anew base database view patch = patch_turns claims (claims_now r up es) nodes (said_now r up es) systems anew base (patch_seen r up es seen_es nodes seen systems anew database view patch)
+pub turned_now : (r : RouterConf) (up : List Bool) (es : List Entry) (claims : List Claim) (nodes seen : List ViewNode) (systems : List SystemId) (anew : List NewNode)
+    → IsBase claims (claims_now r up es) nodes (said_now r up es) systems → seen ≡ nodes → IsPatch (said_now r up es) seen systems anew → AreTurning nodes (nodes_of (claims_now r up es)) anew
+turned_now r up es claims nodes seen systems anew base view patch = patch_turns claims (claims_now r up es) nodes (said_now r up es) systems anew base (patch_seen r up es nodes seen systems anew view patch)
 
 -- what is kept once they are in their places
-pub kept_now : (r : RouterConf) (up : List Bool) (es seen_es : List Entry) (system : SystemId) (others : List Claim) (is_whole : Bool) (claims : List Claim) (nodes seen now : List ViewNode) (systems : List SystemId) (anew : List NewNode)
-    → IsBase claims (claims_now r up es) nodes (said_now r up es) systems → seen_es ≡ es → seen ≡ nodes → IsPatch (said_now r up seen_es) seen systems anew → IsDatabase seen_es → system ≡ r.system → others ≡ heard r.system r.kinds es → now ≡ put_all anew nodes → IsKept system others is_whole now
-kept_now r up es seen_es system others is_whole claims nodes seen now systems anew base database view patch base_es own all put =
-    let found = patch_seen r up es seen_es nodes seen systems anew database view patch in
-    let made : now ≡ nodes_of (claims_now r up es) = put ∙ (turned_now r up es seen_es claims nodes seen systems anew base database view patch).turned in
+pub kept_now : (r : RouterConf) (up : List Bool) (es : List Entry) (system : SystemId) (others : List Claim) (is_whole : Bool) (claims : List Claim) (nodes seen now : List ViewNode) (systems : List SystemId) (anew : List NewNode)
+    → IsBase claims (claims_now r up es) nodes (said_now r up es) systems → seen ≡ nodes → IsPatch (said_now r up es) seen systems anew → IsDatabase es → system ≡ r.system → others ≡ heard r.system r.kinds es → now ≡ put_all anew nodes → IsKept system others is_whole now
+kept_now r up es system others is_whole claims nodes seen now systems anew base view patch database own all put =
+    let found = patch_seen r up es nodes seen systems anew view patch in
+    let made : now ≡ nodes_of (claims_now r up es) = put ∙ (turned_now r up es claims nodes seen systems anew base view patch).turned in
     record {
       claims = claims_now r up es;
       in_order = base.order_now;
-      few = few_claims r up es (subst IsDatabase database base_es).few;
+      few = few_claims r up es database.few;
       made = made;
       heard = ap (λ (s : SystemId). without_system s (claims_now r up es)) own ∙ heard_is r up es ∙ sym all;
       whole = λ _. ap (map (λ (n : ViewNode). n.subs)) made ∙ patch_whole claims (claims_now r up es) nodes (said_now r up es) systems anew base found;

@@ -18,13 +18,6 @@ place_before s (c ∷ cs) = if is_lt (system_order s c.system) then 0 else suc (
 abbrev pub has_sd : ℕ → List ViewSub → Bool
 has_sd sd subs = list_any (λ s. s.sd == sd) subs
 
--- a claim after those TLVs were added to it
-pub record IsWith (tlvs : List Tlv) (before now : Claim) : Type 0 where
-  pub system : now.system ≡ before.system
-  pub overload : now.overload ≡ before.overload
-  pub links : now.links ≡ before.links ++ flat_map links_in tlvs
-  pub subs : now.subs ≡ before.subs ++ flat_map subs_in tlvs
-
 -- a claim while all those TLVs are being added to it and the rest is left
 pub record IsAdding (rest all : List Tlv) (before now : Claim) : Type 0 where
   pub system : now.system ≡ before.system

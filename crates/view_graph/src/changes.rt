@@ -10,7 +10,8 @@ use crate::edges::leads_to;
 use crate::node_index::{half_edges, index_of, is_at};
 use crate::renewal::said_now;
 use crate::same::{are_same_edges, are_same_subs};
-use wire_base::{Entry, M, RouterConf, SystemId, ViewEdge, ViewNode};
+use lsp_store::Store;
+use wire_base::{M, RouterConf, SystemId, ViewEdge, ViewNode};
 
 fn has(places: &[usize], place: usize) -> bool
     ensures { result ≡ has places.now place }
@@ -96,17 +97,17 @@ fn add_changed(
     nodes: &[ViewNode],
     conf: &RouterConf,
     up: &[bool],
-    entries: &[Entry],
+    store: &Store,
     system: &SystemId,
 ) -> M<bool>
     requires order { AreInOrder (node_claims nodes.now) }
     requires few { length nodes.now ≤ 65536 }
     requires one_each { length up.now ≡ length conf.now.ends }
-    requires ascending { AreAscending (ids_of entries.now) }
+    requires ascending { AreAscending (ids_of store.now.entries) }
     ensures stays { OnOk result (Stays places.old.items places.new.items) }
-    ensures noted { IfOk result (λ told. told ≡ true → IsNoted (said_now conf.now up.now entries.now) nodes.now places.new.items system.now) }
+    ensures noted { IfOk result (λ told. told ≡ true → IsNoted (said_now conf.now up.now store.now.entries) nodes.now places.new.items system.now) }
 {
-    let Some(claim) = said_now(conf, up, entries, system)? else {
+    let Some(claim) = said_now(conf, up, store, system)? else {
         return Ok(false);
     };
     add_said(places, nodes, system, &claim)
@@ -142,21 +143,21 @@ pub(crate) fn changed_places(
     nodes: &[ViewNode],
     conf: &RouterConf,
     up: &[bool],
-    entries: &[Entry],
+    store: &Store,
     changed: &[SystemId],
 ) -> M<Option<Vec<usize>>>
     requires order { AreInOrder (node_claims nodes.now) }
     requires few { length nodes.now ≤ 65536 }
     requires one_each { length up.now ≡ length conf.now.ends }
-    requires ascending { AreAscending (ids_of entries.now) }
-    ensures { IfOk result (λ found. IfSome found (λ places. AreNoted (said_now conf.now up.now entries.now) nodes.now (conf.now.system ∷ changed.now) places.items)) }
+    requires ascending { AreAscending (ids_of store.now.entries) }
+    ensures { IfOk result (λ found. IfSome found (λ places. AreNoted (said_now conf.now up.now store.now.entries) nodes.now (conf.now.system ∷ changed.now) places.items)) }
 {
     let mut places = Vec::new(conf.kinds.allocator());
-    if !add_changed(&mut places, nodes, conf, up, entries, &conf.system)? {
+    if !add_changed(&mut places, nodes, conf, up, store, &conf.system)? {
         return Ok(None);
     }
     'systems: for at in 0..changed.len() {
-        if !add_changed(&mut places, nodes, conf, up, entries, &changed[at])? {
+        if !add_changed(&mut places, nodes, conf, up, store, &changed[at])? {
             return Ok(None);
         }
     }

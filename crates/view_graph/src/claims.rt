@@ -1,5 +1,5 @@
 //! What each system advertises: its links, and its memberships of sub-domains.
-ghost use Rattle.std.specs.Prelude.{◌≡◌, ◌++◌, ◌≤◌, ◌∷◌, [], true, map, filter, length, IfOk, OnOk, if◌then◌else◌};
+ghost use Rattle.std.specs.Prelude.{◌≡◌, ◌++◌, ◌≤◌, ◌∷◌, [], true, map, filter, drop, length, IfOk, OnOk, if◌then◌else◌};
 ghost use Rattle.std.specs.List.{flat_map};
 ghost use Rattle.wire_base.specs.model.Control.{AreAscending, ids_of, same_system, system_order};
 ghost use Rattle.wire_base.specs.model.Tlv.{tlvs_before};
@@ -14,7 +14,7 @@ use crate::known::keep_known;
 use crate::links::{Link, LinkList, append_links};
 use crate::places::append_places;
 use isis_tlv::{Tlv, TlvWalk};
-use lsp_store::is_system_above;
+use lsp_store::{Store, is_system_above};
 use std::alloc::Global;
 use std::marker::Model;
 use wire_base::codepoints::{TLV_EXTENDED_IP_REACH, TLV_EXTENDED_IS_REACH};
@@ -111,17 +111,18 @@ fn add_entry(claim: &mut Claim, entry: &Entry) -> M<()>
     }
 }
 
-/// Adds the content of the fragments of its system. Entries ascend, and the first is one of them, so the first entry of another
-/// system ends them.
-fn add_fragments(claim: &mut Claim, entries: &[Entry]) -> M<()>
-    requires ascending { AreAscending (ids_of entries.now) }
-    requires begins { Begins claim.old.system entries.now }
-    ensures links { OnOk result (claim.new.links ≡ claim.old.links ++ flat_map links_in (tlvs_of entries.now claim.old.system)) }
-    ensures subs { OnOk result (claim.new.subs ≡ claim.old.subs ++ flat_map subs_in (tlvs_of entries.now claim.old.system)) }
+/// Adds the content of the fragments of its system, by the entries from an index on. Entries ascend, and the first is one of them,
+/// so the first entry of another system ends them.
+fn add_fragments(claim: &mut Claim, store: &Store, first: usize) -> M<()>
+    requires ascending { AreAscending (ids_of store.now.entries) }
+    requires begins { Begins claim.old.system (drop first store.now.entries) }
+    ensures links { OnOk result (claim.new.links ≡ claim.old.links ++ flat_map links_in (tlvs_of (drop first store.now.entries) claim.old.system)) }
+    ensures subs { OnOk result (claim.new.subs ≡ claim.old.subs ++ flat_map subs_in (tlvs_of (drop first store.now.entries) claim.old.system)) }
     ensures system { claim.new.system ≡ claim.old.system }
     ensures overload { claim.new.overload ≡ claim.old.overload }
 {
-    'fragments: for entry in entries {
+    'fragments: for place in first..store.len() {
+        let entry = store.at(place);
         if !is_of(&claim.system, entry) {
             return Ok(());
         }
@@ -137,14 +138,14 @@ fn bare_claim(alloc: Global, entry: &Entry) -> Claim
     no_claim(alloc, entry.id.system, entry.flags / 4 % 2 == 1)
 }
 
-/// Returns what the system of a fragment 0 advertises, by the entries from that one on.
-pub(crate) fn claim_of(alloc: Global, entries: &[Entry], entry: &Entry) -> M<Claim>
-    requires ascending { AreAscending (ids_of entries.now) }
-    requires begins { Begins entry.now.id.system entries.now }
-    ensures { IfOk result (λ c. c ≡ claim_of entries.now entry.now) }
+/// Returns what the system of a fragment 0 advertises, by the entries from that one on, which has that index.
+pub(crate) fn claim_of(alloc: Global, store: &Store, place: usize, entry: &Entry) -> M<Claim>
+    requires ascending { AreAscending (ids_of store.now.entries) }
+    requires begins { Begins entry.now.id.system (drop place store.now.entries) }
+    ensures { IfOk result (λ c. c ≡ claim_of (drop place store.now.entries) entry.now) }
 {
     let mut claim = bare_claim(alloc, entry);
-    add_fragments(&mut claim, entries)?;
+    add_fragments(&mut claim, store, place)?;
     Ok(claim)
 }
 
@@ -238,39 +239,45 @@ fn is_other(own: &SystemId, entry: &Entry) -> bool
 }
 
 /// Fills an empty claim, with only the memberships that count, given the sub-domains that the router knows.
-fn fill(claim: &mut Claim, kinds: &[SubKind], entries: &[Entry], entry: &Entry) -> M<()>
-    requires ascending { AreAscending (ids_of entries.now) }
-    requires begins { Begins entry.now.id.system entries.now }
+fn fill(claim: &mut Claim, kinds: &[SubKind], store: &Store, place: usize, entry: &Entry) -> M<()>
+    requires ascending { AreAscending (ids_of store.now.entries) }
+    requires begins { Begins entry.now.id.system (drop place store.now.entries) }
     requires bare { claim.old ≡ bare_claim entry.now }
-    ensures { OnOk result (claim.new ≡ with_known kinds.now (claim_of entries.now entry.now)) }
+    ensures { OnOk result (claim.new ≡ with_known kinds.now (claim_of (drop place store.now.entries) entry.now)) }
 {
-    add_fragments(claim, entries)?;
+    add_fragments(claim, store, place)?;
     keep_known(kinds, &mut claim.subs)
 }
 
-/// Appends what the system of a fragment 0 advertises, by the entries from that one on. It is filled in place, since a claim
-/// is large and each view has one for every system.
-fn push_claim(claims: &mut Vec<Claim>, kinds: &[SubKind], entries: &[Entry], entry: &Entry) -> M<()>
-    requires ascending { AreAscending (ids_of entries.now) }
-    requires begins { Begins entry.now.id.system entries.now }
-    ensures { OnOk result (claims.new.items ≡ claims.old.items ++ with_known kinds.now (claim_of entries.now entry.now) ∷ []) }
+/// Appends what the system of a fragment 0 advertises, by the entries from that one on, which has that index. It is filled in
+/// place, since a claim is large and each view has one for every system.
+fn push_claim(
+    claims: &mut Vec<Claim>,
+    kinds: &[SubKind],
+    store: &Store,
+    place: usize,
+    entry: &Entry,
+) -> M<()>
+    requires ascending { AreAscending (ids_of store.now.entries) }
+    requires begins { Begins entry.now.id.system (drop place store.now.entries) }
+    ensures { OnOk result (claims.new.items ≡ claims.old.items ++ with_known kinds.now (claim_of (drop place store.now.entries) entry.now) ∷ []) }
 {
     let last = claims.len();
     claims.push(bare_claim(*claims.allocator(), entry))?;
-    fill(&mut claims[last], kinds, entries, entry)?;
+    fill(&mut claims[last], kinds, store, place, entry)?;
     Ok(())
 }
 
 /// Returns what all other systems advertise, in the order of their entries. A system's fragments begin with its fragment 0.
-fn other_claims(alloc: Global, conf: &RouterConf, entries: &[Entry]) -> M<Vec<Claim>>
-    requires { AreAscending (ids_of entries.now) }
-    ensures { IfOk result (λ claims. claims.items ≡ map (with_known conf.now.kinds) (map (claim_of entries.now) (filter (is_other conf.now.system) entries.now))) }
+fn other_claims(alloc: Global, conf: &RouterConf, store: &Store) -> M<Vec<Claim>>
+    requires { AreAscending (ids_of store.now.entries) }
+    ensures { IfOk result (λ claims. claims.items ≡ map (with_known conf.now.kinds) (map (claim_of store.now.entries) (filter (is_other conf.now.system) store.now.entries))) }
 {
-    let mut claims = Vec::with_capacity(alloc, entries.len())?;
-    'systems: for place in 0..entries.len() {
-        let entry = &entries[place];
+    let mut claims = Vec::with_capacity(alloc, store.len())?;
+    'systems: for place in 0..store.len() {
+        let entry = store.at(place);
         if is_other(&conf.system, entry) {
-            push_claim(&mut claims, conf.kinds.as_slice(), &entries[place..], entry)?;
+            push_claim(&mut claims, conf.kinds.as_slice(), store, place, entry)?;
         }
     }
     Ok(claims)
@@ -303,13 +310,13 @@ pub(crate) fn claims_of(
     alloc: Global,
     conf: &RouterConf,
     up: &[bool],
-    entries: &[Entry],
+    store: &Store,
 ) -> M<Vec<Claim>>
     requires one_each { length up.now ≡ length conf.now.ends }
-    requires ascending { AreAscending (ids_of entries.now) }
-    ensures { IfOk result (λ claims. claims.items ≡ map (with_known conf.now.kinds) (claims_of conf.now up.now entries.now)) }
+    requires ascending { AreAscending (ids_of store.now.entries) }
+    ensures { IfOk result (λ claims. claims.items ≡ map (with_known conf.now.kinds) (claims_of conf.now up.now store.now.entries)) }
 {
-    let mut claims = other_claims(alloc, conf, entries)?;
+    let mut claims = other_claims(alloc, conf, store)?;
     let own = own_claim(alloc, conf, up)?;
     let own = with_known(conf.kinds.as_slice(), own)?;
     let place = place_of(claims.as_slice(), &own.system);

@@ -94,7 +94,8 @@ impl ViewKeep {
         if !self.is_whole {
             return self.make_anew(conf, up, store);
         }
-        let patch = patch_of(self.view.as_slice(), conf, up, store.as_slice(), changed)?;
+        let _entries = store.len();
+        let patch = patch_of(self.view.as_slice(), conf, up, store, changed)?;
         let Some(anew) = patch else {
             return self.make_anew(conf, up, store);
         };

@@ -15,7 +15,7 @@ use lsp_store::Store;
 use std::alloc::Global;
 use std::collections::BTreeMap;
 use std::mem;
-use wire_base::{EdgeList, Entry, Ipv4, M, RouterConf, Rows, SystemId, Triple, View, ViewNode};
+use wire_base::{EdgeList, Ipv4, M, RouterConf, Rows, SystemId, Triple, View, ViewNode};
 
 /// Returns the node of a system with all memberships of sub-domains that it advertises.
 fn whole_node(edges: EdgeList, claim: Claim) -> ViewNode
@@ -84,12 +84,12 @@ pub(crate) fn nodes_of(alloc: Global, claims: Vec<Claim>) -> M<(Rows<ViewNode>, 
 }
 
 #[tactic(auto, unfolding(wire_base::specs::model::View::view_of), using(crate::proofs::GraphLaws::claims_in_order, crate::proofs::GraphLaws::few_claims))]
-fn viewed(alloc: Global, conf: &RouterConf, up: &[bool], entries: &[Entry]) -> M<Rows<ViewNode>>
+fn viewed(alloc: Global, conf: &RouterConf, up: &[bool], store: &Store) -> M<Rows<ViewNode>>
     requires one_each { length up.now ≡ length conf.now.ends }
-    requires database { IsDatabase entries.now }
-    ensures { IfOk result (λ nodes. nodes ≡ view_of conf.now up.now entries.now) }
+    requires database { IsDatabase store.now.entries }
+    ensures { IfOk result (λ nodes. nodes ≡ view_of conf.now up.now store.now.entries) }
 {
-    let claims = claims_of(alloc, conf, up, entries)?;
+    let claims = claims_of(alloc, conf, up, store)?;
     let (nodes, _is_whole) = nodes_of(alloc, claims)?;
     Ok(nodes)
 }
@@ -109,7 +109,8 @@ pub fn view(alloc: Global, conf: &RouterConf, up: &[bool], store: &Store) -> M<V
     ensures exact { IfOk result (λ v. v.nodes ≡ view_of conf.now up.now store.now.entries) }
     ensures graph { IfOk result (λ v. IsGraph v.nodes) }
 {
-    let nodes = viewed(alloc, conf, up, store.as_slice())?;
+    let _entries = store.len();
+    let nodes = viewed(alloc, conf, up, store)?;
     Ok(View { nodes })
 }
 

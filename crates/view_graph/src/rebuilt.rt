@@ -12,7 +12,8 @@ use crate::links::Link;
 use crate::node_index::half_edges;
 use crate::patch::NewNode;
 use crate::renewal::said_now;
-use wire_base::{EdgeList, Entry, M, RouterConf, SystemId, ViewEdge, ViewNode};
+use lsp_store::Store;
+use wire_base::{EdgeList, M, RouterConf, SystemId, ViewEdge, ViewNode};
 
 fn leads(links: &[Link], system: &SystemId) -> bool
     ensures { result ≡ list_any (λ l. same_system l.neighbour system.now) links.now }
@@ -42,18 +43,18 @@ fn lists_at(
     nodes: &[ViewNode],
     conf: &RouterConf,
     up: &[bool],
-    entries: &[Entry],
+    store: &Store,
     place: usize,
     system: &SystemId,
 ) -> M<bool>
     requires one_each { length up.now ≡ length conf.now.ends }
-    requires ascending { AreAscending (ids_of entries.now) }
-    ensures { IfOk result (λ b. b ≡ lists_at (said_now conf.now up.now entries.now) nodes.now place system.now) }
+    requires ascending { AreAscending (ids_of store.now.entries) }
+    ensures { IfOk result (λ b. b ≡ lists_at (said_now conf.now up.now store.now.entries) nodes.now place system.now) }
 {
     let Some(node) = nodes.get(place) else {
         return Ok(false);
     };
-    let said = said_now(conf, up, entries, &node.system)?;
+    let said = said_now(conf, up, store, &node.system)?;
     Ok(is_listed_by(&said, system))
 }
 
@@ -62,18 +63,18 @@ fn edges_now(
     nodes: &[ViewNode],
     conf: &RouterConf,
     up: &[bool],
-    entries: &[Entry],
+    store: &Store,
     system: &SystemId,
     links: &[Link],
 ) -> M<EdgeList>
     requires order { AreInOrder (node_claims nodes.now) }
     requires few { length nodes.now ≤ 65536 }
     requires one_each { length up.now ≡ length conf.now.ends }
-    requires ascending { AreAscending (ids_of entries.now) }
-    ensures { IfOk result (λ edges. edges ≡ edges_now (said_now conf.now up.now entries.now) nodes.now system.now links.now) }
+    requires ascending { AreAscending (ids_of store.now.entries) }
+    ensures { IfOk result (λ edges. edges ≡ edges_now (said_now conf.now up.now store.now.entries) nodes.now system.now links.now) }
 {
     let halves = half_edges(conf.kinds.allocator(), nodes, links)?;
-    both_ways(nodes, conf, up, entries, system, halves.as_slice())
+    both_ways(nodes, conf, up, store, system, halves.as_slice())
 }
 
 /// Returns those of its edges that the other side lists too.
@@ -81,17 +82,17 @@ fn both_ways(
     nodes: &[ViewNode],
     conf: &RouterConf,
     up: &[bool],
-    entries: &[Entry],
+    store: &Store,
     system: &SystemId,
     halves: &[ViewEdge],
 ) -> M<EdgeList>
     requires one_each { length up.now ≡ length conf.now.ends }
-    requires ascending { AreAscending (ids_of entries.now) }
-    ensures { IfOk result (λ edges. edges ≡ filter (λ e. lists_at (said_now conf.now up.now entries.now) nodes.now e.to system.now) halves.now) }
+    requires ascending { AreAscending (ids_of store.now.entries) }
+    ensures { IfOk result (λ edges. edges ≡ filter (λ e. lists_at (said_now conf.now up.now store.now.entries) nodes.now e.to system.now) halves.now) }
 {
     let mut edges = EdgeList::new(conf.kinds.allocator());
     'edges: for edge in halves {
-        if lists_at(nodes, conf, up, entries, edge.to as usize, system)? {
+        if lists_at(nodes, conf, up, store, edge.to as usize, system)? {
             edges.push(*edge)?;
         }
     }
@@ -103,22 +104,22 @@ fn made_of(
     nodes: &[ViewNode],
     conf: &RouterConf,
     up: &[bool],
-    entries: &[Entry],
+    store: &Store,
     before: &ViewNode,
     claim: &Claim,
 ) -> M<ViewNode>
     requires order { AreInOrder (node_claims nodes.now) }
     requires few { length nodes.now ≤ 65536 }
     requires one_each { length up.now ≡ length conf.now.ends }
-    requires ascending { AreAscending (ids_of entries.now) }
-    ensures { IfOk result (λ node. node ≡ record { system = before.now.system; overload = claim.now.overload; edges = edges_now (said_now conf.now up.now entries.now) nodes.now before.now.system claim.now.links; subs = before.now.subs }) }
+    requires ascending { AreAscending (ids_of store.now.entries) }
+    ensures { IfOk result (λ node. node ≡ record { system = before.now.system; overload = claim.now.overload; edges = edges_now (said_now conf.now up.now store.now.entries) nodes.now before.now.system claim.now.links; subs = before.now.subs }) }
 {
     let subs = copy_subs(conf.kinds.allocator(), before.subs.as_slice())?;
     let links = claim.links.as_slice();
     Ok(ViewNode {
         system: before.system,
         overload: claim.overload,
-        edges: edges_now(nodes, conf, up, entries, &before.system, links)?,
+        edges: edges_now(nodes, conf, up, store, &before.system, links)?,
         subs,
     })
 }
@@ -128,23 +129,23 @@ fn node_now(
     nodes: &[ViewNode],
     conf: &RouterConf,
     up: &[bool],
-    entries: &[Entry],
+    store: &Store,
     place: usize,
 ) -> M<Option<NewNode>>
     requires order { AreInOrder (node_claims nodes.now) }
     requires few { length nodes.now ≤ 65536 }
     requires one_each { length up.now ≡ length conf.now.ends }
-    requires ascending { AreAscending (ids_of entries.now) }
+    requires ascending { AreAscending (ids_of store.now.entries) }
     ensures place { IfOk result (λ found. IfSome found (λ n. n.place ≡ place)) }
-    ensures made { IfOk result (λ found. IfSome found (IsMade (said_now conf.now up.now entries.now) nodes.now)) }
+    ensures made { IfOk result (λ found. IfSome found (IsMade (said_now conf.now up.now store.now.entries) nodes.now)) }
 {
     let Some(before) = nodes.get(place) else {
         return Ok(None);
     };
-    let Some(claim) = said_now(conf, up, entries, &before.system)? else {
+    let Some(claim) = said_now(conf, up, store, &before.system)? else {
         return Ok(None);
     };
-    let node = made_of(nodes, conf, up, entries, before, &claim)?;
+    let node = made_of(nodes, conf, up, store, before, &claim)?;
     Ok(Some(NewNode { place, node }))
 }
 
@@ -153,19 +154,19 @@ pub(crate) fn nodes_now(
     nodes: &[ViewNode],
     conf: &RouterConf,
     up: &[bool],
-    entries: &[Entry],
+    store: &Store,
     places: &[usize],
 ) -> M<Option<Vec<NewNode>>>
     requires order { AreInOrder (node_claims nodes.now) }
     requires few { length nodes.now ≤ 65536 }
     requires one_each { length up.now ≡ length conf.now.ends }
-    requires ascending { AreAscending (ids_of entries.now) }
-    ensures made { IfOk result (λ found. IfSome found (λ anew. AllByRecursion (IsMade (said_now conf.now up.now entries.now) nodes.now) anew.items)) }
+    requires ascending { AreAscending (ids_of store.now.entries) }
+    ensures made { IfOk result (λ found. IfSome found (λ anew. AllByRecursion (IsMade (said_now conf.now up.now store.now.entries) nodes.now) anew.items)) }
     ensures places { IfOk result (λ found. IfSome found (λ anew. map (λ n. n.place) anew.items ≡ places.now)) }
 {
     let mut anew = Vec::with_capacity(conf.kinds.allocator(), places.len())?;
     'places: for at in 0..places.len() {
-        match node_now(nodes, conf, up, entries, places[at])? {
+        match node_now(nodes, conf, up, store, places[at])? {
             Some(new) => anew.push(new)?,
             None => return Ok(None),
         }

@@ -9,19 +9,20 @@ use crate::claims::{Claim, own_claim, with_known};
 use crate::heard::said_in;
 use crate::patch::NewNode;
 use crate::rebuilt::nodes_now;
-use wire_base::{Entry, M, RouterConf, SystemId, ViewNode};
+use lsp_store::Store;
+use wire_base::{M, RouterConf, SystemId, ViewNode};
 
 /// Returns what a system advertises now.
 #[tactic(auto, unfolding(crate::specs::Renewal::said_now))]
 pub(crate) fn said_now(
     conf: &RouterConf,
     up: &[bool],
-    entries: &[Entry],
+    store: &Store,
     system: &SystemId,
 ) -> M<Option<Claim>>
     requires one_each { length up.now ≡ length conf.now.ends }
-    requires ascending { AreAscending (ids_of entries.now) }
-    ensures { IfOk result (λ said. said ≡ said_now conf.now up.now entries.now system.now) }
+    requires ascending { AreAscending (ids_of store.now.entries) }
+    ensures { IfOk result (λ said. said ≡ said_now conf.now up.now store.now.entries system.now) }
 {
     let alloc = conf.kinds.allocator();
     if *system == conf.system {
@@ -29,7 +30,7 @@ pub(crate) fn said_now(
         let known = with_known(conf.kinds.as_slice(), own)?;
         Ok(Some(known))
     } else {
-        said_in(alloc, conf.kinds.as_slice(), entries, system)
+        said_in(alloc, conf.kinds.as_slice(), store, system)
     }
 }
 
@@ -39,17 +40,17 @@ pub(crate) fn patch_of(
     nodes: &[ViewNode],
     conf: &RouterConf,
     up: &[bool],
-    entries: &[Entry],
+    store: &Store,
     changed: &[SystemId],
 ) -> M<Option<Vec<NewNode>>>
     requires order { AreInOrder (node_claims nodes.now) }
     requires few { length nodes.now ≤ 65536 }
     requires one_each { length up.now ≡ length conf.now.ends }
-    requires ascending { AreAscending (ids_of entries.now) }
-    ensures { IfOk result (λ found. IfSome found (λ anew. IsPatch (said_now conf.now up.now entries.now) nodes.now (conf.now.system ∷ changed.now) anew.items)) }
+    requires ascending { AreAscending (ids_of store.now.entries) }
+    ensures { IfOk result (λ found. IfSome found (λ anew. IsPatch (said_now conf.now up.now store.now.entries) nodes.now (conf.now.system ∷ changed.now) anew.items)) }
 {
-    match changed_places(nodes, conf, up, entries, changed)? {
-        Some(places) => nodes_now(nodes, conf, up, entries, places.as_slice()),
+    match changed_places(nodes, conf, up, store, changed)? {
+        Some(places) => nodes_now(nodes, conf, up, store, places.as_slice()),
         None => Ok(None),
     }
 }

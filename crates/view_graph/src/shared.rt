@@ -15,41 +15,41 @@ use crate::same::is_same_claim;
 use lsp_store::{SharedView, Store};
 use std::alloc::Global;
 use std::rc::Rc;
-use wire_base::{Entry, M, RouterConf, View};
+use wire_base::{M, RouterConf, View};
 
 /// Returns what all systems advertise.
 #[tactic(auto, using(crate::proofs::GraphLaws::claims_in_order, crate::proofs::GraphLaws::few_claims))]
-fn all_claims(alloc: Global, conf: &RouterConf, up: &[bool], entries: &[Entry]) -> M<Vec<Claim>>
+fn all_claims(alloc: Global, conf: &RouterConf, up: &[bool], store: &Store) -> M<Vec<Claim>>
     requires one_each { length up.now ≡ length conf.now.ends }
-    requires database { IsDatabase entries.now }
-    ensures claims { IfOk result (λ claims. claims.items ≡ map (with_known conf.now.kinds) (claims_of conf.now up.now entries.now)) }
+    requires database { IsDatabase store.now.entries }
+    ensures claims { IfOk result (λ claims. claims.items ≡ map (with_known conf.now.kinds) (claims_of conf.now up.now store.now.entries)) }
     ensures order { IfOk result (λ claims. AreInOrder claims.items) }
     ensures few { IfOk result (λ claims. length claims.items ≤ 65536) }
 {
-    claims_of(alloc, conf, up, entries)
+    claims_of(alloc, conf, up, store)
 }
 
 /// Builds the topology from what all systems advertise. Also returns whether no node lacks a membership because another system has
 /// its prefix.
 #[tactic(auto, using(crate::proofs::ViewLaws::made_graph))]
-fn built(alloc: Global, conf: &RouterConf, up: &[bool], entries: &[Entry]) -> M<(View, bool)>
+fn built(alloc: Global, conf: &RouterConf, up: &[bool], store: &Store) -> M<(View, bool)>
     requires one_each { length up.now ≡ length conf.now.ends }
     requires sound { IsSound conf.now }
-    requires database { IsDatabase entries.now }
-    ensures { IfOk result (λ built. AreNodesOf (map (with_known conf.now.kinds) (claims_of conf.now up.now entries.now)) built.0.nodes built.1) }
+    requires database { IsDatabase store.now.entries }
+    ensures { IfOk result (λ built. AreNodesOf (map (with_known conf.now.kinds) (claims_of conf.now up.now store.now.entries)) built.0.nodes built.1) }
 {
-    let claims = all_claims(alloc, conf, up, entries)?;
+    let claims = all_claims(alloc, conf, up, store)?;
     let (nodes, is_whole) = nodes_of(alloc, claims)?;
     Ok((View { nodes }, is_whole))
 }
 
 /// Returns whether an LSDB contains of the router itself what the router advertises now.
-fn says_own(alloc: Global, conf: &RouterConf, up: &[bool], entries: &[Entry]) -> M<bool>
+fn says_own(alloc: Global, conf: &RouterConf, up: &[bool], store: &Store) -> M<bool>
     requires one_each { length up.now ≡ length conf.now.ends }
-    requires ascending { AreAscending (ids_of entries.now) }
-    ensures { IfOk result (λ says. says ≡ true → said_in conf.now.kinds entries.now conf.now.system ≡ Some (with_known conf.now.kinds (own_claim conf.now up.now))) }
+    requires ascending { AreAscending (ids_of store.now.entries) }
+    ensures { IfOk result (λ says. says ≡ true → said_in conf.now.kinds store.now.entries conf.now.system ≡ Some (with_known conf.now.kinds (own_claim conf.now up.now))) }
 {
-    let Some(said) = said_in(alloc, conf.kinds.as_slice(), entries, &conf.system)? else {
+    let Some(said) = said_in(alloc, conf.kinds.as_slice(), store, &conf.system)? else {
         return Ok(false);
     };
     let own = own_claim(alloc, conf, up)?;
@@ -65,7 +65,8 @@ fn is_shared(alloc: Global, conf: &RouterConf, up: &[bool], store: &Store) -> M<
     if !store.shares_views() {
         return Ok(false);
     }
-    says_own(alloc, conf, up, store.as_slice())
+    let _entries = store.len();
+    says_own(alloc, conf, up, store)
 }
 
 /// Returns the topology of the LSDB that was noted last, or builds and notes it.
@@ -75,11 +76,11 @@ fn shared_view(alloc: Global, conf: &RouterConf, up: &[bool], store: &Store) -> 
     requires own { said_in conf.now.kinds store.now.entries conf.now.system ≡ Some (with_known conf.now.kinds (own_claim conf.now up.now)) }
     ensures { IfOk result (λ shared. AreNodesOf (map (with_known conf.now.kinds) (claims_of conf.now up.now store.now.entries)) shared.view.value.nodes shared.is_whole) }
 {
-    let entries = store.as_slice();
+    let _entries = store.len();
     if let Some(known) = store.known_view(conf.kinds.as_slice())? {
         return Ok(known);
     }
-    let (view, is_whole) = built(alloc, conf, up, entries)?;
+    let (view, is_whole) = built(alloc, conf, up, store)?;
     let view = Rc::new(alloc, view)?;
     let shared = SharedView { view, is_whole };
     store.note_view(&conf.kinds, &shared)?;
@@ -99,11 +100,11 @@ pub(crate) fn kept_view(
     ensures made { IfOk result (λ kept. AreNodesOf (map (with_known conf.now.kinds) (claims_of conf.now up.now store.now.entries)) kept.0.nodes kept.1) }
     ensures kept { IfOk result (λ kept. IsKept conf.now.system (heard conf.now.system conf.now.kinds store.now.entries) kept.1 kept.0.nodes) }
 {
-    let entries = store.as_slice();
+    let _entries = store.len();
     if is_shared(alloc, conf, up, store)? {
         let shared = shared_view(alloc, conf, up, store)?;
         return Ok((KeptView::shared(shared.view), shared.is_whole));
     }
-    let (view, is_whole) = built(alloc, conf, up, entries)?;
+    let (view, is_whole) = built(alloc, conf, up, store)?;
     Ok((KeptView::own(view), is_whole))
 }

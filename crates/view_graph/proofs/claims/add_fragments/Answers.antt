@@ -1,18 +1,24 @@
-use Rattle.std.proofs.Common.{◌++◌, sym, ap, ◌∙◌}
+use Rattle.std.proofs.Common.{◌≡◌, ◌++◌, [], false, drop, sym, ap, ◌∙◌, append-nil}
 use Rattle.std.specs.List.{flat_map}
 use Rattle.wire_base.specs.model.Control.{same_system}
-use Rattle.wire_base.specs.model.View.{Claim, links_in, subs_in}
-use Rattle.view_graph.proofs.FragmentLaws.{differs_above, tlvs_end}
+use Rattle.wire_base.specs.model.View.{Claim, links_in, subs_in, tlvs_of}
+use Rattle.view_graph.proofs.FragmentLaws.{adding_more, tlvs_over}
 use Rattle.view_graph.proofs.claims.add_fragments.Goals as goal
 
 pub returns-then-not-is_of-clause-links : goal.returns-then-not-is_of-clause-links
 returns-then-not-is_of-clause-links c =
-    let same = sym (ap (λ (x : Claim). same_system c.entry-item.result.id.system x.system) c.claim.view_is ∙ ap (λ s. same_system c.entry-item.result.id.system s) c.fragments.invariant.system) in
-    let high = differs_above c.args.claim.now.system c.args.entries.now c.fragments.entry-index c.entry-item.result c.requires.ascending c.requires.begins c.fragments-test.true c.entry-item.is (same ∙ sym c.is_of.ensures ∙ c.if-not-is_of.true) in
-    c.fragments.invariant.links ∙ ap (λ ts. c.args.claim.now.links ++ flat_map links_in ts) (tlvs_end c.args.claim.now.system c.args.entries.now c.fragments.entry-index c.entry-item.result c.requires.ascending c.fragments-test.true c.entry-item.is high)
+    let same = sym (ap (λ (x : Claim). same_system c.at-entry.result.now.id.system x.system) c.claim.view_is ∙ ap (λ s. same_system c.at-entry.result.now.id.system s) c.fragments.invariant.system) in
+    let over : tlvs_of (drop c.fragments.place c.args.store.now.entries) c.args.claim.now.system ≡ [] = tlvs_over c.args.claim.now.system c.args.store.now.entries c.args.first c.fragments.place c.at-entry.result.now c.requires.ascending c.requires.begins c.fragments.auto.place c.at-entry.ensures (same ∙ sym c.is_of.ensures ∙ c.if-not-is_of.true) in
+    sym (ap (λ ts. c.fragments.claim.links ++ flat_map links_in ts) over ∙ append-nil c.fragments.claim.links) ∙ c.fragments.invariant.links
 
 pub returns-then-not-is_of-clause-subs : goal.returns-then-not-is_of-clause-subs
 returns-then-not-is_of-clause-subs c =
-    let same = sym (ap (λ (x : Claim). same_system c.entry-item.result.id.system x.system) c.claim.view_is ∙ ap (λ s. same_system c.entry-item.result.id.system s) c.fragments.invariant.system) in
-    let high = differs_above c.args.claim.now.system c.args.entries.now c.fragments.entry-index c.entry-item.result c.requires.ascending c.requires.begins c.fragments-test.true c.entry-item.is (same ∙ sym c.is_of.ensures ∙ c.if-not-is_of.true) in
-    c.fragments.invariant.subs ∙ ap (λ ts. c.args.claim.now.subs ++ flat_map subs_in ts) (tlvs_end c.args.claim.now.system c.args.entries.now c.fragments.entry-index c.entry-item.result c.requires.ascending c.fragments-test.true c.entry-item.is high)
+    let same = sym (ap (λ (x : Claim). same_system c.at-entry.result.now.id.system x.system) c.claim.view_is ∙ ap (λ s. same_system c.at-entry.result.now.id.system s) c.fragments.invariant.system) in
+    let over : tlvs_of (drop c.fragments.place c.args.store.now.entries) c.args.claim.now.system ≡ [] = tlvs_over c.args.claim.now.system c.args.store.now.entries c.args.first c.fragments.place c.at-entry.result.now c.requires.ascending c.requires.begins c.fragments.auto.place c.at-entry.ensures (same ∙ sym c.is_of.ensures ∙ c.if-not-is_of.true) in
+    sym (ap (λ ts. c.fragments.claim.subs ++ flat_map subs_in ts) over ∙ append-nil c.fragments.claim.subs) ∙ c.fragments.invariant.subs
+
+pub fragments-preserved : goal.fragments-preserved
+fragments-preserved c =
+    let done = c.in_ok-add_entry.ensures in
+    adding_more c.args.store.now.entries c.fragments.place c.at-entry.result.now (tlvs_of (drop c.args.first c.args.store.now.entries) c.args.claim.now.system) c.args.claim.now c.fragments.claim c.add_entry.new.claim
+    c.at-entry.ensures c.fragments.invariant done.system done.overload done.links done.subs

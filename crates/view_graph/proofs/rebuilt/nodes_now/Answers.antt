@@ -8,8 +8,8 @@ use Rattle.view_graph.proofs.rebuilt.nodes_now.Goals as goal
 
 pub places-preserved : goal.places-preserved
 places-preserved c = record {
-  made = subst (λ (l : List NewNode). AllByRecursion (IsMade (said_now c.args.conf.now c.args.up.now c.args.entries.now) c.args.nodes.now) l) (sym c.in_ok-push-in-Some.ensures.items)
-      (all_push (IsMade (said_now c.args.conf.now c.args.up.now c.args.entries.now) c.args.nodes.now) c.places.anew.items c.in-Some.new c.places.invariant.made (subst (λ o. IfSome o (IsMade (said_now c.args.conf.now c.args.up.now c.args.entries.now) c.args.nodes.now)) c.in-Some.is c.in_ok-new.ensures.made));
+  made = subst (λ (l : List NewNode). AllByRecursion (IsMade (said_now c.args.conf.now c.args.up.now c.args.store.now.entries) c.args.nodes.now) l) (sym c.in_ok-push-in-Some.ensures.items)
+      (all_push (IsMade (said_now c.args.conf.now c.args.up.now c.args.store.now.entries) c.args.nodes.now) c.places.anew.items c.in-Some.new c.places.invariant.made (subst (λ o. IfSome o (IsMade (said_now c.args.conf.now c.args.up.now c.args.store.now.entries) c.args.nodes.now)) c.in-Some.is c.in_ok-new.ensures.made));
   places = map_at (λ (n : NewNode). n.place) c.args.places.now c.places.at 0 c.in-Some.new c.places.anew.items c.push.new.self.items c.places-test.true c.places.invariant.places c.in_ok-push-in-Some.ensures.items (subst (λ o. IfSome o (λ (n : NewNode). n.place ≡ get_or c.args.places.now c.places.at 0)) c.in-Some.is c.in_ok-new.ensures.place);
 }
 

@@ -1,7 +1,5 @@
 use Rattle.std.proofs.Common.{List, map, refl, sym, subst}
-use Rattle.wire_base.specs.declared.entry.Entry.{Entry}
 use Rattle.wire_base.specs.declared.view.ViewNode.{ViewNode}
-use Rattle.wire_base.specs.model.Control.{IsDatabase}
 use Rattle.wire_base.specs.model.View.{claims_of, with_known}
 use Rattle.lsp_store.specs.Topologies.{AreNodesOf}
 use Rattle.view_graph.specs.Keep.{heard}
@@ -11,14 +9,11 @@ use Rattle.view_graph.proofs.shared.kept_view.Goals as goal
 pub returns-then-branch-clause-kept : goal.returns-then-branch-clause-kept
 returns-then-branch-clause-kept c =
     let conf = c.args.conf.now in
-    let base = subst IsDatabase c.as_slice-entries.ensures.entries c.as_slice-entries.ensures.database in
     let made = subst (λ (nodes : List ViewNode). AreNodesOf (map (with_known conf.kinds) (claims_of conf c.args.up.now c.args.store.now.entries)) nodes c.in_ok-shared.shared.is_whole) (sym c.shared.ensures) c.in_ok-shared.ensures in
-    made_kept conf c.args.up.now c.args.store.now.entries (heard conf.system conf.kinds c.args.store.now.entries) c.shared.result.nodes c.in_ok-shared.shared.is_whole base made refl
+    made_kept conf c.args.up.now c.args.store.now.entries (heard conf.system conf.kinds c.args.store.now.entries) c.shared.result.nodes c.in_ok-shared.shared.is_whole c.len-entries.ensures.database made refl
 
 pub returns-clause-kept : goal.returns-clause-kept
 returns-clause-kept c =
     let conf = c.args.conf.now in
-    let base = subst IsDatabase c.as_slice-entries.ensures.entries c.as_slice-entries.ensures.database in
-    let of_entries = subst (λ (es : List Entry). AreNodesOf (map (with_known conf.kinds) (claims_of conf c.args.up.now es)) c.in_ok-view.view.nodes c.in_ok-view.is_whole) c.as_slice-entries.ensures.entries c.in_ok-view.ensures in
-    let made = subst (λ (nodes : List ViewNode). AreNodesOf (map (with_known conf.kinds) (claims_of conf c.args.up.now c.args.store.now.entries)) nodes c.in_ok-view.is_whole) (sym c.own.ensures) of_entries in
-    made_kept conf c.args.up.now c.args.store.now.entries (heard conf.system conf.kinds c.args.store.now.entries) c.own.result.nodes c.in_ok-view.is_whole base made refl
+    let made = subst (λ (nodes : List ViewNode). AreNodesOf (map (with_known conf.kinds) (claims_of conf c.args.up.now c.args.store.now.entries)) nodes c.in_ok-view.is_whole) (sym c.own.ensures) c.in_ok-view.ensures in
+    made_kept conf c.args.up.now c.args.store.now.entries (heard conf.system conf.kinds c.args.store.now.entries) c.own.result.nodes c.in_ok-view.is_whole c.len-entries.ensures.database made refl
