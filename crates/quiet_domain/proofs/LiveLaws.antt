@@ -1,8 +1,9 @@
 -- The merge of two LSDBs: how the entries at the front decide, and what is left to the entries after them.
-use Rattle.std.proofs.Common.{◌≡◌, ◌-◌, ◌<◌, ◌≤◌, Bool, true, false, List, [], ◌∷◌, length, get_or, take, drop, find, Option, Some, None, option_map, refl, sym, ap, subst, ◌∙◌, arith}
+use Rattle.std.proofs.Common.{◌≡◌, ℕ, ◌+◌, Bool, true, false, List, [], ◌∷◌, drop, find, Option, Some, None, option_map, slice_get, refl, sym, ap, subst, ◌∙◌}
 use Rattle.std.specs.List.{AllByRecursion}
 use Rattle.std.proofs.lemmas.Bool.{and_from, eq-eqb}
-use Rattle.std.proofs.lemmas.List.{take_all}
+use Rattle.std.proofs.lemmas.List.{drop_more}
+use Rattle.std.proofs.lemmas.Option.{get_or_from_slice_get, slice_get_within}
 use Rattle.std.proofs.lemmas.Slice.Eq.{bytes_eq-Decides}
 use Rattle.std.specs.declared.cmp.Ordering.TheVariants.{Less, Equal, Greater}
 use Rattle.std.specs.Ordering.{is_gt, is_lt}
@@ -143,21 +144,23 @@ pub record IsMerging (a b left right : List Entry) : Type 0 where
   pub right_order : AreAscending (ids_of right)
   pub decides : (r : Option LspId) → IsLeastDifference left right r → IsLeastDifference a b r
 
--- the first entry and those after it
-pub first_and_rest : (xs : List Entry) (x : Entry) → 1 ≤ length xs → x ≡ get_or xs 0 x → x ∷ take (length xs - 1) (drop 1 xs) ≡ xs
-first_and_rest [] x some is = absurd (omega (arith, some))
-first_and_rest (y ∷ ys) x some is = ap (λ (z : Entry). z ∷ take (length (y ∷ ys) - 1) ys) is ∙ ap (λ (zs : List Entry). y ∷ zs) (take_all (length (y ∷ ys) - 1) ys (omega arith))
+-- an entry and those after it
+pub entry_and_rest : (xs : List Entry) (i : ℕ) (x : Entry) → slice_get xs i ≡ Some x → x ∷ drop (i + 1) xs ≡ drop i xs
+entry_and_rest xs i x at = sym (drop_more xs i x (slice_get_within xs i x at) ∙ ap (λ (z : Entry). z ∷ drop (i + 1) xs) (get_or_from_slice_get xs i x x at))
 
-no_entries : (xs : List Entry) → length xs < 1 → xs ≡ []
-no_entries [] few = refl
-no_entries (x ∷ xs) few = absurd (omega (arith, few))
+-- the first live one from a live entry on, and from one that is not
+pub live_at : (xs : List Entry) (i : ℕ) (x : Entry) → slice_get xs i ≡ Some x → is_live x ≡ true → find is_live (drop i xs) ≡ Some x
+live_at xs i x at live = rw (sym (entry_and_rest xs i x at), live) refl
+
+pub dead_at : (xs : List Entry) (i : ℕ) (x : Entry) → slice_get xs i ≡ Some x → is_live x ≡ false → find is_live (drop i xs) ≡ find is_live (drop (i + 1) xs)
+dead_at xs i x at dead = rw (sym (entry_and_rest xs i x at), dead) refl
 
 module _ (a b left right : List Entry) where
-  pub left_ends : IsMerging a b left right → length left < 1 → IsLeastDifference a b (option_map (λ (e : Entry). e.id) (find is_live right))
-  left_ends m few = m.decides (option_map (λ (e : Entry). e.id) (find is_live right)) (subst (λ (l : List Entry). IsLeastDifference l right (option_map (λ (e : Entry). e.id) (find is_live right))) (sym (no_entries left few)) (first_right right m.right_order))
+  pub left_ends : IsMerging a b left right → left ≡ [] → IsLeastDifference a b (option_map (λ (e : Entry). e.id) (find is_live right))
+  left_ends m none = m.decides (option_map (λ (e : Entry). e.id) (find is_live right)) (subst (λ (l : List Entry). IsLeastDifference l right (option_map (λ (e : Entry). e.id) (find is_live right))) (sym none) (first_right right m.right_order))
 
-  pub right_ends : IsMerging a b left right → length right < 1 → IsLeastDifference a b (option_map (λ (e : Entry). e.id) (find is_live left))
-  right_ends m few = m.decides (option_map (λ (e : Entry). e.id) (find is_live left)) (subst (λ (r : List Entry). IsLeastDifference left r (option_map (λ (e : Entry). e.id) (find is_live left))) (sym (no_entries right few)) (first_left left m.left_order))
+  pub right_ends : IsMerging a b left right → right ≡ [] → IsLeastDifference a b (option_map (λ (e : Entry). e.id) (find is_live left))
+  right_ends m none = m.decides (option_map (λ (e : Entry). e.id) (find is_live left)) (subst (λ (r : List Entry). IsLeastDifference left r (option_map (λ (e : Entry). e.id) (find is_live left))) (sym none) (first_left left m.left_order))
 
   module _ (x y : Entry) (xs ys : List Entry) (front : x ∷ xs ≡ left) (other : y ∷ ys ≡ right) (m : IsMerging a b left right) where
     opened : IsMerging a b (x ∷ xs) (y ∷ ys)

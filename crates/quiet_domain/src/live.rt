@@ -1,5 +1,5 @@
 //! The comparison of two LSDBs.
-ghost use Rattle.std.specs.Prelude.{◌≡◌, ◌&&◌, [], ◌==◌, find, nat_lt, option_map};
+ghost use Rattle.std.specs.Prelude.{◌≡◌, ◌&&◌, [], ◌==◌, drop, find, nat_lt, option_map};
 ghost use Rattle.std.specs.Str.{bytes_eq};
 ghost use Rattle.wire_base.specs.model.Control.{AreAscending, id_order, ids_of};
 ghost use Rattle.quiet_domain.specs.Live.{IsLeastDifference, are_alike, first_difference, is_live};
@@ -33,11 +33,12 @@ fn order_of(a: &Entry, b: &Entry) -> Ordering
     a.id.cmp(&b.id)
 }
 
-/// Returns the least LSP ID that has a live entry.
-fn first_live(entries: &[Entry]) -> Option<LspId>
-    ensures { result ≡ option_map (λ e. e.id) (find is_live entries.now) }
+/// Returns the least LSP ID that has a live entry, among the entries from an index on.
+fn first_live(store: &Store, first: usize) -> Option<LspId>
+    ensures { result ≡ option_map (λ e. e.id) (find is_live (drop first store.now.entries)) }
 {
-    for entry in entries {
+    'entries: for place in first..store.len() {
+        let entry = store.at(place);
         if is_live(entry) {
             return Some(entry.id);
         }
@@ -52,43 +53,47 @@ pub fn same_live(a: &Store, b: &Store) -> Option<LspId>
     ensures least { IsLeastDifference a.now.entries b.now.entries result }
     ensures value { result ≡ first_difference a.now.entries b.now.entries }
 {
-    first_difference(a.as_slice(), b.as_slice())
+    let _left = a.len();
+    let _right = b.len();
+    first_difference(a, b)
 }
 
-/// Returns the same for the entries of two LSDBs, which are merged in the order of their LSP IDs.
-fn first_difference(a: &[Entry], b: &[Entry]) -> Option<LspId>
-    requires left { AreAscending (ids_of a.now) }
-    requires right { AreAscending (ids_of b.now) }
-    ensures { IsLeastDifference a.now b.now result }
+/// Returns the same for LSDBs whose entries ascend, which are merged in the order of their LSP IDs.
+fn first_difference(a: &Store, b: &Store) -> Option<LspId>
+    requires left { AreAscending (ids_of a.now.entries) }
+    requires right { AreAscending (ids_of b.now.entries) }
+    ensures { IsLeastDifference a.now.entries b.now.entries result }
 {
-    let mut left = a;
-    let mut right = b;
+    let mut left = 0;
+    let mut right = 0;
     'merge: loop {
-        let [x, after_x @ ..] = left else {
-            return first_live(right);
-        };
-        let [y, after_y @ ..] = right else {
-            return first_live(left);
-        };
+        if left >= a.len() {
+            return first_live(b, right);
+        }
+        if right >= b.len() {
+            return first_live(a, left);
+        }
+        let x = a.at(left);
+        let y = b.at(right);
         match order_of(x, y) {
             Ordering::Less => {
                 if is_live(x) {
                     return Some(x.id);
                 }
-                left = after_x;
+                left += 1;
             }
             Ordering::Greater => {
                 if is_live(y) {
                     return Some(y.id);
                 }
-                right = after_y;
+                right += 1;
             }
             Ordering::Equal => {
                 if !are_alike(x, y) {
                     return Some(x.id);
                 }
-                left = after_x;
-                right = after_y;
+                left += 1;
+                right += 1;
             }
         }
     }

@@ -1,9 +1,9 @@
-use Rattle.std.proofs.Common.{◌+◌, length}
+use Rattle.std.proofs.Common.{◌+◌, ◌-◌, drop, length}
 use Rattle.quiet_domain.proofs.LiveLaws.{IsMerging}
 use Rattle.quiet_domain.proofs.live.first_difference.Given as goal
 
 abbrev pub invariant-merge : goal.invariant-merge
-invariant-merge l = IsMerging l.fn.a l.fn.b l.left l.right
+invariant-merge l = IsMerging l.a.entries l.b.entries (drop l.left l.a.entries) (drop l.right l.b.entries)
 
 abbrev pub decreases-merge : goal.decreases-merge
-decreases-merge l = length l.left + length l.right
+decreases-merge l = length l.a.entries - l.left + (length l.b.entries - l.right)

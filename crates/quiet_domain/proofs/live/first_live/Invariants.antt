@@ -3,5 +3,5 @@ use Rattle.quiet_domain.specs.Live.{is_live}
 use Rattle.quiet_domain.proofs.live.first_live.Given as goal
 
 -- none of the entries so far is live
-abbrev pub invariant-loop-entry : goal.invariant-loop-entry
-invariant-loop-entry l = find is_live (drop l.entry-index l.entries) ≡ find is_live l.entries
+abbrev pub invariant-entries : goal.invariant-entries
+invariant-entries l = find is_live (drop l.place l.store.entries) ≡ find is_live (drop l.first l.store.entries)
