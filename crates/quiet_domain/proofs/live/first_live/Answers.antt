@@ -1,7 +1,6 @@
 use Rattle.std.proofs.Common.{Option, option_map, sym, ap, ◌∙◌}
 use Rattle.wire_base.specs.declared.addresses.LspId.{LspId}
 use Rattle.wire_base.specs.declared.entry.Entry.{Entry}
-use Rattle.quiet_domain.specs.Live.{is_live}
 use Rattle.quiet_domain.proofs.LiveLaws.{dead_at, live_at}
 use Rattle.quiet_domain.proofs.live.first_live.Goals as goal
 
