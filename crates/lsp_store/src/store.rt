@@ -9,7 +9,7 @@ use crate::ages::age_beside;
 use crate::contents::Contents;
 use crate::entries::{live, purge};
 use crate::entry_list::EntryList;
-use crate::places::{place_near, place_of, stands_at};
+use crate::places::{LspIds, place_near, place_of, stands_at};
 use crate::seconds::is_removed;
 use crate::topologies::SharedView;
 use std::alloc::Global;
@@ -35,6 +35,18 @@ impl Model for Store {
     ghost view = { λ s. s.list };
 
     ghost invariant = { λ s. IsDatabase s.list.entries };
+}
+
+impl LspIds for Store {
+    ghost ids = { λ s. ids_of s.entries };
+
+    fn count(&self) -> usize {
+        self.list.count()
+    }
+
+    fn id_at(&self, i: usize) -> LspId {
+        self.list.id_at(i)
+    }
 }
 
 /// Returns the index as Ok if the LSP ID has an entry there, and as Err otherwise.

@@ -3,10 +3,9 @@ use mathlib.Core.Bool.{true≢false}
 use Rattle.std.proofs.Common.{◌≡◌, ℕ, zero, suc, ◌+◌, ◌<◌, ◌≤◌, ◌==◌, ◌&&◌, ◌||◌, nat_lt, Bool, true, false, List, [], ◌∷◌, ◌++◌, length, get_or, take, drop, map, filter, Some, None, slice_get, refl, sym, ap, subst, ◌∙◌, arith}
 use Rattle.std.specs.declared.cmp.Ordering.{Ordering}
 use Rattle.std.specs.declared.cmp.Ordering.TheVariants.{Less, Equal, Greater}
-use Rattle.std.specs.Ordering.{nat_cmp, ordering_then, is_lt, is_gt, match_ordering}
+use Rattle.std.specs.Ordering.{is_lt, is_gt, match_ordering}
 use Rattle.std.specs.List.{AllByRecursion}
 use Rattle.std.proofs.Math.Seq.{take-suc}
-use Rattle.std.proofs.lemmas.Bool.{lt-ltb}
 use Rattle.std.proofs.lemmas.List.{take_all}
 use Rattle.std.proofs.lemmas.List.Elements.{filter-append}
 use Rattle.std.proofs.lemmas.Option.{get_or_from_slice_get, slice_get_within}
@@ -16,7 +15,7 @@ use Rattle.wire_base.specs.declared.addresses.SystemId.{SystemId}
 use Rattle.wire_base.specs.declared.addresses.LspId.{LspId}
 use Rattle.wire_base.specs.declared.conf.SubKind.{SubKind}
 use Rattle.wire_base.specs.declared.entry.Entry.{Entry}
-use Rattle.wire_base.specs.model.Control.{same_id, same_system, system_order, id_order, is_below, fragment_0, AreAscending, ids_of}
+use Rattle.wire_base.specs.model.Control.{same_id, same_system, id_order, is_below, fragment_0, AreAscending, ids_of}
 use Rattle.wire_base.specs.model.View.{Claim, claim_of, is_other, with_known}
 use Rattle.lsp_store.specs.Places.{place_in as id_place}
 use Rattle.lsp_store.proofs.OrderLaws.{id_total, below_trans, below_differs, above_differs as above_differs_id, same_turned as same_turned_id}
@@ -52,24 +51,6 @@ said_none kinds es s i past none =
     sym (ap (λ (l : List Entry). slice_get (map (with_known kinds) (map (claim_of es) l)) 0) all)
 
 -- ---- an entry of a system's fragment 0 is at its place, or nowhere
-
--- no identifier of a system is below that of its fragment 0
-pub first_above : (s : SystemId) (x : LspId) → is_gt (id_order (fragment_0 s) x) ≡ is_gt (system_order s x.system)
-first_above s x = by (system_order s x.system)
-  where
-    first : (n : ℕ) → is_gt (nat_cmp 0 n) ≡ false
-    first zero = refl
-    first (suc n) = rw (lt-ltb 0 (suc n) (omega arith)) refl
-
-    both : (a b : Ordering) → is_gt a ≡ false → is_gt b ≡ false → is_gt (ordering_then a b) ≡ false
-    both Less b h k = refl
-    both Equal b h k = k
-    both Greater b h k = h
-
-    by : (o : Ordering) → is_gt (ordering_then o (ordering_then (nat_cmp 0 x.pseudonode) (nat_cmp 0 x.fragment))) ≡ is_gt o
-    by Less = refl
-    by Equal = both (nat_cmp 0 x.pseudonode) (nat_cmp 0 x.fragment) (first x.pseudonode) (first x.fragment)
-    by Greater = refl
 
 first_differs : (s : SystemId) (e : Entry) → same_id (fragment_0 s) e.id ≡ false → is_first_of s e ≡ false
 first_differs s e h = by (same_system e.id.system s) (e.id.pseudonode == 0) (e.id.fragment == 0) (nat_lt 0 e.life) (same_turned_id e.id (fragment_0 s) ∙ h)
