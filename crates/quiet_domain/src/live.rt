@@ -1,7 +1,7 @@
 //! The comparison of two LSDBs.
 ghost use Rattle.std.specs.Prelude.{◌≡◌, ◌&&◌, [], ◌==◌, drop, find, nat_lt, option_map};
 ghost use Rattle.std.specs.Str.{bytes_eq};
-ghost use Rattle.wire_base.specs.model.Control.{AreAscending, id_order, ids_of};
+ghost use Rattle.wire_base.specs.model.Control.{id_order};
 ghost use Rattle.quiet_domain.specs.Live.{IsLeastDifference, are_alike, first_difference, is_live};
 
 use lsp_store::Store;
@@ -53,24 +53,15 @@ pub fn same_live(a: &Store, b: &Store) -> Option<LspId>
     ensures least { IsLeastDifference a.now.entries b.now.entries result }
     ensures value { result ≡ first_difference a.now.entries b.now.entries }
 {
-    let _left = a.len();
-    let _right = b.len();
-    first_difference(a, b)
-}
-
-/// Returns the same for LSDBs whose entries ascend, which are merged in the order of their LSP IDs.
-fn first_difference(a: &Store, b: &Store) -> Option<LspId>
-    requires left { AreAscending (ids_of a.now.entries) }
-    requires right { AreAscending (ids_of b.now.entries) }
-    ensures { IsLeastDifference a.now.entries b.now.entries result }
-{
+    let left_count = a.len();
+    let right_count = b.len();
     let mut left = 0;
     let mut right = 0;
     'merge: loop {
-        if left >= a.len() {
+        if left >= left_count {
             return first_live(b, right);
         }
-        if right >= b.len() {
+        if right >= right_count {
             return first_live(a, left);
         }
         let x = a.at(left);

@@ -1,6 +1,5 @@
 //! The indices of the nodes that may change when systems advertise something new.
 ghost use Rattle.std.specs.Prelude.{◌≡◌, ◌≤◌, ◌∷◌, ℕ, true, false, length, Option, Some, IfOk, IfSome, OnOk};
-ghost use Rattle.wire_base.specs.model.Control.{AreAscending, ids_of};
 ghost use Rattle.wire_base.specs.model.View.{Claim as ClaimItem};
 ghost use Rattle.view_graph.specs.Edges.{AreInOrder, leads_to};
 ghost use Rattle.view_graph.specs.Renewal.{AreNoted, IsAdded, IsAsListed, IsNoted, Stays, halves_now, has, said_now, node_claims};
@@ -103,7 +102,6 @@ fn add_changed(
     requires order { AreInOrder (node_claims nodes.now) }
     requires few { length nodes.now ≤ 65536 }
     requires one_each { length up.now ≡ length conf.now.ends }
-    requires ascending { AreAscending (ids_of store.now.entries) }
     ensures stays { OnOk result (Stays places.old.items places.new.items) }
     ensures noted { IfOk result (λ told. told ≡ true → IsNoted (said_now conf.now up.now store.now.entries) nodes.now places.new.items system.now) }
 {
@@ -149,7 +147,6 @@ pub(crate) fn changed_places(
     requires order { AreInOrder (node_claims nodes.now) }
     requires few { length nodes.now ≤ 65536 }
     requires one_each { length up.now ≡ length conf.now.ends }
-    requires ascending { AreAscending (ids_of store.now.entries) }
     ensures { IfOk result (λ found. IfSome found (λ places. AreNoted (said_now conf.now up.now store.now.entries) nodes.now (conf.now.system ∷ changed.now) places.items)) }
 {
     let mut places = Vec::new(conf.kinds.allocator());

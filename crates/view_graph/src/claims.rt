@@ -270,7 +270,6 @@ fn push_claim(
 
 /// Returns what all other systems advertise, in the order of their entries. A system's fragments begin with its fragment 0.
 fn other_claims(alloc: Global, conf: &RouterConf, store: &Store) -> M<Vec<Claim>>
-    requires { AreAscending (ids_of store.now.entries) }
     ensures { IfOk result (λ claims. claims.items ≡ map (with_known conf.now.kinds) (map (claim_of store.now.entries) (filter (is_other conf.now.system) store.now.entries))) }
 {
     let mut claims = Vec::with_capacity(alloc, store.len())?;
@@ -313,7 +312,6 @@ pub(crate) fn claims_of(
     store: &Store,
 ) -> M<Vec<Claim>>
     requires one_each { length up.now ≡ length conf.now.ends }
-    requires ascending { AreAscending (ids_of store.now.entries) }
     ensures { IfOk result (λ claims. claims.items ≡ map (with_known conf.now.kinds) (claims_of conf.now up.now store.now.entries)) }
 {
     let mut claims = other_claims(alloc, conf, store)?;

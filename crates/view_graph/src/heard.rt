@@ -1,6 +1,5 @@
 //! What a system advertises in an LSDB.
 ghost use Rattle.std.specs.Prelude.{◌≡◌, IfOk};
-ghost use Rattle.wire_base.specs.model.Control.{AreAscending, ids_of};
 ghost use Rattle.view_graph.specs.Keep.{is_first_of, said_in};
 
 use crate::claims::{Claim, claim_of, with_known};
@@ -25,11 +24,11 @@ pub(crate) fn said_in(
     store: &Store,
     system: &SystemId,
 ) -> M<Option<Claim>>
-    requires { AreAscending (ids_of store.now.entries) }
     ensures { IfOk result (λ said. said ≡ said_in kinds.now store.now.entries system.now) }
 {
+    let count = store.len();
     let place = place_of(store, &LspId::fragment_0(*system));
-    if place >= store.len() {
+    if place >= count {
         return Ok(None);
     }
     let entry = store.at(place);

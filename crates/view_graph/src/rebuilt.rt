@@ -1,7 +1,7 @@
 //! Nodes rebuilt from what systems advertise now.
 ghost use Rattle.std.specs.Prelude.{◌≡◌, ◌≤◌, length, map, filter, IfOk, IfSome};
 ghost use Rattle.std.specs.List.{AllByRecursion, list_any};
-ghost use Rattle.wire_base.specs.model.Control.{AreAscending, ids_of, same_system};
+ghost use Rattle.wire_base.specs.model.Control.{same_system};
 ghost use Rattle.wire_base.specs.model.View.{lists};
 ghost use Rattle.view_graph.specs.Edges.{AreInOrder};
 ghost use Rattle.view_graph.specs.Renewal.{IsMade, edges_now, is_listed_by, lists_at, said_now, node_claims};
@@ -48,7 +48,6 @@ fn lists_at(
     system: &SystemId,
 ) -> M<bool>
     requires one_each { length up.now ≡ length conf.now.ends }
-    requires ascending { AreAscending (ids_of store.now.entries) }
     ensures { IfOk result (λ b. b ≡ lists_at (said_now conf.now up.now store.now.entries) nodes.now place system.now) }
 {
     let Some(node) = nodes.get(place) else {
@@ -70,7 +69,6 @@ fn edges_now(
     requires order { AreInOrder (node_claims nodes.now) }
     requires few { length nodes.now ≤ 65536 }
     requires one_each { length up.now ≡ length conf.now.ends }
-    requires ascending { AreAscending (ids_of store.now.entries) }
     ensures { IfOk result (λ edges. edges ≡ edges_now (said_now conf.now up.now store.now.entries) nodes.now system.now links.now) }
 {
     let halves = half_edges(conf.kinds.allocator(), nodes, links)?;
@@ -87,7 +85,6 @@ fn both_ways(
     halves: &[ViewEdge],
 ) -> M<EdgeList>
     requires one_each { length up.now ≡ length conf.now.ends }
-    requires ascending { AreAscending (ids_of store.now.entries) }
     ensures { IfOk result (λ edges. edges ≡ filter (λ e. lists_at (said_now conf.now up.now store.now.entries) nodes.now e.to system.now) halves.now) }
 {
     let mut edges = EdgeList::new(conf.kinds.allocator());
@@ -111,7 +108,6 @@ fn made_of(
     requires order { AreInOrder (node_claims nodes.now) }
     requires few { length nodes.now ≤ 65536 }
     requires one_each { length up.now ≡ length conf.now.ends }
-    requires ascending { AreAscending (ids_of store.now.entries) }
     ensures { IfOk result (λ node. node ≡ record { system = before.now.system; overload = claim.now.overload; edges = edges_now (said_now conf.now up.now store.now.entries) nodes.now before.now.system claim.now.links; subs = before.now.subs }) }
 {
     let subs = copy_subs(conf.kinds.allocator(), before.subs.as_slice())?;
@@ -135,7 +131,6 @@ fn node_now(
     requires order { AreInOrder (node_claims nodes.now) }
     requires few { length nodes.now ≤ 65536 }
     requires one_each { length up.now ≡ length conf.now.ends }
-    requires ascending { AreAscending (ids_of store.now.entries) }
     ensures place { IfOk result (λ found. IfSome found (λ n. n.place ≡ place)) }
     ensures made { IfOk result (λ found. IfSome found (IsMade (said_now conf.now up.now store.now.entries) nodes.now)) }
 {
@@ -160,7 +155,6 @@ pub(crate) fn nodes_now(
     requires order { AreInOrder (node_claims nodes.now) }
     requires few { length nodes.now ≤ 65536 }
     requires one_each { length up.now ≡ length conf.now.ends }
-    requires ascending { AreAscending (ids_of store.now.entries) }
     ensures made { IfOk result (λ found. IfSome found (λ anew. AllByRecursion (IsMade (said_now conf.now up.now store.now.entries) nodes.now) anew.items)) }
     ensures places { IfOk result (λ found. IfSome found (λ anew. map (λ n. n.place) anew.items ≡ places.now)) }
 {

@@ -1,6 +1,5 @@
 //! What systems advertise now, and the nodes rebuilt from it.
 ghost use Rattle.std.specs.Prelude.{◌≡◌, ◌≤◌, ◌∷◌, length, IfOk, IfSome};
-ghost use Rattle.wire_base.specs.model.Control.{AreAscending, ids_of};
 ghost use Rattle.view_graph.specs.Edges.{AreInOrder};
 ghost use Rattle.view_graph.specs.Renewal.{IsPatch, said_now, node_claims};
 
@@ -21,7 +20,6 @@ pub(crate) fn said_now(
     system: &SystemId,
 ) -> M<Option<Claim>>
     requires one_each { length up.now ≡ length conf.now.ends }
-    requires ascending { AreAscending (ids_of store.now.entries) }
     ensures { IfOk result (λ said. said ≡ said_now conf.now up.now store.now.entries system.now) }
 {
     let alloc = conf.kinds.allocator();
@@ -46,7 +44,6 @@ pub(crate) fn patch_of(
     requires order { AreInOrder (node_claims nodes.now) }
     requires few { length nodes.now ≤ 65536 }
     requires one_each { length up.now ≡ length conf.now.ends }
-    requires ascending { AreAscending (ids_of store.now.entries) }
     ensures { IfOk result (λ found. IfSome found (λ anew. IsPatch (said_now conf.now up.now store.now.entries) nodes.now (conf.now.system ∷ changed.now) anew.items)) }
 {
     match changed_places(nodes, conf, up, store, changed)? {

@@ -1,7 +1,7 @@
 //! A topology that is computed once for all routers whose LSDBs advertise the same.
 ghost use Rattle.std.specs.Prelude.{◌≡◌, ◌≤◌, map, length, true, Some, IfOk};
 ghost use Rattle.wire_base.specs.model.Configuration.{IsSound};
-ghost use Rattle.wire_base.specs.model.Control.{AreAscending, IsDatabase, ids_of};
+ghost use Rattle.wire_base.specs.model.Control.{IsDatabase};
 ghost use Rattle.wire_base.specs.model.View.{claims_of, own_claim, with_known};
 ghost use Rattle.lsp_store.specs.Topologies.{AreNodesOf};
 ghost use Rattle.view_graph.specs.Edges.{AreInOrder};
@@ -46,7 +46,6 @@ fn built(alloc: Global, conf: &RouterConf, up: &[bool], store: &Store) -> M<(Vie
 /// Returns whether an LSDB contains of the router itself what the router advertises now.
 fn says_own(alloc: Global, conf: &RouterConf, up: &[bool], store: &Store) -> M<bool>
     requires one_each { length up.now ≡ length conf.now.ends }
-    requires ascending { AreAscending (ids_of store.now.entries) }
     ensures { IfOk result (λ says. says ≡ true → said_in conf.now.kinds store.now.entries conf.now.system ≡ Some (with_known conf.now.kinds (own_claim conf.now up.now))) }
 {
     let Some(said) = said_in(alloc, conf.kinds.as_slice(), store, &conf.system)? else {
@@ -65,7 +64,6 @@ fn is_shared(alloc: Global, conf: &RouterConf, up: &[bool], store: &Store) -> M<
     if !store.shares_views() {
         return Ok(false);
     }
-    let _entries = store.len();
     says_own(alloc, conf, up, store)
 }
 

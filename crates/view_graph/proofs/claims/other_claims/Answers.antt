@@ -11,7 +11,7 @@ pub systems-preserved : goal.systems-preserved
 systems-preserved c = elim c.if-is_other.branch [
   | then-is_other+in_ok-push_claim w ↦
       other_more c.args.conf.now.kinds c.args.conf.now.system c.args.store.now.entries c.systems.place c.at-entry.result.now _ c.systems.claims.items c.if-is_other.claims.items
-      c.requires c.at-entry.ensures (sym c.is_other.ensures ∙ w.if-is_other.true) (ap (λ k. with_known k (claim_of (drop c.systems.place c.args.store.now.entries) c.at-entry.result.now)) w.as_slice.ensures) c.systems.invariant (ap items_of w.claims-is ∙ w.in_ok-push_claim.ensures)
+      c.len.ensures.database.in_order c.at-entry.ensures (sym c.is_other.ensures ∙ w.if-is_other.true) (ap (λ k. with_known k (claim_of (drop c.systems.place c.args.store.now.entries) c.at-entry.result.now)) w.as_slice.ensures) c.systems.invariant (ap items_of w.claims-is ∙ w.in_ok-push_claim.ensures)
   | else-is_other w ↦
       ap items_of w.claims-is ∙ other_less c.args.conf.now.kinds c.args.conf.now.system c.args.store.now.entries c.systems.place c.at-entry.result.now c.systems.claims.items c.at-entry.ensures (sym c.is_other.ensures ∙ w.if-is_other.false) c.systems.invariant
 ]
