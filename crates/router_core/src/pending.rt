@@ -96,9 +96,7 @@ pub(crate) fn pending(store: &Store, flood: &Flood, link: u16) -> usize
     ensures { (conf : RouterConf) (spent : Bool) → result ≡ length (send_of (control_of conf flood.now.flood store.now.entries spent) link) }
 {
     let _few = store.len();
-    csnps(store, flood.due(link))
-        + marked(store, flood, link)
-        + lists(asked(store, flood, link))
+    csnps(store, flood.due(link)) + marked(store, flood, link) + lists(asked(store, flood, link))
 }
 
 /// Returns whether anything may be due on a link.
