@@ -1,17 +1,18 @@
 use Rattle.std.proofs.Common.{sym, ◌∙◌, arith}
 use Rattle.std.proofs.lemmas.List.{drop_all}
+use Rattle.quiet_domain.specs.Live.{IsLeastDifference}
 use Rattle.quiet_domain.proofs.DifferLaws.{is_first_difference}
 use Rattle.quiet_domain.proofs.LiveLaws.{entry_and_rest, equal_goes, equal_stops, greater_goes, greater_stops, left_ends, less_goes, less_stops, right_ends}
 use Rattle.quiet_domain.proofs.live.same_live.Goals as goal
 
 pub returns-then-left-left_count : goal.returns-then-left-left_count
 returns-then-left-left_count c =
-    let least = rw c.first_live.ensures (left_ends _ _ _ _ c.merge.invariant (drop_all c.merge.left c.args.a.now.entries (omega (arith, c.if-left-left_count.true, c.len-left_count.ensures.len)))) in
+    let least : IsLeastDifference c.args.a.now.entries c.args.b.now.entries c.first_live.result = rw c.first_live.ensures (left_ends _ _ _ _ c.merge.invariant (drop_all c.merge.left c.args.a.now.entries (omega (arith, c.if-left-left_count.true, c.len-left_count.ensures.len)))) in
     record { least = least; value = is_first_difference _ _ c.len-left_count.ensures.database.in_order c.len-right_count.ensures.database.in_order _ least }
 
 pub returns-then-right-right_count : goal.returns-then-right-right_count
 returns-then-right-right_count c =
-    let least = rw c.first_live-then-right-right_count.ensures (right_ends _ _ _ _ c.merge.invariant (drop_all c.merge.right c.args.b.now.entries (omega (arith, c.if-right-right_count.true, c.len-right_count.ensures.len)))) in
+    let least : IsLeastDifference c.args.a.now.entries c.args.b.now.entries c.first_live-then-right-right_count.result = rw c.first_live-then-right-right_count.ensures (right_ends _ _ _ _ c.merge.invariant (drop_all c.merge.right c.args.b.now.entries (omega (arith, c.if-right-right_count.true, c.len-right_count.ensures.len)))) in
     record { least = least; value = is_first_difference _ _ c.len-left_count.ensures.database.in_order c.len-right_count.ensures.database.in_order _ least }
 
 pub returns-then-is_live : goal.returns-then-is_live

@@ -10,4 +10,4 @@ returns-else-any_last-clause-now c = itself_keeps c.args.self.now c.args.kept.no
 
 pub returns-else-any_last-clause-next : goal.returns-else-any_last-clause-next
 returns-else-any_last-clause-next c =
-    second_keeps c.args.self.now c.args.kept.now c.note_own.new.kept (ap (list_any is_last) (sym (c.as_slice.ensures.entries ∙ ap (λ (x : Control). x.entries) c.self.view_is)) ∙ sym c.any_last.ensures ∙ c.if-any_last.false) c.requires c.note_own.ensures
+    second_keeps c.args.self.now c.args.kept.now c.note_own.new.kept (ap (list_any is_last) (sym (ap (λ (x : Control). x.entries) c.self.view_is)) ∙ sym c.any_last.ensures ∙ c.if-any_last.false) c.requires c.note_own.ensures
