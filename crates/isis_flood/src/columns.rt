@@ -4,9 +4,9 @@ ghost use Rattle.std.specs.Prelude.{◌≡◌, ◌<◌, ◌≤◌, ◌+◌, [], 
 ghost use Rattle.std.specs.List.{insert, list_any, position_or_len, remove};
 ghost use Rattle.isis_flood.specs.Masks.{at_bit, held_row, rows_of, row_ids, clears};
 
-use crate::mask_list::{MaskList, insert_within};
+use crate::mask_list::MaskList;
 use crate::table::Bits;
-use lsp_store::LspIds;
+use lsp_store::{LspIds, insert_within};
 use std::alloc::Global;
 use std::marker::Model;
 use wire_base::{LspId, M};

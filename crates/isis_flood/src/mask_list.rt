@@ -5,6 +5,7 @@ ghost use Rattle.isis_flood.specs.MaskLists.{masks_in, room_in, is_narrow};
 
 use crate::masks::{any_with, clear_all, next_with};
 use crate::octets::{any_octet_with, clear_octets, next_octet_with, octet_of};
+use lsp_store::insert_within;
 use std::alloc::Global;
 use wire_base::M;
 
@@ -17,23 +18,6 @@ const FEW_LINKS: u16 = 8;
 pub(crate) enum MaskList {
     Octets(Vec<u8>),
     Words(Vec<u64>),
-}
-
-/// Inserts an element. Precondition: there is room, so that it cannot fail.
-pub(crate) fn insert_within<T: Drop>(list: &mut Vec<T>, place: usize, item: T)
-    requires place { place ≤ vec_len list.old }
-    requires room { vec_len list.old < vec_capacity list.old }
-    ensures items { list.new.items ≡ insert list.old.items place item }
-    ensures len { vec_len list.new ≡ vec_len list.old + 1 }
-    ensures capacity { vec_capacity list.old ≤ vec_capacity list.new }
-{
-    // An index below 2^16 does not wrap around when it is incremented. The compiler knows this from the type, and moves the
-    // elements from there on by one `memmove`, where it otherwise moves them by a loop.
-    let _done = if place < 65_536 {
-        list.insert((place as u16) as usize, item)
-    } else {
-        list.insert(place, item)
-    };
 }
 
 impl MaskList {

@@ -1,7 +1,6 @@
 -- What a list of entries becomes where the entries are stored in another order than that of their indexes.
-use mathlib.Core.Bool.{true≢false}
 use mathlib.Core.Logic.{◌≢◌}
-use Rattle.std.proofs.Common.{◌≡◌, ℕ, zero, suc, ◌+◌, ◌-◌, ◌<◌, ◌≤◌, nat_lt, Bool, true, false, if◌then◌else◌, List, [], ◌∷◌, ◌++◌, length, get_or, set, map, length-set, IfSome, slice_get, Result, Ok, Err, is_ok, is_err, refl, sym, ap, subst, ◌∙◌, arith}
+use Rattle.std.proofs.Common.{◌≡◌, ℕ, zero, suc, ◌+◌, ◌-◌, ◌<◌, ◌≤◌, nat_lt, Bool, true, false, if◌then◌else◌, List, [], ◌∷◌, ◌++◌, length, get_or, set, map, IfSome, slice_get, refl, sym, ap, subst, ◌∙◌, arith}
 use Rattle.std.proofs.lemmas.Bool.{ltb-true, ltb-false}
 use Rattle.std.proofs.lemmas.List.{length-map, length-append, get_or-map, get_or_append_left, get_or_at, get_or-set_same, get_or-set_other}
 use Rattle.std.proofs.lemmas.List.Edits.{length-insert, length-remove, get_or-remove_below, get_or-remove_above}
@@ -96,13 +95,6 @@ replaced items (i ∷ is) (suc p) k e within apart lt at =
     ap (λ (x : Entry). x ∷ at_indexes (set items k e) is) (get_or-set_other items k i e no_entry (all_read (λ j. i ≢ j) is p k apart.0 (omega (arith, lt)) at))
     ∙ ap (λ (xs : List Entry). get_or items i no_entry ∷ xs) (replaced items is p k e within.1 apart.1 (omega (arith, lt)) at)
 
-pub replaced_order : (items : List Entry) (order : List ℕ) (k : ℕ) (e : Entry) → IsOrder items order → IsOrder (set items k e) order
-replaced_order items order k e is = record {
-  within = all_weaker _ _ (λ i h. let l = length-set items k e in omega (arith, h, l)) order is.within;
-  apart = is.apart;
-  all = is.all ∙ sym (length-set items k e);
-}
-
 -- ---- an entry is added
 
 pub added : (items : List Entry) (order : List ℕ) (p : ℕ) (e : Entry) → IsOrder items order → at_indexes (items ++ e ∷ []) (insert order p (length items)) ≡ insert (at_indexes items order) p e
@@ -132,10 +124,6 @@ added_as items pushed order new p n e is grown at becomes = rw (grown, becomes, 
 
 pub added_order_as : (items pushed : List Entry) (order new : List ℕ) (p n : ℕ) (e : Entry) → IsOrder items order → p ≤ length order → pushed ≡ items ++ e ∷ [] → n ≡ length items → new ≡ insert order p n → IsOrder pushed new
 added_order_as items pushed order new p n e is le grown at becomes = rw (grown, becomes, at) (added_order items order p e is le)
-
-pub is_there : {A E : Type 0} (answer : Result A E) → is_err answer ≡ false → is_ok answer ≡ true
-is_there (Ok x) h = refl
-is_there (Err fault) h = absurd (true≢false h)
 
 -- ---- an entry is removed
 

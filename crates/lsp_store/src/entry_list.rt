@@ -5,14 +5,14 @@ ghost use Rattle.wire_base.specs.model.Control.{aged, ids_of};
 ghost use Rattle.lsp_store.specs.EntryLists.{moved_down};
 ghost use Rattle.lsp_store.specs.Places.{passed};
 
-use crate::places::LspIds;
+use crate::places::{LspIds, insert_within};
 use crate::seconds::pass_second;
 use std::alloc::Global;
 use std::marker::Model;
-use wire_base::{Aged, Entry, LspId, M, Memory};
+use wire_base::{Aged, Entry, LspId, M};
 
-/// Entries in an order of their own. They are stored in the order in which they came: a new entry moves the two octets of the
-/// indexes behind it, and no other entry. Contracts model it as these entries, and the number of new entries for which memory is
+/// A list of entries in which a new entry moves no other: they are stored in the order in which they came, beside their indexes
+/// in the list's order. An insertion moves the indexes behind it, of two octets each. Contracts model it as these entries, and the number of new entries for which memory is
 /// already allocated.
 #[derive(Drop)]
 pub(crate) struct EntryList {
@@ -105,14 +105,11 @@ impl EntryList {
         ensures full { OnErr result (self.old.spare ≡ 0) }
         ensures spare { self.old.spare ≤ self.new.spare + 1 }
     {
+        // Reserves room for the index first, so that its insertion cannot fail once the entry is stored.
+        self.order.reserve(1)?;
         let index = self.items.len() as u16;
         self.items.push(e)?;
-        // A place below 2^16 does not wrap around when it is incremented. The compiler knows this from the type, and moves the
-        // indexes from there on by one `memmove`, where it otherwise moves them by a loop.
-        if self.order.insert((place as u16) as usize, index).is_err() {
-            drop(self.items.pop());
-            return Err(Memory);
-        }
+        insert_within(&mut self.order, place, index);
         Ok(())
     }
 

@@ -1,5 +1,6 @@
-//! Binary search for an LSP ID in a sorted list, shared by LSDB entries and rows of flags.
-ghost use Rattle.std.specs.Prelude.{◌≡◌, ◌<◌, ◌≤◌, true, List, length, slice_index_or};
+//! Binary search for an LSP ID in a sorted list, and insertion, shared by LSDB entries and rows of flags.
+ghost use Rattle.std.specs.Prelude.{◌≡◌, ◌<◌, ◌≤◌, ◌+◌, true, List, length, slice_index_or, vec_len, vec_capacity};
+ghost use Rattle.std.specs.List.{insert};
 ghost use Rattle.std.specs.Ordering.{is_gt};
 ghost use Rattle.wire_base.specs.declared.addresses.LspId.{LspId as Id};
 ghost use Rattle.wire_base.specs.model.Control.{AreAscending, id_order};
@@ -90,4 +91,19 @@ pub fn stands_at<T: LspIds>(items: &T, place: usize, id: &LspId) -> bool
         return is_same_id(items.id_at(place), *id);
     }
     false
+}
+
+/// Inserts an element at an index of a list that has room for it, so that it cannot fail.
+pub fn insert_within<T: Drop>(list: &mut Vec<T>, place: usize, item: T)
+    requires place { place ≤ vec_len list.old }
+    requires room { vec_len list.old < vec_capacity list.old }
+    ensures items { list.new.items ≡ insert list.old.items place item }
+    ensures len { vec_len list.new ≡ vec_len list.old + 1 }
+    ensures capacity { vec_capacity list.old ≤ vec_capacity list.new }
+{
+    // The condition always holds. From it the compiler knows that the list does not grow and that the index after this one does
+    // not wrap around, so that it moves the elements by one `memmove`, not one at a time.
+    if list.len() < list.capacity() && place < usize::MAX {
+        let _done = list.insert(place, item);
+    }
 }
