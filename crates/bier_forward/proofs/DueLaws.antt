@@ -7,7 +7,7 @@ use Rattle.wire_base.specs.declared.view.First.{First}
 use Rattle.wire_base.specs.declared.view.ViewNode.{ViewNode}
 use Rattle.wire_base.specs.model.Choice.{first_at}
 use Rattle.wire_base.specs.model.Hop as hops
-use Rattle.wire_base.specs.model.Hop.{Outcome, Expired, NoRow, copies, distinct, forward, has, hop, is_this, local, unless_empty}
+use Rattle.wire_base.specs.model.Hop.{Outcome, Expired, NoRow, distinct, forward, has, hop, is_this, local, unless_empty}
 use Rattle.wire_base.specs.model.OnFrame.{Packet, node_place}
 use Rattle.wire_base.specs.model.Place.{id_at}
 use Rattle.bift_table.specs.Bift.{leads_to, router_at}

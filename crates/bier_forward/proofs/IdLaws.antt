@@ -88,5 +88,3 @@ position-tells t k p low high = elim (eqb_tells (id_at t p) k) [
     by : (o : Option ℕ) → position_in t k ≡ o → (id_at t p ≡ k → ⊥) → is_this o p ≡ false
     by None q other = refl
     by (Some n) q other = ne_eqb p n (λ e. other (ap (id_at t) e ∙ (position-is t k n q).id))
-
--- ---- the own position

@@ -1,5 +1,5 @@
 -- What the calls of a check do, in the words of the driver.
-use Rattle.std.proofs.Common.{◌≡◌, ◌≢◌, ℕ, ◌+◌, List, [], ◌∷◌, ◌++◌, Option, Some, None, Result, Ok, Err, refl, sym, ap, ap₂, subst, ◌∙◌, append-nil}
+use Rattle.std.proofs.Common.{◌≡◌, ◌≢◌, ℕ, ◌+◌, List, [], ◌∷◌, ◌++◌, Option, Some, None, Result, Ok, Err, refl, sym, ap, subst, ◌∙◌, append-nil}
 use Rattle.std.specs.Prelude.{option_map}
 use Rattle.run_texts.specs.declared.texts.Texts.{Texts}
 use Rattle.wire_base.specs.declared.faults.EdgeFault.{EdgeFault}
@@ -17,18 +17,16 @@ use Rattle.domain_core.specs.Cover.{Rejects}
 use Rattle.domain_replay.specs.Telling as telling
 use Rattle.domain_replay.specs.Telling.{ReplayState, tells_line}
 use Rattle.domain_replay.specs.Texts.{Refusal, BadText, BadEvent, refusal_text, names_of}
-use Rattle.command_drive.specs.Answer.{Verdict}
 use Rattle.command_drive.specs.declared.command.Flow.{Flow}
 use Rattle.command_drive.specs.declared.command.Flow.TheVariants as flow
-use Rattle.command_drive.specs.Reading.{Behind}
 use Rattle.command_drive.specs.Doing.{Did, told}
 use Rattle.command_replay.specs.Course.{Turned, turn_owes, unless_rejected}
 use Rattle.domain_replay.specs.Parts.{unsaid, state_of}
 use Rattle.command_replay.specs.Owed.{Rest, unless_refused, rounds_owe, said_owes, Rounds, Begins}
 use Rattle.command_replay.proofs.Answered.{said_told}
 use Rattle.command_replay.proofs.Steps.{did_as}
-use Rattle.command_check.specs.Checked.{base_turn, answer_turn, refusal_turn, cover_turn, read_turn, said_turn, check_turns}
-use Rattle.command_check.specs.Turning.{BeginsTurn, lines_owe, Covers}
+use Rattle.command_check.specs.Checked.{base_turn, answer_turn, refusal_turn, cover_turn, read_turn}
+use Rattle.command_check.specs.Turning.{BeginsTurn, lines_owe}
 
 -- ---- a line of a schedule
 

@@ -1,5 +1,5 @@
 -- The states of a schedule that is checked are those of the run of its events, and a valid domain allowed each of them.
-use Rattle.std.proofs.Common.{◌≡◌, ℕ, List, [], ◌∷◌, ◌++◌, length, Option, Result, Ok, Err, inl, inr, refl, sym, ap, subst, ◌∙◌, append-nil}
+use Rattle.std.proofs.Common.{◌≡◌, ℕ, List, [], length, Result, Ok, Err, inl, inr, refl, sym, ap, subst, ◌∙◌, append-nil}
 use Rattle.std.proofs.lemmas.List.{length-map}
 use Rattle.wire_base.specs.declared.conf.RouterConf.{RouterConf}
 use Rattle.wire_base.specs.declared.faults.EdgeFault.{EdgeFault}
@@ -25,10 +25,9 @@ use Rattle.laws_replay.specs.Promises.{KeepsPromises, LineFits}
 use Rattle.laws_replay.proofs.Allowed.{events_promised, line_allowed}
 use Rattle.laws_replay.proofs.Fitting.{line_fits}
 use Rattle.laws_replay.proofs.MomentLaws.{events_of}
-use Rattle.command_drive.specs.Lines.{shown}
 use Rattle.command_replay.specs.Course.{AreCounted, ShowsFronts, turn_part, course_part, played_past, opens_with}
 use Rattle.command_replay.proofs.Coursed.{past_none, course_keeps}
-use Rattle.command_check.specs.Checked.{base_turn, answer_turn, cover_turn, read_turn, check_turns, check_course, checked, IsAnswer}
+use Rattle.command_check.specs.Checked.{base_turn, cover_turn, read_turn, check_turns, check_course, checked, IsAnswer}
 use Rattle.command_check.specs.Turning.{CheckEnters}
 use Rattle.command_check.proofs.SaidChecks.{check_base, check_doable, shown_check}
 

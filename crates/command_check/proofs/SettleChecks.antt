@@ -1,5 +1,5 @@
 -- A line `settle` of a schedule that is checked, with enough rounds, makes a domain quiet.
-use Rattle.std.proofs.Common.{◌≡◌, ℕ, ◌+◌, List, [], ◌∷◌, ◌++◌, length, Option, Some, None, option_map, Result, Ok, Err, refl, sym, ap, subst, ◌∙◌, append-nil}
+use Rattle.std.proofs.Common.{◌≡◌, ℕ, ◌+◌, List, [], ◌∷◌, ◌++◌, length, Option, Some, None, option_map, Result, Ok, refl, sym, ap, subst, ◌∙◌, append-nil}
 use Rattle.wire_base.specs.model.Configuration.{DomainConf, IsValid}
 use Rattle.replay_text.specs.Check.{check_line}
 use Rattle.replay_text.specs.declared.check.CheckLine.{CheckLine}
@@ -9,7 +9,7 @@ use Rattle.replay_text.specs.declared.event.Line.TheVariants.{Settle}
 use Rattle.replay_text.specs.declared.fault.TextFault.{TextFault}
 use Rattle.domain_model.specs.declared.fault.EventFault.{EventFault}
 use Rattle.domain_model.specs.World.{WorldState, first_world}
-use Rattle.domain_model.specs.Run.{Run, run_of, on_line, settle_events}
+use Rattle.domain_model.specs.Run.{run_of, on_line, settle_events}
 use Rattle.laws_ledger.specs.Runs.{unlined}
 use Rattle.laws_settle.specs.Gentle.{AreGentle}
 use Rattle.laws_settle.specs.Idle.{IsIdle}

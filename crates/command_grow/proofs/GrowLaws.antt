@@ -1,5 +1,5 @@
 -- What `grow` owes from its start on is its answer.
-use Rattle.std.proofs.Common.{◌≡◌, ℕ, zero, suc, ◌+◌, ◌-◌, ◌<◌, ◌≤◌, ◌==◌, not, false, List, [], ◌∷◌, ◌++◌, length, drop, map, filter, codes, Option, Some, None, refl, sym, ap, subst, ◌∙◌, append-nil, append_assoc, arith}
+use Rattle.std.proofs.Common.{◌≡◌, ℕ, zero, suc, ◌+◌, ◌-◌, ◌<◌, ◌≤◌, ◌==◌, not, List, [], ◌∷◌, ◌++◌, length, drop, map, filter, codes, Option, Some, None, refl, sym, ap, subst, ◌∙◌, append-nil, append_assoc, arith}
 use Rattle.std.specs.Fmt.{decimal}
 use Rattle.std.specs.List.{fold, range_with_len}
 use Rattle.std.proofs.lemmas.Bool.{ne_eqb}
@@ -15,7 +15,7 @@ use Rattle.grown_domain.specs.declared.schedule.GrownLine.TheVariants as grown
 use Rattle.grown_domain.specs.Links.{grown_links}
 use Rattle.grown_domain.specs.Routers.{router}
 use Rattle.grown_domain.specs.Domain.{grown_domain, grown_routers}
-use Rattle.grown_domain.specs.Schedule.{grown_lines, line_at}
+use Rattle.grown_domain.specs.Schedule.{line_at}
 use Rattle.grown_domain.specs.Schedule as schedule
 use Rattle.grown_domain.proofs.ScheduleLines.{lines_are}
 use Rattle.domain_model.specs.declared.fault.EventFault.{EventFault}
@@ -26,7 +26,7 @@ use Rattle.replay_report.specs.declared.recording.Recording.TheVariants.{Discard
 use Rattle.domain_replay.specs.Counting.{counts_of}
 use Rattle.domain_replay.specs.Lines.{done_text}
 use Rattle.domain_replay.specs.Telling as telling
-use Rattle.domain_replay.specs.Telling.{Telling, ReplayState, first_state, with_texts, tells_line, telling_of, IsRunOf, at_line, LineEnters, LineNamesOnce, IsToldSo}
+use Rattle.domain_replay.specs.Telling.{Telling, ReplayState, first_state, tells_line, telling_of, IsRunOf, at_line, LineEnters, LineNamesOnce, IsToldSo}
 use Rattle.domain_replay.specs.Texts.{run_text}
 use Rattle.domain_replay.specs.Courses.{past}
 use Rattle.domain_replay.proofs.TellingLaws.{line_told, start_runs, start_told, none_captured}

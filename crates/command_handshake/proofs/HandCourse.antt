@@ -1,5 +1,5 @@
 -- The states of a schedule with hellos are those of the run of its events, and a domain allows each event where it occurs.
-use Rattle.std.proofs.Common.{◌≡◌, ℕ, ◌<◌, Bool, true, false, List, [], ◌∷◌, ◌++◌, length, Option, Some, None, Result, Ok, Err, refl, sym, ap, ap₂, subst, ◌∙◌, append-nil}
+use Rattle.std.proofs.Common.{◌≡◌, ℕ, Bool, true, false, List, [], ◌∷◌, ◌++◌, length, Option, None, Result, Ok, Err, refl, sym, ap, ap₂, subst, ◌∙◌, append-nil}
 use Rattle.std.specs.List.{AllByRecursion}
 use Rattle.std.proofs.lemmas.List.{length-map}
 use Rattle.wire_base.specs.declared.conf.RouterConf.{RouterConf}
@@ -35,7 +35,7 @@ use Rattle.laws_replay.specs.Promises.{KeepsPromises, LineFits}
 use Rattle.laws_replay.proofs.Allowed.{events_promised, line_allowed}
 use Rattle.laws_replay.proofs.Fitting.{line_fits}
 use Rattle.laws_replay.proofs.MomentLaws.{events_of}
-use Rattle.domain_handshake.specs.Handshakes.{HandState, fresh_state, writes, world_does, change_does, hello_does, end_goes_down, start_does}
+use Rattle.domain_handshake.specs.Handshakes.{HandState, fresh_state, writes, world_does, hello_does, end_goes_down, start_does}
 use Rattle.domain_handshake.specs.Lines.{change_event, end_event, changes_text, sent_record}
 use Rattle.domain_handshake.specs.Within.{IsWithin}
 use Rattle.domain_handshake.proofs.Keeping.{HandPast, Keeps, IsKeeping, turns_keep, hello_keeps, base_keeps}

@@ -6,7 +6,7 @@ use Rattle.wire_base.specs.model.Configuration.{DomainConf}
 use Rattle.replay_report.specs.Captures.{capture_front}
 use Rattle.replay_report.specs.declared.recording.Recording.TheVariants.{Pcap}
 use Rattle.domain_handshake.specs.Doing.{Did}
-use Rattle.domain_handshake.specs.Handshakes.{HandState, Outcome, start_does}
+use Rattle.domain_handshake.specs.Handshakes.{HandState, start_does}
 use Rattle.command_drive.specs.Doing.{told}
 use Rattle.command_drive.specs.Lines.{lines_read}
 use Rattle.command_drive.specs.Reading.{End, Reads}

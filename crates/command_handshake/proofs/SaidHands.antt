@@ -11,7 +11,7 @@ use Rattle.wire_base.specs.model.Fields.{◌>>=◌}
 use Rattle.isis_hello.specs.declared.event.HelloEvent.{HelloEvent}
 use Rattle.isis_hello.specs.declared.event.HelloEvent.TheVariants as hello
 use Rattle.replay_text.specs.declared.event.Line.{Line}
-use Rattle.replay_text.specs.declared.event.Line.TheVariants.{Empty, One, Settle}
+use Rattle.replay_text.specs.declared.event.Line.TheVariants.{One}
 use Rattle.replay_text.specs.declared.event.Event.{Event}
 use Rattle.replay_text.specs.declared.event.Event.TheVariants as event
 use Rattle.replay_text.specs.declared.fault.TextFault.{TextFault}

@@ -1,6 +1,6 @@
 -- A capture, record by record.
-use Rattle.std.proofs.Common.{◌≡◌, ℕ, ◌+◌, Bool, true, false, not, List, [], ◌∷◌, ◌++◌, length, take, Option, Some, None, Result, Ok, Err, refl, sym, ap, ap₂, subst, ◌∙◌, append_assoc, append-nil, is_some, arith}
-use Rattle.std.proofs.lemmas.Bool.{le-leb, true≢false}
+use Rattle.std.proofs.Common.{◌≡◌, ℕ, ◌+◌, Bool, true, false, not, List, [], ◌∷◌, ◌++◌, length, take, Option, Some, None, Result, Ok, Err, refl, sym, ap, ap₂, subst, ◌∙◌, append_assoc, append-nil, arith}
+use Rattle.std.proofs.lemmas.Bool.{le-leb}
 use Rattle.std.proofs.lemmas.List.{take_all}
 use Rattle.std.specs.Prelude.{IfOk}
 use Rattle.std.specs.Io.KnownBytes.{Appends}
@@ -10,7 +10,7 @@ use Rattle.wire_base.specs.declared.status.Status.TheVariants.{Done, ReadFault}
 use Rattle.pcapng_frames.specs.declared.packet.NgRecord.{NgRecord}
 use Rattle.run_texts.specs.declared.texts.Texts.{Texts}
 use Rattle.command_drive.specs.Answer.{behind}
-use Rattle.command_drive.specs.CaptureReading.{any_unread, any_fed, any_drained, any_fault, any_end, any_records}
+use Rattle.command_drive.specs.CaptureReading.{any_unread, any_fed, any_drained, any_fault, any_end}
 use Rattle.command_drive.specs.Captures.{within_limit, is_within, IsOpen}
 use Rattle.command_drive.specs.declared.capture_reader.CaptureReader.{CaptureReader}
 use Rattle.command_drive.specs.declared.capture_reader.RecordFault.{RecordFault}

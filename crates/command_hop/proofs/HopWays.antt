@@ -339,5 +339,3 @@ pub texts_pushed : {E : Type 0} (result : Result (Unit {0}) E) (rows : List HopR
 texts_pushed (Err e) rows built bsl own line ids old new length are is pushed = tt
 texts_pushed (Ok u) rows built bsl own line ids old new length are is pushed =
     pushed ∙ ap (λ (l : List ℕ). old ++ l) (texts_are rows built.names (positions_of built.table) own (bits_of bsl) line ids (λ p low high. are.linked p low (omega (arith, high, ap bits_of length))) is)
-
--- ---- the outcomes

@@ -10,7 +10,7 @@ use Rattle.wire_base.specs.model.BitSet.{has_member, IsWithin}
 use Rattle.replay_text.specs.declared.hop.HopRow.{HopRow}
 use Rattle.std.proofs.lemmas.List.Folds.{flat_map-map}
 use Rattle.command_hop.specs.Forward as forward
-use Rattle.command_hop.specs.Forward.{Outcome, Local, outcomes, delivered, others, way_of, ways, copies, copy_of, dropped, dropped_of, unrouted, leads_to, group_of, name_of}
+use Rattle.command_hop.specs.Forward.{Outcome, Local, outcomes, delivered, others, way_of, ways, copies, copy_of, dropped, dropped_of, unrouted, group_of, name_of}
 use Rattle.command_hop.specs.Partition.{times_in}
 
 -- ---- groups, by rows and ids

@@ -7,7 +7,7 @@ use Rattle.wire_base.specs.declared.status.Status.{Status}
 use Rattle.wire_base.specs.declared.status.Status.TheVariants.{Done, InputRefused, ReadFault}
 use Rattle.wire_base.specs.model.Configuration.{DomainConf}
 use Rattle.replay_text.specs.declared.event.Line.{Line}
-use Rattle.replay_text.specs.declared.event.Line.TheVariants.{Empty, One, Settle}
+use Rattle.replay_text.specs.declared.event.Line.TheVariants.{Settle}
 use Rattle.replay_text.specs.declared.fault.TextFault.{TextFault}
 use Rattle.replay_text.specs.Fault.{fault_text}
 use Rattle.replay_text.specs.Pieces.{lines_in}

@@ -25,7 +25,7 @@ use Rattle.command_drive.specs.declared.items.Close.TheVariants as close
 use Rattle.command_drive.proofs.CaptureLaws.{open_at, open_kept, is_closed, capture_is, front_is, records_are, ended_well}
 use Rattle.command_topo.specs.declared.query.Query.{Query}
 use Rattle.command_topo.specs.Frames.{after_record}
-use Rattle.command_topo.specs.TopoText.{HasRoom, IsGathered, RoomAfter, behind_of, end_by, full_at, if_room, report_from, report_of, topo_answer, topo_cut}
+use Rattle.command_topo.specs.TopoText.{HasRoom, IsGathered, RoomAfter, end_by, full_at, if_room, report_from, report_of, topo_answer, topo_cut}
 use Rattle.command_topo.specs.Owed.{owed}
 
 -- ---- a record

@@ -1,5 +1,5 @@
 -- Maps and sets that are kept beside a list, for look-ups in it.
-use Rattle.std.proofs.Common.{◌≡◌, ℕ, ◌+◌, ◌≤◌, ◌<◌, Bool, true, false, cond, ◌||◌, List, [], ◌∷◌, ◌++◌, length, Option, Some, None, Vec, Global, Ordering, nat_cmp, is_eq, refl, sym, ap, subst, ◌∙◌, ⊎_elim, arith, zero-add, add-zero, length-append, suc, is_some}
+use Rattle.std.proofs.Common.{◌≡◌, ℕ, ◌+◌, ◌<◌, Bool, true, false, cond, ◌||◌, List, [], ◌∷◌, ◌++◌, length, Option, Some, None, Vec, Global, nat_cmp, is_eq, refl, sym, ap, subst, ◌∙◌, ⊎_elim, arith, zero-add, add-zero, length-append, suc, is_some}
 use Rattle.std.proofs.lemmas.Bool.{cases_Bool, cond-true, cond-false, or_parts}
 use Rattle.std.proofs.lemmas.List.Folds.{list_any-append}
 use Rattle.std.proofs.lemmas.Map.Text.{is_eq-slice_cmp}
@@ -11,7 +11,6 @@ use Rattle.std.specs.Cmp.{eq_by_cmp_equiv}
 use Rattle.std.specs.Cmp.Lexicographic.{slice_cmp, bytes_decides, nat_list_eq_equiv, nat_list_cmp_total}
 use Rattle.std.specs.List.{list_any, position_from}
 use Rattle.std.specs.Map.{lookup, KeepsOthers}
-use Rattle.std.specs.Ordering.{eq_by_cmp}
 use Rattle.std.specs.Str.{bytes_eq}
 use Rattle.wire_base.specs.declared.limits.TheConstants.{MOST_ROUTERS}
 use Rattle.wire_base.specs.declared.addresses.SystemId.{SystemId}

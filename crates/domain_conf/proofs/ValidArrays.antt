@@ -1,7 +1,7 @@
 -- What holds of all entries of each array of a domain file.
-use Rattle.std.proofs.Common.{◌≡◌, ℕ, ◌+◌, ◌<◌, ◌≤◌, Bool, true, false, ◌&&◌, ◌||◌, eqb, leb, List, [], ◌∷◌, ◌++◌, length, Option, Some, None, Result, Ok, Err, refl, sym, ap, subst, ◌∙◌, arith, length-append}
-use mathlib.Core.Bool.{true≢false, false≢true}
-use Rattle.std.proofs.lemmas.Bool.{and_parts, and_from, eqb-true, eq-eqb, or_parts, or_from}
+use Rattle.std.proofs.Common.{◌≡◌, ℕ, ◌+◌, ◌<◌, ◌≤◌, Bool, true, false, ◌&&◌, ◌||◌, eqb, leb, List, [], ◌∷◌, ◌++◌, length, Result, Ok, refl, sym, subst, ◌∙◌, arith, length-append}
+use mathlib.Core.Bool.{false≢true}
+use Rattle.std.proofs.lemmas.Bool.{eqb-true, eq-eqb, or_parts, or_from}
 use Rattle.std.specs.List.{AllByRecursion, list_any}
 use Rattle.std.specs.Prelude.{codes, is_none}
 use Rattle.std.specs.Str.{bytes_eq}
@@ -9,9 +9,9 @@ use Rattle.toml.specs.Data.{Data}
 use Rattle.wire_base.specs.declared.conf.SubKind.{SubKind}
 use Rattle.wire_base.specs.declared.conf.TableRow.{TableRow}
 use Rattle.wire_base.specs.declared.conf.LabelRange.{LabelRange}
-use Rattle.wire_base.specs.model.Configuration.{IsOctets, IsPrefix, IsStation, IsLabelRange, IsTableRow, is_name, same_kind, same_row, same_bift, same_length, share_label, same_pair}
+use Rattle.wire_base.specs.model.Configuration.{IsOctets, IsPrefix, IsStation, IsLabelRange, IsTableRow, is_name, same_kind, same_row, same_bift, same_length, share_label}
 use Rattle.wire_base.specs.model.Lists.{AreApart}
-use Rattle.wire_base.specs.model.Place.{kind_of, is_mpls, is_configured, code_of, same_triple}
+use Rattle.wire_base.specs.model.Place.{kind_of, is_mpls, is_configured, code_of}
 use Rattle.domain_conf.specs.declared.fault.ConfFault.{ConfFault}
 use Rattle.domain_conf.specs.declared.routers.RouterEntry.{RouterEntry}
 use Rattle.domain_conf.specs.declared.bier.BierEntry.{BierEntry}
@@ -24,10 +24,10 @@ use Rattle.domain_conf.specs.Rows.{row_at}
 use Rattle.domain_conf.specs.Routers.{has_name, has_system, has_prefix, router_at}
 use Rattle.domain_conf.specs.Bier.{is_member, bier_at}
 use Rattle.domain_conf.specs.LabelRanges.{same_labels, takes_label, labels_at}
-use Rattle.domain_conf.specs.Links.{same_routers, link_of, has_peer_mac, link_at}
+use Rattle.domain_conf.specs.Links.{same_routers, has_peer_mac, link_at}
 use Rattle.domain_conf.proofs.ValidLists.{bind_ok, ok_is, all_snoc, apart_snoc, entries_keep}
-use Rattle.domain_conf.proofs.ValidEntries.{SubdomainPassed, subdomain_passed, RowPassed, row_passed, RouterPassed, router_passed, BierPassed, bier_passed, LabelsPassed, labels_passed}
-use Rattle.domain_conf.proofs.ValidLinks.{LinkPassed, link_passed}
+use Rattle.domain_conf.proofs.ValidEntries.{subdomain_passed, row_passed, router_passed, bier_passed, labels_passed}
+use Rattle.domain_conf.proofs.ValidLinks.{link_passed}
 
 -- ---- tests that say the same both ways
 

@@ -1,39 +1,33 @@
 -- Every domain that a file gives is valid.
-use Rattle.std.proofs.Common.{◌≡◌, ℕ, zero, suc, ◌+◌, ◌<◌, ◌≤◌, Bool, true, false, ◌&&◌, ◌||◌, ◌⊎◌, inl, inr, cond, eqb, ltb, List, [], ◌∷◌, ◌++◌, length, map, Option, Some, None, Result, Ok, Err, refl, sym, ap, subst, ◌∙◌, arith, add-one}
-use mathlib.Core.Bool.{true≢false, false≢true}
-use Rattle.std.proofs.lemmas.Bool.{or_parts, eqb-true, eq-eqb, eqb-false, ltb-false, false_from_ne_true}
+use Rattle.std.proofs.Common.{◌≡◌, ℕ, zero, suc, ◌+◌, ◌<◌, ◌≤◌, Bool, true, false, ◌⊎◌, inl, inr, cond, eqb, ltb, List, [], ◌∷◌, length, map, Option, Some, None, Ok, refl, sym, ap, subst, ◌∙◌, arith}
+use mathlib.Core.Bool.{false≢true}
+use Rattle.std.proofs.lemmas.Bool.{or_parts, eq-eqb, ltb-false}
 use Rattle.std.proofs.lemmas.Option.{same_Some}
 use Rattle.std.specs.List.{AllByRecursion, filter_map, cons_option}
 use Rattle.std.specs.Prelude.{slice_get, codes}
 use Rattle.std.specs.Str.{bytes_eq}
-use Rattle.toml.specs.Data.{Data}
 use Rattle.wire_base.specs.declared.limits.TheConstants.{MOST_ROUTERS, MOST_SUB_OCTETS, MOST_TABLE_ROWS}
 use Rattle.wire_base.specs.declared.addresses.SystemId.{SystemId}
 use Rattle.wire_base.specs.declared.conf.End.{End}
 use Rattle.wire_base.specs.declared.conf.Kind.{Kind}
 use Rattle.wire_base.specs.declared.conf.Kind.TheVariants.{Mpls, Configured}
 use Rattle.wire_base.specs.declared.conf.Level.{Level}
-use Rattle.wire_base.specs.declared.conf.LinkConf.{LinkConf}
 use Rattle.wire_base.specs.declared.conf.RouterConf.{RouterConf}
-use Rattle.wire_base.specs.declared.conf.SubKind.{SubKind}
-use Rattle.wire_base.specs.declared.conf.TableRow.{TableRow}
-use Rattle.wire_base.specs.model.Configuration.{DomainConf, IsValid, IsSound, IsOwnSub, IsArea, IsAlike, AreAlike, KeepsKinds, IsLink, same_name, same_system, same_prefix, same_pair, same_peer, sub_octets, other_end, peers_of, end_to, IsBack, Faces, AreEnds, HaveEnds, IsUnchanged, MayStand}
+use Rattle.wire_base.specs.model.Configuration.{DomainConf, IsValid, IsSound, IsOwnSub, IsArea, IsAlike, AreAlike, KeepsKinds, IsLink, same_name, same_system, same_prefix, same_pair, same_peer, sub_octets, other_end, end_to, IsBack, Faces, AreEnds, HaveEnds, IsUnchanged, MayStand}
 use Rattle.wire_base.proofs.SoundLemmas.{still, each_still}
-use Rattle.wire_base.specs.model.Fields.{◌>>=◌}
 use Rattle.wire_base.specs.model.Lists.{AreApart}
 use Rattle.wire_base.specs.model.Place.{kind_of, is_configured}
 use Rattle.domain_conf.specs.declared.fault.ConfFault.{ConfFault}
 use Rattle.domain_conf.specs.declared.fault.ConfFault.TheVariants as fault
 use Rattle.domain_conf.specs.declared.routers.RouterEntry.{RouterEntry}
 use Rattle.domain_conf.specs.declared.links.LinkEntry.{LinkEntry}
-use Rattle.domain_conf.specs.Reading.{refuse_if}
 use Rattle.domain_conf.specs.Fields.{place_path}
 use Rattle.domain_conf.specs.Links.{link_of, same_routers}
 use Rattle.domain_conf.specs.declared.assemble.Entries.{Entries}
-use Rattle.domain_conf.specs.Assembled.{system_at, end_of, ends_of, subs_of, conf_of, confs_from, HasFewSubs, is_too_large, within_limits, with_limits, domain_from}
+use Rattle.domain_conf.specs.Assembled.{system_at, end_of, ends_of, subs_of, conf_of, confs_from, HasFewSubs, is_too_large, within_limits, domain_from}
 use Rattle.domain_conf.proofs.ValidLists.{bind_ok, passed, ok_is}
 use Rattle.domain_conf.proofs.ValidArrays.{AreSubdomains, AreRows, AreRouters, IsRouterEntry, AreBiers, AreLabels, AreLinks, IsLinkEntry, of_name, of_system, of_prefix, bytes_turned}
-use Rattle.domain_conf.proofs.ValidAmong.{IsIn, all_in, all_from, get_in, in_map, all_map, apart_map, filter_map_in}
+use Rattle.domain_conf.proofs.ValidAmong.{IsIn, all_in, all_from, get_in, all_map, apart_map, filter_map_in}
 use Rattle.domain_conf.proofs.ValidSubs.{subs_sound, subs_apart, subs_few, labels_apart, subs_may_stand}
 use Rattle.domain_conf.proofs.ValidEnds.{IsFirst, IsSecond, end_is, far, peer_is, system_there, some_there, ends_sound, peers_apart, peer_macs_apart, far_within, bytes_self}
 

@@ -1,26 +1,21 @@
 -- The ends of the routers of a domain file: those of a router differ, and the two ends of a link face each other.
-use Rattle.std.proofs.Common.{◌≡◌, ℕ, zero, suc, ◌+◌, ◌<◌, ◌≤◌, Bool, true, false, ◌&&◌, ◌||◌, ◌⊎◌, inl, inr, cond, eqb, List, [], ◌∷◌, ◌++◌, length, map, Option, Some, None, refl, sym, ap, subst, ◌∙◌, arith}
+use Rattle.std.proofs.Common.{◌≡◌, ℕ, zero, suc, ◌<◌, Bool, true, false, ◌&&◌, ◌||◌, ◌⊎◌, inl, inr, cond, eqb, List, [], ◌∷◌, length, Some, None, refl, sym, ap, subst, ◌∙◌, arith}
 use mathlib.Core.Bool.{true≢false, false≢true}
-use Rattle.std.proofs.lemmas.Bool.{and_parts, and_from, and_left, and_right, or_parts, eqb-true, eq-eqb, eqb-false, ne_eqb, false_from_ne_true}
+use Rattle.std.proofs.lemmas.Bool.{and_parts, and_from, or_parts, eqb-true, eq-eqb, false_from_ne_true}
 use Rattle.std.proofs.lemmas.Option.{same_Some}
-use Rattle.std.specs.List.{AllByRecursion, filter_map, cons_option}
+use Rattle.std.specs.List.{AllByRecursion}
 use Rattle.std.specs.Prelude.{slice_get}
 use Rattle.std.specs.Str.{bytes_eq}
 use Rattle.wire_base.specs.declared.addresses.SystemId.{SystemId}
 use Rattle.wire_base.specs.declared.conf.End.{End}
-use Rattle.wire_base.specs.declared.conf.Level.{Level}
-use Rattle.wire_base.specs.declared.conf.LinkConf.{LinkConf}
-use Rattle.wire_base.specs.declared.conf.RouterConf.{RouterConf}
-use Rattle.wire_base.specs.model.Configuration.{DomainConf, IsOctets, IsEnd, same_peer, same_peer_mac, other_end, peers_of, end_to, IsBack, Faces, AreEnds, HaveEnds}
+use Rattle.wire_base.specs.model.Configuration.{IsOctets, IsEnd, same_peer, same_peer_mac}
 use Rattle.wire_base.specs.model.Lists.{AreApart}
 use Rattle.domain_conf.specs.declared.routers.RouterEntry.{RouterEntry}
 use Rattle.domain_conf.specs.declared.links.LinkEntry.{LinkEntry}
-use Rattle.domain_conf.specs.Routers.{has_system}
-use Rattle.domain_conf.specs.Links.{link_of, same_routers, has_peer_mac}
-use Rattle.domain_conf.specs.declared.assemble.Entries.{Entries}
-use Rattle.domain_conf.specs.Assembled.{system_at, end_of, ends_of, conf_of, confs_from}
-use Rattle.domain_conf.proofs.ValidArrays.{AreRouters, IsRouterEntry, AreLinks, IsLinkEntry, of_system, share_peer_mac, bytes_turned, eqb_turned}
-use Rattle.domain_conf.proofs.ValidAmong.{IsIn, all_in, all_from, get_in, in_filter_map, filter_map_in, apart_filter_map}
+use Rattle.domain_conf.specs.Links.{same_routers, has_peer_mac}
+use Rattle.domain_conf.specs.Assembled.{system_at, end_of, ends_of}
+use Rattle.domain_conf.proofs.ValidArrays.{AreRouters, IsRouterEntry, AreLinks, IsLinkEntry, of_system, share_peer_mac, bytes_turned}
+use Rattle.domain_conf.proofs.ValidAmong.{IsIn, all_in, all_from, get_in, in_filter_map, apart_filter_map}
 
 pub bytes_self : (xs : List ℕ) → bytes_eq xs xs ≡ true
 bytes_self [] = refl

@@ -1,37 +1,29 @@
 -- What holds of the entries that each array of a domain file gives.
-use Rattle.std.proofs.Common.{◌≡◌, ℕ, ◌+◌, ◌<◌, ◌≤◌, ◌^◌, Bool, true, false, not, ◌&&◌, ◌||◌, cond, eqb, ltb, List, [], ◌∷◌, ◌++◌, length, Option, Some, None, Result, Ok, Err, refl, sym, ap, subst, ◌∙◌, arith}
-use Rattle.std.proofs.lemmas.Bool.{or_parts, and_parts, ltb-false, not-false, eqb-true}
-use Rattle.std.specs.List.{AllByRecursion, list_any}
+use Rattle.std.proofs.Common.{◌≡◌, ℕ, ◌+◌, ◌≤◌, true, false, not, ◌||◌, ltb, List, [], ◌∷◌, Ok, subst, arith}
+use Rattle.std.proofs.lemmas.Bool.{or_parts, and_parts, ltb-false, not-false}
+use Rattle.std.specs.List.{list_any}
 use Rattle.std.specs.Prelude.{codes, is_none}
-use Rattle.toml.specs.Data.{Data, get, as_str, as_integer, as_bool}
+use Rattle.toml.specs.Data.{Data, get, as_str}
 use Rattle.wire_base.specs.declared.limits.TheConstants.{LAST_LABEL}
-use Rattle.wire_base.specs.declared.addresses.Mac.{Mac}
 use Rattle.wire_base.specs.declared.conf.SubKind.{SubKind}
 use Rattle.wire_base.specs.declared.conf.TableRow.{TableRow}
-use Rattle.wire_base.specs.declared.conf.Kind.{Kind}
-use Rattle.wire_base.specs.declared.conf.Kind.TheVariants.{Mpls, Configured}
 use Rattle.wire_base.specs.declared.conf.LabelRange.{LabelRange}
-use Rattle.wire_base.specs.model.Configuration.{IsOctets, IsPrefix, IsStation, IsLabelRange, IsTableRow, is_name, same_kind, same_row, same_bift}
-use Rattle.wire_base.specs.model.Fields.{◌>>=◌}
-use Rattle.wire_base.specs.model.Lists.{AreApart}
+use Rattle.wire_base.specs.model.Configuration.{IsOctets, IsPrefix, IsLabelRange, IsTableRow, is_name, same_kind, same_row, same_bift}
 use Rattle.wire_base.specs.model.Place.{kind_of, is_mpls, is_configured}
 use Rattle.domain_conf.specs.declared.fault.ConfFault.{ConfFault}
 use Rattle.domain_conf.specs.declared.fault.ConfFault.TheVariants as fault
 use Rattle.domain_conf.specs.declared.routers.RouterEntry.{RouterEntry}
 use Rattle.domain_conf.specs.declared.bier.BierEntry.{BierEntry}
 use Rattle.domain_conf.specs.declared.labels.LabelsEntry.{LabelsEntry}
-use Rattle.domain_conf.specs.declared.links.LinkEntry.{LinkEntry}
-use Rattle.domain_conf.specs.Reading.{or_fault, refuse_if}
-use Rattle.domain_conf.specs.Fields.{entry_path, known_keys, field, number, text, flag, bsl as bsl_key, or_default}
-use Rattle.domain_conf.specs.Forms.{name_in, system_in, prefix_in, mac_in}
-use Rattle.domain_conf.specs.Subdomains.{kind_at, new_subdomain, subdomain_in, known_sd}
-use Rattle.domain_conf.specs.Rows.{new_row, row_in}
-use Rattle.domain_conf.specs.Routers.{has_name, has_system, has_prefix, new_router, router_in, place_of, known_router}
-use Rattle.domain_conf.specs.Bier.{is_member, new_bier, bier_in}
-use Rattle.domain_conf.specs.LabelRanges.{takes_labels, same_labels, takes_label, new_labels, labels_in}
-use Rattle.domain_conf.specs.Links.{made_mac, mac_or_made, same_routers, has_peer_mac, new_link, link_in}
-use Rattle.domain_conf.proofs.ValidLists.{bind_ok, passed, there, ok_is, given}
-use Rattle.domain_conf.proofs.ValidForms.{number_ok, field_ok, name_ok, system_ok, prefix_ok, mac_ok, made_mac_ok}
+use Rattle.domain_conf.specs.Fields.{known_keys, number, text, flag, bsl as bsl_key}
+use Rattle.domain_conf.specs.Forms.{name_in, system_in, prefix_in}
+use Rattle.domain_conf.specs.Subdomains.{kind_at, subdomain_in, known_sd}
+use Rattle.domain_conf.specs.Rows.{row_in}
+use Rattle.domain_conf.specs.Routers.{has_name, has_system, has_prefix, router_in, known_router}
+use Rattle.domain_conf.specs.Bier.{is_member, bier_in}
+use Rattle.domain_conf.specs.LabelRanges.{takes_labels, same_labels, takes_label, labels_in}
+use Rattle.domain_conf.proofs.ValidLists.{bind_ok, passed, ok_is}
+use Rattle.domain_conf.proofs.ValidForms.{number_ok, field_ok, name_ok, system_ok, prefix_ok}
 
 -- ---- references
 

@@ -1,20 +1,19 @@
 -- What a domain file says is a valid domain.
-use Rattle.std.proofs.Common.{◌≡◌, ℕ, ◌+◌, ◌<◌, ◌≤◌, Bool, true, false, cond, eqb, ltb, List, [], ◌∷◌, length, Option, Some, None, Result, Ok, Err, refl, sym, ap, subst, ◌∙◌, arith}
+use Rattle.std.proofs.Common.{◌≡◌, ℕ, ◌≤◌, Bool, true, false, cond, eqb, ltb, List, [], ◌∷◌, length, Option, Some, None, Ok, Err, refl, subst, arith}
 use Rattle.std.proofs.lemmas.Bool.{ltb-false, eqb-false}
 use Rattle.std.specs.List.{AllByRecursion}
 use Rattle.std.specs.Prelude.{codes}
-use Rattle.toml.specs.Data.{Data, Members, get_member, as_str, as_integer}
+use Rattle.toml.specs.Data.{Data, Members, get_member, as_str}
 use Rattle.wire_base.specs.declared.limits.TheConstants.{DOMAIN_FILE_LIMIT, MOST_BIER_ENTRIES, MOST_LABEL_ENTRIES, MOST_LINK_ENTRIES, MOST_ROUTERS, MOST_TABLE_ROWS}
 use Rattle.wire_base.specs.declared.conf.Level.{Level}
-use Rattle.wire_base.specs.declared.conf.Level.TheVariants.{Two}
 use Rattle.wire_base.specs.model.Configuration.{DomainConf, IsValid, IsArea}
 use Rattle.wire_base.specs.model.Fields.{◌>>=◌}
 use Rattle.domain_conf.specs.declared.fault.ConfFault.{ConfFault}
 use Rattle.domain_conf.specs.declared.fault.ConfFault.TheVariants as fault
-use Rattle.domain_conf.specs.Reading.{or_fault, refuse_if}
+use Rattle.domain_conf.specs.Reading.{or_fault}
 use Rattle.domain_conf.specs.Forms.{area_in}
-use Rattle.domain_conf.specs.Fields.{keys_of, unknown_in, refuse_key, field, or_default}
-use Rattle.domain_conf.specs.Arrays.{tables_of, if_few, array_in, array_at, entries_from}
+use Rattle.domain_conf.specs.Fields.{keys_of, unknown_in, refuse_key}
+use Rattle.domain_conf.specs.Arrays.{tables_of, if_few, array_at, entries_from}
 use Rattle.domain_conf.specs.Subdomains.{subdomain_at}
 use Rattle.domain_conf.specs.Rows.{row_at}
 use Rattle.domain_conf.specs.Routers.{router_at}
@@ -22,9 +21,9 @@ use Rattle.domain_conf.specs.Bier.{bier_at}
 use Rattle.domain_conf.specs.LabelRanges.{labels_at}
 use Rattle.domain_conf.specs.Links.{link_at}
 use Rattle.domain_conf.specs.declared.assemble.Entries.{Entries}
-use Rattle.domain_conf.specs.Assembled.{confs_from, HasFewSubs, domain_from}
+use Rattle.domain_conf.specs.Assembled.{confs_from, HasFewSubs}
 use Rattle.domain_conf.specs.Domain.{Arrays, top_keys, level_at, area_at, array_of, arrays_of, entries_of, domain_of_table, document_of, domain_of}
-use Rattle.domain_conf.proofs.ValidLists.{bind_ok, passed, there, ok_is}
+use Rattle.domain_conf.proofs.ValidLists.{bind_ok, passed, ok_is}
 use Rattle.domain_conf.proofs.ValidForms.{field_ok, area_ok}
 use Rattle.domain_conf.proofs.ValidArrays.{subdomains_ok, rows_ok, routers_ok, biers_ok, labels_ok, links_ok, entries_length}
 use Rattle.domain_conf.proofs.ValidDomain.{AreEntries, confs_few, domain_valid}

@@ -1,10 +1,10 @@
 -- The values of a domain file have their ranges and forms.
-use Rattle.std.proofs.Common.{◌≡◌, ℕ, suc, ◌+◌, ◌-◌, ◌*◌, ◌/◌, ◌%◌, ◌<◌, ◌≤◌, Bool, true, false, ◌&&◌, cond, eqb, leb, ltb, ℤ, pos, negsuc, List, [], ◌∷◌, length, Option, Some, None, Result, Ok, refl, sym, ap, subst, ◌∙◌, arith}
+use Rattle.std.proofs.Common.{◌≡◌, ℕ, suc, ◌+◌, ◌-◌, ◌*◌, ◌%◌, ◌<◌, ◌≤◌, Bool, true, false, cond, eqb, leb, ltb, ℤ, pos, negsuc, List, [], ◌∷◌, length, Option, Some, None, Ok, refl, ap, subst, arith}
 use Rattle.std.proofs.lemmas.Bool.{and_parts, leb-true, ltb-true, eqb-true}
 use Rattle.std.proofs.lemmas.Option.{cond_some, same_Some}
 use Rattle.std.specs.List.{AllByRecursion, slice_split}
 use Rattle.std.specs.Prelude.{slice_index, option_map, option_and_then}
-use Rattle.toml.specs.Data.{Data, get, as_str, as_integer}
+use Rattle.toml.specs.Data.{Data, get, as_integer}
 use Rattle.wire_base.specs.declared.addresses.SystemId.{SystemId}
 use Rattle.wire_base.specs.declared.addresses.Mac.{Mac}
 use Rattle.wire_base.specs.declared.addresses.Ipv4.{Ipv4}
@@ -12,10 +12,10 @@ use Rattle.wire_base.specs.model.Configuration.{IsOctets, IsArea, IsPrefix, IsSt
 use Rattle.domain_conf.specs.declared.fault.ConfFault.{ConfFault}
 use Rattle.domain_conf.specs.declared.fault.ConfFault.TheVariants as fault
 use Rattle.domain_conf.specs.Reading.{or_fault}
-use Rattle.domain_conf.specs.Fields.{field, number, text, or_default}
-use Rattle.domain_conf.specs.Forms.{nat_within, name_in, hex_digit, hex_octet, before, hex_octets, octets_at, in_size, area_in, system_octets, system_of, system_in, if_station, mac_octets, mac_of, mac_in, digit_of, first_digit_of, then_digit, below_256, small_number, four_numbers, if_unicast, prefix_octets, prefix_of, prefix_in, is_parted}
-use Rattle.domain_conf.specs.Links.{made_mac, mac_or_made}
-use Rattle.domain_conf.proofs.ValidLists.{bind_ok, there, given, ok_is}
+use Rattle.domain_conf.specs.Fields.{field, number}
+use Rattle.domain_conf.specs.Forms.{nat_within, name_in, hex_digit, hex_octet, before, hex_octets, octets_at, in_size, area_in, system_octets, system_of, system_in, if_station, mac_octets, mac_of, mac_in, digit_of, first_digit_of, then_digit, small_number, four_numbers, if_unicast, prefix_octets, prefix_of, prefix_in, is_parted}
+use Rattle.domain_conf.specs.Links.{made_mac}
+use Rattle.domain_conf.proofs.ValidLists.{bind_ok, there}
 
 -- ---- options
 

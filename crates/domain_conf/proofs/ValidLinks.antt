@@ -1,12 +1,11 @@
 -- What holds of the links that a domain file gives.
-use Rattle.std.proofs.Common.{◌≡◌, ℕ, suc, ◌+◌, ◌<◌, ◌≤◌, ◌^◌, Bool, true, false, ◌&&◌, ◌||◌, cond, eqb, List, [], ◌∷◌, ◌++◌, length, Option, Some, None, Result, Ok, Err, refl, sym, ap, subst, ◌∙◌, arith}
+use Rattle.std.proofs.Common.{◌≡◌, ℕ, ◌+◌, ◌<◌, ◌≤◌, Bool, true, false, cond, eqb, List, [], ◌∷◌, length, Option, Some, None, Ok, subst, arith}
 use Rattle.std.proofs.lemmas.Option.{same_Some}
-use Rattle.std.specs.List.{AllByRecursion, list_any, position_from}
+use Rattle.std.specs.List.{list_any, position_from}
 use Rattle.std.specs.Prelude.{codes, option_and_then}
 use Rattle.toml.specs.Data.{Data, get, as_str}
 use Rattle.wire_base.specs.declared.addresses.Mac.{Mac}
 use Rattle.wire_base.specs.model.Configuration.{IsStation}
-use Rattle.wire_base.specs.model.Fields.{◌>>=◌}
 use Rattle.domain_conf.specs.declared.fault.ConfFault.{ConfFault}
 use Rattle.domain_conf.specs.declared.fault.ConfFault.TheVariants as fault
 use Rattle.domain_conf.specs.declared.routers.RouterEntry.{RouterEntry}
@@ -15,8 +14,8 @@ use Rattle.domain_conf.specs.Reading.{or_fault}
 use Rattle.domain_conf.specs.Fields.{known_keys, field, number, or_default}
 use Rattle.domain_conf.specs.Forms.{mac_in}
 use Rattle.domain_conf.specs.Routers.{has_name, place_of, known_router}
-use Rattle.domain_conf.specs.Links.{made_mac, mac_or_made, same_routers, has_peer_mac, new_link, link_between, link_in}
-use Rattle.domain_conf.proofs.ValidLists.{bind_ok, passed, there, ok_is, given}
+use Rattle.domain_conf.specs.Links.{made_mac, mac_or_made, same_routers, has_peer_mac, link_between, link_in}
+use Rattle.domain_conf.proofs.ValidLists.{bind_ok, passed, there, ok_is}
 use Rattle.domain_conf.proofs.ValidForms.{number_ok, field_ok, mac_ok, made_mac_ok}
 
 position_within : {X : Type 0} (p : X → Bool) (i : ℕ) (xs : List X) (k : ℕ) → position_from p i xs ≡ Some k → k < i + length xs

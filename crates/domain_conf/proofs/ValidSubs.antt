@@ -1,10 +1,10 @@
 -- The sub-domains of a router of a domain file are sound.
-use Rattle.std.proofs.Common.{◌≡◌, ℕ, ◌+◌, ◌<◌, ◌≤◌, Bool, true, false, ◌&&◌, ◌||◌, inl, inr, cond, eqb, List, [], ◌∷◌, ◌++◌, length, map, Option, Some, None, refl, sym, ap, subst, ◌∙◌, arith}
+use Rattle.std.proofs.Common.{◌≡◌, ℕ, ◌≤◌, Bool, true, false, ◌&&◌, inl, inr, cond, eqb, List, [], ◌∷◌, length, map, Option, Some, None, refl, sym, ap, subst, ◌∙◌, arith}
 use mathlib.Core.Bool.{true≢false, false≢true}
 use Rattle.std.proofs.lemmas.Bool.{and_parts, eqb-true, eq-eqb, eqb-false}
 use Rattle.std.proofs.lemmas.List.{length-map}
 use Rattle.std.specs.List.{AllByRecursion}
-use Rattle.std.specs.Prelude.{filter, is_none, flat_map}
+use Rattle.std.specs.Prelude.{filter, is_none}
 use Rattle.wire_base.specs.declared.bsl.Bsl.{Bsl}
 use Rattle.wire_base.specs.declared.bsl.Bsl.TheVariants.{B64, B128, B256, B512, B1024, B2048, B4096}
 use Rattle.wire_base.specs.declared.conf.Kind.{Kind}
@@ -21,7 +21,7 @@ use Rattle.domain_conf.specs.declared.labels.LabelsEntry.{LabelsEntry}
 use Rattle.domain_conf.specs.LabelRanges.{same_labels, takes_label}
 use Rattle.domain_conf.specs.Assembled.{is_labels_of, ranges_of, sub_of, subs_of}
 use Rattle.domain_conf.proofs.ValidArrays.{AreSubdomains, AreBiers, IsBierEntry, AreLabels, IsLabelsEntry, of_sub, eqb_turned, label_turned}
-use Rattle.domain_conf.proofs.ValidAmong.{IsIn, all_in, all_from, in_filter, all_filter, apart_filter, all_map, apart_map, apart_in, in_map, apart_flat_map, as_many}
+use Rattle.domain_conf.proofs.ValidAmong.{IsIn, all_in, in_filter, apart_filter, all_map, apart_map, apart_in, in_map, apart_flat_map, as_many}
 
 -- of two that aren't both true, the second isn't where the first is
 and_last : (a b : Bool) → a ≡ true → (a && b) ≡ false → b ≡ false

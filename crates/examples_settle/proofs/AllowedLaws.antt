@@ -5,7 +5,7 @@ use Rattle.std.proofs.lemmas.Option.{same_Some}
 use Rattle.wire_base.specs.declared.addresses.LspId.{LspId}
 use Rattle.wire_base.specs.model.Control.{Control, FlagRow, same_id, srm, srm_in}
 use Rattle.replay_text.specs.declared.event.Event.{Event}
-use Rattle.replay_text.specs.declared.event.Event.TheVariants.{Inject, Take, Lose, Again, Down, Up, Send, Tick, Restart, Relabel, Leave, Join}
+use Rattle.replay_text.specs.declared.event.Event.TheVariants.{Take, Lose, Again, Down, Up, Send, Tick, Restart}
 use Rattle.domain_model.specs.declared.fault.EventFault.{EventFault}
 use Rattle.domain_model.specs.Faults.{event_fault}
 use Rattle.domain_model.specs.Step.{happens}

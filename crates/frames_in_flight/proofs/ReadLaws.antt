@@ -3,7 +3,7 @@ use Rattle.std.proofs.Common.{◌≡◌, ℕ, List, [], map, Option, Some, None,
 use Rattle.wire_base.specs.declared.cause.Cause.{Cause}
 use Rattle.wire_base.specs.declared.conf.RouterConf.{RouterConf}
 use Rattle.wire_base.specs.model.Item.{Outer}
-use Rattle.wire_base.specs.model.OnFrame.{Drop, Effects, Packet}
+use Rattle.wire_base.specs.model.OnFrame.{Effects, Packet}
 use Rattle.domain_model.specs.declared.lines.DropLine.{DropLine}
 use Rattle.domain_model.specs.Moves.{item_lost}
 use Rattle.domain_model.specs.Truth.{router_at}

@@ -1,5 +1,5 @@
 -- The changes that an event reports are those of the adjacencies.
-use Rattle.std.proofs.Common.{◌≡◌, ℕ, zero, suc, ◌+◌, ◌<◌, ◌⊎◌, Bool, true, false, not, ◌&&◌, cond, eqb, eq-eqb, List, [], ◌∷◌, ◌++◌, filter, length, map, get_or, set, slice_get, Option, Some, None, option_map, bytes_eq, refl, sym, ap, subst, ◌∙◌, arith, inl, inr}
+use Rattle.std.proofs.Common.{◌≡◌, ℕ, zero, suc, ◌+◌, ◌<◌, ◌⊎◌, Bool, true, false, not, cond, eqb, eq-eqb, List, [], ◌∷◌, ◌++◌, filter, length, map, get_or, set, slice_get, Option, Some, None, option_map, bytes_eq, refl, sym, ap, subst, ◌∙◌, arith, inl, inr}
 use mathlib.Core.Bool.{true≢false, false≢true}
 use Rattle.std.proofs.lemmas.Bool.{and_parts, eqb-true, eqb-false}
 use Rattle.std.proofs.lemmas.List.{length-set, get_or-set_same}
@@ -9,10 +9,9 @@ use Rattle.std.specs.List.{AllByRecursion}
 use Rattle.wire_base.specs.declared.addresses.SystemId.{SystemId}
 use Rattle.wire_base.specs.declared.conf.End.{End}
 use Rattle.wire_base.specs.declared.conf.RouterConf.{RouterConf}
-use Rattle.wire_base.specs.model.Choice.{end_toward, is_system}
+use Rattle.wire_base.specs.model.Choice.{end_toward}
 use Rattle.wire_base.specs.model.Configuration.{DomainConf, IsValid, IsSound, AreEnds, HaveEnds, Faces, peers_of, same_peer, same_system}
 use Rattle.wire_base.specs.model.Lists.{AreApart}
-use Rattle.isis_hello.specs.declared.adjacency.Adjacency.{Adjacency}
 use Rattle.isis_hello.specs.declared.adjacency.Circuit.{Circuit}
 use Rattle.isis_hello.specs.declared.adjacency.Turn.{Turn}
 use Rattle.isis_hello.specs.declared.adjacency.Turn.TheVariants as turns
@@ -22,10 +21,10 @@ use Rattle.isis_hello.specs.declared.event.HelloEvent.TheVariants as events
 use Rattle.isis_hello.specs.declared.hello.Hello.{Hello}
 use Rattle.isis_hello.specs.Adjacency.{is_up, turned}
 use Rattle.isis_hello.specs.Changes.{up_between, is_at, after_change, LeadTo, IsJoined, AreChanges, is_hello}
-use Rattle.isis_hello.specs.Circuits.{CircuitsState, first_circuits, place_of, link_between, fresh, broken, fresh_circuits, circuit_at, circuit_over, circuit_between, with_circuit, hellos_at}
-use Rattle.isis_hello.specs.Events.{Happened, changed, changed_to, changes_at, doing, sends, sends_from, sends_on, arrives, arrives_over, forgets, replaces, replaces_over, turns_at, turned_circuit, heard, hello_gone, happens}
+use Rattle.isis_hello.specs.Circuits.{CircuitsState, first_circuits, place_of, link_between, fresh, broken, fresh_circuits, circuit_at, circuit_over, with_circuit, hellos_at}
+use Rattle.isis_hello.specs.Events.{Happened, changed, changed_to, changes_at, doing, sends, sends_from, sends_on, arrives, arrives_over, forgets, replaces_over, turns_at, turned_circuit, heard, happens}
 use Rattle.isis_hello.specs.History.{circuits_after, is_pair}
-use Rattle.isis_hello.proofs.StepLemmas.{EndThere, link_there}
+use Rattle.isis_hello.proofs.StepLemmas.{link_there}
 use Rattle.isis_hello.proofs.LinkLaws.{only_link, within_list}
 use Rattle.isis_hello.proofs.MoveLaws.{fresh_down, turned_at, turned_other, with_at, Replaced}
 use Rattle.isis_hello.proofs.QueueLaws.{domain_after, left, pair_is}

@@ -1,13 +1,12 @@
 -- Frames of PDUs are read again.
-use Rattle.std.proofs.Common.{◌≡◌, ℕ, ◌+◌, ◌≤◌, Bool, true, false, List, [], ◌∷◌, ◌++◌, length, get_or, drop, Result, Ok, Err, refl, sym, ap, ◌∙◌, arith}
-use Rattle.std.proofs.lemmas.List.{take_all, drop_at, drop-drop, length-append, append-nil}
+use Rattle.std.proofs.Common.{◌≡◌, ℕ, ◌+◌, ◌≤◌, true, false, List, [], ◌∷◌, ◌++◌, length, get_or, Ok, refl, sym, ap, ◌∙◌, arith}
+use Rattle.std.proofs.lemmas.List.{take_all, length-append, append-nil}
 use Rattle.byteorder.specs.Endian.{big_bytes}
 use Rattle.wire_base.specs.declared.addresses.Mac.{Mac}
 use Rattle.wire_base.specs.declared.conf.End.{End}
 use Rattle.wire_base.specs.declared.conf.Level.{Level}
-use Rattle.wire_base.specs.declared.faults.PduFault.{PduFault}
 use Rattle.wire_base.specs.model.Control.{Control}
-use Rattle.wire_base.specs.model.Ethernet.{IsisPdu, ethernet, frame_at}
+use Rattle.wire_base.specs.model.Ethernet.{IsisPdu, frame_at}
 use Rattle.wire_base.specs.model.Flooding.{on_pdu}
 use Rattle.wire_base.specs.model.Item.{ControlItem, all_routers, isis_frame, frame_of}
 use Rattle.wire_base.specs.model.OnFrame.{framed, pdu_taken, on_frame}

@@ -1,19 +1,18 @@
 -- The entry of a router's own LSP can be sent, and so can a dead one.
-use Rattle.std.proofs.Common.{◌≡◌, ℕ, ◌+◌, ◌^◌, ◌<◌, ◌≤◌, Bool, true, false, cond, List, [], length, refl, sym, ap, subst, ◌∙◌, arith}
+use Rattle.std.proofs.Common.{◌≡◌, ℕ, ◌+◌, ◌^◌, ◌<◌, Bool, true, false, cond, List, [], refl, sym, subst, arith}
 use Rattle.wire_base.specs.declared.conf.Level.{Level}
 use Rattle.wire_base.specs.declared.conf.Level.TheVariants.{One, Two}
 use Rattle.wire_base.specs.declared.conf.RouterConf.{RouterConf}
 use Rattle.wire_base.specs.declared.entry.Entry.{Entry}
 use Rattle.wire_base.specs.model.Checksum.{IsRight}
 use Rattle.wire_base.specs.model.Configuration.{IsSound}
-use Rattle.wire_base.specs.model.Control.{fragment_0}
-use Rattle.wire_base.specs.model.OwnLsp.{own_tlvs, own_content, own_flags, own_head, level_bits}
-use Rattle.wire_base.specs.model.Pdu.{Head, HeadFits, LspFits, AreTlvs, lsp_covered, lsp_sum}
+use Rattle.wire_base.specs.model.OwnLsp.{own_tlvs, own_content, own_head, level_bits}
+use Rattle.wire_base.specs.model.Pdu.{AreTlvs, lsp_covered, lsp_sum}
 use Rattle.wire_base.specs.model.Tlv.{LspIdFits}
 use Rattle.laws_format.proofs.PduLaws.{lsp_sum_right, lsp_sum_fits}
 use Rattle.laws_format.proofs.TlvListLaws.{are_spelled}
 use Rattle.lsp_origin.proofs.ContentLaws.{content_short}
-use Rattle.laws_item.specs.Fits.{EntryFits, IsOwn, head_of}
+use Rattle.laws_item.specs.Fits.{EntryFits, IsOwn}
 
 flags_small : (level : Level) (overload : Bool) → level_bits level + cond overload 4 0 < 256
 flags_small One true = omega arith

@@ -1,9 +1,9 @@
 -- Events that inject a payload in a quiet domain and receive its copies deliver it once for each BFR-id that it reaches, and drop none.
-use Rattle.std.proofs.Common.{◌≡◌, ℕ, ◌+◌, ◌<◌, ◌≤◌, ◌==◌, ◌&&◌, Bool, true, false, if◌then◌else◌, List, [], ◌∷◌, length, slice_get, sum_by, Option, Some, None, refl, ap, ◌∙◌, arith}
+use Rattle.std.proofs.Common.{◌≡◌, ℕ, ◌+◌, ◌<◌, ◌≤◌, ◌==◌, Bool, true, false, if◌then◌else◌, List, [], ◌∷◌, length, slice_get, sum_by, Option, Some, None, refl, ap, ◌∙◌, arith}
 use mathlib.Core.Bool.{false≢true}
 use Rattle.std.proofs.lemmas.Bool.{eqb-true, ne_eqb}
 use Rattle.wire_base.specs.model.Control.{Control}
-use Rattle.wire_base.specs.model.Hop.{has, one_if}
+use Rattle.wire_base.specs.model.Hop.{one_if}
 use Rattle.wire_base.specs.model.Item.{Item, ControlItem, PacketItem}
 use Rattle.wire_base.specs.model.View.{control_view}
 use Rattle.replay_text.specs.declared.event.Event.{Event}

@@ -1,5 +1,5 @@
 -- The recursion on the number of edges gives the least lengths of walks.
-use Rattle.std.proofs.Common.{IfSome, slice_get, ◌≡◌, ℕ, zero, suc, ◌+◌, ◌*◌, ◌^◌, ◌<◌, ◌≤◌, Bool, true, false, List, [], ◌∷◌, length, Option, Some, None, min, refl, ap, arith, sym, ◌∙◌, ◌==◌, ◌||◌, not, ◌⊎◌, inl, inr, Contains, All, option_map, if◌then◌else◌, subst}
+use Rattle.std.proofs.Common.{slice_get, ◌≡◌, ℕ, zero, suc, ◌+◌, ◌*◌, ◌^◌, ◌<◌, ◌≤◌, Bool, true, false, List, [], ◌∷◌, length, Option, Some, None, min, refl, ap, arith, sym, ◌∙◌, ◌==◌, ◌||◌, not, ◌⊎◌, inl, inr, Contains, All, option_map, if◌then◌else◌, subst}
 use Rattle.std.proofs.lemmas.Option.{same_Some, slice_get_within, get_or_from_slice_get}
 use Rattle.std.proofs.lemmas.List.Elements.{All-contains}
 use Rattle.std.proofs.lemmas.Bool.{eq-eqb, cases_lt}
@@ -179,13 +179,3 @@ cost-small g h u d [] l = omega arith
 cost-small g h u d (e ∷ es) l =
     let good = All-contains (IsEdge (length g)) (edges_of g u) e (edges-good g h u) l.0 in
     omega (arith, good.small, cost-small g h e.to d es l.2)
-
--- a length fits
-pub best-small : (g : List ViewNode) → IsGraph g → (d k u : ℕ) → k ≤ 65535 → IfSome (best g d k u) (λ n. n ≤ 2 ^ 48)
-best-small g h d k u few = from (best g d k u) refl
-  where
-    from : (o : Option ℕ) → best g d k u ≡ o → IfSome o (λ n. n ≤ 2 ^ 48)
-    from None q = tt
-    from (Some n) q =
-        let r = best-route g d k u n q in
-        omega (arith, r.within, r.sum, cost-small g h u d r.edges r.leads)

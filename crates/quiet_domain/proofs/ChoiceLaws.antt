@@ -1,5 +1,5 @@
 -- The router of a row that a class selects is the choice.
-use Rattle.std.proofs.Common.{◌≡◌, ℕ, zero, suc, ◌+◌, ◌*◌, ◌<◌, ◌%◌, ◌==◌, ◌&&◌, ◌||◌, inl, inr, true, false, if◌then◌else◌, List, [], ◌∷◌, length, get_or, map, slice_get, Option, Some, None, option_map, option_and_then, unwrap_or, refl, ap, subst, ◌∙◌, arith}
+use Rattle.std.proofs.Common.{◌≡◌, ℕ, zero, suc, ◌+◌, ◌<◌, ◌%◌, inl, inr, true, false, if◌then◌else◌, List, [], ◌∷◌, length, get_or, map, slice_get, Option, Some, None, option_map, option_and_then, unwrap_or, refl, ap, subst, ◌∙◌, arith}
 use Rattle.std.specs.Prelude.{AllPairs, Contains}
 use Rattle.std.specs.List.{filter_map}
 use Rattle.std.proofs.lemmas.List.{get_or_default, length-map}
@@ -19,8 +19,6 @@ use Rattle.laws_route.proofs.ChoiceLemmas.{candidate-within, candidates-are}
 use Rattle.laws_route.proofs.GraphLemmas.{before-differs}
 use Rattle.laws_route.proofs.TightLemmas.{Contains-cons}
 use Rattle.quiet_domain.specs.Way.{node_of}
-
--- ---- positions
 
 -- ---- the node of a system
 

@@ -4,7 +4,7 @@ use Rattle.std.specs.Prelude.{◌⊎◌, IfSome}
 use Rattle.wire_base.specs.declared.outside.Source as source
 use Rattle.wire_base.specs.declared.outside.Sink as sink
 use Rattle.wire_base.specs.declared.status.Status.{Status}
-use Rattle.wire_base.specs.declared.status.Status.TheVariants.{Done, Usage, ConfRefused, InputRefused, CaptureRefused, ReadFault, WriteFault, Memory}
+use Rattle.wire_base.specs.declared.status.Status.TheVariants.{ReadFault, WriteFault, Memory}
 use Rattle.command_drive.specs.Answer.{IsDecided}
 use Rattle.replay_run.specs.Faults.{SinkIsQuiet, NoneRose, CountsFaults}
 

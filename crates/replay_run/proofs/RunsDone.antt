@@ -5,7 +5,7 @@ use Rattle.std.specs.Io.KnownBytes.{Consumes, Appends}
 use Rattle.wire_base.specs.declared.outside.Source as source
 use Rattle.wire_base.specs.declared.outside.Sink as sink
 use Rattle.wire_base.specs.declared.status.Status.{Status}
-use Rattle.wire_base.specs.declared.status.Status.TheVariants.{Done, Usage, ConfRefused, InputRefused, CaptureRefused, ReadFault, WriteFault, Memory}
+use Rattle.wire_base.specs.declared.status.Status.TheVariants.{Done, ConfRefused, InputRefused, ReadFault}
 use Rattle.wire_base.specs.model.Configuration.{DomainConf, IsValid}
 use Rattle.domain_model.specs.Run.{Run}
 use Rattle.domain_conf.specs.Domain.{domain_of}

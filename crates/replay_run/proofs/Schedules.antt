@@ -1,5 +1,5 @@
 -- What the commands that execute a schedule come to is what they are said to come to.
-use Rattle.std.proofs.Common.{◌≡◌, ◌∙◌, ℕ, List, ◌++◌, [], ◌∷◌, Ok, length, refl, sym, ap}
+use Rattle.std.proofs.Common.{◌≡◌, ◌∙◌, ℕ, List, ◌++◌, [], ◌∷◌, Ok, refl, sym, ap}
 use Rattle.wire_base.specs.declared.bsl.Bsl.{Bsl}
 use Rattle.wire_base.specs.model.Configuration.{DomainConf, IsValid}
 use Rattle.replay_report.specs.declared.recording.Recording.{Recording}
@@ -8,8 +8,6 @@ use Rattle.replay_text.specs.Check.{check_line}
 use Rattle.replay_text.specs.Schedule.{schedule_line}
 use Rattle.replay_text.specs.declared.event.Line.TheVariants.{Settle}
 use Rattle.domain_replay.specs.Texts.{names_of, schedule_reaches}
-use Rattle.command_drive.specs.Answer.{Verdict}
-use Rattle.command_drive.specs.Driving.{Meaning}
 use Rattle.command_drive.specs.Reading.{End, Ends, Fails}
 use Rattle.command_replay.specs.Course.{plays_mean, reach_of}
 use Rattle.command_replay.specs.ScheduleText.{schedule_means, schedule_answer, schedule_cut}

@@ -4,7 +4,6 @@ use Rattle.std.proofs.lemmas.Bool.{false≢true}
 use Rattle.std.proofs.lemmas.List.{length-map}
 use Rattle.wire_base.specs.declared.limits.TheConstants.{MOST_LISTED}
 use Rattle.wire_base.specs.declared.addresses.LspId.{LspId}
-use Rattle.wire_base.specs.declared.entry.Entry.{Entry}
 use Rattle.wire_base.specs.declared.triple.Summary.{Summary}
 use Rattle.wire_base.specs.model.Control.{Control, srm, ssn, summary_of}
 use Rattle.wire_base.specs.model.Flooding.{send_of, csnps, due_csnps, due_lsps, due_psnps, is_known, lsp_of, psnp_of, zero_id, id_after, last_listed}

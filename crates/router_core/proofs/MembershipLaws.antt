@@ -1,15 +1,14 @@
 -- Searches in the lists of a configuration, one list after the other.
-use Rattle.std.proofs.Common.{◌≡◌, ◌∙◌, ℕ, zero, suc, ◌+◌, ◌-◌, ◌<◌, ◌==◌, ◌||◌, Bool, true, false, List, [], ◌∷◌, ◌++◌, length, map, set, slice_index_or, take, drop, Option, Some, None, is_some, if◌then◌else◌, refl, sym, ap, arith}
+use Rattle.std.proofs.Common.{◌≡◌, ◌∙◌, ℕ, zero, suc, ◌+◌, ◌-◌, ◌<◌, ◌==◌, ◌||◌, Bool, true, false, List, [], ◌∷◌, ◌++◌, length, set, slice_index_or, take, drop, Option, Some, is_some, if◌then◌else◌, refl, sym, ap, arith}
 use Rattle.std.proofs.lemmas.Bool.{false≢true, true≢false}
 use Rattle.std.proofs.lemmas.List.Folds.{list_any-append}
-use Rattle.std.specs.List.{find, flat_map, list_any, range_with_len}
+use Rattle.std.specs.List.{find, list_any, range_with_len}
 use Rattle.wire_base.specs.declared.bsl.Bsl.{Bsl}
 use Rattle.wire_base.specs.declared.conf.LabelRange.{LabelRange}
 use Rattle.wire_base.specs.declared.conf.OwnSub.{OwnSub}
 use Rattle.wire_base.specs.declared.conf.PastRange.{PastRange}
-use Rattle.wire_base.specs.declared.conf.RouterConf.{RouterConf}
 use Rattle.wire_base.specs.model.Membership.{is_used, moved, ranges_moved, subs_moved}
-use Rattle.wire_base.specs.model.Place.{code_of, is_label_of, known_ranges, known_subs, placed, ranges_of, sub_in}
+use Rattle.wire_base.specs.model.Place.{code_of, is_label_of, placed, ranges_of, sub_in}
 
 first_by : (b : Bool) (s : OwnSub) (o p : Option OwnSub) → (is_some o ≡ true → o ≡ p) → is_some (if b then Some s else o) ≡ true → (if b then Some s else o) ≡ (if b then Some s else p)
 first_by true s o p more h = refl

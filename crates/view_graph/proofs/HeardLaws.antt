@@ -19,7 +19,7 @@ use Rattle.wire_base.specs.model.Control.{same_id, same_system, id_order, is_bel
 use Rattle.wire_base.specs.model.View.{Claim, claim_of, is_other, with_known}
 use Rattle.lsp_store.specs.Places.{place_in as id_place}
 use Rattle.lsp_store.proofs.OrderLaws.{id_total, below_trans, below_differs, above_differs as above_differs_id, same_turned as same_turned_id}
-use Rattle.view_graph.specs.Keep.{Keep, IsUnchanged, heard, said_by, said_in, is_first_of, is_named}
+use Rattle.view_graph.specs.Keep.{heard, said_by, said_in, is_first_of, is_named}
 use Rattle.view_graph.proofs.FragmentLaws.{same_is, claim_at}
 use Rattle.laws_format.proofs.InfoLaws.{all_weaker}
 
@@ -155,23 +155,3 @@ said_among kinds all (e ∷ es) own s apart = by (same_system e.id.system s) ref
 pub said_heard : (kinds : List SubKind) (es : List Entry) (own s : SystemId) → same_system s own ≡ false → said_by (heard own kinds es) s ≡ said_in kinds es s
 unfolding heard said_in
 said_heard kinds es own s apart = said_among kinds es es own s apart
-
--- ---- entries of named systems alone
-
-pub named_more : (systems : List SystemId) (es : List Entry) (i : ℕ) (e : Entry) (s : SystemId) → i < length es → e ≡ get_or es i e → filter (is_first_of s) (take i es) ≡ [] → is_named systems s ≡ false → is_named systems e.id.system ≡ true → filter (is_first_of s) (take (i + 1) es) ≡ []
-named_more systems es i e s lt at none away named = none_more (is_first_of s) es i e none lt at (by (same_system e.id.system s) refl)
-  where
-    by : (b : Bool) → same_system e.id.system s ≡ b → is_first_of s e ≡ false
-    by true h = absurd (true≢false (sym named ∙ ap (is_named systems) (same_is e.id.system s h) ∙ away))
-    by false h = rw h refl
-
--- of a system that isn't named they say nothing
-pub unnamed_said : (kinds : List SubKind) (es : List Entry) (own s : SystemId) → same_system s own ≡ false → filter (is_first_of s) es ≡ [] → said_by (heard own kinds es) s ≡ None
-unfolding said_in
-unnamed_said kinds es own s apart none = said_heard kinds es own s apart ∙ ap (λ (l : List Entry). slice_get (map (with_known kinds) (map (claim_of es) l)) 0) none
-
-pub all_named : (k : Keep) (own : SystemId) (kinds : List SubKind) (before after : List Entry) (changed : List SystemId) → k.system ≡ own → k.kinds ≡ kinds → k.others ≡ heard own kinds before
-    → ((s : SystemId) → is_named changed s ≡ false → filter (is_first_of s) before ≡ []) → ((s : SystemId) → is_named changed s ≡ false → filter (is_first_of s) after ≡ []) → IsUnchanged k changed after
-all_named k own kinds before after changed system_is kinds_are others old new s apart away =
-    let other : same_system s own ≡ false = ap (same_system s) (sym system_is) ∙ apart in
-    ap (λ (cs : List Claim). said_by cs s) others ∙ unnamed_said kinds before own s other (old s away) ∙ sym (unnamed_said k.kinds after k.system s apart (new s away))

@@ -1,4 +1,4 @@
-use Rattle.std.proofs.Common.{◌≡◌, ◌++◌, ◌∙◌, ap, List, ℕ}
+use Rattle.std.proofs.Common.{◌++◌, ◌∙◌, ap, List, ℕ}
 use Rattle.std.specs.Fmt.{decimal}
 use Rattle.wire_base.specs.model.BitSet.{set_of}
 use Rattle.wire_base.specs.model.Place.{bits_of}

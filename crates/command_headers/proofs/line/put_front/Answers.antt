@@ -1,4 +1,4 @@
-use Rattle.std.proofs.Common.{◌≤◌, ◌+◌, length, ap, List, ℕ, arith}
+use Rattle.std.proofs.Common.{length, ap, List, ℕ, arith}
 use Rattle.replay_text.proofs.Digits.{length_many}
 use Rattle.command_headers.proofs.line.put_front.Goals as goal
 

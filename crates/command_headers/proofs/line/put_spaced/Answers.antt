@@ -1,4 +1,4 @@
-use Rattle.std.proofs.Common.{◌≤◌, ◌+◌, length, arith}
+use Rattle.std.proofs.Common.{arith}
 use Rattle.replay_text.proofs.Digits.{length_word}
 use Rattle.command_headers.proofs.line.put_spaced.Goals as goal
 

@@ -1,4 +1,4 @@
-use Rattle.std.proofs.Common.{◌≡◌, ◌++◌, ◌∷◌, List, ℕ, sym, ap, ◌∙◌}
+use Rattle.std.proofs.Common.{◌≡◌, ◌++◌, ◌∷◌, List, sym, ap, ◌∙◌}
 use Rattle.wire_base.specs.model.Hop as model
 use Rattle.bier_hop.specs.Outcomes.{IsNumbering, left, out_of, outcome}
 use Rattle.command_hop.specs.Forward.{outcome_text}

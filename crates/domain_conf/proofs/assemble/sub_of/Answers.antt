@@ -1,4 +1,4 @@
-use Rattle.std.proofs.Common.{◌≡◌, ◌==◌, List, map, filter, ap, ◌∙◌}
+use Rattle.std.proofs.Common.{◌==◌, List, map, filter, ap, ◌∙◌}
 use Rattle.wire_base.specs.declared.conf.LabelRange.{LabelRange}
 use Rattle.wire_base.specs.declared.conf.OwnSub.{OwnSub}
 use Rattle.domain_conf.specs.declared.labels.LabelsEntry.{LabelsEntry}

@@ -1,4 +1,4 @@
-use Rattle.std.proofs.Common.{◌≡◌, ap, sym, ◌∙◌, Some, List, ℕ}
+use Rattle.std.proofs.Common.{ap, sym, ◌∙◌, Some}
 use Rattle.domain_conf.proofs.KeyLemmas.{unknown_first, unknown_next, unknown_none}
 use Rattle.domain_conf.specs.Fields as fields
 use Rattle.domain_conf.proofs.entry.unknown_in.Goals as goal

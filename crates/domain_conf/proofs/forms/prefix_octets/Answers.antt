@@ -1,4 +1,4 @@
-use Rattle.std.proofs.Common.{◌≡◌, ◌∙◌, ap, ◌∷◌, List, ℕ}
+use Rattle.std.proofs.Common.{◌∙◌, ap, ◌∷◌, List, ℕ}
 use Rattle.domain_conf.proofs.Cutting.{cut_goes, more_than_four}
 use Rattle.domain_conf.proofs.forms.prefix_octets.Goals as goal
 

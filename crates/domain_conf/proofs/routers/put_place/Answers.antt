@@ -1,4 +1,4 @@
-use Rattle.std.proofs.Common.{List, ℕ, ◌≡◌, ap, ◌∙◌, cond, Some, Option}
+use Rattle.std.proofs.Common.{List, ℕ, ap, ◌∙◌, cond, Some}
 use Rattle.std.specs.Str.{bytes_eq}
 use Rattle.domain_conf.specs.RouterIndex.{found_at}
 use Rattle.domain_conf.proofs.IndexLemmas.{found_at-put}

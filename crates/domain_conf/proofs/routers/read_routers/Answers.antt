@@ -1,4 +1,4 @@
-use Rattle.std.proofs.Common.{◌≡◌, ◌+◌, ◌<◌, length, ap, ◌∙◌, arith, length-append, ◌∷◌, []}
+use Rattle.std.proofs.Common.{◌+◌, length, ap, ◌∙◌, length-append, ◌∷◌, []}
 use Rattle.std.proofs.lemmas.Result.{err_from_is_err_and}
 use Rattle.domain_conf.specs.Routers.{router_at}
 use Rattle.domain_conf.proofs.EntryLemmas.{turn_fails, turn_goes, turns_end}

@@ -1,4 +1,4 @@
-use Rattle.std.proofs.Common.{◌≡◌, ◌++◌, take, flat_map}
+use Rattle.std.proofs.Common.{◌≡◌, ◌++◌, take}
 use Rattle.domain_handshake.specs.Lines.{changes_text}
 use Rattle.domain_handshake.proofs.changes.push_changes.Given as goal
 

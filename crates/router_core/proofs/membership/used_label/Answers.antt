@@ -1,4 +1,4 @@
-use Rattle.std.proofs.Common.{◌∙◌, ◌+◌, sym, ap, arith}
+use Rattle.std.proofs.Common.{◌∙◌, ◌+◌, sym}
 use Rattle.wire_base.specs.model.Membership.{is_used}
 use Rattle.wire_base.specs.model.Place.{known_ranges}
 use Rattle.router_core.proofs.MembershipLaws.{found_later}

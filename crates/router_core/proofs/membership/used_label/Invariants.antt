@@ -1,4 +1,4 @@
-use Rattle.std.proofs.Common.{◌≡◌, ◌+◌, ◌-◌}
+use Rattle.std.proofs.Common.{◌≡◌, ◌-◌}
 use Rattle.std.specs.List.{find, range_with_len}
 use Rattle.wire_base.specs.model.Membership.{is_used, used_label}
 use Rattle.wire_base.specs.model.Place.{known_ranges}

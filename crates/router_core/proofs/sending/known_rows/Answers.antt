@@ -1,4 +1,4 @@
-use Rattle.std.proofs.Common.{Vec, Global, List, ◌++◌, ◌∷◌, [], sym, ap, ◌∙◌}
+use Rattle.std.proofs.Common.{Vec, Global, ◌++◌, ◌∷◌, [], sym, ap, ◌∙◌}
 use Rattle.wire_base.specs.declared.triple.Summary.{Summary}
 use Rattle.wire_base.specs.model.Control.{summary_of}
 use Rattle.wire_base.specs.model.Flooding.{is_known}

@@ -1,4 +1,4 @@
-use Rattle.std.proofs.Common.{ℕ, List, ◌++◌, refl, ap, ◌∙◌}
+use Rattle.std.proofs.Common.{ℕ, ◌++◌, refl, ap, ◌∙◌}
 use Rattle.domain_model.specs.declared.fault.EventFault.TheVariants.{Edge}
 use Rattle.domain_replay.specs.Lines.{event_refused_text}
 use Rattle.command_check.proofs.Beginning.{uncovered_begins}

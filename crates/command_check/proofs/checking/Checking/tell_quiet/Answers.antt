@@ -1,4 +1,4 @@
-use Rattle.std.proofs.Common.{ℕ, List, ◌++◌, refl, ap₂, ◌∙◌}
+use Rattle.std.proofs.Common.{List, ◌++◌, refl, ap₂, ◌∙◌}
 use Rattle.wire_base.specs.declared.conf.RouterConf.{RouterConf}
 use Rattle.quiet_domain.specs.declared.answer.Quiet.{Quiet}
 use Rattle.domain_core.specs.Quiet.{quiet_of}

@@ -1,4 +1,4 @@
-use Rattle.std.proofs.Common.{◌≡◌, ◌+◌, Bool, List, Some, None, refl, ap, subst, ℕ}
+use Rattle.std.proofs.Common.{◌+◌, Bool, List, refl, ap, subst, ℕ}
 use Rattle.wire_base.specs.declared.status.Status.{Status}
 use Rattle.command_topo.specs.Frames.{HasAdded, after_record}
 use Rattle.command_topo.proofs.Steps.{concludes_full, told_record}
