@@ -1,15 +1,22 @@
 -- Effects one after the other.
 use Rattle.std.proofs.Common.{◌≡◌, ℕ, Option, List, [], ◌∷◌, ◌++◌, map, append-nil, append_assoc, refl, sym, ap, ◌∙◌}
+use Rattle.wire_base.specs.declared.effects.Got.{Got}
 use Rattle.wire_base.specs.declared.effects.Sent.{Sent}
 use Rattle.wire_base.specs.declared.view.First.{First}
 use Rattle.wire_base.specs.model.Hop.{Outcome, hop}
-use Rattle.wire_base.specs.model.OnFrame.{Effects, joined, one_sent}
+use Rattle.wire_base.specs.model.OnFrame.{Drop, Effects, joined, nothing, one_drop, one_sent}
 use Rattle.bier_hop.specs.Outcomes.{HopState, left}
 use Rattle.bier_forward.specs.Hops.{after}
 
 -- one more of a kind
 pub sends : (e : Effects) (s : Sent) → record e { sent = e.sent ++ s ∷ [] } ≡ after e (one_sent s.link s.octets)
 sends e s = rw (append-nil e.got, append-nil e.drops) refl
+
+pub delivers : (e : Effects) (g : Got) → record e { got = e.got ++ g ∷ [] } ≡ after e (record nothing { got = g ∷ [] })
+delivers e g = rw (append-nil e.sent, append-nil e.drops) refl
+
+pub notes : (e : Effects) (d : Drop) → record e { drops = e.drops ++ d ∷ [] } ≡ after e (one_drop d.cause d.set)
+notes e d = rw (append-nil e.sent, append-nil e.got) refl
 
 -- the first of several, and then the others
 pub after-first : (e x : Effects) (es : List Effects) → after (after e x) (joined es) ≡ after e (joined (x ∷ es))

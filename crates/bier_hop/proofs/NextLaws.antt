@@ -18,7 +18,7 @@ use Rattle.bier_hop.specs.declared.out.Out.{Out}
 use Rattle.bier_hop.specs.declared.out.Out.TheVariants.{Local, Copy, Dropped}
 use Rattle.bier_hop.specs.declared.out.Why.{Why}
 use Rattle.bier_hop.specs.declared.out.Why.TheVariants.{NoRow, Ttl}
-use Rattle.bier_hop.specs.Outcomes.{HopState, IsOwn, IsNumbering, number_in, choose_in, out_of, own_in, drop_of, left_after, IsCopy, IsNext}
+use Rattle.bier_hop.specs.Outcomes.{HopState, IsOwn, IsNumbering, number_in, choose_in, out_of, own_in, drop_of, left_after, positions_of, IsCopy, IsNext}
 use Rattle.bier_hop.proofs.CopyLaws.{filter-same, filter-filter, filter-none, filter-every, filter_map-none, filter_map-first, copies-first}
 
 -- ---- hops over any choice
@@ -371,6 +371,10 @@ drop-some {w} (p ∷ ps) set why e same =
     let some : List ℕ → Option (Out w) = λ l. Some (Dropped l why) in
     ap some same
 
+pub drop-first : {w : ℕ} (set : List ℕ) (why : Why) (p : ℕ) → first_member set ≡ Some p → drop_of {w = w} set why ≡ Some (Dropped set why)
+drop-first [] why p first = cc
+drop-first (q ∷ qs) why p first = refl
+
 -- ---- what each outcome leaves
 
 -- all that is left goes
@@ -381,6 +385,18 @@ all-left (p ∷ ps) set why None none e = cc
 all-left {w} (p ∷ ps) set why (Some out) none e = none ∙ sym (difference-itself (p ∷ ps)) ∙ ap (left_after {w = w} (p ∷ ps)) (sym e)
 
 -- ---- what isn't looked at
+
+-- no position that has a row comes back
+pub apart-after : {w : ℕ} (low : ℕ) (rest routed left : List ℕ) (result : Option (Out w)) → left ≡ left_after rest result → AreApartBelow low rest routed → AreApartBelow low left routed
+apart-after low rest routed left None is apart p some lt = ap (λ (l : List ℕ). has_member p (intersection l routed)) is ∙ apart p some lt
+apart-after low rest routed left (Some out) is apart p some lt =
+    ap (λ (l : List ℕ). has_member p (intersection l routed)) is
+    ∙ fewer (has_member p (difference rest (positions_of out))) (has_member p rest) (has_member p routed) _ _ (has-filter p (λ k. has_member k routed) (difference rest (positions_of out)))
+    (has-filter p (λ k. not (has_member k (positions_of out))) rest) (sym (has-filter p (λ k. has_member k routed) rest) ∙ apart p some lt)
+  where
+    fewer : (a b c d e : Bool) → d ≡ (a && c) → a ≡ (b && e) → (b && c) ≡ false → d ≡ false
+    fewer a true c d e is_d is_a none = is_d ∙ ap (λ (k : Bool). a && k) none ∙ and-false a
+    fewer a false c d e is_d is_a none = is_d ∙ ap (λ (k : Bool). k && c) is_a
 
 -- the mask of a router has only positions with a row
 pub apart-mask : (table : List (Option First)) (f : First) (low : ℕ) (rest : List ℕ) → AreApartBelow low rest (routed_of table) → AreApartBelow low rest (mask_of table f)

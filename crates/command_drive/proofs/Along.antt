@@ -1,6 +1,6 @@
 -- An input that is taken and done item by item is done as a whole, whatever the items and whatever is done with them.
 use Rattle.std.proofs.Common.{◌≡◌, ◌≢◌, ℕ, ◌+◌, Bool, List, [], ◌++◌, length, take, Option, Some, None, Result, Ok, Err, refl, sym, ap, ap₂, subst, ◌∙◌, arith, inl, inr, append-nil, append_assoc}
-use Rattle.std.specs.Prelude.{IfErr}
+use Rattle.std.specs.Prelude.{OnErr, IfErr}
 use Rattle.std.specs.Result.{IsErrAnd}
 use Rattle.std.specs.Io.KnownBytes.{Appends, Consumes}
 use Rattle.std.proofs.KnownBytes.{Appends-nil, Appends-trans}
@@ -27,6 +27,10 @@ pub told-told : (a b c d : List ℕ) (v : Verdict) → told a b (told c d v) ≡
 told-told a b c d v =
     ap (λ (l : List ℕ). record { status = v.status; report = l; frames = b ++ (d ++ v.frames) }) (sym (append_assoc a c v.report))
     ∙ ap (λ (l : List ℕ). record { status = v.status; report = (a ++ c) ++ v.report; frames = l }) (sym (append_assoc b d v.frames))
+
+pub err_and : {X E : Type 0} (result : Result X E) (A B : Type 0) → OnErr result A → (A → B) → OnErr result B
+err_and (Ok x) A B holds then = tt
+err_and (Err e) A B holds then = then holds
 
 pub nothing_front : (known : Option (List ℕ)) (text : List ℕ) → AppendsFront known known text
 nothing_front None text = (0, tt)

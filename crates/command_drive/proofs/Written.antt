@@ -1,6 +1,6 @@
 -- A text written piece by piece.
 use Rattle.std.proofs.Common.{◌≡◌, ℕ, ◌+◌, ◌-◌, List, ◌++◌, length, take, drop, Option, Some, None, sym, ap, subst, ◌∙◌, arith}
-use Rattle.std.proofs.lemmas.List.{take-append-drop, take-take, drop-take, take_rest}
+use Rattle.std.proofs.lemmas.List.{take-append-drop, take-append-le, take-take, drop-take, take_rest}
 use Rattle.std.proofs.Math.Seq.{take-length}
 use Rattle.std.proofs.KnownBytes.{Appends-trans}
 use Rattle.std.specs.Io.KnownBytes.{Appends, Keeps}
@@ -29,3 +29,12 @@ whole_front (Some xs) (Some ys) (Some zs) text written kept =
 pub on_err : {X E : Type 0} (result : Result X E) (P : Type 0) → P → OnErr result P
 on_err (Ok x) P holds = tt
 on_err (Err e) P holds = holds
+
+-- a front that was appended
+pub front_appended : (a b : Option (List ℕ)) (front rest text : List ℕ) → Appends a b front → text ≡ front ++ rest → AppendsFront a b text
+front_appended a b front rest text written is =
+    (length front, subst (Appends a b) (sym (ap (take (length front)) is ∙ take-append-le (length front) front rest (omega arith) ∙ take-length front)) written)
+
+-- and all of it
+pub whole_appended : (a b : Option (List ℕ)) (text : List ℕ) → Appends a b text → AppendsFront a b text
+whole_appended a b text written = (length text, subst (Appends a b) (sym (take-length text)) written)

@@ -93,17 +93,18 @@ pub fn stands_at<T: LspIds>(items: &T, place: usize, id: &LspId) -> bool
     false
 }
 
-/// Inserts an element at an index of a list that has room for it, so that it cannot fail.
-pub fn insert_within<T: Drop>(list: &mut Vec<T>, place: usize, item: T)
+/// Inserts an element at an index of a list that has room for it, so that it cannot fail. The elements behind it move by one
+/// `memmove`, since a part of the list is moved within itself by a constant distance; `Vec::insert` moves them one at a time.
+pub fn insert_within<T: Copy>(list: &mut Vec<T>, place: usize, item: T)
     requires place { place ≤ vec_len list.old }
     requires room { vec_len list.old < vec_capacity list.old }
     ensures items { list.new.items ≡ insert list.old.items place item }
     ensures len { vec_len list.new ≡ vec_len list.old + 1 }
     ensures capacity { vec_capacity list.old ≤ vec_capacity list.new }
 {
-    // The condition always holds. From it the compiler knows that the list does not grow and that the index after this one does
-    // not wrap around, so that it moves the elements by one `memmove`, not one at a time.
-    if list.len() < list.capacity() && place < usize::MAX {
-        let _done = list.insert(place, item);
-    }
+    let moved = list.len() - place;
+    let _pushed = list.push(item);
+    let tail = &mut list[place..];
+    tail.copy_within(0..moved, 1);
+    tail[0] = item;
 }
