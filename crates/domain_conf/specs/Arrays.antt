@@ -1,10 +1,10 @@
 -- Arrays of tables, and how their entries are read.
 use Rattle.std.specs.Prelude.{ℕ, ◌+◌, nat_lt, List, [], ◌∷◌, ◌++◌, length, Option, Some, None, option_map, option_and_then, Result, Ok, Err, if◌then◌else◌}
-use Rattle.toml.specs.Data.{Data, table, Items, no_items, item, as_array}
+use Rattle.toml.specs.Data.{Data, table, Items, no_items, item, Members, get_member, as_array}
 use Rattle.wire_base.specs.model.Fields.{◌>>=◌}
 use Rattle.domain_conf.specs.declared.fault.ConfFault.{ConfFault}
 use Rattle.domain_conf.specs.declared.fault.ConfFault.TheVariants as fault
-use Rattle.domain_conf.specs.Reading.{or_fault}
+use Rattle.domain_conf.specs.Reading.{or_fault, refuse_if}
 
 abbrev pub if_table : Data → Option Data
 if_table (table ms) = Some (table ms)

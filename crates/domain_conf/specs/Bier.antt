@@ -1,8 +1,9 @@
 -- The entries of `bier`: which routers are in which sub-domains.
-use Rattle.std.specs.Prelude.{ℕ, Bool, ◌==◌, ◌&&◌, List, [], ◌∷◌, Result, Ok, codes}
+use Rattle.std.specs.Prelude.{ℕ, Bool, ◌==◌, ◌&&◌, List, [], ◌∷◌, Result, Ok, Err, codes}
 use Rattle.std.specs.List.{list_any}
 use Rattle.toml.specs.Data.{Data}
 use Rattle.wire_base.specs.declared.conf.SubKind.{SubKind}
+use Rattle.wire_base.specs.model.Fields.{◌>>=◌}
 use Rattle.domain_conf.specs.declared.fault.ConfFault.{ConfFault}
 use Rattle.domain_conf.specs.declared.fault.ConfFault.TheVariants as fault
 use Rattle.domain_conf.specs.declared.routers.RouterEntry.{RouterEntry}

@@ -1,11 +1,12 @@
 -- The entries of `row`: the BIFT-id table of the sub-domains with non-MPLS encapsulation.
-use Rattle.std.specs.Prelude.{ℕ, not, List, [], ◌∷◌, Result, Ok, codes}
+use Rattle.std.specs.Prelude.{ℕ, not, List, [], ◌∷◌, Result, Ok, Err, codes}
 use Rattle.std.specs.List.{list_any}
 use Rattle.toml.specs.Data.{Data}
 use Rattle.wire_base.specs.declared.limits.TheConstants.{LAST_LABEL}
 use Rattle.wire_base.specs.declared.conf.SubKind.{SubKind}
 use Rattle.wire_base.specs.declared.conf.TableRow.{TableRow}
 use Rattle.wire_base.specs.model.Configuration.{same_row, same_bift}
+use Rattle.wire_base.specs.model.Fields.{◌>>=◌}
 use Rattle.wire_base.specs.model.Place.{kind_of, is_configured}
 use Rattle.domain_conf.specs.declared.fault.ConfFault.{ConfFault}
 use Rattle.domain_conf.specs.declared.fault.ConfFault.TheVariants as fault

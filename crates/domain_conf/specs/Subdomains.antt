@@ -1,10 +1,11 @@
 -- The entries of `subdomain`: the encapsulation of each sub-domain, which determines its BIFT-ids.
-use Rattle.std.specs.Prelude.{ℕ, List, [], ◌∷◌, is_none, Result, Ok, codes}
+use Rattle.std.specs.Prelude.{ℕ, List, [], ◌∷◌, is_none, Option, Result, Ok, Err, codes}
 use Rattle.std.specs.List.{list_any}
 use Rattle.toml.specs.Data.{Data}
 use Rattle.wire_base.specs.declared.conf.Kind.{Kind}
 use Rattle.wire_base.specs.declared.conf.SubKind.{SubKind}
 use Rattle.wire_base.specs.model.Configuration.{same_kind}
+use Rattle.wire_base.specs.model.Fields.{◌>>=◌}
 use Rattle.wire_base.specs.model.Place.{kind_of}
 use Rattle.domain_conf.specs.declared.fault.ConfFault.{ConfFault}
 use Rattle.domain_conf.specs.declared.fault.ConfFault.TheVariants as fault

@@ -1,6 +1,6 @@
 -- Copies of packets are read off their frames again, and a router does on the frame of a copy, and where a payload enters,
 -- what is made of the items.
-use Rattle.std.proofs.Common.{◌≡◌, ℕ, ◌+◌, ◌≤◌, Bool, true, false, if◌then◌else◌, List, [], ◌∷◌, ◌++◌, length, slice_get, Option, Some, None, refl, sym, ap, subst, ◌∙◌, arith}
+use Rattle.std.proofs.Common.{◌≡◌, ℕ, ◌+◌, ◌≤◌, Bool, true, false, if◌then◌else◌, List, [], ◌++◌, length, slice_get, Option, Some, None, refl, sym, ap, subst, ◌∙◌, arith}
 use Rattle.std.specs.Str.{bytes_eq}
 use Rattle.std.proofs.lemmas.List.{length-append}
 use Rattle.byteorder.specs.Endian.{big_bytes}
@@ -20,9 +20,10 @@ use Rattle.wire_base.specs.model.Ingress.{IngressPacket, packets_for, edge_fault
 use Rattle.wire_base.specs.model.Item.{PacketItem, DataItem, Outer, router_with, outer_target, target_of, packet_frame, ingress_header, item_header, item_packet, item_tunnel, frame_of}
 use Rattle.wire_base.specs.model.OnFrame.{Effects, Next, dropped, unchanged, node_place, hop_in, on_packet, in_transit, on_frame}
 use Rattle.wire_base.specs.model.Place.{means}
-use Rattle.wire_base.specs.model.Tunnel.{TunnelPacket, plain_ip, ip_header, ip_checksum, gre, protocol_of, tunnel_head, tunnel}
+use Rattle.wire_base.specs.model.Tunnel.{protocol_of, tunnel}
 use Rattle.wire_base.specs.model.View.{control_view}
 use Rattle.wire_base.proofs.HeaderLaws.{length-header_octets}
+use Rattle.router_core.proofs.SizeLaws.{tunnel_length}
 use Rattle.laws_item.specs.Fits as item_fits
 use Rattle.laws_item.specs.Fits.{ItemFits, copy_taken}
 use Rattle.laws_item.proofs.PacketFrames.{packet_taken, copy_arrives}
@@ -55,26 +56,6 @@ fits_of confs n b x t = record { bift = t.bift; ttl = t.ttl; entropy = t.entropy
 packet_length : (x : DataItem) → length (item_packet x) ≡ header_length x.triple.bsl + length x.payload
 unfolding ingress_header
 packet_length x = omega (arith, length-append (header_octets (item_header x)) x.payload, length-header_octets (item_header x))
-
-tunnel_length : (t : TunnelPacket) → length t.src.0 ≡ 4 → length t.dst.0 ≡ 4 → length (tunnel t) ≡ 24 + length t.carried
-unfolding tunnel_head
-tunnel_length t src dst =
-    let total = 24 + length t.carried in
-    let sum = ip_checksum plain_ip total t.ttl t.src t.dst in
-    let ends = t.src.0 ++ t.dst.0 in
-    let rest = t.ttl ∷ 47 ∷ (big_bytes 2 sum ++ ends) in
-    omega (
-      arith,
-      length-append (tunnel_head t) t.carried,
-      length-append (ip_header plain_ip total t.ttl t.src t.dst sum) (gre t.inner),
-      length-append (big_bytes 2 total) (big_bytes 2 0 ++ (big_bytes 2 16384 ++ rest)),
-      length-append (big_bytes 2 0) (big_bytes 2 16384 ++ rest),
-      length-append (big_bytes 2 16384) rest,
-      length-append (big_bytes 2 sum) ends,
-      length-append t.src.0 t.dst.0,
-      src,
-      dst,
-    )
 
 abbrev carried_octets : DataItem → Option Outer → List ℕ
 carried_octets x None = item_packet x
@@ -134,7 +115,7 @@ module _ (old : DomainConf) (start : IsConsistent old) (confs : List RouterConf)
   carried_short x None k short = let h = header_short x.triple.bsl in omega (arith, packet_length x, h, short)
   carried_short x (Some o) k short =
       let h = header_short x.triple.bsl in
-      omega (arith, tunnel_length (item_tunnel x o) (prefix_long o.src k.src) (prefix_long o.dst k.dst), packet_length x, h, short)
+      omega (arith, tunnel_length (item_tunnel x o), prefix_long o.src k.src, prefix_long o.dst k.dst, packet_length x, h, short)
 
   pub copy_short : (n b a : ℕ) (r : RouterConf) (link : ℕ) (e : End) (x : DataItem) → slice_get old.routers a ≡ Some r → slice_get r.ends link ≡ Some e → IsTrueCopy confs n b x → length (frame_over old.routers a link (PacketItem x)) ≤ MOST_FRAME
   unfolding frame_of

@@ -1,5 +1,5 @@
 -- What is done with frames in flight is done with their items.
-use Rattle.std.proofs.Common.{◌≡◌, inl, inr, ℕ, zero, suc, List, [], ◌∷◌, ◌++◌, ◌≤◌, length, map, take, drop, sum_by, slice_get, slice_set, slice_index_or, Option, Some, None, option_map, refl, sym, ap, subst, ◌∙◌, arith}
+use Rattle.std.proofs.Common.{◌≡◌, ℕ, zero, suc, List, [], ◌∷◌, ◌++◌, ◌≤◌, length, map, take, drop, sum_by, slice_get, slice_set, slice_index_or, Option, Some, None, option_map, refl, sym, ap, ◌∙◌, arith}
 use Rattle.std.specs.List.{AllByRecursion, remove}
 use Rattle.std.proofs.Math.ListN.{get_or-map}
 use Rattle.std.proofs.lemmas.List.{map-append, map-set, length-map}
@@ -16,7 +16,7 @@ use Rattle.frames_in_flight.proofs.FlightLaws.{none_gone}
 use Rattle.laws_router.specs.State.{RouterState}
 use Rattle.domain_core.specs.Network.{NetworkState, confs_of, confs_in, world_of}
 use Rattle.domain_model.proofs.EachLaws.{each_joined, each_left}
-use Rattle.domain_model.proofs.QueueLaws.{get_mapped, set_read}
+use Rattle.domain_model.proofs.QueueLaws.{get_mapped, queue_set}
 
 -- ---- lists
 
@@ -95,42 +95,11 @@ module _ (confs : List RouterConf) where
 abbrev pub AllFrames : (ℕ → ℕ → Flight → Type 0) → List (List (List Flight)) → Type 0
 AllFrames P flights = (a link : ℕ) → AllByRecursion (P a link) (frames_at flights a link)
 
-frames_set : (P : ℕ → ℕ → Flight → Type 0) (flights : List (List (List Flight))) (a link : ℕ) (queue : List Flight) → AllByRecursion (P a link) queue → AllFrames P flights → AllFrames P (with_frames flights a link queue)
-frames_set P flights a link queue new all b m =
-    elim (set_read flights a b (slice_set (slice_index_or flights a []) link queue) []) [
-      | inl same ↦ subst (λ (row : List (List Flight)). AllByRecursion (P b m) (slice_index_or row m [])) (sym same) (all b m)
-      | inr row ↦
-          elim (set_read (slice_index_or flights a []) link m queue []) [
-            | inl same ↦
-                let old : slice_index_or (slice_index_or (with_frames flights a link queue) b []) m [] ≡ frames_at flights b m =
-                ap (λ (r : List (List Flight)). slice_index_or r m []) row.1 ∙ same ∙ ap (λ (n : ℕ). frames_at flights n m) row.0 in
-                subst (AllByRecursion (P b m)) (sym old) (all b m)
-            | inr at ↦
-                let put : slice_index_or (slice_index_or (with_frames flights a link queue) b []) m [] ≡ queue = ap (λ (r : List (List Flight)). slice_index_or r m []) row.1 ∙ at.1 in
-                let here : AllByRecursion (P b m) queue = subst (λ (n : ℕ). AllByRecursion (P n m) queue) row.0 (subst (λ (n : ℕ). AllByRecursion (P a n) queue) at.0 new) in
-                subst (AllByRecursion (P b m)) (sym put) here
-          ]
-    ]
-
 pub frames_pushed : (P : ℕ → ℕ → Flight → Type 0) (flights : List (List (List Flight))) (a link : ℕ) (f : Flight) → P a link f → AllFrames P flights → AllFrames P (push_frame flights a link f)
-frames_pushed P flights a link f h all = frames_set P flights a link (frames_at flights a link ++ f ∷ []) (each_joined (P a link) (frames_at flights a link) (f ∷ []) (all a link) (h, tt)) all
+frames_pushed P flights a link f h all = queue_set P flights a link (frames_at flights a link ++ f ∷ []) (each_joined (P a link) (frames_at flights a link) (f ∷ []) (all a link) (h, tt)) all
 
 pub frames_left : (P : ℕ → ℕ → Flight → Type 0) (flights : List (List (List Flight))) (a link i : ℕ) → AllFrames P flights → AllFrames P (without_frame flights a link i)
-frames_left P flights a link i all = frames_set P flights a link (remove (frames_at flights a link) i) (each_left (P a link) (frames_at flights a link) i (all a link)) all
-
--- nothing is on the way
-pub none_on_the_way : (P : ℕ → ℕ → Flight → Type 0) (confs : List RouterConf) → AllFrames P (no_frames confs)
-none_on_the_way P confs a link = row confs a
-  where
-    queue : (es : List End) (n : ℕ) → AllByRecursion (P a link) (slice_index_or (map (λ (e : End). []) es) n [])
-    queue [] n = tt
-    queue (e ∷ es) zero = tt
-    queue (e ∷ es) (suc n) = queue es n
-
-    row : (rs : List RouterConf) (n : ℕ) → AllByRecursion (P a link) (slice_index_or (slice_index_or (no_frames rs) n []) link [])
-    row [] n = tt
-    row (r ∷ rs) zero = queue r.ends link
-    row (r ∷ rs) (suc n) = row rs n
+frames_left P flights a link i all = queue_set P flights a link (remove (frames_at flights a link) i) (each_left (P a link) (frames_at flights a link) i (all a link)) all
 
 module _ (confs : List RouterConf) where
   none_seen : (ends : List End) → map (queue_seen confs) (map (λ e. []) ends) ≡ map (λ e. []) ends

@@ -11,8 +11,9 @@ use Rattle.frames_in_flight.specs.Flights.{items_seen, no_frames}
 use Rattle.domain_core.specs.Network.{NetworkState, confs_of, world_of, started_router, IsFrameOver, IsTrueNetwork}
 use Rattle.domain_model.specs.Truth.{IsTruthful}
 use Rattle.domain_model.specs.World.{first_world, no_flights}
-use Rattle.domain_core.proofs.SeenLaws.{seen_none, none_on_the_way}
+use Rattle.domain_core.proofs.SeenLaws.{seen_none}
 use Rattle.domain_core.proofs.TransitLaws.{same_frames}
+use Rattle.domain_model.proofs.QueueLaws.{none_queued}
 use Rattle.domain_model.proofs.WorldTruth.{first_true}
 
 started_controls : (confs : List RouterConf) → map (λ r. r.control) (map started_router confs) ≡ map first_control confs
@@ -42,5 +43,5 @@ module _ (d : DomainConf) (confs : List RouterConf) (same : confs ≡ d.routers)
   pub start_kept : IsValid d → (flights : List (List (List Flight))) → flights ≡ no_frames confs → IsTrueNetwork (started d routers flights)
   start_kept valid flights none = record {
     truth = subst IsTruthful (sym (start_world flights none)) (first_true d valid);
-    frames = same_frames d.routers (confs_of routers) flights (no_frames confs) none (none_on_the_way (IsFrameOver d.routers (confs_of routers)) confs);
+    frames = same_frames d.routers (confs_of routers) flights (no_frames confs) none (none_queued (IsFrameOver d.routers (confs_of routers)) confs);
   }

@@ -2,6 +2,8 @@
 use Rattle.std.proofs.Common.{◌≡◌, ◌⊎◌, inl, inr, ℕ, zero, suc, ◌<◌, List, [], ◌∷◌, ◌++◌, length, map, slice_get, slice_set, slice_index_or, length-set, Some, refl, sym, ap, subst, ◌∙◌, arith}
 use Rattle.std.specs.List.{AllByRecursion, remove}
 use Rattle.std.proofs.lemmas.Option.{same_Some}
+use Rattle.wire_base.specs.declared.conf.End.{End}
+use Rattle.wire_base.specs.declared.conf.RouterConf.{RouterConf}
 use Rattle.wire_base.specs.model.Item.{Item}
 use Rattle.domain_model.specs.World.{queue_at, with_queue, push_item, without_item}
 use Rattle.domain_model.proofs.EachLaws.{each_joined, each_left}
@@ -42,25 +44,43 @@ set_read (y ∷ ys) (suc i) (suc j) x d = elim (set_read ys i j x d) [
 
 -- ---- queues
 
-abbrev pub AllQueues : (ℕ → ℕ → Item → Type 0) → List (List (List Item)) → Type 0
-AllQueues P flights = (a link : ℕ) → AllByRecursion (P a link) (queue_at flights a link)
-
-pub queue_set : (P : ℕ → ℕ → Item → Type 0) (flights : List (List (List Item))) (a link : ℕ) (queue : List Item) → AllByRecursion (P a link) queue → AllQueues P flights → AllQueues P (with_queue flights a link queue)
-queue_set P flights a link queue new all b m =
-    elim (set_read flights a b (slice_set (slice_index_or flights a []) link queue) []) [
-      | inl same ↦ subst (λ (row : List (List Item)). AllByRecursion (P b m) (slice_index_or row m [])) (sym same) (all b m)
+-- what holds of each element of all queues, and of those of the new one, holds after one is replaced
+pub queue_set : {X : Type 0} (P : ℕ → ℕ → X → Type 0) (queues : List (List (List X))) (a link : ℕ) (queue : List X) → AllByRecursion (P a link) queue
+    → ((b m : ℕ) → AllByRecursion (P b m) (slice_index_or (slice_index_or queues b []) m []))
+    → (b m : ℕ) → AllByRecursion (P b m) (slice_index_or (slice_index_or (slice_set queues a (slice_set (slice_index_or queues a []) link queue)) b []) m [])
+queue_set {X} P queues a link queue new all b m =
+    elim (set_read queues a b (slice_set (slice_index_or queues a []) link queue) []) [
+      | inl same ↦ subst (λ (row : List (List X)). AllByRecursion (P b m) (slice_index_or row m [])) (sym same) (all b m)
       | inr row ↦
-          elim (set_read (slice_index_or flights a []) link m queue []) [
+          let after : List (List (List X)) = slice_set queues a (slice_set (slice_index_or queues a []) link queue) in
+          elim (set_read (slice_index_or queues a []) link m queue []) [
             | inl same ↦
-                let old : slice_index_or (slice_index_or (with_queue flights a link queue) b []) m [] ≡ queue_at flights b m =
-                ap (λ (r : List (List Item)). slice_index_or r m []) row.1 ∙ same ∙ ap (λ (n : ℕ). queue_at flights n m) row.0 in
+                let old : slice_index_or (slice_index_or after b []) m [] ≡ slice_index_or (slice_index_or queues b []) m [] =
+                ap (λ (r : List (List X)). slice_index_or r m []) row.1 ∙ same ∙ ap (λ (n : ℕ). slice_index_or (slice_index_or queues n []) m []) row.0 in
                 subst (AllByRecursion (P b m)) (sym old) (all b m)
             | inr at ↦
-                let put : slice_index_or (slice_index_or (with_queue flights a link queue) b []) m [] ≡ queue = ap (λ (r : List (List Item)). slice_index_or r m []) row.1 ∙ at.1 in
+                let put : slice_index_or (slice_index_or after b []) m [] ≡ queue = ap (λ (r : List (List X)). slice_index_or r m []) row.1 ∙ at.1 in
                 let here : AllByRecursion (P b m) queue = subst (λ (n : ℕ). AllByRecursion (P n m) queue) row.0 (subst (λ (n : ℕ). AllByRecursion (P a n) queue) at.0 new) in
                 subst (AllByRecursion (P b m)) (sym put) here
           ]
     ]
+
+-- at first all queues are empty
+pub none_queued : {X : Type 0} (P : ℕ → ℕ → X → Type 0) (rs : List RouterConf) (a link : ℕ) → AllByRecursion (P a link) (slice_index_or (slice_index_or (map (λ (r : RouterConf). map (λ (e : End). []) r.ends) rs) a []) link [])
+none_queued {X} P rs a link = row rs a
+  where
+    queue : (es : List End) (n : ℕ) → AllByRecursion (P a link) (slice_index_or (map (λ (e : End). []) es) n [])
+    queue [] n = tt
+    queue (e ∷ es) zero = tt
+    queue (e ∷ es) (suc n) = queue es n
+
+    row : (qs : List RouterConf) (n : ℕ) → AllByRecursion (P a link) (slice_index_or (slice_index_or (map (λ (r : RouterConf). map (λ (e : End). []) r.ends) qs) n []) link [])
+    row [] n = tt
+    row (r ∷ qs) zero = queue r.ends link
+    row (r ∷ qs) (suc n) = row qs n
+
+abbrev pub AllQueues : (ℕ → ℕ → Item → Type 0) → List (List (List Item)) → Type 0
+AllQueues P flights = (a link : ℕ) → AllByRecursion (P a link) (queue_at flights a link)
 
 pub item_pushed : (P : ℕ → ℕ → Item → Type 0) (flights : List (List (List Item))) (a link : ℕ) (x : Item) → P a link x → AllQueues P flights → AllQueues P (push_item flights a link x)
 item_pushed P flights a link x h all = queue_set P flights a link (queue_at flights a link ++ x ∷ []) (each_joined (P a link) (queue_at flights a link) (x ∷ []) (all a link) (h, tt)) all

@@ -1,5 +1,5 @@
 -- Every event that is allowed keeps the truth of a domain, whose routers' configurations may change.
-use Rattle.std.proofs.Common.{◌≡◌, ℕ, zero, suc, ◌+◌, ◌<◌, ◌≤◌, nat_le, Bool, true, false, if◌then◌else◌, List, [], ◌∷◌, ◌++◌, length, map, slice_get, slice_set, slice_index_or, Option, Some, None, is_none, is_some, option_map, refl, sym, ap, subst, ◌∙◌, arith}
+use Rattle.std.proofs.Common.{◌≡◌, ℕ, suc, ◌+◌, ◌<◌, ◌≤◌, nat_le, Bool, true, false, if◌then◌else◌, List, [], ◌∷◌, ◌++◌, length, map, slice_get, slice_set, Option, Some, None, is_none, is_some, option_map, refl, sym, ap, subst, ◌∙◌, arith}
 use mathlib.Core.Bool.{true≢false}
 use Rattle.std.specs.List.{AllByRecursion, remove}
 use Rattle.std.proofs.lemmas.Bool.{leb-false, ltb-false}
@@ -36,7 +36,7 @@ use Rattle.domain_model.specs.Faults.{most_events, most_in_flight, first_fault, 
 use Rattle.domain_model.specs.Step.{Happened, same_world, with_router, push_sending, push_all, makes, replies, turns, taken_off, arrives, comes, takes, takes_over, loses, loses_over, repeats, repeats_over, injects, changes_end, sends, changes, doing, counted, happens}
 use Rattle.domain_model.specs.Truth.{IsAmong, IsTrueControl, IsTruePdu, IsTrueItem, confs_now, IsTruthful, InjectFits, EventFits, IsWorldCause, AreWorldDrops}
 use Rattle.domain_model.proofs.EachLaws.{each_weaker, each_mapped, each_got, each_set, fold_keeps}
-use Rattle.domain_model.proofs.QueueLaws.{got_within, get_mapped, map_set, AllQueues, item_pushed, item_gone, shape_kept}
+use Rattle.domain_model.proofs.QueueLaws.{got_within, get_mapped, map_set, AllQueues, item_pushed, item_gone, shape_kept, none_queued}
 use Rattle.domain_model.proofs.ControlTruth.{IsTrueNext, IsTrueReply, state_of, on_pdu_true, tick_true, end_up_true, end_down_true, restart_true, changed_true, first_state_true, first_conf}
 use Rattle.domain_model.proofs.SendTruth.{send_true}
 use Rattle.domain_model.proofs.DomainLaws.{sound_of, keeps_of, own_earlier}
@@ -552,19 +552,6 @@ first_control_true d valid r a =
 all_among : (confs : List RouterConf) → AllByRecursion (IsAmong confs) confs
 all_among [] = tt
 all_among (r ∷ rs) = (record { place = 0; there = refl }, each_weaker (IsAmong rs) (IsAmong (r ∷ rs)) (λ q a. record { place = suc a.place; there = a.there }) rs (all_among rs))
-
-none_queued : (P : ℕ → ℕ → Item → Type 0) (rs : List RouterConf) → AllQueues P (no_flights rs)
-none_queued P rs a link = row rs a
-  where
-    queue : (es : List End) (n : ℕ) → AllByRecursion (P a link) (slice_index_or (map (λ (e : End). []) es) n [])
-    queue [] n = tt
-    queue (e ∷ es) zero = tt
-    queue (e ∷ es) (suc n) = queue es n
-
-    row : (qs : List RouterConf) (n : ℕ) → AllByRecursion (P a link) (slice_index_or (slice_index_or (no_flights qs) n []) link [])
-    row [] n = tt
-    row (r ∷ qs) zero = queue r.ends link
-    row (r ∷ qs) (suc n) = row qs n
 
 first_queues : (rs : List RouterConf) → map (λ qs. length qs) (no_flights rs) ≡ map (λ r. length r.ends) rs
 first_queues [] = refl

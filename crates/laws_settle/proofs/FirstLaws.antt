@@ -8,8 +8,8 @@ use Rattle.wire_base.specs.model.Flooding.{first_control, new_flood, started}
 use Rattle.wire_base.specs.model.OwnLsp.{own_lsp}
 use Rattle.domain_model.specs.World.{first_world, peer_place}
 use Rattle.domain_model.proofs.EachLaws.{each_from, each_got, each_mapped}
+use Rattle.domain_model.proofs.QueueLaws.{none_queued}
 use Rattle.laws_settle.specs.Fresh.{IsItemWithin, Owes, number_at}
-use Rattle.laws_settle.proofs.JournalFirst.{none_in_flight}
 use Rattle.laws_settle.proofs.OwedSteps.{IsSettling}
 use Rattle.laws_settle.proofs.OwesLaws.{mark_owes, owes_low}
 
@@ -25,7 +25,7 @@ first_owes r id link least = started_owes r (replicate (length r.ends) true) id 
 pub first_settling : (d : DomainConf) → IsSettling (first_world d) (first_world d)
 unfolding first_world
 first_settling d = record {
-  behind = none_in_flight (λ a link. IsItemWithin (number_at (first_world d) a)) d.routers;
+  behind = none_queued (λ a link. IsItemWithin (number_at (first_world d) a)) d.routers;
   owed = λ a link c id at.
       each_got (λ (x : Control). (i : LspId) (k least : ℕ) → Owes x i k least) (map first_control d.routers) a c
       (each_mapped (λ (x : Control). (i : LspId) (k least : ℕ) → Owes x i k least) first_control d.routers (each_from (λ r. (i : LspId) (k least : ℕ) → Owes (first_control r) i k least) first_owes d.routers))

@@ -1,24 +1,22 @@
 -- In a domain that has just started the journal is of the first own LSPs.
-use Rattle.std.proofs.Common.{◌≡◌, ℕ, zero, suc, ◌≤◌, ◌==◌, ◌&&◌, Bool, true, false, if◌then◌else◌, List, [], ◌∷◌, length, map, replicate, slice_get, slice_index_or, Option, Some, None, refl, sym, ap, subst, ◌∙◌, arith}
+use Rattle.std.proofs.Common.{◌≡◌, ℕ, zero, suc, ◌≤◌, ◌==◌, ◌&&◌, Bool, true, false, if◌then◌else◌, List, [], ◌∷◌, length, map, replicate, slice_get, Option, Some, None, refl, sym, ap, subst, ◌∙◌, arith}
 use Rattle.std.specs.List.{AllByRecursion}
 use Rattle.std.proofs.lemmas.Option.{same_Some}
 use Rattle.wire_base.specs.declared.addresses.LspId.{LspId}
-use Rattle.wire_base.specs.declared.conf.End.{End}
 use Rattle.wire_base.specs.declared.conf.RouterConf.{RouterConf}
 use Rattle.wire_base.specs.declared.entry.Entry.{Entry}
 use Rattle.wire_base.specs.model.Configuration.{DomainConf, IsValid}
 use Rattle.wire_base.specs.model.Configuration as configuration
 use Rattle.wire_base.specs.model.Control.{Control, fragment_0, purge, same_id, seq_of}
 use Rattle.wire_base.specs.model.Flooding.{first_control, started}
-use Rattle.wire_base.specs.model.Item.{Item}
 use Rattle.wire_base.specs.model.Lists.{AreApart}
 use Rattle.wire_base.specs.model.OwnLsp.{own_lsp}
-use Rattle.domain_model.specs.World.{first_world, no_flights}
+use Rattle.domain_model.specs.World.{first_world}
 use Rattle.domain_model.proofs.ControlTruth.{first_conf}
 use Rattle.domain_model.proofs.EachLaws.{each_from, each_got, each_mapped}
 use Rattle.domain_model.proofs.FlagLaws.{same_id_self}
 use Rattle.domain_model.proofs.FloodTruth.{own_id, own_seq}
-use Rattle.domain_model.proofs.QueueLaws.{AllQueues}
+use Rattle.domain_model.proofs.QueueLaws.{none_queued}
 use Rattle.laws_quiet.specs.Quiet.{lsdb_of}
 use Rattle.laws_settle.specs.Fresh.{AreOfJournal, IsItemOfJournal, IsOwnNewest, number_in}
 use Rattle.laws_settle.proofs.JournalIssue.{Journal, UpTo, own_lives}
@@ -55,20 +53,6 @@ first_at (q ∷ rs) apart (suc i) r n at =
     let other : configuration.same_system q r ≡ false = each_got (λ (x : RouterConf). configuration.same_system q x ≡ false) rs i r apart.0 at in
     let differs : same_id (fragment_0 q.system) (fragment_0 r.system) ≡ false = ap (λ (b : Bool). b && ((0 == 0) && (0 == 0))) other in
     ap (λ (b : Bool). if b then first_own q n else first_journal rs (fragment_0 r.system) n) differs ∙ first_at rs apart.1 i r n at
-
--- nothing is in flight
-pub none_in_flight : (P : ℕ → ℕ → Item → Type 0) (rs : List RouterConf) → AllQueues P (no_flights rs)
-none_in_flight P rs a link = row rs a
-  where
-    queue : (es : List End) (n : ℕ) → AllByRecursion (P a link) (slice_index_or (map (λ (e : End). []) es) n [])
-    queue [] n = tt
-    queue (e ∷ es) zero = tt
-    queue (e ∷ es) (suc n) = queue es n
-
-    row : (qs : List RouterConf) (n : ℕ) → AllByRecursion (P a link) (slice_index_or (slice_index_or (no_flights qs) n []) link [])
-    row [] n = tt
-    row (r ∷ qs) zero = queue r.ends link
-    row (r ∷ qs) (suc n) = row qs n
 
 module _ (d : DomainConf) (valid : IsValid d) where
   abbrev journal : Journal
@@ -121,7 +105,7 @@ module _ (d : DomainConf) (valid : IsValid d) where
     journal = journal;
     journaled = record {
       entries = each_mapped (λ (c : Control). AreOfJournal journal c.entries) first_control d.routers (each_by_place (λ r. AreOfJournal journal (first_control r).entries) d.routers first_of);
-      items = none_in_flight (λ a link. IsItemOfJournal journal) d.routers;
+      items = none_queued (λ a link. IsItemOfJournal journal) d.routers;
     };
     own = each_mapped (IsOwnNewest (first_world d)) first_control d.routers (each_from (λ r. IsOwnNewest (first_world d) (first_control r)) first_newest d.routers);
   }

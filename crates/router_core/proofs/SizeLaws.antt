@@ -55,7 +55,7 @@ eth_length : (to from octets : List ℕ) (number : ℕ) → length to ≡ 6 → 
 eth_length to from octets number six_to six_from =
     omega (arith, length-append (ethernet to from number) octets, length-append to (from ++ big_bytes 2 number), length-append from (big_bytes 2 number), six_to, six_from)
 
-tunnel_length : (t : TunnelPacket) → length (tunnel t) ≡ 16 + length t.src.0 + length t.dst.0 + length t.carried
+pub tunnel_length : (t : TunnelPacket) → length (tunnel t) ≡ 16 + length t.src.0 + length t.dst.0 + length t.carried
 unfolding tunnel_head
 tunnel_length t =
     let total = 24 + length t.carried in
