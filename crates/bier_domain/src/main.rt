@@ -1,8 +1,8 @@
-//! The program: `host_run` with the arguments, the files and the standard output of the system. Nothing is written to
+//! The program: `replay_run` with the arguments, the files and the standard output of the system. Nothing is written to
 //! standard error.
 #![tactic(auto)]
 
-use host_run::{run_arguments, run_words};
+use replay_run::{run_arguments, run_words};
 use std::alloc::AllocError;
 use std::process::ExitCode;
 use std::{env, io};

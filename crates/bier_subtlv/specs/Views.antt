@@ -1,7 +1,6 @@
 -- The models of this crate's types.
 use Rattle.std.specs.Prelude.{◌≡◌, Result, Ok, Err}
 use Rattle.wire_base.specs.declared.faults.InfoFault.{InfoFault}
-use Rattle.wire_base.specs.declared.conf.OwnSub.{OwnSub}
 use Rattle.wire_base.specs.model.BierInfo.{Parts}
 use Rattle.wire_base.specs.model.BierInfo.{Info as InfoItem}
 use Rattle.bier_subtlv.specs.declared.reader.Info.{Info}
@@ -17,6 +16,3 @@ parts_view p = record { seen = p.seen; ranges = p.ranges.items }
 abbrev pub Becomes : Result (Unit {0}) InfoFault → Parts → Result Parts InfoFault → Type 0
 Becomes (Ok u) new read = read ≡ Ok new
 Becomes (Err e) new read = read ≡ Err e
-
-abbrev pub own_of : OwnSub → InfoItem
-own_of s = record { sd = s.sd; id = s.id; ranges = s.ranges }

@@ -2,8 +2,7 @@ ghost use Rattle.std.specs.Prelude.{◌≡◌, ◌+◌, ◌*◌, ◌<◌, ◌≤
 ghost use Rattle.std.specs.List.{flat_map, AllByRecursion};
 ghost use Rattle.arrayvec.specs.ArrayVec.{array_vec_len};
 ghost use Rattle.wire_base.specs.model.Tlv.{tlv, tlv_at};
-ghost use Rattle.wire_base.specs.model.BierInfo.{range, range_word, RangeFits, AreApart, InfoFits, info, info_tlv, info_at};
-ghost use Rattle.bier_subtlv.specs.Views.{own_of};
+ghost use Rattle.wire_base.specs.model.BierInfo.{range, range_word, RangeFits, AreApart, InfoFits, info, info_tlv, info_at, own_of};
 
 use arrayvec::ArrayVec;
 use isis_tlv::fixed::put;

@@ -2,7 +2,7 @@
 use Rattle.std.proofs.Common.{◌≡◌, ℕ, ◌+◌, false, List, [], ◌∷◌, ◌++◌, Option, Some, None, Result, Ok, Err, refl, sym, ap, subst, ◌∙◌, append-nil, append_assoc}
 use Rattle.std.specs.List.{AllByRecursion}
 use Rattle.wire_base.specs.model.Configuration.{DomainConf, IsValid}
-use Rattle.isis_hello.specs.declared.event.HelloEvent.{HelloEvent}
+use Rattle.wire_base.specs.declared.hello_event.HelloEvent.{HelloEvent}
 use Rattle.isis_hello.specs.Circuits.{CircuitsState}
 use Rattle.isis_hello.specs.Changes.{up_between}
 use Rattle.isis_hello.specs.History.{circuits_after}

@@ -4,7 +4,7 @@ use Rattle.run_texts.specs.declared.texts.Texts.{Texts}
 use Rattle.wire_base.specs.declared.status.Status.TheVariants.{InputRefused}
 use Rattle.replay_text.specs.Fault.{fault_text}
 use Rattle.replay_text.specs.Hand.{hand_line}
-use Rattle.isis_hello.specs.declared.event.HelloEvent.{HelloEvent}
+use Rattle.wire_base.specs.declared.hello_event.HelloEvent.{HelloEvent}
 use Rattle.replay_text.specs.declared.event.Event.{Event}
 use Rattle.replay_text.specs.declared.event.Line.{Line}
 use Rattle.replay_text.specs.declared.event.Line.TheVariants.{Empty, One, Settle}

@@ -3,7 +3,7 @@ use Rattle.std.specs.Prelude.{◌≡◌, ℕ, List, false, Option, None}
 use Rattle.std.specs.List.{AllByRecursion}
 use Rattle.wire_base.specs.model.Configuration.{DomainConf}
 use Rattle.isis_hello.specs.declared.event.EndChange.{EndChange}
-use Rattle.isis_hello.specs.declared.event.HelloEvent.{HelloEvent}
+use Rattle.wire_base.specs.declared.hello_event.HelloEvent.{HelloEvent}
 use Rattle.isis_hello.specs.History.{AllHeld, circuits_after}
 use Rattle.domain_model.specs.Faults.{is_up_toward}
 use Rattle.domain_model.specs.Run.{run_of}

@@ -1,7 +1,7 @@
 -- What a schedule with hellos comes to: how a line is executed, and the run, the texts and the line that is rejected, if one is.
 use Rattle.std.specs.Prelude.{ℕ, ◌+◌, List, [], ◌∷◌, ◌++◌, Option, Some, None, Result, Ok, Err}
 use Rattle.wire_base.specs.model.Configuration.{DomainConf}
-use Rattle.isis_hello.specs.declared.event.HelloEvent.{HelloEvent}
+use Rattle.wire_base.specs.declared.hello_event.HelloEvent.{HelloEvent}
 use Rattle.replay_text.specs.declared.fault.TextFault.{TextFault}
 use Rattle.replay_text.specs.declared.hand.HandLine.{HandLine}
 use Rattle.replay_text.specs.declared.hand.HandLine.TheVariants.{Base, Hello}

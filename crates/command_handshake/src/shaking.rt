@@ -18,11 +18,10 @@ use command_replay::names_in;
 use domain_handshake::Handshakes;
 use domain_model::EventFault;
 use domain_replay::{Recording, push_event_refused, push_text_refused, push_too_long};
-use isis_hello::HelloEvent;
 use replay_text::{Event, HandLine, Line, read_hand_line};
 use std::alloc::Global;
 use wire_base::limits::MOST_ROUTERS;
-use wire_base::{Domain, M, Name, Octets, Rows, Status};
+use wire_base::{Domain, HelloEvent, M, Name, Octets, Rows, Status};
 
 /// Returns how a run continues after a part of a line. An event that is not allowed ends it, and is reported.
 fn flow_after(alloc: Global, done: Result<(), EventFault>, line: u32, texts: &mut Texts) -> M<Flow>

@@ -9,7 +9,7 @@ use Rattle.std.proofs.lemmas.Option.{same_Some}
 use Rattle.wire_base.specs.declared.conf.RouterConf.{RouterConf}
 use Rattle.wire_base.specs.model.Configuration.{DomainConf, IsValid}
 use Rattle.isis_hello.specs.declared.event.EndChange.{EndChange}
-use Rattle.isis_hello.specs.declared.event.HelloEvent.{HelloEvent}
+use Rattle.wire_base.specs.declared.hello_event.HelloEvent.{HelloEvent}
 use Rattle.isis_hello.specs.declared.fault.CircuitFault.{CircuitFault}
 use Rattle.isis_hello.specs.Changes.{is_at, after_change, up_between, LeadTo, IsJoined, AreChanges}
 use Rattle.isis_hello.specs.Circuits.{CircuitsState}

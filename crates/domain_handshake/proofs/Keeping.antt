@@ -2,8 +2,8 @@
 use Rattle.std.proofs.Common.{◌≡◌, ℕ, zero, suc, ◌+◌, nat_lt, Bool, true, false, List, [], ◌∷◌, ◌++◌, length, replicate, Option, Some, None, refl, sym, subst, append-nil, append_assoc}
 use Rattle.std.specs.List.{AllByRecursion, fold}
 use Rattle.isis_hello.specs.declared.event.EndChange.{EndChange}
-use Rattle.isis_hello.specs.declared.event.HelloEvent.{HelloEvent}
-use Rattle.isis_hello.specs.declared.event.HelloEvent.TheVariants as hellos
+use Rattle.wire_base.specs.declared.hello_event.HelloEvent.{HelloEvent}
+use Rattle.wire_base.specs.declared.hello_event.HelloEvent.TheVariants as hellos
 use Rattle.isis_hello.specs.declared.fault.CircuitFault.{CircuitFault}
 use Rattle.isis_hello.specs.Circuits.{circuit_between, hellos_between}
 use Rattle.isis_hello.specs.Events.{circuit_fault, happens}

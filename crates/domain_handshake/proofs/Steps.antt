@@ -2,8 +2,8 @@
 use Rattle.std.proofs.Common.{◌≡◌, ◌≢◌, ℕ, ◌+◌, not, nat_lt, Bool, true, false, List, ◌++◌, length, replicate, Option, Some, None, Result, Ok, Err, IfErr, OnOk, refl, sym, ap, ap₂, subst, ◌∙◌, append-nil}
 use Rattle.run_texts.specs.declared.texts.Texts.{Texts}
 use Rattle.isis_hello.specs.declared.event.EndChange.{EndChange}
-use Rattle.isis_hello.specs.declared.event.HelloEvent.{HelloEvent}
-use Rattle.isis_hello.specs.declared.event.HelloEvent.TheVariants as hellos
+use Rattle.wire_base.specs.declared.hello_event.HelloEvent.{HelloEvent}
+use Rattle.wire_base.specs.declared.hello_event.HelloEvent.TheVariants as hellos
 use Rattle.isis_hello.specs.declared.event.HelloOut.{HelloOut}
 use Rattle.isis_hello.specs.declared.fault.CircuitFault.{CircuitFault}
 use Rattle.isis_hello.specs.declared.fault.CircuitFault.TheVariants as circuits

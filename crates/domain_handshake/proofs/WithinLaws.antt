@@ -12,8 +12,8 @@ use Rattle.wire_base.specs.model.Control.{same_system}
 use Rattle.isis_hello.specs.declared.adjacency.Adjacency.{Adjacency}
 use Rattle.isis_hello.specs.declared.adjacency.Circuit.{Circuit}
 use Rattle.isis_hello.specs.declared.event.EndChange.{EndChange}
-use Rattle.isis_hello.specs.declared.event.HelloEvent.{HelloEvent}
-use Rattle.isis_hello.specs.declared.event.HelloEvent.TheVariants as events
+use Rattle.wire_base.specs.declared.hello_event.HelloEvent.{HelloEvent}
+use Rattle.wire_base.specs.declared.hello_event.HelloEvent.TheVariants as events
 use Rattle.isis_hello.specs.declared.hello.Hello.{Hello}
 use Rattle.isis_hello.specs.Adjacency.{is_up, turned}
 use Rattle.isis_hello.specs.Circuits.{CircuitsState, place_of, end_between, link_between, fresh, broken, hellos_at}

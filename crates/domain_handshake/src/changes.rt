@@ -6,10 +6,10 @@ ghost use Rattle.wire_base.specs.model.Configuration.{IsSound};
 ghost use Rattle.domain_handshake.specs.Lines as spec;
 
 use domain_model::{EventFault, WireFrame};
-use isis_hello::{CircuitFault, EndChange, HelloEvent};
+use isis_hello::{CircuitFault, EndChange};
 use replay_report::{Recording, push_name, push_record};
 use replay_text::Event;
-use wire_base::{M, Octets, RouterConf};
+use wire_base::{HelloEvent, M, Octets, RouterConf};
 
 /// Returns the event of the interface that goes with a change of its adjacency.
 pub(crate) fn event_of(change: EndChange) -> Event

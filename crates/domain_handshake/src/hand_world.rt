@@ -17,14 +17,14 @@ ghost use Rattle.domain_handshake.specs.Lines.{changes_text, sent_record};
 use crate::changes::{event_of, fault_of, push_changes, push_sent};
 use domain_model::EventFault;
 use domain_replay::{Recording, Replay, confs_of};
-use isis_hello::{Circuits, EndChange, HelloEvent, HelloOut};
+use isis_hello::{Circuits, EndChange, HelloOut};
 use replay_report::Direction;
 use replay_text::{Event, Line};
 use run_texts::Texts;
 use std::alloc::Global;
 use std::marker::Model;
 use wire_base::limits::MOST_EVENTS;
-use wire_base::{Domain, M, Octets, Rows};
+use wire_base::{Domain, HelloEvent, M, Octets, Rows};
 
 /// A running domain and its circuits.
 #[derive(Drop)]

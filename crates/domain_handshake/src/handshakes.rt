@@ -10,13 +10,12 @@ ghost use Rattle.domain_handshake.specs.Handshakes as spec;
 use crate::hand_world::HandWorld;
 use domain_model::EventFault;
 use domain_replay::Recording;
-use isis_hello::HelloEvent;
 use replay_report::Direction;
 use replay_text::Event;
 use run_texts::Texts;
 use std::alloc::Global;
 use std::marker::Model;
-use wire_base::{Domain, M, Octets, Rows};
+use wire_base::{Domain, HelloEvent, M, Octets, Rows};
 
 /// A running domain and its circuits, with the counts of the run. Each call appends what its events report to the outputs that it
 /// receives: a record of each frame that is sent, if the run has a capture, and the lines of adjacencies that change, of deliveries

@@ -2,7 +2,7 @@
 ghost use Rattle.std.specs.Prelude.{◌≡◌, ◌++◌, ◌⊎◌, ℕ, List, [], None, Some, false, option_map};
 ghost use Rattle.std.specs.List.{AllByRecursion};
 ghost use Rattle.wire_base.specs.model.Configuration.{DomainConf, IsValid};
-ghost use Rattle.isis_hello.specs.declared.event.HelloEvent.{HelloEvent};
+ghost use Rattle.wire_base.specs.declared.hello_event.HelloEvent.{HelloEvent};
 ghost use Rattle.isis_hello.specs.Events.{circuit_fault};
 ghost use Rattle.replay_text.specs.declared.event.Line.{Line};
 ghost use Rattle.replay_text.specs.Hand.{moves};

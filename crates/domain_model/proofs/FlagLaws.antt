@@ -9,10 +9,8 @@ use Rattle.std.proofs.lemmas.Option.{same_Some}
 use Rattle.wire_base.specs.declared.addresses.LspId.{LspId}
 use Rattle.wire_base.specs.declared.entry.Entry.{Entry}
 use Rattle.wire_base.specs.model.Control.{same_id, id_order, is_below, AreAscending, ids_of, entry_in, put_entry, FlagRow, no_flags, at_row, without_row, srm_in}
-use Rattle.lsp_store.proofs.OrderLaws.{tie_is_same, above_differs, below_differs, same_turned}
-use Rattle.isis_flood.proofs.FloodLaws.{same_from_tie}
+use Rattle.wire_base.proofs.OrderLaws.{tie_is_same, above_differs, below_differs, same_turned, same_from_tie, eq_is}
 use Rattle.domain_model.proofs.EachLaws.{each_weaker, each_both}
-use Rattle.isis_flood.proofs.KeptLaws.{eq_is}
 use Rattle.laws_router.proofs.EntryLaws.{bytes_self}
 
 -- ---- identifiers

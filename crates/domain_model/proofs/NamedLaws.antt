@@ -11,7 +11,7 @@ use Rattle.wire_base.specs.declared.addresses.LspId.{LspId}
 use Rattle.wire_base.specs.declared.conf.RouterConf.{RouterConf}
 use Rattle.wire_base.specs.declared.entry.Entry.{Entry}
 use Rattle.wire_base.specs.model.Control.{same_id, is_below, AreAscending, ids_of, is_full, fragment_0}
-use Rattle.lsp_store.proofs.OrderLaws.{below_differs, same_turned}
+use Rattle.wire_base.proofs.OrderLaws.{below_differs, same_turned}
 use Rattle.domain_model.specs.Truth.{IsNamed, IsTrueEntry}
 use Rattle.domain_model.proofs.EachLaws.{each_weaker, each_both, each_kept, each_passing}
 use Rattle.domain_model.proofs.FlagLaws.{same_id_is, same_id_self}

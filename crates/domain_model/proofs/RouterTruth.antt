@@ -17,7 +17,7 @@ use Rattle.wire_base.specs.model.Control.{entry_in, seq_of, purge, after_second,
 use Rattle.wire_base.specs.model.Flooding.{quiet, issue, last_sequence, reissue, reissue_if, reissue_unless_spent, LspAnswer, answer_lsp, lsp_done, snp_done, on_lsp, on_csnp, on_psnp, on_pdu, aged_all, is_stale, refreshed, tick, send, end_up, end_down, link_up, link_down, new_flood, started, first_control, restart}
 use Rattle.wire_base.specs.model.OwnLsp.{own_lsp, own_content}
 use Rattle.wire_base.specs.model.Pdu.{Head, Pdu, LspPdu, CsnpPdu, PsnpPdu, HelloPdu, OtherPdu}
-use Rattle.lsp_origin.proofs.ContentLaws.{content_short}
+use Rattle.laws_format.proofs.ContentLaws.{content_short}
 use Rattle.laws_router.specs.State.{IsShort, IsRouter}
 use Rattle.laws_router.specs.Kept.{OwnStands, Kept}
 use Rattle.laws_router.proofs.KeptLaws.{lsp_kept, csnp_kept, psnp_kept}

@@ -33,7 +33,7 @@ use Rattle.wire_base.proofs.SoundLemmas as sound_lemmas
 use Rattle.wire_base.proofs.SoundLemmas.{sound_subs, all_left}
 use Rattle.wire_base.specs.model.Tlv.{tlvs_before}
 use Rattle.wire_base.specs.model.View.{Claim, sub_of, is_part_of, tlvs_of, claim_of, is_other, own_claim, claims_of, all_ranges, unless_overlap, first_each, known_subs, with_known, has_prefix, is_shared, own_subs, node_of, nodes_of, view_of, control_view, links_in, subs_in, is_overload_flag}
-use Rattle.view_graph.proofs.GraphLaws.{all_put}
+use Rattle.wire_base.proofs.ClaimLaws.{all_put}
 use Rattle.laws_router.proofs.MeaningLaws.{earlier_means}
 use Rattle.laws_router.specs.Becoming.{IsEarlier}
 use Rattle.domain_model.specs.Truth.{IsAmong, IsOwnLsp, IsDeadLsp, head_of, IsTrueEntry, IsTrueControl}

@@ -3,15 +3,14 @@ use Rattle.std.proofs.Common.{◌≡◌, ℕ, zero, suc, ◌+◌, ◌<◌, ◌�
 use mathlib.Core.Bool.{false≢true}
 use Rattle.std.specs.declared.cmp.Ordering.{Ordering}
 use Rattle.std.specs.declared.cmp.Ordering.TheVariants.{Less, Equal, Greater}
-use Rattle.std.specs.Ordering.{is_eq, is_lt, is_gt, match_ordering, ordering_then, nat_cmp}
+use Rattle.std.specs.Ordering.{is_eq, is_lt, is_gt, match_ordering}
 use Rattle.std.specs.List.{AllByRecursion, position_or_len}
 use Rattle.std.proofs.lemmas.List.{set_past}
-use Rattle.std.proofs.lemmas.Map.Lookups.{exact_bytes, exact_unsigned}
 use Rattle.wire_base.specs.declared.addresses.SystemId.{SystemId}
 use Rattle.wire_base.specs.declared.addresses.LspId.{LspId}
-use Rattle.wire_base.specs.model.Control.{same_id, system_order, id_order, is_below, AreAscending, FlagRow, no_flags, at_row, without_row, srm_in, ssn_in, Flood}
+use Rattle.wire_base.specs.model.Control.{same_id, id_order, is_below, AreAscending, FlagRow, no_flags, at_row, without_row, srm_in, ssn_in, Flood}
 use Rattle.wire_base.specs.model.Flooding.{mark_all, forget, with_row, no_links, new_flood, link_down, sent_on}
-use Rattle.lsp_store.proofs.OrderLaws.{tie_is_same, below_trans, below_differs, above_differs, same_turned}
+use Rattle.wire_base.proofs.OrderLaws.{tie_is_same, same_from_tie, below_trans, below_differs, above_differs, same_turned}
 use Rattle.isis_flood.specs.declared.table.Bits.{Bits}
 use Rattle.isis_flood.specs.Masks.{at_bit, links_in, row_of, rows_of, row_ids, row_in, no_bits, bits_in, put_bits, held_row, without_bits, flood_of, AreFew, Flooding, clears, turned, turned_flag}
 use Rattle.isis_flood.specs.declared.masks.Turn.{Turn}
@@ -51,20 +50,6 @@ rows_go n (b ∷ rs) id = cases (rows_go n rs id) (same_id b.id id)
     cases : rows_of n (without_bits id rs) ≡ without_row id (rows_of n rs) → (same : Bool) → rows_of n (if same then rs else b ∷ without_bits id rs) ≡ (if same then rows_of n rs else row_of n b ∷ without_row id (rows_of n rs))
     cases again true = refl
     cases again false = ap (λ (rs : List FlagRow). row_of n b ∷ rs) again
-
--- equal identifiers alone are tied
-tied_is : (p q : Ordering) → ordering_then p q ≡ Equal → (p ≡ Equal) × (q ≡ Equal)
-tied_is Less q h = absurd (false≢true (ap is_eq h))
-tied_is Equal q h = (refl, h)
-tied_is Greater q h = absurd (false≢true (ap is_eq h))
-
-pub same_from_tie : (a b : LspId) → id_order a b ≡ Equal → a ≡ b
-same_from_tie a b h =
-    let outer = tied_is (system_order a.system b.system) (ordering_then (nat_cmp a.pseudonode b.pseudonode) (nat_cmp a.fragment b.fragment)) h in
-    let inner = tied_is (nat_cmp a.pseudonode b.pseudonode) (nat_cmp a.fragment b.fragment) outer.1 in
-    ap (λ (s : List ℕ). record { system = record { 0 = s }; pseudonode = a.pseudonode; fragment = a.fragment }) (exact_bytes a.system.0 b.system.0 outer.0)
-    ∙ ap (λ (p : ℕ). record { system = b.system; pseudonode = p; fragment = a.fragment }) (exact_unsigned a.pseudonode b.pseudonode inner.0)
-    ∙ ap (λ (f : ℕ). record { system = b.system; pseudonode = b.pseudonode; fragment = f }) (exact_unsigned a.fragment b.fragment inner.1)
 
 -- the row of an identifier has it
 pub row_in_id : (n : ℕ) (rows : List FlagRow) (id : LspId) → (row_in n rows id).id ≡ id

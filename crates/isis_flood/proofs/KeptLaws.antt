@@ -17,12 +17,11 @@ use Rattle.wire_base.specs.declared.memory.Memory.{Memory}
 use Rattle.wire_base.specs.declared.triple.Summary.{Summary}
 use Rattle.wire_base.specs.model.Control.{same_system, same_id, id_order, entry_in, put_entry, purge, is_full, is_unknown, is_newer_or_confused, age_of, age_by_life, seq_of, Flood, fragment_0}
 use Rattle.wire_base.specs.model.Pdu.{Head, head_summary}
-use Rattle.wire_base.specs.model.Flooding.{LspAnswer, SnpAnswer, mark_all, kept, on_lsp, lsp_in, lsp_aged, is_own_ahead, is_unheld_own, wanted, is_live_summary, listed_aged, on_listed, on_list, lacks, send_lacking, nothing_asked, with_row, set_srm}
-use Rattle.lsp_store.proofs.OrderLaws.{id_total, tie_is_same, above_differs}
-use Rattle.isis_flood.specs.Answers.{LspDone, SnpDone, csnp_listed}
+use Rattle.wire_base.specs.model.Flooding.{LspAnswer, SnpAnswer, mark_all, kept, on_lsp, lsp_in, lsp_aged, is_own_ahead, is_unheld_own, wanted, is_live_summary, listed_aged, on_listed, on_list, lacks, send_lacking, nothing_asked, with_row, set_srm, csnp_listed}
+use Rattle.wire_base.proofs.OrderLaws.{id_total, tie_is_same, same_is, same_from_tie, above_differs}
+use Rattle.isis_flood.specs.Answers.{LspDone, SnpDone}
 use Rattle.isis_flood.specs.Kept.{IsAtMost, Stays, NotLowered}
-use Rattle.isis_flood.proofs.AgeLaws.{unknown_is_none}
-use Rattle.isis_flood.proofs.FloodLaws.{same_from_tie}
+use Rattle.wire_base.proofs.AgeLaws.{unknown_is_none}
 
 -- ---- the order
 
@@ -52,14 +51,6 @@ pub not_lowered_trans : (a b c : List Entry) → NotLowered a b → NotLowered b
 not_lowered_trans a b c h k = record { each = λ id. stays_trans (entry_in a id) (entry_in b id) (entry_in c id) (h.each id) (k.each id) }
 
 -- ---- an entry that is put
-
-pub eq_is : (o : Ordering) → is_eq o ≡ true → o ≡ Equal
-eq_is Less h = absurd (false≢true h)
-eq_is Equal h = refl
-eq_is Greater h = absurd (false≢true h)
-
-pub same_is : (a b : LspId) → same_id a b ≡ true → a ≡ b
-same_is a b h = same_from_tie a b (eq_is (id_order a b) (tie_is_same a b ∙ h))
 
 -- what stands for an identifier once an entry was put
 pub entry_put : (es : List Entry) (e : Entry) (id : LspId) → entry_in (put_entry e es) id ≡ (if same_id e.id id then Some e else entry_in es id)

@@ -9,7 +9,7 @@ use Rattle.std.proofs.lemmas.List.{length-map}
 use Rattle.wire_base.specs.declared.addresses.LspId.{LspId}
 use Rattle.wire_base.specs.model.Control.{id_order, is_below, AreAscending}
 use Rattle.lsp_store.specs.Places.{place_in, stands_at}
-use Rattle.lsp_store.proofs.OrderLaws.{tie_is_same, below_from_above, below_trans, below_differs, above_differs, same_turned}
+use Rattle.wire_base.proofs.OrderLaws.{tie_is_same, below_from_above, below_trans, below_differs, above_differs, same_turned}
 use Rattle.lsp_store.proofs.PlaceLaws.{place_within, stands_within, below_all, tied_below, removed_ascends}
 use Rattle.isis_flood.specs.declared.table.Bits.{Bits}
 use Rattle.isis_flood.specs.Masks.{row_ids, no_bits, bits_in, put_bits, without_bits, IsPlace}

@@ -1,13 +1,11 @@
 -- The state after a call that processes a PDU: what the rules require, or, where an allocation failed, the state before.
-use Rattle.std.specs.Prelude.{◌≡◌, ℕ, Bool, List, Result, Ok, Err, fold}
-use Rattle.wire_base.specs.declared.addresses.LspId.{LspId}
+use Rattle.std.specs.Prelude.{◌≡◌, List, Result, Ok, Err}
 use Rattle.wire_base.specs.declared.entry.Entry.{Entry}
 use Rattle.wire_base.specs.declared.flood_out.FloodOut.{FloodOut}
 use Rattle.wire_base.specs.declared.flood_out.SnpOut.{SnpOut}
-use Rattle.wire_base.specs.declared.triple.Summary.{Summary}
 use Rattle.wire_base.specs.declared.memory.Memory.{Memory}
 use Rattle.wire_base.specs.model.Control.{Flood}
-use Rattle.wire_base.specs.model.Flooding.{LspAnswer, SnpAnswer, on_list, send_lacking}
+use Rattle.wire_base.specs.model.Flooding.{LspAnswer, SnpAnswer}
 
 abbrev pub LspDone : Result FloodOut Memory → Flood → List Entry → Flood → List Entry → LspAnswer → Type 0
 LspDone (Ok answer) f entries new_f new_entries rules = rules ≡ record { flood = new_f; entries = new_entries; answer = answer }
@@ -25,9 +23,3 @@ SnpDone (Err memory) f entries new_f new_entries rules = (new_f ≡ f) × (new_e
 abbrev pub Becomes : Result (Unit {0}) Memory → SnpAnswer → SnpAnswer → Type 0
 Becomes (Ok u) new rules = rules ≡ new
 Becomes (Err memory) new rules = Unit {0}
-
--- a CSNP from `start` to `last` with those LSP entries: their effects, and then what the CSNP lacks
-abbrev pub csnp_listed : Flood → List Entry → ℕ → LspId → LspId → List Summary → Bool → SnpAnswer
-csnp_listed f entries link start last rows spent =
-    let a = on_list f entries link rows spent in
-    record a { flood = fold (send_lacking link start last rows) a.flood a.entries }

@@ -1,9 +1,9 @@
 //! The LSPs that a CSNP lacks, and those to send on a link that comes up (ISO/IEC 10589, 7.3.15.2 and 7.3.17).
 ghost use Rattle.std.specs.Prelude.{◌≡◌, ◌<◌, ◌≤◌, ◌+◌, length, filter, fold, IsOk, OnOk, OnErr};
 ghost use Rattle.wire_base.specs.model.Control.{same_id, is_below};
-ghost use Rattle.wire_base.specs.model.Flooding.{lists, lacks, send_lacking, send_known, on_csnp, link_up};
+ghost use Rattle.wire_base.specs.model.Flooding.{lists, lacks, send_lacking, send_known, on_csnp, link_up, csnp_listed};
 ghost use Rattle.wire_base.specs.model.Tlv.{rows_of};
-ghost use Rattle.isis_flood.specs.Answers.{SnpDone, csnp_listed};
+ghost use Rattle.isis_flood.specs.Answers.{SnpDone};
 ghost use Rattle.isis_flood.specs.Kept.{NotLowered};
 
 use crate::entries::listed;

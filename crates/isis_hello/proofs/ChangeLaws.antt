@@ -16,8 +16,8 @@ use Rattle.isis_hello.specs.declared.adjacency.Circuit.{Circuit}
 use Rattle.isis_hello.specs.declared.adjacency.Turn.{Turn}
 use Rattle.isis_hello.specs.declared.adjacency.Turn.TheVariants as turns
 use Rattle.isis_hello.specs.declared.event.EndChange.{EndChange}
-use Rattle.isis_hello.specs.declared.event.HelloEvent.{HelloEvent}
-use Rattle.isis_hello.specs.declared.event.HelloEvent.TheVariants as events
+use Rattle.wire_base.specs.declared.hello_event.HelloEvent.{HelloEvent}
+use Rattle.wire_base.specs.declared.hello_event.HelloEvent.TheVariants as events
 use Rattle.isis_hello.specs.declared.hello.Hello.{Hello}
 use Rattle.isis_hello.specs.Adjacency.{is_up, turned}
 use Rattle.isis_hello.specs.Changes.{up_between, is_at, after_change, LeadTo, IsJoined, AreChanges, is_hello}

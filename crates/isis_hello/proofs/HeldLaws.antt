@@ -15,8 +15,8 @@ use Rattle.isis_hello.specs.declared.adjacency.Adjacency.{Adjacency}
 use Rattle.isis_hello.specs.declared.adjacency.Adjacency.TheVariants as adjacency
 use Rattle.isis_hello.specs.declared.adjacency.Circuit.{Circuit}
 use Rattle.isis_hello.specs.declared.adjacency.Kept.{Kept}
-use Rattle.isis_hello.specs.declared.event.HelloEvent.{HelloEvent}
-use Rattle.isis_hello.specs.declared.event.HelloEvent.TheVariants as events
+use Rattle.wire_base.specs.declared.hello_event.HelloEvent.{HelloEvent}
+use Rattle.wire_base.specs.declared.hello_event.HelloEvent.TheVariants as events
 use Rattle.isis_hello.specs.declared.hello.Hello.{Hello}
 use Rattle.isis_hello.specs.declared.hello.Tri.{Tri}
 use Rattle.isis_hello.specs.declared.hello.Tri.TheVariants.{Up, Initializing, Down}

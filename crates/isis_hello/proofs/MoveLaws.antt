@@ -7,8 +7,8 @@ use Rattle.isis_hello.specs.declared.adjacency.Adjacency.TheVariants as adjacenc
 use Rattle.isis_hello.specs.declared.adjacency.Circuit.{Circuit}
 use Rattle.isis_hello.specs.declared.adjacency.Turn.{Turn}
 use Rattle.isis_hello.specs.declared.adjacency.Turn.TheVariants as turns
-use Rattle.isis_hello.specs.declared.event.HelloEvent.{HelloEvent}
-use Rattle.isis_hello.specs.declared.event.HelloEvent.TheVariants as events
+use Rattle.wire_base.specs.declared.hello_event.HelloEvent.{HelloEvent}
+use Rattle.wire_base.specs.declared.hello_event.HelloEvent.TheVariants as events
 use Rattle.isis_hello.specs.declared.hello.Hello.{Hello}
 use Rattle.isis_hello.specs.Adjacency.{after_tick}
 use Rattle.isis_hello.specs.Circuits.{CircuitsState, link_between, fresh, broken, fresh_circuits, circuit_at, with_circuit, hellos_at}

@@ -12,8 +12,8 @@ use Rattle.wire_base.specs.model.Configuration.{DomainConf, IsValid}
 use Rattle.isis_hello.specs.declared.adjacency.Circuit.{Circuit}
 use Rattle.isis_hello.specs.declared.adjacency.Turn.{Turn}
 use Rattle.isis_hello.specs.declared.adjacency.Turn.TheVariants as turns
-use Rattle.isis_hello.specs.declared.event.HelloEvent.{HelloEvent}
-use Rattle.isis_hello.specs.declared.event.HelloEvent.TheVariants as events
+use Rattle.wire_base.specs.declared.hello_event.HelloEvent.{HelloEvent}
+use Rattle.wire_base.specs.declared.hello_event.HelloEvent.TheVariants as events
 use Rattle.isis_hello.specs.declared.hello.Hello.{Hello}
 use Rattle.isis_hello.specs.Circuits.{CircuitsState, first_circuits, link_between, fresh, broken, circuit_at, hellos_at, with_hellos, push_hello, no_hellos, hello_of}
 use Rattle.isis_hello.specs.Events.{sends, sends_from, sends_on, arrives, arrives_over, forgets, replaces_over, turns_at, happens}

@@ -7,8 +7,8 @@ use Rattle.wire_base.specs.declared.addresses.SystemId.{SystemId}
 use Rattle.wire_base.specs.declared.conf.End.{End}
 use Rattle.wire_base.specs.declared.conf.RouterConf.{RouterConf}
 use Rattle.wire_base.specs.model.Choice.{end_toward, is_system}
-use Rattle.isis_hello.specs.declared.event.HelloEvent.{HelloEvent}
-use Rattle.isis_hello.specs.declared.event.HelloEvent.TheVariants as events
+use Rattle.wire_base.specs.declared.hello_event.HelloEvent.{HelloEvent}
+use Rattle.wire_base.specs.declared.hello_event.HelloEvent.TheVariants as events
 use Rattle.isis_hello.specs.declared.event.HelloOut.{HelloOut}
 use Rattle.isis_hello.specs.declared.fault.CircuitFault.{CircuitFault}
 use Rattle.isis_hello.specs.declared.fault.CircuitFault.TheVariants as faults

@@ -15,8 +15,8 @@ use Rattle.isis_hello.specs.declared.adjacency.Circuit.{Circuit}
 use Rattle.isis_hello.specs.declared.adjacency.Turn.{Turn}
 use Rattle.isis_hello.specs.declared.adjacency.Turn.TheVariants as turns
 use Rattle.isis_hello.specs.declared.event.EndChange.{EndChange}
-use Rattle.isis_hello.specs.declared.event.HelloEvent.{HelloEvent}
-use Rattle.isis_hello.specs.declared.event.HelloEvent.TheVariants as events
+use Rattle.wire_base.specs.declared.hello_event.HelloEvent.{HelloEvent}
+use Rattle.wire_base.specs.declared.hello_event.HelloEvent.TheVariants as events
 use Rattle.isis_hello.specs.declared.event.HelloOut.{HelloOut}
 use Rattle.isis_hello.specs.declared.fault.CircuitFault.{CircuitFault}
 use Rattle.isis_hello.specs.declared.fault.CircuitFault.TheVariants as faults

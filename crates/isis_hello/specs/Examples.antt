@@ -8,8 +8,8 @@ use Rattle.wire_base.specs.declared.conf.Level.TheVariants.{Two}
 use Rattle.wire_base.specs.declared.conf.RouterConf.{RouterConf}
 use Rattle.wire_base.specs.model.Configuration.{DomainConf}
 use Rattle.isis_hello.specs.declared.event.EndChange.{EndChange}
-use Rattle.isis_hello.specs.declared.event.HelloEvent.{HelloEvent}
-use Rattle.isis_hello.specs.declared.event.HelloEvent.TheVariants as events
+use Rattle.wire_base.specs.declared.hello_event.HelloEvent.{HelloEvent}
+use Rattle.wire_base.specs.declared.hello_event.HelloEvent.TheVariants as events
 use Rattle.isis_hello.specs.declared.hello.Hello.{Hello}
 use Rattle.isis_hello.specs.declared.hello.Tri.TheVariants.{Down}
 use Rattle.isis_hello.specs.Circuits.{CircuitsState}

@@ -6,8 +6,8 @@ use Rattle.wire_base.specs.declared.addresses.SystemId.{SystemId}
 use Rattle.wire_base.specs.declared.conf.RouterConf.{RouterConf}
 use Rattle.wire_base.specs.model.Configuration.{DomainConf}
 use Rattle.isis_hello.specs.declared.limits.TheConstants.{HOLDING_TIME}
-use Rattle.isis_hello.specs.declared.event.HelloEvent.{HelloEvent}
-use Rattle.isis_hello.specs.declared.event.HelloEvent.TheVariants as events
+use Rattle.wire_base.specs.declared.hello_event.HelloEvent.{HelloEvent}
+use Rattle.wire_base.specs.declared.hello_event.HelloEvent.TheVariants as events
 use Rattle.isis_hello.specs.declared.hello.Hello.{Hello}
 use Rattle.isis_hello.specs.Adjacency.{is_up}
 use Rattle.isis_hello.specs.Circuits.{CircuitsState, first_circuits, link_between, circuit_between, hellos_between, circuit_id}

@@ -3,20 +3,20 @@ ghost use Rattle.std.specs.Prelude.{◌≡◌, ◌∷◌, [], List, None, length
 ghost use Rattle.isis_hello.specs.Circuits.{circuit_between, circuit_over, first_circuits, hellos_between, link_between};
 ghost use Rattle.isis_hello.specs.Events.{IsSent, Refuses, circuit_fault, happens, rule_fault, taken_fault};
 ghost use Rattle.isis_hello.specs.History.{AllHeld, circuits_after};
-ghost use Rattle.isis_hello.specs.declared.event.HelloEvent.{HelloEvent as HelloEventItem};
-ghost use Rattle.isis_hello.specs.declared.event.HelloEvent.TheVariants as events;
+ghost use Rattle.wire_base.specs.declared.hello_event.HelloEvent.{HelloEvent as HelloEventItem};
+ghost use Rattle.wire_base.specs.declared.hello_event.HelloEvent.TheVariants as events;
 ghost use Rattle.wire_base.specs.model.Configuration.{DomainConf, IsValid};
 
 use crate::adjacency::Circuit;
 use crate::ends::Ends;
-use crate::event::{HelloEvent, HelloOut};
+use crate::event::HelloOut;
 use crate::fault::CircuitFault;
 use crate::hellos::Hellos;
 use crate::limits::{MOST_HELLO_EVENTS, MOST_HELLOS};
 use crate::links::{confs_of, link_between};
 use std::alloc::Global;
 use std::marker::Model;
-use wire_base::{Domain, M};
+use wire_base::{Domain, HelloEvent, M};
 
 /// The circuits of a domain: whether each works, the state of its adjacency, and the hellos in flight (ISO/IEC 10589, 8.2;
 /// RFC 5303, 3).

@@ -6,12 +6,12 @@ ghost use Rattle.isis_hello.specs.Events.{Did, IsSent, IsSentOn, arrives, arrive
 use crate::adjacency::{Circuit, Turn};
 use crate::changes::{changed, changes_at};
 use crate::circuits::Circuits;
-use crate::event::{HelloEvent, HelloOut};
+use crate::event::HelloOut;
 use crate::hello::Hello;
 use crate::limits::HOLDING_TIME;
 use crate::links::{conf_at, confs_of, end_at};
 use crate::writer::hello_frame;
-use wire_base::{M, RouterConf, Rows, SystemId};
+use wire_base::{HelloEvent, M, RouterConf, Rows, SystemId};
 
 /// One direction of a link: from the interface `link` of a router to the interface `back` of another.
 #[derive(Clone, Copy)]

@@ -3,7 +3,7 @@ ghost use Rattle.std.specs.Prelude.{◌≡◌, ◌∷◌, [], true, Some};
 ghost use Rattle.isis_hello.specs.Circuits.{first_circuits};
 ghost use Rattle.isis_hello.specs.Events.{happens, hello_in};
 ghost use Rattle.isis_hello.specs.Examples.{a_frame, a_hello, changes_from, pair, three_hellos};
-ghost use Rattle.isis_hello.specs.declared.event.HelloEvent.TheVariants as events;
+ghost use Rattle.wire_base.specs.declared.hello_event.HelloEvent.TheVariants as events;
 
 /// A's first hello: its frame of 53 octets, and the result of parsing it.
 pub fn example_hello()

@@ -5,7 +5,7 @@ ghost use Rattle.wire_base.specs.declared.conf.End.{End};
 ghost use Rattle.wire_base.specs.declared.conf.RouterConf.{RouterConf};
 ghost use Rattle.wire_base.specs.model.Configuration.{DomainConf, IsValid};
 ghost use Rattle.wire_base.specs.model.Fields.{AreOctets};
-ghost use Rattle.isis_hello.specs.declared.event.HelloEvent.{HelloEvent};
+ghost use Rattle.wire_base.specs.declared.hello_event.HelloEvent.{HelloEvent};
 ghost use Rattle.isis_hello.specs.declared.hello.Hello.{Hello};
 ghost use Rattle.isis_hello.specs.Changes.{AreChanges, is_hello, up_between};
 ghost use Rattle.isis_hello.specs.Circuits.{CircuitsState, first_circuits};

@@ -25,7 +25,7 @@ mod writer;
 
 pub use adjacency::{Adjacency, Circuit, Kept};
 pub use circuits::Circuits;
-pub use event::{EndChange, HelloEvent, HelloOut};
+pub use event::{EndChange, HelloOut};
 pub use examples::{example_handshake, example_hello};
 pub use fault::{CircuitFault, HelloFault};
 pub use hello::{Hello, Tri};

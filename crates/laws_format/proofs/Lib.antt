@@ -1,4 +1,5 @@
 pub mod ChecksumLaws
+pub mod ContentLaws
 pub mod FieldLaws
 pub mod InfoLaws
 pub mod PduLaws

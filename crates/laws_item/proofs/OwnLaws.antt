@@ -11,7 +11,7 @@ use Rattle.wire_base.specs.model.Pdu.{AreTlvs, lsp_covered, lsp_sum}
 use Rattle.wire_base.specs.model.Tlv.{LspIdFits}
 use Rattle.laws_format.proofs.PduLaws.{lsp_sum_right, lsp_sum_fits}
 use Rattle.laws_format.proofs.TlvListLaws.{are_spelled}
-use Rattle.lsp_origin.proofs.ContentLaws.{content_short}
+use Rattle.laws_format.proofs.ContentLaws.{content_short}
 use Rattle.laws_item.specs.Fits.{EntryFits, IsOwn}
 
 flags_small : (level : Level) (overload : Bool) → level_bits level + cond overload 4 0 < 256

@@ -8,7 +8,7 @@ use Rattle.wire_base.specs.model.Lists as lists
 use Rattle.wire_base.specs.model.Pdu.{blocks_within, row_tlv, row_tlvs}
 use Rattle.wire_base.specs.model.Tlv.{tlv, SummaryFits}
 use Rattle.laws_format.proofs.TlvListLaws.{length_rows, fits_take, fits_drop}
-use Rattle.lsp_origin.proofs.ContentLaws.{all_taken}
+use Rattle.laws_format.proofs.ContentLaws.{all_taken}
 
 -- ---- facts of each element
 

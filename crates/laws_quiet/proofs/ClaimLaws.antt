@@ -14,7 +14,7 @@ use Rattle.wire_base.specs.declared.entry.Entry.{Entry}
 use Rattle.wire_base.specs.model.Configuration.{IsSound}
 use Rattle.wire_base.specs.model.Control.{AreAscending, entry_in, fragment_0, ids_of, is_below, same_id, same_system, system_order}
 use Rattle.wire_base.specs.model.View.{Claim, claim_of, claims_of, is_other, put_claim}
-use Rattle.lsp_store.proofs.OrderLaws.{below_differs, system_total}
+use Rattle.wire_base.proofs.OrderLaws.{below_differs, system_total}
 use Rattle.domain_model.proofs.FlagLaws.{found_id, same_id_is}
 use Rattle.quiet_domain.specs.Live.{is_live}
 use Rattle.laws_quiet.proofs.OwnLaws.{HasOwnLsp, own_claim_is, system_self}

@@ -15,7 +15,7 @@ use Rattle.wire_base.specs.model.Control.{AreAscending, Control, entry_in, fragm
 use Rattle.wire_base.specs.model.OwnLsp.{info_of, own_content, own_flags, picked}
 use Rattle.wire_base.specs.model.Tlv.{tlvs_before}
 use Rattle.wire_base.specs.model.View.{Link, claim_of, end_link, is_overload_flag, is_part_of, links_in, own_claim, sub_of, subs_in, tlvs_of}
-use Rattle.lsp_store.proofs.OrderLaws.{below_differs}
+use Rattle.wire_base.proofs.OrderLaws.{below_differs}
 use Rattle.laws_router.specs.State.{IsRouter, IssuesAlone}
 use Rattle.domain_model.proofs.EachLaws.{each_weaker}
 use Rattle.domain_model.proofs.FlagLaws.{each_is_found, found_id, same_id_is, same_id_self}

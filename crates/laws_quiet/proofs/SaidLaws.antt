@@ -13,8 +13,7 @@ use Rattle.wire_base.specs.declared.entry.Entry.{Entry}
 use Rattle.wire_base.specs.model.Control.{AreAscending, id_order, ids_of, same_system}
 use Rattle.wire_base.specs.model.Tlv.{Tlv, tlvs_before}
 use Rattle.wire_base.specs.model.View.{Claim, claim_of, is_overload_flag, links_in, subs_in, tlvs_of}
-use Rattle.lsp_store.proofs.OrderLaws.{below_from_above}
-use Rattle.isis_flood.proofs.FloodLaws.{same_from_tie}
+use Rattle.wire_base.proofs.OrderLaws.{below_from_above, same_from_tie}
 use Rattle.quiet_domain.specs.Live.{AreSameLive, are_alike, has_same, is_live, is_same_at}
 use Rattle.quiet_domain.proofs.LiveLaws.{skips_both, skips_left, skips_right, stops_both, stops_left, stops_right, under_front}
 

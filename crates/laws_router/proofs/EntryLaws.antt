@@ -9,14 +9,9 @@ use Rattle.std.specs.Str.{bytes_eq}
 use Rattle.wire_base.specs.declared.addresses.LspId.{LspId}
 use Rattle.wire_base.specs.declared.entry.Entry.{Entry}
 use Rattle.wire_base.specs.model.Control.{same_id, id_order, entry_in, put_entry, FlagRow, HasEntry}
-use Rattle.lsp_store.proofs.OrderLaws.{tie_is_same, above_differs}
-use Rattle.isis_flood.proofs.FloodLaws.{same_from_tie}
-use Rattle.isis_flood.proofs.KeptLaws.{eq_is}
+use Rattle.wire_base.proofs.OrderLaws.{tie_is_same, same_is, same_from_tie, above_differs}
 
 -- ---- equal identifiers
-
-pub same_is : (a b : LspId) → same_id a b ≡ true → a ≡ b
-same_is a b h = same_from_tie a b (eq_is (id_order a b) (tie_is_same a b ∙ h))
 
 -- ---- entries of an identifier
 

@@ -7,7 +7,7 @@ use Rattle.std.specs.List.{AllByRecursion}
 use Rattle.wire_base.specs.declared.addresses.LspId.{LspId}
 use Rattle.wire_base.specs.model.Control.{id_order, is_below, same_id, AreAscending, FlagRow, no_flags, at_row, without_row, IsWithinLinks, IsFlagRow}
 use Rattle.wire_base.specs.model.Flooding.{send_on, ask_on, set_srm}
-use Rattle.lsp_store.proofs.OrderLaws.{below_from_above, below_trans}
+use Rattle.wire_base.proofs.OrderLaws.{below_from_above, below_trans}
 
 -- ---- links
 

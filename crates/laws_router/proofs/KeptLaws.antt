@@ -14,14 +14,14 @@ use Rattle.wire_base.specs.declared.flood_out.FloodOut.TheVariants as out
 use Rattle.wire_base.specs.declared.triple.Summary.{Summary}
 use Rattle.wire_base.specs.model.Pdu.{Head, head_summary}
 use Rattle.wire_base.specs.model.Control.{same_id, same_system, fragment_0, entry_in, put_entry, purge, seq_of, age_of, is_unknown, is_newer_or_confused, is_full, FlagRow, no_flags, Flood, IsFlagRow, HasEntry}
-use Rattle.wire_base.specs.model.Flooding.{with_row, no_links, send_on, ask_on, set_srm, mark_all, kept, stores, puts_marked, only_says, flags_alone, lsp_aged, is_unheld_own, is_own_ahead, lsp_in, on_lsp, LspAnswer, SnpAnswer, with_flags, wanted, asks, is_live_summary, listed_aged, on_listed, on_list, lacks, send_lacking, on_csnp, on_psnp}
+use Rattle.wire_base.specs.model.Flooding.{with_row, no_links, send_on, ask_on, set_srm, mark_all, kept, stores, puts_marked, only_says, flags_alone, lsp_aged, is_unheld_own, is_own_ahead, lsp_in, on_lsp, LspAnswer, SnpAnswer, with_flags, wanted, asks, is_live_summary, listed_aged, on_listed, on_list, lacks, send_lacking, on_csnp, on_psnp, csnp_listed}
 use Rattle.wire_base.specs.model.Tlv.{rows_of}
-use Rattle.isis_flood.specs.Answers.{csnp_listed}
 use Rattle.laws_router.specs.State.{IsShort}
 use Rattle.laws_router.specs.Kept.{OwnStands, Kept}
-use Rattle.laws_router.proofs.EntryLaws.{HasId, same_is, put_reads, put_has, put_keeps, put_other, rows_named, all_put, all_have}
+use Rattle.laws_router.proofs.EntryLaws.{HasId, put_reads, put_has, put_keeps, put_other, rows_named, all_put, all_have}
+use Rattle.wire_base.proofs.OrderLaws.{same_is}
 use Rattle.laws_router.proofs.FlagLaws.{KeepsRow, keeps_send, keeps_ask, keeps_srm, keeps_acknowledged, keeps_mark, keeps_pass, none_flagged, all_rows, rows_ascend}
-use Rattle.isis_flood.proofs.AgeLaws.{known_age}
+use Rattle.wire_base.proofs.AgeLaws.{known_age}
 
 -- ---- one row, one entry
 

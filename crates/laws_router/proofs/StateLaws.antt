@@ -11,9 +11,9 @@ use Rattle.wire_base.specs.declared.entry.Aged.TheVariants.{Live, Expired, Held,
 use Rattle.wire_base.specs.declared.entry.Entry.{Entry}
 use Rattle.wire_base.specs.model.Control.{same_id, is_below, AreAscending, fragment_0, entry_in, put_entry, purge, aged, aged_to, after_second, FlagRow, without_row, Flood, IsFlagRow, HasEntry}
 use Rattle.wire_base.specs.model.Flooding.{with_row, mark_all, forget, set_srm, clear_both, clear_ssn, send_known, link_up, link_down, sent_on, new_flood, flags_aged, flood_aged}
-use Rattle.lsp_store.proofs.OrderLaws.{below_differs, same_turned}
+use Rattle.wire_base.proofs.OrderLaws.{below_differs, same_turned, same_is}
 use Rattle.laws_router.specs.State.{IsShort}
-use Rattle.laws_router.proofs.EntryLaws.{HasId, same_is, id_self, put_reads, put_has, put_keeps, rows_named, all_put, all_have}
+use Rattle.laws_router.proofs.EntryLaws.{HasId, id_self, put_reads, put_has, put_keeps, rows_named, all_put, all_have}
 use Rattle.laws_router.proofs.FlagLaws.{keeps_srm, flag_cleared, link_opened, both_set, both_cleared, row_ids, ids_kept, each_changed, all_left, left_ascend, within_self}
 use Rattle.laws_router.specs.Kept.{Kept}
 use Rattle.laws_router.proofs.KeptLaws.{row_kept, mark_kept}

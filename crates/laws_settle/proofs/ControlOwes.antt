@@ -24,7 +24,7 @@ use Rattle.isis_flood.specs.Kept.{Stays}
 use Rattle.isis_flood.proofs.KeptLaws.{lsp_keeps}
 use Rattle.laws_router.specs.Kept.{Kept}
 use Rattle.laws_router.specs.State.{IsRouter}
-use Rattle.laws_router.proofs.EntryLaws.{same_is}
+use Rattle.wire_base.proofs.OrderLaws.{same_is}
 use Rattle.laws_router.proofs.FlagLaws.{keeps_srm, link_opened}
 use Rattle.laws_router.proofs.StateLaws.{all_aged, down_kept, up_kept}
 use Rattle.router_core.proofs.OwnLaws.{kept_of}

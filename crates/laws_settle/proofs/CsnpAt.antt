@@ -10,12 +10,11 @@ use Rattle.wire_base.specs.declared.entry.Entry.{Entry}
 use Rattle.wire_base.specs.declared.triple.Summary.{Summary}
 use Rattle.wire_base.specs.model.Configuration.{IsSound}
 use Rattle.wire_base.specs.model.Control.{Control, Flood, entry_in, fragment_0, is_below, put_entry, same_id}
-use Rattle.wire_base.specs.model.Flooding.{SnpAnswer, csnp_of, lacks, lists, mark_all, nothing_asked, on_csnp, on_list, on_pdu, reissue, reissue_if, send_lacking, set_srm, snp_done, with_row}
+use Rattle.wire_base.specs.model.Flooding.{SnpAnswer, csnp_of, lacks, lists, mark_all, nothing_asked, on_csnp, on_list, on_pdu, reissue, reissue_if, send_lacking, set_srm, snp_done, with_row, csnp_listed}
 use Rattle.wire_base.specs.model.Pdu.{row_tlvs}
 use Rattle.wire_base.specs.model.Tlv.{rows_of}
-use Rattle.isis_flood.specs.Answers.{csnp_listed}
 use Rattle.laws_router.specs.Kept.{Kept}
-use Rattle.laws_router.proofs.EntryLaws.{same_is}
+use Rattle.wire_base.proofs.OrderLaws.{same_is}
 use Rattle.laws_router.proofs.FlagLaws.{keeps_srm}
 use Rattle.laws_router.proofs.KeptLaws.{SnpKept, list_kept, range_kept}
 use Rattle.laws_router.proofs.StateLaws.{issue_kept}

@@ -9,8 +9,7 @@ use Rattle.wire_base.specs.declared.addresses.LspId.{LspId}
 use Rattle.wire_base.specs.declared.entry.Entry.{Entry}
 use Rattle.wire_base.specs.model.Control.{Flood, FlagRow, IsFlagRow, at_row, entry_in, id_order, no_flags, put_entry, same_id, srm, srm_in, ssn, ssn_in}
 use Rattle.wire_base.specs.model.Flooding.{ask_on, mark_all, no_links, send_on, set_srm, with_row}
-use Rattle.lsp_store.proofs.OrderLaws.{above_differs, same_turned}
-use Rattle.isis_flood.proofs.FloodLaws.{same_from_tie}
+use Rattle.wire_base.proofs.OrderLaws.{above_differs, same_turned, same_from_tie}
 use Rattle.laws_router.proofs.FlagLaws.{KeepsRow, all_rows, none_flagged}
 use Rattle.laws_router.proofs.EntryLaws.{id_self, put_other}
 use Rattle.domain_model.proofs.FlagLaws.{KeepsId, changed_for, rows_for}

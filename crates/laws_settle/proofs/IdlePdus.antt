@@ -14,7 +14,7 @@ use Rattle.wire_base.specs.model.Flooding.{LspAnswer, SnpAnswer, ask_on, flags_a
 use Rattle.wire_base.specs.model.Pdu.{Head, Pdu, LspPdu, PsnpPdu, head_summary}
 use Rattle.wire_base.specs.model.Tlv.{rows_of}
 use Rattle.laws_router.specs.State.{IsRouter}
-use Rattle.laws_router.proofs.EntryLaws.{same_is}
+use Rattle.wire_base.proofs.OrderLaws.{same_is}
 use Rattle.laws_router.proofs.FlagLaws.{keeps_acknowledged}
 use Rattle.domain_model.specs.World.{is_up}
 use Rattle.laws_settle.specs.Fresh.{AreOfJournal, IsOfJournal, IsPduOfJournal, IsRowOfJournal, number_in}

@@ -12,10 +12,10 @@ use Rattle.wire_base.specs.declared.triple.Summary.{Summary}
 use Rattle.wire_base.specs.model.Control.{Flood, FlagRow, age_of, entry_in, fragment_0, is_full, is_unknown, purge, put_entry, same_id, seq_of}
 use Rattle.wire_base.specs.model.Flooding.{SnpAnswer, ask_on, asks, is_live_summary, lacks, listed_aged, mark_all, no_links, nothing_asked, on_csnp, on_list, on_listed, on_psnp, send_lacking, send_on, set_srm, wanted, with_flags, with_row}
 use Rattle.wire_base.specs.model.Tlv.{rows_of}
-use Rattle.laws_router.proofs.EntryLaws.{same_is}
+use Rattle.wire_base.proofs.OrderLaws.{same_is}
 use Rattle.laws_router.proofs.FlagLaws.{KeepsRow, keeps_acknowledged, keeps_ask, keeps_mark, keeps_send, keeps_srm}
 use Rattle.domain_model.proofs.EachLaws.{each_from, fold_keeps}
-use Rattle.isis_flood.proofs.AgeLaws.{unknown_is_none}
+use Rattle.wire_base.proofs.AgeLaws.{unknown_is_none}
 use Rattle.laws_settle.specs.Fresh.{number_in}
 use Rattle.laws_settle.proofs.OwesLaws.{OwesIn, clear_owes, clear_put_owes, confused_even, mark_owes, not_older, number_kept, set_owes}
 use Rattle.laws_settle.proofs.RowSrm.{IsTidy, tidy_row}

@@ -13,7 +13,7 @@ use Rattle.wire_base.specs.model.Control.{Control, Flood, age_of, entry_in, frag
 use Rattle.wire_base.specs.model.Flooding.{LspAnswer, answer_lsp, is_own_ahead, is_unheld_own, issue, kept, last_sequence, lsp_aged, lsp_in, on_lsp, on_pdu, only_says, puts_marked, reissue, stores}
 use Rattle.wire_base.specs.model.OwnLsp.{own_lsp}
 use Rattle.wire_base.specs.model.Pdu.{Head, LspPdu, head_summary}
-use Rattle.laws_router.proofs.EntryLaws.{same_is}
+use Rattle.wire_base.proofs.OrderLaws.{same_is}
 use Rattle.domain_model.proofs.FloodTruth.{IsTrueOut, own_id, own_seq}
 use Rattle.laws_settle.specs.Fresh.{number_in}
 use Rattle.laws_settle.proofs.ControlOwes.{lsp_silent}

@@ -11,7 +11,8 @@ use Rattle.wire_base.specs.declared.triple.Summary.{Summary}
 use Rattle.wire_base.specs.model.Control.{Flood, FlagRow, age_of, entry_in, fragment_0, is_full, is_newer_or_confused, is_unknown, purge, put_entry, same_id, seq_of, srm}
 use Rattle.wire_base.specs.model.Flooding.{LspAnswer, ask_on, is_own_ahead, is_unheld_own, kept, lsp_aged, lsp_in, mark_all, no_links, on_lsp, only_says, puts_marked, send_on, stores, with_row}
 use Rattle.wire_base.specs.model.Pdu.{Head, head_summary}
-use Rattle.laws_router.proofs.EntryLaws.{id_self, put_other, put_reads, same_is}
+use Rattle.laws_router.proofs.EntryLaws.{id_self, put_other, put_reads}
+use Rattle.wire_base.proofs.OrderLaws.{same_is}
 use Rattle.domain_model.proofs.FlagLaws.{KeepsId}
 use Rattle.laws_settle.specs.Fresh.{number_in}
 use Rattle.laws_settle.proofs.RowSrm.{IsTidy, set_elsewhere, set_here, srm_left, srm_other, srm_set}

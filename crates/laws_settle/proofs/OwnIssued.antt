@@ -22,7 +22,7 @@ use Rattle.router_core.specs.Own.{own_past, spent_past}
 use Rattle.router_core.proofs.IssuedLaws.{IsFragmentAlone, issued_over, list_issued, lsp_issued, marked_up, second_issued, sent_issued, started_issued}
 use Rattle.router_core.proofs.OwnLaws.{kept_of, reissue_is}
 use Rattle.router_core.proofs.ReconfigurationLaws.{left_is_one, rejoined_is_one, relabelled_is_one}
-use Rattle.lsp_origin.proofs.ContentLaws.{content_short}
+use Rattle.laws_format.proofs.ContentLaws.{content_short}
 use Rattle.domain_model.specs.Truth.{IsDeadLsp, IsOwnLsp, IsTruePdu}
 use Rattle.domain_model.specs.World.{is_up}
 

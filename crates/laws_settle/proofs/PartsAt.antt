@@ -14,7 +14,7 @@ use Rattle.wire_base.specs.model.Pdu.{Pdu}
 use Rattle.wire_base.specs.model.Tlv.{SummaryFits}
 use Rattle.laws_format.proofs.TlvListLaws.{rows_of_tlvs}
 use Rattle.lsp_store.specs.Keys.{IsOctets}
-use Rattle.laws_router.proofs.EntryLaws.{same_is}
+use Rattle.wire_base.proofs.OrderLaws.{same_is}
 use Rattle.domain_model.proofs.EachLaws.{each_dropped, each_taken}
 use Rattle.laws_settle.specs.Csnps.{NoneDropped, after_pdus}
 use Rattle.laws_settle.proofs.FlagsAt.{Passes, is_flagged, passes_same, passes_then, unflagged_before}

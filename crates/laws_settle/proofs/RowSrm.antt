@@ -7,9 +7,8 @@ use Rattle.std.specs.declared.cmp.Ordering.TheVariants.{Less, Equal, Greater}
 use Rattle.wire_base.specs.declared.addresses.LspId.{LspId}
 use Rattle.wire_base.specs.model.Control.{AreAscending, Flood, FlagRow, IsFlagRow, IsWithinLinks, at_row, id_order, is_below, no_flags, same_id, srm, srm_in, ssn, ssn_in}
 use Rattle.wire_base.specs.model.Flooding.{with_row}
-use Rattle.lsp_store.proofs.OrderLaws.{above_differs, below_differs, same_turned}
+use Rattle.wire_base.proofs.OrderLaws.{above_differs, below_differs, same_turned, same_from_tie}
 use Rattle.lsp_store.proofs.PlaceLaws.{below_all}
-use Rattle.isis_flood.proofs.FloodLaws.{same_from_tie}
 use Rattle.laws_router.proofs.EntryLaws.{id_self}
 use Rattle.laws_router.proofs.FlagLaws.{KeepsRow, all_rows, none_flagged, row_ids, rows_ascend}
 use Rattle.domain_model.proofs.FlagLaws.{KeepsId, changed_for, srm_same}

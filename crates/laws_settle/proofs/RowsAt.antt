@@ -11,10 +11,10 @@ use Rattle.wire_base.specs.declared.entry.Entry.{Entry}
 use Rattle.wire_base.specs.declared.triple.Summary.{Summary}
 use Rattle.wire_base.specs.model.Control.{Flood, age_of, entry_in, fragment_0, is_full, is_unknown, purge, put_entry, same_id, seq_of}
 use Rattle.wire_base.specs.model.Flooding.{SnpAnswer, ask_on, asks, is_live_summary, listed_aged, mark_all, on_listed, send_on, set_srm, wanted, with_flags, with_row}
-use Rattle.isis_flood.proofs.AgeLaws.{unknown_is_none}
+use Rattle.wire_base.proofs.AgeLaws.{unknown_is_none}
 use Rattle.isis_flood.proofs.KeptLaws.{rows_keep}
 use Rattle.laws_router.specs.Kept.{Kept}
-use Rattle.laws_router.proofs.EntryLaws.{same_is}
+use Rattle.wire_base.proofs.OrderLaws.{same_is}
 use Rattle.laws_router.proofs.KeptLaws.{SnpKept, listed_kept}
 use Rattle.laws_settle.proofs.FlagsAt.{CanFlag, Passes, asked_flagged, is_flagged, marked_flagged, passes_kept, passes_marked, passes_row, passes_row_put, passes_same, passes_then, sending_flagged, unflagged, unflagged_before}
 

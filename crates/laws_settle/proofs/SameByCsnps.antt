@@ -13,8 +13,7 @@ use Rattle.wire_base.specs.model.Flooding.{due_csnps, is_known, is_live_summary,
 use Rattle.wire_base.specs.model.Lists.{blocks}
 use Rattle.wire_base.specs.model.Tlv.{SummaryFits}
 use Rattle.lsp_store.specs.Keys.{IsOctets}
-use Rattle.lsp_store.proofs.OrderLaws.{below_differs, same_turned}
-use Rattle.laws_router.proofs.EntryLaws.{same_is}
+use Rattle.wire_base.proofs.OrderLaws.{below_differs, same_turned, same_is}
 use Rattle.router_core.proofs.OwnLaws.{kept_of}
 use Rattle.quiet_domain.specs.Live.{AreSameLive, are_alike, is_live, is_same}
 use Rattle.domain_model.proofs.EachLaws.{each_kept, each_mapped, each_weaker}

@@ -17,8 +17,8 @@ use Rattle.wire_base.specs.model.Control.{same_system}
 use Rattle.pcapng_frames.specs.declared.packet.NgRecord.{NgRecord}
 use Rattle.isis_hello.specs.declared.adjacency.Adjacency.{Adjacency}
 use Rattle.isis_hello.specs.declared.adjacency.Circuit.{Circuit}
-use Rattle.isis_hello.specs.declared.event.HelloEvent.{HelloEvent}
-use Rattle.isis_hello.specs.declared.event.HelloEvent.TheVariants as hellos
+use Rattle.wire_base.specs.declared.hello_event.HelloEvent.{HelloEvent}
+use Rattle.wire_base.specs.declared.hello_event.HelloEvent.TheVariants as hellos
 use Rattle.isis_hello.specs.declared.hello.Hello.{Hello}
 use Rattle.isis_hello.specs.Adjacency.{after_hello, after_tick, is_up}
 use Rattle.isis_hello.specs.Circuits.{fresh, broken, circuit_id, hello_of}

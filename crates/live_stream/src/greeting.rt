@@ -4,9 +4,8 @@ ghost use Rattle.replay_text.specs.declared.fault.TextFault.TheVariants as texts
 ghost use Rattle.live_stream.specs.HelloRun as hello;
 
 use crate::fault::LiveFault;
-use isis_hello::HelloEvent;
 use replay_text::{Event, HandLine, Line, TextFault};
-use wire_base::{M, Memory};
+use wire_base::{HelloEvent, M, Memory};
 
 /// An event of hellos. Routers are named by their indices in the domain.
 #[derive(Clone, Copy, Debug, PartialEq, Eq)]

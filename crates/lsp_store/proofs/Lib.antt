@@ -1,5 +1,4 @@
 pub mod EntryListLaws
 pub mod KeyLaws
-pub mod OrderLaws
 pub mod PlaceLaws
 pub mod SeenLaws

@@ -19,7 +19,7 @@ use Rattle.wire_base.specs.declared.faults.PutFault.{PutFault}
 use Rattle.wire_base.specs.declared.faults.PutFault.TheVariants.{Full, Memory}
 use Rattle.wire_base.specs.model.Control.{same_id, id_order, is_below, AreAscending, IsDatabase, ids_of, entry_in, put_entry, aged, aged_to}
 use Rattle.lsp_store.specs.Places.{place_in, stands_at, IsPlace, is_new, PutAnswers, IsSecondAt, is_removed, passed}
-use Rattle.lsp_store.proofs.OrderLaws.{id_total, tie_is_same, below_from_above, below_trans, above_trans, above_from_below, below_differs, above_differs, same_turned}
+use Rattle.wire_base.proofs.OrderLaws.{id_total, tie_is_same, below_from_above, below_trans, above_trans, above_from_below, below_differs, above_differs, same_turned}
 
 -- ---- each element
 

@@ -8,9 +8,7 @@ use Rattle.std.proofs.lemmas.Option.{same_Some}
 use Rattle.wire_base.specs.declared.addresses.LspId.{LspId}
 use Rattle.wire_base.specs.declared.entry.Entry.{Entry}
 use Rattle.wire_base.specs.model.Control.{AreAscending, entry_in, id_order, ids_of, is_below, same_id}
-use Rattle.lsp_store.proofs.OrderLaws.{below_differs, below_from_above, below_trans}
-use Rattle.isis_flood.proofs.FloodLaws.{same_from_tie}
-use Rattle.isis_flood.proofs.KeptLaws.{same_is}
+use Rattle.wire_base.proofs.OrderLaws.{below_differs, below_from_above, below_trans, same_from_tie, same_is}
 use Rattle.quiet_domain.specs.Live.{IsLeastDifference, differs_at, first_difference, is_same_at, lesser_id}
 use Rattle.quiet_domain.proofs.LiveLaws.{IsUnder, same_self}
 

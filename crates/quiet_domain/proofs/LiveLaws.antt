@@ -10,9 +10,7 @@ use Rattle.std.specs.Ordering.{is_gt, is_lt}
 use Rattle.wire_base.specs.declared.addresses.LspId.{LspId}
 use Rattle.wire_base.specs.declared.entry.Entry.{Entry}
 use Rattle.wire_base.specs.model.Control.{AreAscending, entry_in, id_order, ids_of, is_below, same_id}
-use Rattle.lsp_store.proofs.OrderLaws.{below_differs, below_from_above, below_trans, same_turned}
-use Rattle.isis_flood.proofs.FloodLaws.{same_from_tie}
-use Rattle.isis_flood.proofs.KeptLaws.{same_is}
+use Rattle.wire_base.proofs.OrderLaws.{below_differs, below_from_above, below_trans, same_turned, same_from_tie, same_is}
 use Rattle.quiet_domain.specs.Live.{IsDifference, IsLeastDifference, alike_by, are_alike, has_same, is_live, is_same, is_same_at}
 
 -- ---- lookups

@@ -6,3 +6,5 @@ pub mod Quiet
 pub mod RunsDone
 pub mod Schedules
 pub mod Grown
+pub mod Paths
+pub mod Causes

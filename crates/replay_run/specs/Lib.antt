@@ -6,3 +6,4 @@ pub mod RunDone
 pub mod Faults
 pub mod Endings
 pub mod Run
+pub mod Ran

@@ -1,6 +1,6 @@
 //! What a line of a schedule of hellos contains.
 use crate::event::Line;
-use isis_hello::HelloEvent;
+use wire_base::HelloEvent;
 
 /// A line of a schedule whose interfaces come up and go down by hellos (RFC 5303).
 #[derive(Drop)]

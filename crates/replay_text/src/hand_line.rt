@@ -12,10 +12,9 @@ use crate::fault::TextFault;
 use crate::hand::HandLine;
 use crate::keyword::keyword_of;
 use crate::schedule_line::{frame_named, link_named, read_line};
-use isis_hello::HelloEvent;
 use std::alloc::Global;
 use wire_base::limits::LINE_LIMIT;
-use wire_base::{Name, Rows};
+use wire_base::{HelloEvent, Name, Rows};
 
 /// Parses a line that is no event of hellos, from its first word.
 #[tactic(auto, using(crate::proofs::HandLemmas::steady))]

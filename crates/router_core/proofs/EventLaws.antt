@@ -14,11 +14,10 @@ use Rattle.wire_base.specs.model.Control.{Control, Flood, IsDatabase, AreAscendi
 use Rattle.wire_base.specs.model.Flooding.{mark_all, link_up, link_down, sent_on, reissue, reissue_unless_spent, end_up, end_down, flood_aged, aged_all, is_stale, tick, started, first_control, restart, new_flood}
 use Rattle.wire_base.specs.model.OwnLsp.{own_lsp}
 use Rattle.lsp_store.specs.Places.{is_refused}
-use Rattle.lsp_store.proofs.OrderLaws.{below_differs, same_turned}
+use Rattle.wire_base.proofs.OrderLaws.{below_differs, same_turned, same_is}
 use Rattle.router_core.specs.Aging.{is_near}
 use Rattle.router_core.specs.Own.{own_past, spent_past}
 use Rattle.laws_router.specs.State.{IsRouter, control_of}
-use Rattle.laws_router.proofs.EntryLaws.{same_is}
 use Rattle.laws_router.specs.Kept.{Kept, OwnStands}
 use Rattle.laws_router.proofs.StateLaws.{up_kept, down_kept, sent_kept, all_aged, issue_kept, new_kept}
 use Rattle.router_core.proofs.OwnLaws.{known_not_refused, past_id, past_short, past_live, kept_of, router_of, reissued_is, reissued_keeps}

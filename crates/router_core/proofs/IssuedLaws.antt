@@ -22,7 +22,8 @@ use Rattle.router_core.specs.Own.{own_past, spent_past}
 use Rattle.router_core.specs.Aging.{is_near}
 use Rattle.router_core.specs.Received.{list_taken}
 use Rattle.laws_router.specs.State.{IsIssued, AreIssued, IsRouter, control_of}
-use Rattle.laws_router.proofs.EntryLaws.{same_is, put_reads, id_self, bytes_self}
+use Rattle.laws_router.proofs.EntryLaws.{put_reads, id_self, bytes_self}
+use Rattle.wire_base.proofs.OrderLaws.{same_is}
 use Rattle.router_core.proofs.EventLaws.{aged_reads}
 use Rattle.router_core.proofs.OwnLaws.{past_id, kept_of}
 use Rattle.laws_router.proofs.StateLaws.{all_aged}

@@ -5,13 +5,13 @@ use Rattle.std.specs.List.{AllByRecursion, flat_map, position_or_len}
 use Rattle.wire_base.specs.declared.addresses.LspId.{LspId}
 use Rattle.wire_base.specs.declared.entry.Entry.{Entry}
 use Rattle.wire_base.specs.model.Control.{AreAscending, ids_of, is_below, same_id, entry_in, FlagRow, HasEntry, srm_in, ssn_in}
-use Rattle.lsp_store.proofs.OrderLaws.{below_trans, below_differs, same_turned}
+use Rattle.wire_base.proofs.OrderLaws.{below_trans, below_differs, same_turned, same_is}
 use Rattle.wire_base.specs.declared.conf.RouterConf.{RouterConf}
 use Rattle.wire_base.specs.declared.effects.Sent.{Sent}
 use Rattle.wire_base.specs.declared.triple.Summary.{Summary}
 use Rattle.wire_base.specs.model.Control.{summary_of}
 use Rattle.router_core.specs.Sending.{entry_frames, entry_summary, found, found_at, lsp_frames, row_asked, row_frames, row_ids}
-use Rattle.laws_router.proofs.EntryLaws.{HasId, same_is}
+use Rattle.laws_router.proofs.EntryLaws.{HasId}
 
 -- ---- one row after the other
 

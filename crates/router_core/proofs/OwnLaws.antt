@@ -11,7 +11,7 @@ use Rattle.wire_base.specs.model.Control.{Control, Flood, IsDatabase, fragment_0
 use Rattle.wire_base.specs.model.Flooding.{mark_all, reissue, last_sequence}
 use Rattle.wire_base.specs.model.OwnLsp.{own_lsp, own_content}
 use Rattle.lsp_store.specs.Places.{is_new, is_refused, PutAnswers, AnswersWhere}
-use Rattle.lsp_origin.proofs.ContentLaws.{content_short}
+use Rattle.laws_format.proofs.ContentLaws.{content_short}
 use Rattle.router_core.specs.Own.{own_past, spent_past}
 use Rattle.laws_router.specs.State.{IsShort, IsRouter, control_of}
 use Rattle.laws_router.proofs.EntryLaws.{HasId}

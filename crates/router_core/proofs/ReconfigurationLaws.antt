@@ -12,8 +12,8 @@ use Rattle.wire_base.specs.model.Flooding.{mark_all, reissue, reissue_unless_spe
 use Rattle.wire_base.specs.model.Membership.{relabelled, left, rejoined}
 use Rattle.laws_router.specs.Becoming.{AreOfOne}
 use Rattle.laws_router.specs.Kept.{Kept}
-use Rattle.laws_router.specs.State.{AreIssued, IsRouter, control_of}
-use Rattle.router_core.specs.Own.{own_past, spent_past}
+use Rattle.laws_router.specs.State.{AreIssued, IsRouter, IsWhole, control_of}
+use Rattle.router_core.specs.Own.{own_next, own_past, own_seq, spent_past}
 use Rattle.router_core.proofs.IssuedLaws.{issued_over, marked_up}
 use Rattle.router_core.proofs.OwnLaws.{kept_of, reissued_is, reissued_keeps, router_of}
 
@@ -92,3 +92,23 @@ module _ (r next : RouterConf) (one : AreOfOne next r) (f : Flood) (es : List En
       changed_issued all unspent links =
           issued_over next ups f'.up spent now s own es es' is put now_is unspent (links ∙ sym (ap (λ (x : Flood). x.up) marked ∙ marked_up f own.id))
           (λ id x there live mine. (all.each id x there live (ap (same_system id.system) (sym one_system) ∙ mine)).fragment ∙ ap fragment_0 (sym one_system))
+
+    -- the parts that replace the router's own
+    module _ (f' : Flood) (es' : List Entry) (now : Bool) (exhausted : spent ≡ true → (now ≡ true) × (f' ≡ f) × (es' ≡ es))
+        (flags : spent ≡ false → f' ≡ mark_all f (own_next next f es).id) (entries : spent ≡ false → es' ≡ put_entry (own_next next f es) es)
+        (database : spent ≡ false → IsDatabase es') (now_is : spent ≡ false → now ≡ spent_past spent (own_seq next es)) where
+      pub replaced_keeps : AreIssued r f.up spent es → (b : Bool) → spent ≡ b → IsWhole (control_of next f' es' now)
+      replaced_keeps all true h =
+          let p = exhausted h in
+          rw (p.0, p.1, p.2, sym h) (record { router = turned_keeps; issued = spent_stays all h })
+      replaced_keeps all false h = record {
+        router = changed_keeps (own_seq next es) f.up (own_next next f es) refl f' es' now (flags h) (entries h) (now_is h) (database h);
+        issued = changed_issued (own_seq next es) f.up (own_next next f es) refl f' es' now (flags h) (entries h) (now_is h) all h refl;
+      }
+
+      pub replaced_is : (b : Bool) → spent ≡ b → control_of next f' es' now ≡ reissue_unless_spent (record (control_of r f es spent) { conf = next })
+      replaced_is true h =
+          let p = exhausted h in
+          rw (p.0, p.1, p.2) (ap (λ (b : Bool). control_of next f es b) (sym h)) ∙ now_spent h
+      replaced_is false h =
+          changed_is (own_seq next es) f.up (own_next next f es) refl f' es' now (flags h) (entries h) (now_is h) h (ap (λ (x : SystemId). seq_of (entry_in es (fragment_0 x))) one_system) refl

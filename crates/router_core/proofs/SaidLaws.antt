@@ -18,10 +18,9 @@ use Rattle.wire_base.specs.model.View.{Claim, is_part_of, tlvs_of, claim_of, is_
 use Rattle.view_graph.specs.Keep.{is_first_of, said_in}
 use Rattle.view_graph.proofs.FragmentLaws.{same_is as same_system_is}
 use Rattle.view_graph.proofs.GraphLaws.{and_both}
-use Rattle.lsp_store.proofs.OrderLaws.{above_differs, same_turned}
-use Rattle.isis_flood.proofs.FloodLaws.{same_from_tie}
+use Rattle.wire_base.proofs.OrderLaws.{above_differs, same_turned, same_from_tie, same_is}
 use Rattle.router_core.specs.Keeping.{is_last}
-use Rattle.laws_router.proofs.EntryLaws.{same_is, id_self}
+use Rattle.laws_router.proofs.EntryLaws.{id_self}
 
 -- ---- lists
 

@@ -14,7 +14,7 @@ use Rattle.wire_base.specs.model.Flooding.{csnps, csnp_of, psnp_of, lsp_of, id_a
 use Rattle.wire_base.specs.model.Lists.{blocks}
 use Rattle.wire_base.specs.model.OnFrame.{frames_of, pdu_frame}
 use Rattle.wire_base.specs.model.Pdu.{Pdu, CsnpPdu, row_tlvs, pdu}
-use Rattle.lsp_origin.proofs.ContentLaws.{blocks_step}
+use Rattle.laws_format.proofs.ContentLaws.{blocks_step}
 use Rattle.router_core.specs.Sending.{conf_alone, lsp_frames, octets_on}
 use Rattle.laws_router.specs.State.{control_of}
 

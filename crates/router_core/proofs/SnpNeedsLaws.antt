@@ -16,11 +16,12 @@ use Rattle.wire_base.specs.model.Control.{AreAscending, Flood, ids_of, same_id, 
 use Rattle.wire_base.specs.model.Flooding.{SnpAnswer, with_row, mark_all, ask_on, wanted, asks, is_live_summary, listed_aged, on_listed, on_list, nothing_asked}
 use Rattle.lsp_store.specs.Places.{is_new, stands_at, place_in}
 use Rattle.lsp_store.proofs.PlaceLaws.{put_there, put_new, put_ascends, entry_missing, old_there, place_within}
-use Rattle.isis_flood.proofs.AgeLaws.{unknown_is_none}
+use Rattle.wire_base.proofs.AgeLaws.{unknown_is_none}
 use Rattle.isis_flood.proofs.KeptLaws.{rows_keep}
 use Rattle.router_core.specs.declared.snp_needs.Look.{Look}
 use Rattle.router_core.specs.SnpNeeds.{is_confused, is_at_odds, past_asked, is_wanted, looked, count_full}
-use Rattle.laws_router.proofs.EntryLaws.{same_is, put_reads, put_other}
+use Rattle.laws_router.proofs.EntryLaws.{put_reads, put_other}
+use Rattle.wire_base.proofs.OrderLaws.{same_is}
 use Rattle.laws_router.specs.Kept.{OwnStands}
 
 either : (P : SnpAnswer → Type 0) (b : Bool) (x y : SnpAnswer) → (b ≡ true → P x) → (b ≡ false → P y) → P (if b then x else y)

@@ -19,7 +19,7 @@ use Rattle.wire_base.specs.model.Pdu.{Head, head_summary, LspPdu, CsnpPdu, PsnpP
 use Rattle.wire_base.specs.model.Tlv.{rows_of}
 use Rattle.view_graph.proofs.SystemLaws.{same_turned}
 use Rattle.laws_router.specs.Becoming.{AreOfOne}
-use Rattle.isis_flood.proofs.AgeLaws.{unknown_is_none}
+use Rattle.wire_base.proofs.AgeLaws.{unknown_is_none}
 use Rattle.router_core.specs.SnpNeeds.{is_confused, is_confusing}
 use Rattle.router_core.specs.Keeping.{SaysSame, is_last}
 use Rattle.router_core.specs.Own.{own_past}

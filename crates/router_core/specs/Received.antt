@@ -4,8 +4,7 @@ use Rattle.wire_base.specs.declared.addresses.LspId.{LspId}
 use Rattle.wire_base.specs.declared.entry.Entry.{Entry}
 use Rattle.wire_base.specs.declared.triple.Summary.{Summary}
 use Rattle.wire_base.specs.model.Control.{Flood}
-use Rattle.wire_base.specs.model.Flooding.{SnpAnswer, on_list}
-use Rattle.isis_flood.specs.Answers.{csnp_listed}
+use Rattle.wire_base.specs.model.Flooding.{SnpAnswer, on_list, csnp_listed}
 use Rattle.wire_base.specs.declared.limits.TheConstants.{MOST_CONTENT}
 use Rattle.wire_base.specs.declared.cause.Cause.{Cause}
 use Rattle.wire_base.specs.declared.flood_out.FloodOut.{FloodOut}

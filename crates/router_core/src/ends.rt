@@ -53,9 +53,9 @@ fn started(alloc: Global, conf: &RouterConf, up: &[bool]) -> M<(Store, Flood)>
     ensures flood { IfOk result (λ s. s.1.flood ≡ (started conf.now up.now).flood) }
     ensures database { IfOk result (λ s. IsDatabase s.0.entries) }
 {
-    let mut store = Store::new(alloc);
-    let mut flood = Flood::new(alloc, conf.system, conf.ends.len() as u16, up)?;
     let own = originate(alloc, conf, up, 1)?;
+    let mut flood = Flood::new(alloc, conf.system, conf.ends.len() as u16, up)?;
+    let mut store = Store::new(alloc);
     issue(&mut store, &mut flood, own)?;
     Ok((store, flood))
 }

@@ -165,6 +165,19 @@ fn move_sub(subs: &mut Rows<OwnSub>, sd: u8, bsl: Bsl, label: u32) -> M<()>
     Ok(())
 }
 
+/// Lets the label range of a BSL in a sub-domain begin at another label, and appends the range that it had to the earlier ones.
+#[tactic(auto, unfolding(wire_base::specs::model::Membership::relabelled))]
+fn relabel(conf: &mut RouterConf, had: Option<LabelRange>, sd: u8, bsl: Bsl, label: u32) -> M<()>
+    requires { had ≡ own_range conf.old sd bsl }
+    ensures { OnOk result (conf.new ≡ relabelled conf.old sd bsl label) }
+{
+    if let Some(range) = had {
+        conf.past.push(PastRange { sd, range })?;
+    }
+    move_sub(&mut conf.subs, sd, bsl, label)?;
+    move_sub(&mut conf.away, sd, bsl, label)
+}
+
 /// Returns a copy of a configuration whose label range of a BSL in a sub-domain begins at another label. The earlier range stays
 /// among the earlier ones.
 #[tactic(auto, unfolding(wire_base::specs::model::Membership::relabelled))]
@@ -172,11 +185,7 @@ pub(crate) fn relabelled(conf: &RouterConf, sd: u8, bsl: Bsl, label: u32) -> M<R
     ensures { IfOk result (λ r. r ≡ relabelled conf.now sd bsl label) }
 {
     let mut next = conf.copy()?;
-    if let Some(range) = own_range(conf, sd, bsl) {
-        next.past.push(PastRange { sd, range })?;
-    }
-    move_sub(&mut next.subs, sd, bsl, label)?;
-    move_sub(&mut next.away, sd, bsl, label)?;
+    relabel(&mut next, own_range(conf, sd, bsl), sd, bsl, label)?;
     Ok(next)
 }
 

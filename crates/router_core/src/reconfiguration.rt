@@ -1,15 +1,42 @@
 //! Other labels, and sub-domains that are left and joined (RFC 8401, 6.1 and 6.2; ISO/IEC 10589, 7.3.6).
-ghost use Rattle.std.specs.Prelude.{◌≡◌, true, is_some, OnOk, OnErr};
+ghost use Rattle.std.specs.Prelude.{◌≡◌, true, false, length, is_some, IfOk, OnOk, OnErr};
 ghost use Rattle.wire_base.specs.model.Configuration.{IsSound};
-ghost use Rattle.wire_base.specs.model.Flooding.{reissue_unless_spent, relabel, leave, join};
+ghost use Rattle.wire_base.specs.model.Control.{IsDatabase, fragment_0, put_entry};
+ghost use Rattle.wire_base.specs.model.Flooding.{mark_all, reissue_unless_spent, relabel, leave, join};
 ghost use Rattle.wire_base.specs.model.Membership.{CanRelabel};
 ghost use Rattle.wire_base.specs.model.Place.{sub_in};
+ghost use Rattle.lsp_store.specs.Places.{is_refused};
 ghost use Rattle.laws_router.specs.Becoming.{AreOfOne};
+ghost use Rattle.router_core.specs.Own.{own_next, own_seq, spent_past};
 
 use crate::control::Control;
 use crate::membership::{left, rejoined, relabelled};
 use crate::own::{issue, own_now, spent_past};
+use isis_flood::Flood;
+use lsp_store::Store;
 use wire_base::{Bsl, LspId, M, RouterConf};
+
+/// Originates the own LSP from a configuration, unless the sequence number space is exhausted. Returns whether it is exhausted
+/// then. If an allocation fails, nothing has changed.
+fn issue_from(conf: &RouterConf, store: &mut Store, flood: &mut Flood, spent: bool) -> M<bool>
+    requires sound { IsSound conf.now }
+    requires ends { length flood.old.flood.up ≡ length conf.now.ends }
+    requires own { spent ≡ false → is_refused store.old.entries (fragment_0 conf.now.system) ≡ false }
+    ensures exhausted { spent ≡ true → IfOk result (λ now. (now ≡ true) × (flood.new.flood ≡ flood.old.flood) × (store.new.entries ≡ store.old.entries)) }
+    ensures flood { spent ≡ false → OnOk result (flood.new.flood ≡ mark_all flood.old.flood (own_next conf.now flood.old.flood store.old.entries).id) }
+    ensures entries { spent ≡ false → OnOk result (store.new.entries ≡ put_entry (own_next conf.now flood.old.flood store.old.entries) store.old.entries) }
+    ensures database { spent ≡ false → OnOk result (IsDatabase store.new.entries) }
+    ensures spent { spent ≡ false → IfOk result (λ now. now ≡ spent_past spent (own_seq conf.now store.old.entries)) }
+    ensures err { OnErr result ((flood.new.flood ≡ flood.old.flood) × (store.new.entries ≡ store.old.entries)) }
+{
+    if spent {
+        return Ok(true);
+    }
+    let seq = store.seq_of(&LspId::fragment_0(conf.system));
+    let own = own_now(store.allocator(), conf, flood, seq)?;
+    issue(store, flood, own)?;
+    Ok(spent_past(spent, seq))
+}
 
 impl Control {
     /// Replaces the configuration by one that differs in sub-domains and label ranges only, and originates the own LSP from it. If
@@ -20,16 +47,8 @@ impl Control {
         ensures ok { OnOk result (self.new ≡ reissue_unless_spent (record self.old { conf = next })) }
         ensures err { OnErr result (self.new ≡ self.old) }
     {
-        if self.spent {
-            self.conf = next;
-            return Ok(());
-        }
-        let alloc = self.allocator();
-        let seq = self.store.seq_of(&LspId::fragment_0(self.conf.system));
-        let own = own_now(alloc, &next, &self.flood, seq)?;
-        issue(&mut self.store, &mut self.flood, own)?;
+        self.spent = issue_from(&next, &mut self.store, &mut self.flood, self.spent)?;
         self.conf = next;
-        self.spent = spent_past(self.spent, seq);
         Ok(())
     }
 

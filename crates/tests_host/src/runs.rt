@@ -1,6 +1,6 @@
 //! Runs of the program on real files, whose status and report are those of its commands.
 use crate::disk::{Call, OpenCalls};
-use host_run::run_arguments;
+use replay_run::run_arguments;
 use std::fs;
 use std::io::ErrorKind;
 use std::test::Fail;

@@ -13,7 +13,7 @@ use Rattle.wire_base.specs.declared.addresses.LspId.{LspId}
 use Rattle.wire_base.specs.declared.entry.Entry.{Entry}
 use Rattle.wire_base.specs.declared.limits.TheConstants.{MOST_ENTRIES}
 use Rattle.wire_base.specs.model.Control.{AreAscending, ids_of, is_below, is_full, put_entry}
-use Rattle.lsp_store.proofs.OrderLaws.{above_from_below}
+use Rattle.wire_base.proofs.OrderLaws.{above_from_below}
 
 gt_is : (o : Ordering) → is_gt o ≡ true → o ≡ Greater
 gt_is Less h = absurd (false≢true h)

@@ -29,7 +29,8 @@ use Rattle.wire_base.proofs.SoundLemmas.{sound_subs}
 use Rattle.laws_format.proofs.FieldLaws.{bind_ok, ok_is, guarded}
 use Rattle.laws_format.proofs.TlvLaws.{some_is}
 use Rattle.laws_format.proofs.InfoLaws.{all_weaker}
-use Rattle.view_graph.proofs.GraphLaws.{IsLink, HasApart, IsClaim, all_from, all_put, and_both, no_pairs}
+use Rattle.view_graph.proofs.GraphLaws.{IsLink, HasApart, IsClaim, all_from, and_both, no_pairs}
+use Rattle.wire_base.proofs.ClaimLaws.{all_put}
 use Rattle.view_graph.proofs.ListLaws.{filter_map-first}
 
 -- ---- words on lists

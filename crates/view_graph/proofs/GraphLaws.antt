@@ -28,6 +28,7 @@ use Rattle.wire_base.specs.model.Place.{kind_of}
 use Rattle.laws_format.proofs.TlvLaws.{some_is}
 use Rattle.wire_base.specs.model.Graph.{octets_before, IsBefore, IsEdge, IsNode, ShareNoPrefix}
 use Rattle.wire_base.specs.model.View.{Claim, Link, metric_to, lists, edges_from, first_each, all_ranges, unless_overlap, with_known, put_claim, claim_of, is_other, own_claim, claims_of, is_shared, has_prefix, node_of}
+use Rattle.wire_base.proofs.ClaimLaws.{all_put}
 use Rattle.view_graph.specs.Edges.{is_before, AreInOrder}
 use Rattle.view_graph.proofs.SystemLaws.{tie_is_same, before_from_above, before_trans, before_differs, same_turned}
 use Rattle.laws_format.proofs.InfoLaws.{all_weaker}
@@ -109,14 +110,6 @@ others_apart all own (x ∷ xs) = by (is_other own x) refl (others_apart all own
     by : (b : Bool) → is_other own x ≡ b → AllByRecursion (λ d. same_system d.system own ≡ false) (others all own xs) → AllByRecursion (λ d. same_system d.system own ≡ false) (others all own (x ∷ xs))
     by true h more = rw h ((first_of own x h).other, more)
     by false h more = rw h more
-
-pub all_put : (P : Claim → Type 0) (c : Claim) (cs : List Claim) → P c → AllByRecursion P cs → AllByRecursion P (put_claim c cs)
-all_put P c [] h all = (h, tt)
-all_put P c (x ∷ xs) h all = by (is_lt (system_order c.system x.system)) refl (all_put P c xs h all.1)
-  where
-    by : (b : Bool) → is_lt (system_order c.system x.system) ≡ b → AllByRecursion P (put_claim c xs) → AllByRecursion P (put_claim c (x ∷ xs))
-    by true e more = rw e (h, all)
-    by false e more = rw e (all.0, more)
 
 below_all : (a b : SystemId) (cs : List Claim) → is_before a b ≡ true → AllByRecursion (λ d. is_before b d.system ≡ true) cs → AllByRecursion (λ d. is_before a d.system ≡ true) cs
 below_all a b cs h all = all_weaker _ _ (λ (d : Claim) k. before_trans a b d.system h k) cs all

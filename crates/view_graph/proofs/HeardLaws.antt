@@ -18,7 +18,7 @@ use Rattle.wire_base.specs.declared.entry.Entry.{Entry}
 use Rattle.wire_base.specs.model.Control.{same_id, same_system, id_order, is_below, fragment_0, AreAscending, ids_of}
 use Rattle.wire_base.specs.model.View.{Claim, claim_of, is_other, with_known}
 use Rattle.lsp_store.specs.Places.{place_in as id_place}
-use Rattle.lsp_store.proofs.OrderLaws.{id_total, below_trans, below_differs, above_differs as above_differs_id, same_turned as same_turned_id}
+use Rattle.wire_base.proofs.OrderLaws.{id_total, below_trans, below_differs, above_differs as above_differs_id, same_turned as same_turned_id}
 use Rattle.view_graph.specs.Keep.{heard, said_by, said_in, is_first_of, is_named}
 use Rattle.view_graph.proofs.FragmentLaws.{same_is, claim_at}
 use Rattle.laws_format.proofs.InfoLaws.{all_weaker}

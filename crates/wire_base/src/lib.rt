@@ -19,6 +19,7 @@ mod faults;
 mod few;
 pub mod fields;
 mod flood_out;
+mod hello_event;
 pub mod limits;
 mod lists;
 mod memory;
@@ -48,6 +49,7 @@ pub use faults::{
 };
 pub use few::Few;
 pub use flood_out::{FloodOut, SnpOut};
+pub use hello_event::HelloEvent;
 pub use lists::{Name, Octets, Rows};
 pub use memory::{M, Memory};
 pub use outside::{Failed, Sink, Source};

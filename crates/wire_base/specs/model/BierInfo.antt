@@ -9,6 +9,7 @@ use Rattle.wire_base.specs.declared.faults.InfoFault.{InfoFault}
 use Rattle.wire_base.specs.declared.faults.InfoFault.TheVariants as faults
 use Rattle.wire_base.specs.declared.bsl.Bsl.{Bsl}
 use Rattle.wire_base.specs.declared.conf.LabelRange.{LabelRange}
+use Rattle.wire_base.specs.declared.conf.OwnSub.{OwnSub}
 use Rattle.wire_base.specs.model.Fields.{◌>>=◌}
 use Rattle.wire_base.specs.model.Place.{code_of, bsl_coded}
 use Rattle.wire_base.specs.model.Tlv.{Tlv, tlv, tlv_at}
@@ -18,6 +19,10 @@ pub record Info : Type 0 where
   pub sd : ℕ
   pub id : ℕ
   pub ranges : List LabelRange
+
+-- what a router advertises of a sub-domain of its own
+abbrev pub own_of : OwnSub → Info
+own_of s = record { sd = s.sd; id = s.id; ranges = s.ranges }
 
 -- ---- encoding
 

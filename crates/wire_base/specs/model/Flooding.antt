@@ -190,6 +190,12 @@ lacks start last rows e = nat_lt 0 e.life && (nat_lt 0 e.seq && (not (is_below e
 abbrev pub send_lacking : ℕ → LspId → LspId → List Summary → Flood → Entry → Flood
 send_lacking link start last rows f e = if lacks start last rows e then with_row f e.id (set_srm link true) else f
 
+-- a CSNP from `start` to `last` with those LSP entries: their effects, and then what the CSNP lacks
+abbrev pub csnp_listed : Flood → List Entry → ℕ → LspId → LspId → List Summary → Bool → SnpAnswer
+csnp_listed f entries link start last rows spent =
+    let a = on_list f entries link rows spent in
+    record a { flood = fold (send_lacking link start last rows) a.flood a.entries }
+
 -- a CSNP on a link
 unfoldable pub on_csnp : Flood → List Entry → ℕ → LspId → LspId → List ℕ → Bool → SnpAnswer
 on_csnp f entries link start last tlvs spent =

@@ -1,8 +1,7 @@
 use Rattle.std.proofs.lemmas.Result.{on_ok_weaker}
-use Rattle.wire_base.specs.model.BierInfo.{info_tlv}
+use Rattle.wire_base.specs.model.BierInfo.{info_tlv, own_of}
 use Rattle.laws_format.proofs.TlvLaws.{tlv_pushed}
 use Rattle.laws_format.proofs.InfoLaws.{info_again}
-use Rattle.bier_subtlv.specs.Views.{own_of}
 use Rattle.bier_subtlv.proofs.writer.push_info.Goals as goal
 
 pub returns-clause-again : goal.returns-clause-again

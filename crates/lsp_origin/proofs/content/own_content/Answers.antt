@@ -1,4 +1,4 @@
-use Rattle.lsp_origin.proofs.ContentLaws.{content_is, content_short}
+use Rattle.laws_format.proofs.ContentLaws.{content_is, content_short}
 use Rattle.lsp_origin.proofs.content.own_content.Goals as goal
 
 pub returns-clause-content : goal.returns-clause-content

@@ -1,5 +1,5 @@
 use Rattle.std.proofs.lemmas.Result.{on_ok_weaker}
-use Rattle.lsp_origin.proofs.ContentLaws.{block_text}
+use Rattle.laws_format.proofs.ContentLaws.{block_text}
 use Rattle.lsp_origin.proofs.links.append_block.Goals as goal
 
 pub returns : goal.returns

@@ -1,6 +1,6 @@
 use Rattle.std.proofs.Common.{length, arith, ◌<◌}
 use Rattle.wire_base.specs.model.Configuration.{IsEnd}
-use Rattle.lsp_origin.proofs.ContentLaws.{cut_text, all_dropped}
+use Rattle.laws_format.proofs.ContentLaws.{cut_text, all_dropped}
 use Rattle.lsp_origin.proofs.links.append_blocks.Goals as goal
 
 pub cuts-preserved : goal.cuts-preserved

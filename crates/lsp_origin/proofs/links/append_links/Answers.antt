@@ -1,5 +1,5 @@
 use Rattle.wire_base.specs.model.Configuration.{IsEnd}
-use Rattle.lsp_origin.proofs.ContentLaws.{picked_all}
+use Rattle.laws_format.proofs.ContentLaws.{picked_all}
 use Rattle.lsp_origin.proofs.links.append_links.Goals as goal
 
 pub append_blocks-requires : goal.append_blocks-requires

@@ -1,6 +1,6 @@
 use Rattle.std.proofs.Common.{◌∙◌, arith}
 use Rattle.std.proofs.lemmas.List.{get_or_default}
-use Rattle.lsp_origin.proofs.ContentLaws.{up_step, down_step}
+use Rattle.laws_format.proofs.ContentLaws.{up_step, down_step}
 use Rattle.lsp_origin.proofs.links.up_ends.Goals.{then-up-i+in_ok-push, else-up-i}
 use Rattle.lsp_origin.proofs.links.up_ends.Goals as goal
 

@@ -1,6 +1,6 @@
 use Rattle.std.proofs.Common.{◌∙◌}
 use Rattle.wire_base.proofs.SoundLemmas.{sound_subs}
-use Rattle.lsp_origin.proofs.ContentLaws.{subs_follow, prefix_room}
+use Rattle.laws_format.proofs.ContentLaws.{subs_follow, prefix_room}
 use Rattle.lsp_origin.proofs.subdomains.append_prefix.Goals as goal
 
 pub sub_infos-requires : goal.sub_infos-requires

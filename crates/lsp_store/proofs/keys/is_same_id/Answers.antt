@@ -3,7 +3,7 @@ use Rattle.std.specs.Ordering.{is_eq}
 use Rattle.std.specs.Cmp.{unsigned_tied}
 use Rattle.lsp_store.specs.Keys.{id_key}
 use Rattle.lsp_store.proofs.KeyLaws.{key_order}
-use Rattle.lsp_store.proofs.OrderLaws.{tie_is_same}
+use Rattle.wire_base.proofs.OrderLaws.{tie_is_same}
 use Rattle.lsp_store.proofs.keys.is_same_id.Goals as goal
 
 pub returns : goal.returns

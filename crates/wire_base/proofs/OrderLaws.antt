@@ -1,12 +1,13 @@
 -- The order of identifiers is total, and equal ones alone are tied.
 use mathlib.Core.Bool.{false≢true}
-use Rattle.std.proofs.Common.{◌≡◌, true, false, refl, sym, ap, ◌∙◌}
+use Rattle.std.proofs.Common.{◌≡◌, ℕ, true, false, List, refl, sym, ap, ◌∙◌}
 use Rattle.std.specs.declared.cmp.Ordering.{Ordering}
 use Rattle.std.specs.declared.cmp.Ordering.TheVariants.{Less, Equal, Greater}
-use Rattle.std.specs.Ordering.{nat_cmp, ordering_reverse, is_eq, is_lt, is_gt}
+use Rattle.std.specs.Ordering.{nat_cmp, ordering_reverse, ordering_then, is_eq, is_lt, is_gt}
 use Rattle.std.specs.Cmp.{IsTotalOrder, tied_then, unsigned_tied}
 use Rattle.std.proofs.lemmas.Cmp.{nat_list_cmp_total, nat_cmp_total, on_total, then_total}
 use Rattle.std.proofs.lemmas.Map.Text.{is_eq-slice_cmp}
+use Rattle.std.proofs.lemmas.Map.Lookups.{exact_bytes, exact_unsigned}
 use Rattle.wire_base.specs.declared.addresses.SystemId.{SystemId}
 use Rattle.wire_base.specs.declared.addresses.LspId.{LspId}
 use Rattle.wire_base.specs.model.Control.{same_id, system_order, id_order, is_below}
@@ -61,3 +62,25 @@ same_turned a b = sym (tie_is_same a b) ∙ ap is_eq (id_total.antisymm a b) ∙
     reversed Less = refl
     reversed Equal = refl
     reversed Greater = refl
+
+pub eq_is : (o : Ordering) → is_eq o ≡ true → o ≡ Equal
+eq_is Less h = absurd (false≢true h)
+eq_is Equal h = refl
+eq_is Greater h = absurd (false≢true h)
+
+-- equal identifiers alone are tied
+tied_is : (p q : Ordering) → ordering_then p q ≡ Equal → (p ≡ Equal) × (q ≡ Equal)
+tied_is Less q h = absurd (false≢true (ap is_eq h))
+tied_is Equal q h = (refl, h)
+tied_is Greater q h = absurd (false≢true (ap is_eq h))
+
+pub same_from_tie : (a b : LspId) → id_order a b ≡ Equal → a ≡ b
+same_from_tie a b h =
+    let outer = tied_is (system_order a.system b.system) (ordering_then (nat_cmp a.pseudonode b.pseudonode) (nat_cmp a.fragment b.fragment)) h in
+    let inner = tied_is (nat_cmp a.pseudonode b.pseudonode) (nat_cmp a.fragment b.fragment) outer.1 in
+    ap (λ (s : List ℕ). record { system = record { 0 = s }; pseudonode = a.pseudonode; fragment = a.fragment }) (exact_bytes a.system.0 b.system.0 outer.0)
+    ∙ ap (λ (p : ℕ). record { system = b.system; pseudonode = p; fragment = a.fragment }) (exact_unsigned a.pseudonode b.pseudonode inner.0)
+    ∙ ap (λ (f : ℕ). record { system = b.system; pseudonode = b.pseudonode; fragment = f }) (exact_unsigned a.fragment b.fragment inner.1)
+
+pub same_is : (a b : LspId) → same_id a b ≡ true → a ≡ b
+same_is a b h = same_from_tie a b (eq_is (id_order a b) (tie_is_same a b ∙ h))

@@ -9,7 +9,7 @@ use Rattle.tool_host.specs.Named.{AreNamed, conf_path, input_path}
 use Rattle.tool_host.specs.declared.objects.Objects.{Objects}
 use Rattle.command_drive.specs.Answer.{Verdict}
 use Rattle.replay_run.specs.Verdict.{verdict}
-use Rattle.host_run.specs.Ran.{held}
+use Rattle.replay_run.specs.Ran.{held}
 
 pub at_paths : (at : List ℕ → Option (List ℕ)) (line : CommandLine) (conf input : List ℕ) (Holds : Verdict → Type 0)
     → IfSome (conf_path line) (λ path. conf ≡ path) → IfSome (input_path line) (λ path. input ≡ path)

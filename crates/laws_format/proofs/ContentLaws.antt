@@ -15,14 +15,12 @@ use Rattle.wire_base.specs.declared.conf.RouterConf.{RouterConf}
 use Rattle.wire_base.specs.model.Lists.{blocks, blocks_within}
 use Rattle.wire_base.specs.model.Place.{code_of, kind_of, is_mpls}
 use Rattle.wire_base.specs.model.Tlv.{tlv, reach, prefix, has_subs, NoneUnless}
-use Rattle.wire_base.specs.model.BierInfo.{Info, RangeFits, InfoFits, range, info_tlv}
-use Rattle.wire_base.specs.model.BierInfo.{AreApart as LengthsApart}
+use Rattle.wire_base.specs.model.BierInfo.{Info, RangeFits, InfoFits, range, info_tlv, AreApart as LengthsApart, own_of}
 use Rattle.wire_base.specs.model.Lists.{AreApart}
 use Rattle.wire_base.specs.model.Configuration.{IsLabelRange, IsOwnSub, IsEnd, IsSound, same_length, sub_octets, is_name, is_letter, is_name_octet}
 use Rattle.wire_base.specs.model.OwnLsp.{picked, area_tlv, protocols_tlv, name_tlv, reach_of, reach_tlv, reach_tlvs, info_of, infos_of, control_for, prefix_tlv, own_content}
 use Rattle.wire_base.proofs.SoundLemmas.{sound_subs}
 use Rattle.laws_format.proofs.InfoLaws.{all_weaker}
-use Rattle.bier_subtlv.specs.Views.{own_of}
 
 -- ---- blocks
 

@@ -2,7 +2,7 @@
 ghost use Rattle.std.specs.Prelude.{◌≡◌, IfOk, OnErr, drop, map, string_bytes};
 ghost use Rattle.command_line.specs.Words.{command_line, command_line_in};
 ghost use Rattle.tool_host.specs.Fresh.{IsFresh};
-ghost use Rattle.host_run.specs.Ran.{Ran};
+ghost use Rattle.replay_run.specs.Ran.{Ran};
 
 use crate::files::run_over;
 use command_line::parse;

@@ -1,7 +1,7 @@
 use Rattle.command_line.specs.Words.{command_line_in}
-use Rattle.host_run.proofs.Paths.{of_named}
-use Rattle.host_run.proofs.Causes.{read_from, written_to}
-use Rattle.host_run.proofs.arguments.run_words.Goals as goal
+use Rattle.replay_run.proofs.Paths.{of_named}
+use Rattle.replay_run.proofs.Causes.{read_from, written_to}
+use Rattle.replay_run.proofs.arguments.run_words.Goals as goal
 
 pub returns : goal.returns
 returns g c = record {

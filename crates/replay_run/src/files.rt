@@ -9,7 +9,7 @@ ghost use Rattle.replay_run.specs.Verdict.{verdict};
 ghost use Rattle.tool_host.specs.Fresh.{AreFresh, IsFresh};
 ghost use Rattle.tool_host.specs.Named.{AreNamed};
 
-use replay_run::run;
+use crate::top::run;
 use std::alloc::Global;
 use std::io::Write;
 use tool_host::{FileSink, FileSource, FileSystem, Objects, StdoutSink};
