@@ -1,9 +1,9 @@
 -- The topology of an LSDB, which is the same for each router that has this LSDB.
-use Rattle.std.specs.Prelude.{◌≡◌, ◌==◌, ◌&&◌, nat_lt, Bool, true, List, map, filter, if◌then◌else◌}
+use Rattle.std.specs.Prelude.{◌==◌, ◌&&◌, nat_lt, Bool, List, map, filter, if◌then◌else◌}
 use Rattle.wire_base.specs.declared.conf.SubKind.{SubKind}
 use Rattle.wire_base.specs.declared.entry.Entry.{Entry}
 use Rattle.wire_base.specs.declared.view.ViewNode.{ViewNode}
-use Rattle.wire_base.specs.model.View.{Claim, claim_of, nodes_of, with_known}
+use Rattle.wire_base.specs.model.View.{Claim, claim_of, with_known}
 
 -- a live fragment 0
 abbrev pub is_first : Entry → Bool
@@ -12,12 +12,6 @@ is_first e = (e.id.pseudonode == 0) && ((e.id.fragment == 0) && nat_lt 0 e.life)
 -- what each system with a live fragment 0 advertises in an LSDB, in the order of the systems
 unfoldable pub seen_claims : List SubKind → List Entry → List Claim
 seen_claims kinds entries = map (with_known kinds) (map (claim_of entries) (filter is_first entries))
-
--- Nodes are those that some claims make; where they are whole, no node lacks a membership of a sub-domain because another system
--- has its prefix.
-pub record AreNodesOf (claims : List Claim) (nodes : List ViewNode) (is_whole : Bool) : Type 0 where
-  pub made : nodes ≡ nodes_of claims
-  pub whole : is_whole ≡ true → map (λ n. n.subs) nodes ≡ map (λ c. c.subs) claims
 
 -- an entry with only what topologies depend on
 abbrev pub as_read : Entry → Entry
@@ -28,4 +22,3 @@ pub record NotedView : Type 0 where
   pub kinds : List SubKind
   pub entries : List Entry
   pub nodes : List ViewNode
-  pub is_whole : Bool

@@ -1,9 +1,10 @@
 ghost use Rattle.std.specs.Prelude.{◌≡◌, ◌≤◌, ◌<◌, ◌+◌, ◌-◌, [], length, map, slice_get, option_map, Some, true, false, OnOk, OnErr, IfOk, IfErr, IfSome};
 ghost use Rattle.wire_base.specs.model.Control.{IsDatabase, ids_of, entry_in, put_entry, age_of, seq_of};
 ghost use Rattle.wire_base.specs.model.Flooding.{kept};
+ghost use Rattle.wire_base.specs.model.View.{nodes_of};
 ghost use Rattle.wire_base.specs.declared.faults.PutFault.TheVariants.{Memory};
 ghost use Rattle.lsp_store.specs.Places.{IsPlace, is_new, place_in, PutAnswers, IsSecondAt};
-ghost use Rattle.lsp_store.specs.Topologies.{AreNodesOf, seen_claims};
+ghost use Rattle.lsp_store.specs.Topologies.{seen_claims};
 
 use crate::ages::age_beside;
 use crate::contents::Contents;
@@ -11,11 +12,11 @@ use crate::entries::{live, purge};
 use crate::entry_list::EntryList;
 use crate::places::{LspIds, place_near, place_of, stands_at};
 use crate::seconds::is_removed;
-use crate::topologies::SharedView;
 use std::alloc::Global;
 use std::marker::Model;
+use std::rc::Rc;
 use wire_base::limits::MOST_ENTRIES;
-use wire_base::{Age, Aged, Content, Entry, LspId, M, PutFault, Rows, SubKind, Summary};
+use wire_base::{Age, Aged, Content, Entry, LspId, M, PutFault, Rows, SubKind, Summary, View};
 
 /// An LSDB: at most `MOST_ENTRIES` entries in the order of their LSP IDs, no LSP ID twice. Contracts model it as these entries, and
 /// the number of new entries for which memory is already allocated.
@@ -126,8 +127,8 @@ impl Store {
 
     /// Returns the topology of this LSDB for those kinds of sub-domains, if it was noted last among the LSDBs with the same `Contents`,
     /// for this LSDB or for one that differs at most in sequence numbers, checksums and lifetimes of live LSPs.
-    pub fn known_view(&self, kinds: &[SubKind]) -> M<Option<SharedView>>
-        ensures { IfOk result (λ found. IfSome found (λ s. AreNodesOf (seen_claims kinds.now self.now.entries) s.view.value.nodes s.is_whole)) }
+    pub fn known_view(&self, kinds: &[SubKind]) -> M<Option<Rc<View>>>
+        ensures { IfOk result (λ found. IfSome found (λ v. v.value.nodes ≡ nodes_of (seen_claims kinds.now self.now.entries))) }
     {
         match &self.contents {
             None => Ok(None),
@@ -137,8 +138,8 @@ impl Store {
 
     /// Notes a topology of this LSDB for those kinds of sub-domains, in place of the one that was noted before. Does nothing if
     /// topologies are not shared. Errors if an allocation fails.
-    pub fn note_view(&self, kinds: &Rows<SubKind>, shared: &SharedView) -> M<()>
-        requires { AreNodesOf (seen_claims kinds.now self.now.entries) shared.now.view.value.nodes shared.now.is_whole }
+    pub fn note_view(&self, kinds: &Rows<SubKind>, shared: &Rc<View>) -> M<()>
+        requires { shared.now.value.nodes ≡ nodes_of (seen_claims kinds.now self.now.entries) }
     {
         match &self.contents {
             None => Ok(()),

@@ -1,6 +1,7 @@
 //! The topology that was computed last, which several LSDBs share.
 ghost use Rattle.std.specs.Prelude.{◌≡◌, IfOk, IfSome};
-ghost use Rattle.lsp_store.specs.Topologies.{AreNodesOf, seen_claims};
+ghost use Rattle.wire_base.specs.model.View.{nodes_of};
+ghost use Rattle.lsp_store.specs.Topologies.{seen_claims};
 
 use crate::alike::{are_alike, are_same_kinds};
 use crate::entry_list::EntryList;
@@ -10,43 +11,24 @@ use std::marker::Model;
 use std::rc::Rc;
 use wire_base::{Entry, M, Rows, SubKind, View};
 
-/// A topology that is stored once for all routers that have it.
-#[derive(Drop)]
-pub struct SharedView {
-    pub view: Rc<View>,
-    /// Whether no node lacks a membership because another system has its prefix.
-    pub is_whole: bool,
-}
-
-impl SharedView {
-    /// Returns the same topology, in the same memory.
-    pub fn share(&self) -> M<Self>
-        ensures view { IfOk result (λ shared. shared.view.value ≡ self.now.view.value) }
-        ensures whole { IfOk result (λ shared. shared.is_whole ≡ self.now.is_whole) }
-    {
-        Ok(SharedView {
-            view: self.view.clone()?,
-            is_whole: self.is_whole,
-        })
-    }
-}
-
 /// A topology, and the kinds of sub-domains and the LSDB that it follows from.
 #[derive(Drop)]
 struct Noted {
     kinds: Rows<SubKind>,
     entries: Vec<Entry>,
-    shared: SharedView,
+    shared: Rc<View>,
 }
 
 impl Model for Noted {
-    ghost use Rattle.lsp_store.specs.Topologies.{AreNodesOf, NotedView, seen_claims};
+    ghost use Rattle.std.specs.Prelude.{◌≡◌};
+    ghost use Rattle.wire_base.specs.model.View.{nodes_of};
+    ghost use Rattle.lsp_store.specs.Topologies.{NotedView, seen_claims};
 
     ghost Value = { NotedView };
 
-    ghost view = { λ n. record { kinds = n.kinds; entries = n.entries.items; nodes = n.shared.view.value.nodes; is_whole = n.shared.is_whole } };
+    ghost view = { λ n. record { kinds = n.kinds; entries = n.entries.items; nodes = n.shared.value.nodes } };
 
-    ghost invariant = { λ n. AreNodesOf (seen_claims n.kinds n.entries.items) n.shared.view.value.nodes n.shared.is_whole };
+    ghost invariant = { λ n. n.shared.value.nodes ≡ nodes_of (seen_claims n.kinds n.entries.items) };
 }
 
 fn copy_of(entry: &Entry) -> M<Entry>
@@ -75,13 +57,13 @@ fn copies_of(alloc: Global, list: &EntryList) -> M<Vec<Entry>>
 
 impl Noted {
     /// Returns the topology if it is that of an LSDB and of those kinds.
-    fn known(&self, kinds: &[SubKind], list: &EntryList) -> M<Option<SharedView>>
-        ensures { IfOk result (λ found. IfSome found (λ s. AreNodesOf (seen_claims kinds.now list.now.entries) s.view.value.nodes s.is_whole)) }
+    fn known(&self, kinds: &[SubKind], list: &EntryList) -> M<Option<Rc<View>>>
+        ensures { IfOk result (λ found. IfSome found (λ v. v.value.nodes ≡ nodes_of (seen_claims kinds.now list.now.entries))) }
     {
         if are_same_kinds(self.kinds.as_slice(), kinds)
             && are_alike(self.entries.as_slice(), list)
         {
-            return Ok(Some(self.shared.share()?));
+            return Ok(Some(self.shared.clone()?));
         }
         Ok(None)
     }
@@ -109,8 +91,8 @@ impl Topologies {
     }
 
     /// Returns the topology that was noted last, if it is that of an LSDB and of those kinds.
-    pub(crate) fn known(&self, kinds: &[SubKind], list: &EntryList) -> M<Option<SharedView>>
-        ensures { IfOk result (λ found. IfSome found (λ s. AreNodesOf (seen_claims kinds.now list.now.entries) s.view.value.nodes s.is_whole)) }
+    pub(crate) fn known(&self, kinds: &[SubKind], list: &EntryList) -> M<Option<Rc<View>>>
+        ensures { IfOk result (λ found. IfSome found (λ v. v.value.nodes ≡ nodes_of (seen_claims kinds.now list.now.entries))) }
     {
         match self.last.try_borrow() {
             Ok(last) => known_in(&*last, kinds, list),
@@ -124,14 +106,14 @@ impl Topologies {
         alloc: Global,
         kinds: &Rows<SubKind>,
         list: &EntryList,
-        shared: &SharedView,
+        shared: &Rc<View>,
     ) -> M<()>
-        requires { AreNodesOf (seen_claims kinds.now list.now.entries) shared.now.view.value.nodes shared.now.is_whole }
+        requires { shared.now.value.nodes ≡ nodes_of (seen_claims kinds.now list.now.entries) }
     {
         let noted = Noted {
             kinds: kinds.copy()?,
             entries: copies_of(alloc, list)?,
-            shared: shared.share()?,
+            shared: shared.clone()?,
         };
         if let Ok(mut last) = self.last.try_borrow_mut() {
             *last = Some(noted);
@@ -140,8 +122,8 @@ impl Topologies {
     }
 }
 
-fn known_in(last: &Option<Noted>, kinds: &[SubKind], list: &EntryList) -> M<Option<SharedView>>
-    ensures { IfOk result (λ found. IfSome found (λ s. AreNodesOf (seen_claims kinds.now list.now.entries) s.view.value.nodes s.is_whole)) }
+fn known_in(last: &Option<Noted>, kinds: &[SubKind], list: &EntryList) -> M<Option<Rc<View>>>
+    ensures { IfOk result (λ found. IfSome found (λ v. v.value.nodes ≡ nodes_of (seen_claims kinds.now list.now.entries))) }
 {
     match last {
         Some(noted) => noted.known(kinds, list),

@@ -9,9 +9,9 @@ use Rattle.wire_base.specs.declared.entry.Entry.{Entry}
 use Rattle.wire_base.specs.declared.view.ViewNode.{ViewNode}
 use Rattle.wire_base.specs.model.Control.{AreAscending, IsDatabase, ids_of, is_below, same_system}
 use Rattle.wire_base.specs.model.View.{Claim, claim_of, claims_of, own_claim, with_known}
-use Rattle.lsp_store.specs.Topologies.{AreNodesOf, is_first, seen_claims}
+use Rattle.lsp_store.specs.Topologies.{is_first, seen_claims}
 use Rattle.view_graph.specs.Edges.{AreInOrder, is_before}
-use Rattle.view_graph.specs.Keep.{IsKept, heard, is_first_of, said_by, said_in}
+use Rattle.view_graph.specs.Keep.{AreNodesOf, IsKept, heard, is_first_of, said_by, said_in}
 use Rattle.view_graph.specs.Renewal.{said_now}
 use Rattle.view_graph.proofs.FragmentLaws.{same_is}
 use Rattle.view_graph.proofs.GraphLaws.{and_both, claims_in_order, few_claims, fragments_below}

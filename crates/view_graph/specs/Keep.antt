@@ -46,6 +46,12 @@ IsUnchanged k changed entries = (s : SystemId) → same_system s k.system ≡ fa
 abbrev pub without_system : SystemId → List Claim → List Claim
 without_system s claims = filter (λ c. not (same_system c.system s)) claims
 
+-- Nodes are those that some claims make; where they are whole, no node lacks a membership of a sub-domain because another system
+-- has its prefix.
+pub record AreNodesOf (claims : List Claim) (nodes : List ViewNode) (is_whole : Bool) : Type 0 where
+  pub made : nodes ≡ nodes_of claims
+  pub whole : is_whole ≡ true → map (λ n. n.subs) nodes ≡ map (λ c. c.subs) claims
+
 -- There are claims of all systems, in order, from which the view is made, and those of the others are what is kept; where the
 -- view is whole, no node lacks a membership of a sub-domain because another system has its prefix.
 pub record IsKept (system : SystemId) (others : List Claim) (is_whole : Bool) (nodes : List ViewNode) : Type 0 where

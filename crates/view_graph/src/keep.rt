@@ -26,7 +26,7 @@ pub struct ViewKeep {
     system: SystemId,
     kinds: Rows<SubKind>,
     others: Others,
-    /// Whether no node lacks a membership because another system has its prefix.
+    /// Whether the topology is this router's alone, and no node lacks a membership because another system has its prefix.
     is_whole: bool,
     view: KeptView,
 }
@@ -87,10 +87,7 @@ impl ViewKeep {
         ensures heard { OnOk result (self.new.others ≡ heard conf.now.system conf.now.kinds store.now.entries) }
         ensures err { OnErr result (self.new ≡ self.old) }
     {
-        // A shared topology isn't changed in place: the new one may be known already.
-        if self.view.is_shared() {
-            return self.make_anew(conf, up, store);
-        }
+        // A shared topology, which is not known to be whole, isn't changed in place: the new one may be known already.
         if !self.is_whole {
             return self.make_anew(conf, up, store);
         }
@@ -100,7 +97,7 @@ impl ViewKeep {
             return self.make_anew(conf, up, store);
         };
         let are_same = are_present(self.view.as_slice(), anew.as_slice());
-        if !self.view.turn(anew, are_same) {
+        if !self.view.turn(anew) {
             return self.make_anew(conf, up, store);
         }
         self.others = Others::heard(conf, store);

@@ -71,14 +71,6 @@ impl KeptView {
         }
     }
 
-    /// Returns whether it may be stored once for several routers.
-    pub(crate) fn is_shared(&self) -> bool {
-        match &self.held {
-            Held::Own(_) => false,
-            Held::Shared(_) => true,
-        }
-    }
-
     /// Returns the topology.
     pub(crate) fn view(&self) -> &View
         ensures { result.now.nodes ≡ self.now.nodes }
@@ -97,12 +89,10 @@ impl KeptView {
         self.view().as_slice()
     }
 
-    /// Replaces nodes by rebuilt ones, which may be known to be the same as before. Returns false, and changes nothing, if one
-    /// may differ and the topology is shared. Does not allocate.
-    pub(crate) fn turn(&mut self, anew: Vec<NewNode>, are_same: bool) -> bool
+    /// Replaces nodes by rebuilt ones. Returns false, and changes nothing, if the topology is shared. Does not allocate.
+    pub(crate) fn turn(&mut self, anew: Vec<NewNode>) -> bool
         requires within { AllByRecursion (λ n. n.place < length self.old.nodes) anew.items }
         requires graph { IsGraph (put_all anew.items self.old.nodes) }
-        requires same { are_same ≡ true → put_all anew.items self.old.nodes ≡ self.old.nodes }
         ensures turned { result ≡ true → self.new.nodes ≡ put_all anew.items self.old.nodes }
         ensures shared { result ≡ false → self.new ≡ self.old }
     {
@@ -111,7 +101,7 @@ impl KeptView {
                 turn(view, anew);
                 true
             }
-            Held::Shared(_) => are_same,
+            Held::Shared(_) => false,
         }
     }
 }

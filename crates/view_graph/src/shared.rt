@@ -2,17 +2,16 @@
 ghost use Rattle.std.specs.Prelude.{◌≡◌, ◌≤◌, map, length, true, Some, IfOk};
 ghost use Rattle.wire_base.specs.model.Configuration.{IsSound};
 ghost use Rattle.wire_base.specs.model.Control.{IsDatabase};
-ghost use Rattle.wire_base.specs.model.View.{claims_of, own_claim, with_known};
-ghost use Rattle.lsp_store.specs.Topologies.{AreNodesOf};
+ghost use Rattle.wire_base.specs.model.View.{claims_of, nodes_of, own_claim, with_known};
 ghost use Rattle.view_graph.specs.Edges.{AreInOrder};
-ghost use Rattle.view_graph.specs.Keep.{IsKept, heard, said_in};
+ghost use Rattle.view_graph.specs.Keep.{AreNodesOf, IsKept, heard, said_in};
 
 use crate::claims::{Claim, claims_of, own_claim, with_known};
 use crate::heard::said_in;
 use crate::kept_view::KeptView;
 use crate::nodes::nodes_of;
 use crate::same::is_same_claim;
-use lsp_store::{SharedView, Store};
+use lsp_store::Store;
 use std::alloc::Global;
 use std::rc::Rc;
 use wire_base::{M, RouterConf, View};
@@ -68,25 +67,24 @@ fn is_shared(alloc: Global, conf: &RouterConf, up: &[bool], store: &Store) -> M<
 }
 
 /// Returns the topology of the LSDB that was noted last, or builds and notes it.
-fn shared_view(alloc: Global, conf: &RouterConf, up: &[bool], store: &Store) -> M<SharedView>
+fn shared_view(alloc: Global, conf: &RouterConf, up: &[bool], store: &Store) -> M<Rc<View>>
     requires one_each { length up.now ≡ length conf.now.ends }
     requires sound { IsSound conf.now }
     requires own { said_in conf.now.kinds store.now.entries conf.now.system ≡ Some (with_known conf.now.kinds (own_claim conf.now up.now)) }
-    ensures { IfOk result (λ shared. AreNodesOf (map (with_known conf.now.kinds) (claims_of conf.now up.now store.now.entries)) shared.view.value.nodes shared.is_whole) }
+    ensures { IfOk result (λ shared. shared.value.nodes ≡ nodes_of (map (with_known conf.now.kinds) (claims_of conf.now up.now store.now.entries))) }
 {
     let _entries = store.len();
     if let Some(known) = store.known_view(conf.kinds.as_slice())? {
         return Ok(known);
     }
-    let (view, is_whole) = built(alloc, conf, up, store)?;
-    let view = Rc::new(alloc, view)?;
-    let shared = SharedView { view, is_whole };
+    let (view, _is_whole) = built(alloc, conf, up, store)?;
+    let shared = Rc::new(alloc, view)?;
     store.note_view(&conf.kinds, &shared)?;
     Ok(shared)
 }
 
-/// Returns the topology, shared with other routers where it can be. Also returns whether no node lacks a membership because another
-/// system has its prefix.
+/// Returns the topology, shared with other routers where it can be. Also returns true, for a topology that is not shared alone, if no
+/// node lacks a membership because another system has its prefix.
 pub(crate) fn kept_view(
     alloc: Global,
     conf: &RouterConf,
@@ -101,7 +99,7 @@ pub(crate) fn kept_view(
     let _entries = store.len();
     if is_shared(alloc, conf, up, store)? {
         let shared = shared_view(alloc, conf, up, store)?;
-        return Ok((KeptView::shared(shared.view), shared.is_whole));
+        return Ok((KeptView::shared(shared), false));
     }
     let (view, is_whole) = built(alloc, conf, up, store)?;
     Ok((KeptView::own(view), is_whole))

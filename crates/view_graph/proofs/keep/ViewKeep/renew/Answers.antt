@@ -29,16 +29,6 @@ turn-requires-clause-graph c =
     let turned = turned_now c.args.conf.now c.args.up.now c.args.store.now.entries c.self.invariant.claims c.self.inside.view.nodes c.as_slice.result.now (c.args.conf.now.system ∷ c.args.changed.now) c.in-Some.anew.items base c.as_slice.ensures.nodes patch in
     made_graph c.args.conf.now c.args.up.now c.args.store.now.entries (claims_now c.args.conf.now c.args.up.now c.args.store.now.entries) (put_all c.in-Some.anew.items c.self.inside.view.nodes) c.requires.sound c.len-entries.ensures.database refl turned.turned
 
-pub turn-requires-clause-same : goal.turn-requires-clause-same
-turn-requires-clause-same c = λ h.
-    let base = base_now c.args.self.now c.args.conf.now c.args.up.now c.args.store.now.entries c.self.inside.system c.self.inside.kinds c.self.inside.others.claims c.self.inside.is_whole c.self.inside.view.nodes c.args.changed.now c.self.view_is c.requires.system c.requires.kinds c.requires.unchanged c.len-entries.ensures.database.in_order c.if-not-self.false c.self.invariant in
-    let patch = subst (λ (o : Option (Vec NewNode Global)). IfSome o (λ v. IsPatch (said_now c.args.conf.now c.args.up.now c.args.store.now.entries) c.as_slice.result.now (c.args.conf.now.system ∷ c.args.changed.now) v.items)) c.in-Some.is c.in_ok-patch.ensures in
-    let turned = turned_now c.args.conf.now c.args.up.now c.args.store.now.entries c.self.invariant.claims c.self.inside.view.nodes c.as_slice.result.now (c.args.conf.now.system ∷ c.args.changed.now) c.in-Some.anew.items base c.as_slice.ensures.nodes patch in
-    let seen = subst (λ (ns : List ViewNode). Decides c.are_present-are_same.result (AllByRecursion (IsAt ns) c.as_slice-3.result.now)) c.as_slice-2.ensures.nodes c.are_present-are_same.ensures in
-    let decided = subst (λ (ns : List NewNode). Decides c.are_present-are_same.result (AllByRecursion (IsAt c.self.inside.view.nodes) ns)) c.as_slice-3.ensures.value seen in
-    let answer = turned_answer c.self.inside.view.nodes (nodes_of (claims_now c.args.conf.now c.args.up.now c.args.store.now.entries)) (put_all c.in-Some.anew.items c.self.inside.view.nodes) c.in-Some.anew.items c.are_present-are_same.result turned decided refl in
-    answer.0 (ap not h)
-
 pub invariant_of-self : goal.invariant_of-self
 invariant_of-self c = rw (c.turn.ensures.shared c.if-not-turn.true) c.self.invariant
 
