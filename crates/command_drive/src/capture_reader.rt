@@ -6,7 +6,7 @@ ghost use Rattle.command_drive.specs.declared.capture_reader.CaptureReader.TheVa
 ghost use Rattle.command_drive.specs.CaptureReading.{chosen_of, chosen, any_fed, any_next, answer_of, by_pcap, by_pcapng, any_end, fault_of, fault_number, fault_name, given, HoldsGiven};
 
 use byteorder::{BigEndian, ByteOrder};
-use pcap_frames::{CapRecord, Reader};
+use pcap_frames::Reader;
 use pcapng_frames::{NgFault, NgReader, NgRecord};
 use std::alloc::Global;
 use wire_base::{CaptureFault, M, Memory, Octets};
@@ -198,14 +198,5 @@ fn pcapng_end(reader: NgReader) -> Result<(), RecordFault>
     match reader.finish() {
         Ok(()) => Ok(()),
         Err(fault) => Err(RecordFault::Pcapng(fault)),
-    }
-}
-
-/// Returns a record to read into.
-pub fn no_record(alloc: Global) -> NgRecord {
-    NgRecord {
-        interface: 0,
-        ethernet: true,
-        cap: CapRecord::empty(alloc),
     }
 }

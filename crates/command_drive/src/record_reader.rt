@@ -5,7 +5,7 @@ ghost use Rattle.command_drive.specs.CaptureReading.{any_unread, any_fed, any_ne
 ghost use Rattle.command_drive.specs.Reading.{End};
 ghost use Rattle.command_drive.specs.Records.{close_by};
 
-use crate::capture_reader::{CaptureReader, no_record};
+use crate::capture_reader::CaptureReader;
 use crate::items::{Close, Found, Items};
 use crate::whole::{PIECE, buffer};
 use pcapng_frames::NgRecord;
@@ -43,7 +43,7 @@ impl RecordReader {
         Ok(RecordReader {
             buffer: buffer(alloc)?,
             reader: CaptureReader::new(alloc),
-            given: no_record(alloc),
+            given: NgRecord::empty(alloc),
             room: CAPTURE_LIMIT,
             over: false,
             short: false,

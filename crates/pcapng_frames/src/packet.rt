@@ -1,5 +1,5 @@
 //! Packets, as whole blocks have them.
-ghost use Rattle.std.specs.Prelude.{◌≡◌, ◌≤◌, ◌+◌, ◌-◌, length, take, drop, Some, IfOk, IfErr};
+ghost use Rattle.std.specs.Prelude.{◌≡◌, ◌≤◌, ◌+◌, ◌-◌, [], true, length, take, drop, Some, IfOk, IfErr};
 ghost use Rattle.pcapng_frames.specs.Packets.{is_long, enhanced_on, enhanced_at, snapped, simple_on, simple_of, simple_at, record_of};
 ghost use Rattle.pcapng_frames.specs.Blocks.{number};
 ghost use Rattle.pcapng_frames.specs.Seen.{IsLasting};
@@ -20,6 +20,19 @@ pub struct NgRecord {
     pub interface: u32,
     pub ethernet: bool,
     pub cap: CapRecord,
+}
+
+impl NgRecord {
+    /// Creates a record to read into: an empty frame on interface 0, which was captured at time 0.
+    pub fn empty(alloc: Global) -> NgRecord
+        ensures { result ≡ record { interface = 0; ethernet = true; cap = record { sec = 0; usec = 0; whole = true; octets = [] } } }
+    {
+        NgRecord {
+            interface: 0,
+            ethernet: true,
+            cap: CapRecord::empty(alloc),
+        }
+    }
 }
 
 /// A packet before its octets are copied: they are `captured` octets of its block after the first `start`.

@@ -6,7 +6,6 @@ use crate::ending::NoAnswer;
 use crate::refusal::{capture_refused, gap_refused, too_few};
 use command_drive::CaptureReader;
 use command_node::{RunningNode, countable};
-use pcap_frames::CapRecord;
 use pcapng_frames::NgRecord;
 use router_core::Router;
 use std::alloc::Global;
@@ -37,15 +36,6 @@ fn take_record(
     Ok(())
 }
 
-/// Returns a record to read into.
-fn no_record(alloc: Global) -> NgRecord {
-    NgRecord {
-        interface: 0,
-        ethernet: true,
-        cap: CapRecord::empty(alloc),
-    }
-}
-
 /// Processes the first records of a capture, up to that one.
 fn take_records(
     alloc: Global,
@@ -55,7 +45,7 @@ fn take_records(
 ) -> Result<(), NoAnswer> {
     let mut reader = CaptureReader::new(alloc);
     reader.feed(capture)?;
-    let mut captured = no_record(alloc);
+    let mut captured = NgRecord::empty(alloc);
     'records: for done in 0..last {
         let found = reader.next_into(alloc, &mut captured)?;
         match found {
