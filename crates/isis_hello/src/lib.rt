@@ -33,4 +33,5 @@ pub use laws::{
     adjacencies_are_held, adjacencies_begin_down, changes_are_reported, hello_law, only_hellos_send,
 };
 pub use reader::read_hello;
+pub use wire_base::HelloEvent;
 pub use writer::{HELLO_HEAD, MOST_HELLO_OCTETS, hello_front, hello_head, hello_tlvs, write_hello};
