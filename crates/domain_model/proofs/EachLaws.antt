@@ -3,6 +3,7 @@ use Rattle.std.proofs.Common.{◌≡◌, ℕ, zero, suc, Bool, true, false, List
 use Rattle.std.specs.List.{AllByRecursion, flat_map, remove}
 use Rattle.std.proofs.lemmas.List.Concat.{flat_map-cons}
 use Rattle.std.proofs.lemmas.Option.{same_Some}
+use Rattle.laws_format.proofs.ContentLaws.{each_taken, each_dropped}
 
 pub each_from : {X : Type 0} (P : X → Type 0) → ((x : X) → P x) → (xs : List X) → AllByRecursion P xs
 each_from P h [] = tt
@@ -40,16 +41,6 @@ each_passing {X} p (x ∷ xs) = by (p x) refl (each_passing p xs)
 pub each_both : {X : Type 0} (P Q : X → Type 0) (xs : List X) → AllByRecursion P xs → AllByRecursion Q xs → AllByRecursion (λ x. P x × Q x) xs
 each_both P Q [] p q = tt
 each_both P Q (x ∷ xs) p q = ((p.0, q.0), each_both P Q xs p.1 q.1)
-
-pub each_taken : {X : Type 0} (P : X → Type 0) (n : ℕ) (xs : List X) → AllByRecursion P xs → AllByRecursion P (take n xs)
-each_taken P zero xs all = tt
-each_taken P (suc n) [] all = tt
-each_taken P (suc n) (x ∷ xs) all = (all.0, each_taken P n xs all.1)
-
-pub each_dropped : {X : Type 0} (P : X → Type 0) (n : ℕ) (xs : List X) → AllByRecursion P xs → AllByRecursion P (drop n xs)
-each_dropped P zero xs all = all
-each_dropped P (suc n) [] all = tt
-each_dropped P (suc n) (x ∷ xs) all = each_dropped P n xs all.1
 
 pub each_left : {X : Type 0} (P : X → Type 0) (xs : List X) (i : ℕ) → AllByRecursion P xs → AllByRecursion P (remove xs i)
 each_left P xs i all = each_joined P (take i xs) (drop (suc i) xs) (each_taken P i xs all) (each_dropped P (suc i) xs all)

@@ -21,8 +21,8 @@ use Rattle.wire_base.proofs.SoundLemmas.{sound_subs}
 use Rattle.wire_base.specs.model.View.{Link, link_of, links_in, sub_of, sub_at, accepted, subs_of, subs_in, is_overload_flag, end_link}
 use Rattle.laws_format.proofs.InfoLaws.{info_again}
 use Rattle.laws_format.proofs.TlvListLaws.{reaches_again, prefixes_again, before_spelled}
-use Rattle.laws_format.proofs.ContentLaws.{sub_fits, bare_fits, subs_follow, picked_all}
-use Rattle.domain_model.proofs.EachLaws.{each_weaker, each_mapped, each_taken, each_dropped}
+use Rattle.laws_format.proofs.ContentLaws.{sub_fits, bare_fits, subs_follow, picked_all, each_taken, each_dropped}
+use Rattle.domain_model.proofs.EachLaws.{each_weaker, each_mapped}
 
 -- ---- words on lists
 

@@ -14,7 +14,8 @@ use Rattle.wire_base.specs.model.Control.{entry_in, seq_of, summary_of, srm, ssn
 use Rattle.wire_base.specs.model.Flooding.{clear_ssn, zero_id, last_id, id_from, id_after, last_listed, csnp_of, csnps, most_listed, is_known, due_csnps, lsp_of, due_lsps, due_psnps, psnp_of, send_of, sent_on, send}
 use Rattle.wire_base.specs.model.Tlv.{LspIdFits, lsp_id}
 use Rattle.domain_model.specs.Truth.{IsAmong, head_of, IsTrueEntry, IsTrueRow, IsTruePdu}
-use Rattle.domain_model.proofs.EachLaws.{each_weaker, each_joined, each_mapped, each_kept, each_passing, each_both, each_taken, each_dropped}
+use Rattle.laws_format.proofs.ContentLaws.{each_taken, each_dropped}
+use Rattle.domain_model.proofs.EachLaws.{each_weaker, each_joined, each_mapped, each_kept, each_passing, each_both}
 use Rattle.domain_model.proofs.FlagLaws.{each_is_found, mapped_off}
 use Rattle.domain_model.proofs.FloodTruth.{IsTrueState, row_true}
 use Rattle.domain_model.proofs.ControlTruth.{named_fits, IsTrueReply}

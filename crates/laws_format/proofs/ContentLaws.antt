@@ -55,15 +55,15 @@ blocks_step {X} k n (x ∷ xs) some more is =
 
 -- ---- links
 
-pub all_taken : {X : Type 0} (P : X → Type 0) (n : ℕ) (xs : List X) → AllByRecursion P xs → AllByRecursion P (take n xs)
-all_taken P zero xs all = tt
-all_taken P (suc n) [] all = tt
-all_taken P (suc n) (x ∷ xs) all = (all.0, all_taken P n xs all.1)
+pub each_taken : {X : Type 0} (P : X → Type 0) (n : ℕ) (xs : List X) → AllByRecursion P xs → AllByRecursion P (take n xs)
+each_taken P zero xs all = tt
+each_taken P (suc n) [] all = tt
+each_taken P (suc n) (x ∷ xs) all = (all.0, each_taken P n xs all.1)
 
-pub all_dropped : {X : Type 0} (P : X → Type 0) (n : ℕ) (xs : List X) → AllByRecursion P xs → AllByRecursion P (drop n xs)
-all_dropped P zero xs all = all
-all_dropped P (suc n) [] all = tt
-all_dropped P (suc n) (x ∷ xs) all = all_dropped P n xs all.1
+pub each_dropped : {X : Type 0} (P : X → Type 0) (n : ℕ) (xs : List X) → AllByRecursion P xs → AllByRecursion P (drop n xs)
+each_dropped P zero xs all = all
+each_dropped P (suc n) [] all = tt
+each_dropped P (suc n) (x ∷ xs) all = each_dropped P n xs all.1
 
 pub cut_text : (out new total : List ℕ) (rest : List End) (n : ℕ) → 0 < length rest → n ≡ min (length rest) 23 → out ++ flat_map tlv (reach_tlvs rest) ≡ total → new ≡ out ++ tlv (reach_tlv (take n rest))
     → new ++ flat_map tlv (reach_tlvs (drop n rest)) ≡ total
@@ -132,8 +132,8 @@ links_within (suc m) [] all = omega arith
 links_within (suc m) (e ∷ es) all =
     let xs = e ∷ es in
     let l = length-append (tlv (reach_tlv (take 23 xs))) (flat_map tlv (map reach_tlv (blocks_within m 23 (drop 23 xs)))) in
-    let more = links_within m (drop 23 xs) (all_dropped IsEnd 23 xs all) in
-    let front = reaches_long (take 23 xs) (all_taken IsEnd 23 xs all) in
+    let more = links_within m (drop 23 xs) (each_dropped IsEnd 23 xs all) in
+    let front = reaches_long (take 23 xs) (each_taken IsEnd 23 xs all) in
     let t = length-take 23 xs in
     let d = length-drop 23 xs in
     omega (arith, l, more, front, t, d)

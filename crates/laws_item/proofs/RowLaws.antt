@@ -8,7 +8,7 @@ use Rattle.wire_base.specs.model.Lists as lists
 use Rattle.wire_base.specs.model.Pdu.{blocks_within, row_tlv, row_tlvs}
 use Rattle.wire_base.specs.model.Tlv.{tlv, SummaryFits}
 use Rattle.laws_format.proofs.TlvListLaws.{length_rows, fits_take, fits_drop}
-use Rattle.laws_format.proofs.ContentLaws.{all_taken}
+use Rattle.laws_format.proofs.ContentLaws.{each_taken, each_dropped}
 
 -- ---- facts of each element
 
@@ -28,10 +28,6 @@ all_filtered P test (x ∷ xs) all = kept_if (test x) (all_filtered P test xs al
     kept_if true rest = (all.0, rest)
     kept_if false rest = rest
 
-pub all_dropped : {X : Type 0} (P : X → Type 0) (n : ℕ) (xs : List X) → AllByRecursion P xs → AllByRecursion P (drop n xs)
-all_dropped P zero xs all = all
-all_dropped P (suc n) [] all = tt
-all_dropped P (suc n) (x ∷ xs) all = all_dropped P n xs all.1
 
 -- ---- blocks
 
@@ -44,7 +40,7 @@ within_blocks : {X : Type 0} (P : X → Type 0) (more n : ℕ) (xs : List X) →
 within_blocks P zero n xs all = tt
 within_blocks P (suc more) n [] all = tt
 within_blocks P (suc more) n (x ∷ xs) all =
-    (record { few = omega (arith, length-take n (x ∷ xs)); each = all_taken P n (x ∷ xs) all }, within_blocks P more n (drop n (x ∷ xs)) (all_dropped P n (x ∷ xs) all))
+    (record { few = omega (arith, length-take n (x ∷ xs)); each = each_taken P n (x ∷ xs) all }, within_blocks P more n (drop n (x ∷ xs)) (each_dropped P n (x ∷ xs) all))
 
 pub are_blocks : {X : Type 0} (P : X → Type 0) (n : ℕ) (xs : List X) → AllByRecursion P xs → AllByRecursion (IsBlock P n) (lists.blocks n xs)
 are_blocks P n xs all = within_blocks P (length xs) n xs all

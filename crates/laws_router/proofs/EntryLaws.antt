@@ -9,7 +9,7 @@ use Rattle.std.specs.Str.{bytes_eq}
 use Rattle.wire_base.specs.declared.addresses.LspId.{LspId}
 use Rattle.wire_base.specs.declared.entry.Entry.{Entry}
 use Rattle.wire_base.specs.model.Control.{same_id, id_order, entry_in, put_entry, FlagRow, HasEntry}
-use Rattle.wire_base.proofs.OrderLaws.{tie_is_same, same_is, same_from_tie, above_differs}
+use Rattle.wire_base.proofs.OrderLaws.{same_is, same_from_tie, above_differs}
 
 -- ---- equal identifiers
 

@@ -23,7 +23,8 @@ use Rattle.domain_model.specs.Step.{Happened, arrives, doing, happens, makes, ta
 use Rattle.domain_model.specs.Truth.{EventFits, IsTrueControl, IsTrueEntry, confs_now, head_of}
 use Rattle.domain_model.specs.World.{WorldState, link_between, peer_place, queue_at}
 use Rattle.domain_model.proofs.ControlTruth.{row_fits}
-use Rattle.domain_model.proofs.EachLaws.{each_dropped, each_got, each_kept, each_mapped, each_taken, each_weaker}
+use Rattle.laws_format.proofs.ContentLaws.{each_dropped, each_taken}
+use Rattle.domain_model.proofs.EachLaws.{each_got, each_kept, each_mapped, each_weaker}
 use Rattle.domain_model.proofs.FlagLaws.{found_id, same_id_is}
 use Rattle.domain_model.proofs.FloodTruth.{row_true}
 use Rattle.domain_model.proofs.LaterTruth.{set_there}

@@ -15,7 +15,7 @@ use Rattle.wire_base.specs.model.Tlv.{SummaryFits}
 use Rattle.laws_format.proofs.TlvListLaws.{rows_of_tlvs}
 use Rattle.lsp_store.specs.Keys.{IsOctets}
 use Rattle.wire_base.proofs.OrderLaws.{same_is}
-use Rattle.domain_model.proofs.EachLaws.{each_dropped, each_taken}
+use Rattle.laws_format.proofs.ContentLaws.{each_dropped, each_taken}
 use Rattle.laws_settle.specs.Csnps.{NoneDropped, after_pdus}
 use Rattle.laws_settle.proofs.FlagsAt.{Passes, is_flagged, passes_same, passes_then, unflagged_before}
 use Rattle.laws_settle.proofs.RowsAt.{AreOnce, IsLike, IsUnlisted, summary_in}

@@ -12,7 +12,8 @@ use Rattle.wire_base.specs.model.Pdu.{Head, Pdu, LspPdu, CsnpPdu, PsnpPdu, row_t
 use Rattle.wire_base.specs.model.Tlv.{SummaryFits, rows_of}
 use Rattle.laws_format.proofs.TlvListLaws.{rows_of_tlvs}
 use Rattle.domain_model.specs.Truth.{head_of}
-use Rattle.domain_model.proofs.EachLaws.{each_weaker, each_joined, each_mapped, each_kept, each_taken, each_dropped}
+use Rattle.laws_format.proofs.ContentLaws.{each_taken, each_dropped}
+use Rattle.domain_model.proofs.EachLaws.{each_weaker, each_joined, each_mapped, each_kept}
 
 -- L holds of an LSP, and R of each row
 abbrev pub PduSays : (Head → List ℕ → Type 0) → (Summary → Type 0) → Pdu → Type 0

@@ -17,7 +17,8 @@ use Rattle.view_graph.specs.declared.patch.NewNode.{NewNode}
 use Rattle.view_graph.specs.Edges.{is_before, AreInOrder, place_in}
 use Rattle.view_graph.specs.Renewal.{AreTurning, IsAt, is_made, put_all}
 use Rattle.view_graph.proofs.EdgeLaws.{all_read}
-use Rattle.view_graph.proofs.SystemLaws.{above_from_before, gt_is, tie_is_same}
+use Rattle.wire_base.proofs.OrderLaws.{gt_is}
+use Rattle.view_graph.proofs.SystemLaws.{above_from_before, tie_is_same}
 
 -- ---- lists by their elements
 

@@ -17,7 +17,8 @@ use Rattle.lsp_store.proofs.KeyLaws.{above_by_number, system_key_order}
 use Rattle.view_graph.specs.Edges.{AreInOrder, AreKeys, IsKey, is_before, is_number_at, place_in, stands_at}
 use Rattle.view_graph.proofs.EdgeLaws.{above_place, apart, not_above_place}
 use Rattle.view_graph.proofs.FragmentLaws.{same_is}
-use Rattle.view_graph.proofs.SystemLaws.{above_differs, above_from_before, gt_is, tie_is_same}
+use Rattle.wire_base.proofs.OrderLaws.{gt_is}
+use Rattle.view_graph.proofs.SystemLaws.{above_differs, above_from_before, tie_is_same}
 
 key_above : (q k : ℕ) (s t : SystemId) → IsKey q s → IsKey k t → is_gt (system_order s t) ≡ nat_lt k q
 key_above q k s t h g =

@@ -1,31 +1,16 @@
 -- The order of systems is total, and equal ones alone are tied.
-use mathlib.Core.Bool.{false≢true}
 use Rattle.std.proofs.Common.{◌≡◌, true, false, refl, sym, ap, ◌∙◌}
 use Rattle.std.specs.declared.cmp.Ordering.{Ordering}
 use Rattle.std.specs.declared.cmp.Ordering.TheVariants.{Less, Equal, Greater}
 use Rattle.std.specs.Ordering.{ordering_reverse, is_eq, is_lt, is_gt}
-use Rattle.std.specs.Cmp.{IsTotalOrder}
-use Rattle.std.proofs.lemmas.Cmp.{nat_list_cmp_total, on_total}
 use Rattle.std.proofs.lemmas.Map.Text.{is_eq-slice_cmp}
 use Rattle.wire_base.specs.declared.addresses.SystemId.{SystemId}
 use Rattle.wire_base.specs.model.Control.{same_system, system_order}
+use Rattle.wire_base.proofs.OrderLaws.{system_total, gt_is, lt_is, eq_is}
 use Rattle.view_graph.specs.Edges.{is_before}
-
-pub system_total : IsTotalOrder system_order
-system_total = on_total (λ (s : SystemId). s.0) nat_list_cmp_total
 
 pub tie_is_same : (a b : SystemId) → is_eq (system_order a b) ≡ same_system a b
 tie_is_same a b = is_eq-slice_cmp a.0 b.0
-
-pub gt_is : (o : Ordering) → is_gt o ≡ true → o ≡ Greater
-gt_is Less h = absurd (false≢true h)
-gt_is Equal h = absurd (false≢true h)
-gt_is Greater h = refl
-
-pub lt_is : (o : Ordering) → is_lt o ≡ true → o ≡ Less
-lt_is Less h = refl
-lt_is Equal h = absurd (false≢true h)
-lt_is Greater h = absurd (false≢true h)
 
 -- above is below turned round
 pub before_from_above : (a b : SystemId) → is_gt (system_order a b) ≡ true → is_before b a ≡ true
@@ -55,11 +40,6 @@ same_turned a b = sym (tie_is_same a b) ∙ ap is_eq (system_total.antisymm a b)
     reversed Less = refl
     reversed Equal = refl
     reversed Greater = refl
-
-eq_is : (o : Ordering) → is_eq o ≡ true → o ≡ Equal
-eq_is Less h = absurd (false≢true h)
-eq_is Equal h = refl
-eq_is Greater h = absurd (false≢true h)
 
 -- what is above a system is above each that is the same
 pub same_before : (a b c : SystemId) → same_system a b ≡ true → is_before b c ≡ true → is_before a c ≡ true

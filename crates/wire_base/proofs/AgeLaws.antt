@@ -1,7 +1,6 @@
 -- Whether an LSP ID is unknown, by the entry that is there (ISO/IEC 10589, 7.3.16).
 use Rattle.std.proofs.Common.{◌≡◌, Bool, true, false, if◌then◌else◌, Option, Some, None, is_none, refl}
 use Rattle.std.specs.Prelude.{◌==◌, nat_lt}
-use Rattle.wire_base.specs.declared.entry.Age.{Age}
 use Rattle.wire_base.specs.declared.entry.Age.TheVariants.{Newer, Equal, Older}
 use Rattle.wire_base.specs.declared.entry.Entry.{Entry}
 use Rattle.wire_base.specs.declared.triple.Summary.{Summary}

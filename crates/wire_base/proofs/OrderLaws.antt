@@ -24,12 +24,12 @@ pub tie_is_same : (a b : LspId) → is_eq (id_order a b) ≡ same_id a b
 tie_is_same a b =
     rw (← tied_then (system_order a.system b.system) _, ← tied_then (nat_cmp a.pseudonode b.pseudonode) (nat_cmp a.fragment b.fragment), is_eq-slice_cmp a.system.0 b.system.0, unsigned_tied a.pseudonode b.pseudonode, unsigned_tied a.fragment b.fragment) refl
 
-gt_is : (o : Ordering) → is_gt o ≡ true → o ≡ Greater
+pub gt_is : (o : Ordering) → is_gt o ≡ true → o ≡ Greater
 gt_is Less h = absurd (false≢true h)
 gt_is Equal h = absurd (false≢true h)
 gt_is Greater h = refl
 
-lt_is : (o : Ordering) → is_lt o ≡ true → o ≡ Less
+pub lt_is : (o : Ordering) → is_lt o ≡ true → o ≡ Less
 lt_is Less h = refl
 lt_is Equal h = absurd (false≢true h)
 lt_is Greater h = absurd (false≢true h)

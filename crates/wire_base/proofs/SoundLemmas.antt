@@ -9,7 +9,7 @@ use Rattle.wire_base.specs.declared.conf.OwnSub.{OwnSub}
 use Rattle.wire_base.specs.declared.conf.PastRange.{PastRange}
 use Rattle.wire_base.specs.declared.conf.RouterConf.{RouterConf}
 use Rattle.wire_base.specs.model.Lists.{AreApart}
-use Rattle.wire_base.specs.model.Place.{known_subs, known_ranges, placed, ranges_of}
+use Rattle.wire_base.specs.model.Place.{placed, ranges_of}
 use Rattle.wire_base.specs.model.Configuration.{share_label, share_range, same_sub, sub_octets, IsOwnSub, IsSound}
 
 -- the label ranges of sub-domains

@@ -1,5 +1,5 @@
 //! The types that all other crates share: small list types, the identifiers and the configuration of a BIER domain,
-//! parse errors, parsers of fields at the start of a slice, and traits for input and output.
+//! parse errors, parsers of fields at the start of a slice, events of hellos, and traits for input and output.
 //!
 //! The definitions that contracts use are in `specs/model`, one file a subject.
 #![tactic(auto)]

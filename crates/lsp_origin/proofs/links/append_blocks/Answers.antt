@@ -1,6 +1,6 @@
 use Rattle.std.proofs.Common.{length, arith, ◌<◌}
 use Rattle.wire_base.specs.model.Configuration.{IsEnd}
-use Rattle.laws_format.proofs.ContentLaws.{cut_text, all_dropped}
+use Rattle.laws_format.proofs.ContentLaws.{cut_text, each_dropped}
 use Rattle.lsp_origin.proofs.links.append_blocks.Goals as goal
 
 pub cuts-preserved : goal.cuts-preserved
@@ -11,5 +11,5 @@ cuts-preserved c =
     let added = rw c.split_at.ensures.front at c.in_ok-append_block.ensures in
     record {
       text = rw c.split_at.ensures.back (cut_text c.cuts.out c.append_block.new.out _ rest n some c.min.ensures c.cuts.invariant.text added);
-      ends = rw c.split_at.ensures.back (all_dropped IsEnd n rest c.cuts.invariant.ends);
+      ends = rw c.split_at.ensures.back (each_dropped IsEnd n rest c.cuts.invariant.ends);
     }
